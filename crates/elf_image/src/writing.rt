@@ -1,0 +1,120 @@
+ghost use Rattle.std.specs.Prelude.{◌≡◌, ◌+◌, ◌≤◌, ◌++◌, length, OnOk, IfOk, vec_len};
+ghost use Rattle.elf_image.specs.Layout.{elf_header, image_bytes, program_header, word, zeros};
+ghost use Rattle.elf_image.specs.Segments.{parts_of};
+
+use crate::image::{Image, PAGE, TEXT_ADDRESS};
+use byteorder::{ByteOrder, LittleEndian};
+use pcc_base::NoMemory;
+use std::alloc::Global;
+
+/// The bytes of the ELF header and of the two program headers.
+const HEADERS: usize = 52 + 2 * 32;
+
+/// `p_flags` of a segment that is read and run: `PF_R` and `PF_X`.
+const READ_AND_RUN: u32 = 5;
+
+/// `p_flags` of a segment that is read and written: `PF_R` and `PF_W`.
+const READ_AND_WRITE: u32 = 6;
+
+/// The fields of a program header of type `PT_LOAD` that are not the same in all images.
+#[derive(Clone, Copy, Debug)]
+struct ProgramHeader {
+    /// `p_offset`: where the segment's bytes begin in the file.
+    offset: u32,
+    /// `p_vaddr` and `p_paddr`: the address of its first byte.
+    address: u32,
+    /// `p_filesz`: how many bytes it has in the file.
+    file_size: u32,
+    /// `p_memsz`: how many bytes it has in memory.
+    memory_size: u32,
+    /// `p_flags`: what may be done with its bytes.
+    flags: u32,
+}
+
+/// Puts a word of four bytes at the end, the lowest first.
+fn push_word(out: &mut Vec<u8>, value: u32) -> Result<(), NoMemory>
+    ensures { OnOk result (out.new.items ≡ out.old.items ++ word value) }
+{
+    let mut bytes = [0u8; 4];
+    LittleEndian::write_u32(&mut bytes, value);
+    out.extend_from_slice(&bytes)?;
+    Ok(())
+}
+
+/// Puts bytes that are 0 at the end, a page of them at most.
+fn push_zeros(out: &mut Vec<u8>, count: usize) -> Result<(), NoMemory>
+    requires { count ≤ 4096 }
+    ensures { OnOk result (out.new.items ≡ out.old.items ++ zeros count) }
+{
+    out.resize(out.len() + count, 0)?;
+    Ok(())
+}
+
+/// Puts the ELF header at the end (ELF, "ELF Header").
+fn push_elf_header(out: &mut Vec<u8>, entry: u32) -> Result<(), NoMemory>
+    ensures { OnOk result (out.new.items ≡ out.old.items ++ elf_header entry) }
+{
+    // `e_ident`: the four magic bytes, 32 bits, the lowest byte first, version 1. Then `e_type` ET_EXEC and
+    // `e_machine` EM_386.
+    out.extend_from_slice(&[
+        0x7f, b'E', b'L', b'F', 1, 1, 1, 0, 0, 0, 0, 0, 0, 0, 0, 0, 2, 0, 3, 0,
+    ])?;
+    // `e_version`, `e_entry`, `e_phoff`, `e_shoff`, `e_flags`
+    push_word(out, 1)?;
+    push_word(out, entry)?;
+    push_word(out, 52)?;
+    push_word(out, 0)?;
+    push_word(out, 0)?;
+    // `e_ehsize`, `e_phentsize`, `e_phnum`, and no sections
+    out.extend_from_slice(&[52, 0, 32, 0, 2, 0, 0, 0, 0, 0, 0, 0])?;
+    Ok(())
+}
+
+/// Puts a program header of type `PT_LOAD` at the end (ELF, "Program Header").
+fn push_program_header(out: &mut Vec<u8>, header: ProgramHeader) -> Result<(), NoMemory>
+    ensures { OnOk result (out.new.items ≡ out.old.items ++ program_header header.offset header.address header.file_size header.memory_size header.flags) }
+{
+    push_word(out, 1)?;
+    push_word(out, header.offset)?;
+    push_word(out, header.address)?;
+    push_word(out, header.address)?;
+    push_word(out, header.file_size)?;
+    push_word(out, header.memory_size)?;
+    push_word(out, header.flags)?;
+    push_word(out, PAGE as u32)?;
+    Ok(())
+}
+
+/// The bytes of an image file: the headers, the text from the first page on, and the data from the
+/// next whole page on. The only refusal is want of memory.
+pub fn write_image(alloc: Global, image: &Image) -> Result<Vec<u8>, NoMemory>
+    requires { vec_len image.now.text + vec_len image.now.data_bytes ≤ 1200000000 }
+    ensures { IfOk result (λ file. file.items ≡ image_bytes (parts_of image.now)) }
+{
+    let text_len = image.text.len();
+    let data_len = image.data_bytes.len();
+    let text_span = image.text_span();
+    let text_header = ProgramHeader {
+        offset: PAGE as u32,
+        address: TEXT_ADDRESS,
+        file_size: text_len as u32,
+        memory_size: text_len as u32,
+        flags: READ_AND_RUN,
+    };
+    let data_header = ProgramHeader {
+        offset: (PAGE + text_span) as u32,
+        address: TEXT_ADDRESS + text_span as u32,
+        file_size: data_len as u32,
+        memory_size: image.data_memory(),
+        flags: READ_AND_WRITE,
+    };
+    let mut out = Vec::with_capacity(alloc, PAGE + text_span + data_len)?;
+    push_elf_header(&mut out, image.entry)?;
+    push_program_header(&mut out, text_header)?;
+    push_program_header(&mut out, data_header)?;
+    push_zeros(&mut out, PAGE - HEADERS)?;
+    out.extend_from_slice(&image.text)?;
+    push_zeros(&mut out, text_span - text_len)?;
+    out.extend_from_slice(&image.data_bytes)?;
+    Ok(out)
+}

@@ -1,0 +1,3 @@
+pub mod Spelling
+pub mod Runs
+pub mod Streams

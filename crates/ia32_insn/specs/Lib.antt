@@ -1,0 +1,4 @@
+pub mod State
+pub mod Spelling
+pub mod Meaning
+pub mod Runs

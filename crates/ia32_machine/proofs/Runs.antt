@@ -1,0 +1,157 @@
+-- A run of the machine, step by step: the state that was reached, and the outcome that it gives.
+use Rattle.std.specs.Prelude.{◌≡◌, ℕ, zero, suc, ◌+◌, ◌-◌, ◌<◌, ◌≤◌, List, [], ◌∷◌, ◌++◌, length, take, drop, refl}
+use Rattle.std.proofs.Common.{sym, ◌∙◌, ap, subst, arith, append-nil, append_assoc, add-zero}
+use Rattle.std.proofs.lemmas.List.{take_all, drop-drop}
+use Rattle.pcc_base.specs.Outcome as outcome
+use Rattle.ia32_insn.specs.State.{State}
+use Rattle.ia32_insn.specs.Meaning.{Moves, Halts}
+use Rattle.ia32_insn.specs.Runs.{Steps, Runs, stands, no_visits}
+use Rattle.ia32_insn.proofs.Runs.{runs_after, runs_halts}
+use Rattle.ia32_insn.proofs.Streams.{since, steps-since, Takes, steps-takes}
+use Rattle.ia32_machine.specs.First.{lent}
+use Rattle.ia32_machine.specs.Runs.{alone, Reaches, HaltsAt, StepEndsTold, StepTold, Gives, GivesPart, RunTold, LeftAt, RunReaches}
+use Rattle.ia32_machine.specs.declared.ends.MachineEnd.{MachineEnd}
+use Rattle.ia32_machine.specs.declared.ends.MachineEnd.TheVariants.{Ended, Trapped, Stopped, BudgetSpent, ReadFault, WriteFault, NoMemory}
+use Rattle.ia32_machine.specs.declared.ends.StepEnd.TheVariants as step
+
+-- one more step at the end
+pub reaches_more : (n : ℕ) (s t u : State) → Reaches n s t → Steps t (Moves u) → Reaches (suc n) s u
+reaches_more zero s t u r h = (u, subst (λ (v : State). Steps v (Moves u)) r h, refl)
+reaches_more (suc n) s t u r h = (r.0, r.1, reaches_more n r.0 t u r.2 h)
+
+-- the run that goes on after its steps
+pub reaches_goes : (n : ℕ) (s t : State) → Reaches n s t → Runs no_visits n s (stands [] t outcome.Goes)
+reaches_goes zero s t r = ap (λ (v : State). stands [] v outcome.Goes) r
+reaches_goes (suc n) s t r = runs_after no_visits n s r.0 (stands [] t outcome.Goes) r.1 (reaches_goes n r.0 t r.2)
+
+-- the run that ends after some steps, with some to spare
+reaches_halts-spare : (n k : ℕ) (s t : State) (end : outcome.End) → Reaches n s t → Steps t (Halts end) → Runs no_visits (n + suc k) s (stands [] t end)
+reaches_halts-spare zero k s t end r h =
+    let e : suc k ≡ 0 + suc k = omega arith in
+    let run : Runs no_visits (suc k) t (stands [] t end) = runs_halts no_visits k t end h in
+    subst (λ (m : ℕ). Runs no_visits m s (stands [] t end)) e (subst (λ (v : State). Runs no_visits (suc k) v (stands [] t end)) r run)
+reaches_halts-spare (suc n) k s t end r h =
+    let e : suc (n + suc k) ≡ suc n + suc k = omega arith in
+    subst (λ (m : ℕ). Runs no_visits m s (stands [] t end)) e
+    (runs_after no_visits (n + suc k) s r.0 (stands [] t end) r.1 (reaches_halts-spare n k r.0 t end r.2 h))
+
+-- the run that ends after fewer steps than the budget
+pub reaches_halts : (n budget : ℕ) (s t : State) (end : outcome.End) → n < budget → Reaches n s t → Steps t (Halts end) → Runs no_visits budget s (stands [] t end)
+reaches_halts n budget s t end lt r h =
+    let e : n + suc (budget - suc n) ≡ budget = omega arith in
+    subst (λ (m : ℕ). Runs no_visits m s (stands [] t end)) e (reaches_halts-spare n (budget - suc n) s t end r h)
+
+-- a run of n steps from s so far: the machine, what is left of the input, and what was put out
+pub record Ran (n : ℕ) (s machine : State) (left left' taken taken' : List ℕ) : Type 0 where
+  pub state : State
+  pub reaches : Reaches n s state
+  pub machine_is : machine ≡ alone state
+  pub left_is : left' ≡ state.left
+  pub took : state.left ≡ drop state.taken left
+  pub wrote : taken' ≡ taken ++ state.written
+
+-- no steps yet
+pub ran_none : (machine : State) (left taken : List ℕ) → machine ≡ alone machine → Ran 0 (lent machine left) machine left left taken taken
+ran_none machine left taken bare =
+    record { state = lent machine left; reaches = refl; machine_is = bare; left_is = refl; took = refl; wrote = sym (append-nil taken) }
+
+-- a state is the machine lent its input, since what was taken and written before
+since_lent : (t machine : State) (left : List ℕ) → machine ≡ alone t → left ≡ t.left → since t.taken t.written (lent machine left) ≡ t
+since_lent t machine left m l =
+    ap (λ (v : State). since t.taken t.written (lent v left)) m
+    ∙ ap (λ (v : List ℕ). since t.taken t.written (lent t v)) l
+    ∙ ap (λ (k : ℕ). let u : State = record { registers = t.registers; flags = t.flags; eip = t.eip; memory = t.memory; left = t.left; taken = k; written = t.written ++ [] } in u) (add-zero t.taken)
+    ∙ ap (λ (w : List ℕ). let u : State = record { registers = t.registers; flags = t.flags; eip = t.eip; memory = t.memory; left = t.left; taken = t.taken; written = w } in u) (append-nil t.written)
+
+-- a step that goes on, from the state that was reached
+ran_steps : (n : ℕ) (s machine next : State) (left left' taken taken' : List ℕ) → (r : Ran n s machine left left' taken taken') → Steps (lent machine left') (Moves next) → Steps r.state (Moves (since r.state.taken r.state.written next))
+ran_steps n s machine next left left' taken taken' r h =
+    subst (λ (v : State). Steps v (Moves (since r.state.taken r.state.written next))) (since_lent r.state machine left' r.machine_is r.left_is)
+    (steps-since r.state.taken r.state.written (lent machine left') (Moves next) h)
+
+-- a step that ends, from the state that was reached
+ran_halts : (n : ℕ) (s machine : State) (left left' taken taken' : List ℕ) (end : outcome.End) → (r : Ran n s machine left left' taken taken') → Steps (lent machine left') (Halts end) → Steps r.state (Halts end)
+ran_halts n s machine left left' taken taken' end r h =
+    subst (λ (v : State). Steps v (Halts end)) (since_lent r.state machine left' r.machine_is r.left_is)
+    (steps-since r.state.taken r.state.written (lent machine left') (Halts end) h)
+
+-- one more step
+pub ran_more : (n : ℕ) (s machine machine' : State) (left left' left'' taken taken' taken'' : List ℕ) → Ran n s machine left left' taken taken' → StepTold (lent machine left') machine' left'' taken' taken'' step.Going → Ran (suc n) s machine' left left'' taken taken''
+ran_more n s machine machine' left left' left'' taken taken' taken'' r h =
+    let t : State = r.state in
+    let u : State = since t.taken t.written h.0 in
+    let steps : Steps t (Moves u) = ran_steps n s machine h.0 left left' taken taken' r h.1 in
+    let takes : Takes t u = steps-takes t u steps in
+    record {
+      state = u;
+      reaches = reaches_more n s t u r.reaches steps;
+      machine_is = h.2;
+      left_is = h.3;
+      took = takes.left ∙ ap (drop takes.count) r.took ∙ drop-drop takes.count t.taken left ∙ ap (λ (k : ℕ). drop k left) (sym takes.taken);
+      wrote = h.4 ∙ ap (λ (l : List ℕ). l ++ h.0.written) r.wrote ∙ append_assoc taken t.written h.0.written;
+    }
+
+-- an end of the definition after some steps is that of the run
+ran_ends : (n budget : ℕ) (s machine machine' : State) (left left' left'' taken taken' taken'' : List ℕ) (end : outcome.End) → n < budget → Ran n s machine left left' taken taken' → HaltsAt (lent machine left') machine' left'' taken' taken'' end → Gives budget s left left'' taken taken'' end × LeftAt budget s machine' left'' (λ t. Steps t (Halts end))
+ran_ends n budget s machine machine' left left' left'' taken taken' taken'' end lt r h =
+    let t : State = r.state in
+    let halts : Steps t (Halts end) = ran_halts n s machine left left' taken taken' end r h.0 in
+    let left_is : left'' ≡ t.left = h.2 ∙ r.left_is in
+    let machine_is : machine' ≡ alone t = h.1 ∙ ap alone r.machine_is in (
+      (stands [] t end, reaches_halts n budget s t end lt r.reaches halts, refl, left_is ∙ r.took, h.3 ∙ r.wrote),
+      (n, lt, t, r.reaches, halts, machine_is, left_is),
+    )
+
+-- a refusal of a lent object after some steps, of which it took the bytes
+ran_refused : (n budget : ℕ) (s machine machine' : State) (left left' left'' taken taken' taken'' : List ℕ) → n < budget → Ran n s machine left left' taken taken' → machine' ≡ alone (lent machine left') → left'' ≡ left' → taken'' ≡ taken' → GivesPart budget s taken taken'' × LeftAt budget s machine' left'' (λ t. Unit {0})
+ran_refused n budget s machine machine' left left' left'' taken taken' taken'' lt r m l e =
+    let t : State = r.state in
+    let part : taken'' ≡ taken ++ take (length t.written) t.written =
+    e ∙ r.wrote ∙ ap (λ (w : List ℕ). taken ++ w) (sym (take_all (length t.written) t.written (omega arith))) in (
+      (n, let le : n ≤ budget = omega arith in le, stands [] t outcome.Goes, reaches_goes n s t r.reaches, length t.written, part),
+      (n, lt, t, r.reaches, tt, m ∙ ap alone r.machine_is, l ∙ r.left_is),
+    )
+
+-- bytes, and then a part of more
+take-append-more : (xs ys : List ℕ) (k : ℕ) → xs ++ take k ys ≡ take (length xs + k) (xs ++ ys)
+take-append-more [] ys k = let e : k ≡ 0 + k = omega arith in ap (λ (m : ℕ). take m ys) e
+take-append-more (x ∷ xs) ys k =
+    let e : suc (length xs + k) ≡ suc (length xs) + k = omega arith in
+    ap (λ (l : List ℕ). x ∷ l) (take-append-more xs ys k) ∙ ap (λ (m : ℕ). take m (x ∷ (xs ++ ys))) e
+
+-- an output that failed in a step after some steps took a part of what the step writes
+ran_failed : (n budget : ℕ) (s machine machine' : State) (left left' left'' taken taken' taken'' : List ℕ) → n < budget → Ran n s machine left left' taken taken' → StepEndsTold (lent machine left') machine' left'' taken' taken'' WriteFault → GivesPart budget s taken taken'' × LeftAt budget s machine' left'' (λ t. Unit {0})
+ran_failed n budget s machine machine' left left' left'' taken taken' taken'' lt r h =
+    let t : State = r.state in
+    let u : State = since t.taken t.written h.0 in
+    let steps : Steps t (Moves u) = ran_steps n s machine h.0 left left' taken taken' r h.1 in
+    let part : taken'' ≡ taken ++ take (length t.written + h.4) (t.written ++ h.0.written) =
+    h.5 ∙ ap (λ (l : List ℕ). l ++ take h.4 h.0.written) r.wrote ∙ append_assoc taken t.written (take h.4 h.0.written)
+    ∙ ap (λ (w : List ℕ). taken ++ w) (take-append-more t.written h.0.written h.4) in (
+      (suc n, let le : suc n ≤ budget = omega arith in le, stands [] u outcome.Goes, reaches_goes (suc n) s u (reaches_more n s t u r.reaches steps), length t.written + h.4, part),
+      (n, lt, t, r.reaches, tt, h.2 ∙ ap alone r.machine_is, h.3 ∙ r.left_is),
+    )
+
+-- a step that ends the run
+pub ran_last : (n budget : ℕ) (s machine machine' : State) (left left' left'' taken taken' taken'' : List ℕ) (end : MachineEnd) → n < budget → Ran n s machine left left' taken taken' → StepEndsTold (lent machine left') machine' left'' taken' taken'' end → RunTold budget s left left'' taken taken'' end × RunReaches budget s machine' left'' end
+ran_last n budget s machine machine' left left' left'' taken taken' taken'' (Ended status) lt r h =
+    ran_ends n budget s machine machine' left left' left'' taken taken' taken'' (outcome.Ended status) lt r h
+ran_last n budget s machine machine' left left' left'' taken taken' taken'' (Trapped trap) lt r h =
+    ran_ends n budget s machine machine' left left' left'' taken taken' taken'' (outcome.Trapped trap) lt r h
+ran_last n budget s machine machine' left left' left'' taken taken' taken'' (Stopped cause address) lt r h =
+    ran_ends n budget s machine machine' left left' left'' taken taken' taken'' (outcome.Stopped cause address) lt r h
+ran_last n budget s machine machine' left left' left'' taken taken' taken'' BudgetSpent lt r h = elim h [ ]
+ran_last n budget s machine machine' left left' left'' taken taken' taken'' ReadFault lt r h =
+    ran_refused n budget s machine machine' left left' left'' taken taken' taken'' lt r h.0 h.1 h.2
+ran_last n budget s machine machine' left left' left'' taken taken' taken'' WriteFault lt r h =
+    ran_failed n budget s machine machine' left left' left'' taken taken' taken'' lt r h
+ran_last n budget s machine machine' left left' left'' taken taken' taken'' NoMemory lt r h =
+    ran_refused n budget s machine machine' left left' left'' taken taken' taken'' lt r h.0 h.1 h.2
+
+-- all steps were made
+pub ran_spent : (budget : ℕ) (s machine : State) (left left' taken taken' : List ℕ) → Ran budget s machine left left' taken taken' → RunTold budget s left left' taken taken' BudgetSpent × RunReaches budget s machine left' BudgetSpent
+ran_spent budget s machine left left' taken taken' r =
+    let t : State = r.state in (
+      (stands [] t outcome.Goes, reaches_goes budget s t r.reaches, refl, r.left_is ∙ r.took, r.wrote),
+      (t, r.reaches, r.machine_is, r.left_is),
+    )

@@ -1,0 +1,28 @@
+-- The first state of an image.
+use Rattle.std.specs.Prelude.{◌≡◌, ℕ, ◌-◌, List, [], ◌++◌, length, map, replicate, None}
+use Rattle.ia32_regs.specs.Registers.{zero_registers}
+use Rattle.ia32_insn.specs.State.{State, Area}
+use Rattle.elf_image.specs.Segments.{Piece, Segments, Loads}
+
+-- the bytes, and then zeros up to this size
+unfoldable pub padded : ℕ → List ℕ → List ℕ
+padded size bytes = bytes ++ replicate (size - length bytes) 0
+
+-- the memory of a segment
+abbrev pub area_of : Piece → Area
+area_of piece =
+    record { address = piece.address; bytes = padded piece.size piece.bytes; readable = piece.readable; writable = piece.writable; runnable = piece.runnable }
+
+-- every register is 0, the flags are unknown, EIP is the entry, and nothing was read or written
+abbrev pub first_state : Segments → List ℕ → State
+first_state segments input =
+    record { registers = zero_registers; flags = None; eip = segments.entry; memory = map area_of segments.pieces; left = input; taken = 0; written = [] }
+
+-- the state is the first of the image with these bytes, where the input is this
+abbrev pub First : List ℕ → List ℕ → State → Type 0
+First bytes input s = (segments : Segments) × Loads bytes segments × (s ≡ first_state segments input)
+
+-- a machine that is lent an input with these bytes left
+abbrev pub lent : State → List ℕ → State
+lent machine left =
+    record { registers = machine.registers; flags = machine.flags; eip = machine.eip; memory = machine.memory; left = left; taken = 0; written = [] }

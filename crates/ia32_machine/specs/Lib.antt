@@ -1,0 +1,4 @@
+pub mod First
+pub mod Memory
+pub mod Runs
+pub mod Performs

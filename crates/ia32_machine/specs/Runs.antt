@@ -1,0 +1,86 @@
+-- What a step and a run of the machine leave, by cases over their answers.
+use Rattle.std.specs.Prelude.{◌≡◌, ℕ, zero, suc, ◌<◌, ◌≤◌, List, [], ◌++◌, take, drop}
+use Rattle.pcc_base.specs.Counts.{Rose}
+use Rattle.pcc_base.specs.Outcome as outcome
+use Rattle.pcc_outside.specs.Streams.{SinkCounts}
+use Rattle.ia32_insn.specs.State.{State}
+use Rattle.ia32_insn.specs.Meaning.{Moves, Halts}
+use Rattle.ia32_insn.specs.Runs.{Steps, Runs, no_visits}
+use Rattle.ia32_machine.specs.First.{lent}
+use Rattle.ia32_machine.specs.declared.ends.MachineEnd.{MachineEnd}
+use Rattle.ia32_machine.specs.declared.ends.MachineEnd.TheVariants.{Ended, Trapped, Stopped, BudgetSpent, ReadFault, WriteFault, NoMemory}
+use Rattle.ia32_machine.specs.declared.ends.StepEnd.{StepEnd}
+use Rattle.ia32_machine.specs.declared.ends.StepEnd.TheVariants as step
+
+-- the state without its input and output
+abbrev pub alone : State → State
+alone s = lent s []
+
+-- k steps lead from one state to the other
+abbrev pub Reaches : ℕ → State → State → Type 0
+Reaches zero s t = t ≡ s
+Reaches (suc k) s t = (next : State) × Steps s (Moves next) × Reaches k next t
+
+-- the lent objects' counts over a run with this end: only that of the answer may rise, and did
+abbrev pub RunCounts : ℕ → ℕ → SinkCounts → SinkCounts → MachineEnd → Type 0
+RunCounts input input' out out' ReadFault = Rose input input' × (out' ≡ out)
+RunCounts input input' out out' WriteFault = (input' ≡ input) × Rose out.faults out'.faults × (out'.wants ≡ out.wants)
+RunCounts input input' out out' NoMemory = (input' ≡ input) × (out'.faults ≡ out.faults) × Rose out.wants out'.wants
+RunCounts input input' out out' _ = (input' ≡ input) × (out' ≡ out)
+
+abbrev pub StepCounts : ℕ → ℕ → SinkCounts → SinkCounts → StepEnd → Type 0
+StepCounts input input' out out' step.Going = (input' ≡ input) × (out' ≡ out)
+StepCounts input input' out out' (step.End end) = RunCounts input input' out out' end
+
+-- an end that the machine's definition gives in the state s, which leaves the machine and the streams
+abbrev pub HaltsAt : State → State → List ℕ → List ℕ → List ℕ → outcome.End → Type 0
+HaltsAt s machine left taken taken' end = Steps s (Halts end) × (machine ≡ alone s) × (left ≡ s.left) × (taken' ≡ taken)
+
+-- a step from s that ends so, by the machine, the input left and the bytes taken then
+abbrev pub StepEndsTold : State → State → List ℕ → List ℕ → List ℕ → MachineEnd → Type 0
+StepEndsTold s machine left taken taken' (Ended status) = HaltsAt s machine left taken taken' (outcome.Ended status)
+StepEndsTold s machine left taken taken' (Trapped trap) = HaltsAt s machine left taken taken' (outcome.Trapped trap)
+StepEndsTold s machine left taken taken' (Stopped cause address) = HaltsAt s machine left taken taken' (outcome.Stopped cause address)
+StepEndsTold s machine left taken taken' BudgetSpent = ⊥
+StepEndsTold s machine left taken taken' ReadFault = (machine ≡ alone s) × (left ≡ s.left) × (taken' ≡ taken)
+-- a sink that fails has taken a part of what the step writes
+StepEndsTold s machine left taken taken' WriteFault =
+    (next : State) × Steps s (Moves next) × (machine ≡ alone s) × (left ≡ s.left) × (n : ℕ) × (taken' ≡ taken ++ take n next.written)
+StepEndsTold s machine left taken taken' NoMemory = (machine ≡ alone s) × (left ≡ s.left) × (taken' ≡ taken)
+
+abbrev pub StepTold : State → State → List ℕ → List ℕ → List ℕ → StepEnd → Type 0
+StepTold s machine left taken taken' step.Going =
+    (next : State) × Steps s (Moves next) × (machine ≡ alone next) × (left ≡ next.left) × (taken' ≡ taken ++ next.written)
+StepTold s machine left taken taken' (step.End end) = StepEndsTold s machine left taken taken' end
+
+-- the outcome of n steps from s, by the input left and the bytes taken before and after
+abbrev pub Gives : ℕ → State → List ℕ → List ℕ → List ℕ → List ℕ → outcome.End → Type 0
+Gives n s left left' taken taken' end =
+    (o : outcome.Outcome) × Runs no_visits n s o × (o.end ≡ end) × (left' ≡ drop o.taken left) × (taken' ≡ taken ++ o.written)
+
+-- after a refusal the bytes taken are a prefix of what some number of steps writes
+abbrev pub GivesPart : ℕ → State → List ℕ → List ℕ → Type 0
+GivesPart budget s taken taken' =
+    (n : ℕ) × (n ≤ budget) × (o : outcome.Outcome) × Runs no_visits n s o × (k : ℕ) × (taken' ≡ taken ++ take k o.written)
+
+-- a run of at most `budget` steps from s
+abbrev pub RunTold : ℕ → State → List ℕ → List ℕ → List ℕ → List ℕ → MachineEnd → Type 0
+RunTold budget s left left' taken taken' (Ended status) = Gives budget s left left' taken taken' (outcome.Ended status)
+RunTold budget s left left' taken taken' (Trapped trap) = Gives budget s left left' taken taken' (outcome.Trapped trap)
+RunTold budget s left left' taken taken' (Stopped cause address) = Gives budget s left left' taken taken' (outcome.Stopped cause address)
+RunTold budget s left left' taken taken' BudgetSpent = Gives budget s left left' taken taken' outcome.Goes
+RunTold budget s left left' taken taken' ReadFault = GivesPart budget s taken taken'
+RunTold budget s left left' taken taken' WriteFault = GivesPart budget s taken taken'
+RunTold budget s left left' taken taken' NoMemory = GivesPart budget s taken taken'
+
+-- the state in which a run ended, after fewer steps than the budget
+abbrev pub LeftAt : ℕ → State → State → List ℕ → (State → Type 0) → Type 0
+LeftAt budget s machine left IsEnd =
+    (n : ℕ) × (n < budget) × (t : State) × Reaches n s t × IsEnd t × (machine ≡ alone t) × (left ≡ t.left)
+
+abbrev pub RunReaches : ℕ → State → State → List ℕ → MachineEnd → Type 0
+RunReaches budget s machine left (Ended status) = LeftAt budget s machine left (λ t. Steps t (Halts (outcome.Ended status)))
+RunReaches budget s machine left (Trapped trap) = LeftAt budget s machine left (λ t. Steps t (Halts (outcome.Trapped trap)))
+RunReaches budget s machine left (Stopped cause address) = LeftAt budget s machine left (λ t. Steps t (Halts (outcome.Stopped cause address)))
+RunReaches budget s machine left BudgetSpent = (t : State) × Reaches budget s t × (machine ≡ alone t) × (left ≡ t.left)
+RunReaches budget s machine left _ = LeftAt budget s machine left (λ t. Unit {0})

@@ -1,0 +1,213 @@
+//! Runs of the whole compiler: over files in memory, and over files of the system.
+
+use pcc_driver::pcc;
+use pcc_outside::{FileStore, HostFiles, MemFiles, MemSink, MemSource};
+use std::alloc::Global;
+use std::fs;
+use std::test::Fail;
+
+/// The words of a command line.
+fn words_of(alloc: Global, line: &str) -> Result<Vec<String>, Fail> {
+    let mut words = Vec::new(alloc);
+    for word in line.split_whitespace() {
+        words.push(String::from_str(alloc, word)?)?;
+    }
+    Ok(words)
+}
+
+/// A list of the numbers of failing calls: this one, or none where it is 0.
+fn failing(alloc: Global, number: u64) -> Result<Vec<u64>, Fail> {
+    let mut numbers = Vec::new(alloc);
+    if number > 0 {
+        numbers.push(number)?;
+    }
+    Ok(numbers)
+}
+
+/// What a command answers, and what it puts on standard output and standard error.
+#[derive(Drop)]
+struct Answer {
+    status: u8,
+    out: MemSink,
+    err: MemSink,
+}
+
+/// Runs a command over these files with an empty input. Of standard error the call with this number
+/// fails.
+fn run_line<F: FileStore>(
+    alloc: Global,
+    line: &str,
+    files: &mut F,
+    failing_put: u64,
+) -> Result<Answer, Fail> {
+    let words = words_of(alloc, line)?;
+    let mut input = MemSource::new(Vec::new(alloc), Vec::new(alloc));
+    let mut out = MemSink::new(alloc, Vec::new(alloc));
+    let mut err = MemSink::new(alloc, failing(alloc, failing_put)?);
+    let status = pcc(alloc, &words, files, &mut input, &mut out, &mut err);
+    Ok(Answer { status, out, err })
+}
+
+/// Files in memory with one source, whose call with this number fails.
+fn files_with(alloc: Global, source: &str, failing_call: u64) -> Result<MemFiles, Fail> {
+    let mut files = MemFiles::new(alloc, failing(alloc, failing_call)?);
+    match files.place("a.c", source.as_bytes()) {
+        Ok(()) => Ok(files),
+        Err(_) => Err(Fail::new("no memory")),
+    }
+}
+
+/// A source is compiled and its image is run, or both are refused.
+#[test]
+fn compiles_and_runs(rt: HostRuntime) -> Result<(), Fail> {
+    let alloc = rt.alloc();
+    let not_yet = "a.c:1:1: 26 NotYet\n";
+    for (source, compiled, ran) in [
+        ("int main(void){return 300;}", "", "exit 44\n"),
+        ("int main(void){return 0;}\n", "", "exit 0\n"),
+        ("int main(void){return 2147483647;}", "", "exit 255\n"),
+        ("int main(void){return 2147483648;}", not_yet, "no file a\n"),
+        ("int main(void){return 07;}", not_yet, "no file a\n"),
+        ("int main(void){return 7;}\n\n", not_yet, "no file a\n"),
+        ("", not_yet, "no file a\n"),
+    ] {
+        let refused = !compiled.is_empty();
+        let mut files = files_with(alloc, source, 0)?;
+        let first = run_line(alloc, "compile -o a a.c", &mut files, 0)?;
+        assert_eq!(rt; first.err.taken(), compiled.as_bytes(), "{source}");
+        assert_eq!(rt; first.status, u8::from(refused), "{source}");
+        let second = run_line(alloc, "run a", &mut files, 0)?;
+        assert_eq!(rt; second.err.taken(), ran.as_bytes(), "{source}");
+        assert_eq!(rt; second.status, if refused { 6 } else { 0 }, "{source}");
+        assert!(rt; first.out.taken().is_empty() && second.out.taken().is_empty());
+    }
+    Ok(())
+}
+
+/// Each command line has its status and its line.
+#[test]
+fn refuses_words_and_names(rt: HostRuntime) -> Result<(), Fail> {
+    let alloc = rt.alloc();
+    let mut files = files_with(alloc, "int main(void){return 300;}", 0)?;
+    for (line, status, err) in [
+        ("compile -o a a.c", 0, ""),
+        ("run a", 0, "exit 44\n"),
+        ("run a.map", 7, "not an image\n"),
+        ("run b.c", 6, "no file b.c\n"),
+        ("compile -o a b.c", 6, "no file b.c\n"),
+        ("compile -o a.c a.c", 2, "usage\n"),
+        ("compile -o a a.map", 2, "usage\n"),
+        ("compile a.c", 2, "usage\n"),
+        ("compile -O a a.c", 2, "usage\n"),
+        ("compile -o a a.c a.c", 2, "usage\n"),
+        ("run", 2, "usage\n"),
+        ("run a a", 2, "usage\n"),
+        ("--help", 2, "usage\n"),
+        ("", 2, "usage\n"),
+    ] {
+        let answer = run_line(alloc, line, &mut files, 0)?;
+        assert_eq!(rt; answer.err.taken(), err.as_bytes(), "{line}");
+        assert_eq!(rt; answer.status, status, "{line}");
+        assert!(rt; answer.out.taken().is_empty(), "{line}");
+    }
+    assert_eq!(rt;
+        files.content("a.map").unwrap_or(b""),
+        b"pcc map 1\npoint 0 08048005 mark 0\nend\n".as_slice()
+    );
+    Ok(())
+}
+
+/// The call of the store that fails is named, and what was written before it stands.
+#[test]
+fn names_faults(rt: HostRuntime) -> Result<(), Fail> {
+    let alloc = rt.alloc();
+    for (call, status, err, map_stands) in [
+        (1, 4, "read fault a.c\n", false),
+        (2, 5, "write fault a.map\n", false),
+        (3, 5, "write fault a\n", true),
+        (4, 0, "", true),
+    ] {
+        let mut files = files_with(alloc, "int main(void){return 300;}", call)?;
+        let answer = run_line(alloc, "compile -o a a.c", &mut files, 0)?;
+        assert_eq!(rt; answer.err.taken(), err.as_bytes(), "{call}");
+        assert_eq!(rt; answer.status, status, "{call}");
+        assert_eq!(rt; files.content("a.map").is_some(), map_stands, "{call}");
+    }
+    let mut files = files_with(alloc, "int main(void){return 300;}", 0)?;
+    let refused = run_line(alloc, "run a", &mut files, 1)?;
+    assert_eq!(rt; refused.status, 5);
+    assert!(rt; refused.err.taken().is_empty());
+    Ok(())
+}
+
+/// The image with the byte at an offset of the file changed.
+fn with_byte(alloc: Global, image: &[u8], at: usize, byte: u8) -> Result<Vec<u8>, Fail> {
+    let mut changed = Vec::from_slice(alloc, image)?;
+    if let Some(place) = changed.get_mut(at) {
+        *place = byte;
+    }
+    Ok(changed)
+}
+
+/// A changed image is refused, or stops where it no longer has a step.
+#[test]
+fn runs_changed_images(rt: HostRuntime) -> Result<(), Fail> {
+    let alloc = rt.alloc();
+    let mut files = files_with(alloc, "int main(void){return 300;}", 0)?;
+    let compiled = run_line(alloc, "compile -o a a.c", &mut files, 0)?;
+    assert_eq!(rt; compiled.status, 0);
+    let image = Vec::from_slice(alloc, files.content("a").unwrap_or(b""))?;
+    for (at, byte, status, err) in [
+        (4096, 0xF4, 9, "stopped instruction 0x08048000\n"),
+        (4096 + 5, 0x0F, 9, "stopped instruction 0x08048005\n"),
+        (4096 + 17, 0x81, 9, "stopped call 0x08048010\n"),
+        (4096 + 12, 4, 9, "stopped call 0x08048010\n"),
+        (27, 9, 9, "stopped access 0x09048000\n"),
+        (4096 + 7, 45, 0, "exit 45\n"),
+        (0, 0, 7, "not an image\n"),
+        (4095, 1, 7, "not an image\n"),
+    ] {
+        let changed = with_byte(alloc, image.as_slice(), at, byte)?;
+        if files.place("b", changed.as_slice()).is_err() {
+            return Err(Fail::new("no memory"));
+        }
+        let answer = run_line(alloc, "run b", &mut files, 0)?;
+        assert_eq!(rt; answer.err.taken(), err.as_bytes(), "{at}");
+        assert_eq!(rt; answer.status, status, "{at}");
+    }
+    if files.place("c", image.get(..51).unwrap_or(b"")).is_err() {
+        return Err(Fail::new("no memory"));
+    }
+    let short = run_line(alloc, "run c", &mut files, 0)?;
+    assert_eq!(rt; short.err.taken(), b"not an image\n".as_slice());
+    assert_eq!(rt; short.status, 7);
+    Ok(())
+}
+
+/// The same over files of the system, in the folder where the test runs.
+#[test]
+fn compiles_and_runs_real_files(rt: HostRuntime) -> Result<(), Fail> {
+    let alloc = rt.alloc();
+    fs::write(&rt, "pcc_test.c", "int main(void){return 300;}")?;
+    let mut files = HostFiles::new(&rt);
+    for (line, status, err) in [
+        ("compile -o pcc_test pcc_test.c", 0, ""),
+        ("run pcc_test", 0, "exit 44\n"),
+        ("run pcc_test.map", 7, "not an image\n"),
+        ("run pcc_test.o", 6, "no file pcc_test.o\n"),
+        (
+            "compile -o nowhere/a pcc_test.c",
+            5,
+            "write fault nowhere/a.map\n",
+        ),
+        ("run .", 4, "read fault .\n"),
+    ] {
+        let answer = run_line(alloc, line, &mut files, 0)?;
+        assert_eq!(rt; answer.err.taken(), err.as_bytes(), "{line}");
+        assert_eq!(rt; answer.status, status, "{line}");
+    }
+    for name in ["pcc_test.c", "pcc_test.map", "pcc_test"] {
+        fs::remove_file(&rt, name)?;
+    }
+    Ok(())
+}

@@ -1,0 +1,24 @@
+use crate::fault::Fault;
+
+/// A quantity that is above its limit.
+#[derive(Clone, Copy, Debug, PartialEq, Eq)]
+pub enum Limit {
+    /// The number of tokens of all files.
+    Tokens(u64),
+    /// The bytes of all static objects.
+    Arrays(u64),
+    /// The number of a function, and the bytes of its frame.
+    Frame(u32, u64),
+    /// The number of source files.
+    Files(u64),
+    /// The position of a file among the files given, whose bytes are too many.
+    FileBytes(u32),
+}
+
+/// Why a pass of the compiler gives no result.
+#[derive(Clone, Copy, Debug, PartialEq, Eq)]
+pub enum Refusal {
+    Fault(Fault),
+    Limit(Limit),
+    NoMemory,
+}

@@ -1,0 +1,9 @@
+pub mod Digits
+pub mod Exact
+pub mod Files
+pub mod ReturnForm
+pub mod Returning
+pub mod Running
+pub mod Stepping
+pub mod Texts
+pub mod Written

@@ -1,0 +1,64 @@
+-- Lemmas on the runs of images.
+use Rattle.std.proofs.Common.{◌≡◌, ℕ, List, [], Option, Some, sym, ap, ◌∙◌, inl, inr, refl}
+use Rattle.std.specs.Prelude.{length, ◌≤◌}
+use Rattle.elf_image.specs.Segments.{Segments, Loads}
+use Rattle.elf_image.proofs.Loading.{loads-one}
+use Rattle.ia32_insn.specs.State.{State}
+use Rattle.pcc_base.specs.Outcome as outcome
+use Rattle.ia32_machine.specs.First.{First, first_state, lent}
+use Rattle.ia32_machine.specs.Runs as runs
+use Rattle.ia32_machine.specs.Runs.{Gives, GivesPart}
+use Rattle.ia32_machine.specs.declared.ends.MachineEnd.{MachineEnd}
+use Rattle.ia32_machine.specs.declared.ends.MachineEnd.TheVariants as machine
+use Rattle.pcc_driver.specs.Answers.{Streams, RunTold, RunGives, RunGivesPart, Holds, GivesNoMachine, IsNoImage, report_of_end, run_steps}
+use Rattle.pcc_driver.specs.Headline.{file_limit}
+use Rattle.pcc_driver.specs.declared.report.Report.{Report}
+use Rattle.pcc_driver.specs.declared.report.Report.TheVariants as reports
+
+-- an image has one first state over an input
+pub first_once : (image input : List ℕ) (s t : State) → First image input s → First image input t → s ≡ t
+first_once image input s t a b =
+    a.2 ∙ ap (λ (segments : Segments). first_state segments input) (loads-one image a.0 b.0 a.1 b.1) ∙ sym b.2
+
+-- bytes that load nothing have no first state
+pub no_image : (image input : List ℕ) → ((segments : Segments) → Loads image segments → ⊥) → IsNoImage input image
+no_image image input none s first = none first.0 first.1
+
+-- the report of bytes that give no machine
+pub no_machine_told : (report : Report) (content : Option (List ℕ)) (image : List ℕ) (streams : Streams) → content ≡ Some image → length image ≤ file_limit → GivesNoMachine image report → RunTold content streams streams report
+no_machine_told reports.NotImage content image streams read small none = ((image, read, small, no_image image streams.left none), refl)
+no_machine_told reports.NoMemory content image streams read small none = inl refl
+no_machine_told reports.Compiled content image streams read small none = none
+no_machine_told (reports.Exited status) content image streams read small none = absurd none
+no_machine_told (reports.SourceFault fault) content image streams read small none = absurd none
+no_machine_told reports.Usage content image streams read small none = absurd none
+no_machine_told (reports.TooLong file) content image streams read small none = absurd none
+no_machine_told (reports.ReadFault file) content image streams read small none = absurd none
+no_machine_told reports.InputFault content image streams read small none = absurd none
+no_machine_told (reports.WriteFault file) content image streams read small none = absurd none
+no_machine_told reports.OutputFault content image streams read small none = absurd none
+no_machine_told (reports.NoFile file) content image streams read small none = absurd none
+no_machine_told (reports.Trapped trap) content image streams read small none = absurd none
+no_machine_told (reports.Stopped cause address) content image streams read small none = absurd none
+no_machine_told (reports.BudgetSpent steps) content image streams read small none = absurd none
+
+-- a loaded machine that is lent an input is in the first state
+pub lent_first : (image : List ℕ) (segments : Segments) (machine : State) (left : List ℕ) → Loads image segments → machine ≡ first_state segments [] → First image left (lent machine left)
+lent_first image segments machine left loads same = (segments, loads, ap (λ (m : State). lent m left) same)
+
+-- the end of a run is told by its report
+gives_told : (content : Option (List ℕ)) (image : List ℕ) (s : State) (streams streams' : Streams) (end : outcome.End) → content ≡ Some image → length image ≤ file_limit → First image streams.left s → Gives run_steps s streams.left streams'.left streams.taken streams'.taken end → Holds content (RunGives streams streams' end)
+gives_told content image s streams streams' end read small first told = (image, read, small, (s, first, told.0, told.1, told.2, told.3, told.4))
+
+part_told : (content : Option (List ℕ)) (image : List ℕ) (s : State) (streams streams' : Streams) → content ≡ Some image → length image ≤ file_limit → First image streams.left s → GivesPart run_steps s streams.taken streams'.taken → Holds content (RunGivesPart streams streams')
+part_told content image s streams streams' read small first told = (image, read, small, (s, first, told.0, told.1, told.2, told.3, told.4, told.5))
+
+-- the report of a run of the machine tells what the machine does
+pub machine_told : (end : MachineEnd) (content : Option (List ℕ)) (image : List ℕ) (s : State) (streams streams' : Streams) → content ≡ Some image → length image ≤ file_limit → First image streams.left s → runs.RunTold run_steps s streams.left streams'.left streams.taken streams'.taken end → RunTold content streams streams' (report_of_end end)
+machine_told (machine.Ended status) content image s streams streams' read small first told = gives_told content image s streams streams' (outcome.Ended status) read small first told
+machine_told (machine.Trapped trap) content image s streams streams' read small first told = gives_told content image s streams streams' (outcome.Trapped trap) read small first told
+machine_told (machine.Stopped cause address) content image s streams streams' read small first told = gives_told content image s streams streams' (outcome.Stopped cause address) read small first told
+machine_told machine.BudgetSpent content image s streams streams' read small first told = (refl, gives_told content image s streams streams' outcome.Goes read small first told)
+machine_told machine.ReadFault content image s streams streams' read small first told = part_told content image s streams streams' read small first told
+machine_told machine.WriteFault content image s streams streams' read small first told = part_told content image s streams streams' read small first told
+machine_told machine.NoMemory content image s streams streams' read small first told = inr (part_told content image s streams streams' read small first told)

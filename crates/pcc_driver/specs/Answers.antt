@@ -1,0 +1,212 @@
+-- What a command leaves behind and why, by cases over its report: impossible reports are refused.
+use Rattle.std.specs.Prelude.{◌≡◌, ◌≢◌, ◌<◌, ◌≤◌, ◌⊎◌, ℕ, List, ◌++◌, length, take, drop, Option, Some, None, Result, Ok, Err, ⊤}
+use Rattle.pcc_base.specs.Counts.{Rose}
+use Rattle.pcc_base.specs.Outcome as outcome
+use Rattle.pcc_base.specs.Outcome.{Outcome}
+use Rattle.pcc_base.specs.declared.fault.Fault.{Fault}
+use Rattle.pcc_base.specs.declared.fault.FaultKind.TheVariants.{NotYet}
+use Rattle.pcc_outside.specs.Files.{StoreCounts, OnlyMissing, OnlyTooLong, OnlyReadFaults, OnlyWriteFaults}
+use Rattle.pcc_outside.specs.Streams.{SinkCounts, CountsPut, PutTold}
+use Rattle.pcc_outside.specs.declared.sink.WriteRefusal.{WriteRefusal}
+use Rattle.pcc_outside.specs.declared.sink.WriteRefusal.TheVariants as put
+use Rattle.pcc_outside.specs.declared.file_store.ReadRefusal.{ReadRefusal}
+use Rattle.pcc_outside.specs.declared.file_store.ReadRefusal.TheVariants as read
+use Rattle.c_tree.specs.Program.{Program}
+use Rattle.ia32_insn.specs.State.{State}
+use Rattle.ia32_insn.specs.Runs.{Runs, no_visits}
+use Rattle.elf_image.specs.Segments.{Segments, Loads}
+use Rattle.ia32_machine.specs.First.{First}
+use Rattle.ia32_machine.specs.declared.ends.MachineEnd.{MachineEnd}
+use Rattle.ia32_machine.specs.declared.ends.MachineEnd.TheVariants as machine
+use Rattle.pcc_listing.specs.Lines.{Line, IsMap, map_text}
+use Rattle.pcc_driver.specs.Accepted.{IsProgram}
+use Rattle.pcc_driver.specs.Commands.{Command, Compile, Run, Usage, map_name}
+use Rattle.pcc_driver.specs.Headline.{Files, file_limit, IsCompiled}
+use Rattle.pcc_driver.specs.Reports.{status_of, report_line}
+use Rattle.pcc_driver.specs.declared.report.Named.{Named}
+use Rattle.pcc_driver.specs.declared.report.Named.TheVariants.{Source, Map, Image}
+use Rattle.pcc_driver.specs.declared.report.Report.{Report}
+use Rattle.pcc_driver.specs.declared.report.Report.TheVariants as reports
+
+-- the steps that `run` makes at most
+abbrev pub run_steps : ℕ
+run_steps = 1000000000
+
+-- ---- counts
+
+-- the counts of the lent objects that a command may raise before its line is put
+pub record Counts : Type 0 where
+  pub files : StoreCounts
+  pub input : ℕ
+  pub out : SinkCounts
+
+-- the count of the files that the report names rose, and no other
+abbrev pub FilesCause : Report → StoreCounts → StoreCounts → Type 0
+FilesCause (reports.TooLong file) old new = Rose old.too_long new.too_long × OnlyTooLong old new
+FilesCause (reports.ReadFault file) old new = Rose old.read_faults new.read_faults × OnlyReadFaults old new
+FilesCause (reports.WriteFault file) old new = Rose old.write_faults new.write_faults × OnlyWriteFaults old new
+FilesCause (reports.NoFile file) old new = Rose old.missing new.missing × OnlyMissing old new
+FilesCause _ old new = new ≡ old
+
+-- the count of the input or the output that the report names rose, and no other
+abbrev pub StreamsCause : Report → ℕ → ℕ → SinkCounts → SinkCounts → Type 0
+StreamsCause reports.InputFault input input' out out' = Rose input input' × (out' ≡ out)
+StreamsCause reports.OutputFault input input' out out' = (input' ≡ input) × Rose out.faults out'.faults × (out'.wants ≡ out.wants)
+StreamsCause reports.NoMemory input input' out out' = (input' ≡ input) × (out'.faults ≡ out.faults)
+StreamsCause _ input input' out out' = (input' ≡ input) × (out' ≡ out)
+
+-- the one count of the report rose, and no other
+pub record HasCause (report : Report) (old new : Counts) : Type 0 where
+  pub files : FilesCause report old.files new.files
+  pub streams : StreamsCause report old.input new.input old.out new.out
+
+-- ---- compile
+
+-- no file has changed, or none but these
+abbrev pub SameFiles : Files → Files → Type 0
+SameFiles old new = (other : List ℕ) → new other ≡ old other
+
+abbrev pub OnlyFile : List ℕ → Files → Files → Type 0
+OnlyFile name old new = (other : List ℕ) → other ≢ name → new other ≡ old other
+
+-- NAME.map holds the text of a map; NAME, and no other file, may have changed
+abbrev pub MapStands : List ℕ → Files → Files → Type 0
+MapStands name old new =
+    ((map : List Line) × IsMap map × (new (map_name name) ≡ Some (map_text map)))
+    × ((other : List ℕ) → other ≢ name → other ≢ map_name name → new other ≡ old other)
+
+-- the first line and column of the source
+abbrev pub IsNotYet : Fault → Type 0
+IsNotYet fault = fault ≡ record { kind = NotYet; at = record { file = 0; line = 1; col = 1 } }
+
+-- the file holds a text that may be read, and of which this holds
+abbrev pub Holds : Option (List ℕ) → (List ℕ → Type 0) → Type 0
+Holds content P = (text : List ℕ) × (content ≡ Some text) × (length text ≤ file_limit) × P text
+
+abbrev pub IsTooLong : Option (List ℕ) → Type 0
+IsTooLong content = (text : List ℕ) × (content ≡ Some text) × (file_limit < length text)
+
+-- the report of `compile` on files that are told
+abbrev pub CompileTold : List ℕ → List ℕ → Files → Files → Report → Type 0
+CompileTold name source old new reports.Compiled = IsCompiled old new name source
+CompileTold name source old new (reports.SourceFault fault) =
+    Holds (old source) (λ text. (program : Program) → IsProgram text program → ⊥) × IsNotYet fault × SameFiles old new
+CompileTold name source old new (reports.TooLong Source) = IsTooLong (old source) × SameFiles old new
+CompileTold name source old new (reports.ReadFault Source) = SameFiles old new
+CompileTold name source old new (reports.NoFile Source) = (old source ≡ None) × SameFiles old new
+CompileTold name source old new (reports.WriteFault Map) = OnlyFile (map_name name) old new
+CompileTold name source old new (reports.WriteFault Image) = MapStands name old new
+CompileTold name source old new reports.NoMemory = SameFiles old new ⊎ (MapStands name old new × (new name ≡ old name))
+CompileTold name source old new _ = ⊥
+
+-- ---- the steps of a command
+
+-- the report of a refused read
+abbrev pub report_of_read : ReadRefusal → Named → Report
+report_of_read read.Missing file = reports.NoFile file
+report_of_read read.TooLong file = reports.TooLong file
+report_of_read read.Failed file = reports.ReadFault file
+report_of_read read.NoMemory file = reports.NoMemory
+
+-- the report of a refused write
+abbrev pub report_of_write : WriteRefusal → Named → Report
+report_of_write put.Failed file = reports.WriteFault file
+report_of_write put.NoMemory file = reports.NoMemory
+
+-- the report of a run of the machine
+abbrev pub report_of_end : MachineEnd → Report
+report_of_end (machine.Ended status) = reports.Exited status
+report_of_end (machine.Trapped trap) = reports.Trapped trap
+report_of_end (machine.Stopped cause address) = reports.Stopped cause address
+report_of_end machine.BudgetSpent = reports.BudgetSpent run_steps
+report_of_end machine.ReadFault = reports.InputFault
+report_of_end machine.WriteFault = reports.OutputFault
+report_of_end machine.NoMemory = reports.NoMemory
+
+-- why bytes give no machine
+abbrev pub GivesNoMachine : List ℕ → Report → Type 0
+GivesNoMachine image reports.NotImage = (segments : Segments) → Loads image segments → ⊥
+GivesNoMachine image reports.NoMemory = ⊤
+GivesNoMachine image _ = ⊥
+
+-- two files are written, the map's and then the image's; no other file has changed
+abbrev pub WritesTold : List ℕ → List ℕ → List ℕ → List ℕ → Files → Files → Report → Type 0
+WritesTold map_name name map_bytes image old new reports.Compiled =
+    (new map_name ≡ Some map_bytes) × (new name ≡ Some image) × ((other : List ℕ) → other ≢ name → other ≢ map_name → new other ≡ old other)
+WritesTold map_name name map_bytes image old new (reports.WriteFault Map) = OnlyFile map_name old new
+WritesTold map_name name map_bytes image old new (reports.WriteFault Image) =
+    (new map_name ≡ Some map_bytes) × ((other : List ℕ) → other ≢ name → other ≢ map_name → new other ≡ old other)
+WritesTold map_name name map_bytes image old new reports.NoMemory =
+    SameFiles old new
+    ⊎ ((new map_name ≡ Some map_bytes) × ((other : List ℕ) → other ≢ name → other ≢ map_name → new other ≡ old other) × (new name ≡ old name))
+WritesTold map_name name map_bytes image old new _ = ⊥
+
+-- ---- run
+
+-- what is left of the input and taken by the output, before and after
+pub record Streams : Type 0 where
+  pub left : List ℕ
+  pub taken : List ℕ
+
+-- all the steps of the image with these bytes have this end
+abbrev pub RunGives : Streams → Streams → outcome.End → List ℕ → Type 0
+RunGives old new end image =
+    (s : State) × First image old.left s × (o : Outcome) × Runs no_visits run_steps s o × (o.end ≡ end)
+    × (new.left ≡ drop o.taken old.left) × (new.taken ≡ old.taken ++ o.written)
+
+-- what was put on the output is a prefix of what some number of steps writes
+abbrev pub RunGivesPart : Streams → Streams → List ℕ → Type 0
+RunGivesPart old new image =
+    (s : State) × First image old.left s × (n : ℕ) × (n ≤ run_steps) × (o : Outcome) × Runs no_visits n s o
+    × (k : ℕ) × (new.taken ≡ old.taken ++ take k o.written)
+
+-- the image has no first state
+abbrev pub IsNoImage : List ℕ → List ℕ → Type 0
+IsNoImage input image = (s : State) → First image input s → ⊥
+
+-- the report of `run` on files and streams that are told; no file has changed
+abbrev pub RunTold : Option (List ℕ) → Streams → Streams → Report → Type 0
+RunTold content old new (reports.Exited status) = Holds content (RunGives old new (outcome.Ended status))
+RunTold content old new (reports.Trapped trap) = Holds content (RunGives old new (outcome.Trapped trap))
+RunTold content old new (reports.Stopped cause address) = Holds content (RunGives old new (outcome.Stopped cause address))
+RunTold content old new (reports.BudgetSpent steps) = (steps ≡ run_steps) × Holds content (RunGives old new outcome.Goes)
+RunTold content old new reports.NotImage = Holds content (IsNoImage old.left) × (new ≡ old)
+RunTold content old new (reports.TooLong Image) = IsTooLong content × (new ≡ old)
+RunTold content old new (reports.ReadFault Image) = new ≡ old
+RunTold content old new (reports.NoFile Image) = (content ≡ None) × (new ≡ old)
+RunTold content old new reports.InputFault = Holds content (RunGivesPart old new)
+RunTold content old new reports.OutputFault = Holds content (RunGivesPart old new)
+RunTold content old new reports.NoMemory = (new ≡ old) ⊎ Holds content (RunGivesPart old new)
+RunTold content old new _ = ⊥
+
+-- ---- the line, and the status
+
+-- the status after the line was put on standard error, or refused there
+abbrev pub status_after : ℕ → Result Unit WriteRefusal → ℕ
+status_after status (Ok done) = status
+status_after status (Err put.Failed) = 5
+status_after status (Err put.NoMemory) = 11
+
+-- The line of the report was put, or that of want of memory where there was none for the line.
+abbrev pub IsShown : Report → Report → Type 0
+IsShown report shown = (shown ≡ report) ⊎ (shown ≡ reports.NoMemory)
+
+-- The line was put on standard error, whose counts and bytes taken are these before and after, and the
+-- status is that of the report, or 5 or 11 where standard error refused.
+abbrev pub IsPut : List ℕ → ℕ → SinkCounts → SinkCounts → Type 0 → List ℕ → List ℕ → ℕ → Type 0
+IsPut line status counts counts' tells taken taken' result =
+    (answer : Result Unit WriteRefusal) × CountsPut counts counts' answer × (tells → PutTold taken taken' line answer) × (result ≡ status_after status answer)
+
+-- a command's report ends in its status
+abbrev pub Ends : Command → Report → SinkCounts → SinkCounts → Type 0 → List ℕ → List ℕ → ℕ → Type 0
+Ends command report counts counts' tells taken taken' result =
+    (shown : Report) × IsShown report shown × IsPut (report_line command shown) (status_of shown) counts counts' tells taken taken' result
+
+-- the report of a command on what is told
+abbrev pub CommandTold : Command → Type 0 → Type 0 → Files → Files → Streams → Streams → Report → Type 0
+CommandTold (Compile name source) files_tell streams_tell old new before after report =
+    (files_tell → CompileTold name source old new report) × (after ≡ before)
+CommandTold (Run image) files_tell streams_tell old new before after report =
+    (files_tell → SameFiles old new) × (files_tell → streams_tell → RunTold (old image) before after report)
+CommandTold Usage files_tell streams_tell old new before after report =
+    (report ≡ reports.Usage) × (files_tell → SameFiles old new) × (after ≡ before)

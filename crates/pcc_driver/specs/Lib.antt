@@ -1,0 +1,9 @@
+pub mod Accepted
+pub mod Answers
+pub mod Code
+pub mod Commands
+pub mod Headline
+pub mod Products
+pub mod Promises
+pub mod Reports
+pub mod Words

@@ -1,0 +1,78 @@
+-- The status of each report, and its line on standard error.
+use Rattle.std.specs.Prelude.{ℕ, List, [], ◌∷◌, ◌++◌, codes, decimal}
+use Rattle.pcc_base.specs.Faults.{number_of, name_of}
+use Rattle.pcc_base.specs.declared.fault.Fault.{Fault}
+use Rattle.pcc_base.specs.declared.run.Trap.{Trap}
+use Rattle.pcc_base.specs.declared.run.Trap.TheVariants.{Divide, Check}
+use Rattle.pcc_base.specs.declared.run.Stop.{Stop}
+use Rattle.pcc_base.specs.declared.run.Stop.TheVariants.{Instruction, Access, Flags, Call}
+use Rattle.pcc_listing.specs.Lines.{address_text}
+use Rattle.pcc_driver.specs.Commands as commands
+use Rattle.pcc_driver.specs.Commands.{map_name}
+use Rattle.pcc_driver.specs.declared.report.Named.{Named}
+use Rattle.pcc_driver.specs.declared.report.Named.TheVariants.{Source, Map, Image}
+use Rattle.pcc_driver.specs.declared.report.Report.{Report}
+use Rattle.pcc_driver.specs.declared.report.Report.TheVariants.{Compiled, Exited, SourceFault, Usage, TooLong, ReadFault, InputFault, WriteFault, OutputFault, NoFile, NotImage, Trapped, Stopped, BudgetSpent, NoMemory}
+
+abbrev pub status_of : Report → ℕ
+status_of Compiled = 0
+status_of (Exited status) = 0
+status_of (SourceFault fault) = 1
+status_of Usage = 2
+status_of (TooLong file) = 3
+status_of (ReadFault file) = 4
+status_of InputFault = 4
+status_of (WriteFault file) = 5
+status_of OutputFault = 5
+status_of (NoFile file) = 6
+status_of NotImage = 7
+status_of (Trapped trap) = 8
+status_of (Stopped cause address) = 9
+status_of (BudgetSpent steps) = 10
+status_of NoMemory = 11
+
+-- the name of a file in a command
+abbrev pub name_in : commands.Command → Named → List ℕ
+name_in (commands.Compile name source) Source = source
+name_in (commands.Compile name source) Map = map_name name
+name_in (commands.Compile name source) Image = name
+name_in (commands.Run image) file = image
+name_in commands.Usage file = []
+
+abbrev pub trap_text : Trap → List ℕ
+trap_text Divide = codes "divide"
+trap_text Check = codes "check"
+
+-- the cause of a stop and the address that is printed: that of an access is the access's own
+abbrev pub stop_text : Stop → ℕ → List ℕ
+stop_text Instruction address = codes "instruction 0x" ++ address_text address
+stop_text (Access at) address = codes "access 0x" ++ address_text at
+stop_text Flags address = codes "flags 0x" ++ address_text address
+stop_text Call address = codes "call 0x" ++ address_text address
+
+abbrev pub fault_text : Fault → List ℕ
+fault_text fault =
+    codes ":" ++ decimal fault.at.line ++ codes ":" ++ decimal fault.at.col ++ codes ": " ++ decimal (number_of fault.kind) ++ codes " " ++ name_of fault.kind
+
+-- the line without its newline
+abbrev pub report_text : commands.Command → Report → List ℕ
+report_text command Compiled = []
+report_text command (Exited status) = codes "exit " ++ decimal status
+report_text command (SourceFault fault) = name_in command Source ++ fault_text fault
+report_text command Usage = codes "usage"
+report_text command (TooLong file) = codes "limit 24 FileBytes " ++ name_in command file
+report_text command (ReadFault file) = codes "read fault " ++ name_in command file
+report_text command InputFault = codes "read fault input"
+report_text command (WriteFault file) = codes "write fault " ++ name_in command file
+report_text command OutputFault = codes "write fault output"
+report_text command (NoFile file) = codes "no file " ++ name_in command file
+report_text command NotImage = codes "not an image"
+report_text command (Trapped trap) = codes "trap " ++ trap_text trap
+report_text command (Stopped cause address) = codes "stopped " ++ stop_text cause address
+report_text command (BudgetSpent steps) = codes "budget " ++ decimal steps
+report_text command NoMemory = codes "no memory"
+
+-- the line that is put on standard error; a compilation that went well puts none
+abbrev pub report_line : commands.Command → Report → List ℕ
+report_line command Compiled = []
+report_line command report = report_text command report ++ 10 ∷ []

@@ -1,0 +1,93 @@
+ghost use Rattle.std.specs.Prelude.{◌≡◌, ◌≢◌, ℕ};
+ghost use Rattle.pcc_outside.specs.Streams.{SinkCounts};
+ghost use Rattle.pcc_driver.specs.Answers.{FilesCause, StreamsCause, CompileTold, WritesTold, IsNotYet, report_of_read, report_of_write};
+
+use crate::products::{Products, products_of};
+use crate::report::{Named, Report};
+use pcc_base::{Fault, FaultKind, Span};
+use pcc_outside::{FileStore, ReadRefusal, WriteRefusal};
+use std::alloc::Global;
+
+/// The most bytes of one file that is read.
+pub const FILE_LIMIT: usize = 1_342_177_280;
+
+/// The fault of a source that isn't accepted yet.
+fn not_yet() -> Fault
+    ensures { IsNotYet result }
+{
+    Fault {
+        kind: FaultKind::NotYet,
+        at: Span {
+            file: 0,
+            line: 1,
+            col: 1,
+        },
+    }
+}
+
+/// The report of a refused read.
+pub fn read_report(refusal: ReadRefusal, file: Named) -> Report
+    ensures { result ≡ report_of_read refusal file }
+{
+    match refusal {
+        ReadRefusal::Missing => Report::NoFile(file),
+        ReadRefusal::TooLong => Report::TooLong(file),
+        ReadRefusal::Failed => Report::ReadFault(file),
+        ReadRefusal::NoMemory => Report::NoMemory,
+    }
+}
+
+/// The report of a refused write.
+fn write_report(refusal: WriteRefusal, file: Named) -> Report
+    ensures { result ≡ report_of_write refusal file }
+{
+    match refusal {
+        WriteRefusal::Failed => Report::WriteFault(file),
+        WriteRefusal::NoMemory => Report::NoMemory,
+    }
+}
+
+/// Writes NAME.map, and then NAME.
+fn write_products<F: FileStore>(
+    map_name: &str,
+    name: &str,
+    products: &Products,
+    files: &mut F,
+) -> Report
+    requires { map_name.now ≢ name.now }
+    ensures cause { FilesCause result (F.counts files.old) (F.counts files.new) }
+    ensures streams { (input : ℕ) (out : SinkCounts) → StreamsCause result input input out out }
+    ensures telling { F.tells files.old → F.tells files.new }
+    ensures told { F.tells files.old → WritesTold map_name.now name.now products.now.map.items products.now.image.items (F.content files.old) (F.content files.new) result }
+{
+    if let Err(refusal) = files.write(map_name, products.map.as_slice()) {
+        return write_report(refusal, Named::Map);
+    }
+    if let Err(refusal) = files.write(name, products.image.as_slice()) {
+        return write_report(refusal, Named::Image);
+    }
+    Report::Compiled
+}
+
+/// Reads the source and writes its map and its image. Nothing is written where an earlier step refuses.
+pub fn compile<F: FileStore>(alloc: Global, name: &str, source: &str, files: &mut F) -> Report
+    ensures cause { FilesCause result (F.counts files.old) (F.counts files.new) }
+    // It speaks of no input and no output.
+    ensures streams { (input : ℕ) (out : SinkCounts) → StreamsCause result input input out out }
+    ensures telling { F.tells files.old → F.tells files.new }
+    ensures told { F.tells files.old → CompileTold name.now source.now (F.content files.old) (F.content files.new) result }
+{
+    let text = match files.read(alloc, source, FILE_LIMIT) {
+        Ok(text) => text,
+        Err(refusal) => return read_report(refusal, Named::Source),
+    };
+    let products = match products_of(alloc, text.as_slice()) {
+        Ok(Some(products)) => products,
+        Ok(None) => return Report::SourceFault(not_yet()),
+        Err(_) => return Report::NoMemory,
+    };
+    match format!(in alloc; "{name}.map") {
+        Ok(map_name) => write_products(map_name.as_str(), name, &products, files),
+        Err(_) => Report::NoMemory,
+    }
+}

@@ -1,0 +1,193 @@
+ghost use Rattle.std.specs.Prelude.{◌≡◌, ◌++◌, IfOk, OnOk, decimal};
+ghost use Rattle.pcc_driver.specs.Answers.{Ends, IsPut};
+ghost use Rattle.pcc_driver.specs.Reports.{fault_text, name_in, report_line, report_text, stop_text, trap_text};
+ghost use Rattle.pcc_driver.specs.Words.{meaning};
+ghost use Rattle.pcc_listing.specs.Lines.{address_text};
+
+use crate::hexadecimal::push_address;
+use crate::report::{Named, Report};
+use crate::words::Command;
+use pcc_base::{Fault, NoMemory, Stop, Trap};
+use pcc_outside::{Sink, WriteRefusal};
+use std::alloc::Global;
+
+/// Puts a number at the end, in decimal. The only refusal is want of memory.
+fn push_number(alloc: Global, out: &mut Vec<u8>, number: u64) -> Result<(), NoMemory>
+    ensures { OnOk result (out.new.items ≡ out.old.items ++ decimal number) }
+{
+    let digits = number.to_string(alloc)?;
+    out.extend_from_slice(digits.as_bytes())?;
+    Ok(())
+}
+
+/// Puts a file's name at the end. The only refusal is want of memory.
+fn push_name(out: &mut Vec<u8>, command: Command<'_>, file: Named) -> Result<(), NoMemory>
+    ensures { OnOk result (out.new.items ≡ out.old.items ++ name_in (meaning command.entry) file) }
+{
+    match command {
+        Command::Compile { name, source } => match file {
+            Named::Source => out.extend_from_slice(source.as_bytes())?,
+            Named::Map => {
+                out.extend_from_slice(name.as_bytes())?;
+                out.extend_from_slice(b".map")?;
+            }
+            Named::Image => out.extend_from_slice(name.as_bytes())?,
+        },
+        Command::Run { image } => out.extend_from_slice(image.as_bytes())?,
+        Command::Usage => {}
+    }
+    Ok(())
+}
+
+/// Puts words and a file's name at the end. The only refusal is want of memory.
+fn push_about(
+    out: &mut Vec<u8>,
+    words: &[u8],
+    command: Command<'_>,
+    file: Named,
+) -> Result<(), NoMemory>
+    ensures { OnOk result (out.new.items ≡ out.old.items ++ (words.now ++ name_in (meaning command.entry) file)) }
+{
+    out.extend_from_slice(words)?;
+    push_name(out, command, file)
+}
+
+/// Puts where and what a fault is at the end, behind the source's name. The only refusal is want of memory.
+fn push_fault(alloc: Global, out: &mut Vec<u8>, fault: Fault) -> Result<(), NoMemory>
+    ensures { OnOk result (out.new.items ≡ out.old.items ++ fault_text fault) }
+{
+    out.extend_from_slice(b":")?;
+    push_number(alloc, out, u64::from(fault.at.line))?;
+    out.extend_from_slice(b":")?;
+    push_number(alloc, out, u64::from(fault.at.col))?;
+    out.extend_from_slice(b": ")?;
+    push_number(alloc, out, u64::from(fault.kind.number()))?;
+    out.extend_from_slice(b" ")?;
+    out.extend_from_slice(fault.kind.name().as_bytes())?;
+    Ok(())
+}
+
+/// Puts the kind of a trap at the end. The only refusal is want of memory.
+fn push_trap(out: &mut Vec<u8>, trap: Trap) -> Result<(), NoMemory>
+    ensures { OnOk result (out.new.items ≡ out.old.items ++ trap_text trap) }
+{
+    match trap {
+        Trap::Divide => out.extend_from_slice(b"divide")?,
+        Trap::Check => out.extend_from_slice(b"check")?,
+    }
+    Ok(())
+}
+
+/// Puts words and an address at the end. The only refusal is want of memory.
+fn push_place(out: &mut Vec<u8>, words: &[u8], address: u32) -> Result<(), NoMemory>
+    ensures { OnOk result (out.new.items ≡ out.old.items ++ (words.now ++ address_text address)) }
+{
+    out.extend_from_slice(words)?;
+    push_address(out, address)
+}
+
+/// Puts the cause of a stop and its address at the end, that of an access for an access. The only refusal
+/// is want of memory.
+fn push_stop(out: &mut Vec<u8>, cause: Stop, address: u32) -> Result<(), NoMemory>
+    ensures { OnOk result (out.new.items ≡ out.old.items ++ stop_text cause address) }
+{
+    match cause {
+        Stop::Instruction => push_place(out, b"instruction 0x", address),
+        Stop::Access(at) => push_place(out, b"access 0x", at),
+        Stop::Flags => push_place(out, b"flags 0x", address),
+        Stop::Call => push_place(out, b"call 0x", address),
+    }
+}
+
+/// Puts words and a number at the end. The only refusal is want of memory.
+fn push_count(alloc: Global, out: &mut Vec<u8>, words: &[u8], number: u64) -> Result<(), NoMemory>
+    ensures { OnOk result (out.new.items ≡ out.old.items ++ (words.now ++ decimal number)) }
+{
+    out.extend_from_slice(words)?;
+    push_number(alloc, out, number)
+}
+
+/// Puts words at the end. The only refusal is want of memory.
+fn push_words(out: &mut Vec<u8>, words: &[u8]) -> Result<(), NoMemory>
+    ensures { OnOk result (out.new.items ≡ out.old.items ++ words.now) }
+{
+    out.extend_from_slice(words)?;
+    Ok(())
+}
+
+/// Puts a report's text at the end, without a newline. The only refusal is want of memory.
+fn push_report(
+    alloc: Global,
+    out: &mut Vec<u8>,
+    command: Command<'_>,
+    report: Report,
+) -> Result<(), NoMemory>
+    ensures { OnOk result (out.new.items ≡ out.old.items ++ report_text (meaning command.entry) report) }
+{
+    match report {
+        Report::Compiled => Ok(()),
+        Report::Exited(status) => push_count(alloc, out, b"exit ", u64::from(status)),
+        Report::SourceFault(fault) => {
+            push_name(out, command, Named::Source)?;
+            push_fault(alloc, out, fault)
+        }
+        Report::Usage => push_words(out, b"usage"),
+        Report::TooLong(file) => push_about(out, b"limit 24 FileBytes ", command, file),
+        Report::ReadFault(file) => push_about(out, b"read fault ", command, file),
+        Report::InputFault => push_words(out, b"read fault input"),
+        Report::WriteFault(file) => push_about(out, b"write fault ", command, file),
+        Report::OutputFault => push_words(out, b"write fault output"),
+        Report::NoFile(file) => push_about(out, b"no file ", command, file),
+        Report::NotImage => push_words(out, b"not an image"),
+        Report::Trapped(trap) => {
+            push_words(out, b"trap ")?;
+            push_trap(out, trap)
+        }
+        Report::Stopped(cause, address) => {
+            push_words(out, b"stopped ")?;
+            push_stop(out, cause, address)
+        }
+        Report::BudgetSpent(steps) => push_count(alloc, out, b"budget ", steps),
+        Report::NoMemory => push_words(out, b"no memory"),
+    }
+}
+
+/// The line of a report, with its newline. The only refusal is want of memory.
+fn line_of(alloc: Global, command: Command<'_>, report: Report) -> Result<Vec<u8>, NoMemory>
+    ensures { IfOk result (λ line. line.items ≡ report_line (meaning command.entry) report) }
+{
+    let mut line = Vec::new(alloc);
+    if report != Report::Compiled {
+        push_report(alloc, &mut line, command, report)?;
+        line.push(b'\n')?;
+    }
+    Ok(line)
+}
+
+/// Puts a line on standard error, and answers the status: 5 where standard error fails, and 11 where it
+/// has no memory.
+fn put_line<E: Sink>(line: &[u8], status: u8, err: &mut E) -> u8
+    ensures put { IsPut line.now status (E.counts err.old) (E.counts err.new) (E.tells err.old) (E.taken err.old) (E.taken err.new) result }
+    ensures telling { E.tells err.old → E.tells err.new }
+{
+    match err.put_all(line) {
+        Ok(()) => status,
+        Err(WriteRefusal::Failed) => 5,
+        Err(WriteRefusal::NoMemory) => 11,
+    }
+}
+
+/// Puts the report's line on standard error, and answers its status: 5 where standard error fails, and
+/// 11 where there is no memory for the line or for putting it. A compilation that went well puts nothing.
+pub fn finish<E: Sink>(alloc: Global, command: Command<'_>, report: Report, err: &mut E) -> u8
+    ensures ends { Ends (meaning command.entry) report (E.counts err.old) (E.counts err.new) (E.tells err.old) (E.taken err.old) (E.taken err.new) result }
+    ensures telling { E.tells err.old → E.tells err.new }
+{
+    if let Report::Compiled = report {
+        return report.status();
+    }
+    match line_of(alloc, command, report) {
+        Ok(line) => put_line(line.as_slice(), report.status(), err),
+        Err(NoMemory) => put_line(b"no memory\n", Report::NoMemory.status(), err),
+    }
+}

@@ -1,0 +1,24 @@
+//! The top call: what the words of the command line ask for is done over the files, the input and the
+//! outputs that are lent, and the exit status is answered.
+//!
+//! `pcc` in `src/top.rt` carries the promises: a compiled image does exactly what its source does
+//! (`specs/Headline.antt`), and each status has its cause and its line (`specs/Answers.antt`,
+//! `specs/Promises.antt`).
+#![tactic(auto)]
+
+mod compile;
+mod encode;
+mod finish;
+mod hexadecimal;
+mod image;
+mod map;
+mod products;
+mod report;
+mod return_form;
+mod run;
+mod top;
+mod words;
+
+pub use report::{Named, Report};
+pub use top::pcc;
+pub use words::Command;

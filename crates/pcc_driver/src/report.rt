@@ -1,0 +1,72 @@
+ghost use Rattle.std.specs.Prelude.{◌≡◌};
+ghost use Rattle.pcc_driver.specs.Reports.{status_of};
+
+use pcc_base::{Fault, Stop, Trap};
+
+/// A file that a command names.
+#[derive(Clone, Copy, Debug, PartialEq, Eq)]
+pub enum Named {
+    /// The source that `compile` reads.
+    Source,
+    /// The map that `compile` writes.
+    Map,
+    /// The image that `compile` writes or `run` reads.
+    Image,
+}
+
+/// How a command went. Each report has a status and a line for standard error.
+#[derive(Clone, Copy, Debug, PartialEq, Eq)]
+pub enum Report {
+    /// Both files are written.
+    Compiled,
+    /// The program ended with this exit status.
+    Exited(u8),
+    /// The source is faulty.
+    SourceFault(Fault),
+    /// The words mean no command.
+    Usage,
+    /// The file that is read has too many bytes.
+    TooLong(Named),
+    /// Reading the file failed.
+    ReadFault(Named),
+    /// Reading the input failed.
+    InputFault,
+    /// Writing the file failed.
+    WriteFault(Named),
+    /// Writing to standard output failed.
+    OutputFault,
+    /// The file isn't there.
+    NoFile(Named),
+    /// The file is no image.
+    NotImage,
+    /// The program trapped.
+    Trapped(Trap),
+    /// The machine stopped for this cause, at the instruction at this address.
+    Stopped(Stop, u32),
+    /// The program still runs after so many steps.
+    BudgetSpent(u64),
+    /// There was no memory.
+    NoMemory,
+}
+
+impl Report {
+    /// The exit status.
+    pub fn status(self) -> u8
+        ensures { result ≡ status_of self }
+    {
+        match self {
+            Report::Compiled | Report::Exited(_) => 0,
+            Report::SourceFault(_) => 1,
+            Report::Usage => 2,
+            Report::TooLong(_) => 3,
+            Report::ReadFault(_) | Report::InputFault => 4,
+            Report::WriteFault(_) | Report::OutputFault => 5,
+            Report::NoFile(_) => 6,
+            Report::NotImage => 7,
+            Report::Trapped(_) => 8,
+            Report::Stopped(_, _) => 9,
+            Report::BudgetSpent(_) => 10,
+            Report::NoMemory => 11,
+        }
+    }
+}

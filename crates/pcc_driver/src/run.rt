@@ -1,0 +1,70 @@
+ghost use Rattle.std.specs.Prelude.{◌≡◌, [], MatchResult};
+ghost use Rattle.elf_image.specs.Segments.{Segments, Loads};
+ghost use Rattle.ia32_machine.specs.First.{first_state};
+ghost use Rattle.pcc_driver.specs.Answers.{FilesCause, StreamsCause, SameFiles, RunTold, GivesNoMachine, report_of_end};
+
+use crate::compile::{FILE_LIMIT, read_report};
+use crate::report::{Named, Report};
+use elf_image::{ImageRefusal, read_image};
+use ia32_machine::{Machine, MachineEnd};
+use pcc_outside::{FileStore, Sink, Source};
+use std::alloc::Global;
+
+/// The steps that a run makes at most.
+pub const RUN_STEPS: u64 = 1_000_000_000;
+
+/// The machine that the bytes of an image load.
+fn machine_of(alloc: Global, image: &[u8]) -> Result<Machine, Report>
+    ensures { MatchResult result (λ machine. (segments : Segments) × Loads image.now segments × (machine ≡ first_state segments [])) (GivesNoMachine image.now) }
+{
+    match read_image(alloc, image) {
+        Ok(loaded) => match Machine::load(alloc, &loaded) {
+            Ok(machine) => Ok(machine),
+            Err(_) => Err(Report::NoMemory),
+        },
+        Err(ImageRefusal::NotImage) => Err(Report::NotImage),
+        Err(ImageRefusal::NoMemory) => Err(Report::NoMemory),
+    }
+}
+
+/// The report of a run of the machine.
+fn end_report(end: MachineEnd) -> Report
+    ensures { result ≡ report_of_end end }
+{
+    match end {
+        MachineEnd::Ended(status) => Report::Exited(status),
+        MachineEnd::Trapped(trap) => Report::Trapped(trap),
+        MachineEnd::Stopped(cause, address) => Report::Stopped(cause, address),
+        MachineEnd::BudgetSpent => Report::BudgetSpent(RUN_STEPS),
+        MachineEnd::ReadFault => Report::InputFault,
+        MachineEnd::WriteFault => Report::OutputFault,
+        MachineEnd::NoMemory => Report::NoMemory,
+    }
+}
+
+/// Reads the image and runs it in the machine. No file is changed.
+pub fn run<F: FileStore, I: Source, O: Sink>(
+    alloc: Global,
+    image: &str,
+    files: &mut F,
+    input: &mut I,
+    out: &mut O,
+) -> Report
+    ensures files_cause { FilesCause result (F.counts files.old) (F.counts files.new) }
+    ensures streams_cause { StreamsCause result (I.faults input.old) (I.faults input.new) (O.counts out.old) (O.counts out.new) }
+    ensures files_tell { F.tells files.old → F.tells files.new }
+    ensures input_tells { I.tells input.old → I.tells input.new }
+    ensures out_tells { O.tells out.old → O.tells out.new }
+    ensures same { F.tells files.old → SameFiles (F.content files.old) (F.content files.new) }
+    ensures told { F.tells files.old → I.tells input.old → O.tells out.old → RunTold (F.content files.old image.now)
+        (record { left = I.left input.old; taken = O.taken out.old }) (record { left = I.left input.new; taken = O.taken out.new }) result }
+{
+    let bytes = match files.read(alloc, image, FILE_LIMIT) {
+        Ok(bytes) => bytes,
+        Err(refusal) => return read_report(refusal, Named::Image),
+    };
+    match machine_of(alloc, bytes.as_slice()) {
+        Ok(mut machine) => end_report(machine.run(input, out, RUN_STEPS)),
+        Err(report) => report,
+    }
+}

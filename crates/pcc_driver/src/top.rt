@@ -1,0 +1,97 @@
+ghost use Rattle.std.specs.Prelude.{◌≡◌, ◌≤◌, ◌⊎◌, ℕ, List, map, string_bytes};
+ghost use Rattle.pcc_driver.specs.Answers.{HasCause, CommandTold, Ends};
+ghost use Rattle.pcc_driver.specs.Commands.{command_of, Compile};
+ghost use Rattle.pcc_driver.specs.Headline.{IsCompiled};
+ghost use Rattle.pcc_driver.specs.Promises.{IsQuiet, HasStatus, HasCauses, NoticesFaults};
+ghost use Rattle.pcc_driver.specs.Words.{meaning};
+ghost use Rattle.pcc_driver.specs.declared.report.Report.{Report};
+
+use crate::compile::compile;
+use crate::finish::finish;
+use crate::report::Report;
+use crate::run::run;
+use crate::words::{Command, command_of};
+use pcc_outside::{FileStore, Sink, Source};
+use std::alloc::Global;
+
+/// Does what the command asks for, and says how it went.
+fn carry_out<F: FileStore, I: Source, O: Sink>(
+    alloc: Global,
+    command: Command<'_>,
+    files: &mut F,
+    input: &mut I,
+    out: &mut O,
+) -> Report
+    ensures cause { HasCause result
+        (record { files = F.counts files.old; input = I.faults input.old; out = O.counts out.old })
+        (record { files = F.counts files.new; input = I.faults input.new; out = O.counts out.new }) }
+    ensures told { CommandTold (meaning command.entry) (F.tells files.old) (I.tells input.old × O.tells out.old) (F.content files.old) (F.content files.new)
+        (record { left = I.left input.old; taken = O.taken out.old }) (record { left = I.left input.new; taken = O.taken out.new }) result }
+{
+    match command {
+        Command::Compile { name, source } => compile(alloc, name, source, files),
+        Command::Run { image } => run(alloc, image, files, input, out),
+        Command::Usage => Report::Usage,
+    }
+}
+
+/// Does what the words of the command line ask for, over the files, the input, the output and standard
+/// error that are lent, and answers the exit status.
+///
+/// | status | only where |
+/// |---|---|
+/// | 0 | the command did its work |
+/// | 1 | the source isn't accepted |
+/// | 2 | the words mean no command |
+/// | 3 | a file has too many bytes |
+/// | 4 | reading a file or the input failed |
+/// | 5 | writing a file, the output or standard error failed |
+/// | 6 | a file isn't there |
+/// | 7 | the file is no image |
+/// | 8 | the program trapped |
+/// | 9 | the machine stopped |
+/// | 10 | the program still runs after 1,000,000,000 steps |
+/// | 11 | there was no memory |
+pub fn pcc<F: FileStore, I: Source, O: Sink, E: Sink>(
+    alloc: Global,
+    words: &Vec<String>,
+    files: &mut F,
+    input: &mut I,
+    out: &mut O,
+    err: &mut E,
+) -> u8
+    // No other status is answered.
+    ensures statuses { result ≤ 11 }
+
+    // A compiled image does exactly what its source does.
+    ensures headline { (name source : List ℕ) → command_of (map string_bytes words.now.items) ≡ Compile name source → F.tells files.old → result ≡ 0 →
+        IsCompiled (F.content files.old) (F.content files.new) name source }
+
+    // The status is the one that the words, the files and the input have, unless memory was wanting or a
+    // fault came.
+    ensures exact { F.tells files.old → I.tells input.old → O.tells out.old →
+        IsQuiet (record { files = F.counts files.old; input = I.faults input.old; out = O.counts out.old })
+        (record { files = F.counts files.new; input = I.faults input.new; out = O.counts out.new }) (E.counts err.old) (E.counts err.new) →
+        (result ≡ 11) ⊎ HasStatus (command_of (map string_bytes words.now.items)) (F.content files.old) (I.left input.old) result }
+
+    // Which count rose where the outside is the cause.
+    ensures causes { HasCauses (record { files = F.counts files.old; input = I.faults input.old; out = O.counts out.old })
+        (record { files = F.counts files.new; input = I.faults input.new; out = O.counts out.new }) (E.counts err.old) (E.counts err.new) result }
+
+    // A fault that came is told.
+    ensures noticed { NoticesFaults (record { files = F.counts files.old; input = I.faults input.old; out = O.counts out.old })
+        (record { files = F.counts files.new; input = I.faults input.new; out = O.counts out.new }) (E.counts err.old) (E.counts err.new) result }
+
+    // The report of the command: which count rose, what the files and streams hold then, and the line
+    // and the status that it ends in.
+    ensures answered { (report : Report)
+        × HasCause report (record { files = F.counts files.old; input = I.faults input.old; out = O.counts out.old })
+        (record { files = F.counts files.new; input = I.faults input.new; out = O.counts out.new })
+        × CommandTold (command_of (map string_bytes words.now.items)) (F.tells files.old) (I.tells input.old × O.tells out.old) (F.content files.old) (F.content files.new)
+        (record { left = I.left input.old; taken = O.taken out.old }) (record { left = I.left input.new; taken = O.taken out.new }) report
+        × Ends (command_of (map string_bytes words.now.items)) report (E.counts err.old) (E.counts err.new) (E.tells err.old) (E.taken err.old) (E.taken err.new) result }
+{
+    let command = command_of(words.as_slice());
+    let report = carry_out(alloc, command, files, input, out);
+    finish(alloc, command, report, err)
+}

@@ -1,0 +1,4 @@
+pub mod Fields
+pub mod Named
+pub mod OneText
+pub mod Places

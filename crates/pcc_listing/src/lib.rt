@@ -1,0 +1,10 @@
+//! Maps: what is where in an image, as a text of lines beside it.
+//!
+//! The definitions, in `specs/`: the lines of a map, their text and its rules (`Lines.antt`), and what a
+//! map shows of the machine at the statements that it marks (`Marks.antt`). `one_map` says that a text is
+//! that of one map at most.
+#![tactic(auto)]
+
+mod laws;
+
+pub use laws::one_map;

@@ -1,0 +1,6 @@
+pub mod Calls
+pub mod Files
+pub mod Held
+pub mod Host
+pub mod Memory
+pub mod Streams
