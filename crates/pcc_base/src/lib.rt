@@ -8,6 +8,7 @@
 mod fault;
 mod keyword;
 mod memory;
+mod name;
 mod refusal;
 mod run;
 mod span;
@@ -17,6 +18,7 @@ mod wrapping;
 pub use fault::{Fault, FaultKind};
 pub use keyword::Keyword;
 pub use memory::NoMemory;
+pub use name::Name;
 pub use refusal::{Limit, Refusal};
 pub use run::{Stop, Trap, Width};
 pub use span::Span;

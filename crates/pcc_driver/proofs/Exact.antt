@@ -22,7 +22,7 @@ use Rattle.pcc_driver.specs.Reports.{status_of}
 use Rattle.pcc_driver.specs.declared.report.Named.TheVariants.{Source, Map, Image}
 use Rattle.pcc_driver.specs.declared.report.Report.{Report}
 use Rattle.pcc_driver.specs.declared.report.Report.TheVariants as reports
-use Rattle.pcc_driver.proofs.Running.{first_once}
+use Rattle.ia32_machine.proofs.First.{first-one}
 
 -- ---- the line
 
@@ -98,7 +98,7 @@ no_image_status input content held =
 -- two runs of all steps of an image end alike
 same_end : (image input : List ℕ) (s t : State) (a b : Outcome) → First image input s → First image input t → Runs no_visits run_steps s a → Runs no_visits run_steps t b → b.end ≡ a.end
 same_end image input s t a b first other runs others =
-    let at_t : Runs no_visits run_steps t a = subst (λ (u : State). Runs no_visits run_steps u a) (first_once image input s t first other) runs in
+    let at_t : Runs no_visits run_steps t a = subst (λ (u : State). Runs no_visits run_steps u a) (first-one image input s t first other) runs in
     ap (λ (o : Outcome). o.end) (run_once no_visits run_steps t b a others at_t)
 
 run_gives_status : (before after : Streams) (content : Option (List ℕ)) (end : End) → Holds content (RunGives before after end) → RunStatus before.left content (end_status end)

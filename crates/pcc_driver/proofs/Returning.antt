@@ -21,7 +21,8 @@ use Rattle.pcc_driver.specs.Accepted.{return_program}
 use Rattle.pcc_driver.specs.Code.{AreSpelled, return_code}
 use Rattle.pcc_driver.specs.Headline.{DoesAs}
 use Rattle.pcc_driver.specs.Products.{return_map}
-use Rattle.pcc_driver.proofs.Stepping.{padded-full, code-rest, step-spelled, length-mov}
+use Rattle.ia32_machine.proofs.First.{padded-full}
+use Rattle.pcc_driver.proofs.Stepping.{code-rest, step-spelled, length-mov}
 
 -- the map keeps the rules of maps
 pub return_map_rules : IsMap return_map
@@ -60,7 +61,7 @@ step-here text data_bytes input registers done rest first later n size i whole s
     let others : List Area = data_area text data_bytes ∷ [] in
     let left : 0 < length rest = omega (arith, ap length split, length-append first later) in
     let code : code_at (134512640 + n) (text_area (padded (length text) text) ∷ others) ≡ Some (first ++ later) =
-    ap (λ (bytes : List ℕ). code_at (134512640 + n) (text_area bytes ∷ others)) (padded-full text ∙ whole)
+    ap (λ (bytes : List ℕ). code_at (134512640 + n) (text_area bytes ∷ others)) (padded-full (length text) text refl ∙ whole)
     ∙ code-rest 134512640 n done rest others is left
     ∙ ap (λ (bytes : List ℕ). Some bytes) split in
     step-spelled (standing text data_bytes input (134512640 + n) registers) i size first later code long spelled

@@ -1,8 +1,7 @@
 -- Lemmas on the runs of images.
-use Rattle.std.proofs.Common.{◌≡◌, ℕ, List, [], Option, Some, sym, ap, ◌∙◌, inl, inr, refl}
+use Rattle.std.proofs.Common.{◌≡◌, ℕ, List, [], Option, Some, ap, inl, inr, refl}
 use Rattle.std.specs.Prelude.{length, ◌≤◌}
 use Rattle.elf_image.specs.Segments.{Segments, Loads}
-use Rattle.elf_image.proofs.Loading.{loads-one}
 use Rattle.ia32_insn.specs.State.{State}
 use Rattle.pcc_base.specs.Outcome as outcome
 use Rattle.ia32_machine.specs.First.{First, first_state, lent}
@@ -14,11 +13,6 @@ use Rattle.pcc_driver.specs.Answers.{Streams, RunTold, RunGives, RunGivesPart, H
 use Rattle.pcc_driver.specs.Headline.{file_limit}
 use Rattle.pcc_driver.specs.declared.report.Report.{Report}
 use Rattle.pcc_driver.specs.declared.report.Report.TheVariants as reports
-
--- an image has one first state over an input
-pub first_once : (image input : List ℕ) (s t : State) → First image input s → First image input t → s ≡ t
-first_once image input s t a b =
-    a.2 ∙ ap (λ (segments : Segments). first_state segments input) (loads-one image a.0 b.0 a.1 b.1) ∙ sym b.2
 
 -- bytes that load nothing have no first state
 pub no_image : (image input : List ℕ) → ((segments : Segments) → Loads image segments → ⊥) → IsNoImage input image

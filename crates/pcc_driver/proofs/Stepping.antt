@@ -2,7 +2,6 @@
 use Rattle.std.proofs.Common.{◌≡◌, ℕ, ◌+◌, ◌-◌, ◌<◌, true, false, ℤ, List, ◌∷◌, ◌++◌, length, Option, Some, nat_le, inl, refl, sym, ap, subst, arith, length-append}
 use Rattle.std.proofs.Math.Seq.{take-append_seam, drop-append_seam}
 use Rattle.std.proofs.lemmas.Bool.{le-leb}
-use Rattle.std.proofs.lemmas.List.{append-nil}
 use Rattle.ia32_regs.specs.declared.names.Reg32.{Reg32}
 use Rattle.ia32_insn.specs.declared.insn.Insn.{Insn}
 use Rattle.ia32_insn.specs.declared.insn.Insn.TheVariants as insn
@@ -11,14 +10,6 @@ use Rattle.ia32_insn.specs.Meaning.{perform}
 use Rattle.ia32_insn.specs.Runs.{Steps, StepsAt}
 use Rattle.ia32_insn.specs.Spelling.{Spells, Begins}
 use Rattle.ia32_insn.specs.State.{Area, State, code_at}
-use Rattle.ia32_machine.specs.First.{padded}
-
--- bytes that fill their area have no zeros after them
-pub padded-full : (bytes : List ℕ) → padded (length bytes) bytes ≡ bytes
-unfolding padded
-padded-full bytes =
-    let none : length bytes - length bytes ≡ 0 = omega arith in
-    rw none (append-nil bytes)
 
 -- where n bytes of the first area are done, the code is the rest of it
 pub code-rest : (address n : ℕ) (done rest : List ℕ) (others : List Area) → n ≡ length done → 0 < length rest

@@ -40,6 +40,9 @@ pub record Counts : Type 0 where
   pub input : ℕ
   pub out : SinkCounts
 
+abbrev pub counts_of : StoreCounts → ℕ → SinkCounts → Counts
+counts_of files input out = record { files = files; input = input; out = out }
+
 -- the count of the files that the report names rose, and no other
 abbrev pub FilesCause : Report → StoreCounts → StoreCounts → Type 0
 FilesCause (reports.TooLong file) old new = Rose old.too_long new.too_long × OnlyTooLong old new
@@ -55,7 +58,8 @@ StreamsCause reports.OutputFault input input' out out' = (input' ≡ input) × R
 StreamsCause reports.NoMemory input input' out out' = (input' ≡ input) × (out'.faults ≡ out.faults)
 StreamsCause _ input input' out out' = (input' ≡ input) × (out' ≡ out)
 
--- the one count of the report rose, and no other
+-- The count that the report has, if it has one, rose, and no other; in want of memory that of the output's
+-- wants is left open.
 pub record HasCause (report : Report) (old new : Counts) : Type 0 where
   pub files : FilesCause report old.files new.files
   pub streams : StreamsCause report old.input new.input old.out new.out
@@ -147,6 +151,9 @@ WritesTold map_name name map_bytes image old new _ = ⊥
 pub record Streams : Type 0 where
   pub left : List ℕ
   pub taken : List ℕ
+
+abbrev pub streams_of : List ℕ → List ℕ → Streams
+streams_of left taken = record { left = left; taken = taken }
 
 -- all the steps of the image with these bytes have this end
 abbrev pub RunGives : Streams → Streams → outcome.End → List ℕ → Type 0

@@ -4,21 +4,12 @@ ghost use Rattle.pcc_driver.specs.Reports.{fault_text, name_in, report_line, rep
 ghost use Rattle.pcc_driver.specs.Words.{meaning};
 ghost use Rattle.pcc_listing.specs.Lines.{address_text};
 
-use crate::hexadecimal::push_address;
+use crate::numbers::{push_address, push_number};
 use crate::report::{Named, Report};
 use crate::words::Command;
 use pcc_base::{Fault, NoMemory, Stop, Trap};
 use pcc_outside::{Sink, WriteRefusal};
 use std::alloc::Global;
-
-/// Puts a number at the end, in decimal. The only refusal is want of memory.
-fn push_number(alloc: Global, out: &mut Vec<u8>, number: u64) -> Result<(), NoMemory>
-    ensures { OnOk result (out.new.items ≡ out.old.items ++ decimal number) }
-{
-    let digits = number.to_string(alloc)?;
-    out.extend_from_slice(digits.as_bytes())?;
-    Ok(())
-}
 
 /// Puts a file's name at the end. The only refusal is want of memory.
 fn push_name(out: &mut Vec<u8>, command: Command<'_>, file: Named) -> Result<(), NoMemory>

@@ -9,9 +9,9 @@
 mod compile;
 mod encode;
 mod finish;
-mod hexadecimal;
 mod image;
 mod map;
+mod numbers;
 mod products;
 mod report;
 mod return_form;

@@ -1,8 +1,8 @@
-ghost use Rattle.std.specs.Prelude.{◌≡◌, ◌++◌, decimal, IfOk, OnOk};
+ghost use Rattle.std.specs.Prelude.{◌≡◌, ◌++◌, IfOk, OnOk};
 ghost use Rattle.pcc_listing.specs.Lines.{PointLine, Mark, line_text, map_text};
 ghost use Rattle.pcc_driver.specs.Products.{return_map};
 
-use crate::hexadecimal::push_address;
+use crate::numbers::{push_address, push_number};
 use elf_image::TEXT_ADDRESS;
 use pcc_base::NoMemory;
 use std::alloc::Global;
@@ -19,25 +19,16 @@ struct MarkedPoint {
     statement: u32,
 }
 
-/// Puts a number at the end, in decimal. The only refusal is want of memory.
-fn push_decimal(alloc: Global, out: &mut Vec<u8>, number: u32) -> Result<(), NoMemory>
-    ensures { OnOk result (out.new.items ≡ out.old.items ++ decimal number) }
-{
-    let digits = number.to_string(alloc)?;
-    out.extend_from_slice(digits.as_bytes())?;
-    Ok(())
-}
-
 /// Puts the line of a marked point at the end. The only refusal is want of memory.
 fn push_point(alloc: Global, out: &mut Vec<u8>, point: MarkedPoint) -> Result<(), NoMemory>
     ensures { OnOk result (out.new.items ≡ out.old.items ++ line_text (PointLine point.number point.address (Mark point.statement))) }
 {
     out.extend_from_slice(b"point ")?;
-    push_decimal(alloc, out, point.number)?;
+    push_number(alloc, out, u64::from(point.number))?;
     out.extend_from_slice(b" ")?;
     push_address(out, point.address)?;
     out.extend_from_slice(b" mark ")?;
-    push_decimal(alloc, out, point.statement)?;
+    push_number(alloc, out, u64::from(point.statement))?;
     out.extend_from_slice(b"\n")?;
     Ok(())
 }

@@ -1,7 +1,7 @@
 ghost use Rattle.std.specs.Prelude.{◌≡◌, [], MatchResult};
 ghost use Rattle.elf_image.specs.Segments.{Segments, Loads};
 ghost use Rattle.ia32_machine.specs.First.{first_state};
-ghost use Rattle.pcc_driver.specs.Answers.{FilesCause, StreamsCause, SameFiles, RunTold, GivesNoMachine, report_of_end};
+ghost use Rattle.pcc_driver.specs.Answers.{FilesCause, StreamsCause, SameFiles, RunTold, GivesNoMachine, streams_of, report_of_end};
 
 use crate::compile::{FILE_LIMIT, read_report};
 use crate::report::{Named, Report};
@@ -56,8 +56,11 @@ pub fn run<F: FileStore, I: Source, O: Sink>(
     ensures input_tells { I.tells input.old → I.tells input.new }
     ensures out_tells { O.tells out.old → O.tells out.new }
     ensures same { F.tells files.old → SameFiles (F.content files.old) (F.content files.new) }
-    ensures told { F.tells files.old → I.tells input.old → O.tells out.old → RunTold (F.content files.old image.now)
-        (record { left = I.left input.old; taken = O.taken out.old }) (record { left = I.left input.new; taken = O.taken out.new }) result }
+    ensures told { F.tells files.old → I.tells input.old → O.tells out.old →
+        RunTold (F.content files.old image.now)
+        (streams_of (I.left input.old) (O.taken out.old))
+        (streams_of (I.left input.new) (O.taken out.new))
+        result }
 {
     let bytes = match files.read(alloc, image, FILE_LIMIT) {
         Ok(bytes) => bytes,

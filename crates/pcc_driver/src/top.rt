@@ -1,5 +1,5 @@
 ghost use Rattle.std.specs.Prelude.{◌≡◌, ◌≤◌, ◌⊎◌, ℕ, List, map, string_bytes};
-ghost use Rattle.pcc_driver.specs.Answers.{HasCause, CommandTold, Ends};
+ghost use Rattle.pcc_driver.specs.Answers.{HasCause, CommandTold, Ends, counts_of, streams_of};
 ghost use Rattle.pcc_driver.specs.Commands.{command_of, Compile};
 ghost use Rattle.pcc_driver.specs.Headline.{IsCompiled};
 ghost use Rattle.pcc_driver.specs.Promises.{IsQuiet, HasStatus, HasCauses, NoticesFaults};
@@ -23,10 +23,14 @@ fn carry_out<F: FileStore, I: Source, O: Sink>(
     out: &mut O,
 ) -> Report
     ensures cause { HasCause result
-        (record { files = F.counts files.old; input = I.faults input.old; out = O.counts out.old })
-        (record { files = F.counts files.new; input = I.faults input.new; out = O.counts out.new }) }
-    ensures told { CommandTold (meaning command.entry) (F.tells files.old) (I.tells input.old × O.tells out.old) (F.content files.old) (F.content files.new)
-        (record { left = I.left input.old; taken = O.taken out.old }) (record { left = I.left input.new; taken = O.taken out.new }) result }
+        (counts_of (F.counts files.old) (I.faults input.old) (O.counts out.old))
+        (counts_of (F.counts files.new) (I.faults input.new) (O.counts out.new)) }
+    ensures told { CommandTold (meaning command.entry)
+        (F.tells files.old) (I.tells input.old × O.tells out.old)
+        (F.content files.old) (F.content files.new)
+        (streams_of (I.left input.old) (O.taken out.old))
+        (streams_of (I.left input.new) (O.taken out.new))
+        result }
 {
     match command {
         Command::Compile { name, source } => compile(alloc, name, source, files),
@@ -64,32 +68,50 @@ pub fn pcc<F: FileStore, I: Source, O: Sink, E: Sink>(
     ensures statuses { result ≤ 11 }
 
     // A compiled image does exactly what its source does.
-    ensures headline { (name source : List ℕ) → command_of (map string_bytes words.now.items) ≡ Compile name source → F.tells files.old → result ≡ 0 →
+    ensures headline { (name source : List ℕ) →
+        command_of (map string_bytes words.now.items) ≡ Compile name source →
+        F.tells files.old → result ≡ 0 →
         IsCompiled (F.content files.old) (F.content files.new) name source }
 
     // The status is the one that the words, the files and the input have, unless memory was wanting or a
     // fault came.
     ensures exact { F.tells files.old → I.tells input.old → O.tells out.old →
-        IsQuiet (record { files = F.counts files.old; input = I.faults input.old; out = O.counts out.old })
-        (record { files = F.counts files.new; input = I.faults input.new; out = O.counts out.new }) (E.counts err.old) (E.counts err.new) →
-        (result ≡ 11) ⊎ HasStatus (command_of (map string_bytes words.now.items)) (F.content files.old) (I.left input.old) result }
+        IsQuiet
+        (counts_of (F.counts files.old) (I.faults input.old) (O.counts out.old))
+        (counts_of (F.counts files.new) (I.faults input.new) (O.counts out.new))
+        (E.counts err.old) (E.counts err.new) →
+        (result ≡ 11)
+        ⊎ HasStatus (command_of (map string_bytes words.now.items)) (F.content files.old) (I.left input.old) result }
 
     // Which count rose where the outside is the cause.
-    ensures causes { HasCauses (record { files = F.counts files.old; input = I.faults input.old; out = O.counts out.old })
-        (record { files = F.counts files.new; input = I.faults input.new; out = O.counts out.new }) (E.counts err.old) (E.counts err.new) result }
+    ensures causes { HasCauses
+        (counts_of (F.counts files.old) (I.faults input.old) (O.counts out.old))
+        (counts_of (F.counts files.new) (I.faults input.new) (O.counts out.new))
+        (E.counts err.old) (E.counts err.new) result }
 
     // A fault that came is told.
-    ensures noticed { NoticesFaults (record { files = F.counts files.old; input = I.faults input.old; out = O.counts out.old })
-        (record { files = F.counts files.new; input = I.faults input.new; out = O.counts out.new }) (E.counts err.old) (E.counts err.new) result }
+    ensures noticed { NoticesFaults
+        (counts_of (F.counts files.old) (I.faults input.old) (O.counts out.old))
+        (counts_of (F.counts files.new) (I.faults input.new) (O.counts out.new))
+        (E.counts err.old) (E.counts err.new) result }
 
     // The report of the command: which count rose, what the files and streams hold then, and the line
     // and the status that it ends in.
-    ensures answered { (report : Report)
-        × HasCause report (record { files = F.counts files.old; input = I.faults input.old; out = O.counts out.old })
-        (record { files = F.counts files.new; input = I.faults input.new; out = O.counts out.new })
-        × CommandTold (command_of (map string_bytes words.now.items)) (F.tells files.old) (I.tells input.old × O.tells out.old) (F.content files.old) (F.content files.new)
-        (record { left = I.left input.old; taken = O.taken out.old }) (record { left = I.left input.new; taken = O.taken out.new }) report
-        × Ends (command_of (map string_bytes words.now.items)) report (E.counts err.old) (E.counts err.new) (E.tells err.old) (E.taken err.old) (E.taken err.new) result }
+    ensures answered { let command = command_of (map string_bytes words.now.items) in
+        (report : Report)
+        × HasCause report
+        (counts_of (F.counts files.old) (I.faults input.old) (O.counts out.old))
+        (counts_of (F.counts files.new) (I.faults input.new) (O.counts out.new))
+        × CommandTold command
+        (F.tells files.old) (I.tells input.old × O.tells out.old)
+        (F.content files.old) (F.content files.new)
+        (streams_of (I.left input.old) (O.taken out.old))
+        (streams_of (I.left input.new) (O.taken out.new))
+        report
+        × Ends command report
+        (E.counts err.old) (E.counts err.new)
+        (E.tells err.old) (E.taken err.old) (E.taken err.new)
+        result }
 {
     let command = command_of(words.as_slice());
     let report = carry_out(alloc, command, files, input, out);

@@ -7,4 +7,4 @@
 
 mod laws;
 
-pub use laws::one_map;
+pub use laws::{one_map, worked_example};

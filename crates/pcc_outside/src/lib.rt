@@ -3,7 +3,8 @@
 //! source and a sink.
 //!
 //! An object has counts of its faults and refusals, which never fall: an answer that refuses comes only
-//! where its count rose in that call. An object may also tell what it holds, has left or took.
+//! where its count rose in that call, but for want of memory of a store, which has no count. An object may
+//! also tell what it holds, has left or took.
 #![tactic(auto)]
 
 mod calls;

@@ -1,7 +1,7 @@
 use Rattle.std.proofs.Common.{◌≡◌, ◌<◌, ◌++◌, ap, ◌∙◌, arith}
 use Rattle.std.proofs.lemmas.Grind.{common_steps}
 use Rattle.pcc_driver.proofs.Digits.{hexadecimal-next, hexadecimal-all}
-use Rattle.pcc_driver.proofs.hexadecimal.push_address.Goals as goal
+use Rattle.pcc_driver.proofs.numbers.push_address.Goals as goal
 
 pub loop-place-preserved : goal.loop-place-preserved
 loop-place-preserved c =

@@ -1,6 +1,6 @@
 use Rattle.std.proofs.Common.{◌≡◌, ◌-◌, ◌*◌, ◌/◌, ◌^◌, ◌++◌}
 use Rattle.pcc_listing.specs.Lines.{hexadecimal}
-use Rattle.pcc_driver.proofs.hexadecimal.push_address.Given as goal
+use Rattle.pcc_driver.proofs.numbers.push_address.Given as goal
 
 -- the digits so far are those of the number without the digits that are left
 abbrev pub invariant-loop-place : goal.invariant-loop-place

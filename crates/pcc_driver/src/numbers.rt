@@ -1,7 +1,17 @@
-ghost use Rattle.std.specs.Prelude.{◌≡◌, ◌++◌, ◌<◌, OnOk};
+ghost use Rattle.std.specs.Prelude.{◌≡◌, ◌++◌, ◌<◌, OnOk, decimal};
 ghost use Rattle.pcc_listing.specs.Lines.{address_text, hexadecimal_digit};
 
 use pcc_base::NoMemory;
+use std::alloc::Global;
+
+/// Puts a number at the end, in decimal. The only refusal is want of memory.
+pub fn push_number(alloc: Global, out: &mut Vec<u8>, number: u64) -> Result<(), NoMemory>
+    ensures { OnOk result (out.new.items ≡ out.old.items ++ decimal number) }
+{
+    let digits = number.to_string(alloc)?;
+    out.extend_from_slice(digits.as_bytes())?;
+    Ok(())
+}
 
 /// A hexadecimal digit, of lower case.
 fn digit(value: u32) -> u8
