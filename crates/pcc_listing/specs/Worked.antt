@@ -42,13 +42,13 @@ abbrev pub worked_state : ℕ → State
 worked_state word =
     record {
       registers =
-        little_bytes 4 4294967291 ++ (0 ∷ 255 ∷ 0 ∷ 0 ∷ []) ++ little_bytes 4 9 ++ little_bytes 4 word ++ little_bytes 4 2100 ++ little_bytes 4 2200 ++ replicate 8 0;
+          little_bytes 4 4294967291 ++ (0 ∷ 255 ∷ 0 ∷ 0 ∷ []) ++ little_bytes 4 9 ++ little_bytes 4 word ++ little_bytes 4 2100 ++ little_bytes 4 2200 ++ replicate 8 0;
       flags = None;
       eip = 1100;
       memory =
-        record { address = 1000; bytes = replicate 200 144; readable = true; writable = false; runnable = true }
-        ∷ record { address = 2000; bytes = worked_data; readable = true; writable = true; runnable = false }
-        ∷ [];
+          record { address = 1000; bytes = replicate 200 144; readable = true; writable = false; runnable = true }
+          ∷ record { address = 2000; bytes = worked_data; readable = true; writable = true; runnable = false }
+          ∷ [];
       left = [];
       taken = 0;
       written = [];

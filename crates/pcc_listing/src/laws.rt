@@ -22,5 +22,4 @@ pub fn worked_example()
     ensures unknown { visits_of worked_map (worked_state 2141) ≡ worked_visit Unknown }
     ensures parts { listed worked_map 7 ≡ Scalar 0 ∷ ArrayOf 1 ∷ IndexOf 1 ∷ Scalar 2 ∷ [] }
     ensures other { listed worked_map 3 ≡ [] }
-{
-}
+{}

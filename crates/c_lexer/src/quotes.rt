@@ -1,0 +1,229 @@
+ghost use Rattle.std.specs.Prelude.{◌≡◌, ◌<◌, ◌≤◌, ◌+◌, ◌*◌, ◌^◌, ◌⊎◌, nat_le, ◌∷◌, ◌==◌, if◌then◌else◌, ℕ, List, Bool, IsTrue, IfOk, MatchOption, length};
+ghost use Rattle.byteorder.specs.Endian.{twos_complement};
+ghost use Rattle.c_lexer.specs.Bytes.{is_octal_digit, is_hexadecimal_digit, digit_worth};
+ghost use Rattle.c_lexer.specs.Characters.{front_of, HasFront, value_in, read_escape, read_character, IsWithin, IsClosedBehind, IsNeverClosed};
+ghost use Rattle.c_lexer.specs.Literals.{simple_escapes};
+ghost use Rattle.c_lexer.specs.Scans.{IsScan};
+
+use crate::scanner::Scanned;
+use crate::token::TokenKind;
+use pcc_base::{Name, NoMemory};
+use std::alloc::Global;
+
+/// What stands at the front of the rest of a literal: a character with its value and its number of bytes, the
+/// closing quote, or neither, as where the line ends.
+#[derive(Clone, Copy, Debug)]
+enum Reading {
+    Character(u8, usize),
+    Closing,
+    Faulty,
+}
+
+fn is_octal(b: u8) -> bool
+    ensures { result ≡ is_octal_digit b }
+{
+    b >= b'0' && b <= b'7'
+}
+
+fn is_hexadecimal(b: u8) -> bool
+    ensures { result ≡ is_hexadecimal_digit b }
+{
+    (b >= b'0' && b <= b'9') || ((b >= b'A' && b <= b'F') || (b >= b'a' && b <= b'f'))
+}
+
+fn worth(b: u8) -> u8
+    requires { IsTrue (is_hexadecimal_digit b) }
+    ensures value { result ≡ digit_worth b }
+    ensures small { result < 16 }
+{
+    if b <= b'9' {
+        b - b'0'
+    } else if b <= b'F' {
+        b - b'7'
+    } else {
+        b - b'W'
+    }
+}
+
+/// A number behind one more digit of a base, or the number itself where it is above 255 already.
+fn appended(base: u32, number: u32, digit: u8) -> u32
+    requires base { base ≤ 16 }
+    requires digit { IsTrue (is_hexadecimal_digit digit) }
+    ensures small { number ≤ 255 → result ≡ number * base + digit_worth digit }
+    ensures large { 255 < number → result ≡ number }
+{
+    if number <= 255 {
+        number * base + u32::from(worth(digit))
+    } else {
+        number
+    }
+}
+
+/// The number of the octal digits at the front, or some number above 255 where it is above, and how many
+/// they are.
+fn octal_front(bytes: &[u8]) -> (u32, usize)
+    ensures front { HasFront 8 (front_of is_octal_digit bytes.now) result.0 result.1 }
+    ensures within { result.1 ≤ length bytes.now }
+{
+    let mut number = 0;
+    for (count, b) in bytes.iter().enumerate() {
+        if !is_octal(*b) {
+            return (number, count);
+        }
+        number = appended(8, number, *b);
+    }
+    (number, bytes.len())
+}
+
+/// The number of the hexadecimal digits at the front, or some number above 255 where it is above, and how
+/// many they are.
+fn hexadecimal_front(bytes: &[u8]) -> (u32, usize)
+    ensures front { HasFront 16 (front_of is_hexadecimal_digit bytes.now) result.0 result.1 }
+    ensures within { result.1 ≤ length bytes.now }
+{
+    let mut number = 0;
+    for (count, b) in bytes.iter().enumerate() {
+        if !is_hexadecimal(*b) {
+            return (number, count);
+        }
+        number = appended(16, number, *b);
+    }
+    (number, bytes.len())
+}
+
+/// The escapes of one letter (C99 6.4.4.4).
+fn simple_escape(letter: u8) -> Option<u8>
+    ensures { result ≡ value_in simple_escapes letter }
+{
+    match letter {
+        b'\'' => Some(39),
+        b'"' => Some(34),
+        b'?' => Some(63),
+        b'\\' => Some(92),
+        b'a' => Some(7),
+        b'b' => Some(8),
+        b'f' => Some(12),
+        b'n' => Some(10),
+        b'r' => Some(13),
+        b't' => Some(9),
+        b'v' => Some(11),
+        _ => None,
+    }
+}
+
+/// The character of an octal or hexadecimal escape with such a number and so many digits.
+fn coded(number: u32, count: usize, start: usize) -> Reading
+    requires { start + count < 2 ^ 64 }
+    ensures { result ≡ (if count == 0 then Reading.Faulty else (if nat_le number 255 then Reading.Character number (start + count) else Reading.Faulty)) }
+{
+    if count == 0 {
+        Reading::Faulty
+    } else if number <= 255 {
+        Reading::Character(number as u8, start + count)
+    } else {
+        Reading::Faulty
+    }
+}
+
+/// The escape whose backslash stands before these bytes (C99 6.4.4.4).
+fn escape_at(bytes: &[u8]) -> Reading
+    ensures reading { result ≡ read_escape bytes.now }
+    ensures within { IsWithin (length bytes.now + 1) result }
+{
+    match bytes {
+        [] => Reading::Faulty,
+        [letter, digits @ ..] => {
+            if is_octal(*letter) {
+                let (number, count) = octal_front(&bytes[..bytes.len().min(3)]);
+                coded(number, count, 1)
+            } else if *letter == b'x' {
+                let (number, count) = hexadecimal_front(digits);
+                coded(number, count, 2)
+            } else {
+                match simple_escape(*letter) {
+                    Some(value) => Reading::Character(value, 2),
+                    None => Reading::Faulty,
+                }
+            }
+        }
+    }
+}
+
+/// What stands at the front of the rest of a literal in such quotes.
+fn character_at(quote: u8, text: &[u8]) -> Reading
+    ensures reading { result ≡ read_character quote text.now }
+    ensures within { IsWithin (length text.now) result }
+{
+    match text {
+        [] => Reading::Faulty,
+        [b, rest @ ..] => {
+            if *b == quote {
+                Reading::Closing
+            } else if *b == b'\n' {
+                Reading::Faulty
+            } else if *b == b'\\' {
+                escape_at(rest)
+            } else {
+                Reading::Character(*b, 1)
+            }
+        }
+    }
+}
+
+/// The values of the literal whose opening quote stands before the text, and how many bytes its inside
+/// has.
+fn inside_at(alloc: Global, quote: u8, text: &[u8]) -> Result<Option<(Vec<u8>, usize)>, NoMemory>
+    ensures { IfOk result (λ found. MatchOption found (IsNeverClosed quote text.now) (λ p. IsClosedBehind quote text.now p.0.items p.1)) }
+{
+    let mut values = Vec::new(alloc);
+    let mut left = text;
+    loop {
+        match character_at(quote, left) {
+            Reading::Character(value, length) => {
+                values.push(value)?;
+                left = &left[length..];
+            }
+            Reading::Closing => return Ok(Some((values, text.len() - left.len()))),
+            Reading::Faulty => return Ok(None),
+        }
+    }
+}
+
+/// A byte read as a signed char.
+fn signed(value: u8) -> i32
+    ensures { result ≡ twos_complement 1 value }
+{
+    if value < 128 {
+        i32::from(value)
+    } else {
+        i32::from(value) - 256
+    }
+}
+
+/// The character constant or string literal that begins the rest (C99 6.4.4.4, 6.4.5), and None where
+/// it isn't closed, an escape is unknown or its value above 255, or a character constant doesn't hold one
+/// character.
+pub fn quote_at(alloc: Global, rest: &[u8]) -> Result<Option<(usize, Scanned)>, NoMemory>
+    requires { (b : ℕ) × (others : List ℕ) × (rest.now ≡ b ∷ others) × ((b ≡ 39) ⊎ (b ≡ 34)) }
+    ensures { (fresh : Bool) → IsScan fresh rest.now result }
+{
+    let [quote, text @ ..] = rest else {
+        return Ok(None);
+    };
+    let Some((values, length)) = inside_at(alloc, *quote, text)? else {
+        return Ok(None);
+    };
+    if *quote == b'"' {
+        return Ok(Some((
+            length + 2,
+            Scanned::Token(TokenKind::Text(Name::new(values))),
+        )));
+    }
+    if values.len() != 1 {
+        return Ok(None);
+    }
+    Ok(Some((
+        length + 2,
+        Scanned::Token(TokenKind::Number(signed(values[0]))),
+    )))
+}

@@ -1,0 +1,70 @@
+use pcc_base::{Keyword, Name, Span};
+
+/// A punctuator (C99 6.4.6) but `#` and `##`. A digraph is the mark that it spells.
+#[derive(Clone, Copy, Debug, PartialEq, Eq)]
+pub enum Punct {
+    LeftBracket,
+    RightBracket,
+    LeftParen,
+    RightParen,
+    LeftBrace,
+    RightBrace,
+    Dot,
+    Arrow,
+    PlusPlus,
+    MinusMinus,
+    And,
+    Star,
+    Plus,
+    Minus,
+    Tilde,
+    Bang,
+    Slash,
+    Percent,
+    ShiftLeft,
+    ShiftRight,
+    Less,
+    Greater,
+    LessEqual,
+    GreaterEqual,
+    EqualEqual,
+    BangEqual,
+    Caret,
+    Or,
+    AndAnd,
+    OrOr,
+    Question,
+    Colon,
+    Semicolon,
+    Ellipsis,
+    Equal,
+    StarEqual,
+    SlashEqual,
+    PercentEqual,
+    PlusEqual,
+    MinusEqual,
+    ShiftLeftEqual,
+    ShiftRightEqual,
+    AndEqual,
+    CaretEqual,
+    OrEqual,
+    Comma,
+}
+
+/// What a token is. A character constant is a number (C99 6.4.4.4).
+#[derive(Debug, Drop)]
+pub enum TokenKind {
+    Word(Keyword),
+    Ident(Name),
+    Number(i32),
+    /// The bytes of a string literal, without the zero byte at its end (C99 6.4.5).
+    Text(Name),
+    Mark(Punct),
+}
+
+/// A token, and where its first byte stands.
+#[derive(Debug, Drop)]
+pub struct Token {
+    pub kind: TokenKind,
+    pub at: Span,
+}

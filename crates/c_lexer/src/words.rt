@@ -1,0 +1,148 @@
+ghost use Rattle.std.specs.Prelude.{◌≡◌, ◌≤◌, ◌∷◌, ℕ, List, Bool, IsTrue, length, take, drop, MatchOption};
+ghost use Rattle.c_lexer.specs.Bytes.{is_letter, is_word_byte};
+ghost use Rattle.c_lexer.specs.Literals.{AllPass, StartsNot};
+ghost use Rattle.c_lexer.specs.Pieces.{IsNoKeyword};
+ghost use Rattle.c_lexer.specs.Scans.{IsScan};
+ghost use Rattle.c_lexer.specs.Spellings.{keyword_text};
+
+use crate::scanner::Scanned;
+use crate::token::TokenKind;
+use pcc_base::{Keyword, Name, NoMemory};
+use std::alloc::Global;
+
+/// The keywords of C99 (6.4.1).
+const KEYWORDS: [Keyword; 37] = [
+    Keyword::Auto,
+    Keyword::Break,
+    Keyword::Case,
+    Keyword::Char,
+    Keyword::Const,
+    Keyword::Continue,
+    Keyword::Default,
+    Keyword::Do,
+    Keyword::Double,
+    Keyword::Else,
+    Keyword::Enum,
+    Keyword::Extern,
+    Keyword::Float,
+    Keyword::For,
+    Keyword::Goto,
+    Keyword::If,
+    Keyword::Inline,
+    Keyword::Int,
+    Keyword::Long,
+    Keyword::Register,
+    Keyword::Restrict,
+    Keyword::Return,
+    Keyword::Short,
+    Keyword::Signed,
+    Keyword::Sizeof,
+    Keyword::Static,
+    Keyword::Struct,
+    Keyword::Switch,
+    Keyword::Typedef,
+    Keyword::Union,
+    Keyword::Unsigned,
+    Keyword::Void,
+    Keyword::Volatile,
+    Keyword::While,
+    Keyword::Bool,
+    Keyword::Complex,
+    Keyword::Imaginary,
+];
+
+/// The spelling of a keyword.
+fn spelling(word: Keyword) -> &'static [u8]
+    ensures { result.now ≡ keyword_text word }
+{
+    match word {
+        Keyword::Auto => b"auto",
+        Keyword::Break => b"break",
+        Keyword::Case => b"case",
+        Keyword::Char => b"char",
+        Keyword::Const => b"const",
+        Keyword::Continue => b"continue",
+        Keyword::Default => b"default",
+        Keyword::Do => b"do",
+        Keyword::Double => b"double",
+        Keyword::Else => b"else",
+        Keyword::Enum => b"enum",
+        Keyword::Extern => b"extern",
+        Keyword::Float => b"float",
+        Keyword::For => b"for",
+        Keyword::Goto => b"goto",
+        Keyword::If => b"if",
+        Keyword::Inline => b"inline",
+        Keyword::Int => b"int",
+        Keyword::Long => b"long",
+        Keyword::Register => b"register",
+        Keyword::Restrict => b"restrict",
+        Keyword::Return => b"return",
+        Keyword::Short => b"short",
+        Keyword::Signed => b"signed",
+        Keyword::Sizeof => b"sizeof",
+        Keyword::Static => b"static",
+        Keyword::Struct => b"struct",
+        Keyword::Switch => b"switch",
+        Keyword::Typedef => b"typedef",
+        Keyword::Union => b"union",
+        Keyword::Unsigned => b"unsigned",
+        Keyword::Void => b"void",
+        Keyword::Volatile => b"volatile",
+        Keyword::While => b"while",
+        Keyword::Bool => b"_Bool",
+        Keyword::Complex => b"_Complex",
+        Keyword::Imaginary => b"_Imaginary",
+    }
+}
+
+/// The keyword with this spelling, and None where no keyword has it.
+fn keyword_of(word: &[u8]) -> Option<Keyword>
+    ensures { MatchOption result (IsNoKeyword word.now) (λ k. keyword_text k ≡ word.now) }
+{
+    for keyword in KEYWORDS {
+        if spelling(keyword) == word {
+            return Some(keyword);
+        }
+    }
+    None
+}
+
+/// Whether the byte may stand in an identifier (C99 6.4.2.1).
+pub fn is_word_byte(byte: u8) -> bool
+    ensures { result ≡ is_word_byte byte }
+{
+    byte.is_ascii_alphanumeric() || byte == b'_'
+}
+
+/// How many bytes of the rest are a word.
+fn word_length(rest: &[u8]) -> usize
+    ensures within { result ≤ length rest.now }
+    ensures word { AllPass is_word_byte (take result rest.now) }
+    ensures longest { StartsNot is_word_byte (drop result rest.now) }
+{
+    for (i, byte) in rest.iter().enumerate() {
+        if !is_word_byte(*byte) {
+            return i;
+        }
+    }
+    rest.len()
+}
+
+/// The identifier or keyword that begins the rest (C99 6.4.1, 6.4.2), and None where it is an `L` before
+/// a quote.
+pub fn word_at(alloc: Global, rest: &[u8]) -> Result<Option<(usize, Scanned)>, NoMemory>
+    requires { (b : ℕ) × (others : List ℕ) × (rest.now ≡ b ∷ others) × IsTrue (is_letter b) }
+    ensures { (fresh : Bool) → IsScan fresh rest.now result }
+{
+    if rest.starts_with(b"L'") || rest.starts_with(b"L\"") {
+        return Ok(None);
+    }
+    let length = word_length(rest);
+    let word = &rest[..length];
+    let kind = match keyword_of(word) {
+        Some(keyword) => TokenKind::Word(keyword),
+        None => TokenKind::Ident(Name::new(Vec::from_slice(alloc, word)?)),
+    };
+    Ok(Some((length, Scanned::Token(kind))))
+}
