@@ -1,0 +1,4 @@
+pub mod Points
+pub mod Growth
+pub mod Keeps
+pub mod Ascending

@@ -1,0 +1,8 @@
+use Rattle.std.proofs.Common.{◌<◌, length, sym, subst}
+use Rattle.flow_graph.specs.Graphs.{Flow}
+use Rattle.flow_graph.proofs.Keeps.{flow-array}
+use Rattle.flow_graph.proofs.graph.Graph.add_array.Goals as goal
+
+pub invariant_of-self-2 : goal.invariant_of-self-2
+invariant_of-self-2 c =
+    rw c.in_ok-push.ensures.items (flow-array _ _ c.args.width c.args.count c.self.invariant (c.requires.known_width, c.requires.some_elements) (subst (λ (f : Flow). length f.arrays < 4294967295) (sym c.self.view_is) c.requires.room))

@@ -1,0 +1,8 @@
+use Rattle.std.proofs.Common.{◌<◌, length, sym, subst}
+use Rattle.flow_graph.specs.Graphs.{Flow}
+use Rattle.flow_graph.proofs.Keeps.{flow-variable}
+use Rattle.flow_graph.proofs.graph.Graph.add_var.Goals as goal
+
+pub invariant_of-self-2 : goal.invariant_of-self-2
+invariant_of-self-2 c =
+    rw c.in_ok-push.ensures.items (flow-variable _ _ c.args.width c.self.invariant (subst (λ (f : Flow). length f.widths < 4294967295) (sym c.self.view_is) c.requires))

@@ -1,0 +1,5 @@
+use Rattle.std.proofs.Common.{◌≡◌, [], replicate}
+use Rattle.flow_graph.proofs.live_sets.LiveSets.new.Given as goal
+
+abbrev pub invariant-loop-point : goal.invariant-loop-point
+invariant-loop-point l = (l.before.items ≡ replicate l._point []) × (l.after.items ≡ replicate l._point [])

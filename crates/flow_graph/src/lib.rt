@@ -1,0 +1,18 @@
+//! The three-address graph of one function: variables of width One or Two, frame arrays, and blocks
+//! of points, each point with one op.
+//!
+//! In: calls that add variables, arrays, blocks and points. Out: readers of the same. `specs/Graphs.antt`
+//! has what a contract sees of a graph, what each call leaves, and what every graph keeps: an op fits
+//! where it stands, a point stands in one block once, and an end stands only last in its block.
+#![tactic(auto)]
+
+mod block;
+mod graph;
+mod live_sets;
+mod op;
+#[cfg(test)]
+mod tests;
+
+pub use graph::Graph;
+pub use live_sets::LiveSets;
+pub use op::{Bits, Comparison, Op};
