@@ -1,3 +1,14 @@
+pub mod Splices
+pub mod Memory
+pub mod Access
+pub mod Kept
+pub mod Streams
+pub mod Parts
+pub mod Numbers
+pub mod Fields
+pub mod Opcodes
+pub mod Rows
+pub mod Makes
+pub mod Found
 pub mod Spelling
 pub mod Runs
-pub mod Streams

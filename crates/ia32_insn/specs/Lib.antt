@@ -1,4 +1,10 @@
 pub mod State
+pub mod Arithmetic
 pub mod Spelling
+pub mod Preferred
 pub mod Meaning
 pub mod Runs
+pub mod Items
+pub mod Keeps
+pub mod Worked
+pub mod Reading

@@ -1,0 +1,105 @@
+-- The spelling of each instruction that an encoder prefers: no displacement where it is 0 and the base isn't
+-- EBP, then 8 bits, then 32; no SIB byte where none is needed, and scale bits 0 where there is no index; a
+-- jump with 32 bits of distance, and else the shortest opcode.
+use Rattle.std.specs.Prelude.{ℕ, ◌+◌, ◌*◌, ℤ, pos, neg_ℤ, int_le, int_lt, Bool, true, ◌&&◌, not, ◌==◌, List, [], ◌∷◌, ◌++◌, Option, Some, None, if◌then◌else◌}
+use Rattle.std.specs.Int.{w8, w32, cast_unsigned}
+use Rattle.byteorder.specs.Endian.{little_bytes}
+use Rattle.ia32_regs.specs.Registers.{number32, number8}
+use Rattle.ia32_regs.specs.declared.names.Reg32.{Reg32}
+use Rattle.ia32_insn.specs.declared.operand.Rm32.TheVariants as rm
+use Rattle.ia32_insn.specs.declared.insn.Insn.{Insn}
+use Rattle.ia32_insn.specs.declared.insn.Insn.TheVariants as insn
+use Rattle.ia32_insn.specs.Spelling.{Operand, InRegister, InMemory, operand32, operand8, alu_number, shift_number, cond_number}
+
+-- a signed number in one byte, and in four, the lowest first
+abbrev pub byte_bytes : ℤ → List ℕ
+byte_bytes z = cast_unsigned w8 z ∷ []
+
+abbrev pub word_bytes : ℤ → List ℕ
+word_bytes z = little_bytes 4 (cast_unsigned w32 z)
+
+abbrev pub fits_byte : ℤ → Bool
+fits_byte z = int_le (neg_ℤ (pos 128)) z && int_lt z (pos 128)
+
+-- a byte of three fields
+abbrev pub fields_byte : ℕ → ℕ → ℕ → ℕ
+fields_byte high middle low = 64 * high + 8 * middle + low
+
+-- the number in the place of the base: 5 where there is none
+abbrev pub base_number : Option Reg32 → ℕ
+base_number None = 5
+base_number (Some r) = number32 r
+
+-- which mod goes with a base and a displacement
+abbrev pub mod_for : Option Reg32 → ℤ → ℕ
+mod_for None z = 0
+mod_for (Some r) z = if int_le z (pos 0) && int_le (pos 0) z && not (number32 r == 5) then 0 else if fits_byte z then 1 else 2
+
+-- and which bytes of displacement
+abbrev pub displacement_for : Option Reg32 → ℤ → List ℕ
+displacement_for None z = word_bytes z
+displacement_for (Some r) z = if mod_for (Some r) z == 0 then [] else if mod_for (Some r) z == 1 then byte_bytes z else word_bytes z
+
+-- the scale bits of a factor of 1, 2, 4 or 8
+abbrev pub scale_bits : ℕ → ℕ
+scale_bits factor = if factor == 8 then 3 else if factor == 4 then 2 else if factor == 2 then 1 else 0
+
+-- the SIB byte of an index and a base: index number 4 where there is none
+abbrev pub sib_for : Option (Reg32 × ℕ) → Option Reg32 → ℕ
+sib_for None base = fields_byte 0 4 (base_number base)
+sib_for (Some index) base = fields_byte (scale_bits index.1) (number32 index.0) (base_number base)
+
+-- a SIB byte is needed for an index, and where the base is ESP
+abbrev pub needs_sib : Option (Reg32 × ℕ) → Option Reg32 → Bool
+needs_sib (Some index) base = true
+needs_sib None base = base_number base == 4
+
+-- ModRM and what follows it
+abbrev pub fields_for : ℕ → Operand → List ℕ
+fields_for reg (InRegister number) = fields_byte 3 reg number ∷ []
+fields_for reg (InMemory m) =
+    if needs_sib m.index m.base then fields_byte (mod_for m.base m.disp) reg 4 ∷ sib_for m.index m.base ∷ displacement_for m.base m.disp else fields_byte (mod_for m.base m.disp) reg (base_number m.base) ∷ displacement_for m.base m.disp
+
+-- the preferred spelling
+abbrev pub preferred : Insn → List ℕ
+preferred (insn.Mov operand r) = 137 ∷ fields_for (number32 r) (operand32 operand)
+preferred (insn.MovLoad r m) = 139 ∷ fields_for (number32 r) (InMemory m)
+preferred (insn.MovImm (rm.Reg r) z) = (184 + number32 r) ∷ word_bytes z
+preferred (insn.MovImm (rm.Mem m) z) = 199 ∷ fields_for 0 (InMemory m) ++ word_bytes z
+preferred (insn.Mov8 operand r) = 136 ∷ fields_for (number8 r) (operand8 operand)
+preferred (insn.Mov8Load r m) = 138 ∷ fields_for (number8 r) (InMemory m)
+preferred (insn.Mov8Imm r n) = (176 + number8 r) ∷ n ∷ []
+preferred (insn.Mov16 operand r) = 102 ∷ 137 ∷ fields_for (number32 r) (operand32 operand)
+preferred (insn.MovZx8 r operand) = 15 ∷ 182 ∷ fields_for (number32 r) (operand8 operand)
+preferred (insn.MovZx16 r operand) = 15 ∷ 183 ∷ fields_for (number32 r) (operand32 operand)
+preferred (insn.MovSx8 r operand) = 15 ∷ 190 ∷ fields_for (number32 r) (operand8 operand)
+preferred (insn.MovSx16 r operand) = 15 ∷ 191 ∷ fields_for (number32 r) (operand32 operand)
+preferred (insn.Xchg8 operand r) = 134 ∷ fields_for (number8 r) (operand8 operand)
+preferred (insn.Xchg operand r) = 135 ∷ fields_for (number32 r) (operand32 operand)
+preferred (insn.Lea r m) = 141 ∷ fields_for (number32 r) (InMemory m)
+preferred (insn.Alu op operand r) = (8 * alu_number op + 1) ∷ fields_for (number32 r) (operand32 operand)
+preferred (insn.AluLoad op r m) = (8 * alu_number op + 3) ∷ fields_for (number32 r) (InMemory m)
+preferred (insn.AluImm op operand z) =
+    if fits_byte z then 131 ∷ fields_for (alu_number op) (operand32 operand) ++ byte_bytes z else 129 ∷ fields_for (alu_number op) (operand32 operand) ++ word_bytes z
+preferred (insn.Test operand r) = 133 ∷ fields_for (number32 r) (operand32 operand)
+preferred (insn.IMul r operand) = 15 ∷ 175 ∷ fields_for (number32 r) (operand32 operand)
+preferred (insn.Not operand) = 247 ∷ fields_for 2 (operand32 operand)
+preferred (insn.Neg operand) = 247 ∷ fields_for 3 (operand32 operand)
+preferred (insn.Div operand) = 247 ∷ fields_for 6 (operand32 operand)
+preferred (insn.IDiv operand) = 247 ∷ fields_for 7 (operand32 operand)
+preferred insn.Cdq = 153 ∷ []
+preferred (insn.ShiftCl op operand) = 211 ∷ fields_for (shift_number op) (operand32 operand)
+preferred (insn.ShiftImm op operand n) = 193 ∷ fields_for (shift_number op) (operand32 operand) ++ n ∷ []
+preferred (insn.Push (rm.Reg r)) = (80 + number32 r) ∷ []
+preferred (insn.Push (rm.Mem m)) = 255 ∷ fields_for 6 (InMemory m)
+preferred (insn.PushImm z) = 104 ∷ word_bytes z
+preferred (insn.Pop r) = (88 + number32 r) ∷ []
+preferred (insn.Call distance) = 232 ∷ word_bytes distance
+preferred insn.Ret = 195 ∷ []
+preferred insn.Leave = 201 ∷ []
+preferred (insn.Jmp distance) = 233 ∷ word_bytes distance
+preferred (insn.Jcc c distance) = 15 ∷ (128 + cond_number c) ∷ word_bytes distance
+preferred (insn.SetCc c operand) = 15 ∷ (144 + cond_number c) ∷ fields_for 0 (operand8 operand)
+preferred (insn.Int n) = 205 ∷ n ∷ []
+preferred insn.Ud2 = 15 ∷ 11 ∷ []
+preferred insn.Nop = 144 ∷ []
