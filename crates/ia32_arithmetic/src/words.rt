@@ -1,0 +1,65 @@
+ghost use Rattle.std.specs.Prelude.{◌≡◌};
+ghost use Rattle.ia32_insn.specs.Arithmetic as arithmetic;
+
+use ia32_insn::ShiftOp;
+
+/// The word shifted by the five low bits of the count (Intel manual, volume 2: SAL/SAR/SHL/SHR).
+pub fn shift(op: ShiftOp, a: u32, count: u8) -> u32
+    ensures { result ≡ arithmetic.shift_value op a count }
+{
+    let count = u32::from(count);
+    match op {
+        ShiftOp::Shl => a.wrapping_shl(count),
+        ShiftOp::Shr => a.wrapping_shr(count),
+        ShiftOp::Sar => a.cast_signed().wrapping_shr(count).cast_unsigned(),
+    }
+}
+
+/// The lowest 32 bits of the product, signed or not (IMUL).
+pub fn product(a: u32, b: u32) -> u32
+    ensures { result ≡ arithmetic.product a b }
+{
+    a.wrapping_mul(b)
+}
+
+/// Every bit turned over (NOT).
+pub fn complement(a: u32) -> u32
+    ensures { result ≡ arithmetic.complement a }
+{
+    !a
+}
+
+/// The difference of 0 and the word (NEG).
+pub fn negation(a: u32) -> u32
+    ensures { result ≡ arithmetic.negation a }
+{
+    a.wrapping_neg()
+}
+
+/// The sign bit in every bit (CDQ).
+pub fn sign_word(a: u32) -> u32
+    ensures { result ≡ arithmetic.sign_word a }
+{
+    if a >= 1 << 31 { u32::MAX } else { 0 }
+}
+
+/// A byte as a signed number, in 32 bits (MOVSX).
+pub fn sign_extend8(n: u8) -> u32
+    ensures { result ≡ arithmetic.extended8 n }
+{
+    i32::from(n.cast_signed()).cast_unsigned()
+}
+
+/// Two bytes as a signed number, in 32 bits (MOVSX).
+pub fn sign_extend16(n: u16) -> u32
+    ensures { result ≡ arithmetic.extended16 n }
+{
+    i32::from(n.cast_signed()).cast_unsigned()
+}
+
+/// The word with other low 16 bits, as a register after a move of 16 bits.
+pub fn with_low16(low: u16, word: u32) -> u32
+    ensures { result ≡ arithmetic.with_low16 low word }
+{
+    (word >> 16 << 16) | u32::from(low)
+}
