@@ -1,3 +1,5 @@
 pub mod First
+pub mod Storing
+pub mod Calls
 pub mod Performs
 pub mod Runs

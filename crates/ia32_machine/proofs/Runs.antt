@@ -9,7 +9,7 @@ use Rattle.ia32_insn.specs.Runs.{Steps, Runs, stands, no_visits}
 use Rattle.ia32_insn.proofs.Runs.{runs_after, runs_halts}
 use Rattle.ia32_insn.proofs.Streams.{since, steps-since, Takes, steps-takes}
 use Rattle.ia32_machine.specs.First.{lent}
-use Rattle.ia32_machine.specs.Runs.{alone, Reaches, HaltsAt, StepEndsTold, StepTold, Gives, GivesPart, RunTold, LeftAt, RunReaches}
+use Rattle.ia32_machine.specs.Runs.{alone, Reaches, HaltsAt, EndsTold, StepTold, Gives, GivesPart, RunTold, LeftAt, RunReaches}
 use Rattle.ia32_machine.specs.declared.ends.MachineEnd.{MachineEnd}
 use Rattle.ia32_machine.specs.declared.ends.MachineEnd.TheVariants.{Ended, Trapped, Stopped, BudgetSpent, ReadFault, WriteFault, NoMemory}
 use Rattle.ia32_machine.specs.declared.ends.StepEnd.TheVariants as step
@@ -77,6 +77,7 @@ ran_halts n s machine left left' taken taken' end r h =
 
 -- one more step
 pub ran_more : (n : ℕ) (s machine machine' : State) (left left' left'' taken taken' taken'' : List ℕ) → Ran n s machine left left' taken taken' → StepTold (lent machine left') machine' left'' taken' taken'' step.Going → Ran (suc n) s machine' left left'' taken taken''
+unfolding StepTold
 ran_more n s machine machine' left left' left'' taken taken' taken'' r h =
     let t : State = r.state in
     let u : State = since t.taken t.written h.0 in
@@ -92,7 +93,7 @@ ran_more n s machine machine' left left' left'' taken taken' taken'' r h =
     }
 
 -- an end of the definition after some steps is that of the run
-ran_ends : (n budget : ℕ) (s machine machine' : State) (left left' left'' taken taken' taken'' : List ℕ) (end : outcome.End) → n < budget → Ran n s machine left left' taken taken' → HaltsAt (lent machine left') machine' left'' taken' taken'' end → Gives budget s left left'' taken taken'' end × LeftAt budget s machine' left'' (λ t. Steps t (Halts end))
+ran_ends : (n budget : ℕ) (s machine machine' : State) (left left' left'' taken taken' taken'' : List ℕ) (end : outcome.End) → n < budget → Ran n s machine left left' taken taken' → HaltsAt (Steps (lent machine left')) (lent machine left') machine' left'' taken' taken'' end → Gives budget s left left'' taken taken'' end × LeftAt budget s machine' left'' (λ t. Steps t (Halts end))
 ran_ends n budget s machine machine' left left' left'' taken taken' taken'' end lt r h =
     let t : State = r.state in
     let halts : Steps t (Halts end) = ran_halts n s machine left left' taken taken' end r h.0 in
@@ -120,7 +121,7 @@ take-append-more (x ∷ xs) ys k =
     ap (λ (l : List ℕ). x ∷ l) (take-append-more xs ys k) ∙ ap (λ (m : ℕ). take m (x ∷ (xs ++ ys))) e
 
 -- an output that failed in a step after some steps took a part of what the step writes
-ran_failed : (n budget : ℕ) (s machine machine' : State) (left left' left'' taken taken' taken'' : List ℕ) → n < budget → Ran n s machine left left' taken taken' → StepEndsTold (lent machine left') machine' left'' taken' taken'' WriteFault → GivesPart budget s taken taken'' × LeftAt budget s machine' left'' (λ t. Unit {0})
+ran_failed : (n budget : ℕ) (s machine machine' : State) (left left' left'' taken taken' taken'' : List ℕ) → n < budget → Ran n s machine left left' taken taken' → EndsTold (Steps (lent machine left')) (lent machine left') machine' left'' taken' taken'' WriteFault → GivesPart budget s taken taken'' × LeftAt budget s machine' left'' (λ t. Unit {0})
 ran_failed n budget s machine machine' left left' left'' taken taken' taken'' lt r h =
     let t : State = r.state in
     let u : State = since t.taken t.written h.0 in
@@ -133,7 +134,8 @@ ran_failed n budget s machine machine' left left' left'' taken taken' taken'' lt
     )
 
 -- a step that ends the run
-pub ran_last : (n budget : ℕ) (s machine machine' : State) (left left' left'' taken taken' taken'' : List ℕ) (end : MachineEnd) → n < budget → Ran n s machine left left' taken taken' → StepEndsTold (lent machine left') machine' left'' taken' taken'' end → RunTold budget s left left'' taken taken'' end × RunReaches budget s machine' left'' end
+pub ran_last : (n budget : ℕ) (s machine machine' : State) (left left' left'' taken taken' taken'' : List ℕ) (end : MachineEnd) → n < budget → Ran n s machine left left' taken taken' → StepTold (lent machine left') machine' left'' taken' taken'' (step.End end) → RunTold budget s left left'' taken taken'' end × RunReaches budget s machine' left'' end
+unfolding StepTold RunTold RunReaches
 ran_last n budget s machine machine' left left' left'' taken taken' taken'' (Ended status) lt r h =
     ran_ends n budget s machine machine' left left' left'' taken taken' taken'' (outcome.Ended status) lt r h
 ran_last n budget s machine machine' left left' left'' taken taken' taken'' (Trapped trap) lt r h =
@@ -150,6 +152,7 @@ ran_last n budget s machine machine' left left' left'' taken taken' taken'' NoMe
 
 -- all steps were made
 pub ran_spent : (budget : ℕ) (s machine : State) (left left' taken taken' : List ℕ) → Ran budget s machine left left' taken taken' → RunTold budget s left left' taken taken' BudgetSpent × RunReaches budget s machine left' BudgetSpent
+unfolding RunTold RunReaches
 ran_spent budget s machine left left' taken taken' r =
     let t : State = r.state in (
       (stands [] t outcome.Goes, reaches_goes budget s t r.reaches, refl, r.left_is ∙ r.took, r.wrote),

@@ -1,17 +1,9 @@
 -- The first state of an image.
-use Rattle.std.specs.Prelude.{◌≡◌, ℕ, ◌-◌, List, [], ◌++◌, length, map, replicate, None}
+use Rattle.std.specs.Prelude.{◌≡◌, ℕ, List, [], map, None}
 use Rattle.ia32_regs.specs.Registers.{zero_registers}
-use Rattle.ia32_insn.specs.State.{State, Area}
-use Rattle.elf_image.specs.Segments.{Piece, Segments, Loads}
-
--- the bytes, and then zeros up to this size
-unfoldable pub padded : ℕ → List ℕ → List ℕ
-padded size bytes = bytes ++ replicate (size - length bytes) 0
-
--- the memory of a segment
-abbrev pub area_of : Piece → Area
-area_of piece =
-    record { address = piece.address; bytes = padded piece.size piece.bytes; readable = piece.readable; writable = piece.writable; runnable = piece.runnable }
+use Rattle.ia32_insn.specs.State.{State}
+use Rattle.elf_image.specs.Segments.{Segments, Loads}
+pub use Rattle.ia32_memory.specs.First.{padded, area_of}
 
 -- every register is 0, the flags are unknown, EIP is the entry, and nothing was read or written
 abbrev pub first_state : Segments → List ℕ → State

@@ -1,4 +1,3 @@
 pub mod First
-pub mod Memory
 pub mod Runs
 pub mod Performs

@@ -4,7 +4,7 @@ use Rattle.pcc_base.specs.Counts.{Rose}
 use Rattle.pcc_base.specs.Outcome as outcome
 use Rattle.pcc_outside.specs.Streams.{SinkCounts}
 use Rattle.ia32_insn.specs.State.{State}
-use Rattle.ia32_insn.specs.Meaning.{Moves, Halts}
+use Rattle.ia32_insn.specs.Meaning.{Moved, Moves, Halts}
 use Rattle.ia32_insn.specs.Runs.{Steps, Runs, no_visits}
 use Rattle.ia32_machine.specs.First.{lent}
 use Rattle.ia32_machine.specs.declared.ends.MachineEnd.{MachineEnd}
@@ -32,26 +32,32 @@ abbrev pub StepCounts : ℕ → ℕ → SinkCounts → SinkCounts → StepEnd �
 StepCounts input input' out out' step.Going = (input' ≡ input) × (out' ≡ out)
 StepCounts input input' out out' (step.End end) = RunCounts input input' out out' end
 
--- an end that the machine's definition gives in the state s, which leaves the machine and the streams
-abbrev pub HaltsAt : State → State → List ℕ → List ℕ → List ℕ → outcome.End → Type 0
-HaltsAt s machine left taken taken' end = Steps s (Halts end) × (machine ≡ alone s) × (left ≡ s.left) × (taken' ≡ taken)
+-- Where this is known of what a step from the state s leads to: an end, which leaves the machine and the
+-- streams
+abbrev pub HaltsAt : (Moved → Type 0) → State → State → List ℕ → List ℕ → List ℕ → outcome.End → Type 0
+HaltsAt Leads s machine left taken taken' end = Leads (Halts end) × (machine ≡ alone s) × (left ≡ s.left) × (taken' ≡ taken)
 
 -- a step from s that ends so, by the machine, the input left and the bytes taken then
-abbrev pub StepEndsTold : State → State → List ℕ → List ℕ → List ℕ → MachineEnd → Type 0
-StepEndsTold s machine left taken taken' (Ended status) = HaltsAt s machine left taken taken' (outcome.Ended status)
-StepEndsTold s machine left taken taken' (Trapped trap) = HaltsAt s machine left taken taken' (outcome.Trapped trap)
-StepEndsTold s machine left taken taken' (Stopped cause address) = HaltsAt s machine left taken taken' (outcome.Stopped cause address)
-StepEndsTold s machine left taken taken' BudgetSpent = ⊥
-StepEndsTold s machine left taken taken' ReadFault = (machine ≡ alone s) × (left ≡ s.left) × (taken' ≡ taken)
+abbrev pub EndsTold : (Moved → Type 0) → State → State → List ℕ → List ℕ → List ℕ → MachineEnd → Type 0
+EndsTold Leads s machine left taken taken' (Ended status) = HaltsAt Leads s machine left taken taken' (outcome.Ended status)
+EndsTold Leads s machine left taken taken' (Trapped trap) = HaltsAt Leads s machine left taken taken' (outcome.Trapped trap)
+EndsTold Leads s machine left taken taken' (Stopped cause address) = HaltsAt Leads s machine left taken taken' (outcome.Stopped cause address)
+EndsTold Leads s machine left taken taken' BudgetSpent = ⊥
+EndsTold Leads s machine left taken taken' ReadFault = (machine ≡ alone s) × (left ≡ s.left) × (taken' ≡ taken)
 -- a sink that fails has taken a part of what the step writes
-StepEndsTold s machine left taken taken' WriteFault =
-    (next : State) × Steps s (Moves next) × (machine ≡ alone s) × (left ≡ s.left) × (n : ℕ) × (taken' ≡ taken ++ take n next.written)
-StepEndsTold s machine left taken taken' NoMemory = (machine ≡ alone s) × (left ≡ s.left) × (taken' ≡ taken)
+EndsTold Leads s machine left taken taken' WriteFault =
+    (next : State) × Leads (Moves next) × (machine ≡ alone s) × (left ≡ s.left) × (n : ℕ) × (taken' ≡ taken ++ take n next.written)
+EndsTold Leads s machine left taken taken' NoMemory = (machine ≡ alone s) × (left ≡ s.left) × (taken' ≡ taken)
 
-abbrev pub StepTold : State → State → List ℕ → List ℕ → List ℕ → StepEnd → Type 0
-StepTold s machine left taken taken' step.Going =
-    (next : State) × Steps s (Moves next) × (machine ≡ alone next) × (left ≡ next.left) × (taken' ≡ taken ++ next.written)
-StepTold s machine left taken taken' (step.End end) = StepEndsTold s machine left taken taken' end
+-- the same of any answer
+abbrev pub LeadsTold : (Moved → Type 0) → State → State → List ℕ → List ℕ → List ℕ → StepEnd → Type 0
+LeadsTold Leads s machine left taken taken' step.Going =
+    (next : State) × Leads (Moves next) × (machine ≡ alone next) × (left ≡ next.left) × (taken' ≡ taken ++ next.written)
+LeadsTold Leads s machine left taken taken' (step.End end) = EndsTold Leads s machine left taken taken' end
+
+-- a step from s
+unfoldable pub StepTold : State → State → List ℕ → List ℕ → List ℕ → StepEnd → Type 0
+StepTold s machine left taken taken' answer = LeadsTold (Steps s) s machine left taken taken' answer
 
 -- the outcome of n steps from s, by the input left and the bytes taken before and after
 abbrev pub Gives : ℕ → State → List ℕ → List ℕ → List ℕ → List ℕ → outcome.End → Type 0
@@ -64,7 +70,7 @@ GivesPart budget s taken taken' =
     (n : ℕ) × (n ≤ budget) × (o : outcome.Outcome) × Runs no_visits n s o × (k : ℕ) × (taken' ≡ taken ++ take k o.written)
 
 -- a run of at most `budget` steps from s
-abbrev pub RunTold : ℕ → State → List ℕ → List ℕ → List ℕ → List ℕ → MachineEnd → Type 0
+unfoldable pub RunTold : ℕ → State → List ℕ → List ℕ → List ℕ → List ℕ → MachineEnd → Type 0
 RunTold budget s left left' taken taken' (Ended status) = Gives budget s left left' taken taken' (outcome.Ended status)
 RunTold budget s left left' taken taken' (Trapped trap) = Gives budget s left left' taken taken' (outcome.Trapped trap)
 RunTold budget s left left' taken taken' (Stopped cause address) = Gives budget s left left' taken taken' (outcome.Stopped cause address)
@@ -78,7 +84,7 @@ abbrev pub LeftAt : ℕ → State → State → List ℕ → (State → Type 0) 
 LeftAt budget s machine left IsEnd =
     (n : ℕ) × (n < budget) × (t : State) × Reaches n s t × IsEnd t × (machine ≡ alone t) × (left ≡ t.left)
 
-abbrev pub RunReaches : ℕ → State → State → List ℕ → MachineEnd → Type 0
+unfoldable pub RunReaches : ℕ → State → State → List ℕ → MachineEnd → Type 0
 RunReaches budget s machine left (Ended status) = LeftAt budget s machine left (λ t. Steps t (Halts (outcome.Ended status)))
 RunReaches budget s machine left (Trapped trap) = LeftAt budget s machine left (λ t. Steps t (Halts (outcome.Trapped trap)))
 RunReaches budget s machine left (Stopped cause address) = LeftAt budget s machine left (λ t. Steps t (Halts (outcome.Stopped cause address)))

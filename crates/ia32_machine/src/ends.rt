@@ -1,3 +1,7 @@
+ghost use Rattle.std.specs.Prelude.{◌≡◌};
+ghost use Rattle.ia32_machine.specs.Performs as performs;
+
+use ia32_processor::Halt;
 use pcc_base::{Stop, Trap};
 
 /// How a run of the machine ends.
@@ -24,4 +28,14 @@ pub enum MachineEnd {
 pub enum StepEnd {
     Going,
     End(MachineEnd),
+}
+
+/// How the run ends where the processor halts at the instruction at this address.
+pub(crate) fn end_at(address: u32, halt: Halt) -> MachineEnd
+    ensures { result ≡ performs.end_at address halt }
+{
+    match halt {
+        Halt::Trapped(trap) => MachineEnd::Trapped(trap),
+        Halt::Stopped(cause) => MachineEnd::Stopped(cause, address),
+    }
 }

@@ -8,7 +8,7 @@
 mod ends;
 mod laws;
 mod machine;
-mod memory;
+mod system_calls;
 
 pub use ends::{MachineEnd, StepEnd};
 pub use laws::one_first;

@@ -160,6 +160,8 @@ fn runs_changed_images(rt: HostRuntime) -> Result<(), Fail> {
     for (at, byte, status, err) in [
         (4096, 0xF4, 9, "stopped instruction 0x08048000\n"),
         (4096 + 5, 0x0F, 9, "stopped instruction 0x08048005\n"),
+        (4096 + 5, 0x72, 9, "stopped flags 0x08048005\n"),
+        (4096 + 5, 0x58, 9, "stopped access 0x0c04a004\n"),
         (4096 + 17, 0x81, 9, "stopped call 0x08048010\n"),
         (4096 + 12, 4, 9, "stopped call 0x08048010\n"),
         (27, 9, 9, "stopped access 0x09048000\n"),

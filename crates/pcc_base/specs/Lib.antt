@@ -1,4 +1,5 @@
 pub mod Counts
 pub mod Faults
+pub mod Objects
 pub mod Outcome
 pub mod Wrapping

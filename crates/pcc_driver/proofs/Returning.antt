@@ -8,20 +8,20 @@ use Rattle.ia32_regs.specs.Registers.{register, with_register, zero_registers}
 use Rattle.ia32_insn.specs.declared.insn.Insn.{Insn}
 use Rattle.ia32_insn.specs.declared.insn.Insn.TheVariants as insn
 use Rattle.ia32_insn.specs.declared.operand.Rm32.TheVariants as rm
-use Rattle.ia32_insn.specs.Meaning.{Moved, Moves, Halts, interrupt, perform}
+use Rattle.ia32_insn.specs.Meaning.{Moved, Moves, Halts, perform}
 use Rattle.ia32_insn.specs.Runs.{Steps, Runs}
 use Rattle.ia32_insn.specs.Spelling.{Spells}
 use Rattle.ia32_insn.specs.State.{Area, State, code_at}
 use Rattle.elf_image.specs.Layout.{Parts, AreBytes, Fits, image_bytes, text_address, text_span, data_memory}
 use Rattle.elf_image.specs.Segments.{image_segments}
-use Rattle.ia32_machine.specs.First.{padded}
+use Rattle.ia32_memory.specs.First.{padded}
 use Rattle.pcc_listing.specs.Lines.{PointLine, Mark, IsLine, IsMap}
 use Rattle.pcc_listing.specs.Marks.{visits_of}
 use Rattle.pcc_driver.specs.Accepted.{return_program}
 use Rattle.pcc_driver.specs.Code.{AreSpelled, return_code}
 use Rattle.pcc_driver.specs.Headline.{DoesAs}
 use Rattle.pcc_driver.specs.Products.{return_map}
-use Rattle.ia32_machine.proofs.First.{padded-full}
+use Rattle.ia32_memory.proofs.First.{padded-full}
 use Rattle.pcc_driver.proofs.Stepping.{code-rest, step-spelled, length-mov}
 
 -- the map keeps the rules of maps
@@ -79,7 +79,7 @@ ebx-last value small = little_number-reads_back 4 value (replicate 16 0) small
 
 -- the exit ends with the low byte of the value
 exit-ends : (text data_bytes input : List ℕ) (value : ℕ) → value < 256 ^ 4
-    → interrupt 128 (standing text data_bytes input 134512656 (last_registers value)) ≡ Halts (Ended (value % 256))
+    → perform (insn.Int 128) 134512658 (standing text data_bytes input 134512656 (last_registers value)) ≡ Halts (Ended (value % 256))
 exit-ends text data_bytes input value small = ap (λ (n : ℕ). Halts (Ended (n % 256))) (ebx-last value small)
 
 -- the outcome of the exit, and that of the statement
@@ -92,12 +92,12 @@ returned value = record { visits = record { statement = 0; values = [] } ∷ [];
 -- five steps lead to the exit, and more change nothing
 runs-return : (text data_bytes input : List ℕ) (value k : ℕ) → value < 256 ^ 4 → AreSpelled (return_code (pos value)) text
     → Runs (visits_of return_map) (suc (suc (suc (suc (suc k))))) (standing text data_bytes input 134512640 zero_registers) (returned value)
-runs-return text data_bytes input value k small (b1, r1, e1, s1, (b2, r2, e2, s2, (b3, r3, e3, s3, (b4, r4, e4, s4, (b5, r5, e5, s5, e6))))) =
-    let n1 = length-mov Esp (pos 201629700) b1 s1 in
-    let n2 : 1 ≡ length b2 = sym (ap length s2) in
-    let n3 = length-mov Ebx (pos value) b3 s3 in
-    let n4 = length-mov Eax (pos 1) b4 s4 in
-    let n5 : 2 ≡ length b5 = sym (ap length s5) in
+runs-return text data_bytes input value k small (b1, r1, e1, p1, s1, (b2, r2, e2, p2, s2, (b3, r3, e3, p3, s3, (b4, r4, e4, p4, s4, (b5, r5, e5, p5, s5, e6))))) =
+    let n1 = length-mov Esp (pos 201629700) b1 p1 in
+    let n2 : 1 ≡ length b2 = sym (ap length p2) in
+    let n3 = length-mov Ebx (pos value) b3 p3 in
+    let n4 = length-mov Eax (pos 1) b4 p4 in
+    let n5 : 2 ≡ length b5 = sym (ap length p5) in
     let d2 = more-done text b1 r1 b2 r2 e1 e2 in
     let d3 = more-done text (b1 ++ b2) r2 b3 r3 d2 e3 in
     let d4 = more-done text ((b1 ++ b2) ++ b3) r3 b4 r4 d3 e4 in
@@ -121,12 +121,12 @@ runs-return text data_bytes input value k small (b1, r1, e1, s1, (b2, r2, e2, s2
 
 -- the instructions have eighteen bytes
 length-code : (z : ℤ) (text : List ℕ) → AreSpelled (return_code z) text → length text ≡ 18
-length-code z text (b1, r1, e1, s1, (b2, r2, e2, s2, (b3, r3, e3, s3, (b4, r4, e4, s4, (b5, r5, e5, s5, e6))))) =
-    let n1 = length-mov Esp (pos 201629700) b1 s1 in
-    let n2 : 1 ≡ length b2 = sym (ap length s2) in
-    let n3 = length-mov Ebx z b3 s3 in
-    let n4 = length-mov Eax (pos 1) b4 s4 in
-    let n5 : 2 ≡ length b5 = sym (ap length s5) in
+length-code z text (b1, r1, e1, p1, s1, (b2, r2, e2, p2, s2, (b3, r3, e3, p3, s3, (b4, r4, e4, p4, s4, (b5, r5, e5, p5, s5, e6))))) =
+    let n1 = length-mov Esp (pos 201629700) b1 p1 in
+    let n2 : 1 ≡ length b2 = sym (ap length p2) in
+    let n3 = length-mov Ebx z b3 p3 in
+    let n4 = length-mov Eax (pos 1) b4 p4 in
+    let n5 : 2 ≡ length b5 = sym (ap length p5) in
     let n6 : length r5 ≡ 0 = ap length e6 in
     let w1 : length text ≡ length b1 + length r1 = ap length e1 ∙ length-append b1 r1 in
     let w2 : length r1 ≡ length b2 + length r2 = ap length e2 ∙ length-append b2 r2 in

@@ -49,6 +49,7 @@ part_told content image s streams streams' read small first told = (image, read,
 
 -- the report of a run of the machine tells what the machine does
 pub machine_told : (end : MachineEnd) (content : Option (List ℕ)) (image : List ℕ) (s : State) (streams streams' : Streams) → content ≡ Some image → length image ≤ file_limit → First image streams.left s → runs.RunTold run_steps s streams.left streams'.left streams.taken streams'.taken end → RunTold content streams streams' (report_of_end end)
+unfolding runs.RunTold
 machine_told (machine.Ended status) content image s streams streams' read small first told = gives_told content image s streams streams' (outcome.Ended status) read small first told
 machine_told (machine.Trapped trap) content image s streams streams' read small first told = gives_told content image s streams streams' (outcome.Trapped trap) read small first told
 machine_told (machine.Stopped cause address) content image s streams streams' read small first told = gives_told content image s streams streams' (outcome.Stopped cause address) read small first told

@@ -7,6 +7,7 @@ use Rattle.ia32_insn.specs.declared.insn.Insn.{Insn}
 use Rattle.ia32_insn.specs.declared.insn.Insn.TheVariants as insn
 use Rattle.ia32_insn.specs.declared.operand.Rm32.TheVariants as rm
 use Rattle.ia32_insn.specs.Meaning.{perform}
+use Rattle.ia32_insn.specs.Preferred.{preferred}
 use Rattle.ia32_insn.specs.Runs.{Steps, StepsAt}
 use Rattle.ia32_insn.specs.Spelling.{Spells, Begins}
 use Rattle.ia32_insn.specs.State.{Area, State, code_at}
@@ -32,6 +33,6 @@ step-spelled s i n first rest here is spelled =
     (omega (arith, length-append first rest), subst Spelling (sym (take-append_seam first rest)) spelled) in
     subst After (sym is) (subst At (sym here) (inl (i, length first, begins, refl)))
 
--- a spelling of MOV r32, imm32 has five bytes
-pub length-mov : (r : Reg32) (z : ℤ) (bytes : List ℕ) → Spells (insn.MovImm (rm.Reg r) z) bytes → 5 ≡ length bytes
-length-mov r z bytes (four, whole, reads) = let fits = ap length whole in omega (arith, reads.four)
+-- the preferred spelling of MOV r32, imm32 has five bytes
+pub length-mov : (r : Reg32) (z : ℤ) (bytes : List ℕ) → bytes ≡ preferred (insn.MovImm (rm.Reg r) z) → 5 ≡ length bytes
+length-mov r z bytes is = sym (ap length is)

@@ -1,12 +1,17 @@
 ghost use Rattle.std.specs.Prelude.{◌≡◌, ◌≤◌, ◌++◌, ℕ, List, IfOk, OnOk};
 ghost use Rattle.elf_image.specs.Layout.{AreBytes};
+ghost use Rattle.ia32_insn.specs.Preferred.{preferred};
+ghost use Rattle.ia32_insn.specs.Spelling.{HasSpelling, Spells};
+ghost use Rattle.ia32_insn.specs.declared.insn.Insn.TheVariants as insn;
+ghost use Rattle.ia32_insn.specs.declared.operand.Rm32.TheVariants as rm;
 ghost use Rattle.pcc_driver.specs.Accepted.{return_program};
 ghost use Rattle.pcc_driver.specs.Code.{AreSpelled, return_code};
 ghost use Rattle.pcc_driver.specs.Headline.{DoesAs};
 ghost use Rattle.pcc_driver.specs.Products.{return_map};
 
-use crate::encode::{interrupt, mov_imm, nop};
 use elf_image::{Image, TEXT_ADDRESS, write_image};
+use ia32_encode::encode;
+use ia32_insn::{Insn, Rm32};
 use ia32_regs::Reg32;
 use pcc_base::NoMemory;
 use std::alloc::Global;
@@ -21,17 +26,33 @@ const EXIT: i32 = 1;
 /// The interrupt of system calls.
 const SYSTEM_CALL: u8 = 0x80;
 
+/// MOV r32, imm32 (Intel manual, volume 2, MOV).
+fn mov_imm(register: Reg32, value: i32) -> Insn
+    ensures { result ≡ insn.MovImm (rm.Reg register) value }
+{
+    Insn::MovImm(Rm32::Reg(register), value)
+}
+
+/// Puts an instruction at the end, in its preferred spelling. The only refusal is want of memory.
+fn push_insn(text: &mut Vec<u8>, insn: Insn) -> Result<(), NoMemory>
+    requires { HasSpelling insn }
+    ensures { OnOk result ((code : List ℕ) × (text.new.items ≡ text.old.items ++ code) × (code ≡ preferred insn) × Spells insn code) }
+{
+    text.extend_from_slice(encode(&insn).as_slice())?;
+    Ok(())
+}
+
 /// Puts the instructions of a program that returns the value at the end. The only refusal is want of
 /// memory.
 fn push_return(text: &mut Vec<u8>, value: i32) -> Result<(), NoMemory>
     ensures code { OnOk result ((code : List ℕ) × (text.new.items ≡ text.old.items ++ code) × AreSpelled (return_code value) code) }
     ensures bytes { OnOk result (AreBytes text.new.items) }
 {
-    text.extend_from_slice(&mov_imm(Reg32::Esp, STACK_TOP))?;
-    text.extend_from_slice(&nop())?;
-    text.extend_from_slice(&mov_imm(Reg32::Ebx, value))?;
-    text.extend_from_slice(&mov_imm(Reg32::Eax, EXIT))?;
-    text.extend_from_slice(&interrupt(SYSTEM_CALL))?;
+    push_insn(text, mov_imm(Reg32::Esp, STACK_TOP))?;
+    push_insn(text, Insn::Nop)?;
+    push_insn(text, mov_imm(Reg32::Ebx, value))?;
+    push_insn(text, mov_imm(Reg32::Eax, EXIT))?;
+    push_insn(text, Insn::Int(SYSTEM_CALL))?;
     Ok(())
 }
 

@@ -7,7 +7,6 @@
 #![tactic(auto)]
 
 mod compile;
-mod encode;
 mod finish;
 mod image;
 mod map;

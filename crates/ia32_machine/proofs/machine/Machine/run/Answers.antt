@@ -8,7 +8,7 @@ use Rattle.ia32_machine.proofs.machine.Machine.run.Goals as goal
 
 pub steps-init : goal.steps-init
 steps-init g c = record {
-  ran = λ _ _. ran_none c.args.self.now (g.I.Source.left c.args.input.now) (g.O.Sink.taken c.args.out.now) (subst (λ (s : State). s ≡ alone s) c.self.view_is refl);
+  ran = λ _ _. ran_none c.args.self.now (g.I.Source.left c.args.input.now) (g.O.Sink.taken c.args.out.now) c.eip.ensures.bare;
   faults = refl;
   counts = refl;
   input_tells = λ t. t;

@@ -1,31 +1,30 @@
-use Rattle.std.proofs.Common.{◌+◌, List, ℕ, [], sym, subst, refl}
-use Rattle.ia32_insn.specs.Meaning.{perform as performed}
-use Rattle.ia32_insn.specs.State.{State}
 use Rattle.ia32_machine.specs.First.{lent}
-use Rattle.ia32_machine.specs.Runs.{StepTold}
-use Rattle.ia32_machine.specs.declared.ends.StepEnd.{StepEnd}
-use Rattle.ia32_machine.proofs.Performs.{fetched-short, fetched-steps, unfetched-steps, performed-told, performed-counted}
+use Rattle.std.proofs.Common.{Ok, Err}
+use Rattle.ia32_machine.proofs.Performs.{advanced}
 use Rattle.ia32_machine.proofs.machine.Machine.step.Goals as goal
 
 pub returns-in-Ok-clause-told : goal.returns-in-Ok-clause-told
-returns-in-Ok-clause-told g c = λ _ _.
-    let s : State = c.args.self.now in
-    let left : List ℕ = g.I.Source.left c.args.input.now in
-    performed-told s c.perform.new.self left (g.O.Sink.taken c.args.out.now) (performed c.in-Ok.insn (s.eip + c.in-Ok.length) (lent s left)) c.perform.result
-    (fetched-steps s left c.in-Ok.insn c.in-Ok.length c.in-Ok.ensures.told) c.fetch.ensures.bare (c.perform.ensures.bare c.fetch.ensures.bare) (c.perform.ensures.told left)
+returns-in-Ok-clause-told g c = λ i o.
+    advanced (lent c.args.self.now (g.I.Source.left c.args.input.now)) c.advance.new.self (g.I.Source.left c.advance.new.input) (g.O.Sink.taken c.args.out.now) (g.O.Sink.taken c.advance.new.out) (Ok tt) (c.in-Ok.ensures.told i o)
 
 pub returns-in-Ok-clause-counted : goal.returns-in-Ok-clause-counted
-returns-in-Ok-clause-counted g c =
-    let s : State = c.args.self.now in
-    performed-counted (performed c.in-Ok.insn (s.eip + c.in-Ok.length) (lent s [])) s c.perform.new.self [] (g.I.Source.faults c.args.input.now) (g.O.Sink.counts c.args.out.now) c.perform.result (c.perform.ensures.told [])
+returns-in-Ok-clause-counted g c = c.in-Ok.ensures.counted
+
+pub returns-in-Ok-clause-input_tells : goal.returns-in-Ok-clause-input_tells
+returns-in-Ok-clause-input_tells g c = c.advance.ensures.input_tells
+
+pub returns-in-Ok-clause-out_tells : goal.returns-in-Ok-clause-out_tells
+returns-in-Ok-clause-out_tells g c = c.advance.ensures.out_tells
 
 pub returns-in-Err-clause-told : goal.returns-in-Err-clause-told
-returns-in-Err-clause-told g c = λ _ _.
-    let s : State = c.args.self.now in
-    let left : List ℕ = g.I.Source.left c.args.input.now in
-    let taken : List ℕ = g.O.Sink.taken c.args.out.now in
-    subst (λ (answer : StepEnd). StepTold (lent s left) s left taken taken answer) (sym c.stop.ensures)
-    (unfetched-steps s left c.in-Err.cause c.in-Err.ensures.told, c.fetch.ensures.bare, refl, refl)
+returns-in-Err-clause-told g c = λ i o.
+    advanced (lent c.args.self.now (g.I.Source.left c.args.input.now)) c.advance.new.self (g.I.Source.left c.advance.new.input) (g.O.Sink.taken c.args.out.now) (g.O.Sink.taken c.advance.new.out) (Err c.in-Err.end) (c.in-Err.ensures.told i o)
 
-pub perform-requires : goal.perform-requires
-perform-requires g c = fetched-short c.args.self.now c.in-Ok.insn c.in-Ok.length c.in-Ok.ensures.told
+pub returns-in-Err-clause-counted : goal.returns-in-Err-clause-counted
+returns-in-Err-clause-counted g c = c.in-Err.ensures.counted
+
+pub returns-in-Err-clause-input_tells : goal.returns-in-Err-clause-input_tells
+returns-in-Err-clause-input_tells g c = c.advance.ensures.input_tells
+
+pub returns-in-Err-clause-out_tells : goal.returns-in-Err-clause-out_tells
+returns-in-Err-clause-out_tells g c = c.advance.ensures.out_tells

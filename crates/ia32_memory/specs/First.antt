@@ -1,0 +1,13 @@
+-- The first memory of an image (ELF, "Program Header").
+use Rattle.std.specs.Prelude.{ℕ, ◌-◌, List, ◌++◌, length, replicate}
+use Rattle.ia32_insn.specs.State.{Area}
+use Rattle.elf_image.specs.Segments.{Piece}
+
+-- the bytes, and then zeros up to this size
+unfoldable pub padded : ℕ → List ℕ → List ℕ
+padded size bytes = bytes ++ replicate (size - length bytes) 0
+
+-- the memory of a segment
+abbrev pub area_of : Piece → Area
+area_of piece =
+    record { address = piece.address; bytes = padded piece.size piece.bytes; readable = piece.readable; writable = piece.writable; runnable = piece.runnable }
