@@ -1,0 +1,61 @@
+-- The sections and objects of the example of the tests can be linked.
+use Rattle.std.specs.Prelude.{◌≡◌, ◌⊎◌, ◌<◌, ◌≤◌, ℕ, zero, suc, ◌+◌, ◌*◌, ◌^◌, pos, negsuc, List, [], ◌∷◌, length, map, slice_get, Some}
+use Rattle.std.specs.List.{filter_map}
+use Rattle.std.proofs.Common.{refl, sym, ap, ◌∙◌, subst, arith, inl, inr}
+use Rattle.std.proofs.lemmas.Option.{same_Some}
+use Rattle.pcc_base.specs.declared.object.DataObject.{DataObject}
+use Rattle.ia32_regs.specs.declared.names.Reg32.TheVariants.{Eax}
+use Rattle.ia32_insn.specs.declared.operand.Rm32.TheVariants as rm
+use Rattle.ia32_insn.specs.declared.insn.Insn.TheVariants as insn
+use Rattle.ia32_insn.specs.declared.item.Item.{Item}
+use Rattle.ia32_insn.specs.declared.item.Item.TheVariants as item
+use Rattle.ia32_insn.specs.Items.{Object, round_up, elements_size}
+use Rattle.ia32_asm.specs.declared.section.Section.{Section}
+use Rattle.ia32_asm.specs.Sections.{CanAssemble, IsSection, items_size, target_of}
+use Rattle.elf_link.specs.Linking.{FitsIn, CanHold, CanLink, object_of}
+use Rattle.elf_link.proofs.RoutineItems.{plainly_can, word_to, returned}
+use Rattle.elf_link.proofs.Placing.{named_target, follow_inside}
+
+abbrev pub example_items : List Item
+example_items = item.Plain (insn.MovImm (rm.Reg Eax) (pos 3)) ∷ item.Plain insn.Ret ∷ []
+
+pub example_can : (items : List Item) → items ≡ example_items → CanAssemble items
+example_can items e = subst CanAssemble (sym e) (plainly_can example_items (word_to Eax 3 (omega arith), (returned, tt)) (omega arith))
+
+-- a section that names nothing
+fits_alone : (functions objects f : ℕ) (items : List Item) (s : Section) → IsSection f items s → filter_map target_of items ≡ [] → FitsIn functions objects s
+fits_alone functions objects f items s is e =
+    record {
+      targets = λ j r h. let named = named_target f items s is j r h in let none = ap (λ ts. slice_get ts j) e in absurd (cc);
+      inside = follow_inside 0 (length s.bytes.items) s.relocations.items is.apart;
+      points = is.points_within;
+    }
+
+held_alone : (object : DataObject) → object.width ≡ 1 → object.elements.items ≡ pos 65 ∷ negsuc 0 ∷ [] → CanHold (object_of object ∷ [])
+held_alone object w e =
+    let size : elements_size (object_of object) ≡ 4 =
+    ap (λ (n : ℕ). round_up 4 (n * length object.elements.items)) w ∙ ap (λ zs. round_up 4 (1 * length zs)) e
+    in
+    record { widths = narrow object w; size = omega (arith, size) }
+  where
+    narrow : (object : DataObject) → object.width ≡ 1 → (k : ℕ) (o : Object) → slice_get (object_of object ∷ []) k ≡ Some o → (o.width ≡ 1) ⊎ ((o.width ≡ 2) ⊎ (o.width ≡ 4))
+    narrow object w zero o e = inl (ap (λ (x : Object). x.width) (sym (same_Some (object_of object) o e)) ∙ w)
+    narrow object w (suc k) o e = absurd (cc)
+
+pub example_link : (items : List Item) (section : Section) (sections : List Section) (object : DataObject) (objects : List DataObject) → items ≡ example_items
+    → IsSection 0 items section → length section.bytes.items ≡ items_size items → sections ≡ section ∷ [] → objects ≡ object ∷ []
+    → object.width ≡ 1 → object.elements.items ≡ pos 65 ∷ negsuc 0 ∷ [] → CanLink sections (map object_of objects) 0
+example_link items section sections object objects e is size s o w z =
+    let few : length section.bytes.items ≡ 6 = size ∙ ap items_size e in
+    subst (λ (ss : List Section). CanLink ss (map object_of objects) 0) (sym s)
+    (subst (λ (os : List DataObject). CanLink (section ∷ []) (map object_of os) 0) (sym o)
+    (record {
+      main_there = omega arith;
+      each = alone section (fits_alone 1 1 0 items section is (ap (filter_map target_of) e));
+      code = omega (arith, few);
+      held = held_alone object w z;
+    }))
+  where
+    alone : (section : Section) → FitsIn 1 1 section → (k : ℕ) (s : Section) → slice_get (section ∷ []) k ≡ Some s → FitsIn 1 1 s
+    alone section fits zero s e = subst (λ (x : Section). FitsIn 1 1 x) (same_Some section s e) fits
+    alone section fits (suc k) s e = absurd (cc)

@@ -1,0 +1,250 @@
+-- What was linked is the program of the functions.
+use Rattle.std.specs.Prelude.{◌≡◌, ⊤, ◌<◌, ◌≤◌, ℕ, zero, suc, ◌+◌, ◌*◌, ◌/◌, ◌^◌, ◌-◌, ℤ, List, [], ◌∷◌, ◌++◌, flat_map, length, map, replicate, slice_get, slice_index, Some, None, option_map}
+use Rattle.std.specs.Int.{w32, cast_unsigned}
+use Rattle.std.proofs.Common.{refl, sym, ap, ◌∙◌, subst, arith, get_or}
+use Rattle.std.proofs.lemmas.List.{length-append, length-map, length-replicate}
+use Rattle.std.proofs.lemmas.Option.{same_Some, slice_get-map, slice_get-get_or}
+use Rattle.byteorder.specs.Endian.{little_bytes}
+use Rattle.std.proofs.Math.Nat.{mul-suc}
+use Rattle.byteorder.specs.Numbers.{length-bytes_low_first}
+use Rattle.ia32_insn.specs.declared.item.Item.{Item}
+use Rattle.ia32_insn.specs.declared.item.Item.TheVariants as item
+use Rattle.ia32_insn.specs.declared.item.Stub.TheVariants as stub
+use Rattle.ia32_insn.specs.Items.{Symbols, Places, Object, ItemsAt, FunctionsAt, IsText, round_up, zeros, text_start, element_bytes, elements_size, object_bytes, data_bytes, object_addresses, data_start, data_memory, stack_end, start_items, putchar_items, getchar_items, exit_items, check_items}
+use Rattle.ia32_asm.specs.declared.section.Section.{Section}
+use Rattle.ia32_asm.specs.declared.section.Relocation.{Relocation}
+use Rattle.ia32_asm.specs.declared.section.Target.{Target}
+use Rattle.ia32_asm.specs.declared.section.Target.TheVariants as target
+use Rattle.ia32_asm.specs.Sections.{Stands, resolved, HasAddress, HaveAddresses, IsSection}
+use Rattle.ia32_asm.proofs.Resolved.{length-resolved}
+use Rattle.elf_link.specs.declared.addresses.Addresses.{Addresses}
+use Rattle.elf_link.specs.declared.linked.Linked.{Linked}
+use Rattle.elf_link.specs.Linking.{IsThere, FitsIn, CanLink, CanHold, AreSections, HasPoints, IsLinked, sections_size, objects_size}
+use Rattle.elf_link.specs.Laid.{addresses_from, code_from, points_from, symbols_of, AreInText, AreAddresses, HasCode}
+use Rattle.elf_link.proofs.RoutineItems.{any_places, start_plainly, putchar_plainly, getchar_plainly, exit_plainly, check_plainly}
+use Rattle.elf_link.proofs.Placing.{length-addresses, addresses_bound}
+
+-- ---- the data
+
+length-elements : (width : ℕ) (zs : List ℤ) → length (flat_map (λ (z : ℤ). little_bytes width (cast_unsigned w32 z)) zs) ≡ width * length zs
+length-elements width [] = omega arith
+length-elements width (z ∷ zs) =
+    let first : length (little_bytes width (cast_unsigned w32 z)) ≡ width = length-bytes_low_first 0 width (cast_unsigned w32 z) in
+    let others : length (flat_map (λ (y : ℤ). little_bytes width (cast_unsigned w32 y)) zs) ≡ width * length zs = length-elements width zs in
+    length-append (little_bytes width (cast_unsigned w32 z)) (flat_map (λ (y : ℤ). little_bytes width (cast_unsigned w32 y)) zs)
+    ∙ ap (λ (n : ℕ). n + length (flat_map (λ (y : ℤ). little_bytes width (cast_unsigned w32 y)) zs)) first ∙ ap (λ (n : ℕ). width + n) others ∙ mul_more width (length zs)
+  where
+    mul_more : (a b : ℕ) → a + a * b ≡ a * suc b
+    mul_more a b = omega (arith, mul-suc a b)
+
+no_less : (n : ℕ) → n ≤ round_up 4 n
+no_less n = omega arith
+
+length-object : (o : Object) → length (object_bytes o) ≡ 4 + elements_size o
+unfolding zeros
+length-object o =
+    length-append (little_bytes 4 (length o.elements) ++ element_bytes o) (replicate (elements_size o - o.width * length o.elements) 0)
+    ∙ omega (
+      arith,
+      length-append (little_bytes 4 (length o.elements)) (element_bytes o),
+      length-elements o.width o.elements,
+      length-replicate {A = ℕ} (elements_size o - o.width * length o.elements) 0,
+      no_less (o.width * length o.elements),
+    )
+
+length-objects : (objects : List Object) → length (flat_map object_bytes objects) ≡ objects_size objects
+length-objects [] = refl
+length-objects (o ∷ objects) = length-append (object_bytes o) (flat_map object_bytes objects) ∙ omega (arith, length-object o, length-objects objects)
+
+length-data : (objects : List Object) → length (data_bytes objects) ≡ 4 + objects_size objects
+unfolding zeros
+length-data objects = omega (arith, length-objects objects)
+
+-- ---- addresses
+
+objects_many : (address : ℕ) (objects : List Object) → length (object_addresses address objects) ≡ length objects
+objects_many address [] = refl
+objects_many address (o ∷ objects) = omega (arith, objects_many (address + 4 + elements_size o) objects)
+
+objects_bound : (address : ℕ) (objects : List Object) (k x : ℕ) → slice_get (object_addresses address objects) k ≡ Some x → x ≤ address + objects_size objects
+objects_bound address [] k x e = absurd (cc)
+objects_bound address (o ∷ objects) zero x e = omega (arith, same_Some (address + 4) x e)
+objects_bound address (o ∷ objects) (suc k) x e = omega (arith, objects_bound (address + 4 + elements_size o) objects k x e)
+
+-- the depth word is behind the text, below this bound
+depth_bound : (n : ℕ) → n < 1073741824 → text_start + round_up 4096 (n + 104) < 1300000000
+depth_bound n h = omega arith
+
+-- each target that is there has an address
+there_has : (sections : List Section) (objects : List Object) (a : Addresses) → AreAddresses sections objects a → sections_size sections < 2 ^ 30 → objects_size objects ≤ 16777216
+    → (t : Target) → IsThere (length sections) (length objects) t → HasAddress (symbols_of a) t
+there_has sections objects a laid code held (target.Function f) h =
+    let inside : f < length a.functions.items = omega (arith, h, ap length laid.in_text.functions, length-addresses (text_start + 29) sections) in
+    let found : slice_get a.functions.items f ≡ Some (get_or a.functions.items f 0) = slice_get-get_or a.functions.items f 0 inside in
+    let bound = addresses_bound (text_start + 29) sections f (get_or a.functions.items f 0) (sym (ap (λ (xs : List ℕ). slice_get xs f) laid.in_text.functions) ∙ found) in
+    (get_or a.functions.items f 0, found, omega (arith, bound, code))
+there_has sections objects a laid code held (target.Object k) h =
+    let inside : k < length a.objects.items = omega (arith, h, ap length laid.objects_are, objects_many (a.depth + 4) objects) in
+    let found : slice_get a.objects.items k ≡ Some (get_or a.objects.items k 0) = slice_get-get_or a.objects.items k 0 inside in
+    let bound = objects_bound (a.depth + 4) objects k (get_or a.objects.items k 0) (sym (ap (λ (xs : List ℕ). slice_get xs k) laid.objects_are) ∙ found) in
+    (get_or a.objects.items k 0, found, omega (arith, bound, held, laid.depth, depth_bound (sections_size sections) code))
+there_has sections objects a laid code held (target.Stub stub.Putchar) h = (a.putchar, refl, omega (arith, laid.in_text.putchar, code))
+there_has sections objects a laid code held (target.Stub stub.Getchar) h = (a.getchar, refl, omega (arith, laid.in_text.putchar, laid.in_text.getchar, code))
+there_has sections objects a laid code held (target.Stub stub.Exit) h = (a.exit, refl, omega (arith, laid.in_text.putchar, laid.in_text.getchar, laid.in_text.exit, code))
+there_has sections objects a laid code held target.Check h = (a.check, refl, omega (arith, laid.in_text.putchar, laid.in_text.getchar, laid.in_text.exit, laid.in_text.check, code))
+there_has sections objects a laid code held target.Depth h = (a.depth, refl, omega (arith, laid.depth, depth_bound (sections_size sections) code))
+
+-- ---- the functions
+
+-- the points of a section that stands at an address
+has_points : (k address : ℕ) (items : List Item) (s : Section) (is : IsSection k items s)
+    → HasPoints items (record { labels = λ l. address + is.labels l; points = λ p. address + slice_index s.points.items p }) (map (λ p. address + p) s.points.items)
+has_points k address items s is =
+    record {
+      addresses = λ p stands.
+          slice_get-map (λ (n : ℕ). address + n) s.points.items p
+          ∙ ap (option_map (λ (n : ℕ). address + n)) (slice_get-get_or s.points.items p 0 (is.numbered.within p stands));
+      greatest = λ p e. is.numbered.greatest p (sym (length-map s.points.items (λ (n : ℕ). address + n)) ∙ e);
+    }
+
+-- where the sections of functions stand, their code and points are those of the functions
+record Placed (symbols : Symbols) (address : ℕ) (functions : List (List Item)) (sections : List Section) : Type 0 where
+  pub places : List Places
+  pub at : FunctionsAt symbols address functions places (addresses_from address sections) (code_from symbols address sections)
+  pub points : (f : ℕ) (items : List Item) (place : Places) (entries : List ℕ) → slice_get functions f ≡ Some items → slice_get places f ≡ Some place
+      → slice_get (points_from address sections) f ≡ Some entries → HasPoints items place entries
+  pub long : length (code_from symbols address sections) ≡ sections_size sections
+  pub many : length sections ≡ length functions
+
+placed : (symbols : Symbols) (nf mo address k : ℕ) (functions : List (List Item)) (sections : List Section) → ((t : Target) → IsThere nf mo t → HasAddress symbols t)
+    → ((i : ℕ) (s : Section) → slice_get sections i ≡ Some s → FitsIn nf mo s) → address + sections_size sections < 2 ^ 32 → AreSections k functions sections
+    → Placed symbols address functions sections
+placed symbols nf mo address k [] [] has fits room h =
+    record { places = []; at = refl; points = λ f items place entries e p q. absurd (cc); long = refl; many = refl }
+placed symbols nf mo address k [] (s ∷ sections) has fits room h = absurd h
+placed symbols nf mo address k (f ∷ functions) [] has fits room h = absurd h
+placed symbols nf mo address k (f ∷ functions) (s ∷ sections) has fits room h =
+    let is = h.0 in
+    let fit = fits 0 s refl in
+    let addresses : HaveAddresses symbols s.relocations.items = λ j r e. has r.target (fit.targets j r e) in
+    let first : List ℕ = resolved symbols address s.relocations.items s.bytes.items in
+    let same : length first ≡ length s.bytes.items = length-resolved symbols address s.relocations.items s.bytes.items fit.inside in
+    let place : Places = record { labels = λ l. address + is.labels l; points = λ p. address + slice_index s.points.items p } in
+    let next : ℕ = address + length s.bytes.items in
+    let others = placed symbols nf mo next (k + 1) functions sections has (λ i t e. fits (suc i) t e) (omega (arith, room)) h.1 in
+    record {
+      places = place ∷ others.places;
+      at = (
+        first,
+        code_from symbols next sections,
+        refl,
+        refl,
+        is.stands symbols address (omega (arith, room)) addresses,
+        subst (λ (n : ℕ). FunctionsAt symbols (address + n) functions others.places (addresses_from next sections) (code_from symbols next sections)) (sym same) others.at,
+      );
+      points = λ i items q entries e p n. placed_points symbols address next k f functions s sections is others.places others.points i items q entries e p n;
+      long = length-append first (code_from symbols next sections) ∙ omega (arith, same, others.long);
+      many = omega (arith, others.many);
+    }
+  where
+    placed_points : (symbols : Symbols) (address next k : ℕ) (f : List Item) (functions : List (List Item)) (s : Section) (sections : List Section) (is : IsSection k f s) (places : List Places)
+        → ((i : ℕ) (items : List Item) (place : Places) (entries : List ℕ) → slice_get functions i ≡ Some items → slice_get places i ≡ Some place
+        → slice_get (points_from next sections) i ≡ Some entries → HasPoints items place entries)
+        → (i : ℕ) (items : List Item) (q : Places) (entries : List ℕ) → slice_get (f ∷ functions) i ≡ Some items
+        → slice_get (record { labels = λ l. address + is.labels l; points = λ p. address + slice_index s.points.items p } ∷ places) i ≡ Some q
+        → slice_get (map (λ p. address + p) s.points.items ∷ points_from next sections) i ≡ Some entries → HasPoints items q entries
+    placed_points symbols address next k f functions s sections is places others zero items q entries e p n =
+        let one = has_points k address f s is in
+        let place : Places = record { labels = λ l. address + is.labels l; points = λ p. address + slice_index s.points.items p } in
+        subst (λ (xs : List Item). HasPoints xs q entries) (same_Some f items e)
+        (subst (λ (x : Places). HasPoints f x entries) (same_Some place q p)
+        (subst (λ (xs : List ℕ). HasPoints f place xs) (same_Some (map (λ m. address + m) s.points.items) entries n) one))
+    placed_points symbols address next k f functions s sections is places others (suc i) items q entries e p n = others i items q entries e p n
+
+-- ---- the whole
+
+pub linked_is : (sections : List Section) (objects : List Object) (main : ℕ) (a : Addresses) (linked : Linked) → CanLink sections objects main → AreAddresses sections objects a
+    → HasCode sections main a linked.image.text.items → linked.image.data_bytes.items ≡ data_bytes objects → linked.image.entry ≡ text_start
+    → map (λ v. v.items) linked.points.items ≡ points_from (text_start + 29) sections → linked.objects.items ≡ a.objects.items
+    → (functions : List (List Item)) → AreSections 0 functions sections → IsLinked functions objects main linked
+linked_is sections objects main a linked can laid code data_same entry points_same objects_same functions are =
+    let symbols : Symbols = symbols_of a in
+    let text : List ℕ = linked.image.text.items in
+    let held = can.held.size in
+    let p = placed symbols (length sections) (length objects) (text_start + 29) 0 functions sections (there_has sections objects a laid can.code held) can.each (omega (arith, can.code)) are in
+    let body : List ℕ = code_from symbols (text_start + 29) sections in
+    let start : List ℕ = code.starts.bytes in
+    let front : code.functions ≡ start ++ body = code.calls ∙ ap (λ (xs : List ℕ). xs ++ body) code.starts.text in
+    let whole : text ≡ start ++ body ++ code.puts.bytes ++ code.gets.bytes ++ code.exits.bytes ++ code.checks.bytes =
+    code.checks.text
+    ∙ ap (λ (xs : List ℕ). xs ++ code.checks.bytes)
+    (code.exits.text ∙ ap (λ (xs : List ℕ). xs ++ code.exits.bytes)
+    (code.gets.text ∙ ap (λ (xs : List ℕ). xs ++ code.gets.bytes) (code.puts.text ∙ ap (λ (xs : List ℕ). xs ++ code.puts.bytes) front)))
+    in
+    let start_long : length start ≡ 29 = code.starts.size in
+    let size_1 = length-append start body in
+    let size_2 = length-append (start ++ body) code.puts.bytes in
+    let size_3 = length-append (start ++ body ++ code.puts.bytes) code.gets.bytes in
+    let size_4 = length-append (start ++ body ++ code.puts.bytes ++ code.gets.bytes) code.exits.bytes in
+    let size_5 = length-append (start ++ body ++ code.puts.bytes ++ code.gets.bytes ++ code.exits.bytes) code.checks.bytes in
+    let puts_long : length code.puts.bytes ≡ 29 = code.puts.size in
+    let gets_long : length code.gets.bytes ≡ 33 = code.gets.size in
+    let exits_long : length code.exits.bytes ≡ 11 = code.exits.size in
+    let checks_long : length code.checks.bytes ≡ 2 = code.checks.size in
+    let long : length text ≡ sections_size sections + 104 =
+    ap length whole ∙ omega (arith, size_1, size_2, size_3, size_4, size_5, start_long, p.long, puts_long, gets_long, exits_long, checks_long)
+    in
+    let depth : a.depth ≡ data_start text = laid.depth ∙ ap (λ (n : ℕ). text_start + round_up 4096 n) (sym long) in
+    let stack : a.stack ≡ stack_end text objects =
+    laid.stack ∙ ap (λ (n : ℕ). n + (round_up 4 (4 + objects_size objects) + 67112960)) depth
+    ∙ ap (λ (n : ℕ). data_start text + (round_up 4 n + 67112960)) (sym (length-data objects))
+    in
+    let low : a.depth < 1300000000 = omega (arith, laid.depth, depth_bound (sections_size sections) can.code) in
+    let high : a.stack < 2 ^ 32 = omega (arith, laid.stack, low, held, round_bound (objects_size objects) held) in
+    record {
+      places = p.places;
+      symbols = symbols;
+      text = record {
+        start = start;
+        code = body;
+        putchar = code.puts.bytes;
+        getchar = code.gets.bytes;
+        exit = code.exits.bytes;
+        check = code.checks.bytes;
+        whole = whole;
+        start_at = λ none. subst (λ (n : ℕ). ItemsAt symbols none text_start (start_items n a.depth main) start) stack
+            (any_places symbols code.starts.places none text_start (start_items a.stack a.depth main) start (start_plainly a.stack a.depth main high (omega (arith, low))) code.starts.items_at);
+        code_at = subst (λ (n : ℕ). FunctionsAt symbols (text_start + n) functions p.places a.functions.items body) (sym start_long)
+            (subst (λ (xs : List ℕ). FunctionsAt symbols (text_start + 29) functions p.places xs body) (sym laid.in_text.functions) p.at);
+        putchar_is = omega (arith, laid.in_text.putchar, size_1, start_long, p.long);
+        putchar_at = λ none. any_places symbols code.puts.places none a.putchar putchar_items code.puts.bytes putchar_plainly code.puts.items_at;
+        getchar_is = omega (arith, laid.in_text.getchar, puts_long);
+        getchar_at = λ none. any_places symbols code.gets.places none a.getchar getchar_items code.gets.bytes getchar_plainly code.gets.items_at;
+        exit_is = omega (arith, laid.in_text.exit, gets_long);
+        exit_at = λ none. any_places symbols code.exits.places none a.exit exit_items code.exits.bytes exit_plainly code.exits.items_at;
+        check_is = omega (arith, laid.in_text.check, exits_long);
+        check_at = λ none. any_places symbols code.checks.places none a.check check_items code.checks.bytes check_plainly code.checks.items_at;
+        depth_is = depth;
+        objects_are = laid.objects_are ∙ ap (λ (n : ℕ). object_addresses (n + 4) objects) depth;
+      };
+      data_is = data_same;
+      entry = entry;
+      points_are = sym (length-map linked.points.items (λ v. v.items)) ∙ ap length points_same ∙ points_many (text_start + 29) sections ∙ p.many;
+      points = λ f items place entries e q n. p.points f items place entries e q (sym (ap (λ (xs : List (List ℕ)). slice_get xs f) points_same) ∙ n);
+      objects_are = objects_same;
+    }
+  where
+    round_bound : (n : ℕ) → n ≤ 16777216 → round_up 4 (4 + n) ≤ 16777300
+    round_bound n h = omega arith
+
+    points_many : (address : ℕ) (sections : List Section) → length (points_from address sections) ≡ length sections
+    points_many address [] = refl
+    points_many address (s ∷ sections) = omega (arith, points_many (address + length s.bytes.items) sections)
+
+-- there are as many addresses as sections and objects
+pub each_fits : (sections : List Section) (objects : List Object) (main : ℕ) (a : Addresses) → CanLink sections objects main → AreAddresses sections objects a
+    → (k : ℕ) (s : Section) → slice_get sections k ≡ Some s → FitsIn (length a.functions.items) (length a.objects.items) s
+each_fits sections objects main a can laid k s e =
+    let nf : length a.functions.items ≡ length sections = ap length laid.in_text.functions ∙ length-addresses (text_start + 29) sections in
+    let mo : length a.objects.items ≡ length objects = ap length laid.objects_are ∙ objects_many (a.depth + 4) objects in
+    subst (λ (n : ℕ). FitsIn n (length a.objects.items) s) (sym nf) (subst (λ (n : ℕ). FitsIn (length sections) n s) (sym mo) (can.each k s e))

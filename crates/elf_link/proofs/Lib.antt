@@ -1,0 +1,7 @@
+pub mod Rounding
+pub mod Lists
+pub mod Holding
+pub mod RoutineItems
+pub mod Placing
+pub mod Finishing
+pub mod Example

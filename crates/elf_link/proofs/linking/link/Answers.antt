@@ -1,0 +1,17 @@
+-- The image is that of the functions.
+use Rattle.std.proofs.Common.{refl, map}
+use Rattle.elf_link.specs.Linking.{object_of}
+use Rattle.elf_link.proofs.Finishing.{linked_is, each_fits}
+use Rattle.elf_link.proofs.linking.link.Goals as goal
+
+pub text_of-requires-clause-each : goal.text_of-requires-clause-each
+text_of-requires-clause-each c =
+    each_fits c.args.sections.now.items (map object_of c.args.objects.now.items) c.args.main c.in_ok-addresses.addresses c.requires c.in_ok-addresses.ensures
+
+pub points_of-requires-clause-within : goal.points_of-requires-clause-within
+points_of-requires-clause-within c = λ k s e. (c.requires.each k s e).points
+
+pub returns : goal.returns
+returns c = λ functions are.
+    linked_is c.args.sections.now.items (map object_of c.args.objects.now.items) c.args.main c.in_ok-addresses.addresses _ c.requires c.in_ok-addresses.ensures
+    c.in_ok-text.ensures c.in_ok-data_bytes.ensures refl c.in_ok-points.ensures refl functions are

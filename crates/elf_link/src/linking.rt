@@ -1,0 +1,42 @@
+ghost use Rattle.std.specs.Prelude.{IfOk, List, map};
+ghost use Rattle.ia32_insn.specs.declared.item.Item.{Item};
+ghost use Rattle.elf_link.specs.Linking.{AreSections, CanLink, IsLinked, object_of};
+
+use crate::addresses::{START_BYTES, addresses_of};
+use crate::data::data_of;
+use crate::linked::Linked;
+use crate::points::points_of;
+use crate::text::text_of;
+use elf_image::{Image, TEXT_ADDRESS};
+use ia32_asm::Section;
+use pcc_base::{DataObject, NoMemory};
+use std::alloc::Global;
+
+/// The program of these sections and static objects. The section at a place is that of the function with the
+/// number of the place, and `main` is the number of the function that the start calls. The only refusal is want of
+/// memory.
+pub fn link(
+    alloc: Global,
+    sections: &Vec<Section>,
+    objects: &Vec<DataObject>,
+    main: u32,
+) -> Result<Linked, NoMemory>
+    requires { CanLink sections.now.items (map object_of objects.now.items) main }
+    ensures { IfOk result (λ linked. (functions : List (List Item)) → AreSections 0 functions sections.now.items
+        → IsLinked functions (map object_of objects.now.items) main linked) }
+{
+    let addresses = addresses_of(alloc, sections, objects)?;
+    let text = text_of(alloc, sections, &addresses, main)?;
+    let data_bytes = data_of(alloc, objects)?;
+    let points = points_of(alloc, sections, TEXT_ADDRESS + START_BYTES)?;
+    let image = Image {
+        entry: TEXT_ADDRESS,
+        text,
+        data_bytes,
+    };
+    Ok(Linked {
+        image,
+        points,
+        objects: addresses.objects,
+    })
+}

@@ -1,0 +1,11 @@
+pub mod Words
+pub mod Spelled
+pub mod Lists
+pub mod Laying
+pub mod ItemCode
+pub mod Resolved
+pub mod Relocating
+pub mod Resolving
+pub mod Sectioning
+pub mod Assembling
+pub mod Table

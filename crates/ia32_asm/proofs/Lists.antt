@@ -1,0 +1,30 @@
+-- Elements of lists by their places.
+use Rattle.std.specs.Prelude.{◌≡◌, ◌⊎◌, ◌<◌, ℕ, zero, suc, List, [], ◌∷◌, ◌++◌, length, take, slice_get, Some}
+use Rattle.std.proofs.Common.{refl, arith, inl, inr}
+
+-- an element of a list with one more at its end is one of the list, or that one
+pub slice_get-push : {X : Type 0} (xs : List X) (x y : X) (j : ℕ) → slice_get (xs ++ x ∷ []) j ≡ Some y
+    → (slice_get xs j ≡ Some y) ⊎ ((j ≡ length xs) × (x ≡ y))
+slice_get-push [] x y zero e = inr (refl, (cc))
+slice_get-push [] x y (suc j) e = absurd (cc)
+slice_get-push (z ∷ xs) x y zero e = inl e
+slice_get-push (z ∷ xs) x y (suc j) e =
+    elim (slice_get-push xs x y j e) [ inl p ↦ inl p | inr p ↦ inr (omega (arith, p.0), p.1) ]
+
+-- an element stays where it is
+pub slice_get-kept : {X : Type 0} (xs : List X) (x y : X) (j : ℕ) → slice_get xs j ≡ Some y → slice_get (xs ++ x ∷ []) j ≡ Some y
+slice_get-kept [] x y j e = absurd (cc)
+slice_get-kept (z ∷ xs) x y zero e = e
+slice_get-kept (z ∷ xs) x y (suc j) e = slice_get-kept xs x y j e
+
+-- the one at the end
+pub slice_get-last : {X : Type 0} (xs : List X) (x : X) → slice_get (xs ++ x ∷ []) (length xs) ≡ Some x
+slice_get-last [] x = refl
+slice_get-last (z ∷ xs) x = slice_get-last xs x
+
+-- an element of the first k is one of the list, before place k
+pub slice_get-taken : {X : Type 0} (k : ℕ) (xs : List X) (y : X) (j : ℕ) → slice_get (take k xs) j ≡ Some y → (slice_get xs j ≡ Some y) × (j < k)
+slice_get-taken zero xs y j e = absurd (cc)
+slice_get-taken (suc k) [] y j e = absurd (cc)
+slice_get-taken (suc k) (x ∷ xs) y zero e = (e, omega arith)
+slice_get-taken (suc k) (x ∷ xs) y (suc j) e = let h = slice_get-taken k xs y j e in (h.0, omega (arith, h.1))
