@@ -1,2 +1,7 @@
-pub mod Program
+pub mod Erased
 pub mod Evaluation
+pub mod Operators
+pub mod Program
+pub mod Sizes
+pub mod Store
+pub mod Worked

@@ -1,20 +1,22 @@
 //! Laws of the definitions: each function's contract is one, and the function does nothing.
 
-ghost use Rattle.std.specs.Prelude.{◌≡◌, ◌∷◌, [], ℕ, pos, codes};
-ghost use Rattle.pcc_base.specs.Outcome.{Ended, Goes, nothing_listed};
-ghost use Rattle.c_tree.specs.Program.{Constant, Return};
+ghost use Rattle.std.specs.Prelude.{◌≡◌, [], ◌∷◌, pos, negsuc};
+ghost use Rattle.pcc_base.specs.Outcome.{Ended, Goes};
 ghost use Rattle.c_tree.specs.Evaluation.{source_outcome};
+ghost use Rattle.c_tree.specs.Worked.{four_statements, x_listed, x_shown};
 
-/// The definitions give a program that returns 300 the outcome that a reader expects: before the call of
-/// `main`, which takes a turn, nothing has happened, and after it the one statement was visited and the
-/// exit status is the low byte of 300.
+/// The definitions give a small program (`specs/Worked.antt`) the outcome that a reader expects: before the
+/// call of `main`, which takes a turn, nothing has happened. After it each statement was visited with the
+/// value of its local, the sum has wrapped, the low byte of 2147483457 was written, and the exit status is
+/// the low byte of 2147483647.
 pub fn worked_example()
-    ensures before { source_outcome
-        (record { functions = record { name = codes "main"; body = Return 0 (Constant (pos 300)) ∷ [] } ∷ []; main = 0 })
-        nothing_listed [] 0
+    ensures before { source_outcome four_statements x_listed [] 0
         ≡ record { visits = []; taken = 0; written = []; end = Goes } }
-    ensures after { source_outcome
-        (record { functions = record { name = codes "main"; body = Return 0 (Constant (pos 300)) ∷ [] } ∷ []; main = 0 })
-        nothing_listed [] 1
-        ≡ record { visits = record { statement = 0; values = [] } ∷ []; taken = 0; written = []; end = Ended 44 } }
+    ensures after { source_outcome four_statements x_listed [] 1
+        ≡ record {
+          visits = x_shown 0 (pos 0) ∷ x_shown 1 (pos 2147483647) ∷ x_shown 2 (negsuc 2147483647) ∷ x_shown 3 (negsuc 2147483647) ∷ [];
+          taken = 0;
+          written = 65 ∷ [];
+          end = Ended 255;
+        } }
 {}

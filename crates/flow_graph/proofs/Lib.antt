@@ -1,4 +1,5 @@
-pub mod Points
+pub mod Ascending
 pub mod Growth
 pub mod Keeps
-pub mod Ascending
+pub mod OneRun
+pub mod Points

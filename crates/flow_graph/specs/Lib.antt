@@ -1,2 +1,7 @@
 pub mod Graphs
+pub mod Liveness
 pub mod Lives
+pub mod Meaning
+pub mod Running
+pub mod States
+pub mod Worked

@@ -4,15 +4,21 @@
 //! In: calls that add variables, arrays, blocks and points. Out: readers of the same. `specs/Graphs.antt`
 //! has what a contract sees of a graph, what each call leaves, and what every graph keeps: an op fits
 //! where it stands, a point stands in one block once, and an end stands only last in its block.
+//!
+//! What graphs mean is here too: their states (`specs/States.antt`), what each op does
+//! (`specs/Meaning.antt`), the outcome of a number of turns (`specs/Running.antt`), and which variables are
+//! live, by paths (`specs/Liveness.antt`). The laws say that a run has one outcome.
 #![tactic(auto)]
 
 mod block;
 mod graph;
+mod laws;
 mod live_sets;
 mod op;
 #[cfg(test)]
 mod tests;
 
 pub use graph::Graph;
+pub use laws::{never_stuck, one_outcome, one_state, worked_example};
 pub use live_sets::LiveSets;
 pub use op::{Bits, Comparison, Op};

@@ -1,0 +1,11 @@
+pub mod BodyRuns
+pub mod Elements
+pub mod Emitted
+pub mod Fitting
+pub mod GraphSteps
+pub mod Kept
+pub mod Listed
+pub mod Live
+pub mod Outcomes
+pub mod Straight
+pub mod SumRuns

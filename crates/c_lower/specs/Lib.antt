@@ -1,0 +1,4 @@
+pub mod Code
+pub mod Form
+pub mod Lowering
+pub mod Shown

@@ -1,0 +1,145 @@
+-- What lowering promises of the graphs of a program.
+use Rattle.std.specs.Prelude.{◌≡◌, ◌≢◌, ◌⊎◌, ◌<◌, ◌≤◌, ℕ, ◌+◌, ◌-◌, ◌*◌, ◌/◌, ◌^◌, max, ℤ, pos, neg_ℤ, ◌≤ℤ◌, ◌<ℤ◌, List, [], ◌∷◌, ◌++◌, length, map, slice_get, Some, sum_by}
+pub use Rattle.pcc_base.specs.Objects.{Object, object_of}
+use Rattle.pcc_base.specs.declared.run.Width.{Width}
+use Rattle.pcc_base.specs.Outcome.{Listing}
+use Rattle.c_tree.specs.Evaluation.{source_outcome}
+use Rattle.c_tree.specs.Program.{StaticObject, LocalArray, Function, Program}
+use Rattle.c_tree.specs.Sizes.{bytes_of, frame_bound, size_of}
+use Rattle.flow_graph.specs.declared.op.Op.{Op}
+use Rattle.flow_graph.specs.declared.op.Op.TheVariants.{Call, Div, Get, Mark, Put, Rem, Sar, Shl, Static}
+use Rattle.flow_graph.specs.Graphs.{Every, Flow, IsDistinct, IsEnded}
+use Rattle.flow_graph.specs.Liveness.{BeginsWith, IsLiveAfter, IsLiveBefore}
+use Rattle.flow_graph.specs.Running.{GraphOutcome}
+use Rattle.flow_graph.specs.States.{GraphProgram}
+use Rattle.c_lower.specs.declared.graphs.Graphs.{Graphs}
+use Rattle.c_lower.specs.Shown.{ListsLocals, local_widths, variables_shown}
+
+-- ---- the program of graphs
+
+abbrev pub graphs_of : Graphs → GraphProgram
+graphs_of graphs = record { functions = graphs.functions.items; objects = map object_of graphs.objects.items; main = graphs.main }
+
+-- ---- outcomes
+
+-- For every input and number of turns the graphs have the outcome of the source, whichever parts of the
+-- locals of its function each statement shows: at each mark the first variables hold what all locals hold.
+abbrev pub KeepsOutcome : Program → GraphProgram → Type 0
+KeepsOutcome program graphs =
+    (listing : Listing) → ListsLocals program listing → (input : List ℕ) (turns : ℕ)
+    → GraphOutcome graphs (variables_shown program listing) input turns (source_outcome program listing input turns)
+
+-- ---- each function
+
+-- The dividend of a division and the count of a shift are not live after their op, and no other operand.
+abbrev pub FixedDies : Flow → ℕ → Op → Type 0
+FixedDies flow point (Div d a b) = (IsLiveAfter flow a point → ⊥) × (a ≢ b)
+FixedDies flow point (Rem d a b) = (IsLiveAfter flow a point → ⊥) × (a ≢ b)
+FixedDies flow point (Shl d a c) = (IsLiveAfter flow c point → ⊥) × (c ≢ a)
+FixedDies flow point (Sar d a c) = (IsLiveAfter flow c point → ⊥) × (c ≢ a)
+FixedDies flow point _ = Unit {0}
+
+-- the argument words of an op that is a call
+abbrev pub words_of : Op → ℕ
+words_of (Call d f arguments) = length arguments.items
+words_of _ = 0
+
+abbrev pub most_words : List Op → ℕ
+most_words [] = 0
+most_words (i ∷ is) = max (words_of i) (most_words is)
+
+-- an array has a word with its element count, and its elements, padded to words
+abbrev pub array_bytes : ℕ × ℕ → ℕ
+array_bytes array = 4 + (array.1 * array.0 + 3) / 4 * 4
+
+abbrev pub array_of : LocalArray → ℕ × ℕ
+array_of a = (bytes_of a.element, a.count)
+
+-- what the graph of a function keeps
+pub record IsLowered (f : Function) (flow : Flow) : Type 0 where
+  -- the first variables are those of the locals, in the order of their declarations
+  pub first_variables : (temporaries : List Width) × (flow.widths ≡ local_widths f.locals ++ temporaries)
+  -- the frame arrays are those of the function
+  pub arrays : flow.arrays ≡ map array_of f.arrays
+  -- every block is ended
+  pub ended : (block : ℕ) → block < length flow.blocks → IsEnded flow block
+  -- no variable is live at the first point, and no temporary at a mark
+  pub nothing_live : (point v : ℕ) → BeginsWith flow 0 point → IsLiveBefore flow v point → ⊥
+  pub no_temporary_live : (point statement v : ℕ) → slice_get flow.ops point ≡ Some (Mark statement) → length (local_widths f.locals) ≤ v → IsLiveBefore flow v point → ⊥
+  -- fixed operands die at their ops
+  pub fixed_die : (point : ℕ) (op : Op) → slice_get flow.ops point ≡ Some op → FixedDies flow point op
+  -- the words of a frame with a slot for each variable, and of a call from it, are within the frame bound
+  pub frame : 24 + 4 * length flow.widths + 4 * most_words flow.ops + sum_by array_bytes flow.arrays ≤ frame_bound f
+
+-- the graphs are those of the program's functions, in order
+pub record AreLowered (program : Program) (graphs : GraphProgram) : Type 0 where
+  pub as_many : length graphs.functions ≡ length program.functions
+  pub each : (k : ℕ) (f : Function) (flow : Flow) → slice_get program.functions k ≡ Some f → slice_get graphs.functions k ≡ Some flow → IsLowered f flow
+  pub main : graphs.main ≡ program.main
+
+-- ---- sizes
+
+abbrev pub points_in : Flow → ℕ
+points_in flow = length flow.ops
+
+abbrev pub words_in : Flow → ℕ
+words_in flow = sum_by words_of flow.ops
+
+abbrev pub arrays_in : Flow → ℕ
+arrays_in flow = length flow.arrays
+
+-- the graphs grow no faster than the program
+pub record AreSmall (program : Program) (graphs : GraphProgram) : Type 0 where
+  pub points : sum_by points_in graphs.functions ≤ 20 * size_of program
+  pub words : sum_by words_in graphs.functions ≤ 2 * size_of program
+  pub arrays : sum_by arrays_in graphs.functions ≤ size_of program
+
+-- ---- names
+
+-- the op names only functions and objects that are there
+abbrev pub NamesWithin : ℕ → ℕ → Op → Type 0
+NamesWithin functions objects (Call d f arguments) = f < functions
+NamesWithin functions objects (Static d k) = k < objects
+NamesWithin functions objects (Get bits d k) = k < objects
+NamesWithin functions objects (Put bits k s) = k < objects
+NamesWithin functions objects _ = Unit {0}
+
+abbrev pub NamesItsOwn : GraphProgram → Type 0
+NamesItsOwn graphs = Every (λ flow. Every (NamesWithin (length graphs.functions) (length graphs.objects)) flow.ops) graphs.functions
+
+-- the statements that ops mark
+abbrev pub mark_of : Op → List ℕ
+mark_of (Mark statement) = statement ∷ []
+mark_of _ = []
+
+abbrev pub marks_in : List Op → List ℕ
+marks_in [] = []
+marks_in (i ∷ is) = mark_of i ++ marks_in is
+
+abbrev pub marks_of : List Flow → List ℕ
+marks_of [] = []
+marks_of (flow ∷ flows) = marks_in flow.ops ++ marks_of flows
+
+-- each statement has at most one mark in all graphs together
+abbrev pub MarksOnce : GraphProgram → Type 0
+MarksOnce graphs = IsDistinct (marks_of graphs.functions)
+
+-- ---- static objects
+
+abbrev pub first_object : StaticObject → Object
+first_object o = record { width = bytes_of o.element; elements = o.elements }
+
+-- the objects are the program's with their first contents
+abbrev pub HasObjects : Program → GraphProgram → Type 0
+HasObjects program graphs = graphs.objects ≡ map first_object program.objects
+
+-- the elements of an object of so many bytes each are signed numbers of that width
+abbrev pub FitsBytes : ℕ → ℤ → Type 0
+FitsBytes width n = (neg_ℤ (pos (2 ^ (8 * width - 1))) ≤ℤ n) × (n <ℤ pos (2 ^ (8 * width - 1)))
+
+-- an object has elements of 1, 2 or 4 bytes, at least one, and each is a signed number of that width
+abbrev pub IsObject : Object → Type 0
+IsObject o = ((o.width ≡ 1) ⊎ ((o.width ≡ 2) ⊎ (o.width ≡ 4))) × (1 ≤ length o.elements) × Every (FitsBytes o.width) o.elements
+
+abbrev pub AreObjects : GraphProgram → Type 0
+AreObjects graphs = Every IsObject graphs.objects

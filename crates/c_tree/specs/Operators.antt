@@ -1,0 +1,145 @@
+-- What the operators give (C99 6.5.3 to 6.5.16). Sums, differences, products and negations wrap at 32 bits.
+use Rattle.std.specs.Prelude.{ℕ, ◌/◌, ◌%◌, ◌^◌, ◌==◌, Bool, true, false, ◌&&◌, not, ℤ, pos, negsuc, ◌+ℤ◌, ◌-ℤ◌, ◌*ℤ◌, neg_ℤ, int_lt, int_div, int_rem, if◌then◌else◌}
+use Rattle.std.specs.Int.{w32, int_wrap, int_bit_and, int_bit_or, int_bit_xor, int_bit_not, cast_unsigned}
+use Rattle.std.specs.Ordering.{int_eq}
+use Rattle.pcc_base.specs.Outcome.{ArrayName, Null, Static, InFrame, Unknown}
+use Rattle.pcc_base.specs.declared.run.Trap.{Trap}
+use Rattle.pcc_base.specs.declared.run.Trap.TheVariants.{Divide, Check}
+use Rattle.c_tree.specs.declared.expression.BinaryOp.{BinaryOp}
+use Rattle.c_tree.specs.declared.expression.BinaryOp.TheVariants.{Multiply, Divide as Division, Remainder, Add, Subtract, ShiftLeft, ShiftRight, Less, Greater, LessOrEqual, GreaterOrEqual, Equal, NotEqual, BitAnd, BitXor, BitOr}
+use Rattle.c_tree.specs.declared.expression.StepOp.{StepOp}
+use Rattle.c_tree.specs.declared.expression.StepOp.TheVariants.{PreIncrement, PreDecrement, PostIncrement, PostDecrement}
+use Rattle.c_tree.specs.declared.expression.UnaryOp.{UnaryOp}
+use Rattle.c_tree.specs.declared.expression.UnaryOp.TheVariants.{Plus, Minus, Complement, Not}
+use Rattle.c_tree.specs.Store.{Held, HoldsNumber, HoldsPointer}
+
+-- an operator gives a value, or traps
+pub data Computed : Type 0 where
+  Computes : (value : Held) → Computed
+  Traps : (trap : Trap) → Computed
+
+abbrev pub number : ℤ → Computed
+number n = Computes (HoldsNumber n)
+
+abbrev pub truth : Bool → Computed
+truth b = number (if b then pos 1 else pos 0)
+
+-- ---- tests
+
+abbrev pub same_array : ArrayName → ArrayName → Bool
+same_array Null Null = true
+same_array (Static k) (Static l) = k == l
+same_array (InFrame k depth) (InFrame l other) = k == l && depth == other
+same_array Unknown Unknown = true
+same_array _ _ = false
+
+-- A number counts as true where it isn't 0, and a pointer where it isn't null (C99 6.5.3.3, 6.8.4.1).
+abbrev pub is_true : Held → Bool
+is_true (HoldsNumber n) = not (int_eq n (pos 0))
+is_true (HoldsPointer array index) = not (same_array array Null && int_eq index (pos 0))
+
+-- ---- one operand (C99 6.5.3.3)
+
+abbrev pub unary_number : UnaryOp → ℤ → ℤ
+unary_number Plus n = n
+unary_number Minus n = int_wrap w32 (neg_ℤ n)
+unary_number Complement n = int_bit_not w32 n
+unary_number Not n = if int_eq n (pos 0) then pos 1 else pos 0
+
+abbrev pub unary_value : UnaryOp → Held → Held
+unary_value op (HoldsNumber n) = HoldsNumber (unary_number op n)
+unary_value Not (HoldsPointer array index) = HoldsNumber (if is_true (HoldsPointer array index) then pos 0 else pos 1)
+unary_value _ (HoldsPointer array index) = HoldsNumber (pos 0)
+
+-- ---- two numbers (C99 6.5.5 to 6.5.12)
+
+-- A zero divisor traps, and so does the quotient that doesn't fit.
+abbrev pub no_quotient : ℤ → ℤ → Bool
+no_quotient a b = if int_eq b (pos 0) then true else int_eq a (negsuc 2147483647) && int_eq b (negsuc 0)
+
+abbrev pub quotient : ℤ → ℤ → Computed
+quotient a b = if no_quotient a b then Traps Divide else number (int_div a b)
+
+abbrev pub remainder : ℤ → ℤ → Computed
+remainder a b = if no_quotient a b then Traps Divide else number (int_rem a b)
+
+-- a shift count is taken modulo 32
+abbrev pub shift_count : ℤ → ℕ
+shift_count n = cast_unsigned w32 n % 32
+
+-- `>>` is arithmetic: it rounds down
+abbrev pub shifted_right : ℤ → ℕ → ℤ
+shifted_right (pos n) k = pos (n / 2 ^ k)
+shifted_right (negsuc n) k = negsuc (n / 2 ^ k)
+
+abbrev pub numbers_value : BinaryOp → ℤ → ℤ → Computed
+numbers_value Multiply a b = number (int_wrap w32 (a *ℤ b))
+numbers_value Division a b = quotient a b
+numbers_value Remainder a b = remainder a b
+numbers_value Add a b = number (int_wrap w32 (a +ℤ b))
+numbers_value Subtract a b = number (int_wrap w32 (a -ℤ b))
+numbers_value ShiftLeft a b = number (int_wrap w32 (a *ℤ pos (2 ^ shift_count b)))
+numbers_value ShiftRight a b = number (shifted_right a (shift_count b))
+numbers_value Less a b = truth (int_lt a b)
+numbers_value Greater a b = truth (int_lt b a)
+numbers_value LessOrEqual a b = truth (not (int_lt b a))
+numbers_value GreaterOrEqual a b = truth (not (int_lt a b))
+numbers_value Equal a b = truth (int_eq a b)
+numbers_value NotEqual a b = truth (not (int_eq a b))
+numbers_value BitAnd a b = number (int_bit_and w32 a b)
+numbers_value BitXor a b = number (int_bit_xor w32 a b)
+numbers_value BitOr a b = number (int_bit_or w32 a b)
+
+-- ---- pointers (C99 6.5.6, 6.5.8 and 6.5.9)
+
+-- the index moves, and wraps at 32 bits
+abbrev pub moved : ArrayName → ℤ → ℤ → Computed
+moved array index by = Computes (HoldsPointer array (int_wrap w32 (index +ℤ by)))
+
+-- A difference or an ordering of pointers into different arrays traps.
+abbrev pub in_one_array : ArrayName → ArrayName → Computed → Computed
+in_one_array a b value = if same_array a b then value else Traps Check
+
+abbrev pub same_pointer : ArrayName → ℤ → ArrayName → ℤ → Bool
+same_pointer a i b j = same_array a b && int_eq i j
+
+abbrev pub pointers_value : BinaryOp → ArrayName → ℤ → ArrayName → ℤ → Computed
+pointers_value Subtract a i b j = in_one_array a b (number (int_wrap w32 (i -ℤ j)))
+pointers_value Less a i b j = in_one_array a b (truth (int_lt i j))
+pointers_value Greater a i b j = in_one_array a b (truth (int_lt j i))
+pointers_value LessOrEqual a i b j = in_one_array a b (truth (not (int_lt j i)))
+pointers_value GreaterOrEqual a i b j = in_one_array a b (truth (not (int_lt i j)))
+pointers_value Equal a i b j = truth (same_pointer a i b j)
+pointers_value NotEqual a i b j = truth (not (same_pointer a i b j))
+pointers_value _ a i b j = number (pos 0)
+
+-- a pointer and a number: an index that moves, or a comparison with the null constant
+abbrev pub pointer_number_value : BinaryOp → ArrayName → ℤ → ℤ → Computed
+pointer_number_value Add a i n = moved a i n
+pointer_number_value Subtract a i n = moved a i (neg_ℤ n)
+pointer_number_value Equal a i n = truth (same_pointer a i Null (pos 0))
+pointer_number_value NotEqual a i n = truth (not (same_pointer a i Null (pos 0)))
+pointer_number_value _ a i n = number (pos 0)
+
+-- Of a typed program no other pairs come; for them the value is 0.
+abbrev pub binary_value : BinaryOp → Held → Held → Computed
+binary_value op (HoldsNumber a) (HoldsNumber b) = numbers_value op a b
+binary_value op (HoldsPointer a i) (HoldsPointer b j) = pointers_value op a i b j
+binary_value op (HoldsPointer a i) (HoldsNumber n) = pointer_number_value op a i n
+binary_value op (HoldsNumber n) (HoldsPointer b j) = pointer_number_value op b j n
+
+-- ---- `++` and `--` (C99 6.5.2.4 and 6.5.3.1)
+
+-- the operator that makes the new value
+abbrev pub step_op : StepOp → BinaryOp
+step_op PreIncrement = Add
+step_op PreDecrement = Subtract
+step_op PostIncrement = Add
+step_op PostDecrement = Subtract
+
+-- the value of the expression: the new one before, the old one after
+abbrev pub step_result : StepOp → Held → Held → Held
+step_result PreIncrement old new = new
+step_result PreDecrement old new = new
+step_result PostIncrement old new = old
+step_result PostDecrement old new = old

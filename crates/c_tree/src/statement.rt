@@ -1,0 +1,127 @@
+//! Statements and declared items (C99 6.7 and 6.8). Each statement that is no block, and each declared
+//! item that isn't static, has its number: they are numbered together from 0 in the order of the text.
+
+ghost use Rattle.std.specs.Prelude.{◌≡◌, IfOk, option_map};
+ghost use Rattle.c_tree.specs.Erased.{expression_of, first_of, statement_of};
+ghost use Rattle.c_tree.specs.Program as typed;
+
+use crate::expression::Expression;
+use pcc_base::NoMemory;
+use std::alloc::Global;
+
+/// What an array of a function holds at first (C99 6.7.8); the rest of it is zero.
+#[derive(Drop)]
+pub enum Initialiser {
+    /// The first elements, in order.
+    List(Vec<Expression>),
+    /// The elements of a static object, that of a string literal.
+    Text(u32),
+}
+
+/// A declared item of a block or of a `for`, with its number.
+#[derive(Drop)]
+pub enum Item {
+    /// A local that is no array, by its number, and its initialiser.
+    Scalar(u32, u32, Option<Expression>),
+    /// An array of the function, by its number.
+    Array(u32, u32, Initialiser),
+}
+
+/// The first part of a `for` (C99 6.8.5.3).
+#[derive(Drop)]
+pub enum First {
+    Nothing,
+    Expression(Expression),
+    Items(Vec<Item>),
+}
+
+/// A label of a switch: the value of a `case`, or None for `default`, and the number of statements of the
+/// switch that stand before it (C99 6.8.1).
+#[derive(Clone, Copy, Debug, PartialEq, Eq)]
+pub struct Label {
+    pub value: Option<i32>,
+    pub before: u32,
+}
+
+/// A statement (C99 6.8). All but blocks have their number first.
+#[derive(Drop)]
+pub enum Statement {
+    Declare(Item),
+    Empty(u32),
+    Expression(u32, Expression),
+    Block(Vec<Statement>),
+    /// An `if`; an `else` that isn't there is an empty block.
+    If(u32, Expression, Box<Statement>, Box<Statement>),
+    While(u32, Expression, Box<Statement>),
+    Do(u32, Box<Statement>, Expression),
+    /// A `for`: its first part, its test, what follows each turn, and its body.
+    For(u32, First, Option<Expression>, Option<Expression>, Box<Statement>),
+    Switch(u32, Expression, Vec<Label>, Vec<Statement>),
+    Break(u32),
+    Continue(u32),
+    Return(u32, Option<Expression>),
+}
+
+impl Statement {
+    /// `if (test) first else second`.
+    pub fn if_else(
+        alloc: Global,
+        number: u32,
+        test: Expression,
+        first: Statement,
+        second: Statement,
+    ) -> Result<Self, NoMemory>
+        ensures { IfOk result (λ s.
+            statement_of s
+            ≡ typed.If number (expression_of test) (statement_of first) (statement_of second)) }
+    {
+        Ok(Statement::If(
+            number,
+            test,
+            Box::new(alloc, first)?,
+            Box::new(alloc, second)?,
+        ))
+    }
+
+    /// `while (test) body`.
+    pub fn while_loop(
+        alloc: Global,
+        number: u32,
+        test: Expression,
+        body: Statement,
+    ) -> Result<Self, NoMemory>
+        ensures { IfOk result (λ s.
+            statement_of s ≡ typed.While number (expression_of test) (statement_of body)) }
+    {
+        Ok(Statement::While(number, test, Box::new(alloc, body)?))
+    }
+
+    /// `do body while (test);`.
+    pub fn do_loop(
+        alloc: Global,
+        number: u32,
+        body: Statement,
+        test: Expression,
+    ) -> Result<Self, NoMemory>
+        ensures { IfOk result (λ s.
+            statement_of s ≡ typed.Do number (statement_of body) (expression_of test)) }
+    {
+        Ok(Statement::Do(number, Box::new(alloc, body)?, test))
+    }
+
+    /// `for (first; test; after) body`.
+    pub fn for_loop(
+        alloc: Global,
+        number: u32,
+        first: First,
+        test: Option<Expression>,
+        after: Option<Expression>,
+        body: Statement,
+    ) -> Result<Self, NoMemory>
+        ensures { IfOk result (λ s.
+            statement_of s
+            ≡ typed.For number (first_of first) (option_map expression_of test) (option_map expression_of after) (statement_of body)) }
+    {
+        Ok(Statement::For(number, first, test, after, Box::new(alloc, body)?))
+    }
+}

@@ -1,0 +1,19 @@
+/// The integer types of the profile (C99 6.2.5); `char` is signed.
+#[derive(Clone, Copy, Debug, PartialEq, Eq)]
+pub enum IntegerType {
+    /// 8 bits.
+    Char,
+    /// 16 bits.
+    Short,
+    /// 32 bits.
+    Int,
+}
+
+/// The type of an expression, of a local that is no array, or of a function's result (C99 6.2.5).
+#[derive(Clone, Copy, Debug, PartialEq, Eq)]
+pub enum ValueType {
+    Void,
+    Integer(IntegerType),
+    /// A pointer to elements of an integer type.
+    Pointer(IntegerType),
+}

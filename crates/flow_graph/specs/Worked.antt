@@ -1,0 +1,30 @@
+-- A program of one graph that the definitions are read on: a turn starts, statement 7 is visited, and the low
+-- byte of 300 is written and returned.
+use Rattle.std.specs.Prelude.{pos, [], ◌∷◌, Some}
+use Rattle.pcc_base.specs.declared.run.Width.TheVariants.{Two}
+use Rattle.pcc_base.specs.Outcome.{Ended, Goes, Number, Scalar, Listing, Outcome}
+use Rattle.flow_graph.specs.declared.op.Op.TheVariants.{Turn, Mark, Const, Putchar, Return}
+use Rattle.flow_graph.specs.Graphs.{Flow}
+use Rattle.flow_graph.specs.States.{GraphProgram}
+
+abbrev pub five_points : Flow
+five_points = record {
+  widths = Two ∷ [];
+  arrays = [];
+  blocks = (0 ∷ 1 ∷ 2 ∷ 3 ∷ 4 ∷ []) ∷ [];
+  ops = Turn ∷ Mark 7 ∷ Const 0 (pos 300) ∷ Putchar 0 0 ∷ Return (Some 0) ∷ [];
+}
+
+abbrev pub low_byte_program : GraphProgram
+low_byte_program = record { functions = five_points ∷ []; objects = []; main = 0 }
+
+-- every statement shows the variable
+abbrev pub variable_listed : Listing
+variable_listed statement = Scalar 0 ∷ []
+
+-- before the turn nothing has happened
+abbrev pub nothing_yet : Outcome
+nothing_yet = record { visits = []; taken = 0; written = []; end = Goes }
+
+abbrev pub written_and_ended : Outcome
+written_and_ended = record { visits = record { statement = 7; values = Number (pos 0) ∷ [] } ∷ []; taken = 0; written = 44 ∷ []; end = Ended 44 }
