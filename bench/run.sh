@@ -1,6 +1,7 @@
 #!/bin/sh
-# Measures the machine: the steps that it makes in a second, and the time that it takes to read and load an
-# image of 100 MB. The images are made in a temporary folder, which is removed at the end.
+# Measures the machine: the steps that it makes in a second over NOPs and over a loop of arithmetic, memory and
+# jumps, the ratio of that loop's time to its time on the processor, and the time that it takes to read and load
+# an image of 100 MB. The images are made in a temporary folder, which is removed at the end.
 top=$(cd "$(dirname "$(readlink -f "$0")")/.." && pwd) || exit 1
 room=$(mktemp -d) || exit 1
 trap 'rm -rf "$room"' EXIT
@@ -11,6 +12,7 @@ trap 'exit 1' HUP INT TERM
 [ $? -eq 2 ] || { echo "bench: bin/pcc can't be built" >&2; exit 1; }
 
 python3 - "$top/bin/pcc" "$room" <<'PYTHON'
+import os
 import struct
 import subprocess
 import sys
@@ -26,6 +28,28 @@ STACK = 67_112_960
 # MOV EAX, 1; INT 0x80: the program ends, with the low byte of EBX, which is 0
 EXIT = bytes.fromhex("B801000000" "CD80")
 NOPS = b"\x90" * COUNT
+
+# What GNU as makes of these lines, where 0x08049000 is the address of the data:
+#         movl $10000000, %esi
+#         movl $0x08049000, %ebx
+#     1:  movl (%ebx), %eax
+#         addl %esi, %eax
+#         movl %eax, (%ebx)
+#         leal 1(%eax,%esi,2), %ecx
+#         xorl %ecx, %edx
+#         movl %edx, 4(%ebx)
+#         subl $1, %esi
+#         jne 1b
+#         movl $1, %eax
+#         movl $0, %ebx
+#         int $0x80
+TURNS = 10_000_000
+TURN_STEPS = 8
+LOOP = bytes.fromhex(
+    "BE80969800" "BB00900408"
+    "8B03" "01F0" "8903" "8D4C7001" "31CA" "895304" "83EE01" "75EC"
+    "B801000000" "BB00000000" "CD80"
+)
 
 
 def image(text, data=bytes(4)):
@@ -43,19 +67,35 @@ def image(text, data=bytes(4)):
     return head.ljust(PAGE, b"\0") + text.ljust(span, b"\0") + data
 
 
-def seconds(name, text):
-    """The shortest time of some runs of the image with this text."""
-    path = f"{ROOM}/{name}"
-    with open(path, "wb") as it:
-        it.write(image(text))
+def shortest(name, words, said):
+    """The shortest time of some runs of a command, which ends with status 0 and says this."""
     times = []
     for _ in range(RUNS):
         start = time.perf_counter()
-        ran = subprocess.run([PROGRAM, "run", path], stdin=subprocess.DEVNULL, stderr=subprocess.PIPE)
+        ran = subprocess.run(words, stdin=subprocess.DEVNULL, stderr=subprocess.PIPE)
         times.append(time.perf_counter() - start)
-        if ran.returncode != 0 or ran.stderr != b"exit 0\n":
+        if ran.returncode != 0 or ran.stderr != said:
             sys.exit(f"bench: {name} ended with {ran.returncode} and {ran.stderr}")
     return min(times)
+
+
+def written(name, text):
+    """The path of the image with this text."""
+    path = f"{ROOM}/{name}"
+    with open(path, "wb") as it:
+        it.write(image(text))
+    os.chmod(path, 0o755)
+    return path
+
+
+def seconds(name, text):
+    """The time that the machine takes for the image with this text."""
+    return shortest(name, [PROGRAM, "run", written(name, text)], b"exit 0\n")
+
+
+def on_processor(name, text):
+    """The time that the processor takes for it."""
+    return shortest(name, [written(name, text)], b"")
 
 
 load = seconds("loaded", EXIT + NOPS)
@@ -64,4 +104,14 @@ steps = COUNT + 2
 print(f"read and load an image of {(len(NOPS) + len(EXIT)) / 1e6:.0f} MB, and make 2 steps: {load:.2f} s")
 print(f"the same image with {steps:,} steps: {whole:.2f} s")
 print(f"steps: {steps / (whole - load) / 1e6:.1f} million a second")
+
+# What the machine and the processor take to begin, apart from their steps.
+begun = seconds("begun", EXIT)
+begun_there = on_processor("begun there", EXIT)
+looped = seconds("looped", LOOP) - begun
+looped_there = on_processor("looped there", LOOP) - begun_there
+loop_steps = TURNS * TURN_STEPS
+print(f"a loop of arithmetic, memory and jumps, {loop_steps:,} steps: {looped:.2f} s")
+print(f"steps of that loop: {loop_steps / looped / 1e6:.1f} million a second")
+print(f"the same image on the processor: {looped_there:.3f} s, so the machine takes {looped / looped_there:.0f} times as long")
 PYTHON
