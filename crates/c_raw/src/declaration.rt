@@ -1,0 +1,81 @@
+use crate::expression::{Expression, Identifier, Pointer, Specifier};
+use pcc_base::Span;
+
+/// `'[' conditional? ']'`
+#[derive(Debug, Drop)]
+pub struct ArrayPart {
+    pub opening: Span,
+    pub size: Option<Expression>,
+    pub close: Span,
+}
+
+/// `parameter : specifiers pointer? ident? ('[' conditional? ']')?`
+#[derive(Debug, Drop)]
+pub struct Parameter {
+    pub specifiers: Vec<Specifier>,
+    pub pointer: Option<Pointer>,
+    pub name: Option<Identifier>,
+    pub array: Option<ArrayPart>,
+}
+
+/// `'(' parameters? ')'`, and the commas between the parameters
+#[derive(Debug, Drop)]
+pub struct ParametersPart {
+    pub opening: Span,
+    pub parameters: Vec<Parameter>,
+    pub commas: Vec<Span>,
+    pub close: Span,
+}
+
+/// What stands behind the name of a declarator.
+#[derive(Debug, Drop)]
+pub enum DeclaratorPart {
+    Plain,
+    Array(ArrayPart),
+    Function(ParametersPart),
+}
+
+/// `declarator : pointer? ident ('[' conditional? ']' | '(' parameters? ')')?`
+#[derive(Debug, Drop)]
+pub struct Declarator {
+    pub pointer: Option<Pointer>,
+    pub name: Identifier,
+    pub part: DeclaratorPart,
+}
+
+/// `initialiser : assignment | '{' assignment (',' assignment)* ','? '}'`: of a list the commas between the
+/// values, and the one behind the last value.
+#[derive(Debug, Drop)]
+pub enum Initialiser {
+    Single(Expression),
+    List {
+        opening: Span,
+        values: Vec<Expression>,
+        commas: Vec<Span>,
+        trailing: Option<Span>,
+        close: Span,
+    },
+}
+
+/// `'=' initialiser`
+#[derive(Debug, Drop)]
+pub struct InitialiserPart {
+    pub equal: Span,
+    pub value: Initialiser,
+}
+
+/// `item : declarator ('=' initialiser)?`
+#[derive(Debug, Drop)]
+pub struct Item {
+    pub declarator: Declarator,
+    pub initialiser: Option<InitialiserPart>,
+}
+
+/// `declaration : specifiers item (',' item)* ';'` (C99 6.7)
+#[derive(Debug, Drop)]
+pub struct Declaration {
+    pub specifiers: Vec<Specifier>,
+    pub items: Vec<Item>,
+    pub commas: Vec<Span>,
+    pub semicolon: Span,
+}

@@ -1,0 +1,79 @@
+use crate::operator::{AssignOp, BinaryOp, SpecifierWord, StepOp, UnaryOp};
+use pcc_base::{Name, Span};
+
+/// An identifier, and where it stands.
+#[derive(Debug, Drop)]
+pub struct Identifier {
+    pub name: Name,
+    pub at: Span,
+}
+
+/// A specifier, and where it stands.
+#[derive(Clone, Copy, Debug, PartialEq, Eq)]
+pub struct Specifier {
+    pub word: SpecifierWord,
+    pub at: Span,
+}
+
+/// `pointer : '*' 'const'*`
+#[derive(Debug, Drop)]
+pub struct Pointer {
+    pub star: Span,
+    pub consts: Vec<Span>,
+}
+
+/// One of the string literals that stand one after the other.
+#[derive(Debug, Drop)]
+pub struct TextPiece {
+    pub bytes: Name,
+    pub at: Span,
+}
+
+/// An expression (C99 6.5).
+#[derive(Debug, Drop)]
+pub enum Expression {
+    /// `ident`
+    Identifier(Identifier),
+    /// `number`
+    Number(i32, Span),
+    /// `text+`
+    Text(Vec<TextPiece>),
+    /// `'(' expression ')'`
+    Parenthesised(Span, Box<Expression>, Span),
+    /// `ident '(' (assignment (',' assignment)*)? ')'`: the arguments, and the commas between them
+    Call {
+        function: Identifier,
+        opening: Span,
+        arguments: Vec<Expression>,
+        commas: Vec<Span>,
+        close: Span,
+    },
+    /// `postfix '[' expression ']'`
+    Index(Box<Expression>, Span, Box<Expression>, Span),
+    /// `postfix '++'`, `postfix '--'`
+    Postfix(Box<Expression>, StepOp, Span),
+    /// `'++' unary`, `'--' unary`
+    Prefix(StepOp, Span, Box<Expression>),
+    /// `('&' | '*' | '+' | '-' | '~' | '!') cast`
+    Unary(UnaryOp, Span, Box<Expression>),
+    /// `'(' specifiers pointer? ')' cast`
+    Cast {
+        opening: Span,
+        specifiers: Vec<Specifier>,
+        pointer: Option<Pointer>,
+        close: Span,
+        operand: Box<Expression>,
+    },
+    /// an operator of one of the levels of `binary`, or a comma of `expression`
+    Binary(BinaryOp, Box<Expression>, Span, Box<Expression>),
+    /// `binary '?' expression ':' conditional`
+    Conditional {
+        condition: Box<Expression>,
+        question: Span,
+        first: Box<Expression>,
+        colon: Span,
+        second: Box<Expression>,
+    },
+    /// `unary assign-op assignment`
+    Assignment(AssignOp, Box<Expression>, Span, Box<Expression>),
+}
