@@ -1,0 +1,5 @@
+pub mod Form
+pub mod Shapes
+pub mod Views
+pub mod Reading
+pub mod SlotForm
