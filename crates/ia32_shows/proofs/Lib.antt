@@ -1,0 +1,5 @@
+pub mod Cores
+pub mod Frames
+pub mod Sound
+pub mod Spelled
+pub mod Steps
