@@ -2,17 +2,19 @@
 use Rattle.std.proofs.Common.{◌≡◌, ◌≤◌, ℕ, List, length, Option, Some, None, Result, Ok, Err, IfOk, IfSome, IfNone, option_map, sym}
 use Rattle.pcc_base.specs.declared.memory.NoMemory.{NoMemory}
 use Rattle.c_grammar.specs.Statements.{ExternalTree}
+use Rattle.c_grammar.specs.DeclarationTokens.{AllAre}
 use Rattle.c_grammar.specs.Grammar.{unit_tokens}
 use Rattle.c_tree.specs.declared.program.Program.{Program as Built}
-use Rattle.c_tree.specs.Program.{Program}
+use Rattle.c_tree.specs.Program.{Function, Program}
 use Rattle.c_tree.specs.Erased.{program_of}
-use Rattle.c_tree.specs.Sizes.{size_of}
-use Rattle.c_locals.specs.SlotForm.{IsSlotProgram}
+use Rattle.c_tree.specs.Sizes.{size_of, frame_bound}
+use Rattle.c_tree.specs.SlotForm.{IsSlotProgram}
 use Rattle.c_locals.specs.Form.{IsLocalsProgram}
 use Rattle.c_locals.specs.Reading.{read_unit}
 use Rattle.c_locals.proofs.Exact.{unit_reads, none_read}
 use Rattle.c_locals.proofs.ProgramSizes.{program_size}
 use Rattle.c_locals.proofs.Slots.{slot_program}
+use Rattle.c_locals.proofs.Frames.{small_frames}
 use Rattle.std.proofs.Common.{arith}
 
 pub found_program : (r : Result (Option Built) NoMemory) (unit : List ExternalTree) → IfOk r (λ o. option_map program_of o ≡ read_unit unit) → IfOk r (λ o. IfSome o (λ p. IsLocalsProgram unit (program_of p)))
@@ -39,3 +41,8 @@ accepted_program (Ok (Some p)) unit e =
     (few_tokens (size_of (program_of p)) (length (unit_tokens unit)) 65536 (program_size unit (program_of p) (unit_reads unit (program_of p) (sym e))) few)
 accepted_program (Ok None) unit e = tt
 accepted_program (Err e) unit h = tt
+
+pub framed_program : (r : Result (Option Built) NoMemory) (unit : List ExternalTree) → IfOk r (λ o. option_map program_of o ≡ read_unit unit) → IfOk r (λ o. IfSome o (λ p. AllAre (λ (f : Function). frame_bound f ≤ 16384) (program_of p).functions))
+framed_program (Ok (Some p)) unit e = small_frames unit (program_of p) (unit_reads unit (program_of p) (sym e))
+framed_program (Ok None) unit e = tt
+framed_program (Err e) unit h = tt

@@ -10,8 +10,8 @@ use Rattle.c_tree.specs.declared.expression.BinaryOp.{BinaryOp}
 use Rattle.c_tree.specs.declared.expression.BinaryOp.TheVariants.{Add, Subtract}
 use Rattle.c_tree.specs.Program.{int, Expression, Constant, Read, Binary, Assign, Putchar, LocalPlace, Scalar, Statement, Declare, Evaluate, Return, Statements, Done, Next, Program}
 use Rattle.c_tree.specs.Sizes.{size_of}
-use Rattle.c_locals.specs.SlotForm as slots
-use Rattle.c_locals.specs.SlotForm.{IsSlotProgram}
+use Rattle.c_tree.specs.SlotForm as slots
+use Rattle.c_tree.specs.SlotForm.{IsSlotProgram}
 use Rattle.c_locals.specs.Shapes.{same, Rule, Declares, Assigns, Puts, Returns, Other, rule_of}
 use Rattle.c_locals.specs.Form.{local_named, sign_of, int_local, main_program, IsAtom, IsSum, IsShortSum, IsItem, IsLast, IsBody, IsLocalsProgram}
 
@@ -83,7 +83,7 @@ int_locals : (names : List (List ℕ)) → slots.AreIntLocals (map int_local nam
 int_locals [] = tt
 int_locals (name ∷ names) = (refl, int_locals names)
 
-length-locals : (names : List (List ℕ)) → length (map int_local names) ≡ length names
+pub length-locals : (names : List (List ℕ)) → length (map int_local names) ≡ length names
 length-locals [] = refl
 length-locals (name ∷ names) = ap suc (length-locals names)
 

@@ -2,4 +2,3 @@ pub mod Form
 pub mod Shapes
 pub mod Views
 pub mod Reading
-pub mod SlotForm

@@ -2,10 +2,11 @@
 
 ghost use Rattle.std.specs.Prelude.{◌≡◌, ◌≤◌, Some, length, map, option_map, IfOk, IfSome, IfNone};
 ghost use Rattle.c_grammar.specs.Statements.{stmt_of, stmts_of, unit_of};
+ghost use Rattle.c_grammar.specs.DeclarationTokens.{AllAre};
 ghost use Rattle.c_grammar.specs.Grammar.{unit_tokens};
 ghost use Rattle.c_tree.specs.Erased.{program_of};
-ghost use Rattle.c_tree.specs.Sizes.{size_of};
-ghost use Rattle.c_locals.specs.SlotForm.{IsSlotProgram};
+ghost use Rattle.c_tree.specs.Sizes.{frame_bound, size_of};
+ghost use Rattle.c_tree.specs.SlotForm.{IsSlotProgram};
 ghost use Rattle.c_tree.specs.Program.{Program as Typed};
 ghost use Rattle.c_locals.specs.Form.{IsLocalsProgram, main_program};
 ghost use Rattle.c_locals.specs.Reading.{read_items, read_unit};
@@ -74,6 +75,7 @@ pub fn locals_program(alloc: Global, unit: &RawUnit) -> Result<Option<Program>, 
     ensures found { IfOk result (λ o. IfSome o (λ p. IsLocalsProgram (unit_of unit.now) (program_of p))) }
     ensures none { IfOk result (λ o. IfNone o ((p : Typed) → ¬ IsLocalsProgram (unit_of unit.now) p)) }
     ensures sized { IfOk result (λ o. IfSome o (λ p. size_of (program_of p) ≤ length (unit_tokens (unit_of unit.now)))) }
+    ensures frames { IfOk result (λ o. IfSome o (λ p. AllAre (λ f. frame_bound f ≤ 16384) (program_of p).functions)) }
     ensures accepted { IfOk result (λ o. IfSome o (λ p. length (unit_tokens (unit_of unit.now)) ≤ 65536 → IsSlotProgram (program_of p))) }
 {
     read_program(alloc, unit)

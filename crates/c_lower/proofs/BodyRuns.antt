@@ -16,7 +16,7 @@ use Rattle.flow_graph.specs.declared.op.Op.TheVariants as op
 use Rattle.flow_graph.specs.Meaning.{low_byte}
 use Rattle.flow_graph.specs.Running.{outcome_at, part_value}
 use Rattle.c_lower.specs.Code.{body_ops, sum_ops, temporaries}
-use Rattle.c_lower.specs.Form.{IsBody, IsSum}
+use Rattle.c_tree.specs.SlotForm.{IsBody, IsSum}
 use Rattle.c_lower.proofs.Elements.{HasAt, get-set_other, get-set_same, has_back, has_front}
 use Rattle.c_lower.proofs.GraphSteps.{Comes, at, const_step, copy_step, mark_step, putchar_step, return_step, visit}
 use Rattle.c_lower.proofs.SumRuns.{Matches, matches-kept, running, sum-more, sum_gives, sum_puts, sum_value}

@@ -7,7 +7,7 @@ use Rattle.c_tree.specs.Erased.{function_of, local_of, statements_of}
 use Rattle.c_tree.specs.Sizes.{function_size}
 use Rattle.flow_graph.specs.declared.op.Op.TheVariants as op
 use Rattle.c_lower.specs.Code.{AllFit, EndsLast, body_ops, lowered, straight, temporaries}
-use Rattle.c_lower.specs.Form.{AreSlotStatements, IsSlotFunction}
+use Rattle.c_tree.specs.SlotForm.{AreSlotStatements, IsSlotFunction}
 use Rattle.c_lower.proofs.Kept.{function-facts}
 
 -- what is known where so many locals were counted, and the statements were read as a slice

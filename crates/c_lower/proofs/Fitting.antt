@@ -10,7 +10,7 @@ use Rattle.flow_graph.specs.declared.op.Op.{Op}
 use Rattle.flow_graph.specs.declared.op.Op.TheVariants as op
 use Rattle.flow_graph.specs.Graphs.{Every, FitsOp, IsDistinct, is_end}
 use Rattle.c_lower.specs.Code.{AllFit, EndsLast, body_ops, straight, sum_ops, temporaries}
-use Rattle.c_lower.specs.Form.{AreSlotStatements, IsBody, IsSum}
+use Rattle.c_tree.specs.SlotForm.{AreSlotStatements, IsBody, IsSum}
 use Rattle.c_lower.specs.Lowering.{mark_of, marks_in}
 use Rattle.c_lower.proofs.Elements.{get-replicate}
 use Rattle.c_lower.proofs.SumRuns.{height-positive, sum-more}

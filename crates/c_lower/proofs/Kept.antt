@@ -19,7 +19,7 @@ use Rattle.flow_graph.specs.Running.{IsNeverStuck}
 use Rattle.flow_graph.specs.States.{GraphProgram}
 use Rattle.flow_graph.proofs.OneRun.{never_stuck}
 use Rattle.c_lower.specs.Code.{AllFit, EndsLast, body_ops, function_ops, lowered, slot_graphs, temporaries, variables}
-use Rattle.c_lower.specs.Form.{AreSlotStatements, IsIntLocal, IsSlotFunction, IsSlotProgram}
+use Rattle.c_tree.specs.SlotForm.{AreSlotStatements, AreIntLocals, IsSlotFunction, IsSlotProgram}
 use Rattle.c_lower.specs.Lowering.{AreLowered, AreSmall, FixedDies, HasObjects, IsLowered, KeepsOutcome, MarksOnce, NamesItsOwn, NamesWithin, array_of, first_object, marks_in, most_words, points_in, words_in, arrays_in, words_of}
 use Rattle.c_lower.specs.Shown.{local_widths, type_widths, variables_shown}
 use Rattle.c_lower.proofs.Elements.{has_all}
@@ -61,7 +61,7 @@ slot-ops f slot = (tt, slot-body (length f.locals) 0 0 f.body slot.body (omega a
 
 -- ---- variables
 
-int-widths : (locals : List Local) (more : ℕ) → Every IsIntLocal locals → replicate (length locals + more) Two ≡ local_widths locals ++ replicate more Two
+int-widths : (locals : List Local) (more : ℕ) → AreIntLocals locals → replicate (length locals + more) Two ≡ local_widths locals ++ replicate more Two
 int-widths [] more ints = let e : 0 + more ≡ more = omega arith in ap (λ (k : ℕ). replicate k Two) e
 int-widths (l ∷ locals) more ints =
     let e : length (l ∷ locals) + more ≡ suc (length locals + more) = omega arith in
@@ -69,7 +69,7 @@ int-widths (l ∷ locals) more ints =
     ∙ ap (λ (ws : List Width). Two ∷ ws) (int-widths locals more ints.1)
     ∙ sym (ap (λ (t : ValueType). (type_widths t ++ local_widths locals) ++ replicate more Two) ints.0)
 
-length-widths : (locals : List Local) → Every IsIntLocal locals → length (local_widths locals) ≡ length locals
+length-widths : (locals : List Local) → AreIntLocals locals → length (local_widths locals) ≡ length locals
 length-widths [] ints = refl
 length-widths (l ∷ locals) ints = ap (λ (t : ValueType). length (type_widths t ++ local_widths locals)) ints.0 ∙ ap suc (length-widths locals ints.1)
 

@@ -16,7 +16,7 @@ use Rattle.flow_graph.specs.Graphs.{Every, IsIn, following, points_of}
 use Rattle.flow_graph.specs.Liveness.{BeginsWith, IsLiveBefore, IsSuccessor, LeadsTo, ReachesUse, defined, if_any, uses}
 use Rattle.flow_graph.proofs.Points.{every-in}
 use Rattle.c_lower.specs.Code.{body_ops, straight, sum_ops}
-use Rattle.c_lower.specs.Form.{IsBody, IsSum}
+use Rattle.c_tree.specs.SlotForm.{IsBody, IsSum}
 use Rattle.c_lower.specs.Lowering.{mark_of}
 use Rattle.c_lower.proofs.Elements.{HasAt, has_back, has_front}
 use Rattle.c_lower.proofs.Fitting.{IsSlotOp, every-append, every-sum}

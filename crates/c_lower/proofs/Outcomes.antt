@@ -15,7 +15,7 @@ use Rattle.flow_graph.specs.Graphs.{Every}
 use Rattle.flow_graph.specs.Running.{GraphOutcome, number_or_zero, part_value}
 use Rattle.flow_graph.specs.States.{GraphProgram, number_of}
 use Rattle.c_lower.specs.Code.{body_ops, function_ops, variables}
-use Rattle.c_lower.specs.Form.{IsIntLocal, IsSlotFunction, IsSlotProgram}
+use Rattle.c_tree.specs.SlotForm.{AreIntLocals, IsSlotFunction, IsSlotProgram}
 use Rattle.c_lower.specs.Lowering.{KeepsOutcome}
 use Rattle.c_lower.specs.Shown.{IsPartOf, IsPointer, first_variable, type_widths, locals_at, variable_part, variables_shown}
 use Rattle.c_lower.proofs.BodyRuns.{body-positive, body_runs}
@@ -25,7 +25,7 @@ use Rattle.c_lower.proofs.SumRuns.{Matches}
 
 -- ---- locals of type int
 
-local-int : (locals : List Local) (k : ℕ) (l : Local) → Every IsIntLocal locals → slice_get locals k ≡ Some l → l.of ≡ int
+local-int : (locals : List Local) (k : ℕ) (l : Local) → AreIntLocals locals → slice_get locals k ≡ Some l → l.of ≡ int
 local-int [] k l ints e = absurd (none-some l e)
 local-int (m ∷ locals) zero l ints e = ap (λ (x : Local). x.of) (sym (same_Some m l e)) ∙ ints.0
 local-int (m ∷ locals) (suc k) l ints e = local-int locals k l ints.1 e
@@ -41,7 +41,7 @@ local-within (m ∷ locals) zero l e = omega arith
 local-within (m ∷ locals) (suc k) l e = let h = local-within locals k l e in omega (arith, h)
 
 -- each has one variable, that of its number
-first-same : (locals : List Local) (k : ℕ) → Every IsIntLocal locals → k < length locals → first_variable locals k ≡ k
+first-same : (locals : List Local) (k : ℕ) → AreIntLocals locals → k < length locals → first_variable locals k ≡ k
 first-same [] k ints h = absurd (omega (arith, h))
 first-same (m ∷ locals) zero ints h = refl
 first-same (m ∷ locals) (suc k) ints h =
@@ -49,7 +49,7 @@ first-same (m ∷ locals) (suc k) ints h =
     ap (λ (t : ValueType). length (type_widths t) + first_variable locals k) ints.0 ∙ more
 
 -- at the start of the call they hold 0, as their variables do
-first-values : (locals : List Local) (v n : ℕ) → Every IsIntLocal locals → v < length locals → v < n → (z : ℤ) × (slice_get (first_values locals []) v ≡ Some (HoldsNumber z)) × (slice_get (map (λ (w : Width). Number (pos 0)) (replicate n Two)) v ≡ Some (Number z))
+first-values : (locals : List Local) (v n : ℕ) → AreIntLocals locals → v < length locals → v < n → (z : ℤ) × (slice_get (first_values locals []) v ≡ Some (HoldsNumber z)) × (slice_get (map (λ (w : Width). Number (pos 0)) (replicate n Two)) v ≡ Some (Number z))
 first-values [] v n ints h more = absurd (omega (arith, h))
 first-values (l ∷ locals) v zero ints h more = absurd (omega (arith, more))
 first-values (l ∷ locals) zero (suc n) ints h more = (pos 0, ap (λ (t : ValueType). Some (zero_of t)) ints.0, refl)
@@ -66,7 +66,7 @@ length-zeros (suc n) = ap suc (length-zeros n)
 -- ---- what marks show
 
 -- a part of a local is shown alike
-part-shown : (locals : List Local) (part : Part) (p : ℕ) (values : List Held) (before : List Value) (left : List ℕ) (taken : ℕ) (written : List ℕ) → Every IsIntLocal locals → IsPartOf locals part → Matches (length locals) values before → part_value (at p before left taken written) (variable_part locals part) ≡ source.part_value values part
+part-shown : (locals : List Local) (part : Part) (p : ℕ) (values : List Held) (before : List Value) (left : List ℕ) (taken : ℕ) (written : List ℕ) → AreIntLocals locals → IsPartOf locals part → Matches (length locals) values before → part_value (at p before left taken written) (variable_part locals part) ≡ source.part_value values part
 part-shown locals (Scalar k) p values before left taken written ints (l, e, is) matches =
     let below = local-within locals k l e in
     let (n, held, there) = matches.same k below in
@@ -76,7 +76,7 @@ part-shown locals (Scalar k) p values before left taken written ints (l, e, is) 
 part-shown locals (ArrayOf k) p values before left taken written ints (l, e, is) matches = absurd (subst (λ (t : ValueType). IsPointer t) (local-int locals k l ints e) is)
 part-shown locals (IndexOf k) p values before left taken written ints (l, e, is) matches = absurd (subst (λ (t : ValueType). IsPointer t) (local-int locals k l ints e) is)
 
-parts-shown : (locals : List Local) (parts : List Part) (p : ℕ) (values : List Held) (before : List Value) (left : List ℕ) (taken : ℕ) (written : List ℕ) → Every IsIntLocal locals → Every (IsPartOf locals) parts → Matches (length locals) values before → map (part_value (at p before left taken written)) (map (variable_part locals) parts) ≡ map (source.part_value values) parts
+parts-shown : (locals : List Local) (parts : List Part) (p : ℕ) (values : List Held) (before : List Value) (left : List ℕ) (taken : ℕ) (written : List ℕ) → AreIntLocals locals → Every (IsPartOf locals) parts → Matches (length locals) values before → map (part_value (at p before left taken written)) (map (variable_part locals) parts) ≡ map (source.part_value values) parts
 parts-shown locals [] p values before left taken written ints all matches = refl
 parts-shown locals (part ∷ parts) p values before left taken written ints all matches =
     ap (λ (v : Value). v ∷ map (part_value (at p before left taken written)) (map (variable_part locals) parts)) (part-shown locals part p values before left taken written ints all.0 matches)

@@ -16,7 +16,7 @@ use Rattle.c_tree.specs.Store.{Held, HoldsNumber, Evaluated, Gives, and_then, nu
 use Rattle.flow_graph.specs.declared.op.Op.{Op}
 use Rattle.flow_graph.specs.declared.op.Op.TheVariants as op
 use Rattle.c_lower.specs.Code.{sum_ops}
-use Rattle.c_lower.specs.Form.{IsSum}
+use Rattle.c_tree.specs.SlotForm.{IsSum}
 use Rattle.c_lower.proofs.Elements.{HasAt, get-set_other, get-set_same, has_back, has_front}
 use Rattle.flow_graph.specs.Meaning.{act, two_numbers}
 use Rattle.flow_graph.specs.Running.{takes_turn, visits_at}

@@ -1,4 +1,3 @@
 pub mod Code
-pub mod Form
 pub mod Lowering
 pub mod Shown

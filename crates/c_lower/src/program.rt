@@ -5,7 +5,7 @@ ghost use Rattle.c_tree.specs.Erased.{function_of, program_of};
 ghost use Rattle.c_tree.specs.Sizes.{function_size};
 ghost use Rattle.flow_graph.specs.Running.{IsNeverStuck};
 ghost use Rattle.c_lower.specs.Code.{lowered, slot_graphs};
-ghost use Rattle.c_lower.specs.Form.{IsSlotFunction, IsSlotProgram};
+ghost use Rattle.c_tree.specs.SlotForm.{IsSlotFunction, IsSlotProgram};
 ghost use Rattle.c_lower.specs.Lowering.{AreLowered, AreObjects, AreSmall, HasObjects, KeepsOutcome, MarksOnce, NamesItsOwn, graphs_of};
 
 use crate::blocks::graph_of;
@@ -46,7 +46,7 @@ fn lower_program(alloc: Global, program: &Program) -> Result<Graphs, NoMemory>
     })
 }
 
-/// The graphs of a program of the form that is lowered so far (`specs/Form.antt`). The only refusal is want of
+/// The graphs of a program of the form that is lowered so far (`specs/SlotForm.antt` of `c_tree`). The only refusal is want of
 /// memory. Nothing is folded or forwarded: each evaluated reading of a local is an op that uses its variable.
 pub fn lower(alloc: Global, program: &Program) -> Result<Graphs, NoMemory>
     requires { IsSlotProgram (program_of program.now) }
@@ -63,6 +63,9 @@ pub fn lower(alloc: Global, program: &Program) -> Result<Graphs, NoMemory>
     ensures objects { IfOk result (λ graphs. AreObjects (graphs_of graphs)) }
     ensures names { IfOk result (λ graphs. NamesItsOwn (graphs_of graphs)) }
     ensures marks { IfOk result (λ graphs. MarksOnce (graphs_of graphs)) }
+
+    // The graphs are those of the ops of each statement.
+    ensures graphs { IfOk result (λ graphs. graphs_of graphs ≡ slot_graphs (program_of program.now)) }
 
     // The graphs grow no faster than the program.
     ensures small { IfOk result (λ graphs. AreSmall (program_of program.now) (graphs_of graphs)) }

@@ -4,7 +4,7 @@ ghost use Rattle.std.specs.Prelude.{◌≡◌, ◌+◌, ◌<◌, ◌∷◌, [], 
 ghost use Rattle.c_tree.specs.Erased.{statement_of, statements_of};
 ghost use Rattle.flow_graph.specs.declared.op.Op.TheVariants.{Mark};
 ghost use Rattle.c_lower.specs.Code as code;
-ghost use Rattle.c_lower.specs.Form.{IsSlotStatement, AreSlotStatements};
+ghost use Rattle.c_tree.specs.SlotForm.{IsSlotStatement, AreSlotStatements};
 
 use crate::sums::{emit, emit_sum, height};
 use c_tree::{Expression, IntegerType, Item, Place, Statement, ValueType};

@@ -4,7 +4,7 @@ ghost use Rattle.std.specs.Prelude.{◌≡◌, ◌+◌, ◌<◌, ◌≤◌, ◌�
 ghost use Rattle.c_tree.specs.Erased.{expression_of};
 ghost use Rattle.c_tree.specs.Sizes as sizes;
 ghost use Rattle.c_lower.specs.Code.{sum_ops};
-ghost use Rattle.c_lower.specs.Form.{IsSum};
+ghost use Rattle.c_tree.specs.SlotForm.{IsSum};
 
 use c_tree::{BinaryOp, Expression, Place};
 use flow_graph::Op;

@@ -5,3 +5,4 @@ pub mod Program
 pub mod Sizes
 pub mod Store
 pub mod Worked
+pub mod SlotForm

@@ -1,5 +1,5 @@
 use Rattle.c_grammar.specs.Statements.{unit_of}
-use Rattle.c_locals.proofs.Answered.{found_program, no_program, sized_program, accepted_program}
+use Rattle.c_locals.proofs.Answered.{found_program, no_program, sized_program, accepted_program, framed_program}
 use Rattle.c_locals.proofs.program.locals_program.Goals as goal
 
 pub returns-clause-found : goal.returns-clause-found
@@ -13,3 +13,6 @@ returns-clause-sized c = sized_program c.read_program.result (unit_of c.args.uni
 
 pub returns-clause-accepted : goal.returns-clause-accepted
 returns-clause-accepted c = accepted_program c.read_program.result (unit_of c.args.unit.now) c.read_program.ensures
+
+pub returns-clause-frames : goal.returns-clause-frames
+returns-clause-frames c = framed_program c.read_program.result (unit_of c.args.unit.now) c.read_program.ensures

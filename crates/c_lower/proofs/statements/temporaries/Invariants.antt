@@ -1,7 +1,7 @@
 use Rattle.std.proofs.Common.{◌≡◌, ◌<◌, ◌^◌, max, drop}
 use Rattle.c_tree.specs.Erased.{statements_of}
 use Rattle.c_lower.specs.Code as code
-use Rattle.c_lower.specs.Form.{AreSlotStatements}
+use Rattle.c_tree.specs.SlotForm.{AreSlotStatements}
 use Rattle.c_lower.proofs.statements.temporaries.Given as goal
 
 abbrev pub invariant-loop-statement : goal.invariant-loop-statement
