@@ -73,7 +73,7 @@ fn keep(tokens: &mut Vec<Token>, scanned: Scanned, at: Span, most: usize) -> Res
 }
 
 /// The place behind these bytes, the first of which stands at the given place: a newline begins a line.
-fn advance(at: Span, bytes: &[u8]) -> Span
+pub fn advance(at: Span, bytes: &[u8]) -> Span
     requires line { at.line + length bytes.now < 2 ^ 32 }
     requires col { at.col + length bytes.now < 2 ^ 32 }
     ensures place { result ≡ place_after at bytes.now }

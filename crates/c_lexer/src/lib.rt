@@ -19,5 +19,6 @@ mod token;
 mod words;
 
 pub use laws::one_token_list;
-pub use lexer::lex;
+pub use lexer::{advance, lex};
 pub use token::{Punct, Token, TokenKind};
+pub use words::spelling;

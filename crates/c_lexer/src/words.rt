@@ -52,7 +52,7 @@ const KEYWORDS: [Keyword; 37] = [
 ];
 
 /// The spelling of a keyword.
-fn spelling(word: Keyword) -> &'static [u8]
+pub fn spelling(word: Keyword) -> &'static [u8]
     ensures { result.now ≡ keyword_text word }
 {
     match word {

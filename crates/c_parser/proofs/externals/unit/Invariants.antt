@@ -1,0 +1,14 @@
+-- What is read in all is what the turns from here read.
+use Rattle.std.proofs.Common.{length, map}
+use Rattle.c_grammar.specs.Statements.{external_of}
+use Rattle.c_grammar.proofs.Chains.{Continues}
+use Rattle.c_grammar.proofs.StatementReading.{unit_step, read_unit}
+use Rattle.c_statements.specs.Parts.{below_node}
+use Rattle.c_parser.proofs.externals.unit.Given as goal
+
+abbrev pub invariant-externals : goal.invariant-externals
+invariant-externals l =
+    Continues (unit_step (below_node l.height)) (map external_of l.externals.items) l.parser.rest.now (read_unit (below_node l.height) l.fn.parser.rest.now)
+
+abbrev pub decreases-externals : goal.decreases-externals
+decreases-externals l = length l.parser.rest.now

@@ -1,0 +1,54 @@
+ghost use Rattle.std.specs.Prelude.{◌≤◌, ℕ, List, IfOk, IfErr};
+ghost use Rattle.c_lexer.specs.declared.token.Token.{Token};
+ghost use Rattle.c_grammar.specs.Grammar.{Tree};
+ghost use Rattle.c_grammar.specs.Statements.{unit_of};
+ghost use Rattle.c_parser.specs.Refusals.{IsRefused, NoneUnsupported, NoTree};
+
+use crate::externals::unit;
+use crate::keywords::first_outside;
+use c_expressions::Parser;
+use c_lexer::Token;
+use c_raw::RawUnit;
+use pcc_base::{Fault, FaultKind, Refusal, Span};
+use std::alloc::Global;
+
+/// The greatest height of a raw tree.
+const HEIGHT: u32 = 256;
+
+/// The fault of tokens without a tree, TooDeep or Syntax: what the parser found.
+fn fault_of(fault: Fault) -> Refusal
+    ensures { (tokens : List Token) → NoneUnsupported tokens → NoTree tokens → IsRefused tokens result }
+{
+    let kind = if fault.kind == FaultKind::TooDeep {
+        FaultKind::TooDeep
+    } else {
+        FaultKind::Syntax
+    };
+    Refusal::Fault(Fault { kind, at: fault.at })
+}
+
+/// The one raw tree of the tokens, of height at most 256. The end is the place behind the last token: there
+/// stands a fault at the end of the file.
+pub fn parse(alloc: Global, tokens: &Vec<Token>, end: Span) -> Result<RawUnit, Refusal>
+    ensures tree { IfOk result (λ unit. (h : ℕ) × (h ≤ 256) × Tree tokens.now.items h (unit_of unit)) }
+    ensures inside { IfOk result (λ _. NoneUnsupported tokens.now.items) }
+    ensures refused { IfErr result (IsRefused tokens.now.items) }
+{
+    let tokens = tokens.as_slice();
+    if let Some((word, at)) = first_outside(tokens) {
+        return Err(Refusal::Fault(Fault {
+            kind: FaultKind::Unsupported(word),
+            at,
+        }));
+    }
+    let mut parser = Parser {
+        alloc,
+        rest: tokens,
+        end,
+    };
+    match unit(&mut parser, HEIGHT) {
+        Ok(unit) => Ok(unit),
+        Err(Refusal::Fault(fault)) => Err(fault_of(fault)),
+        Err(other) => Err(other),
+    }
+}
