@@ -1,4 +1,5 @@
 pub mod Fields
+pub mod Hexadecimal
 pub mod Named
 pub mod OneText
 pub mod Places

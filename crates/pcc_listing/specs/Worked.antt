@@ -1,12 +1,12 @@
 -- A small map and a state of the machine, to read the definitions by: `main` has called another function,
 -- whose mark is at EIP.
-use Rattle.std.specs.Prelude.{ℕ, ◌-◌, Bool, true, false, List, [], ◌∷◌, ◌++◌, replicate, None, codes, negsuc, pos}
+use Rattle.std.specs.Prelude.{ℕ, true, false, List, [], ◌∷◌, ◌++◌, replicate, None, codes, negsuc, pos}
 use Rattle.byteorder.specs.Endian.{little_bytes}
 use Rattle.pcc_base.specs.declared.run.Width.TheVariants.{One, Two}
-use Rattle.pcc_base.specs.Outcome.{ArrayName, Value, Number, Array, Visit}
+use Rattle.pcc_base.specs.Outcome.{ArrayName, Number, Array, Visit}
 use Rattle.ia32_regs.specs.declared.names.Reg32.TheVariants.{Eax, Edx, Ebx}
 use Rattle.ia32_regs.specs.declared.names.Reg8.TheVariants.{Ch}
-use Rattle.ia32_insn.specs.State.{State, Area}
+use Rattle.ia32_insn.specs.State.{State}
 use Rattle.pcc_listing.specs.Lines.{Line, ObjectLine, FunctionLine, ArrayLine, VariableLine, PointLine, BeforeLine, Standing, Place, InRegister, InByte, InSlot, NamesScalar, NamesArray, NamesIndex, Temporary, Mark}
 
 abbrev pub stands : ℕ → Place → Standing

@@ -1,0 +1,4 @@
+pub mod Exact
+pub mod Inside
+pub mod Names
+pub mod Refused

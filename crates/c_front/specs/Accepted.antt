@@ -1,0 +1,28 @@
+-- The source files that are accepted so far, and the programs that they are.
+use Rattle.std.specs.Prelude.{◌≤◌, ℕ, List, length}
+use Rattle.c_lexer.specs.declared.token.Token.{Token}
+use Rattle.c_lexer.specs.Tokens.{HasTokens}
+use Rattle.c_grammar.specs.DeclarationTokens.{AllAre}
+use Rattle.c_grammar.specs.Statements.{ExternalTree}
+use Rattle.c_grammar.specs.Grammar.{Tree}
+use Rattle.c_tree.specs.Program.{Local, Function, Program}
+use Rattle.c_locals.specs.Form.{IsLocalsProgram}
+use Rattle.pcc_listing.specs.Lines.{IsName}
+
+-- these tokens, of which there are at most 10,000, have a raw tree of height at most 256, which is of the form
+-- with locals and has this program
+pub record HasProgram (tokens : List Token) (program : Program) : Type 0 where
+  pub few : length tokens ≤ 10000
+  pub height : ℕ
+  pub low : height ≤ 256
+  pub unit : List ExternalTree
+  pub tree : Tree tokens height unit
+  pub form : IsLocalsProgram unit program
+
+-- the text is a program's
+abbrev pub IsProgram : List ℕ → Program → Type 0
+IsProgram text program = (tokens : List Token) × HasTokens 0 text tokens × HasProgram tokens program
+
+-- the names of a function and of its locals are identifiers (C99 6.4.2.1)
+abbrev pub IsNamed : Function → Type 0
+IsNamed f = IsName f.name × AllAre (λ (l : Local). IsName l.name) f.locals
