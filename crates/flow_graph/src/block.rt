@@ -68,6 +68,13 @@ impl Block {
         self.points.first().copied()
     }
 
+    /// The points, in order.
+    pub fn as_slice(&self) -> &[u32]
+        ensures { result.now ≡ self.now }
+    {
+        self.points.as_slice()
+    }
+
     /// The point right after another.
     pub fn next(&self, point: u32) -> Option<u32>
         ensures { result ≡ following point self.now }

@@ -165,6 +165,15 @@ impl Graph {
         points.first()
     }
 
+    /// The points of a block, in order.
+    pub fn points_in(&self, block: u32) -> &[u32]
+        requires { block < length self.now.blocks }
+        ensures { result.now ≡ points_of self.now block }
+    {
+        let points = &self.blocks[block as usize];
+        points.as_slice()
+    }
+
     /// The point right after a point of a block, if that isn't the last.
     pub fn next(&self, point: u32) -> Option<u32>
         requires { IsPlaced self.now point }

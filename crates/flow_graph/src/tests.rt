@@ -13,6 +13,7 @@ fn two_points(rt: HostRuntime) -> Result<(), Fail> {
     let end = graph.append(0, Op::Return(Some(number)))?;
     assert_eq!(rt; graph.first(0), Some(start));
     assert_eq!(rt; graph.next(start), Some(end));
+    assert_eq!(rt; graph.points_in(0), [start, end].as_slice());
     Ok(())
 }
 

@@ -15,16 +15,9 @@ use Rattle.ia32_insn.specs.Spelling.{Spells, Begins}
 use Rattle.ia32_insn.specs.Meaning.{Moves, Halts, and_then, moved_of, effect, target, perform}
 use Rattle.ia32_insn.specs.Runs.{Steps, StepsAt}
 use Rattle.ia32_insn.specs.Items.{Symbols, Places, ItemsAt, text_start}
-use Rattle.ia32_shows.specs.Paths.{Path}
+pub use Rattle.ia32_shows.specs.Paths.{Path, IsAt, IsClear, Comes}
 use Rattle.ia32_shows.proofs.Sound.{IsSound}
 use Rattle.ia32_shows.proofs.Spelled.{BeginsOther, IsCommon, common-begins}
-
--- the bytes stand in the text at the address
-pub record IsAt (text : List ℕ) (address : ℕ) (bytes : List ℕ) : Type 0 where
-  pub done : List ℕ
-  pub rest : List ℕ
-  pub whole : text ≡ done ++ (bytes ++ rest)
-  pub place : address ≡ text_start + length done
 
 pub at-front : (text : List ℕ) (address : ℕ) (xs ys : List ℕ) → IsAt text address (xs ++ ys) → IsAt text address xs
 at-front text address xs ys h = record { done = h.done; rest = ys ++ h.rest; whole = h.whole ∙ ap (λ (l : List ℕ). h.done ++ l) (append_assoc xs ys h.rest); place = h.place }
@@ -71,16 +64,6 @@ pub perform-halts : (i : Insn) (after : ℕ) (s : State) (end : End) → effect 
 perform-halts i after s end e = ap (λ (r : Result State End). moved_of (and_then r (λ u. and_then (target i after s) (λ a. Ok (at_address a u))))) e
 
 -- ---- runs through instructions that are no NOP
-
--- no NOP is spelled at the address
-abbrev pub IsClear : List ℕ → ℕ → Type 0
-IsClear text address = IsAt text address (144 ∷ []) → ⊥
-
--- the machine comes from one state to another, and passes no NOP
-pub record Comes (text : List ℕ) (s t : State) : Type 0 where
-  pub addresses : List ℕ
-  pub path : Path addresses s t
-  pub clear : AllByRecursion (IsClear text) addresses
 
 pub comes-not : (text : List ℕ) (s : State) → Comes text s s
 comes-not text s = record { addresses = []; path = refl; clear = tt }

@@ -1,0 +1,175 @@
+-- The first state of a text without static objects, whose memory is sound, and where the parts of a text stand.
+use Rattle.std.proofs.Common.{◌≡◌, ℕ, zero, suc, ◌+◌, ◌-◌, ◌*◌, ◌/◌, ◌^◌, ◌<◌, ◌≤◌, List, [], ◌∷◌, ◌++◌, length, replicate, get_or, refl, sym, ap, subst, ◌∙◌, inl, inr, arith, length-append, append_assoc}
+use Rattle.std.specs.Prelude.{slice_get, Some, None}
+use Rattle.std.proofs.lemmas.Option.{same_Some}
+use Rattle.std.proofs.lemmas.Bool.{cases_lt}
+use Rattle.std.proofs.lemmas.List.{length-replicate, get_or-replicate, get_or_past}
+use Rattle.ia32_regs.specs.Registers.{AreRegisters, zero_registers}
+use Rattle.ia32_insn.specs.Items.{Object, Symbols, Places, IsText, ItemsAt, FunctionsAt, round_up, zeros, text_start, text_state, data_bytes, data_start, data_memory, stack_end, putchar_items}
+use Rattle.ia32_insn.specs.declared.item.Item.{Item}
+use Rattle.ia32_shows.specs.Paths.{IsAt}
+use Rattle.ia32_shows.proofs.Sound.{IsSound}
+use Rattle.ia32_shows.proofs.Steps.{at-front, at-back}
+use Rattle.ia32_shows.proofs.Frames.{Site}
+use Rattle.ia32_calls.specs.Laws.{StandsFrom}
+
+-- ---- the registers
+
+zero-each : (n k : ℕ) → get_or (replicate {A = ℕ} n 0) k 0 ≡ 0
+zero-each n k =
+    elim (cases_lt k n) [
+      | inl before ↦ get_or-replicate n k 0 0 before
+      | inr past ↦ get_or_past (replicate n 0) k 0 (let l = length-replicate {A = ℕ} n 0 in let m : length (replicate {A = ℕ} n 0) ≤ k = omega arith in m)
+    ]
+
+pub zero-registers : AreRegisters zero_registers
+zero-registers = record { cells = length-replicate {A = ℕ} 32 0; below = λ k. let e = zero-each 32 k in omega arith }
+
+-- ---- the memory
+
+length-zeros : (n : ℕ) → length (zeros n) ≡ n
+unfolding zeros
+length-zeros n = length-replicate n 0
+
+length-data : length (data_bytes []) ≡ 4
+length-data = length-append (zeros 4) [] ∙ (let l = length-zeros 4 in omega arith)
+
+filled : (n : ℕ) → n + (round_up 4 n + 67112960 - n) ≡ round_up 4 n + 67112960
+filled n = omega arith
+
+data-fits : (n : ℕ) → n ≡ 4 → round_up 4 n + 67112960 ≡ 67112964
+data-fits n e = omega arith
+
+pub length-memory : data_memory [] ≡ 67112964
+length-memory = data-fits (length (data_bytes [])) length-data
+
+length-area : length (data_bytes [] ++ zeros (data_memory [] - length (data_bytes []))) ≡ data_memory []
+length-area =
+    let n : ℕ = length (data_bytes []) in
+    length-append (data_bytes []) (zeros (data_memory [] - n)) ∙ ap (λ (k : ℕ). n + k) (length-zeros (data_memory [] - n)) ∙ filled n
+
+page-above : (n : ℕ) → 134512640 + n ≤ 134512640 + 4096 * ((n + 4095) / 4096)
+page-above n = omega arith
+
+page-below : (n k : ℕ) → n < 2 ^ 30 + 1024 → k ≡ 67112964 → 134512640 + 4096 * ((n + 4095) / 4096) + k < 4294967296
+page-below n k h e = omega arith
+
+-- the memory of the first state is sound
+pub first-sound : (text input : List ℕ) → length text < 2 ^ 30 + 1024 → IsSound text (data_start text) (stack_end text []) (text_state text [] input)
+first-sound text input fits =
+    record {
+      bytes = data_bytes [] ++ zeros (data_memory [] - length (data_bytes []));
+      memory = refl;
+      size = ap (λ (k : ℕ). data_start text + k) length-area;
+      above = page-above (length text);
+      below = page-below (length text) (data_memory []) fits length-memory;
+      registers = zero-registers;
+    }
+
+-- ---- the parts of a text
+
+-- the first of six parts, and the rest
+front-part : (s c p g e k : List ℕ) → s ++ c ++ p ++ g ++ e ++ k ≡ s ++ (c ++ p ++ g ++ e ++ k)
+front-part s c p g e k = simp append_assoc refl
+
+third-part : (s c p g e k : List ℕ) → s ++ c ++ p ++ g ++ e ++ k ≡ (s ++ c) ++ (p ++ (g ++ e ++ k))
+third-part s c p g e k = simp append_assoc refl
+
+second-part : (s c p g e k : List ℕ) → s ++ c ++ p ++ g ++ e ++ k ≡ s ++ (c ++ (p ++ g ++ e ++ k))
+second-part s c p g e k = simp append_assoc refl
+
+none-before : (n : ℕ) → n ≡ n + length {A = ℕ} []
+none-before n = omega arith
+
+-- the start stands at the text's beginning
+pub start-here : (functions : List (List Item)) (objects : List Object) (main : ℕ) (places : List Places) (symbols : Symbols) (text : List ℕ) → (h : IsText functions objects main places symbols text) → IsAt text text_start h.start
+start-here functions objects main places symbols text h =
+    record { done = []; rest = h.code ++ h.putchar ++ h.getchar ++ h.exit ++ h.check; whole = h.whole ∙ front-part h.start h.code h.putchar h.getchar h.exit h.check; place = none-before text_start }
+
+-- the functions stand behind the start
+pub code-here : (functions : List (List Item)) (objects : List Object) (main : ℕ) (places : List Places) (symbols : Symbols) (text : List ℕ) → (h : IsText functions objects main places symbols text) → IsAt text (text_start + length h.start) h.code
+code-here functions objects main places symbols text h =
+    record { done = h.start; rest = h.putchar ++ h.getchar ++ h.exit ++ h.check; whole = h.whole ∙ second-part h.start h.code h.putchar h.getchar h.exit h.check; place = refl }
+
+-- `putchar` stands where calls of it lead, whatever the places
+pub putchar-stands : (functions : List (List Item)) (objects : List Object) (main : ℕ) (places : List Places) (site : Site) → IsText functions objects main places site.symbols site.text → StandsFrom site putchar_items site.symbols.putchar
+putchar-stands functions objects main places site h =
+    record {
+      bytes = h.putchar;
+      here = record { done = h.start ++ h.code; rest = h.getchar ++ h.exit ++ h.check; whole = h.whole ∙ third-part h.start h.code h.putchar h.getchar h.exit h.check; place = h.putchar_is };
+      stand = h.putchar_at site.places;
+    }
+
+-- ---- the functions
+
+-- a function among those that stand one behind the other
+pub record FunctionAt (symbols : Symbols) (places : List Places) (addresses : List ℕ) (address f : ℕ) (items : List Item) (bytes : List ℕ) : Type 0 where
+  pub place : Places
+  pub at : ℕ
+  pub placed : slice_get places f ≡ Some place
+  pub named : slice_get addresses f ≡ Some at
+  pub done : List ℕ
+  pub first : List ℕ
+  pub rest : List ℕ
+  pub whole : bytes ≡ done ++ (first ++ rest)
+  pub where_is : at ≡ address + length done
+  pub stand : ItemsAt symbols place at items first
+
+past-more : (address : ℕ) (a d : List ℕ) → address + length a + length d ≡ address + length (a ++ d)
+past-more address a d = let l = length-append a d in omega arith
+
+-- each function stands somewhere
+pub function-stands : (symbols : Symbols) (address f : ℕ) (functions : List (List Item)) (places : List Places) (addresses : List ℕ) (bytes : List ℕ) (items : List Item) → FunctionsAt symbols address functions places addresses bytes → slice_get functions f ≡ Some items
+    → FunctionAt symbols places addresses address f items bytes
+function-stands symbols address f [] places addresses bytes items h e = absurd (let no : None ≡ Some items = e in cc)
+function-stands symbols address f (g ∷ functions) [] addresses bytes items h e = absurd h
+function-stands symbols address f (g ∷ functions) (p ∷ places) [] bytes items h e = absurd h
+function-stands symbols address zero (g ∷ functions) (p ∷ places) (a ∷ addresses) bytes items (first, rest, whole, is, stand, more) e =
+    record {
+      place = p;
+      at = address;
+      placed = refl;
+      named = ap Some is;
+      done = [];
+      first = first;
+      rest = rest;
+      whole = whole;
+      where_is = none-before address;
+      stand = subst (λ (l : List Item). ItemsAt symbols p address l first) (same_Some g items e) stand;
+    }
+function-stands symbols address (suc f) (g ∷ functions) (p ∷ places) (a ∷ addresses) bytes items (first, rest, whole, is, stand, more) e =
+    let h = function-stands symbols (address + length first) f functions places addresses rest items more e in
+    record {
+      place = h.place;
+      at = h.at;
+      placed = h.placed;
+      named = h.named;
+      done = first ++ h.done;
+      first = h.first;
+      rest = h.rest;
+      whole = whole ∙ ap (λ (l : List ℕ). first ++ l) h.whole ∙ sym (append_assoc first h.done (h.first ++ h.rest));
+      where_is = h.where_is ∙ past-more address first h.done;
+      stand = h.stand;
+    }
+
+-- a function of a text, with its places and its address, stands in the text
+pub record Placed (symbols : Symbols) (places : List Places) (text : List ℕ) (f : ℕ) (items : List Item) : Type 0 where
+  pub place : Places
+  pub address : ℕ
+  pub placed : slice_get places f ≡ Some place
+  pub named : slice_get symbols.functions f ≡ Some address
+  pub stands : (low high : ℕ) → StandsFrom (record { symbols = symbols; places = place; text = text; low = low; high = high }) items address
+
+pub function-placed : (functions : List (List Item)) (objects : List Object) (main : ℕ) (places : List Places) (symbols : Symbols) (text : List ℕ) (f : ℕ) (items : List Item) → IsText functions objects main places symbols text → slice_get functions f ≡ Some items → Placed symbols places text f items
+function-placed functions objects main places symbols text f items h e =
+    let at = function-stands symbols (text_start + length h.start) f functions places symbols.functions h.code items h.code_at e in
+    let here = code-here functions objects main places symbols text h in
+    let split : IsAt text (text_start + length h.start) (at.done ++ (at.first ++ at.rest)) = subst (IsAt text (text_start + length h.start)) at.whole here in
+    let back = at-front text (text_start + length h.start + length at.done) at.first at.rest (at-back text (text_start + length h.start) at.done (at.first ++ at.rest) split) in
+    record {
+      place = at.place;
+      address = at.at;
+      placed = at.placed;
+      named = at.named;
+      stands = λ low high. record { bytes = at.first; here = subst (λ (k : ℕ). IsAt text k at.first) (sym at.where_is) back; stand = at.stand };
+    }

@@ -1,0 +1,10 @@
+pub mod Pushes
+pub mod Stores
+pub mod Interrupts
+pub mod Putchar
+pub mod Return
+pub mod Ending
+pub mod Prologue
+pub mod First
+pub mod Start
+pub mod Beginning

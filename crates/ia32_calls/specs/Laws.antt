@@ -1,0 +1,158 @@
+-- What calls and leaves do to the machine. Each law leads from a state to a later one, and passes no NOP on the way.
+use Rattle.std.specs.Prelude.{◌≡◌, ℕ, ◌+◌, ◌-◌, ◌%◌, ◌^◌, ◌<◌, ◌≤◌, List, [], ◌∷◌, ◌++◌, length, take, drop, slice_get, Some, Ok}
+use Rattle.pcc_base.specs.Outcome.{Ended}
+use Rattle.ia32_regs.specs.declared.names.Reg32.TheVariants.{Eax, Ebx, Esp, Ebp, Esi, Edi}
+use Rattle.ia32_insn.specs.declared.operand.Rm32.TheVariants as rm
+use Rattle.ia32_insn.specs.declared.insn.Insn.TheVariants as insn
+use Rattle.ia32_insn.specs.declared.item.Item.{Item}
+use Rattle.ia32_insn.specs.declared.item.Item.TheVariants as item
+use Rattle.ia32_insn.specs.declared.item.Stub.TheVariants as stub
+use Rattle.ia32_insn.specs.State.{State}
+use Rattle.ia32_insn.specs.Meaning.{Halts, load, word_of}
+use Rattle.ia32_insn.specs.Keeps.{AreDisjoint}
+use Rattle.ia32_insn.specs.Runs.{Steps}
+use Rattle.ia32_insn.specs.Items.{Object, Symbols, Places, ItemsAt, IsText, plain, text_start, text_state, data_start, stack_end, start_items, putchar_items}
+use Rattle.flow_graph.specs.Graphs.{Every}
+use Rattle.ia32_shows.specs.Paths.{IsAt, IsClear, Comes}
+use Rattle.ia32_shows.specs.Placements.{below}
+use Rattle.ia32_shows.proofs.Sound.{IsSound}
+use Rattle.ia32_shows.proofs.Frames.{Site, SoundAt, ReadyAt, Framed, Went}
+use Rattle.ia32_shows.proofs.Cores.{IsInFrame, ApartFrom}
+use Rattle.ia32_rows.specs.Rows.{IsSlot, AllApart, prologue}
+
+-- items stand in the site's text from an address on
+pub record StandsFrom (site : Site) (items : List Item) (address : ℕ) : Type 0 where
+  pub bytes : List ℕ
+  pub here : IsAt site.text address bytes
+  pub stand : ItemsAt site.symbols site.places address items bytes
+
+-- ---- a call of `putchar`
+
+-- the items of `putchar` over slots so far below EBP, where `selected` writes them, and what follows them
+abbrev pub putchar_between : ℕ → ℕ → List Item → List Item
+putchar_between d a back =
+    plain (insn.MovLoad Esi (below a))
+    ∷ plain (insn.Push (rm.Reg Esi))
+    ∷ item.CallStub stub.Putchar
+    ∷ plain (insn.Pop Edi)
+    ∷ plain (insn.Mov (rm.Mem (below d)) Eax)
+    ∷ back
+
+-- places apart from a slot, and from the twelve bytes below ESP
+abbrev pub OutsideCall : ℕ → ℕ → ℕ → ℕ → Type 0
+OutsideCall slot esp b n = ApartFrom slot b n × AreDisjoint (esp - 12) 12 b n
+
+-- a row that called a routine and wrote a word to a slot
+pub record WroteByCall (site : Site) (frame : ℕ) (items : List Item) (slot word : ℕ) (out : List ℕ) (s u : State) : Type 0 where
+  pub went : Went site frame items (OutsideCall slot (word_of Esp s)) out s u
+  pub same : load 4 slot u ≡ Ok word
+
+-- the low byte of the word in the one slot is written, and becomes the word in the other
+abbrev pub PutcharRow : Type 0
+PutcharRow =
+    (site : Site) (frame : ℕ) (back : List Item) (d a x : ℕ) (s : State) → Framed site frame s → site.low + 12 ≤ word_of Esp s → StandsFrom site putchar_items site.symbols.putchar
+    → ReadyAt site (putchar_between d a back) s → IsInFrame frame a → IsInFrame frame d → load 4 (word_of Ebp s - a) s ≡ Ok x → x < 2 ^ 32
+    → (u : State) × WroteByCall site frame back (word_of Ebp s - d) (x % 256) (s.written ++ (x % 256) ∷ []) s u
+
+-- ---- the start
+
+-- the address is the one after the start's call of `main`, behind which `exit` follows
+abbrev pub ReturnsToStart : Symbols → List ℕ → List Object → ℕ → ℕ → Type 0
+ReturnsToStart symbols text objects main address =
+    (before after : List ℕ) × (places : Places)
+    × ItemsAt symbols places text_start (take 3 (start_items (stack_end text objects) symbols.depth main)) before
+    × ItemsAt symbols places (text_start + length before) (drop 3 (start_items (stack_end text objects) symbols.depth main)) after
+    × ((done rest : List ℕ) × (text ≡ done ++ ((before ++ after) ++ rest)) × (text_start ≡ text_start + length done)) × (address ≡ text_start + length before)
+
+-- the state in which `main` begins
+pub record Started (symbols : Symbols) (text : List ℕ) (main address : ℕ) (input : List ℕ) (t : State) : Type 0 where
+  pub comes : Comes text (text_state text [] input) t
+  pub eip : t.eip ≡ address
+  pub sound : IsSound text (data_start text) (stack_end text []) t
+  pub esp : word_of Esp t + 4 ≡ stack_end text []
+  pub return_address : ℕ
+  pub returns : load 4 (word_of Esp t) t ≡ Ok return_address
+  pub returns_to : ReturnsToStart symbols text [] main return_address
+  pub depth : load 4 symbols.depth t ≡ Ok 1
+  pub left : t.left ≡ input
+  pub taken : t.taken ≡ 0
+  pub written : t.written ≡ []
+
+-- the start comes to the first function's address, with one call active
+abbrev pub StartGoes : Type 0
+StartGoes =
+    (functions : List (List Item)) (main : ℕ) (places : List Places) (symbols : Symbols) (text : List ℕ) (address : ℕ) (input : List ℕ)
+    → IsText functions [] main places symbols text → length text < 2 ^ 30 + 1024 → slice_get symbols.functions main ≡ Some address
+    → (t : State) × Started symbols text main address input t
+
+-- ---- a function's first items
+
+-- the state behind the prologue
+pub record Entered (site : Site) (frame : ℕ) (slots : List ℕ) (back : List Item) (t u : State) : Type 0 where
+  pub comes : Comes site.text t u
+  pub ready : ReadyAt site back u
+  pub framed : Framed site frame u
+  pub ebp : word_of Ebp u + 4 ≡ word_of Esp t
+  pub old_ebp : load 4 (word_of Ebp u) u ≡ Ok (word_of Ebp t)
+  pub old_ebx : load 4 (word_of Ebp u - 4) u ≡ Ok (word_of Ebx t)
+  pub old_esi : load 4 (word_of Ebp u - 8) u ≡ Ok (word_of Esi t)
+  pub old_edi : load 4 (word_of Ebp u - 12) u ≡ Ok (word_of Edi t)
+  pub zeros : Every (λ (slot : ℕ). load 4 (word_of Ebp u - slot) u ≡ Ok 0) slots
+  pub kept : (n b w : ℕ) → AreDisjoint (word_of Esp t - (frame + 4)) (frame + 4) b n → load n b t ≡ Ok w → load n b u ≡ Ok w
+  pub left : u.left ≡ t.left
+  pub taken : u.taken ≡ t.taken
+  pub written : u.written ≡ t.written
+
+-- the prologue makes the frame, with the caller's registers in its first words and 0 in each slot
+abbrev pub PrologueGoes : Type 0
+PrologueGoes =
+    (site : Site) (frame : ℕ) (slots : List ℕ) (back : List Item) (t : State) → SoundAt site t → ReadyAt site (prologue frame slots ++ back) t
+    → site.low + frame + 64 ≤ word_of Esp t → word_of Esp t + 4 ≤ site.high → 16 ≤ frame → Every (IsSlot frame) slots → AllApart slots
+    → (u : State) × Entered site frame slots back t u
+
+-- ---- a return
+
+-- the items of a return of the word in a slot, and what follows them
+abbrev pub return_before : ℕ → List Item → List Item
+return_before a back =
+    plain (insn.MovLoad Eax (below a))
+    ∷ plain (insn.MovLoad Ebx (below 4))
+    ∷ plain (insn.MovLoad Esi (below 8))
+    ∷ plain (insn.MovLoad Edi (below 12))
+    ∷ plain insn.Leave
+    ∷ plain insn.Ret
+    ∷ back
+
+-- the state behind the return of a word to an address
+pub record Returned (site : Site) (word address : ℕ) (s u : State) : Type 0 where
+  pub comes : Comes site.text s u
+  pub sound : SoundAt site u
+  pub eip : u.eip ≡ address
+  pub eax : word_of Eax u ≡ word
+  pub esp : word_of Esp u ≡ word_of Ebp s + 8
+  pub memory : u.memory ≡ s.memory
+  pub left : u.left ≡ s.left
+  pub taken : u.taken ≡ s.taken
+  pub written : u.written ≡ s.written
+
+abbrev pub ReturnGoes : Type 0
+ReturnGoes =
+    (site : Site) (frame : ℕ) (back : List Item) (a x address : ℕ) (s : State) → Framed site frame s → ReadyAt site (return_before a back) s → IsInFrame frame a
+    → load 4 (word_of Ebp s - a) s ≡ Ok x → x < 2 ^ 32 → load 4 (word_of Ebp s + 4) s ≡ Ok address → address < 2 ^ 32
+    → (u : State) × Returned site x address s u
+
+-- ---- the end
+
+-- the state in which `exit` is called
+pub record Ending (text : List ℕ) (word : ℕ) (s t : State) : Type 0 where
+  pub comes : Comes text s t
+  pub clear : IsClear text t.eip
+  pub halts : Steps t (Halts (Ended (word % 256)))
+  pub taken : t.taken ≡ s.taken
+  pub written : t.written ≡ s.written
+
+-- behind the return of `main` the run ends with the low byte of its result
+abbrev pub EndingHalts : Type 0
+EndingHalts =
+    (symbols : Symbols) (text : List ℕ) (objects : List Object) (main low high x : ℕ) (s : State) → IsSound text low high s → ReturnsToStart symbols text objects main s.eip → word_of Eax s ≡ x
+    → (t : State) × Ending text x s t

@@ -1,0 +1,2 @@
+pub mod ItemKinds
+pub mod Laid

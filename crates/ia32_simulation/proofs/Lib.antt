@@ -1,0 +1,14 @@
+pub mod Words
+pub mod Setup
+pub mod Areas
+pub mod Main
+pub mod Slots
+pub mod Writes
+pub mod Sets
+pub mod Marks
+pub mod Putchar
+pub mod Returns
+pub mod Bytes
+pub mod Follows
+pub mod Starts
+pub mod Codes
