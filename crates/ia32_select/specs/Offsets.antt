@@ -1,0 +1,49 @@
+-- Slots by their offsets from EBP, and what the code over slots names.
+use Rattle.std.specs.Prelude.{◌≡◌, ◌⊎◌, ◌<◌, ⊤, ℕ, suc, ℤ, pos, negsuc, List, map, slice_get, Some, None}
+use Rattle.std.specs.Int.{w32}
+use Rattle.std.specs.Int.RustNames.{FitsSigned}
+use Rattle.ia32_insn.specs.declared.item.Item.{Item}
+use Rattle.ia32_insn.specs.declared.item.Stub.TheVariants as stub
+use Rattle.flow_graph.specs.declared.op.Op.{Op}
+use Rattle.flow_graph.specs.declared.op.Op.TheVariants as op
+use Rattle.flow_graph.specs.Graphs.{Every}
+use Rattle.ia32_asm.specs.declared.section.Target.TheVariants as target
+use Rattle.ia32_asm.specs.Sections.{target_of}
+
+-- how far below EBP an offset is: 0 for one that isn't below
+abbrev pub distance : ℤ → ℕ
+distance (pos n) = 0
+distance (negsuc n) = suc n
+
+-- the slots at these offsets
+abbrev pub slots_of : List ℤ → List ℕ
+slots_of offsets = map distance offsets
+
+-- every offset is below EBP
+abbrev pub AreBelow : List ℤ → Type 0
+AreBelow offsets = Every (λ z. 0 < distance z) offsets
+
+-- an op that has code, over so many variables
+abbrev pub IsSlotOpOver : ℕ → Op → Type 0
+IsSlotOpOver n (op.Const d m) = d < n
+IsSlotOpOver n (op.Copy d s) = (d < n) × (s < n)
+IsSlotOpOver n (op.Add d a b) = (d < n) × (a < n) × (b < n)
+IsSlotOpOver n (op.Sub d a b) = (d < n) × (a < n) × (b < n)
+IsSlotOpOver n (op.Putchar d s) = (d < n) × (s < n)
+IsSlotOpOver n (op.Mark s) = ⊤
+IsSlotOpOver n op.Turn = ⊤
+IsSlotOpOver n (op.Return (Some a)) = a < n
+IsSlotOpOver n _ = ⊥
+
+-- the number of an op that has one is of 32 bits, as its type has it
+abbrev pub NumberFits : Op → Type 0
+NumberFits (op.Const d n) = FitsSigned w32 n
+NumberFits _ = ⊤
+
+-- the op of the point has such a number
+abbrev pub NumberFitsAt : List Op → ℕ → Type 0
+NumberFitsAt ops point = (o : Op) → slice_get ops point ≡ Some o → NumberFits o
+
+-- the items name no function and no object: only `putchar`
+abbrev pub NamesOnlyPutchar : List Item → Type 0
+NamesOnlyPutchar items = (j : ℕ) (i : Item) → slice_get items j ≡ Some i → (target_of i ≡ None) ⊎ (target_of i ≡ Some (target.Stub stub.Putchar))

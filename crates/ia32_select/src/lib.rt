@@ -1,0 +1,15 @@
+//! Instruction selection for a graph whose variables stand in slots of its frame: in go the graph and the offset of
+//! each variable from EBP, out come the items of its code.
+//!
+//! The items are those that the definitions name (`ia32_rows`, `specs/Rows.antt`). They can be assembled, each point
+//! of the graph stands among them, and they name nothing but `putchar`.
+#![tactic(auto)]
+
+mod blocks;
+mod ops;
+mod selection;
+mod slots;
+#[cfg(test)]
+mod tests;
+
+pub use selection::select_slots;
