@@ -1,5 +1,5 @@
 -- What was linked is the program of the functions.
-use Rattle.std.specs.Prelude.{◌≡◌, ⊤, ◌<◌, ◌≤◌, ℕ, zero, suc, ◌+◌, ◌*◌, ◌/◌, ◌^◌, ◌-◌, ℤ, List, [], ◌∷◌, ◌++◌, flat_map, length, map, replicate, slice_get, slice_index, Some, None, option_map}
+use Rattle.std.specs.Prelude.{◌≡◌, ◌<◌, ◌≤◌, ℕ, zero, suc, ◌+◌, ◌*◌, ◌^◌, ◌-◌, ℤ, List, [], ◌∷◌, ◌++◌, flat_map, length, map, replicate, slice_get, slice_index, Some, option_map}
 use Rattle.std.specs.Int.{w32, cast_unsigned}
 use Rattle.std.proofs.Common.{refl, sym, ap, ◌∙◌, subst, arith, get_or}
 use Rattle.std.proofs.lemmas.List.{length-append, length-map, length-replicate}
@@ -8,19 +8,17 @@ use Rattle.byteorder.specs.Endian.{little_bytes}
 use Rattle.std.proofs.Math.Nat.{mul-suc}
 use Rattle.byteorder.specs.Numbers.{length-bytes_low_first}
 use Rattle.ia32_insn.specs.declared.item.Item.{Item}
-use Rattle.ia32_insn.specs.declared.item.Item.TheVariants as item
 use Rattle.ia32_insn.specs.declared.item.Stub.TheVariants as stub
-use Rattle.ia32_insn.specs.Items.{Symbols, Places, Object, ItemsAt, FunctionsAt, IsText, round_up, zeros, text_start, element_bytes, elements_size, object_bytes, data_bytes, object_addresses, data_start, data_memory, stack_end, start_items, putchar_items, getchar_items, exit_items, check_items}
+use Rattle.ia32_insn.specs.Items.{Symbols, Places, Object, ItemsAt, FunctionsAt, round_up, zeros, text_start, element_bytes, elements_size, object_bytes, data_bytes, object_addresses, data_start, stack_end, start_items, putchar_items, getchar_items, exit_items, check_items}
 use Rattle.ia32_asm.specs.declared.section.Section.{Section}
-use Rattle.ia32_asm.specs.declared.section.Relocation.{Relocation}
 use Rattle.ia32_asm.specs.declared.section.Target.{Target}
 use Rattle.ia32_asm.specs.declared.section.Target.TheVariants as target
-use Rattle.ia32_asm.specs.Sections.{Stands, resolved, HasAddress, HaveAddresses, IsSection}
+use Rattle.ia32_asm.specs.Sections.{resolved, HasAddress, HaveAddresses, IsSection}
 use Rattle.ia32_asm.proofs.Resolved.{length-resolved}
 use Rattle.elf_link.specs.declared.addresses.Addresses.{Addresses}
 use Rattle.elf_link.specs.declared.linked.Linked.{Linked}
-use Rattle.elf_link.specs.Linking.{IsThere, FitsIn, CanLink, CanHold, AreSections, HasPoints, IsLinked, sections_size, objects_size}
-use Rattle.elf_link.specs.Laid.{addresses_from, code_from, points_from, symbols_of, AreInText, AreAddresses, HasCode}
+use Rattle.elf_link.specs.Linking.{IsThere, FitsIn, CanLink, AreSections, HasPoints, IsLinked, sections_size, objects_size}
+use Rattle.elf_link.specs.Laid.{addresses_from, code_from, points_from, symbols_of, AreAddresses, HasCode}
 use Rattle.elf_link.proofs.RoutineItems.{any_places, start_plainly, putchar_plainly, getchar_plainly, exit_plainly, check_plainly}
 use Rattle.elf_link.proofs.Placing.{length-addresses, addresses_bound}
 
@@ -163,6 +161,37 @@ placed symbols nf mo address k (f ∷ functions) (s ∷ sections) has fits room 
 
 -- ---- the whole
 
+-- the code of sections has their bytes
+length-code : (symbols : Symbols) (address nf mo : ℕ) (sections : List Section) → ((i : ℕ) (s : Section) → slice_get sections i ≡ Some s → FitsIn nf mo s)
+    → length (code_from symbols address sections) ≡ sections_size sections
+length-code symbols address nf mo [] fits = refl
+length-code symbols address nf mo (s ∷ sections) fits =
+    let next : ℕ = address + length s.bytes.items in
+    length-append (resolved symbols address s.relocations.items s.bytes.items) (code_from symbols next sections)
+    ∙ omega (
+      arith,
+      length-resolved symbols address s.relocations.items s.bytes.items (fits 0 s refl).inside,
+      length-code symbols next nf mo sections (λ i t e. fits (suc i) t e),
+    )
+
+-- bytes that were put behind a text make it so much longer
+length-put : (old new bytes : List ℕ) (n : ℕ) → new ≡ old ++ bytes → length bytes ≡ n → length new ≡ length old + n
+length-put old new bytes n e size = ap length e ∙ length-append old bytes ∙ ap (λ (k : ℕ). length old + k) size
+
+-- the text has the bytes of the sections, and 104 of the start and the routines
+pub length-linked : {nf mo : ℕ} (sections : List Section) (main : ℕ) (a : Addresses) (text : List ℕ)
+    → ((i : ℕ) (s : Section) → slice_get sections i ≡ Some s → FitsIn nf mo s) → HasCode sections main a text → length text ≡ sections_size sections + 104
+length-linked {nf = nf} {mo = mo} sections main a text fits code =
+    let start : length code.start ≡ 0 + 29 = length-put [] code.start code.starts.bytes 29 code.starts.text code.starts.size in
+    let calls : length code.functions ≡ length code.start + sections_size sections =
+    length-put code.start code.functions _ (sections_size sections) code.calls (length-code (symbols_of a) (text_start + 29) nf mo sections fits)
+    in
+    let puts : length code.putchar ≡ length code.functions + 29 = length-put code.functions code.putchar code.puts.bytes 29 code.puts.text code.puts.size in
+    let gets : length code.getchar ≡ length code.putchar + 33 = length-put code.putchar code.getchar code.gets.bytes 33 code.gets.text code.gets.size in
+    let exits : length code.exit ≡ length code.getchar + 11 = length-put code.getchar code.exit code.exits.bytes 11 code.exits.text code.exits.size in
+    let checks : length text ≡ length code.exit + 2 = length-put code.exit text code.checks.bytes 2 code.checks.text code.checks.size in
+    omega (arith, start, calls, puts, gets, exits, checks)
+
 pub linked_is : (sections : List Section) (objects : List Object) (main : ℕ) (a : Addresses) (linked : Linked) → CanLink sections objects main → AreAddresses sections objects a
     → HasCode sections main a linked.image.text.items → linked.image.data_bytes.items ≡ data_bytes objects → linked.image.entry ≡ text_start
     → map (λ v. v.items) linked.points.items ≡ points_from (text_start + 29) sections → linked.objects.items ≡ a.objects.items
@@ -183,17 +212,10 @@ linked_is sections objects main a linked can laid code data_same entry points_sa
     in
     let start_long : length start ≡ 29 = code.starts.size in
     let size_1 = length-append start body in
-    let size_2 = length-append (start ++ body) code.puts.bytes in
-    let size_3 = length-append (start ++ body ++ code.puts.bytes) code.gets.bytes in
-    let size_4 = length-append (start ++ body ++ code.puts.bytes ++ code.gets.bytes) code.exits.bytes in
-    let size_5 = length-append (start ++ body ++ code.puts.bytes ++ code.gets.bytes ++ code.exits.bytes) code.checks.bytes in
     let puts_long : length code.puts.bytes ≡ 29 = code.puts.size in
     let gets_long : length code.gets.bytes ≡ 33 = code.gets.size in
     let exits_long : length code.exits.bytes ≡ 11 = code.exits.size in
-    let checks_long : length code.checks.bytes ≡ 2 = code.checks.size in
-    let long : length text ≡ sections_size sections + 104 =
-    ap length whole ∙ omega (arith, size_1, size_2, size_3, size_4, size_5, start_long, p.long, puts_long, gets_long, exits_long, checks_long)
-    in
+    let long : length text ≡ sections_size sections + 104 = length-linked sections main a text can.each code in
     let depth : a.depth ≡ data_start text = laid.depth ∙ ap (λ (n : ℕ). text_start + round_up 4096 n) (sym long) in
     let stack : a.stack ≡ stack_end text objects =
     laid.stack ∙ ap (λ (n : ℕ). n + (round_up 4 (4 + objects_size objects) + 67112960)) depth

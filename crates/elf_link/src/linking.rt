@@ -1,6 +1,6 @@
-ghost use Rattle.std.specs.Prelude.{IfOk, List, map};
+ghost use Rattle.std.specs.Prelude.{◌≡◌, ◌+◌, IfOk, List, map, vec_len};
 ghost use Rattle.ia32_insn.specs.declared.item.Item.{Item};
-ghost use Rattle.elf_link.specs.Linking.{AreSections, CanLink, IsLinked, object_of};
+ghost use Rattle.elf_link.specs.Linking.{AreSections, CanLink, IsLinked, object_of, sections_size};
 
 use crate::addresses::{START_BYTES, addresses_of};
 use crate::data::data_of;
@@ -22,8 +22,11 @@ pub fn link(
     main: u32,
 ) -> Result<Linked, NoMemory>
     requires { CanLink sections.now.items (map object_of objects.now.items) main }
-    ensures { IfOk result (λ linked. (functions : List (List Item)) → AreSections 0 functions sections.now.items
+    ensures program { IfOk result (λ linked. (functions : List (List Item)) → AreSections 0 functions sections.now.items
         → IsLinked functions (map object_of objects.now.items) main linked) }
+
+    // The start and the routines have 104 bytes.
+    ensures size { IfOk result (λ linked. vec_len linked.image.text ≡ sections_size sections.now.items + 104) }
 {
     let addresses = addresses_of(alloc, sections, objects)?;
     let text = text_of(alloc, sections, &addresses, main)?;

@@ -1,7 +1,7 @@
 -- The image is that of the functions.
-use Rattle.std.proofs.Common.{refl, map}
+use Rattle.std.proofs.Common.{refl, map, ◌∙◌}
 use Rattle.elf_link.specs.Linking.{object_of}
-use Rattle.elf_link.proofs.Finishing.{linked_is, each_fits}
+use Rattle.elf_link.proofs.Finishing.{linked_is, each_fits, length-linked}
 use Rattle.elf_link.proofs.linking.link.Goals as goal
 
 pub text_of-requires-clause-each : goal.text_of-requires-clause-each
@@ -11,7 +11,11 @@ text_of-requires-clause-each c =
 pub points_of-requires-clause-within : goal.points_of-requires-clause-within
 points_of-requires-clause-within c = λ k s e. (c.requires.each k s e).points
 
-pub returns : goal.returns
-returns c = λ functions are.
+pub returns-clause-program : goal.returns-clause-program
+returns-clause-program c = λ functions are.
     linked_is c.args.sections.now.items (map object_of c.args.objects.now.items) c.args.main c.in_ok-addresses.addresses _ c.requires c.in_ok-addresses.ensures
     c.in_ok-text.ensures c.in_ok-data_bytes.ensures refl c.in_ok-points.ensures refl functions are
+
+pub returns-clause-size : goal.returns-clause-size
+returns-clause-size c =
+    c.in_ok-text.text.ok.0 ∙ length-linked c.args.sections.now.items c.args.main c.in_ok-addresses.addresses _ c.requires.each c.in_ok-text.ensures

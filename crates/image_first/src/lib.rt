@@ -1,0 +1,7 @@
+//! The first state of the image of a text (`specs/Begins.antt`): what the linker lays out is what the machine begins
+//! with.
+#![tactic(auto)]
+
+mod laws;
+
+pub use laws::{one_area, text_begins};
