@@ -1,0 +1,9 @@
+pub mod Filling
+pub mod Marked
+pub mod Parts
+pub mod Reached
+pub mod Reading
+pub mod Rules
+pub mod Shown
+pub mod Visits
+pub mod Words

@@ -1,0 +1,151 @@
+-- The parts that the marks of a function over slots show: the locals that are declared before each statement.
+use Rattle.std.proofs.Common.{◌≡◌, ℕ, zero, suc, ◌+◌, ◌<◌, ◌≤◌, Bool, true, false, List, [], ◌∷◌, ◌++◌, length, map, take, eqb, Option, Some, refl, sym, ap, ◌∙◌, subst, arith, inl, inr}
+use Rattle.std.proofs.lemmas.List.{length-take}
+use Rattle.std.specs.Prelude.{◌⊎◌, filter_map, slice_get, if◌then◌else◌}
+use Rattle.std.proofs.lemmas.Bool.Decides.{eqb_tells}
+use Rattle.pcc_base.specs.declared.run.Width.{Width}
+use Rattle.pcc_base.specs.Outcome.{Part, Scalar}
+use Rattle.c_tree.specs.declared.types.ValueType.{ValueType}
+use Rattle.c_tree.specs.Program.{Statements, Local, Function}
+use Rattle.c_tree.specs.SlotForm.{AreIntLocals, IsSlotFunction}
+use Rattle.flow_graph.specs.declared.op.Op.{Op}
+use Rattle.flow_graph.specs.declared.op.Op.TheVariants as op
+use Rattle.flow_graph.specs.Graphs.{Every, IsIn}
+use Rattle.c_lower.specs.Code.{lowered}
+use Rattle.c_lower.specs.Shown.{IsInteger, IsPartOf, first_variable, locals_at, type_widths, variable_part}
+use Rattle.pcc_listing.specs.Lines.{Line, Named}
+use Rattle.pcc_listing.specs.Marks.{MarkAt, listed, listed_by, part_named, part_of, variables_in}
+use Rattle.slot_map.specs.SlotLines.{declared_before, slot_lines, standings_from}
+use Rattle.slot_map.specs.MapLaws.{MapListsLocals}
+use Rattle.slot_map.proofs.Marked.{function-declares, locals-fit}
+use Rattle.slot_map.proofs.Reading.{IsLocalAt, local-at, marks-are, op_marks, points_all, points_marks, variables-are, variables_over}
+
+-- ---- scalars
+
+-- the scalar locals from a number on, as many as these slots
+abbrev pub scalars : ℕ → List ℕ → List Part
+scalars k [] = []
+scalars k (slot ∷ slots) = Scalar k ∷ scalars (suc k) slots
+
+-- a variable shows its local
+part-at : (variables : List (Width × Named)) (v slot : ℕ) → IsLocalAt variables v → part_named variables v (slice_get variables v) ≡ Some (Scalar v)
+part-at variables v slot local = ap (part_named variables v) local.at ∙ ap (λ (n : ℕ). Some (Scalar n)) local.before
+
+-- variables in slots show their locals
+pub standings-parts : (variables : List (Width × Named)) (k : ℕ) (slots : List ℕ) → ((v : ℕ) → k ≤ v → v < k + length slots → IsLocalAt variables v)
+    → filter_map (part_of variables) (standings_from k slots) ≡ scalars k slots
+standings-parts variables k [] locals = refl
+standings-parts variables k (slot ∷ slots) locals =
+    let here = part-at variables k slot (locals k (omega arith) (omega arith)) in
+    let later = standings-parts variables (suc k) slots (λ v low high. locals v (omega (arith, low)) (omega (arith, high))) in
+    rw here (ap (λ (ps : List Part). Scalar k ∷ ps) later)
+
+-- they are locals of type int
+pub scalars-listed : (locals : List Local) (k : ℕ) (slots : List ℕ) → AreIntLocals locals → k + length slots ≤ length locals → Every (IsPartOf locals) (scalars k slots)
+scalars-listed locals k [] ints room = tt
+scalars-listed locals k (slot ∷ slots) ints room = (int-at locals k ints (omega (arith, room)), scalars-listed locals (suc k) slots ints (omega (arith, room)))
+  where
+    int-at : (ls : List Local) (v : ℕ) → AreIntLocals ls → v < length ls → IsPartOf ls (Scalar v)
+    int-at [] v all h = absurd (omega (arith, h))
+    int-at (l ∷ ls) zero all h = (l, refl, subst IsInteger (sym all.0) tt)
+    int-at (l ∷ ls) (suc v) all h = int-at ls v all.1 (omega (arith, h))
+
+-- the first variable of a local of type int is that of its number
+first-is : (locals : List Local) (k : ℕ) → AreIntLocals locals → k < length locals → first_variable locals k ≡ k
+first-is [] k ints h = absurd (omega (arith, h))
+first-is (l ∷ locals) zero ints h = refl
+first-is (l ∷ locals) (suc k) ints h =
+    let more : 1 + first_variable locals k ≡ suc k = omega (arith, first-is locals k ints.1 (omega (arith, h))) in
+    ap (λ (t : ValueType). length (type_widths t) + first_variable locals k) ints.0 ∙ more
+
+-- so the locals have their own variables
+pub scalars-kept : (locals : List Local) (k : ℕ) (slots : List ℕ) → AreIntLocals locals → k + length slots ≤ length locals → map (variable_part locals) (scalars k slots) ≡ scalars k slots
+scalars-kept locals k [] ints room = refl
+scalars-kept locals k (slot ∷ slots) ints room =
+    ap (λ (v : ℕ). Scalar v ∷ map (variable_part locals) (scalars (suc k) slots)) (first-is locals k ints (omega (arith, room)))
+    ∙ ap (λ (ps : List Part). Scalar k ∷ ps) (scalars-kept locals (suc k) slots ints (omega (arith, room)))
+
+-- ---- the parts of a statement
+
+-- the slots of the locals that are declared before a statement
+abbrev pub slots_before : Function → List ℕ → ℕ → List ℕ
+slots_before f slots n = take (declared_before f.body n) slots
+
+pub slots-few : (f : Function) (slots : List ℕ) (n : ℕ) → IsSlotFunction f → length (slots_before f slots n) ≤ length f.locals
+slots-few f slots n form = let few = function-declares f n form in omega (arith, few, length-take {A = ℕ})
+
+-- what the lines show of a mark
+abbrev pub parts_at : List Line → Statements → List ℕ → ℕ → List Part
+parts_at lines body slots n = filter_map (part_of (variables_in 0 0 lines)) (standings_from 0 (take (declared_before body n) slots))
+
+pub local-all : (f : Function) (v : ℕ) → v < length f.locals → IsLocalAt (variables_over f.locals (lowered f).widths) v
+local-all f v h = local-at f.locals (lowered f).widths v h (locals-fit f (lowered f) refl)
+
+pub parts-are : (f : Function) (slots : List ℕ) (address : ℕ → ℕ) (n : ℕ) → IsSlotFunction f → parts_at (slot_lines f (lowered f) slots address) f.body slots n ≡ scalars 0 (slots_before f slots n)
+parts-are f slots address n form =
+    let mine = slots_before f slots n in
+    let few = slots-few f slots n form in
+    ap (λ (vs : List (Width × Named)). filter_map (part_of vs) (standings_from 0 mine)) (variables-are f slots address)
+    ∙ standings-parts (variables_over f.locals (lowered f).widths) 0 mine (λ v low high. local-all f v (omega (arith, high, few)))
+
+-- ---- listings
+
+each-if : (P : Part → Type 0) (b : Bool) (xs ys : List Part) → Every P xs → Every P ys → Every P (if b then xs else ys)
+each-if P true xs ys one other = one
+each-if P false xs ys one other = other
+
+each-op : (P : Part → Type 0) (lines : List Line) (body : Statements) (slots : List ℕ) (address : ℕ → ℕ) (statement p : ℕ) (o : Option Op) (rest : List MarkAt)
+    → ((n : ℕ) → Every P (parts_at lines body slots n)) → Every P (listed_by lines rest statement) → Every P (listed_by lines (op_marks body slots address p o ++ rest) statement)
+each-op P lines body slots address statement p (Some (op.Mark n)) rest all more = each-if P (eqb n statement) (parts_at lines body slots n) (listed_by lines rest statement) (all n) more
+each-op P lines body slots address statement p _ rest all more = more
+
+-- what holds of the parts at each mark holds of those listed
+each-listed : (P : Part → Type 0) (lines : List Line) (body : Statements) (slots : List ℕ) (address : ℕ → ℕ) (ops : List Op) (statement : ℕ) (points : List ℕ)
+    → ((n : ℕ) → Every P (parts_at lines body slots n)) → Every P (listed_by lines (points_marks body slots address ops points) statement)
+each-listed P lines body slots address ops statement [] all = tt
+each-listed P lines body slots address ops statement (p ∷ points) all =
+    each-op P lines body slots address statement p (slice_get ops p) (points_marks body slots address ops points) all (each-listed P lines body slots address ops statement points all)
+
+pub function-lists : (f : Function) (slots : List ℕ) (address : ℕ → ℕ) (statement : ℕ) → IsSlotFunction f → Every (IsPartOf f.locals) (listed (slot_lines f (lowered f) slots address) statement)
+function-lists f slots address statement form =
+    let lines = slot_lines f (lowered f) slots address in
+    let P = IsPartOf f.locals in
+    let each : (n : ℕ) → Every P (parts_at lines f.body slots n) =
+    λ n. subst (Every P) (sym (parts-are f slots address n form)) (scalars-listed f.locals 0 (slots_before f slots n) form.locals (omega (arith, slots-few f slots n form))) in
+    subst (λ (ms : List MarkAt). Every P (listed_by lines ms statement)) (sym (marks-are f slots address)) (each-listed P lines f.body slots address (lowered f).ops statement (points_all f) each)
+
+-- the map lists locals of the program
+pub lists-locals : MapListsLocals
+lists-locals program form slots address statement =
+    let lines = slot_lines form.function (lowered form.function) slots address in
+    subst (λ (fs : List Function). Every (IsPartOf (locals_at fs statement)) (listed lines statement)) (sym form.one_function) (function-lists form.function slots address statement form.accepted)
+
+-- ---- the parts at a mark
+
+-- marks of one statement
+pub mark-number : (n m : ℕ) → Some (op.Mark n) ≡ Some (op.Mark m) → n ≡ m
+mark-number n m e = cc
+
+listed-op : (lines : List Line) (body : Statements) (slots : List ℕ) (address : ℕ → ℕ) (statement p : ℕ) (o : Option Op) (rest : List MarkAt)
+    → (o ≡ Some (op.Mark statement)) ⊎ (listed_by lines rest statement ≡ parts_at lines body slots statement)
+    → listed_by lines (op_marks body slots address p o ++ rest) statement ≡ parts_at lines body slots statement
+listed-op lines body slots address statement p (Some (op.Mark n)) rest or =
+    elim (eqb_tells n statement) [
+      | inl same ↦
+          ap (λ (b : Bool). if b then parts_at lines body slots n else listed_by lines rest statement) same.0 ∙ ap (parts_at lines body slots) same.1
+      | inr other ↦
+          ap (λ (b : Bool). if b then parts_at lines body slots n else listed_by lines rest statement) other.0
+          ∙ (elim or [ inl here ↦ absurd (other.1 (mark-number n statement here)) | inr later ↦ later ])
+    ]
+listed-op lines body slots address statement p _ rest (inl here) = absurd (cc)
+listed-op lines body slots address statement p _ rest (inr later) = later
+
+-- at a mark of a statement the listing has the parts of that mark
+pub listed-mark : (lines : List Line) (body : Statements) (slots : List ℕ) (address : ℕ → ℕ) (ops : List Op) (statement here : ℕ) (points : List ℕ) → IsIn here points
+    → slice_get ops here ≡ Some (op.Mark statement) → listed_by lines (points_marks body slots address ops points) statement ≡ parts_at lines body slots statement
+listed-mark lines body slots address ops statement here [] within at = absurd within
+listed-mark lines body slots address ops statement here (p ∷ points) (inl same) at =
+    listed-op lines body slots address statement p (slice_get ops p) (points_marks body slots address ops points) (inl (ap (slice_get ops) same ∙ at))
+listed-mark lines body slots address ops statement here (p ∷ points) (inr within) at =
+    listed-op lines body slots address statement p (slice_get ops p) (points_marks body slots address ops points)
+    (inr (listed-mark lines body slots address ops statement here points within at))

@@ -1,0 +1,24 @@
+//! Laws of the lines of a function over slots: each function's contract is one, and the function does nothing.
+
+ghost use Rattle.slot_map.specs.MapLaws.{LinesBySameAddresses, MapKeepsRules, MapListsLocals, MapShowsVisits};
+
+/// What the map lists are locals of the program.
+pub fn map_lists_locals()
+    ensures { MapListsLocals }
+{}
+
+/// At the address of a mark the map shows the statement, with the values of the locals that are declared before it.
+/// At a turn, and where no NOP is, it shows nothing.
+pub fn map_shows_visits()
+    ensures { MapShowsVisits }
+{}
+
+/// Where the function and its locals have names, the lines keep the rules of a map.
+pub fn map_keeps_rules()
+    ensures { MapKeepsRules }
+{}
+
+/// The lines are the same where the points have the same addresses.
+pub fn lines_by_same_addresses()
+    ensures { LinesBySameAddresses }
+{}

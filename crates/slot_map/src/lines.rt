@@ -1,0 +1,194 @@
+//! The lines of a function over slots.
+
+ghost use Rattle.std.specs.Prelude.{◌≡◌, ◌≤◌, ◌++◌, IfOk, OnOk, length, map, option_map, replicate, slice_get, slice_index};
+ghost use Rattle.std.specs.List.{range_with_len};
+ghost use Rattle.pcc_base.specs.declared.run.Width.TheVariants.{Two};
+ghost use Rattle.c_tree.specs.Erased.{function_of, local_of, statement_of, statements_of};
+ghost use Rattle.c_tree.specs.SlotForm.{IsSlotFunction};
+ghost use Rattle.c_lower.specs.Code.{lowered};
+ghost use Rattle.ia32_rows.specs.Rows.{HasSlots};
+ghost use Rattle.ia32_select.specs.Offsets.{AreBelow, slots_of};
+ghost use Rattle.pcc_listing.specs.Views.{line_of, standing_of};
+ghost use Rattle.slot_map.specs.SlotLines as slot_specs;
+ghost use Rattle.slot_map.specs.SlotLines.{declared_before, block_lines, marked_lines, slot_lines, standings_from, variable_lines};
+
+use c_tree::{Function, Local, Statement};
+use flow_graph::{Graph, Op};
+use pcc_base::{Name, NoMemory, Width};
+use pcc_listing::{Line, Standing};
+use std::alloc::Global;
+
+/// Where the slots of the first variables are, by their offsets from EBP.
+fn standings(alloc: Global, offsets: &[i32]) -> Result<Vec<Standing>, NoMemory>
+    requires few { length offsets.now ≤ 16384 }
+    requires below { AreBelow offsets.now }
+    ensures { IfOk result (λ standings. map standing_of standings.items ≡ standings_from 0 (slots_of offsets.now)) }
+{
+    let mut standings = Vec::new(alloc);
+    for (variable, offset) in offsets.iter().enumerate() {
+        standings.push(Standing {
+            variable: variable as u32,
+            below: offset.unsigned_abs(),
+        })?;
+    }
+    Ok(standings)
+}
+
+/// A point at which a statement is marked, and where it stands.
+#[derive(Clone, Copy, Debug)]
+struct MarkedPoint {
+    point: u32,
+    address: u32,
+    statement: u32,
+}
+
+/// Puts the lines of a marked point at the end; the locals declared before it have these offsets from EBP.
+fn push_mark(
+    alloc: Global,
+    lines: &mut Vec<Line>,
+    mark: MarkedPoint,
+    offsets: &[i32],
+) -> Result<(), NoMemory>
+    requires few { length offsets.now ≤ 16384 }
+    requires below { AreBelow offsets.now }
+    ensures { OnOk result (
+        map line_of lines.new.items
+        ≡ map line_of lines.old.items ++ marked_lines mark.point mark.address mark.statement (slots_of offsets.now)) }
+{
+    let standings = standings(alloc, offsets)?;
+    lines.push(Line::Mark {
+        point: mark.point,
+        address: mark.address,
+        statement: mark.statement,
+    })?;
+    lines.push(Line::Before(standings))?;
+    Ok(())
+}
+
+/// How many locals a statement declares.
+fn declared_by(statement: &Statement) -> u32
+    ensures { result ≡ slot_specs.declared_by (statement_of statement.now) }
+{
+    match statement {
+        Statement::Declare(_) => 1,
+        _ => 0,
+    }
+}
+
+/// How many locals are declared before each statement of the body.
+fn declared_counts(alloc: Global, function: &Function) -> Result<Vec<u32>, NoMemory>
+    requires form { IsSlotFunction (function_of function.now) }
+    requires few { length function.now.locals.items ≤ 16384 }
+    ensures { IfOk result (λ counts.
+        counts.items
+        ≡ map (declared_before (statements_of function.now.body.items)) (range_with_len 0 (length function.now.body.items))) }
+{
+    let mut counts = Vec::new(alloc);
+    let mut declared = 0;
+    for statement in &function.body {
+        counts.push(declared)?;
+        declared += declared_by(statement);
+    }
+    Ok(counts)
+}
+
+/// The same name once more.
+fn copied(alloc: Global, name: &Name) -> Result<Name, NoMemory>
+    ensures { IfOk result (λ copy. copy ≡ name.now) }
+{
+    Ok(Name::new(name.as_bytes().to_vec(alloc)?))
+}
+
+/// The name of a variable, if it is a local's.
+fn name_of(alloc: Global, locals: &[Local], variable: u32) -> Result<Option<Name>, NoMemory>
+    ensures { IfOk result (λ name. name ≡ option_map (λ l. l.name) (slice_get locals.now variable)) }
+{
+    match locals.get(variable as usize) {
+        Some(local) => Ok(Some(copied(alloc, &local.name)?)),
+        None => Ok(None),
+    }
+}
+
+/// Puts the lines of the variables at the end: the locals are the first ones.
+fn push_variables(
+    alloc: Global,
+    lines: &mut Vec<Line>,
+    locals: &[Local],
+    variables: u32,
+) -> Result<(), NoMemory>
+    ensures { OnOk result (
+        map line_of lines.new.items
+        ≡ map line_of lines.old.items ++ variable_lines 0 (map local_of locals.now) (replicate variables Two)) }
+{
+    for number in 0..variables {
+        let name = name_of(alloc, locals, number)?;
+        lines.push(Line::Variable {
+            number,
+            width: Width::Two,
+            name,
+        })?;
+    }
+    Ok(())
+}
+
+/// Puts the lines of the marked points at the end.
+fn push_points(
+    alloc: Global,
+    lines: &mut Vec<Line>,
+    function: &Function,
+    graph: &Graph,
+    offsets: &[i32],
+    points: &[u32],
+) -> Result<(), NoMemory>
+    requires form { IsSlotFunction (function_of function.now) }
+    requires lowered { graph.now ≡ lowered (function_of function.now) }
+    requires slots { HasSlots graph.now (slots_of offsets.now) }
+    requires addresses { length graph.now.ops ≤ length points.now }
+    ensures { OnOk result (
+        map line_of lines.new.items
+        ≡ map line_of lines.old.items
+        ++ block_lines (statements_of function.now.body.items) (slots_of offsets.now) (λ point. slice_index points.now point) graph.now.ops (range_with_len 0 (length graph.now.ops))) }
+{
+    let counts = declared_counts(alloc, function)?;
+    for point in 0..graph.points() {
+        if let Op::Mark(statement) = graph.op(point) {
+            let mark = MarkedPoint {
+                point,
+                address: points[point as usize],
+                statement: *statement,
+            };
+            let declared = counts[*statement as usize] as usize;
+            push_mark(alloc, lines, mark, &offsets[..declared])?;
+        }
+    }
+    Ok(())
+}
+
+/// The lines of the map of a program of one function: each variable has an offset from EBP, and each point an
+/// address. The only refusal is want of memory.
+pub fn map_lines(
+    alloc: Global,
+    function: &Function,
+    graph: &Graph,
+    offsets: &[i32],
+    points: &[u32],
+) -> Result<Vec<Line>, NoMemory>
+    requires form { IsSlotFunction (function_of function.now) }
+    requires lowered { graph.now ≡ lowered (function_of function.now) }
+    requires slots { HasSlots graph.now (slots_of offsets.now) }
+    requires addresses { length graph.now.ops ≤ length points.now }
+    ensures { IfOk result (λ lines.
+        map line_of lines.items
+        ≡ slot_lines (function_of function.now) graph.now (slots_of offsets.now) (λ point. slice_index points.now point)) }
+{
+    let variables = graph.vars();
+    let mut lines = Vec::new(alloc);
+    lines.push(Line::Function {
+        number: 0,
+        name: copied(alloc, &function.name)?,
+        frame: 16 + 4 * variables,
+    })?;
+    push_variables(alloc, &mut lines, &function.locals, variables)?;
+    push_points(alloc, &mut lines, function, graph, offsets, points)?;
+    Ok(lines)
+}
