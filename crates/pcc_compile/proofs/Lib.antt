@@ -1,0 +1,6 @@
+pub mod Lines
+pub mod Frames
+pub mod Headline
+pub mod Passes
+pub mod Placed
+pub mod Worked

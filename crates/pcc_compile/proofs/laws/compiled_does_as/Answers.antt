@@ -1,0 +1,25 @@
+-- The code runs as its graph does, its image begins in its first state, and the map shows the visits.
+use Rattle.std.proofs.Common.{List, [], ◌∷◌, subst}
+use Rattle.c_tree.specs.Program.{Function}
+use Rattle.flow_graph.specs.Graphs.{Every}
+use Rattle.elf_image.specs.Layout.{image_bytes}
+use Rattle.elf_link.specs.Areas.{parts_of_text}
+use Rattle.c_lower.specs.Code.{lowered}
+use Rattle.ia32_shows.specs.Placements.{point_address}
+use Rattle.slot_map.specs.MapLaws.{lines_of}
+use Rattle.pcc_compile.specs.Products.{IsNamedFunction}
+use Rattle.pcc_compile.proofs.Headline.{image_does, text_fits}
+use Rattle.pcc_compile.proofs.laws.compiled_does_as.Goals as goal
+
+pub returns : goal.returns
+returns c = λ program form slots code keeps is.
+    let f = form.form.function in
+    let named : Every IsNamedFunction (f ∷ []) = subst (λ (fs : List Function). Every IsNamedFunction fs) form.form.one_function form.names in
+    let right = c.slots_are_right.ensures (lowered f) slots code is in
+    let lists = c.map_lists_locals.ensures program form.form slots (point_address code 0) in
+    let shows = c.map_shows_visits.ensures program form.form slots code is in
+    record {
+      keeps_rules = c.map_keeps_rules.ensures program form.form slots code is named.0.name named.0.locals;
+      does_as = image_does program code (lines_of f slots code) (image_bytes (parts_of_text code.text [])) keeps right.runs lists shows
+          (λ input. c.text_begins.ensures code.text [] input (text_fits code.text is.bytes is.fits));
+    }

@@ -1,0 +1,4 @@
+pub mod Compiled
+pub mod Products
+pub mod Slots
+pub mod Worked

@@ -1,0 +1,48 @@
+-- What a compiled image is worth: for every input and every number n of turns of the source there is a number of
+-- machine steps, at least n, with exactly the outcome of those turns.
+use Rattle.std.specs.Prelude.{◌≡◌, ◌≤◌, ℕ, List}
+use Rattle.pcc_base.specs.Outcome.{Outcome}
+use Rattle.c_tree.specs.Program.{Local, Function, Program}
+use Rattle.c_tree.specs.Evaluation.{source_outcome}
+use Rattle.c_tree.specs.Sizes.{frame_bound}
+use Rattle.c_tree.specs.SlotForm.{IsSlotProgram}
+use Rattle.flow_graph.specs.Graphs.{Every}
+use Rattle.ia32_insn.specs.State.{State}
+use Rattle.ia32_insn.specs.Runs.{Runs}
+use Rattle.ia32_machine.specs.First.{First}
+use Rattle.pcc_listing.specs.Lines.{Line, IsMap, IsName, map_text}
+use Rattle.pcc_listing.specs.Marks.{visits_of, listed}
+
+-- m steps of the image with these bytes have this outcome, with the visits that the map shows
+abbrev pub ImageOutcome : List ℕ → List Line → List ℕ → ℕ → Outcome → Type 0
+ImageOutcome image map input m outcome = (s : State) × First image input s × Runs (visits_of map) m s outcome
+
+-- the image does what the program does: the same visited statements with the same values in the map's
+-- places, the same input taken and bytes written, and the same end or still running
+abbrev pub DoesAs : List ℕ → List Line → Program → Type 0
+DoesAs image map program =
+    (input : List ℕ) (n : ℕ) → (m : ℕ) × (n ≤ m) × ImageOutcome image map input m (source_outcome program (listed map) input n)
+
+-- the texts of a map and an image for a program
+abbrev pub AreProducts : Program → List ℕ → List ℕ → Type 0
+AreProducts program map_bytes image_bytes = (map : List Line) × IsMap map × (map_bytes ≡ map_text map) × DoesAs image_bytes map program
+
+-- ---- what is compiled so far
+
+-- the names of functions and locals are identifiers (C99 6.4.2.1)
+abbrev pub IsNamedLocal : Local → Type 0
+IsNamedLocal l = IsName l.name
+
+pub record IsNamedFunction (f : Function) : Type 0 where
+  pub name : IsName f.name
+  pub locals : Every IsNamedLocal f.locals
+
+-- a frame is within its limit
+abbrev pub IsSmallFrame : Function → Type 0
+IsSmallFrame f = frame_bound f ≤ 16384
+
+-- the programs that are compiled so far
+pub record IsCompiledForm (program : Program) : Type 0 where
+  pub form : IsSlotProgram program
+  pub names : Every IsNamedFunction program.functions
+  pub frames : Every IsSmallFrame program.functions

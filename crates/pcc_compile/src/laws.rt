@@ -1,0 +1,19 @@
+//! Laws of compiled code: each function's contract is one, and the function does nothing.
+
+ghost use Rattle.pcc_compile.specs.Compiled.{CompiledDoesAs};
+
+use ia32_simulation::slots_are_right;
+use image_first::text_begins;
+use slot_map::{map_keeps_rules, map_lists_locals, map_shows_visits};
+
+/// Where the code of a program's function was linked, the image of its text does what the program does, as the map of
+/// its points shows it.
+pub fn compiled_does_as()
+    ensures { CompiledDoesAs }
+{
+    slots_are_right();
+    text_begins();
+    map_lists_locals();
+    map_shows_visits();
+    map_keeps_rules();
+}
