@@ -1,5 +1,6 @@
 //! Runs of the whole compiler: over files in memory, and over files of the system.
 
+use elf_image::{Image, TEXT_ADDRESS, write_image};
 use pcc_driver::pcc;
 use pcc_outside::{FileStore, HostFiles, MemFiles, MemSink, MemSource};
 use std::alloc::Global;
@@ -57,29 +58,96 @@ fn files_with(alloc: Global, source: &str, failing_call: u64) -> Result<MemFiles
     }
 }
 
-/// A source is compiled and its image is run, or both are refused.
+/// A source is compiled and its image is run.
 #[test]
 fn compiles_and_runs(rt: HostRuntime) -> Result<(), Fail> {
     let alloc = rt.alloc();
-    let not_yet = "a.c:1:1: 26 NotYet\n";
-    for (source, compiled, ran) in [
+    let markers = "# 0 \"a.c\"\n# 0 \"<built-in>\"\n# 0 \"<command-line>\"\n\
+        # 1 \"/usr/include/stdc-predef.h\" 1 3 4\n# 0 \"<command-line>\" 2\n# 1 \"a.c\"\n\
+        int main(void){return 7;}";
+    for (source, out, ran) in [
         ("int main(void){return 300;}", "", "exit 44\n"),
         ("int main(void){return 0;}\n", "", "exit 0\n"),
         ("int main(void){return 2147483647;}", "", "exit 255\n"),
-        ("int main(void){return 2147483648;}", not_yet, "no file a\n"),
-        ("int main(void){return 07;}", not_yet, "no file a\n"),
-        ("int main(void){return 7;}\n\n", not_yet, "no file a\n"),
-        ("", not_yet, "no file a\n"),
+        ("int main(void){return 07;}", "", "exit 7\n"),
+        ("int main(void)<%return 7;%>\n\n", "", "exit 7\n"),
+        (markers, "", "exit 7\n"),
+        (
+            "int main(void){int x=70; int y=x+2; putchar(y); putchar(x-1); return y-x;}",
+            "HE",
+            "exit 2\n",
+        ),
+        (
+            "int main(void){int x=2147483647; x=x+1; return x-1;}",
+            "",
+            "exit 255\n",
+        ),
     ] {
-        let refused = !compiled.is_empty();
         let mut files = files_with(alloc, source, 0)?;
         let first = run_line(alloc, "compile -o a a.c", &mut files, 0)?;
-        assert_eq!(rt; first.err.taken(), compiled.as_bytes(), "{source}");
-        assert_eq!(rt; first.status, u8::from(refused), "{source}");
+        assert_eq!(rt; first.err.taken(), b"".as_slice(), "{source}");
+        assert_eq!(rt; first.status, 0, "{source}");
         let second = run_line(alloc, "run a", &mut files, 0)?;
         assert_eq!(rt; second.err.taken(), ran.as_bytes(), "{source}");
-        assert_eq!(rt; second.status, if refused { 6 } else { 0 }, "{source}");
-        assert!(rt; first.out.taken().is_empty() && second.out.taken().is_empty());
+        assert_eq!(rt; second.status, 0, "{source}");
+        assert_eq!(rt; second.out.taken(), out.as_bytes(), "{source}");
+        assert!(rt; first.out.taken().is_empty());
+    }
+    Ok(())
+}
+
+/// A source that is no program, or is of a form that isn't compiled yet, is refused with its fault and its place, and
+/// nothing is written.
+#[test]
+fn refuses_sources(rt: HostRuntime) -> Result<(), Fail> {
+    let alloc = rt.alloc();
+    let mut semicolons = String::new(alloc);
+    for _ in 0..65_537 {
+        semicolons.push(';')?;
+    }
+    let not_yet = "a.c:1:1: 26 NotYet\n";
+    for (source, status, line) in [
+        ("int main(void){return @;}", 1, "a.c:1:23: 1 BadByte\n"),
+        ("int main(void){return 08;}", 1, "a.c:1:23: 2 BadNumber\n"),
+        (
+            "int main(void){return 2147483648;}",
+            1,
+            "a.c:1:23: 2 BadNumber\n",
+        ),
+        (
+            "int main(void){return 1;} /* x",
+            1,
+            "a.c:1:27: 3 Unclosed\n",
+        ),
+        (
+            "int main(void){return '\\q';}",
+            1,
+            "a.c:1:23: 4 BadEscape\n",
+        ),
+        ("int main(void){return 1}", 1, "a.c:1:24: 5 Syntax\n"),
+        ("int main(void){\n", 1, "a.c:2:1: 5 Syntax\n"),
+        (
+            "int main(void){goto x;}",
+            1,
+            "a.c:1:16: 6 Unsupported goto\n",
+        ),
+        ("int main(void){int x=1; return x*2;}", 1, not_yet),
+        ("int main(void){return x;}", 1, not_yet),
+        ("", 1, not_yet),
+        (semicolons.as_str(), 3, "limit 20 Tokens 65537\n"),
+    ] {
+        let mut files = files_with(alloc, source, 0)?;
+        let first = run_line(alloc, "compile -o a a.c", &mut files, 0)?;
+        assert_eq!(rt; first.err.taken(), line.as_bytes());
+        assert_eq!(rt; first.status, status, "{line}");
+        assert!(rt; first.out.taken().is_empty(), "{line}");
+        assert!(rt;
+            files.content("a").is_none() && files.content("a.map").is_none(),
+            "{line}"
+        );
+        let second = run_line(alloc, "run a", &mut files, 0)?;
+        assert_eq!(rt; second.err.taken(), b"no file a\n".as_slice(), "{line}");
+        assert_eq!(rt; second.status, 6, "{line}");
     }
     Ok(())
 }
@@ -110,10 +178,8 @@ fn refuses_words_and_names(rt: HostRuntime) -> Result<(), Fail> {
         assert_eq!(rt; answer.status, status, "{line}");
         assert!(rt; answer.out.taken().is_empty(), "{line}");
     }
-    assert_eq!(rt;
-        files.content("a.map").unwrap_or(b""),
-        b"pcc map 1\npoint 0 08048005 mark 0\nend\n".as_slice()
-    );
+    let map = files.content("a.map").unwrap_or(b"");
+    assert!(rt; map.starts_with(b"pcc map 1\n") && map.ends_with(b"end\n"));
     Ok(())
 }
 
@@ -140,6 +206,20 @@ fn names_faults(rt: HostRuntime) -> Result<(), Fail> {
     Ok(())
 }
 
+/// A small image: ESP is set to the end of the stack, and the program exits with status 44.
+fn small_image(alloc: Global) -> Result<Vec<u8>, Fail> {
+    let text = [
+        0xBC, 0x04, 0xA0, 0x04, 0x0C, 0x90, 0xBB, 0x2C, 0x01, 0x00, 0x00, 0xB8, 0x01, 0x00, 0x00,
+        0x00, 0xCD, 0x80,
+    ];
+    let image = Image {
+        entry: TEXT_ADDRESS,
+        text: Vec::from_slice(alloc, text.as_slice())?,
+        data_bytes: Vec::from_slice(alloc, &[0; 4])?,
+    };
+    Ok(write_image(alloc, &image)?)
+}
+
 /// The image with the byte at an offset of the file changed.
 fn with_byte(alloc: Global, image: &[u8], at: usize, byte: u8) -> Result<Vec<u8>, Fail> {
     let mut changed = Vec::from_slice(alloc, image)?;
@@ -153,11 +233,10 @@ fn with_byte(alloc: Global, image: &[u8], at: usize, byte: u8) -> Result<Vec<u8>
 #[test]
 fn runs_changed_images(rt: HostRuntime) -> Result<(), Fail> {
     let alloc = rt.alloc();
-    let mut files = files_with(alloc, "int main(void){return 300;}", 0)?;
-    let compiled = run_line(alloc, "compile -o a a.c", &mut files, 0)?;
-    assert_eq!(rt; compiled.status, 0);
-    let image = Vec::from_slice(alloc, files.content("a").unwrap_or(b""))?;
+    let mut files = MemFiles::new(alloc, failing(alloc, 0)?);
+    let image = small_image(alloc)?;
     for (at, byte, status, err) in [
+        (4096, 0xBC, 0, "exit 44\n"),
         (4096, 0xF4, 9, "stopped instruction 0x08048000\n"),
         (4096 + 5, 0x0F, 9, "stopped instruction 0x08048005\n"),
         (4096 + 5, 0x72, 9, "stopped flags 0x08048005\n"),

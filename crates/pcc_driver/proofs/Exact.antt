@@ -1,19 +1,19 @@
 -- The status of a command where nothing fails, from the report that it ends in.
-use Rattle.std.proofs.Common.{◌≡◌, ℕ, List, Option, None, Result, Ok, Err, sym, ap, ◌∙◌, subst, inl, inr, refl, arith}
+use Rattle.std.proofs.Common.{◌≡◌, ℕ, List, Option, None, sym, ap, ◌∙◌, subst, inl, inr, refl, arith}
 use Rattle.std.specs.Prelude.{◌⊎◌}
 use Rattle.pcc_base.specs.Counts.{Rose}
 use Rattle.pcc_base.specs.Outcome as outcome
 use Rattle.pcc_base.specs.Outcome.{Outcome, End}
-use Rattle.pcc_outside.specs.Streams.{SinkCounts, CountsPut}
-use Rattle.pcc_outside.specs.declared.sink.WriteRefusal.{WriteRefusal}
-use Rattle.pcc_outside.specs.declared.sink.WriteRefusal.TheVariants as put
-use Rattle.c_tree.specs.Program.{Program}
+use Rattle.pcc_outside.specs.Streams.{SinkCounts}
 use Rattle.ia32_insn.specs.State.{State}
 use Rattle.ia32_insn.specs.Runs.{Runs, no_visits}
 use Rattle.ia32_insn.proofs.Runs.{run_once}
 use Rattle.ia32_machine.specs.First.{First}
-use Rattle.pcc_driver.specs.Accepted.{IsProgram}
-use Rattle.pcc_driver.specs.Answers.{Counts, Streams, HasCause, CommandTold, CompileTold, RunTold, RunGives, Holds, IsTooLong, IsNoImage, Ends, status_after, run_steps}
+use Rattle.pcc_base.specs.declared.fault.Fault.{Fault}
+use Rattle.c_front.specs.Refusals.{HasManyTokens, IsSourceFault}
+use Rattle.c_front.proofs.Exact.{no_fault, no_limit, either}
+use Rattle.pcc_driver.proofs.Causes.{ended_status}
+use Rattle.pcc_driver.specs.Answers.{Counts, Streams, HasCause, CommandTold, CompileTold, RunTold, RunGives, Holds, IsTooLong, IsNoImage, Ends, run_steps}
 use Rattle.pcc_driver.specs.Commands as commands
 use Rattle.pcc_driver.specs.Commands.{Command}
 use Rattle.pcc_driver.specs.Headline.{Files, IsCompiled}
@@ -26,21 +26,13 @@ use Rattle.ia32_machine.proofs.First.{first-one}
 
 -- ---- the line
 
--- a put that didn't fail leaves the status, or says that memory was wanting
-put_status : (status : ℕ) (answer : Result Unit WriteRefusal) (counts counts' : SinkCounts) → CountsPut counts counts' answer → (Rose counts.faults counts'.faults → ⊥) → (status_after status answer ≡ 11) ⊎ (status_after status answer ≡ status)
-put_status status (Ok done) counts counts' counted quiet = inr refl
-put_status status (Err put.Failed) counts counts' counted quiet = absurd (quiet counted.0)
-put_status status (Err put.NoMemory) counts counts' counted quiet = inl refl
-
 -- where standard error didn't fail the status is the report's, or says that memory was wanting
-pub ends_status : (command : Command) (report : Report) (counts counts' : SinkCounts) (tells : Type 0) (taken taken' : List ℕ) (result : ℕ) → Ends command report counts counts' tells taken taken' result → (Rose counts.faults counts'.faults → ⊥) → (result ≡ 11) ⊎ (result ≡ status_of report)
+ends_status : (command : Command) (report : Report) (counts counts' : SinkCounts) (tells : Type 0) (taken taken' : List ℕ) (result : ℕ) → Ends command report counts counts' tells taken taken' result → (Rose counts.faults counts'.faults → ⊥) → (result ≡ 11) ⊎ (result ≡ status_of report)
 ends_status command report counts counts' tells taken taken' result ends quiet =
-    elim (put_status (status_of ends.0) ends.2.0 counts counts' ends.2.1 quiet) [
-      | inl e ↦ inl (ends.2.3 ∙ e)
-      | inr e ↦ elim ends.1 [
-        | inl same ↦ inr (ends.2.3 ∙ e ∙ ap status_of same)
-        | inr none ↦ inl (ends.2.3 ∙ e ∙ ap status_of none)
-      ]
+    elim (ended_status command report counts counts' tells taken taken' result ends) [
+      | inl none ↦ inl none
+      | inr (inl (e, rose)) ↦ absurd (quiet rose)
+      | inr (inr same) ↦ inr same
     ]
 
 -- ---- compile
@@ -50,20 +42,35 @@ none_status content e = rw e refl
 
 long_status : (content : Option (List ℕ)) → IsTooLong content → CompileStatus content 3
 long_status content long =
-    rw long.1 (λ h. refl, λ h program is. absurd (omega (arith, long.2, h)), λ h none. absurd (omega (arith, long.2, h)))
+    rw long.1 (λ h. refl, λ h program is. absurd (omega (arith, long.2, h)), λ h many. refl, λ h none few. absurd (omega (arith, long.2, h)))
 
-fault_status : (content : Option (List ℕ)) → Holds content (λ text. (program : Program) → IsProgram text program → ⊥) → CompileStatus content 1
-fault_status content held =
-    rw held.1 (λ h. absurd (omega (arith, held.2, h)), λ h program is. absurd (held.3 program is), λ h none. refl)
+fault_status : (content : Option (List ℕ)) (fault : Fault) → Holds content (λ text. IsSourceFault text fault) → CompileStatus content 1
+fault_status content fault held =
+    rw held.1 (
+      λ h. absurd (omega (arith, held.2, h)),
+      λ h program is. absurd (no_fault held.0 program fault is held.3),
+      λ h many. absurd (either held.0 fault held.3 many),
+      λ h none few. refl,
+    )
+
+many_status : (content : Option (List ℕ)) → Holds content HasManyTokens → CompileStatus content 3
+many_status content held =
+    rw held.1 (λ h. refl, λ h program is. absurd (no_limit held.0 program is held.3), λ h many. refl, λ h none few. absurd (few held.3))
 
 compiled_status : (old new : Files) (name source : List ℕ) → IsCompiled old new name source → CompileStatus (old source) 0
 compiled_status old new name source made =
-    rw made.source_read (λ h. absurd (omega (arith, made.small, h)), λ h program is. refl, λ h none. absurd (none made.program made.accepted))
+    rw made.source_read (
+      λ h. absurd (omega (arith, made.small, h)),
+      λ h program is. refl,
+      λ h many. absurd (no_limit made.text made.program made.accepted many),
+      λ h none few. absurd (none made.program made.accepted),
+    )
 
 -- the report of a compilation has the status of the file
 compile_status : (name source : List ℕ) (old new : Files) (report : Report) (before after : Counts) (err err' : SinkCounts) → HasCause report before after → CompileTold name source old new report → IsQuiet before after err err' → (status_of report ≡ 11) ⊎ CompileStatus (old source) (status_of report)
 compile_status name source old new reports.Compiled before after err err' cause told quiet = inr (compiled_status old new name source told)
-compile_status name source old new (reports.SourceFault fault) before after err err' cause told quiet = inr (fault_status (old source) told.0)
+compile_status name source old new (reports.SourceFault fault) before after err err' cause told quiet = inr (fault_status (old source) fault told.0)
+compile_status name source old new (reports.TooManyTokens tokens) before after err err' cause told quiet = inr (many_status (old source) told.1)
 compile_status name source old new (reports.TooLong Source) before after err err' cause told quiet = inr (long_status (old source) told.0)
 compile_status name source old new (reports.NoFile Source) before after err err' cause told quiet = inr (none_status (old source) told.0)
 compile_status name source old new (reports.ReadFault file) before after err err' cause told quiet = absurd (quiet.reads cause.files.0)
@@ -124,6 +131,7 @@ run_status content reports.InputFault streams streams' before after err err' cau
 run_status content reports.OutputFault streams streams' before after err err' cause told quiet = absurd (quiet.output cause.streams.1)
 run_status content (reports.WriteFault file) streams streams' before after err err' cause told quiet = absurd (quiet.writes cause.files.0)
 run_status content reports.NoMemory streams streams' before after err err' cause told quiet = inl refl
+run_status content (reports.TooManyTokens tokens) streams streams' before after err err' cause told quiet = absurd told
 run_status content (reports.TooLong Source) streams streams' before after err err' cause told quiet = absurd told
 run_status content (reports.TooLong Map) streams streams' before after err err' cause told quiet = absurd told
 run_status content (reports.NoFile Source) streams streams' before after err err' cause told quiet = absurd told
@@ -139,7 +147,7 @@ report_status : (command : Command) (report : Report) (files_tell streams_tell :
 report_status (commands.Compile name source) report files_tell streams_tell old new streams streams' before after err err' cause told f s quiet =
     compile_status name source old new report before after err err' cause (told.0 f) quiet
 report_status (commands.Run image) report files_tell streams_tell old new streams streams' before after err err' cause told f s quiet =
-    run_status (old image) report streams streams' before after err err' cause (told.1 f s) quiet
+    run_status (old image) report streams streams' before after err err' cause (told.2 f s) quiet
 report_status commands.Usage report files_tell streams_tell old new streams streams' before after err err' cause told f s quiet =
     inr (ap status_of told.0)
 

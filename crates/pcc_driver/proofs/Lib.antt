@@ -1,9 +1,7 @@
-pub mod Digits
+pub mod Causes
 pub mod Exact
 pub mod Files
-pub mod ReturnForm
-pub mod Returning
+pub mod Formed
 pub mod Running
-pub mod Stepping
 pub mod Texts
 pub mod Written

@@ -27,6 +27,7 @@ no_machine_told (reports.Exited status) content image streams read small none = 
 no_machine_told (reports.SourceFault fault) content image streams read small none = absurd none
 no_machine_told reports.Usage content image streams read small none = absurd none
 no_machine_told (reports.TooLong file) content image streams read small none = absurd none
+no_machine_told (reports.TooManyTokens tokens) content image streams read small none = absurd none
 no_machine_told (reports.ReadFault file) content image streams read small none = absurd none
 no_machine_told reports.InputFault content image streams read small none = absurd none
 no_machine_told (reports.WriteFault file) content image streams read small none = absurd none

@@ -11,7 +11,7 @@ use Rattle.pcc_driver.specs.declared.report.Report.TheVariants as reports
 -- the map's text stands, and what else changed is the image
 map_stands : (name text map_bytes image : List ℕ) (old mid new : Files) → ((other : List ℕ) → mid other ≡ old other) → AreProducts text map_bytes image → new (map_name name) ≡ Some map_bytes → ((other : List ℕ) → other ≢ name → other ≢ map_name name → new other ≡ mid other) → MapStands name old new
 map_stands name text map_bytes image old mid new kept products written others =
-    ((products.2, products.3, written ∙ ap Some products.4), λ other n m. others other n m ∙ kept other)
+    ((products.2.0, products.2.1, written ∙ ap Some products.2.2), λ other n m. others other n m ∙ kept other)
 
 -- the report of the writes tells what the compilation did
 pub written_told : (report : Report) (name source text map_bytes image : List ℕ) (old mid new : Files) → ((other : List ℕ) → mid other ≡ old other) → old source ≡ Some text → length text ≤ file_limit → AreProducts text map_bytes image → WritesTold (map_name name) name map_bytes image mid new report → CompileTold name source old new report
@@ -19,16 +19,16 @@ written_told reports.Compiled name source text map_bytes image old mid new kept 
     record {
       text = text;
       program = products.0;
-      map = products.2;
+      map = products.2.0;
       image = image;
       source_read = read;
       small = small;
       accepted = products.1;
-      rules = products.3;
-      map_written = told.0 ∙ ap Some products.4;
+      rules = products.2.1;
+      map_written = told.0 ∙ ap Some products.2.2;
       image_written = told.1;
       others = λ other n m. told.2 other n m ∙ kept other;
-      correct = products.5;
+      correct = products.2.3;
     }
 written_told (reports.WriteFault Map) name source text map_bytes image old mid new kept read small products told =
     λ other n. told other n ∙ kept other
@@ -44,6 +44,7 @@ written_told (reports.Exited status) name source text map_bytes image old mid ne
 written_told (reports.SourceFault fault) name source text map_bytes image old mid new kept read small products told = absurd told
 written_told reports.Usage name source text map_bytes image old mid new kept read small products told = absurd told
 written_told (reports.TooLong file) name source text map_bytes image old mid new kept read small products told = absurd told
+written_told (reports.TooManyTokens tokens) name source text map_bytes image old mid new kept read small products told = absurd told
 written_told (reports.ReadFault file) name source text map_bytes image old mid new kept read small products told = absurd told
 written_told reports.InputFault name source text map_bytes image old mid new kept read small products told = absurd told
 written_told reports.OutputFault name source text map_bytes image old mid new kept read small products told = absurd told

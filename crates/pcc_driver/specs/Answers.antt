@@ -3,15 +3,12 @@ use Rattle.std.specs.Prelude.{◌≡◌, ◌≢◌, ◌<◌, ◌≤◌, ◌⊎�
 use Rattle.pcc_base.specs.Counts.{Rose}
 use Rattle.pcc_base.specs.Outcome as outcome
 use Rattle.pcc_base.specs.Outcome.{Outcome}
-use Rattle.pcc_base.specs.declared.fault.Fault.{Fault}
-use Rattle.pcc_base.specs.declared.fault.FaultKind.TheVariants.{NotYet}
 use Rattle.pcc_outside.specs.Files.{StoreCounts, OnlyMissing, OnlyTooLong, OnlyReadFaults, OnlyWriteFaults}
 use Rattle.pcc_outside.specs.Streams.{SinkCounts, CountsPut, PutTold}
 use Rattle.pcc_outside.specs.declared.sink.WriteRefusal.{WriteRefusal}
 use Rattle.pcc_outside.specs.declared.sink.WriteRefusal.TheVariants as put
 use Rattle.pcc_outside.specs.declared.file_store.ReadRefusal.{ReadRefusal}
 use Rattle.pcc_outside.specs.declared.file_store.ReadRefusal.TheVariants as read
-use Rattle.c_tree.specs.Program.{Program}
 use Rattle.ia32_insn.specs.State.{State}
 use Rattle.ia32_insn.specs.Runs.{Runs, no_visits}
 use Rattle.elf_image.specs.Segments.{Segments, Loads}
@@ -19,7 +16,7 @@ use Rattle.ia32_machine.specs.First.{First}
 use Rattle.ia32_machine.specs.declared.ends.MachineEnd.{MachineEnd}
 use Rattle.ia32_machine.specs.declared.ends.MachineEnd.TheVariants as machine
 use Rattle.pcc_listing.specs.Lines.{Line, IsMap, map_text}
-use Rattle.pcc_driver.specs.Accepted.{IsProgram}
+use Rattle.c_front.specs.Refusals.{HasManyTokens, IsSourceFault}
 use Rattle.pcc_driver.specs.Commands.{Command, Compile, Run, Usage, map_name}
 use Rattle.pcc_driver.specs.Headline.{Files, file_limit, IsCompiled}
 use Rattle.pcc_driver.specs.Reports.{status_of, report_line}
@@ -79,10 +76,6 @@ MapStands name old new =
     ((map : List Line) × IsMap map × (new (map_name name) ≡ Some (map_text map)))
     × ((other : List ℕ) → other ≢ name → other ≢ map_name name → new other ≡ old other)
 
--- the first line and column of the source
-abbrev pub IsNotYet : Fault → Type 0
-IsNotYet fault = fault ≡ record { kind = NotYet; at = record { file = 0; line = 1; col = 1 } }
-
 -- the file holds a text that may be read, and of which this holds
 abbrev pub Holds : Option (List ℕ) → (List ℕ → Type 0) → Type 0
 Holds content P = (text : List ℕ) × (content ≡ Some text) × (length text ≤ file_limit) × P text
@@ -94,7 +87,8 @@ IsTooLong content = (text : List ℕ) × (content ≡ Some text) × (file_limit 
 abbrev pub CompileTold : List ℕ → List ℕ → Files → Files → Report → Type 0
 CompileTold name source old new reports.Compiled = IsCompiled old new name source
 CompileTold name source old new (reports.SourceFault fault) =
-    Holds (old source) (λ text. (program : Program) → IsProgram text program → ⊥) × IsNotYet fault × SameFiles old new
+    Holds (old source) (λ text. IsSourceFault text fault) × SameFiles old new
+CompileTold name source old new (reports.TooManyTokens tokens) = (tokens ≡ 65537) × Holds (old source) HasManyTokens × SameFiles old new
 CompileTold name source old new (reports.TooLong Source) = IsTooLong (old source) × SameFiles old new
 CompileTold name source old new (reports.ReadFault Source) = SameFiles old new
 CompileTold name source old new (reports.NoFile Source) = (old source ≡ None) × SameFiles old new
@@ -171,6 +165,11 @@ RunGivesPart old new image =
 abbrev pub IsNoImage : List ℕ → List ℕ → Type 0
 IsNoImage input image = (s : State) → First image input s → ⊥
 
+-- a run has no source whose tokens may be too many
+abbrev pub IsOfRun : Report → Type 0
+IsOfRun (reports.TooManyTokens tokens) = ⊥
+IsOfRun _ = ⊤
+
 -- the report of `run` on files and streams that are told; no file has changed
 abbrev pub RunTold : Option (List ℕ) → Streams → Streams → Report → Type 0
 RunTold content old new (reports.Exited status) = Holds content (RunGives old new (outcome.Ended status))
@@ -214,6 +213,6 @@ abbrev pub CommandTold : Command → Type 0 → Type 0 → Files → Files → S
 CommandTold (Compile name source) files_tell streams_tell old new before after report =
     (files_tell → CompileTold name source old new report) × (after ≡ before)
 CommandTold (Run image) files_tell streams_tell old new before after report =
-    (files_tell → SameFiles old new) × (files_tell → streams_tell → RunTold (old image) before after report)
+    IsOfRun report × (files_tell → SameFiles old new) × (files_tell → streams_tell → RunTold (old image) before after report)
 CommandTold Usage files_tell streams_tell old new before after report =
     (report ≡ reports.Usage) × (files_tell → SameFiles old new) × (after ≡ before)

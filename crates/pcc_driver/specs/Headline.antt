@@ -1,15 +1,9 @@
--- What a compiled image is worth: for every input and every number n of turns of the source there is a
--- number of machine steps, at least n, with exactly the outcome of those turns.
+-- What a compilation leaves: an image that does what the source's program does.
 use Rattle.std.specs.Prelude.{◌≡◌, ◌≢◌, ◌≤◌, ℕ, List, length, Option, Some}
-use Rattle.pcc_base.specs.Outcome.{Outcome}
 use Rattle.c_tree.specs.Program.{Program}
-use Rattle.c_tree.specs.Evaluation.{source_outcome}
-use Rattle.ia32_insn.specs.State.{State}
-use Rattle.ia32_insn.specs.Runs.{Runs}
-use Rattle.ia32_machine.specs.First.{First}
+use Rattle.c_front.specs.Accepted.{IsProgram}
+use Rattle.pcc_compile.specs.Products.{DoesAs}
 use Rattle.pcc_listing.specs.Lines.{Line, IsMap, map_text}
-use Rattle.pcc_listing.specs.Marks.{visits_of, listed}
-use Rattle.pcc_driver.specs.Accepted.{IsProgram}
 use Rattle.pcc_driver.specs.Commands.{map_name}
 
 -- the most bytes of one file that is read
@@ -19,16 +13,6 @@ file_limit = 1342177280
 -- what is held under each name
 abbrev pub Files : Type 0
 Files = List ℕ → Option (List ℕ)
-
--- m steps of the image with these bytes have this outcome, with the visits that the map shows
-abbrev pub ImageOutcome : List ℕ → List Line → List ℕ → ℕ → Outcome → Type 0
-ImageOutcome image map input m outcome = (s : State) × First image input s × Runs (visits_of map) m s outcome
-
--- the image does what the program does: the same visited statements with the same values in the map's
--- places, the same input taken and bytes written, and the same end or still running
-abbrev pub DoesAs : List ℕ → List Line → Program → Type 0
-DoesAs image map program =
-    (input : List ℕ) (n : ℕ) → (m : ℕ) × (n ≤ m) × ImageOutcome image map input m (source_outcome program (listed map) input n)
 
 -- What a compilation leaves: the source is a program, NAME.map holds the text of a map (and a text is the
 -- text of one map at most), NAME holds an image that does what the program does, and no other file has

@@ -1,6 +1,4 @@
-pub mod Accepted
 pub mod Answers
-pub mod Code
 pub mod Commands
 pub mod Headline
 pub mod Products

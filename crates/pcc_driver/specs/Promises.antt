@@ -7,8 +7,9 @@ use Rattle.c_tree.specs.Program.{Program}
 use Rattle.ia32_insn.specs.State.{State}
 use Rattle.ia32_insn.specs.Runs.{Runs, no_visits}
 use Rattle.ia32_machine.specs.First.{First}
-use Rattle.pcc_driver.specs.Accepted.{IsProgram}
-use Rattle.pcc_driver.specs.Answers.{Counts, run_steps, IsNoImage}
+use Rattle.c_front.specs.Accepted.{IsProgram}
+use Rattle.c_front.specs.Refusals.{HasManyTokens}
+use Rattle.pcc_driver.specs.Answers.{Counts, Holds, run_steps, IsNoImage}
 use Rattle.pcc_driver.specs.Commands.{Command, Compile, Run, Usage}
 use Rattle.pcc_driver.specs.Headline.{Files, file_limit}
 
@@ -26,7 +27,8 @@ CompileStatus None status = status ≡ 6
 CompileStatus (Some text) status =
     (file_limit < length text → status ≡ 3)
     × (length text ≤ file_limit → (program : Program) → IsProgram text program → status ≡ 0)
-    × (length text ≤ file_limit → ((program : Program) → IsProgram text program → ⊥) → status ≡ 1)
+    × (length text ≤ file_limit → HasManyTokens text → status ≡ 3)
+    × (length text ≤ file_limit → ((program : Program) → IsProgram text program → ⊥) → (HasManyTokens text → ⊥) → status ≡ 1)
 
 -- the status of `run` for the end of its steps
 abbrev pub end_status : End → ℕ
@@ -49,9 +51,16 @@ HasStatus (Compile name source) files input status = CompileStatus (files source
 HasStatus (Run image) files input status = RunStatus input (files image) status
 HasStatus Usage files input status = status ≡ 2
 
--- which count rose where a status comes that the outside causes
-pub record HasCauses (old new : Counts) (err err' : SinkCounts) (status : ℕ) : Type 0 where
-  pub limit : status ≡ 3 → Rose old.files.too_long new.files.too_long
+-- the command compiles a source, which has more than 65,536 tokens where the files tell
+abbrev pub TokensCause : Command → Type 0 → Files → Type 0
+TokensCause (Compile name source) files_tell files = files_tell → Holds (files source) HasManyTokens
+TokensCause (Run image) files_tell files = ⊥
+TokensCause Usage files_tell files = ⊥
+
+-- Which count rose where a status comes that the outside causes. Status 3 comes besides where a source has too
+-- many tokens.
+pub record HasCauses (command : Command) (files : Files) (files_tell : Type 0) (old new : Counts) (err err' : SinkCounts) (status : ℕ) : Type 0 where
+  pub limit : status ≡ 3 → Rose old.files.too_long new.files.too_long ⊎ TokensCause command files_tell files
   pub read_fault : status ≡ 4 → Rose old.files.read_faults new.files.read_faults ⊎ Rose old.input new.input
   pub write_fault : status ≡ 5 → Rose old.files.write_faults new.files.write_faults ⊎ (Rose old.out.faults new.out.faults ⊎ Rose err.faults err'.faults)
   pub no_file : status ≡ 6 → Rose old.files.missing new.files.missing

@@ -2,17 +2,20 @@
 use Rattle.std.specs.Prelude.{ℕ, List, [], ◌∷◌, ◌++◌, codes, decimal}
 use Rattle.pcc_base.specs.Faults.{number_of, name_of}
 use Rattle.pcc_base.specs.declared.fault.Fault.{Fault}
+use Rattle.pcc_base.specs.declared.fault.FaultKind.{FaultKind}
+use Rattle.pcc_base.specs.declared.fault.FaultKind.TheVariants.{Unsupported}
 use Rattle.pcc_base.specs.declared.run.Trap.{Trap}
 use Rattle.pcc_base.specs.declared.run.Trap.TheVariants.{Divide, Check}
 use Rattle.pcc_base.specs.declared.run.Stop.{Stop}
 use Rattle.pcc_base.specs.declared.run.Stop.TheVariants.{Instruction, Access, Flags, Call}
+use Rattle.c_lexer.specs.Spellings.{keyword_text}
 use Rattle.pcc_listing.specs.Lines.{address_text}
 use Rattle.pcc_driver.specs.Commands as commands
 use Rattle.pcc_driver.specs.Commands.{map_name}
 use Rattle.pcc_driver.specs.declared.report.Named.{Named}
 use Rattle.pcc_driver.specs.declared.report.Named.TheVariants.{Source, Map, Image}
 use Rattle.pcc_driver.specs.declared.report.Report.{Report}
-use Rattle.pcc_driver.specs.declared.report.Report.TheVariants.{Compiled, Exited, SourceFault, Usage, TooLong, ReadFault, InputFault, WriteFault, OutputFault, NoFile, NotImage, Trapped, Stopped, BudgetSpent, NoMemory}
+use Rattle.pcc_driver.specs.declared.report.Report.TheVariants.{Compiled, Exited, SourceFault, Usage, TooLong, TooManyTokens, ReadFault, InputFault, WriteFault, OutputFault, NoFile, NotImage, Trapped, Stopped, BudgetSpent, NoMemory}
 
 abbrev pub status_of : Report → ℕ
 status_of Compiled = 0
@@ -20,6 +23,7 @@ status_of (Exited status) = 0
 status_of (SourceFault fault) = 1
 status_of Usage = 2
 status_of (TooLong file) = 3
+status_of (TooManyTokens tokens) = 3
 status_of (ReadFault file) = 4
 status_of InputFault = 4
 status_of (WriteFault file) = 5
@@ -50,9 +54,16 @@ stop_text (Access at) address = codes "access 0x" ++ address_text at
 stop_text Flags address = codes "flags 0x" ++ address_text address
 stop_text Call address = codes "call 0x" ++ address_text address
 
+-- behind `Unsupported` the keyword's spelling
+abbrev pub word_text : FaultKind → List ℕ
+word_text (Unsupported keyword) = codes " " ++ keyword_text keyword
+word_text kind = []
+
+abbrev pub kind_text : FaultKind → List ℕ
+kind_text kind = decimal (number_of kind) ++ codes " " ++ name_of kind ++ word_text kind
+
 abbrev pub fault_text : Fault → List ℕ
-fault_text fault =
-    codes ":" ++ decimal fault.at.line ++ codes ":" ++ decimal fault.at.col ++ codes ": " ++ decimal (number_of fault.kind) ++ codes " " ++ name_of fault.kind
+fault_text fault = codes ":" ++ decimal fault.at.line ++ codes ":" ++ decimal fault.at.col ++ codes ": " ++ kind_text fault.kind
 
 -- the line without its newline
 abbrev pub report_text : commands.Command → Report → List ℕ
@@ -61,6 +72,7 @@ report_text command (Exited status) = codes "exit " ++ decimal status
 report_text command (SourceFault fault) = name_in command Source ++ fault_text fault
 report_text command Usage = codes "usage"
 report_text command (TooLong file) = codes "limit 24 FileBytes " ++ name_in command file
+report_text command (TooManyTokens tokens) = codes "limit 20 Tokens " ++ decimal tokens
 report_text command (ReadFault file) = codes "read fault " ++ name_in command file
 report_text command InputFault = codes "read fault input"
 report_text command (WriteFault file) = codes "write fault " ++ name_in command file

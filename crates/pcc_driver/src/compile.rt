@@ -1,29 +1,16 @@
 ghost use Rattle.std.specs.Prelude.{◌≡◌, ◌≢◌, ℕ};
 ghost use Rattle.pcc_outside.specs.Streams.{SinkCounts};
-ghost use Rattle.pcc_driver.specs.Answers.{FilesCause, StreamsCause, CompileTold, WritesTold, IsNotYet, report_of_read, report_of_write};
+ghost use Rattle.pcc_driver.specs.Answers.{FilesCause, StreamsCause, CompileTold, WritesTold, report_of_read, report_of_write};
 
-use crate::products::{Products, products_of};
+use crate::products::products_of;
 use crate::report::{Named, Report};
-use pcc_base::{Fault, FaultKind, Span};
+use pcc_base::{Limit, Refusal};
+use pcc_compile::Products;
 use pcc_outside::{FileStore, ReadRefusal, WriteRefusal};
 use std::alloc::Global;
 
 /// The most bytes of one file that is read.
 pub const FILE_LIMIT: usize = 1_342_177_280;
-
-/// The fault of a source that isn't accepted yet.
-fn not_yet() -> Fault
-    ensures { IsNotYet result }
-{
-    Fault {
-        kind: FaultKind::NotYet,
-        at: Span {
-            file: 0,
-            line: 1,
-            col: 1,
-        },
-    }
-}
 
 /// The report of a refused read.
 pub fn read_report(refusal: ReadRefusal, file: Named) -> Report
@@ -82,9 +69,11 @@ pub fn compile<F: FileStore>(alloc: Global, name: &str, source: &str, files: &mu
         Err(refusal) => return read_report(refusal, Named::Source),
     };
     let products = match products_of(alloc, text.as_slice()) {
-        Ok(Some(products)) => products,
-        Ok(None) => return Report::SourceFault(not_yet()),
-        Err(_) => return Report::NoMemory,
+        Ok(products) => products,
+        Err(Refusal::Fault(fault)) => return Report::SourceFault(fault),
+        Err(Refusal::Limit(Limit::Tokens(tokens))) => return Report::TooManyTokens(tokens),
+        // No other limit is met.
+        Err(Refusal::Limit(_) | Refusal::NoMemory) => return Report::NoMemory,
     };
     match format!(in alloc; "{name}.map") {
         Ok(map_name) => write_products(map_name.as_str(), name, &products, files),

@@ -1,13 +1,14 @@
 ghost use Rattle.std.specs.Prelude.{◌≡◌, ◌++◌, IfOk, OnOk, decimal};
 ghost use Rattle.pcc_driver.specs.Answers.{Ends, IsPut};
-ghost use Rattle.pcc_driver.specs.Reports.{fault_text, name_in, report_line, report_text, stop_text, trap_text};
+ghost use Rattle.pcc_driver.specs.Reports.{fault_text, kind_text, name_in, report_line, report_text, stop_text, trap_text, word_text};
 ghost use Rattle.pcc_driver.specs.Words.{meaning};
 ghost use Rattle.pcc_listing.specs.Lines.{address_text};
 
-use crate::numbers::{push_address, push_number};
 use crate::report::{Named, Report};
 use crate::words::Command;
-use pcc_base::{Fault, NoMemory, Stop, Trap};
+use c_lexer::spelling;
+use pcc_base::{Fault, FaultKind, NoMemory, Stop, Trap};
+use pcc_listing::{push_address, push_number};
 use pcc_outside::{Sink, WriteRefusal};
 use std::alloc::Global;
 
@@ -43,6 +44,28 @@ fn push_about(
     push_name(out, command, file)
 }
 
+/// Puts the keyword that is unsupported at the end, and nothing for another fault. The only refusal is want of
+/// memory.
+fn push_word(out: &mut Vec<u8>, kind: FaultKind) -> Result<(), NoMemory>
+    ensures { OnOk result (out.new.items ≡ out.old.items ++ word_text kind) }
+{
+    if let FaultKind::Unsupported(keyword) = kind {
+        out.extend_from_slice(b" ")?;
+        out.extend_from_slice(spelling(keyword))?;
+    }
+    Ok(())
+}
+
+/// Puts the number and the name of a kind of fault at the end. The only refusal is want of memory.
+fn push_kind(alloc: Global, out: &mut Vec<u8>, kind: FaultKind) -> Result<(), NoMemory>
+    ensures { OnOk result (out.new.items ≡ out.old.items ++ kind_text kind) }
+{
+    push_number(alloc, out, u64::from(kind.number()))?;
+    out.extend_from_slice(b" ")?;
+    out.extend_from_slice(kind.name().as_bytes())?;
+    push_word(out, kind)
+}
+
 /// Puts where and what a fault is at the end, behind the source's name. The only refusal is want of memory.
 fn push_fault(alloc: Global, out: &mut Vec<u8>, fault: Fault) -> Result<(), NoMemory>
     ensures { OnOk result (out.new.items ≡ out.old.items ++ fault_text fault) }
@@ -52,10 +75,7 @@ fn push_fault(alloc: Global, out: &mut Vec<u8>, fault: Fault) -> Result<(), NoMe
     out.extend_from_slice(b":")?;
     push_number(alloc, out, u64::from(fault.at.col))?;
     out.extend_from_slice(b": ")?;
-    push_number(alloc, out, u64::from(fault.kind.number()))?;
-    out.extend_from_slice(b" ")?;
-    out.extend_from_slice(fault.kind.name().as_bytes())?;
-    Ok(())
+    push_kind(alloc, out, fault.kind)
 }
 
 /// Puts the kind of a trap at the end. The only refusal is want of memory.
@@ -124,6 +144,7 @@ fn push_report(
         }
         Report::Usage => push_words(out, b"usage"),
         Report::TooLong(file) => push_about(out, b"limit 24 FileBytes ", command, file),
+        Report::TooManyTokens(tokens) => push_count(alloc, out, b"limit 20 Tokens ", tokens),
         Report::ReadFault(file) => push_about(out, b"read fault ", command, file),
         Report::InputFault => push_words(out, b"read fault input"),
         Report::WriteFault(file) => push_about(out, b"write fault ", command, file),

@@ -8,12 +8,8 @@
 
 mod compile;
 mod finish;
-mod image;
-mod map;
-mod numbers;
 mod products;
 mod report;
-mod return_form;
 mod run;
 mod top;
 mod words;

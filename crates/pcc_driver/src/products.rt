@@ -1,32 +1,21 @@
-ghost use Rattle.std.specs.Prelude.{◌≡◌, IfOk, MatchOption};
-ghost use Rattle.c_tree.specs.Program.{Program};
-ghost use Rattle.pcc_driver.specs.Accepted.{IsProgram};
+ghost use Rattle.std.specs.Prelude.{◌+◌, ◌<◌, ◌^◌, length, IfOk, IfErr};
+ghost use Rattle.c_front.specs.Refusals.{IsSourceRefused};
 ghost use Rattle.pcc_driver.specs.Products.{AreProducts};
 
-use crate::image::image_of;
-use crate::map::map_of;
-use crate::return_form::returned;
-use pcc_base::NoMemory;
+use c_front::program_of_source;
+use pcc_base::Refusal;
+use pcc_compile::{Products, compile_program};
 use std::alloc::Global;
 
-/// What is made of a source: the text of its map, and its image.
-#[derive(Drop)]
-pub struct Products {
-    pub map: Vec<u8>,
-    pub image: Vec<u8>,
-}
-
-/// The map and the image of a source, and None where the source is no program. The only refusal is
-/// want of memory.
-pub fn products_of(alloc: Global, text: &[u8]) -> Result<Option<Products>, NoMemory>
-    ensures { IfOk result (λ made. MatchOption made ((program : Program) → IsProgram text.now program → ⊥) (λ products. AreProducts text.now products.map.items products.image.items)) }
+/// The map and the image of a source, or why it is refused.
+pub fn products_of(alloc: Global, text: &[u8]) -> Result<Products, Refusal>
+    requires { length text.now + 1 < 2 ^ 32 }
+    ensures made { IfOk result (λ products. AreProducts text.now products.map.items products.image.items) }
+    ensures refused { IfErr result (IsSourceRefused text.now) }
 {
-    match returned(alloc, text)? {
-        None => Ok(None),
-        Some(value) => {
-            let map = map_of(alloc)?;
-            let image = image_of(alloc, value)?;
-            Ok(Some(Products { map, image }))
-        }
+    let program = program_of_source(alloc, text)?;
+    match compile_program(alloc, &program) {
+        Ok(products) => Ok(products),
+        Err(_) => Err(Refusal::NoMemory),
     }
 }

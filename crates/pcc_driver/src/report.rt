@@ -27,6 +27,8 @@ pub enum Report {
     Usage,
     /// The file that is read has too many bytes.
     TooLong(Named),
+    /// The source has so many tokens, more than are read.
+    TooManyTokens(u64),
     /// Reading the file failed.
     ReadFault(Named),
     /// Reading the input failed.
@@ -58,7 +60,7 @@ impl Report {
             Report::Compiled | Report::Exited(_) => 0,
             Report::SourceFault(_) => 1,
             Report::Usage => 2,
-            Report::TooLong(_) => 3,
+            Report::TooLong(_) | Report::TooManyTokens(_) => 3,
             Report::ReadFault(_) | Report::InputFault => 4,
             Report::WriteFault(_) | Report::OutputFault => 5,
             Report::NoFile(_) => 6,

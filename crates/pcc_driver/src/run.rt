@@ -1,7 +1,7 @@
 ghost use Rattle.std.specs.Prelude.{◌≡◌, [], MatchResult};
 ghost use Rattle.elf_image.specs.Segments.{Segments, Loads};
 ghost use Rattle.ia32_machine.specs.First.{first_state};
-ghost use Rattle.pcc_driver.specs.Answers.{FilesCause, StreamsCause, SameFiles, RunTold, GivesNoMachine, streams_of, report_of_end};
+ghost use Rattle.pcc_driver.specs.Answers.{FilesCause, StreamsCause, SameFiles, IsOfRun, RunTold, GivesNoMachine, streams_of, report_of_end};
 
 use crate::compile::{FILE_LIMIT, read_report};
 use crate::report::{Named, Report};
@@ -50,6 +50,7 @@ pub fn run<F: FileStore, I: Source, O: Sink>(
     input: &mut I,
     out: &mut O,
 ) -> Report
+    ensures own { IsOfRun result }
     ensures files_cause { FilesCause result (F.counts files.old) (F.counts files.new) }
     ensures streams_cause { StreamsCause result (I.faults input.old) (I.faults input.new) (O.counts out.old) (O.counts out.new) }
     ensures files_tell { F.tells files.old → F.tells files.new }

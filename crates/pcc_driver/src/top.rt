@@ -47,7 +47,7 @@ fn carry_out<F: FileStore, I: Source, O: Sink>(
 /// | 0 | the command did its work |
 /// | 1 | the source isn't accepted |
 /// | 2 | the words mean no command |
-/// | 3 | a file has too many bytes |
+/// | 3 | a file has too many bytes, or the source too many tokens |
 /// | 4 | reading a file or the input failed |
 /// | 5 | writing a file, the output or standard error failed |
 /// | 6 | a file isn't there |
@@ -83,8 +83,9 @@ pub fn pcc<F: FileStore, I: Source, O: Sink, E: Sink>(
         (result ≡ 11)
         ⊎ HasStatus (command_of (map string_bytes words.now.items)) (F.content files.old) (I.left input.old) result }
 
-    // Which count rose where the outside is the cause.
-    ensures causes { HasCauses
+    // Which count rose where the outside is the cause, and that a source has too many tokens else.
+    ensures causes { HasCauses (command_of (map string_bytes words.now.items)) (F.content files.old)
+        (F.tells files.old)
         (counts_of (F.counts files.old) (I.faults input.old) (O.counts out.old))
         (counts_of (F.counts files.new) (I.faults input.new) (O.counts out.new))
         (E.counts err.old) (E.counts err.new) result }
