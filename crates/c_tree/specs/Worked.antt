@@ -1,36 +1,57 @@
--- A program that the definitions are read on: `int main(void){int x=2147483647; x=x+1; putchar(x-191); return x-1;}`.
-use Rattle.std.specs.Prelude.{ℕ, ℤ, pos, [], ◌∷◌, codes, Some}
+-- Programs that the definitions are read on, as their sources' typed trees.
+use Rattle.std.specs.Prelude.{ℕ, zero, suc, ℤ, pos, List, [], ◌∷◌, codes, map, Some}
 use Rattle.pcc_base.specs.Outcome.{Listing, Number, Scalar as ScalarPart, Visit}
 use Rattle.c_tree.specs.declared.expression.BinaryOp.TheVariants.{Add, Subtract}
-use Rattle.c_tree.specs.Program.{int, Expression, Constant, Read, Binary, Assign, Putchar, LocalPlace, Scalar, Declare, Evaluate, Return, Done, Next, Program}
+use Rattle.c_tree.specs.Program.{int, Expression, Constant, Read, Binary, Assign, Putchar, LocalPlace, Scalar, Statements, Declare, Evaluate, Return, Done, Next, Local, Program}
+
+-- a program that is a `main` with these locals and this body
+abbrev main_with : List Local → Statements → Program
+main_with locals body = record {
+  objects = [];
+  functions = record { name = codes "main"; result = int; parameters = 0; locals = locals; arrays = []; body = body } ∷ [];
+  main = 0;
+}
+
+-- the locals `x` and `y`, of type `int`
+abbrev x_local : Local
+x_local = record { name = codes "x"; of = int }
+
+abbrev y_local : Local
+y_local = record { name = codes "y"; of = int }
 
 abbrev x : Expression
 x = Read int (LocalPlace 0)
 
-abbrev pub four_statements : Program
-four_statements = record {
-  objects = [];
-  functions =
-      record {
-        name = codes "main";
-        result = int;
-        parameters = 0;
-        locals = record { name = codes "x"; of = int } ∷ [];
-        arrays = [];
-        body =
-            Next (Declare (Scalar 0 0 (Some (Constant (pos 2147483647)))))
-            (Next (Evaluate 1 (Assign int (LocalPlace 0) (Binary int Add x (Constant (pos 1)))))
-            (Next (Evaluate 2 (Putchar (Binary int Subtract x (Constant (pos 191)))))
-            (Next (Return 3 (Some (Binary int Subtract x (Constant (pos 1))))) Done)));
-      }
-      ∷ [];
-  main = 0;
-}
+abbrev y : Expression
+y = Read int (LocalPlace 1)
 
--- every statement shows the local
+-- the visit of a statement that shows these numbers
+abbrev pub shown : ℕ → List ℤ → Visit
+shown statement numbers = record { statement = statement; values = map Number numbers }
+
+-- `int main(void){int x=2147483647; x=x+1; putchar(x-191); return x-1;}`
+abbrev pub sum_wraps : Program
+sum_wraps = main_with (x_local ∷ [])
+    (Next (Declare (Scalar 0 0 (Some (Constant (pos 2147483647)))))
+    (Next (Evaluate 1 (Assign int (LocalPlace 0) (Binary int Add x (Constant (pos 1)))))
+    (Next (Evaluate 2 (Putchar (Binary int Subtract x (Constant (pos 191)))))
+    (Next (Return 3 (Some (Binary int Subtract x (Constant (pos 1))))) Done))))
+
+-- each statement shows the one local
 abbrev pub x_listed : Listing
 x_listed statement = ScalarPart 0 ∷ []
 
--- the visit of a statement where the local has this value
-abbrev pub x_shown : ℕ → ℤ → Visit
-x_shown statement n = record { statement = statement; values = Number n ∷ [] }
+-- `int main(void){int x=70; int y=x+2; putchar(y); putchar(x-1); return y-x;}`
+abbrev pub writes_he : Program
+writes_he = main_with (x_local ∷ y_local ∷ [])
+    (Next (Declare (Scalar 0 0 (Some (Constant (pos 70)))))
+    (Next (Declare (Scalar 1 1 (Some (Binary int Add x (Constant (pos 2))))))
+    (Next (Evaluate 2 (Putchar y))
+    (Next (Evaluate 3 (Putchar (Binary int Subtract x (Constant (pos 1)))))
+    (Next (Return 4 (Some (Binary int Subtract y x))) Done)))))
+
+-- each statement shows the locals that are declared before it
+abbrev pub declared_listed : Listing
+declared_listed zero = []
+declared_listed (suc zero) = ScalarPart 0 ∷ []
+declared_listed (suc (suc statement)) = ScalarPart 0 ∷ ScalarPart 1 ∷ []

@@ -3,20 +3,31 @@
 ghost use Rattle.std.specs.Prelude.{◌≡◌, [], ◌∷◌, pos, negsuc};
 ghost use Rattle.pcc_base.specs.Outcome.{Ended, Goes};
 ghost use Rattle.c_tree.specs.Evaluation.{source_outcome};
-ghost use Rattle.c_tree.specs.Worked.{four_statements, x_listed, x_shown};
+ghost use Rattle.c_tree.specs.Worked.{declared_listed, shown, sum_wraps, writes_he, x_listed};
 
-/// The definitions give a small program (`specs/Worked.antt`) the outcome that a reader expects: before the
-/// call of `main`, which takes a turn, nothing has happened. After it each statement was visited with the
-/// value of its local, the sum has wrapped, the low byte of 2147483457 was written, and the exit status is
-/// the low byte of 2147483647.
+/// The definitions give small programs (`specs/Worked.antt`) the outcomes that a reader expects.
+///
+/// Before the call of `main`, which takes a turn, nothing has happened. After it each statement was visited
+/// with the values of the locals that are listed for it, in order. In the first program a local is 0 before its
+/// declaration has run, the sum wraps, and the low bytes of 2147483457 and of 2147483647 are what is written and the
+/// exit status. In the second the bytes of `HE` were written, one after the other, and the exit status is 2.
 pub fn worked_example()
-    ensures before { source_outcome four_statements x_listed [] 0
+    ensures before { source_outcome sum_wraps x_listed [] 0
         ≡ record { visits = []; taken = 0; written = []; end = Goes } }
-    ensures after { source_outcome four_statements x_listed [] 1
+    ensures wraps { source_outcome sum_wraps x_listed [] 1
         ≡ record {
-          visits = x_shown 0 (pos 0) ∷ x_shown 1 (pos 2147483647) ∷ x_shown 2 (negsuc 2147483647) ∷ x_shown 3 (negsuc 2147483647) ∷ [];
+          visits = shown 0 (pos 0 ∷ []) ∷ shown 1 (pos 2147483647 ∷ [])
+            ∷ shown 2 (negsuc 2147483647 ∷ []) ∷ shown 3 (negsuc 2147483647 ∷ []) ∷ [];
           taken = 0;
           written = 65 ∷ [];
           end = Ended 255;
+        } }
+    ensures writes { source_outcome writes_he declared_listed [] 1
+        ≡ record {
+          visits = shown 0 [] ∷ shown 1 (pos 70 ∷ []) ∷ shown 2 (pos 70 ∷ pos 72 ∷ [])
+            ∷ shown 3 (pos 70 ∷ pos 72 ∷ []) ∷ shown 4 (pos 70 ∷ pos 72 ∷ []) ∷ [];
+          taken = 0;
+          written = 72 ∷ 69 ∷ [];
+          end = Ended 2;
         } }
 {}

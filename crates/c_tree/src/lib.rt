@@ -4,7 +4,7 @@
 //! refusal is want of memory. `specs/Program.antt` has the trees without boxes that contracts speak of, and
 //! `specs/Erased.antt` which of them a program in memory is. `specs/Evaluation.antt` has the outcome of a
 //! number of turns of a program over an input, on the store of `specs/Store.antt` and the operators of
-//! `specs/Operators.antt`; `worked_example` reads it on a small program.
+//! `specs/Operators.antt`; `worked_example` reads it on small programs.
 #![tactic(auto)]
 
 mod expression;

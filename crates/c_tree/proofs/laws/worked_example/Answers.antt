@@ -3,6 +3,10 @@ use Rattle.std.proofs.Common.{refl}
 use Rattle.std.specs.Int.{int_wrap}
 use Rattle.c_tree.proofs.laws.worked_example.Goals as goal
 
-pub returns-clause-after : goal.returns-clause-after
+pub returns-clause-wraps : goal.returns-clause-wraps
 unfolding int_wrap
-returns-clause-after c = refl
+returns-clause-wraps c = refl
+
+pub returns-clause-writes : goal.returns-clause-writes
+unfolding int_wrap
+returns-clause-writes c = refl
