@@ -2,26 +2,18 @@
 # Runs small images over every row of the instruction table on the machine and on the kernel of this computer,
 # which has to run i386 executables, and compares what they write and how they end. It wants python3 and GNU
 # as and objcopy. The images are made in a temporary folder, which is removed at the end.
-top=$(cd "$(dirname "$(readlink -f "$0")")/.." && pwd) || exit 1
-room=$(mktemp -d) || exit 1
-trap 'rm -rf "$room"' EXIT
-trap 'exit 1' HUP INT TERM
+. "$(dirname "$(readlink -f "$0")")/start.sh"
+build_pcc
 
-# With no words pcc answers `usage`; this builds it where it isn't built yet.
-"$top/bin/pcc" 2>/dev/null
-[ $? -eq 2 ] || { echo "kernel: bin/pcc can't be built" >&2; exit 1; }
-
-python3 - "$top/bin/pcc" "$room" <<'PYTHON'
+PYTHONPATH=$top/bench python3 -B - "$top/bin/pcc" "$room" <<'PYTHON'
 import os
 import signal
-import struct
 import subprocess
 import sys
 
+from image import PAGE, STACK, TEXT_ADDRESS, image
+
 PROGRAM, ROOM = sys.argv[1:]
-PAGE = 4096
-TEXT_ADDRESS = 0x0804_8000
-STACK = 67_112_960
 DATA = TEXT_ADDRESS + PAGE
 
 # Each image sets the registers and the memory so, makes the row's lines, and then writes the registers and 64
@@ -109,21 +101,6 @@ for op in ("add", "or", "and", "sub", "xor", "cmp", "test"):
 # Jcc after a comparison
 for c in CONDITIONS:
     ROWS += [f"cmpl %eax, %edx\n j{c} 1f\n movl $0, %esi\n1:", f"cmpl %eax, %eax\n set{c} %cl\n j{c} 1f\n movl $0, %esi\n1:"]
-
-
-def image(text, data=bytes(4)):
-    """The file of an image: two segments, laid out as specs/Layout.antt of elf_image says."""
-    span = -(-len(text) // PAGE) * PAGE
-    memory = -(-len(data) // 4) * 4 + STACK
-
-    def header(offset, address, size, in_memory, flags):
-        return struct.pack("<8I", 1, offset, address, address, size, in_memory, flags, PAGE)
-
-    head = b"\x7fELF" + bytes([1, 1, 1]) + bytes(9) + struct.pack("<2H", 2, 3)
-    head += struct.pack("<5I", 1, TEXT_ADDRESS, 52, 0, 0) + struct.pack("<6H", 52, 32, 2, 0, 0, 0)
-    head += header(PAGE, TEXT_ADDRESS, len(text), len(text), 5)
-    head += header(PAGE + span, TEXT_ADDRESS + span, len(data), memory, 6)
-    return head.ljust(PAGE, b"\0") + text.ljust(span, b"\0") + data
 
 
 def assembled(lines):

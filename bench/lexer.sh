@@ -1,10 +1,7 @@
 #!/bin/sh
 # Measures the lexer: megabytes a second over a large generated source. A small program that calls `lex` is
 # made, proved and built in a temporary folder, which is removed at the end.
-top=$(cd "$(dirname "$(readlink -f "$0")")/.." && pwd) || exit 1
-room=$(mktemp -d) || exit 1
-trap 'rm -rf "$room"' EXIT
-trap 'exit 1' HUP INT TERM
+. "$(dirname "$(readlink -f "$0")")/start.sh"
 
 mkdir -p "$room/crates/lexing/src" && cd "$room" && git init -q . || exit 1
 for crate in pcc_base c_lexer; do

@@ -2,10 +2,7 @@
 # Measures the parser beside the lexer, over a source of about 6,000 tokens and one of about 60,000. A small program
 # that calls `lex` and `parse` is made, proved and built in a temporary folder, which is removed at the end. What
 # earlier checks kept of the crates is copied with them: call `rt all check` first.
-top=$(cd "$(dirname "$(readlink -f "$0")")/.." && pwd) || exit 1
-room=$(mktemp -d) || exit 1
-trap 'rm -rf "$room"' EXIT
-trap 'exit 1' HUP INT TERM
+. "$(dirname "$(readlink -f "$0")")/start.sh"
 
 below='pcc_base c_lexer c_raw c_grammar c_expressions c_declarations c_statements c_parser'
 mkdir -p "$room/crates/parsing/src" && cd "$room" && git init -q . || exit 1

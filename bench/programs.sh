@@ -2,14 +2,8 @@
 # Compiles programs with locals, runs each image in the machine and on the kernel of this computer, which has to run
 # i386 executables, and compares what they write and how they end with what gcc makes of the same source. It wants
 # python3 and gcc. The programs are drawn from one fixed number, in a temporary folder that is removed at the end.
-top=$(cd "$(dirname "$(readlink -f "$0")")/.." && pwd) || exit 1
-room=$(mktemp -d) || exit 1
-trap 'rm -rf "$room"' EXIT
-trap 'exit 1' HUP INT TERM
-
-# With no words pcc answers `usage`; this builds it where it isn't built yet.
-"$top/bin/pcc" 2>/dev/null
-[ $? -eq 2 ] || { echo "programs: bin/pcc can't be built" >&2; exit 1; }
+. "$(dirname "$(readlink -f "$0")")/start.sh"
+build_pcc
 
 python3 - "$top/bin/pcc" "$room" <<'PYTHON'
 import os

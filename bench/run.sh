@@ -2,28 +2,20 @@
 # Measures the machine: the steps that it makes in a second over NOPs and over a loop of arithmetic, memory and
 # jumps, the ratio of that loop's time to its time on the processor, and the time that it takes to read and load
 # an image of 100 MB. The images are made in a temporary folder, which is removed at the end.
-top=$(cd "$(dirname "$(readlink -f "$0")")/.." && pwd) || exit 1
-room=$(mktemp -d) || exit 1
-trap 'rm -rf "$room"' EXIT
-trap 'exit 1' HUP INT TERM
+. "$(dirname "$(readlink -f "$0")")/start.sh"
+build_pcc
 
-# With no words pcc answers `usage`; this builds it where it isn't built yet.
-"$top/bin/pcc" 2>/dev/null
-[ $? -eq 2 ] || { echo "bench: bin/pcc can't be built" >&2; exit 1; }
-
-python3 - "$top/bin/pcc" "$room" <<'PYTHON'
+PYTHONPATH=$top/bench python3 -B - "$top/bin/pcc" "$room" <<'PYTHON'
 import os
-import struct
 import subprocess
 import sys
 import time
 
+from image import image
+
 PROGRAM, ROOM = sys.argv[1:]
 COUNT = 100_000_000
 RUNS = 3
-PAGE = 4096
-TEXT_ADDRESS = 0x0804_8000
-STACK = 67_112_960
 
 # MOV EAX, 1; INT 0x80: the program ends, with the low byte of EBX, which is 0
 EXIT = bytes.fromhex("B801000000" "CD80")
@@ -50,21 +42,6 @@ LOOP = bytes.fromhex(
     "8B03" "01F0" "8903" "8D4C7001" "31CA" "895304" "83EE01" "75EC"
     "B801000000" "BB00000000" "CD80"
 )
-
-
-def image(text, data=bytes(4)):
-    """The file of an image: two segments, laid out as specs/Layout.antt of elf_image says."""
-    span = -(-len(text) // PAGE) * PAGE
-    memory = -(-len(data) // 4) * 4 + STACK
-
-    def header(offset, address, size, in_memory, flags):
-        return struct.pack("<8I", 1, offset, address, address, size, in_memory, flags, PAGE)
-
-    head = b"\x7fELF" + bytes([1, 1, 1]) + bytes(9) + struct.pack("<2H", 2, 3)
-    head += struct.pack("<5I", 1, TEXT_ADDRESS, 52, 0, 0) + struct.pack("<6H", 52, 32, 2, 0, 0, 0)
-    head += header(PAGE, TEXT_ADDRESS, len(text), len(text), 5)
-    head += header(PAGE + span, TEXT_ADDRESS + span, len(data), memory, 6)
-    return head.ljust(PAGE, b"\0") + text.ljust(span, b"\0") + data
 
 
 def shortest(name, words, said):
