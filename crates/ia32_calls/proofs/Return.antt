@@ -1,5 +1,5 @@
 -- A return of the word in a slot.
-use Rattle.std.proofs.Common.{◌≡◌, ◌≢◌, ℕ, ◌+◌, ◌-◌, ◌^◌, ◌<◌, ◌≤◌, List, ◌∷◌, ◌++◌, Ok, refl, sym, ap, subst, ◌∙◌, arith}
+use Rattle.std.proofs.Common.{◌≡◌, ◌≢◌, ℕ, ◌+◌, ◌-◌, ◌^◌, ◌<◌, ◌≤◌, List, ◌∷◌, ◌++◌, Ok, Err, refl, sym, ap, subst, ◌∙◌, arith}
 use Rattle.std.specs.Prelude.{slice_index_or, Result}
 use Rattle.pcc_base.specs.Outcome.{End}
 use Rattle.ia32_regs.specs.declared.names.Reg32.{Reg32}
@@ -11,18 +11,19 @@ use Rattle.ia32_insn.specs.State.{State, at_address}
 use Rattle.ia32_insn.specs.Meaning.{and_then, address_of, load, word_of, with_word, effect}
 use Rattle.ia32_insn.specs.Items.{plain}
 use Rattle.ia32_shows.specs.Placements.{below}
-use Rattle.ia32_shows.proofs.Sound.{load-in, load-same, sound-with_word, sound-at, word-other, word-below}
+use Rattle.ia32_shows.proofs.Sound.{load-in, load-same, sound-with_word, sound-at, word-same, word-other, word-below}
 use Rattle.ia32_shows.proofs.Steps.{Comes, comes-then, plain-goes}
 use Rattle.ia32_shows.proofs.Frames.{Site, SoundAt, ReadyAt, below-address}
 use Rattle.ia32_rows.specs.Rows.{return_row}
-use Rattle.ia32_calls.specs.Laws.{return_before, Returned, ReturnGoes}
-use Rattle.ia32_calls.proofs.Pushes.{unlike, Sets, set-goes, leave-goes, ret-goes}
+use Rattle.ia32_calls.specs.Laws.{return_before, HasWordFrom, Returned, ReturnGoes}
+use Rattle.ia32_calls.proofs.Pushes.{unlike, Sets, set-goes, Leaves, leave-goes, ret-goes}
 
 -- ---- words of the frame to registers
 
--- a register has some word; the other registers, memory, the input and the output are as before
-record Loads (site : Site) (r : Reg32) (s u : State) : Type 0 where
+-- a register has the word so far below EBP; the other registers, memory, the input and the output are as before
+record Loads (site : Site) (r : Reg32) (d : ℕ) (s u : State) : Type 0 where
   pub sound : SoundAt site u
+  pub value : HasWordFrom r (word_of Ebp s - d) s u
   pub others : (q : Reg32) → number32 q ≢ number32 r → word_of q u ≡ word_of q s
   pub memory : u.memory ≡ s.memory
   pub left : u.left ≡ s.left
@@ -62,8 +63,16 @@ eight-twelve = omega arith
 twelve-twelve : 12 ≤ 12
 twelve-twelve = omega arith
 
+-- one word is loaded at most
+abbrev word_in : Result ℕ End → ℕ
+word_in (Ok w) = w
+word_in (Err end) = 0
+
+one-loaded : {v w : ℕ} → (let r : Result ℕ End = Ok v in r) ≡ Ok w → v ≡ w
+one-loaded same = ap word_in same
+
 load-goes : (site : Site) (items : List Item) (r : Reg32) (d : ℕ) (s : State) → HasFrame site s → ReadyAt site (plain (insn.MovLoad r (below d)) ∷ items) s → 4 ≤ d → d ≤ 12
-    → (u : State) × Comes site.text s u × ReadyAt site items u × Loads site r s u
+    → (u : State) × Comes site.text s u × ReadyAt site items u × Loads site r d s u
 load-goes site items r d s has ready some few =
     let e : ℕ = word_of Ebp s in
     let found = load-in site.text site.low site.high 4 (e - d) s has.sound (from-low site.low e d has.low few) (to-high e d site.high has.high some) in
@@ -77,6 +86,7 @@ load-goes site items r d s has ready some few =
       went.2,
       record {
         sound = sound-at site.text site.low site.high went.0 t (sound-with_word site.text site.low site.high r found.0 s has.sound);
+        value = λ w held fits. subst (λ (v : ℕ). word_of r (with_word r v s) ≡ w) (one-loaded (sym held ∙ found.1)) (word-same site.text site.low site.high r w s has.sound fits);
         others = λ q other. word-other site.text site.low site.high q r found.0 s has.sound other;
         memory = refl;
         left = refl;
@@ -94,20 +104,31 @@ has-still site s u has sound same =
 abbrev leaving : List Item → List Item
 leaving back = plain insn.Leave ∷ plain insn.Ret ∷ back
 
--- the result is in EAX, and LEAVE is next
-record Restored (site : Site) (back : List Item) (s u : State) : Type 0 where
+-- the result is in EAX and the caller's registers are back, and LEAVE is next
+record Restored (site : Site) (back : List Item) (x : ℕ) (s u : State) : Type 0 where
   pub comes : Comes site.text s u
   pub ready : ReadyAt site (leaving back) u
   pub has : HasFrame site u
-  pub eax : word_of Eax u ≡ word_of Eax s
+  pub eax : word_of Eax u ≡ x
   pub ebp : word_of Ebp u ≡ word_of Ebp s
+  pub ebx : HasWordFrom Ebx (word_of Ebp s - 4) s u
+  pub esi : HasWordFrom Esi (word_of Ebp s - 8) s u
+  pub edi : HasWordFrom Edi (word_of Ebp s - 12) s u
   pub memory : u.memory ≡ s.memory
   pub left : u.left ≡ s.left
   pub taken : u.taken ≡ s.taken
   pub written : u.written ≡ s.written
 
-restores : (site : Site) (back : List Item) (s : State) → HasFrame site s → ReadyAt site (plain (insn.MovLoad Ebx (below 4)) ∷ plain (insn.MovLoad Esi (below 8)) ∷ plain (insn.MovLoad Edi (below 12)) ∷ leaving back) s → (u : State) × Restored site back s u
-restores site back s has ready =
+-- what stands at EBP, or so far below, stands there still where EBP and memory are as before
+held-at : (w : ℕ) (s u : State) → word_of Ebp u ≡ word_of Ebp s → u.memory ≡ s.memory → load 4 (word_of Ebp s) s ≡ Ok w → load 4 (word_of Ebp u) u ≡ Ok w
+held-at w s u ebp memory held = load-same 4 (word_of Ebp u) w s u memory (subst (λ (k : ℕ). load 4 k s ≡ Ok w) (sym ebp) held)
+
+held-still : (d w : ℕ) (s u : State) → word_of Ebp u ≡ word_of Ebp s → u.memory ≡ s.memory → load 4 (word_of Ebp s - d) s ≡ Ok w → load 4 (word_of Ebp u - d) u ≡ Ok w
+held-still d w s u ebp memory held =
+    load-same 4 (word_of Ebp u - d) w s u memory (subst (λ (k : ℕ). load 4 (k - d) s ≡ Ok w) (sym ebp) held)
+
+restores : (site : Site) (back : List Item) (x : ℕ) (s : State) → HasFrame site s → word_of Eax s ≡ x → ReadyAt site (plain (insn.MovLoad Ebx (below 4)) ∷ plain (insn.MovLoad Esi (below 8)) ∷ plain (insn.MovLoad Edi (below 12)) ∷ leaving back) s → (u : State) × Restored site back x s u
+restores site back x s has eax ready =
     let two : List Item = plain (insn.MovLoad Edi (below 12)) ∷ leaving back in
     let one : List Item = plain (insn.MovLoad Esi (below 8)) ∷ two in
     let p = load-goes site one Ebx 4 s has ready four-four four-twelve in
@@ -126,8 +147,11 @@ restores site back s has ready =
         comes = comes-then site.text s a u p.1 (comes-then site.text a b u q.1 r.1);
         ready = r.2;
         has = has-still site b u has_b r.3.sound ebp_u;
-        eax = r.3.others Eax (unlike 0 7 refl) ∙ q.3.others Eax (unlike 0 6 refl) ∙ p.3.others Eax (unlike 0 3 refl);
+        eax = r.3.others Eax (unlike 0 7 refl) ∙ q.3.others Eax (unlike 0 6 refl) ∙ p.3.others Eax (unlike 0 3 refl) ∙ eax;
         ebp = ebp_u ∙ ebp_b ∙ ebp_a;
+        ebx = λ w held fits. r.3.others Ebx (unlike 3 7 refl) ∙ q.3.others Ebx (unlike 3 6 refl) ∙ p.3.value w held fits;
+        esi = λ w held fits. r.3.others Esi (unlike 6 7 refl) ∙ q.3.value w (held-still 8 w s a ebp_a p.3.memory held) fits;
+        edi = λ w held fits. r.3.value w (held-still 12 w s b (ebp_b ∙ ebp_a) (q.3.memory ∙ p.3.memory) held) fits;
         memory = r.3.memory ∙ q.3.memory ∙ p.3.memory;
         left = r.3.left ∙ q.3.left ∙ p.3.left;
         taken = r.3.taken ∙ q.3.taken ∙ p.3.taken;
@@ -147,35 +171,61 @@ ret-room a e h p q = omega arith
 ret-esp : (a b e : ℕ) → a ≡ b + 4 → b ≡ e + 4 → a ≡ e + 8
 ret-esp a b e p q = omega arith
 
+-- LEAVE gives EBP the word that stood there
+left-word : (site : Site) (b c : State) (found w : ℕ) → Leaves site found b c → load 4 (word_of Ebp b) b ≡ Ok found → load 4 (word_of Ebp b) b ≡ Ok w → w < 2 ^ 32 → word_of Ebp c ≡ w
+left-word site b c found w h held old small =
+    let same : found ≡ w = one-loaded (sym held ∙ old) in
+    h.ebp (subst (λ (k : ℕ). k < 2 ^ 32) (sym same) small) ∙ same
+
 -- from the state in which LEAVE is next
-leaves : (site : Site) (back : List Item) (x address : ℕ) (s b : State) → HasFrame site b → Comes site.text s b → ReadyAt site (leaving back) b → word_of Eax b ≡ x → word_of Ebp b ≡ word_of Ebp s → b.memory ≡ s.memory → b.left ≡ s.left → b.taken ≡ s.taken → b.written ≡ s.written
+leaves : (site : Site) (back : List Item) (x address : ℕ) (s b : State) → Restored site back x s b
     → load 4 (word_of Ebp s + 4) s ≡ Ok address → address < 2 ^ 32 → (u : State) × Returned site x address s u
-leaves site back x address s b has comes ready eax ebp memory left taken written held fits =
+leaves site back x address s b h held fits =
+    let has = h.has in
     let e : ℕ = word_of Ebp b in
     let found = load-in site.text site.low site.high 4 e b has.sound (leave-from site.low e has.low) (back-room e site.high has.high) in
-    let p = leave-goes site (plain insn.Ret ∷ back) found.0 b has.sound ready found.1 (back-room e site.high has.high) in
+    let p = leave-goes site (plain insn.Ret ∷ back) found.0 b has.sound h.ready found.1 (back-room e site.high has.high) in
     let c : State = p.0 in
-    let at : word_of Ebp s + 4 ≡ word_of Esp c = sym (p.3.esp ∙ ap (λ (k : ℕ). k + 4) ebp) in
-    let there : load 4 (word_of Esp c) c ≡ Ok address = load-same 4 (word_of Esp c) address s c (p.3.memory ∙ memory) (subst (λ (k : ℕ). load 4 k s ≡ Ok address) at held) in
+    let at : word_of Ebp s + 4 ≡ word_of Esp c = sym (p.3.esp ∙ ap (λ (k : ℕ). k + 4) h.ebp) in
+    let there : load 4 (word_of Esp c) c ≡ Ok address = load-same 4 (word_of Esp c) address s c (p.3.memory ∙ h.memory) (subst (λ (k : ℕ). load 4 k s ≡ Ok address) at held) in
     let q = ret-goes site back address c p.3.sound p.2 there fits (ret-room (word_of Esp c) e site.high p.3.esp has.high) in
     let u : State = q.0 in (
       u,
       record {
-        comes = comes-then site.text s b u comes (comes-then site.text b c u p.1 q.1);
+        comes = comes-then site.text s b u h.comes (comes-then site.text b c u p.1 q.1);
         sound = q.3.sound;
         eip = q.2;
-        eax = q.3.others Eax (unlike 0 4 refl) ∙ p.3.others Eax (unlike 0 5 refl) (unlike 0 4 refl) ∙ eax;
+        eax = q.3.others Eax (unlike 0 4 refl) ∙ p.3.others Eax (unlike 0 5 refl) (unlike 0 4 refl) ∙ h.eax;
         esp = ret-esp (word_of Esp u) (word_of Esp c) (word_of Ebp s) q.3.value (sym at);
-        memory = q.3.memory ∙ p.3.memory ∙ memory;
-        left = q.3.left ∙ p.3.left ∙ left;
-        taken = q.3.taken ∙ p.3.taken ∙ taken;
-        written = q.3.written ∙ p.3.written ∙ written;
+        ebp = λ w old small. q.3.others Ebp (unlike 5 4 refl) ∙ left-word site b c found.0 w p.3 found.1 (held-at w s b h.ebp h.memory old) small;
+        ebx = λ w old small. q.3.others Ebx (unlike 3 4 refl) ∙ p.3.others Ebx (unlike 3 5 refl) (unlike 3 4 refl) ∙ h.ebx w old small;
+        esi = λ w old small. q.3.others Esi (unlike 6 4 refl) ∙ p.3.others Esi (unlike 6 5 refl) (unlike 6 4 refl) ∙ h.esi w old small;
+        edi = λ w old small. q.3.others Edi (unlike 7 4 refl) ∙ p.3.others Edi (unlike 7 5 refl) (unlike 7 4 refl) ∙ h.edi w old small;
+        memory = q.3.memory ∙ p.3.memory ∙ h.memory;
+        left = q.3.left ∙ p.3.left ∙ h.left;
+        taken = q.3.taken ∙ p.3.taken ∙ h.taken;
+        written = q.3.written ∙ p.3.written ∙ h.written;
       },
     )
 
-leaves-restored : (site : Site) (back : List Item) (x address : ℕ) (s a : State) → Comes site.text s a → Sets site Eax x s.written s a → load 4 (word_of Ebp s + 4) s ≡ Ok address → address < 2 ^ 32 → ((b : State) × Restored site back a b) → (u : State) × Returned site x address s u
-leaves-restored site back x address s a p q held fits (b, r) =
-    leaves site back x address s b r.has (comes-then site.text s a b p r.comes) r.ready (r.eax ∙ q.value) (r.ebp ∙ q.others Ebp (unlike 5 0 refl)) (r.memory ∙ q.memory) (r.left ∙ q.left) (r.taken ∙ q.taken) (r.written ∙ q.written) held fits
+-- the word in EAX is still there when LEAVE is next, and the frame is as it was
+restored-since : (site : Site) (back : List Item) (x : ℕ) (s a b : State) → Comes site.text s a → Sets site Eax x s.written s a → Restored site back x a b → Restored site back x s b
+restored-since site back x s a b p q r =
+    let ebp : word_of Ebp a ≡ word_of Ebp s = q.others Ebp (unlike 5 0 refl) in
+    record {
+      comes = comes-then site.text s a b p r.comes;
+      ready = r.ready;
+      has = r.has;
+      eax = r.eax;
+      ebp = r.ebp ∙ ebp;
+      ebx = λ w held fits. r.ebx w (held-still 4 w s a ebp q.memory held) fits;
+      esi = λ w held fits. r.esi w (held-still 8 w s a ebp q.memory held) fits;
+      edi = λ w held fits. r.edi w (held-still 12 w s a ebp q.memory held) fits;
+      memory = r.memory ∙ q.memory;
+      left = r.left ∙ q.left;
+      taken = r.taken ∙ q.taken;
+      written = r.written ∙ q.written;
+    }
 
 frame-low : (low p f e d : ℕ) → low + 4 ≤ p → p + f ≡ e → 20 ≤ d → d ≤ f → low + 16 ≤ e
 frame-low low p f e d a b c k = omega arith
@@ -190,7 +240,7 @@ slot-some d h = omega arith
 pub return_row-before : (slots : List ℕ) (a : ℕ) (back : List Item) → return_row slots a ++ back ≡ return_before (slice_index_or slots a 0) back
 return_row-before slots a back = refl
 
--- a return comes to the return address, with the word in EAX
+-- a return comes to the return address, with the word in EAX and the caller's registers
 pub return-goes : ReturnGoes
 return-goes site frame back a x address s framed ready inside held fits back_held back_fits =
     let e : ℕ = word_of Ebp s in
@@ -201,4 +251,5 @@ return-goes site frame back a x address s framed ready inside held fits back_hel
     let one : List Item = plain (insn.MovLoad Ebx (below 4)) ∷ plain (insn.MovLoad Esi (below 8)) ∷ plain (insn.MovLoad Edi (below 12)) ∷ leaving back in
     let p = set-goes site one (insn.MovLoad Eax (below a)) Eax x s.flags s sound ready tt fits (λ after. ap (λ (y : Result ℕ End). and_then y (λ value. let q : Result State End = Ok (with_word Eax value s) in q)) loaded) (λ after. refl) in
     let b : State = p.0 in
-    leaves-restored site back x address s b p.1 p.3 back_held back_fits (restores site back b (has-still site s b has p.3.sound (p.3.others Ebp (unlike 5 0 refl))) p.2)
+    let r = restores site back x b (has-still site s b has p.3.sound (p.3.others Ebp (unlike 5 0 refl))) p.3.value p.2 in
+    leaves site back x address s r.0 (restored-since site back x s b r.0 p.1 p.3 r.1) back_held back_fits

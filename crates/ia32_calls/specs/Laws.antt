@@ -1,6 +1,7 @@
 -- What calls and leaves do to the machine. Each law leads from a state to a later one, and passes no NOP on the way.
 use Rattle.std.specs.Prelude.{◌≡◌, ℕ, ◌+◌, ◌-◌, ◌%◌, ◌^◌, ◌<◌, ◌≤◌, List, [], ◌∷◌, ◌++◌, length, take, drop, slice_get, Some, Ok}
 use Rattle.pcc_base.specs.Outcome.{Ended}
+use Rattle.ia32_regs.specs.declared.names.Reg32.{Reg32}
 use Rattle.ia32_regs.specs.declared.names.Reg32.TheVariants.{Eax, Ebx, Esp, Ebp, Esi, Edi}
 use Rattle.ia32_insn.specs.declared.operand.Rm32.TheVariants as rm
 use Rattle.ia32_insn.specs.declared.insn.Insn.TheVariants as insn
@@ -123,13 +124,22 @@ return_before a back =
     ∷ plain insn.Ret
     ∷ back
 
--- the state behind the return of a word to an address
+-- a register has the word that stood at an address
+abbrev pub HasWordFrom : Reg32 → ℕ → State → State → Type 0
+HasWordFrom r address s u = (w : ℕ) → load 4 address s ≡ Ok w → w < 2 ^ 32 → word_of r u ≡ w
+
+-- The state behind the return of a word to an address: the frame is left, and the caller's registers are as the
+-- frame kept them (System V ABI, Intel386 supplement, "Function Calling Sequence").
 pub record Returned (site : Site) (word address : ℕ) (s u : State) : Type 0 where
   pub comes : Comes site.text s u
   pub sound : SoundAt site u
   pub eip : u.eip ≡ address
   pub eax : word_of Eax u ≡ word
   pub esp : word_of Esp u ≡ word_of Ebp s + 8
+  pub ebp : HasWordFrom Ebp (word_of Ebp s) s u
+  pub ebx : HasWordFrom Ebx (word_of Ebp s - 4) s u
+  pub esi : HasWordFrom Esi (word_of Ebp s - 8) s u
+  pub edi : HasWordFrom Edi (word_of Ebp s - 12) s u
   pub memory : u.memory ≡ s.memory
   pub left : u.left ≡ s.left
   pub taken : u.taken ≡ s.taken
