@@ -29,13 +29,12 @@ y = Read int (LocalPlace 1)
 abbrev pub shown : ℕ → List ℤ → Visit
 shown statement numbers = record { statement = statement; values = map Number numbers }
 
--- `int main(void){int x=2147483647; x=x+1; putchar(x-191); return x-1;}`
+-- `int main(void){int x=2147483647; x=x+1; return x-1;}`
 abbrev pub sum_wraps : Program
 sum_wraps = main_with (x_local ∷ [])
     (Next (Declare (Scalar 0 0 (Some (Constant (pos 2147483647)))))
     (Next (Evaluate 1 (Assign int (LocalPlace 0) (Binary int Add x (Constant (pos 1)))))
-    (Next (Evaluate 2 (Putchar (Binary int Subtract x (Constant (pos 191)))))
-    (Next (Return 3 (Some (Binary int Subtract x (Constant (pos 1))))) Done))))
+    (Next (Return 2 (Some (Binary int Subtract x (Constant (pos 1))))) Done)))
 
 -- each statement shows the one local
 abbrev pub x_listed : Listing

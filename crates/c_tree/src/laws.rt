@@ -9,23 +9,23 @@ ghost use Rattle.c_tree.specs.Worked.{declared_listed, shown, sum_wraps, writes_
 ///
 /// Before the call of `main`, which takes a turn, nothing has happened. After it each statement was visited
 /// with the values of the locals that are listed for it, in order. In the first program a local is 0 before its
-/// declaration has run, the sum wraps, and the low bytes of 2147483457 and of 2147483647 are what is written and the
-/// exit status. In the second the bytes of `HE` were written, one after the other, and the exit status is 2.
+/// declaration has run, the sum wraps, and the exit status is the low byte of 2147483647. In the second the
+/// bytes of `HE` were written, one after the other, and the exit status is 2.
 pub fn worked_example()
     ensures before { source_outcome sum_wraps x_listed [] 0
         ≡ record { visits = []; taken = 0; written = []; end = Goes } }
     ensures wraps { source_outcome sum_wraps x_listed [] 1
         ≡ record {
           visits = shown 0 (pos 0 ∷ []) ∷ shown 1 (pos 2147483647 ∷ [])
-            ∷ shown 2 (negsuc 2147483647 ∷ []) ∷ shown 3 (negsuc 2147483647 ∷ []) ∷ [];
+              ∷ shown 2 (negsuc 2147483647 ∷ []) ∷ [];
           taken = 0;
-          written = 65 ∷ [];
+          written = [];
           end = Ended 255;
         } }
     ensures writes { source_outcome writes_he declared_listed [] 1
         ≡ record {
           visits = shown 0 [] ∷ shown 1 (pos 70 ∷ []) ∷ shown 2 (pos 70 ∷ pos 72 ∷ [])
-            ∷ shown 3 (pos 70 ∷ pos 72 ∷ []) ∷ shown 4 (pos 70 ∷ pos 72 ∷ []) ∷ [];
+              ∷ shown 3 (pos 70 ∷ pos 72 ∷ []) ∷ shown 4 (pos 70 ∷ pos 72 ∷ []) ∷ [];
           taken = 0;
           written = 72 ∷ 69 ∷ [];
           end = Ended 2;
