@@ -13,8 +13,6 @@ mod numbers;
 mod quotes;
 mod scanner;
 mod skips;
-#[cfg(test)]
-mod tests;
 mod token;
 mod words;
 

@@ -10,8 +10,6 @@ mod program;
 mod shapes;
 mod statements;
 mod sums;
-#[cfg(test)]
-mod tests;
 
 pub use laws::one_program;
 pub use program::locals_program;

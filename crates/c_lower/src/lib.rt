@@ -11,8 +11,6 @@ mod laws;
 mod program;
 mod statements;
 mod sums;
-#[cfg(test)]
-mod tests;
 
 pub use graphs::Graphs;
 pub use laws::all_parts_listed;

@@ -8,7 +8,5 @@
 mod externals;
 mod keywords;
 mod parser;
-#[cfg(test)]
-mod tests;
 
 pub use parser::parse;

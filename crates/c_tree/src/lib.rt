@@ -11,8 +11,6 @@ mod expression;
 mod laws;
 mod program;
 mod statement;
-#[cfg(test)]
-mod tests;
 mod types;
 
 pub use expression::{ArrayRef, BinaryOp, Expression, Place, StepOp, UnaryOp};

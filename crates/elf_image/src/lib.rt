@@ -10,8 +10,6 @@ mod image;
 mod laws;
 mod loaded;
 mod reading;
-#[cfg(test)]
-mod tests;
 mod writing;
 
 pub use image::{IMAGE_LIMIT, Image, STACK_BYTES, TEXT_ADDRESS};

@@ -4,4 +4,3 @@ pub mod Holding
 pub mod RoutineItems
 pub mod Placing
 pub mod Finishing
-pub mod Example

@@ -12,8 +12,6 @@ mod linked;
 mod linking;
 mod points;
 mod routines;
-#[cfg(test)]
-mod tests;
 mod text;
 
 pub use laws::image_loads_text;

@@ -15,8 +15,6 @@ mod graph;
 mod laws;
 mod live_sets;
 mod op;
-#[cfg(test)]
-mod tests;
 
 pub use graph::Graph;
 pub use laws::{never_stuck, one_outcome, one_state, worked_example};

@@ -9,8 +9,6 @@
 mod conditions;
 mod division;
 mod operations;
-#[cfg(test)]
-mod tests;
 mod words;
 
 pub use conditions::holds;

@@ -8,4 +8,3 @@ pub mod Relocating
 pub mod Resolving
 pub mod Sectioning
 pub mod Assembling
-pub mod Table

@@ -9,8 +9,6 @@ mod assembly;
 mod offsets;
 mod piece;
 mod section;
-#[cfg(test)]
-mod tests;
 
 pub use assembly::assemble;
 pub use section::{Relocation, Section, Symbol, Target};

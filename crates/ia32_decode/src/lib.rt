@@ -13,8 +13,6 @@ mod fields;
 mod numbers;
 mod one_byte;
 mod rows;
-#[cfg(test)]
-mod tests;
 mod two_byte;
 
 use ia32_insn::Insn;

@@ -8,7 +8,5 @@ mod fields;
 mod numbers;
 mod rows;
 mod spelling;
-#[cfg(test)]
-mod tests;
 
 pub use spelling::encode;

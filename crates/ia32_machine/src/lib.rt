@@ -14,6 +14,3 @@ pub use ends::{MachineEnd, StepEnd};
 pub use laws::one_first;
 pub use machine::Machine;
 pub use pcc_base::Stop;
-
-#[cfg(test)]
-mod tests;

@@ -7,7 +7,5 @@
 
 mod area;
 mod memory;
-#[cfg(test)]
-mod tests;
 
 pub use memory::Memory;

@@ -6,8 +6,6 @@
 
 mod file;
 mod names;
-#[cfg(test)]
-mod tests;
 
 pub use file::RegFile;
 pub use names::{Reg8, Reg32};

@@ -9,7 +9,5 @@ mod blocks;
 mod ops;
 mod selection;
 mod slots;
-#[cfg(test)]
-mod tests;
 
 pub use selection::select_slots;

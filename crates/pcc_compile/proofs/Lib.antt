@@ -3,4 +3,3 @@ pub mod Frames
 pub mod Headline
 pub mod Passes
 pub mod Placed
-pub mod Worked

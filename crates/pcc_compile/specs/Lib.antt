@@ -1,4 +1,3 @@
 pub mod Compiled
 pub mod Products
 pub mod Slots
-pub mod Worked

@@ -8,7 +8,5 @@ mod frame;
 mod laws;
 mod program;
 mod ranges;
-#[cfg(test)]
-mod tests;
 
 pub use program::{Products, compile_program};

@@ -8,8 +8,6 @@
 mod digits;
 mod laws;
 mod lines;
-#[cfg(test)]
-mod tests;
 
 pub use digits::{push_address, push_number};
 pub use laws::{one_map, worked_example};

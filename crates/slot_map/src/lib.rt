@@ -7,8 +7,6 @@
 
 mod laws;
 mod lines;
-#[cfg(test)]
-mod tests;
 
 pub use laws::{lines_by_same_addresses, map_keeps_rules, map_lists_locals, map_shows_visits};
 pub use lines::map_lines;

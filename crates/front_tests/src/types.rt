@@ -1,0 +1,19 @@
+//! The types of expressions, by hand from C99 6.5.
+
+use c_tree::{ArrayRef, Expression, IntegerType, Place, ValueType};
+use std::test::Fail;
+
+/// `(c, &a[2])` for a `char` c and a `short` a: a pointer to `short`.
+#[test]
+fn type_of_a_comma(rt: HostRuntime) -> Result<(), Fail> {
+    let alloc = rt.alloc();
+    let char_type = ValueType::Integer(IntegerType::Char);
+    let array = Expression::Start(IntegerType::Short, ArrayRef::Frame(0));
+    let place = Place::element(alloc, IntegerType::Short, array, Expression::Constant(2))?;
+    let left = Expression::Read(char_type, Place::Local(0));
+    assert_eq!(rt; left.value_type(), char_type);
+    let right = Expression::Address(IntegerType::Short, place);
+    let both = Expression::comma(alloc, left, right)?;
+    assert_eq!(rt; both.value_type(), ValueType::Pointer(IntegerType::Short));
+    Ok(())
+}

@@ -1,0 +1,32 @@
+//! Tests of the public calls of the crates `ia32_..`: what registers, memory and arithmetic do (`registers`,
+//! `memory`, `arithmetic`), the bytes of instructions there and back (`spellings`, `decoding`), the sections of items
+//! (`items`), the items of graphs (`selection`), and runs of images (`machine`).
+//!
+//! They stand in a crate of their own since a crate with tests is proved a second time; this one needs only
+//! what those crates promise.
+#![tactic(auto)]
+
+/// A table of spellings: on each line the bytes, and then what they spell.
+#[cfg(test)]
+macro_rules! spellings {
+    ($($($byte:literal)+ => $spelt:expr;)*) => {
+        [$((&[$($byte),+], $spelt)),*]
+    };
+}
+
+#[cfg(test)]
+mod arithmetic;
+#[cfg(test)]
+mod decoding;
+#[cfg(test)]
+mod items;
+#[cfg(test)]
+mod machine;
+#[cfg(test)]
+mod memory;
+#[cfg(test)]
+mod registers;
+#[cfg(test)]
+mod selection;
+#[cfg(test)]
+mod spellings;

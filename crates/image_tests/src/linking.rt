@@ -1,0 +1,39 @@
+//! The image of a small function, as GNU as and ld lay it out.
+
+use elf_link::link;
+use ia32_asm::assemble;
+use ia32_insn::{Insn, Item, Rm32};
+use ia32_regs::Reg32;
+use pcc_base::DataObject;
+use std::test::Fail;
+
+/// The text of `mov $3, %eax; ret` with the start and the routines, beside an object of the bytes 65 and -1. The
+/// bytes are those of GNU as and ld 2.40 at 0x08048000, but for the PUSH of 0, which has 32 bits here; the address
+/// of the data and the end of the stack are a sum by hand.
+#[test]
+fn one_function(rt: HostRuntime) -> Result<(), Fail> {
+    let items = vec![in rt.alloc();
+        Item::Plain(Insn::MovImm(Rm32::Reg(Reg32::Eax), 3)),
+        Item::Plain(Insn::Ret),
+    ]?;
+    let section = assemble(rt.alloc(), 0, &items)?;
+    let sections = vec![in rt.alloc(); section]?;
+    let elements = vec![in rt.alloc(); 65, -1]?;
+    let objects = vec![in rt.alloc(); DataObject { width: 1, elements }]?;
+    let linked = link(rt.alloc(), &sections, &objects, 0)?;
+    let text: [u8; 110] = [
+        0xbc, 0x0c, 0xa0, 0x04, 0x0c, 0xc7, 0x05, 0x00, 0x90, 0x04, 0x08, 1, 0, 0, 0, 0xe8, 9, 0,
+        0, 0, 0x89, 0xc3, 0xb8, 1, 0, 0, 0, 0xcd, 0x80, 0xb8, 3, 0, 0, 0, 0xc3, 0x53, 0xb8, 4, 0,
+        0, 0, 0xbb, 1, 0, 0, 0, 0x8d, 0x4c, 0x24, 8, 0xba, 1, 0, 0, 0, 0xcd, 0x80, 0x0f, 0xb6,
+        0x44, 0x24, 8, 0x5b, 0xc3, 0x53, 0x68, 0, 0, 0, 0, 0xb8, 3, 0, 0, 0, 0xbb, 0, 0, 0, 0,
+        0x89, 0xe1, 0xba, 1, 0, 0, 0, 0xcd, 0x80, 0x83, 0xe8, 1, 0x59, 0x09, 0xc8, 0x5b, 0xc3,
+        0x8b, 0x5c, 0x24, 4, 0xb8, 1, 0, 0, 0, 0xcd, 0x80, 0x0f, 0x0b,
+    ];
+    let data_bytes: [u8; 12] = [0, 0, 0, 0, 2, 0, 0, 0, 65, 0xff, 0, 0];
+    assert_eq!(rt; linked.image.entry, 0x0804_8000);
+    assert_eq!(rt; linked.image.text.as_slice(), text.as_slice());
+    assert_eq!(rt; linked.image.data_bytes.as_slice(), data_bytes.as_slice());
+    assert_eq!(rt; linked.objects.as_slice(), [0x0804_9008].as_slice());
+    assert_eq!(rt; linked.points.len(), 1);
+    Ok(())
+}
