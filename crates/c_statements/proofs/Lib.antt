@@ -1,2 +1,3 @@
 pub mod Below
+pub mod Parted
 pub mod Rows

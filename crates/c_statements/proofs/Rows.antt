@@ -1,5 +1,6 @@
 -- What the turns of a loop over statements or labels read in all.
 use Rattle.std.proofs.Common.{◌≡◌, ◌<◌, List, [], ◌∷◌, ◌++◌, map, length, true, false, is_some, Some, None, Result, Ok, Err, IfOk, IfErr, refl, ap, sym, ◌∙◌, subst}
+use Rattle.std.specs.Global.{Box}
 use Rattle.pcc_base.specs.declared.span.Span.{Span}
 use Rattle.pcc_base.specs.declared.refusal.Refusal.{Refusal}
 use Rattle.pcc_base.specs.declared.refusal.Refusal.TheVariants.{Fault, Limit, NoMemory}
@@ -8,14 +9,14 @@ use Rattle.c_lexer.specs.declared.token.Punct.TheVariants as marks
 use Rattle.c_raw.specs.declared.statement.Label.{Label}
 use Rattle.c_raw.specs.declared.statement.Statement.{Statement}
 use Rattle.c_grammar.specs.Statements.{LabelTree, label_of, Stmt, stmt_of}
-use Rattle.c_grammar.proofs.Chains.{Done, Fails, Goes, Reads, Continues, continues_goes, continues_done, continues_fails}
+use Rattle.c_grammar.proofs.Chains.{Done, Fails, Goes, Reads, then_read, Continues, continues_goes, continues_done, continues_fails}
 use Rattle.c_grammar.proofs.Taking.{take_mark}
 use Rattle.c_grammar.proofs.Reading.{Reader}
 use Rattle.c_grammar.proofs.StatementReading.{StmtReader, until_at, until_step, label_step}
 use Rattle.c_expressions.specs.Readings.{Refused}
 use Rattle.c_declarations.specs.Parts.{IsRead}
 use Rattle.c_declarations.proofs.Listing.{map_push}
-use Rattle.c_statements.specs.Parts.{IsLabelTurn}
+use Rattle.c_statements.specs.Parts.{ClosedTree, IsLabelTurn, boxed_of}
 
 -- ---- statements up to a `}`
 
@@ -51,6 +52,11 @@ until_refused read a ts out NoMemory before e r = tt
 pub until_last : (read : StmtReader) (a : List Stmt) (ts : List Token) (out : Reads (List Stmt)) → Continues (until_step read) a ts out → is_some (take_mark marks.RightBrace ts) ≡ true → out ≡ Some (a, ts)
 until_last read a ts out before e = continues_done (until_step read) a ts out before (done_at read a (take_mark marks.RightBrace ts) ts e)
 
+-- the `}` and what stands before it
+pub closed_last : (read : StmtReader) (a : List Stmt) (ts us : List Token) (at : Span) (out : Reads (List Stmt)) → Continues (until_step read) a ts out → is_some (take_mark marks.RightBrace ts) ≡ true → take_mark marks.RightBrace ts ≡ Some (at, us) →
+    then_read {B = ClosedTree} out (λ ss vs. then_read {B = ClosedTree} (take_mark marks.RightBrace vs) (λ c ws. Some ((ss, c), ws))) ≡ Some ((a, at), us)
+closed_last read a ts us at out before e taken = rw (until_last read a ts out before e, taken) refl
+
 -- ---- labels
 
 -- one label more
@@ -66,9 +72,9 @@ pub label_last : (read : Reader) (a : List LabelTree) (ts us : List Token) (out 
     Continues (label_step read) a ts out → IsLabelTurn read ts us (Ok None) → out ≡ Some (a, us)
 label_last read a ts us out before turn = continues_done (label_step read) a ts out before (turn.0 a) ∙ (rw turn.1 refl)
 
--- ---- nodes
+-- ---- boxes
 
--- a node of what was read
-pub node_read : (reads : Reads Stmt) (t : Stmt) (rest : List Token) (result : Result Statement Refusal) → reads ≡ Some (t, rest) → IfOk result (λ s. stmt_of s ≡ t) → IfErr result (λ e. e ≡ NoMemory) → IsRead stmt_of reads rest result
-node_read reads t rest (Ok s) e ok err = e ∙ ap (λ (x : Stmt). Some (x, rest)) (sym ok)
-node_read reads t rest (Err r) e ok err = (let h : Refused reads NoMemory = tt in subst (λ (x : Refusal). Refused reads x) (sym err) h)
+-- a statement that was read, in a box
+pub box_read : (reads : Reads Stmt) (s : Statement) (rest : List Token) (result : Result (Box Statement) Refusal) → reads ≡ Some (stmt_of s, rest) → IfOk result (λ b. b.value ≡ s) → IfErr result (λ e. e ≡ NoMemory) → IsRead boxed_of reads rest result
+box_read reads s rest (Ok b) e ok err = e ∙ ap (λ (x : Statement). Some (stmt_of x, rest)) (sym ok)
+box_read reads s rest (Err r) e ok err = (let h : Refused reads NoMemory = tt in subst (λ (x : Refusal). Refused reads x) (sym err) h)

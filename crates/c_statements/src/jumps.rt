@@ -7,8 +7,9 @@ ghost use Rattle.c_grammar.proofs.StatementReading.{or_break, break_behind, cont
 ghost use Rattle.c_declarations.specs.Parts.{IsRead};
 ghost use Rattle.c_statements.specs.Parts.{below_node};
 
-use c_declarations::maybe;
-use c_expressions::{Parser, Rule};
+use crate::nodes::{return_node, simple_node};
+use crate::parts::take_clause;
+use c_expressions::Parser;
 use c_lexer::Punct;
 use c_raw::Statement;
 use pcc_base::{FaultKind, Keyword, Refusal, Span};
@@ -42,11 +43,8 @@ fn return_behind(parser: &mut Parser<'_>, at: Span, height: u32) -> Result<State
     ensures reads { IsRead stmt_of (return_behind (below_node height) at parser.old.rest.now) parser.new.rest.now result }
     ensures shorter { IfOk result (λ _. length parser.new.rest.now ≤ length parser.old.rest.now) }
 {
-    let value = maybe(parser, Rule::Expression, Punct::Semicolon, height)?;
-    let Some(semicolon) = parser.take_mark(Punct::Semicolon) else {
-        return Err(parser.refusal(FaultKind::Syntax));
-    };
-    Ok(Statement::Return(at, value, semicolon))
+    let clause = take_clause(parser, Punct::Semicolon, height)?;
+    Ok(return_node(at, clause))
 }
 
 /// `expression? ';'`
@@ -56,11 +54,8 @@ fn simple(parser: &mut Parser<'_>, height: u32) -> Result<Statement, Refusal>
     ensures reads { IsRead stmt_of (read_simple (below_node height) parser.old.rest.now) parser.new.rest.now result }
     ensures shorter { IfOk result (λ _. length parser.new.rest.now < length parser.old.rest.now) }
 {
-    let value = maybe(parser, Rule::Expression, Punct::Semicolon, height)?;
-    let Some(semicolon) = parser.take_mark(Punct::Semicolon) else {
-        return Err(parser.refusal(FaultKind::Syntax));
-    };
-    Ok(Statement::Simple(value, semicolon))
+    let clause = take_clause(parser, Punct::Semicolon, height)?;
+    Ok(simple_node(clause))
 }
 
 /// `'break' ';' | 'continue' ';' | 'return' expression? ';' | expression? ';'`

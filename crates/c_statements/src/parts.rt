@@ -1,4 +1,7 @@
-//! Parts that stand in several rules.
+//! Parts of the rules without a statement in them.
+//!
+//! Where a second part is refused, a first one that holds a tree is dropped by a call of `drop`: a drop in place
+//! is proved over again, through each kind of node, in each function that has one.
 
 ghost use Rattle.std.specs.Prelude.{◌≡◌, ◌<◌, ◌≤◌, length, IfOk};
 ghost use Rattle.pcc_base.specs.declared.fault.Fault.{Fault};
@@ -6,9 +9,9 @@ ghost use Rattle.pcc_base.specs.declared.refusal.Refusal.TheVariants.{Fault as F
 ghost use Rattle.c_grammar.specs.Declarations.{declaration_of};
 ghost use Rattle.c_grammar.proofs.StatementReading.{read_condition};
 ghost use Rattle.c_declarations.specs.Parts.{IsRead};
-ghost use Rattle.c_statements.specs.Parts.{below_node, condition_of};
+ghost use Rattle.c_statements.specs.Parts.{below_node, clause_of, condition_of, for_head_of, read_clause, read_do_tail, read_for_head, read_for_start, read_for_tests, read_switch_head, start_of, switch_head_of, tail_of, tests_of};
 
-use c_declarations::declaration;
+use c_declarations::{declaration, maybe};
 use c_expressions::{Parser, Rule, begins_expression, fault_at};
 use c_lexer::{Punct, TokenKind};
 use c_raw::{Declaration, Expression, Label, Statement};
@@ -18,18 +21,52 @@ use pcc_base::{FaultKind, Keyword, Refusal, Span};
 #[derive(Drop)]
 pub(crate) struct Condition {
     pub opening: Span,
-    pub value: Expression,
+    pub value: Box<Expression>,
     pub close: Span,
 }
 
-/// `expression? ';' expression? ')' statement`: a `for` behind its first `;` or its declaration
+/// `expression?` and the mark that ends it
 #[derive(Drop)]
-pub(crate) struct ForRest {
-    pub condition: Option<Expression>,
-    pub second: Span,
-    pub step: Option<Expression>,
-    pub close: Span,
-    pub body: Box<Statement>,
+pub(crate) struct Clause {
+    pub value: Option<Expression>,
+    pub mark: Span,
+}
+
+/// `'while' '(' expression ')' ';'`: a `do` behind its body
+#[derive(Drop)]
+pub(crate) struct DoTail {
+    pub until: Span,
+    pub condition: Condition,
+    pub semicolon: Span,
+}
+
+/// `expression? ';' | declaration`, in a `for`
+#[derive(Drop)]
+pub(crate) enum ForStart {
+    Expressed(Clause),
+    Declared(Declaration),
+}
+
+/// `expression? ';' expression? ')'`, in a `for`
+#[derive(Drop)]
+pub(crate) struct ForTests {
+    pub condition: Clause,
+    pub step: Clause,
+}
+
+/// `'(' (expression? ';' | declaration) expression? ';' expression? ')'`: a `for` before its body
+#[derive(Drop)]
+pub(crate) struct ForHead {
+    pub opening: Span,
+    pub start: ForStart,
+    pub tests: ForTests,
+}
+
+/// `'(' expression ')' '{'`: a `switch` before its statements
+#[derive(Drop)]
+pub(crate) struct SwitchHead {
+    pub value: Condition,
+    pub begin: Span,
 }
 
 /// Labels, one behind the other.
@@ -38,10 +75,11 @@ pub(crate) struct LabelList {
     pub labels: Vec<Label>,
 }
 
-/// Statements, one behind the other.
+/// Statements, one behind the other, and the `}` behind them.
 #[derive(Drop)]
 pub(crate) struct StatementList {
     pub statements: Vec<Statement>,
+    pub close: Span,
 }
 
 /// `'(' expression ')'`
@@ -60,9 +98,118 @@ pub(crate) fn parenthesised(parser: &mut Parser<'_>, height: u32) -> Result<Cond
     };
     Ok(Condition {
         opening,
-        value: Box::into_inner(found.tree),
+        value: found.tree,
         close,
     })
+}
+
+/// `expression?` and this mark
+pub(crate) fn take_clause(
+    parser: &mut Parser<'_>,
+    mark: Punct,
+    height: u32,
+) -> Result<Clause, Refusal>
+    requires low { 0 < height }
+    requires high { height ≤ 256 }
+    ensures reads { IsRead clause_of (read_clause (below_node height) mark parser.old.rest.now) parser.new.rest.now result }
+    ensures shorter { IfOk result (λ _. length parser.new.rest.now < length parser.old.rest.now) }
+{
+    let value = maybe(parser, Rule::Expression, mark, height)?;
+    let Some(mark) = parser.take_mark(mark) else {
+        return Err(parser.refusal(FaultKind::Syntax));
+    };
+    Ok(Clause { value, mark })
+}
+
+/// `'while' '(' expression ')' ';'`, behind the body of a `do`
+pub(crate) fn do_tail(parser: &mut Parser<'_>, height: u32) -> Result<DoTail, Refusal>
+    requires low { 1 < height }
+    requires high { height ≤ 256 }
+    ensures reads { IsRead tail_of (read_do_tail (below_node height) parser.old.rest.now) parser.new.rest.now result }
+    ensures shorter { IfOk result (λ _. length parser.new.rest.now < length parser.old.rest.now) }
+{
+    let Some(until) = parser.take_word(Keyword::While) else {
+        return Err(parser.refusal(FaultKind::Syntax));
+    };
+    let condition = parenthesised(parser, height)?;
+    let Some(semicolon) = parser.take_mark(Punct::Semicolon) else {
+        return Err(parser.refusal(FaultKind::Syntax));
+    };
+    Ok(DoTail {
+        until,
+        condition,
+        semicolon,
+    })
+}
+
+/// `expression? ';' | declaration`, in a `for`
+fn for_start(parser: &mut Parser<'_>, height: u32) -> Result<ForStart, Refusal>
+    requires low { 1 < height }
+    requires high { height ≤ 256 }
+    ensures reads { IsRead start_of (read_for_start (below_node height) parser.old.rest.now) parser.new.rest.now result }
+    ensures shorter { IfOk result (λ _. length parser.new.rest.now < length parser.old.rest.now) }
+{
+    if parser.at_specifier() {
+        let declaration = declaration_below(parser, height)?;
+        return Ok(ForStart::Declared(declaration));
+    }
+    let start = take_clause(parser, Punct::Semicolon, height)?;
+    Ok(ForStart::Expressed(start))
+}
+
+/// `expression? ';' expression? ')'`, in a `for`
+fn for_tests(parser: &mut Parser<'_>, height: u32) -> Result<ForTests, Refusal>
+    requires low { 1 < height }
+    requires high { height ≤ 256 }
+    ensures reads { IsRead tests_of (read_for_tests (below_node height) parser.old.rest.now) parser.new.rest.now result }
+    ensures shorter { IfOk result (λ _. length parser.new.rest.now < length parser.old.rest.now) }
+{
+    let condition = take_clause(parser, Punct::Semicolon, height)?;
+    match take_clause(parser, Punct::RightParen, height) {
+        Ok(step) => Ok(ForTests { condition, step }),
+        Err(refusal) => {
+            drop(condition);
+            Err(refusal)
+        }
+    }
+}
+
+/// `'(' (expression? ';' | declaration) expression? ';' expression? ')'`, in a `for`
+pub(crate) fn for_head(parser: &mut Parser<'_>, height: u32) -> Result<ForHead, Refusal>
+    requires low { 1 < height }
+    requires high { height ≤ 256 }
+    ensures reads { IsRead for_head_of (read_for_head (below_node height) parser.old.rest.now) parser.new.rest.now result }
+    ensures shorter { IfOk result (λ _. length parser.new.rest.now < length parser.old.rest.now) }
+{
+    let Some(opening) = parser.take_mark(Punct::LeftParen) else {
+        return Err(parser.refusal(FaultKind::Syntax));
+    };
+    let start = for_start(parser, height)?;
+    match for_tests(parser, height) {
+        Ok(tests) => Ok(ForHead {
+            opening,
+            start,
+            tests,
+        }),
+        Err(refusal) => {
+            drop(start);
+            Err(refusal)
+        }
+    }
+}
+
+/// `'(' expression ')' '{'`, in a `switch`
+pub(crate) fn switch_head(parser: &mut Parser<'_>, height: u32) -> Result<SwitchHead, Refusal>
+    requires low { 1 < height }
+    requires high { height ≤ 256 }
+    ensures reads { IsRead switch_head_of (read_switch_head (below_node height) parser.old.rest.now) parser.new.rest.now result }
+    ensures shorter { IfOk result (λ _. length parser.new.rest.now < length parser.old.rest.now) }
+{
+    let value = parenthesised(parser, height)?;
+    let Some(begin) = parser.take_mark(Punct::LeftBrace) else {
+        return Err(parser.refusal(FaultKind::Syntax));
+    };
+    Ok(SwitchHead { value, begin })
 }
 
 /// A declaration below a node of this height

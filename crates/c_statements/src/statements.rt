@@ -1,20 +1,23 @@
-//! Statements with statements in them.
+//! Statements with statements in them. What stands before and behind those is read by `parts`.
 
 ghost use Rattle.std.specs.Prelude.{◌≡◌, ◌<◌, ◌≤◌, length, IfOk};
 ghost use Rattle.c_grammar.specs.Statements.{stmt_of};
-ghost use Rattle.c_grammar.proofs.StatementReading.{read_statement, read_until, block_behind, if_behind, while_behind, do_behind, read_for_rest, for_behind, switch_behind};
+ghost use Rattle.c_grammar.proofs.StatementReading.{read_statement, block_behind, else_from, if_behind, while_behind, do_behind, for_behind, switch_behind};
+ghost use Rattle.c_grammar.proofs.Taking.{take_word};
 ghost use Rattle.c_declarations.specs.Parts.{IsRead};
-ghost use Rattle.c_statements.specs.Parts.{below_node, rest_of, statements_of};
+ghost use Rattle.c_statements.specs.Parts.{below_node, boxed_of, closed_of, condition_of, read_closed};
 
 use crate::jumps::jump_or_simple;
 use crate::labels::take_labels;
 use crate::nodes::{
-    block_node, boxed, declared_node, do_node, for_declaration_node, for_node, if_else_node,
-    if_node, labelled_node, switch_node, while_node,
+    block_node, boxed, declared_node, do_node, for_node, if_else_node, if_node, labelled_node,
+    switch_node, while_node,
 };
-use crate::parts::{ForRest, StatementList, declaration_below, no_item_height, parenthesised};
-use c_declarations::maybe;
-use c_expressions::{Parser, Rule, height_below, push};
+use crate::parts::{
+    Condition, StatementList, declaration_below, do_tail, for_head, no_item_height, parenthesised,
+    switch_head,
+};
+use c_expressions::{Parser, height_below, push};
 use c_lexer::Punct;
 use c_raw::Statement;
 use pcc_base::{FaultKind, Keyword, Refusal, Span};
@@ -28,6 +31,18 @@ pub fn statement_below(parser: &mut Parser<'_>, height: u32) -> Result<Statement
     ensures shorter { IfOk result (λ _. length parser.new.rest.now < length parser.old.rest.now) }
 {
     statement(parser, height - 1)
+}
+
+/// The same, in a box
+#[cycle(statement)]
+fn boxed_below(parser: &mut Parser<'_>, height: u32) -> Result<Box<Statement>, Refusal>
+    requires low { 1 < height }
+    requires high { height ≤ 256 }
+    ensures reads { IsRead boxed_of ((below_node height).statement parser.old.rest.now) parser.new.rest.now result }
+    ensures shorter { IfOk result (λ _. length parser.new.rest.now < length parser.old.rest.now) }
+{
+    let statement = statement_below(parser, height)?;
+    boxed(parser.alloc, statement)
 }
 
 /// `declaration | statement`, in a block of this height
@@ -57,40 +72,46 @@ fn labelled(parser: &mut Parser<'_>, height: u32) -> Result<Statement, Refusal>
     ensures shorter { IfOk result (λ _. length parser.new.rest.now < length parser.old.rest.now) }
 {
     let list = take_labels(parser, height)?;
-    let statement = statement_below(parser, height)?;
-    labelled_node(parser.alloc, list, statement)
+    let statement = boxed_below(parser, height)?;
+    Ok(labelled_node(list, statement))
 }
 
-/// `(declaration | statement)*`, up to a `}`, in a block of this height
+/// `(declaration | statement)* '}'`, in a block of this height
 #[cycle(statement)]
 fn block_items(parser: &mut Parser<'_>, height: u32) -> Result<StatementList, Refusal>
     requires low { 0 < height }
     requires high { height ≤ 256 }
-    ensures reads { IsRead statements_of (read_until (below_node height).item parser.old.rest.now) parser.new.rest.now result }
-    ensures shorter { IfOk result (λ _. length parser.new.rest.now ≤ length parser.old.rest.now) }
+    ensures reads { IsRead closed_of (read_closed (below_node height).item parser.old.rest.now) parser.new.rest.now result }
+    ensures shorter { IfOk result (λ _. length parser.new.rest.now < length parser.old.rest.now) }
 {
     let mut statements = Vec::new(parser.alloc);
     'items: while !parser.at_mark(Punct::RightBrace) {
         let item = block_item(parser, height)?;
         push(&mut statements, item)?;
     }
-    Ok(StatementList { statements })
+    let Some(close) = parser.take_mark(Punct::RightBrace) else {
+        return Err(parser.refusal(FaultKind::Syntax));
+    };
+    Ok(StatementList { statements, close })
 }
 
-/// `(label* statement)*`, up to a `}`, in a switch of this height
+/// `(label* statement)* '}'`, in a switch of this height
 #[cycle(statement)]
 fn switch_items(parser: &mut Parser<'_>, height: u32) -> Result<StatementList, Refusal>
     requires low { 1 < height }
     requires high { height ≤ 256 }
-    ensures reads { IsRead statements_of (read_until (below_node height).labelled parser.old.rest.now) parser.new.rest.now result }
-    ensures shorter { IfOk result (λ _. length parser.new.rest.now ≤ length parser.old.rest.now) }
+    ensures reads { IsRead closed_of (read_closed (below_node height).labelled parser.old.rest.now) parser.new.rest.now result }
+    ensures shorter { IfOk result (λ _. length parser.new.rest.now < length parser.old.rest.now) }
 {
     let mut statements = Vec::new(parser.alloc);
     'items: while !parser.at_mark(Punct::RightBrace) {
         let item = labelled(parser, height)?;
         push(&mut statements, item)?;
     }
-    Ok(StatementList { statements })
+    let Some(close) = parser.take_mark(Punct::RightBrace) else {
+        return Err(parser.refusal(FaultKind::Syntax));
+    };
+    Ok(StatementList { statements, close })
 }
 
 /// `block : '{' (declaration | statement)* '}'`, behind the `{`
@@ -102,10 +123,7 @@ fn block_behind(parser: &mut Parser<'_>, opening: Span, height: u32) -> Result<S
     ensures shorter { IfOk result (λ _. length parser.new.rest.now ≤ length parser.old.rest.now) }
 {
     let items = block_items(parser, height)?;
-    let Some(close) = parser.take_mark(Punct::RightBrace) else {
-        return Err(parser.refusal(FaultKind::Syntax));
-    };
-    Ok(block_node(opening, items, close))
+    Ok(block_node(opening, items))
 }
 
 /// `'if' '(' expression ')' statement ('else' statement)?`, behind the word: the `else` belongs to the nearest
@@ -119,12 +137,39 @@ fn if_behind(parser: &mut Parser<'_>, at: Span, height: u32) -> Result<Statement
 {
     height_below(height, at)?;
     let condition = parenthesised(parser, height)?;
-    let then = statement_below(parser, height)?;
+    match boxed_below(parser, height) {
+        Ok(then) => else_behind(parser, at, condition, then, height),
+        Err(refusal) => {
+            drop(condition);
+            Err(refusal)
+        }
+    }
+}
+
+/// `('else' statement)?`, behind an `if` with its condition and its statement
+#[cycle(statement)]
+fn else_behind(
+    parser: &mut Parser<'_>,
+    at: Span,
+    condition: Condition,
+    then: Box<Statement>,
+    height: u32,
+) -> Result<Statement, Refusal>
+    requires low { 1 < height }
+    requires high { height ≤ 256 }
+    ensures reads { IsRead stmt_of (else_from (below_node height) at (condition_of condition) (stmt_of then.value) (take_word Keyword.Else parser.old.rest.now) parser.old.rest.now) parser.new.rest.now result }
+    ensures shorter { IfOk result (λ _. length parser.new.rest.now ≤ length parser.old.rest.now) }
+{
     let Some(otherwise) = parser.take_word(Keyword::Else) else {
-        return if_node(parser.alloc, at, condition, then);
+        return Ok(if_node(at, condition, then));
     };
-    let other = statement_below(parser, height)?;
-    if_else_node(parser.alloc, at, condition, then, otherwise, other)
+    match boxed_below(parser, height) {
+        Ok(other) => Ok(if_else_node(at, condition, then, otherwise, other)),
+        Err(refusal) => {
+            drop((condition, then));
+            Err(refusal)
+        }
+    }
 }
 
 /// `'while' '(' expression ')' statement`, behind the word
@@ -137,8 +182,13 @@ fn while_behind(parser: &mut Parser<'_>, at: Span, height: u32) -> Result<Statem
 {
     height_below(height, at)?;
     let condition = parenthesised(parser, height)?;
-    let body = statement_below(parser, height)?;
-    while_node(parser.alloc, at, condition, body)
+    match boxed_below(parser, height) {
+        Ok(body) => Ok(while_node(at, condition, body)),
+        Err(refusal) => {
+            drop(condition);
+            Err(refusal)
+        }
+    }
 }
 
 /// `'do' statement 'while' '(' expression ')' ';'`, behind the first word
@@ -150,42 +200,14 @@ fn do_behind(parser: &mut Parser<'_>, at: Span, height: u32) -> Result<Statement
     ensures shorter { IfOk result (λ _. length parser.new.rest.now ≤ length parser.old.rest.now) }
 {
     height_below(height, at)?;
-    let body = statement_below(parser, height)?;
-    let Some(until) = parser.take_word(Keyword::While) else {
-        return Err(parser.refusal(FaultKind::Syntax));
-    };
-    let condition = parenthesised(parser, height)?;
-    let Some(semicolon) = parser.take_mark(Punct::Semicolon) else {
-        return Err(parser.refusal(FaultKind::Syntax));
-    };
-    do_node(parser.alloc, at, body, until, condition, semicolon)
-}
-
-/// `expression? ';' expression? ')' statement`, in a `for`
-#[cycle(statement)]
-fn for_rest(parser: &mut Parser<'_>, height: u32) -> Result<ForRest, Refusal>
-    requires low { 1 < height }
-    requires high { height ≤ 256 }
-    ensures reads { IsRead rest_of (read_for_rest (below_node height) parser.old.rest.now) parser.new.rest.now result }
-    ensures shorter { IfOk result (λ _. length parser.new.rest.now ≤ length parser.old.rest.now) }
-{
-    let condition = maybe(parser, Rule::Expression, Punct::Semicolon, height)?;
-    let Some(second) = parser.take_mark(Punct::Semicolon) else {
-        return Err(parser.refusal(FaultKind::Syntax));
-    };
-    let step = maybe(parser, Rule::Expression, Punct::RightParen, height)?;
-    let Some(close) = parser.take_mark(Punct::RightParen) else {
-        return Err(parser.refusal(FaultKind::Syntax));
-    };
-    let body = statement_below(parser, height)?;
-    let body = boxed(parser.alloc, body)?;
-    Ok(ForRest {
-        condition,
-        second,
-        step,
-        close,
-        body,
-    })
+    let body = boxed_below(parser, height)?;
+    match do_tail(parser, height) {
+        Ok(tail) => Ok(do_node(at, body, tail)),
+        Err(refusal) => {
+            drop(body);
+            Err(refusal)
+        }
+    }
 }
 
 /// `'for' '(' (expression? ';' | declaration) expression? ';' expression? ')' statement`, behind the word
@@ -197,20 +219,14 @@ fn for_behind(parser: &mut Parser<'_>, at: Span, height: u32) -> Result<Statemen
     ensures shorter { IfOk result (λ _. length parser.new.rest.now ≤ length parser.old.rest.now) }
 {
     height_below(height, at)?;
-    let Some(opening) = parser.take_mark(Punct::LeftParen) else {
-        return Err(parser.refusal(FaultKind::Syntax));
-    };
-    if parser.at_specifier() {
-        let start = declaration_below(parser, height)?;
-        let rest = for_rest(parser, height)?;
-        return Ok(for_declaration_node(at, opening, start, rest));
+    let head = for_head(parser, height)?;
+    match boxed_below(parser, height) {
+        Ok(body) => Ok(for_node(at, head, body)),
+        Err(refusal) => {
+            drop(head);
+            Err(refusal)
+        }
     }
-    let start = maybe(parser, Rule::Expression, Punct::Semicolon, height)?;
-    let Some(first) = parser.take_mark(Punct::Semicolon) else {
-        return Err(parser.refusal(FaultKind::Syntax));
-    };
-    let rest = for_rest(parser, height)?;
-    Ok(for_node(at, opening, start, first, rest))
 }
 
 /// `'switch' '(' expression ')' '{' (label* statement)* '}'`, behind the word
@@ -222,15 +238,14 @@ fn switch_behind(parser: &mut Parser<'_>, at: Span, height: u32) -> Result<State
     ensures shorter { IfOk result (λ _. length parser.new.rest.now ≤ length parser.old.rest.now) }
 {
     height_below(height, at)?;
-    let value = parenthesised(parser, height)?;
-    let Some(begin) = parser.take_mark(Punct::LeftBrace) else {
-        return Err(parser.refusal(FaultKind::Syntax));
-    };
-    let items = switch_items(parser, height)?;
-    let Some(end) = parser.take_mark(Punct::RightBrace) else {
-        return Err(parser.refusal(FaultKind::Syntax));
-    };
-    Ok(switch_node(at, value, begin, items, end))
+    let head = switch_head(parser, height)?;
+    match switch_items(parser, height) {
+        Ok(items) => Ok(switch_node(at, head, items)),
+        Err(refusal) => {
+            drop(head);
+            Err(refusal)
+        }
+    }
 }
 
 /// `statement : block | expression? ';' | 'if' .. | 'while' .. | 'do' .. | 'for' .. | 'switch' .. | 'break' ';' |

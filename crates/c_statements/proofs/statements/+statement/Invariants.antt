@@ -27,14 +27,14 @@ decreases-for_behind l = 16 * l.height + 8
 abbrev pub decreases-switch_behind : goal.decreases-switch_behind
 decreases-switch_behind l = 16 * l.height + 8
 
+abbrev pub decreases-else_behind : goal.decreases-else_behind
+decreases-else_behind l = 16 * l.height + 7
+
 abbrev pub decreases-block_items : goal.decreases-block_items
 decreases-block_items l = 16 * l.height + 7
 
 abbrev pub decreases-switch_items : goal.decreases-switch_items
 decreases-switch_items l = 16 * l.height + 7
-
-abbrev pub decreases-for_rest : goal.decreases-for_rest
-decreases-for_rest l = 16 * l.height + 7
 
 abbrev pub decreases-block_item : goal.decreases-block_item
 decreases-block_item l = 16 * l.height + 6
@@ -42,8 +42,11 @@ decreases-block_item l = 16 * l.height + 6
 abbrev pub decreases-labelled : goal.decreases-labelled
 decreases-labelled l = 16 * l.height + 6
 
+abbrev pub decreases-boxed_below : goal.decreases-boxed_below
+decreases-boxed_below l = 16 * l.height + 5
+
 abbrev pub decreases-statement_below : goal.decreases-statement_below
-decreases-statement_below l = 16 * l.height + 5
+decreases-statement_below l = 16 * l.height + 4
 
 -- what is read in all is what the turns from here read
 
