@@ -6,7 +6,16 @@ ghost use Rattle.c_tree.specs.Sizes.{function_size};
 ghost use Rattle.flow_graph.specs.Running.{IsNeverStuck};
 ghost use Rattle.c_lower.specs.Code.{lowered, slot_graphs};
 ghost use Rattle.c_tree.specs.SlotForm.{IsSlotFunction, IsSlotProgram};
-ghost use Rattle.c_lower.specs.Lowering.{AreLowered, AreObjects, AreSmall, HasObjects, KeepsOutcome, MarksOnce, NamesItsOwn, graphs_of};
+ghost use Rattle.c_lower.specs.Lowering.{
+  AreLowered,
+  AreObjects,
+  AreSmall,
+  HasObjects,
+  KeepsOutcome,
+  MarksOnce,
+  NamesItsOwn,
+  graphs_of,
+};
 
 use crate::blocks::graph_of;
 use crate::graphs::Graphs;

@@ -68,7 +68,8 @@ impl Addresses {
     /// The word that a relocation awaits in a section at an address: the target's address, or its distance
     /// from the end of the word.
     pub(crate) fn word(&self, relocation: &Relocation, section: u32) -> u32
-        requires there { IsThere (length self.now.functions.items) (length self.now.objects.items) relocation.now.target }
+        requires there { IsThere (length self.now.functions.items) (length self.now.objects.items)
+            relocation.now.target }
         requires room { section + relocation.now.at + 4 < 2 ^ 32 }
         ensures { result ≡ word_for (symbols_of self.now) section relocation.now }
     {

@@ -54,7 +54,8 @@ fn put_sections(
     requires each { (k : ℕ) (s : Section) → slice_get sections.now.items k ≡ Some s
         → FitsIn (length addresses.now.functions.items) (length addresses.now.objects.items) s }
     requires room { start + sections_size sections.now.items < 2 ^ 32 }
-    ensures { OnOk result (text.new.items ≡ text.old.items ++ code_from (symbols_of addresses.now) start sections.now.items) }
+    ensures { OnOk result (text.new.items
+        ≡ text.old.items ++ code_from (symbols_of addresses.now) start sections.now.items) }
 {
     let mut address = start;
     for section in sections {
@@ -99,33 +100,13 @@ pub(crate) fn text_of(
     let start = start_items(alloc, addresses.stack, addresses.depth, main)?;
     put_routine(&mut text, alloc, &start, TEXT_ADDRESS, addresses)?;
     put_sections(&mut text, sections, TEXT_ADDRESS + START_BYTES, addresses)?;
-    put_routine(
-        &mut text,
-        alloc,
-        &putchar_items(alloc)?,
-        addresses.putchar,
-        addresses,
-    )?;
-    put_routine(
-        &mut text,
-        alloc,
-        &getchar_items(alloc)?,
-        addresses.getchar,
-        addresses,
-    )?;
-    put_routine(
-        &mut text,
-        alloc,
-        &exit_items(alloc)?,
-        addresses.exit,
-        addresses,
-    )?;
-    put_routine(
-        &mut text,
-        alloc,
-        &check_items(alloc)?,
-        addresses.check,
-        addresses,
-    )?;
+    let putchar = putchar_items(alloc)?;
+    put_routine(&mut text, alloc, &putchar, addresses.putchar, addresses)?;
+    let getchar = getchar_items(alloc)?;
+    put_routine(&mut text, alloc, &getchar, addresses.getchar, addresses)?;
+    let exit = exit_items(alloc)?;
+    put_routine(&mut text, alloc, &exit, addresses.exit, addresses)?;
+    let check = check_items(alloc)?;
+    put_routine(&mut text, alloc, &check, addresses.check, addresses)?;
     Ok(text)
 }

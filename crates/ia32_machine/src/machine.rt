@@ -83,8 +83,11 @@ impl Machine {
         out: &mut O,
     ) -> Result<(), MachineEnd>
         requires { self.old ≡ alone self.old }
-        ensures told { I.tells input.old → O.tells out.old → let s = lent self.old (I.left input.old) in PartTold (insn_moved insn after s) s self.new (I.left input.new) (O.taken out.old) (O.taken out.new) result }
-        ensures counted { PartCounts (I.faults input.old) (I.faults input.new) (O.counts out.old) (O.counts out.new) result }
+        ensures told { I.tells input.old → O.tells out.old → let s = lent self.old (I.left input.old) in
+            PartTold (insn_moved insn after s) s self.new (I.left input.new)
+            (O.taken out.old) (O.taken out.new) result }
+        ensures counted { PartCounts (I.faults input.old) (I.faults input.new)
+            (O.counts out.old) (O.counts out.new) result }
         ensures input_tells { I.tells input.old → I.tells input.new }
         ensures out_tells { O.tells out.old → O.tells out.new }
     {
@@ -103,8 +106,11 @@ impl Machine {
     /// Fetches an instruction and performs it.
     #[tactic(none)]
     fn advance<I: Source, O: Sink>(&mut self, input: &mut I, out: &mut O) -> Result<(), MachineEnd>
-        ensures told { I.tells input.old → O.tells out.old → AdvanceTold (lent self.old (I.left input.old)) self.new (I.left input.new) (O.taken out.old) (O.taken out.new) result }
-        ensures counted { PartCounts (I.faults input.old) (I.faults input.new) (O.counts out.old) (O.counts out.new) result }
+        ensures told { I.tells input.old → O.tells out.old →
+            AdvanceTold (lent self.old (I.left input.old)) self.new (I.left input.new)
+            (O.taken out.old) (O.taken out.new) result }
+        ensures counted { PartCounts (I.faults input.old) (I.faults input.new)
+            (O.counts out.old) (O.counts out.new) result }
         ensures input_tells { I.tells input.old → I.tells input.new }
         ensures out_tells { O.tells out.old → O.tells out.new }
     {
@@ -122,8 +128,11 @@ impl Machine {
     /// `WriteFault` and `NoMemory` come only from the lent objects, and `BudgetSpent` never.
     #[tactic(none)]
     pub fn step<I: Source, O: Sink>(&mut self, input: &mut I, out: &mut O) -> StepEnd
-        ensures told { I.tells input.old → O.tells out.old → StepTold (lent self.old (I.left input.old)) self.new (I.left input.new) (O.taken out.old) (O.taken out.new) result }
-        ensures counted { StepCounts (I.faults input.old) (I.faults input.new) (O.counts out.old) (O.counts out.new) result }
+        ensures told { I.tells input.old → O.tells out.old →
+            StepTold (lent self.old (I.left input.old)) self.new (I.left input.new)
+            (O.taken out.old) (O.taken out.new) result }
+        ensures counted { StepCounts (I.faults input.old) (I.faults input.new)
+            (O.counts out.old) (O.counts out.new) result }
         ensures input_tells { I.tells input.old → I.tells input.new }
         ensures out_tells { O.tells out.old → O.tells out.new }
     {
@@ -137,10 +146,14 @@ impl Machine {
     /// the machine still runs after exactly `budget` steps.
     pub fn run<I: Source, O: Sink>(&mut self, input: &mut I, out: &mut O, budget: u64) -> MachineEnd
         // The outcome of `budget` steps, where no lent object refused.
-        ensures told { I.tells input.old → O.tells out.old → RunTold budget (lent self.old (I.left input.old)) (I.left input.old) (I.left input.new) (O.taken out.old) (O.taken out.new) result }
+        ensures told { I.tells input.old → O.tells out.old →
+            RunTold budget (lent self.old (I.left input.old)) (I.left input.old) (I.left input.new)
+            (O.taken out.old) (O.taken out.new) result }
         // The state that the machine is left in.
-        ensures reached { I.tells input.old → O.tells out.old → RunReaches budget (lent self.old (I.left input.old)) self.new (I.left input.new) result }
-        ensures counted { RunCounts (I.faults input.old) (I.faults input.new) (O.counts out.old) (O.counts out.new) result }
+        ensures reached { I.tells input.old → O.tells out.old →
+            RunReaches budget (lent self.old (I.left input.old)) self.new (I.left input.new) result }
+        ensures counted { RunCounts (I.faults input.old) (I.faults input.new)
+            (O.counts out.old) (O.counts out.new) result }
         ensures input_tells { I.tells input.old → I.tells input.new }
         ensures out_tells { O.tells out.old → O.tells out.new }
     {

@@ -15,7 +15,8 @@ use pcc_outside::{Failed, Sink, Source, WriteRefusal};
 /// A byte of the input to an address where it may be stored, and 1 to EAX.
 fn take_byte(processor: &mut Processor, address: u32, byte: u8)
     requires { state.may_store 1 address processor.old.memory ≡ true }
-    ensures { and_then (store_bytes address (byte ∷ []) processor.old) (λ t. Ok (with_word Reg32.Eax 1 t)) ≡ Ok processor.new }
+    ensures { and_then (store_bytes address (byte ∷ []) processor.old) (λ t. Ok (with_word Reg32.Eax 1 t))
+        ≡ Ok processor.new }
 {
     let _ = processor.store8(address, byte);
     processor.set_word(Reg32::Eax, 1);
@@ -25,7 +26,8 @@ fn take_byte(processor: &mut Processor, address: u32, byte: u8)
 /// EAX. All EDX bytes are checked before one is taken.
 fn read_call<I: Source>(processor: &mut Processor, input: &mut I) -> Result<(), MachineEnd>
     requires { processor.old ≡ alone processor.old }
-    ensures told { I.tells input.old → (taken : List ℕ) → let s = lent processor.old (I.left input.old) in PartTold (read_moved s) s processor.new (I.left input.new) taken taken result }
+    ensures told { I.tells input.old → (taken : List ℕ) → let s = lent processor.old (I.left input.old) in
+        PartTold (read_moved s) s processor.new (I.left input.new) taken taken result }
     ensures counted { (out : SinkCounts) → PartCounts (I.faults input.old) (I.faults input.new) out out result }
     ensures input_tells { I.tells input.old → I.tells input.new }
 {
@@ -56,7 +58,8 @@ fn read_call<I: Source>(processor: &mut Processor, input: &mut I) -> Result<(), 
 #[tactic(none)]
 fn write_call<O: Sink>(processor: &mut Processor, out: &mut O) -> Result<(), MachineEnd>
     requires { processor.old ≡ alone processor.old }
-    ensures told { O.tells out.old → (left : List ℕ) → let s = lent processor.old left in PartTold (write_moved s) s processor.new left (O.taken out.old) (O.taken out.new) result }
+    ensures told { O.tells out.old → (left : List ℕ) → let s = lent processor.old left in
+        PartTold (write_moved s) s processor.new left (O.taken out.old) (O.taken out.new) result }
     ensures counted { (input : ℕ) → PartCounts input input (O.counts out.old) (O.counts out.new) result }
     ensures out_tells { O.tells out.old → O.tells out.new }
 {
@@ -87,8 +90,10 @@ pub fn system_call<I: Source, O: Sink>(
     out: &mut O,
 ) -> Result<(), MachineEnd>
     requires { processor.old ≡ alone processor.old }
-    ensures told { I.tells input.old → O.tells out.old → let s = lent processor.old (I.left input.old) in PartTold (call_moved s) s processor.new (I.left input.new) (O.taken out.old) (O.taken out.new) result }
-    ensures counted { PartCounts (I.faults input.old) (I.faults input.new) (O.counts out.old) (O.counts out.new) result }
+    ensures told { I.tells input.old → O.tells out.old → let s = lent processor.old (I.left input.old) in
+        PartTold (call_moved s) s processor.new (I.left input.new) (O.taken out.old) (O.taken out.new) result }
+    ensures counted { PartCounts (I.faults input.old) (I.faults input.new)
+        (O.counts out.old) (O.counts out.new) result }
     ensures input_tells { I.tells input.old → I.tells input.new }
     ensures out_tells { O.tells out.old → O.tells out.new }
 {

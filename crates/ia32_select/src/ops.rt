@@ -91,34 +91,6 @@ pub fn emit_op(items: &mut Vec<Item>, offsets: &[i32], op: &Op) -> Result<(), No
         Op::Putchar(variable, argument) => emit_putchar(items, offsets, *variable, *argument),
         Op::Mark(_) | Op::Turn => emit(items, Insn::Nop),
         Op::Return(Some(variable)) => emit_return(items, offsets, *variable),
-        Op::Wide(..)
-        | Op::Low(..)
-        | Op::Low16(..)
-        | Op::Neg(..)
-        | Op::Not(..)
-        | Op::Mul(..)
-        | Op::And(..)
-        | Op::Or(..)
-        | Op::Xor(..)
-        | Op::Shl(..)
-        | Op::Sar(..)
-        | Op::Div(..)
-        | Op::Rem(..)
-        | Op::Set(..)
-        | Op::Frame(..)
-        | Op::Static(..)
-        | Op::Load(..)
-        | Op::Store(..)
-        | Op::Get(..)
-        | Op::Put(..)
-        | Op::Clear(_)
-        | Op::Param(..)
-        | Op::Call(..)
-        | Op::Getchar(_)
-        | Op::Exit(_)
-        | Op::Same(..)
-        | Op::Jump(_)
-        | Op::Branch(..)
-        | Op::Return(None) => unreachable!(),
+        _ => unreachable!(),
     }
 }

@@ -72,7 +72,8 @@ pub fn select_slots(alloc: Global, graph: &Graph, offsets: &[i32]) -> Result<Vec
 
     // They can be assembled, and have so many bytes.
     ensures assembles { IfOk result (λ v. CanAssemble v.items) }
-    ensures size { IfOk result (λ v. items_size v.items ≤ 800 * length graph.now.ops + 8 * length graph.now.widths + 64) }
+    ensures size { IfOk result (λ v. items_size v.items
+        ≤ 800 * length graph.now.ops + 8 * length graph.now.widths + 64) }
 
     // A point stands among the items exactly where it stands in a block.
     ensures points { IfOk result (λ v. (p : ℕ) → Stands (item.Point p) v.items ↔ IsPlaced graph.now p) }

@@ -1,6 +1,13 @@
 ghost use Rattle.std.specs.Prelude.{◌≡◌, ◌≢◌, ℕ};
 ghost use Rattle.pcc_outside.specs.Streams.{SinkCounts};
-ghost use Rattle.pcc_driver.specs.Answers.{FilesCause, StreamsCause, CompileTold, WritesTold, report_of_read, report_of_write};
+ghost use Rattle.pcc_driver.specs.Answers.{
+  FilesCause,
+  StreamsCause,
+  CompileTold,
+  WritesTold,
+  report_of_read,
+  report_of_write,
+};
 
 use crate::products::products_of;
 use crate::report::{Named, Report};
@@ -45,7 +52,9 @@ fn write_products<F: FileStore>(
     ensures cause { FilesCause result (F.counts files.old) (F.counts files.new) }
     ensures streams { (input : ℕ) (out : SinkCounts) → StreamsCause result input input out out }
     ensures telling { F.tells files.old → F.tells files.new }
-    ensures told { F.tells files.old → WritesTold map_name.now name.now products.now.map.items products.now.image.items (F.content files.old) (F.content files.new) result }
+    ensures told { F.tells files.old →
+        WritesTold map_name.now name.now products.now.map.items products.now.image.items
+        (F.content files.old) (F.content files.new) result }
 {
     if let Err(refusal) = files.write(map_name, products.map.as_slice()) {
         return write_report(refusal, Named::Map);
@@ -62,7 +71,8 @@ pub fn compile<F: FileStore>(alloc: Global, name: &str, source: &str, files: &mu
     // It speaks of no input and no output.
     ensures streams { (input : ℕ) (out : SinkCounts) → StreamsCause result input input out out }
     ensures telling { F.tells files.old → F.tells files.new }
-    ensures told { F.tells files.old → CompileTold name.now source.now (F.content files.old) (F.content files.new) result }
+    ensures told { F.tells files.old →
+        CompileTold name.now source.now (F.content files.old) (F.content files.new) result }
 {
     let text = match files.read(alloc, source, FILE_LIMIT) {
         Ok(text) => text,

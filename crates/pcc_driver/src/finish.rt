@@ -1,6 +1,15 @@
 ghost use Rattle.std.specs.Prelude.{◌≡◌, ◌++◌, IfOk, OnOk, decimal};
 ghost use Rattle.pcc_driver.specs.Answers.{Ends, IsPut};
-ghost use Rattle.pcc_driver.specs.Reports.{fault_text, kind_text, name_in, report_line, report_text, stop_text, trap_text, word_text};
+ghost use Rattle.pcc_driver.specs.Reports.{
+  fault_text,
+  kind_text,
+  name_in,
+  report_line,
+  report_text,
+  stop_text,
+  trap_text,
+  word_text,
+};
 ghost use Rattle.pcc_driver.specs.Words.{meaning};
 ghost use Rattle.pcc_listing.specs.Lines.{address_text};
 
@@ -179,7 +188,8 @@ fn line_of(alloc: Global, command: Command<'_>, report: Report) -> Result<Vec<u8
 /// Puts a line on standard error, and answers the status: 5 where standard error fails, and 11 where it
 /// has no memory.
 fn put_line<E: Sink>(line: &[u8], status: u8, err: &mut E) -> u8
-    ensures put { IsPut line.now status (E.counts err.old) (E.counts err.new) (E.tells err.old) (E.taken err.old) (E.taken err.new) result }
+    ensures put { IsPut line.now status (E.counts err.old) (E.counts err.new)
+        (E.tells err.old) (E.taken err.old) (E.taken err.new) result }
     ensures telling { E.tells err.old → E.tells err.new }
 {
     match err.put_all(line) {
@@ -192,7 +202,8 @@ fn put_line<E: Sink>(line: &[u8], status: u8, err: &mut E) -> u8
 /// Puts the report's line on standard error, and answers its status: 5 where standard error fails, and
 /// 11 where there is no memory for the line or for putting it. A compilation that went well puts nothing.
 pub fn finish<E: Sink>(alloc: Global, command: Command<'_>, report: Report, err: &mut E) -> u8
-    ensures ends { Ends (meaning command.entry) report (E.counts err.old) (E.counts err.new) (E.tells err.old) (E.taken err.old) (E.taken err.new) result }
+    ensures ends { Ends (meaning command.entry) report (E.counts err.old) (E.counts err.new)
+        (E.tells err.old) (E.taken err.old) (E.taken err.new) result }
     ensures telling { E.tells err.old → E.tells err.new }
 {
     if let Report::Compiled = report {

@@ -1,7 +1,16 @@
 ghost use Rattle.std.specs.Prelude.{◌≡◌, [], MatchResult};
 ghost use Rattle.elf_image.specs.Segments.{Segments, Loads};
 ghost use Rattle.ia32_machine.specs.First.{first_state};
-ghost use Rattle.pcc_driver.specs.Answers.{FilesCause, StreamsCause, SameFiles, IsOfRun, RunTold, GivesNoMachine, streams_of, report_of_end};
+ghost use Rattle.pcc_driver.specs.Answers.{
+  FilesCause,
+  StreamsCause,
+  SameFiles,
+  IsOfRun,
+  RunTold,
+  GivesNoMachine,
+  streams_of,
+  report_of_end,
+};
 
 use crate::compile::{FILE_LIMIT, read_report};
 use crate::report::{Named, Report};
@@ -15,7 +24,9 @@ pub const RUN_STEPS: u64 = 1_000_000_000;
 
 /// The machine that the bytes of an image load.
 fn machine_of(alloc: Global, image: &[u8]) -> Result<Machine, Report>
-    ensures { MatchResult result (λ machine. (segments : Segments) × Loads image.now segments × (machine ≡ first_state segments [])) (GivesNoMachine image.now) }
+    ensures { MatchResult result
+        (λ machine. (segments : Segments) × Loads image.now segments × (machine ≡ first_state segments []))
+        (GivesNoMachine image.now) }
 {
     match read_image(alloc, image) {
         Ok(loaded) => match Machine::load(alloc, &loaded) {
@@ -52,7 +63,8 @@ pub fn run<F: FileStore, I: Source, O: Sink>(
 ) -> Report
     ensures own { IsOfRun result }
     ensures files_cause { FilesCause result (F.counts files.old) (F.counts files.new) }
-    ensures streams_cause { StreamsCause result (I.faults input.old) (I.faults input.new) (O.counts out.old) (O.counts out.new) }
+    ensures streams_cause { StreamsCause result (I.faults input.old) (I.faults input.new)
+        (O.counts out.old) (O.counts out.new) }
     ensures files_tell { F.tells files.old → F.tells files.new }
     ensures input_tells { I.tells input.old → I.tells input.new }
     ensures out_tells { O.tells out.old → O.tells out.new }

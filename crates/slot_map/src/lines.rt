@@ -1,6 +1,18 @@
 //! The lines of a function over slots.
 
-ghost use Rattle.std.specs.Prelude.{◌≡◌, ◌≤◌, ◌++◌, IfOk, OnOk, length, map, option_map, replicate, slice_get, slice_index};
+ghost use Rattle.std.specs.Prelude.{
+  ◌≡◌,
+  ◌≤◌,
+  ◌++◌,
+  IfOk,
+  OnOk,
+  length,
+  map,
+  option_map,
+  replicate,
+  slice_get,
+  slice_index,
+};
 ghost use Rattle.std.specs.List.{range_with_len};
 ghost use Rattle.pcc_base.specs.declared.run.Width.TheVariants.{Two};
 ghost use Rattle.c_tree.specs.Erased.{function_of, local_of, statement_of, statements_of};
@@ -10,7 +22,14 @@ ghost use Rattle.ia32_rows.specs.Rows.{HasSlots};
 ghost use Rattle.ia32_select.specs.Offsets.{AreBelow, slots_of};
 ghost use Rattle.pcc_listing.specs.Views.{line_of, standing_of};
 ghost use Rattle.slot_map.specs.SlotLines as slot_specs;
-ghost use Rattle.slot_map.specs.SlotLines.{declared_before, block_lines, marked_lines, slot_lines, standings_from, variable_lines};
+ghost use Rattle.slot_map.specs.SlotLines.{
+  declared_before,
+  block_lines,
+  marked_lines,
+  slot_lines,
+  standings_from,
+  variable_lines,
+};
 
 use c_tree::{Function, Local, Statement};
 use flow_graph::{Graph, Op};
