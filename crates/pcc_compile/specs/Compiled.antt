@@ -6,12 +6,14 @@ use Rattle.elf_image.specs.Layout.{image_bytes}
 use Rattle.elf_link.specs.Areas.{parts_of_text}
 use Rattle.ia32_shows.specs.Placements.{Code}
 use Rattle.pcc_listing.specs.Lines.{IsMap}
-use Rattle.slot_map.specs.MapLaws.{IsCodeOf, lines_of}
+use Rattle.slot_map.specs.MapLaws.{IsCodeOf, IsMapOf, lines_of}
 use Rattle.pcc_compile.specs.Products.{DoesAs, IsCompiledForm}
 
--- the image of the code's text does what the program does, as the lines of the function's points show it
+-- the lines of the function's points are its map, and the image of the code's text does what the program does, as they
+-- show it
 pub record IsCompiled (program : Program) (form : IsCompiledForm program) (slots : List ℕ) (code : Code) : Type 0 where
   pub keeps_rules : IsMap (lines_of form.form.function slots code)
+  pub is_map_of : IsMapOf form.form.function (lines_of form.form.function slots code)
   pub does_as : DoesAs (image_bytes (parts_of_text code.text [])) (lines_of form.form.function slots code) program
 
 -- ---- law

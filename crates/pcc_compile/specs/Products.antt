@@ -1,6 +1,6 @@
 -- What a compiled image is worth: for every input and every number n of turns of the source there is a number of
 -- machine steps, at least n, with exactly the outcome of those turns.
-use Rattle.std.specs.Prelude.{◌≡◌, ◌≤◌, ℕ, List}
+use Rattle.std.specs.Prelude.{◌≡◌, ◌≤◌, ℕ, List, [], ◌∷◌}
 use Rattle.pcc_base.specs.Outcome.{Outcome}
 use Rattle.c_tree.specs.Program.{Local, Function, Program}
 use Rattle.c_tree.specs.Evaluation.{source_outcome}
@@ -12,6 +12,7 @@ use Rattle.ia32_insn.specs.Runs.{Runs}
 use Rattle.ia32_machine.specs.First.{First}
 use Rattle.pcc_listing.specs.Lines.{Line, IsMap, IsName, map_text}
 use Rattle.pcc_listing.specs.Marks.{visits_of, listed}
+use Rattle.slot_map.specs.MapLaws.{IsMapOf}
 
 -- m steps of the image with these bytes have this outcome, with the visits that the map shows
 abbrev pub ImageOutcome : List ℕ → List Line → List ℕ → ℕ → Outcome → Type 0
@@ -23,9 +24,15 @@ abbrev pub DoesAs : List ℕ → List Line → Program → Type 0
 DoesAs image map program =
     (input : List ℕ) (n : ℕ) → (m : ℕ) × (n ≤ m) × ImageOutcome image map input m (source_outcome program (listed map) input n)
 
+-- the map is that of the program's one function: it names the function and its locals, and lists at each statement
+-- exactly the locals that are declared before it
+abbrev pub BelongsTo : Program → List Line → Type 0
+BelongsTo program map = (f : Function) × (program.functions ≡ f ∷ []) × IsMapOf f map
+
 -- the texts of a map and an image for a program
 abbrev pub AreProducts : Program → List ℕ → List ℕ → Type 0
-AreProducts program map_bytes image_bytes = (map : List Line) × IsMap map × (map_bytes ≡ map_text map) × DoesAs image_bytes map program
+AreProducts program map_bytes image_bytes =
+    (map : List Line) × IsMap map × (map_bytes ≡ map_text map) × DoesAs image_bytes map program × BelongsTo program map
 
 -- ---- what is compiled so far
 

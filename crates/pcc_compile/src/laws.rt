@@ -4,10 +4,10 @@ ghost use Rattle.pcc_compile.specs.Compiled.{CompiledDoesAs};
 
 use ia32_simulation::slots_are_right;
 use image_first::text_begins;
-use slot_map::{map_keeps_rules, map_lists_locals, map_shows_visits};
+use slot_map::{map_belongs, map_keeps_rules, map_lists_locals, map_shows_visits};
 
-/// Where the code of a program's function was linked, the image of its text does what the program does, as the map of
-/// its points shows it.
+/// Where the code of a program's function was linked, the map of its points is that of the function, and the image of
+/// its text does what the program does, as the map shows it.
 pub fn compiled_does_as()
     ensures { CompiledDoesAs }
 {
@@ -16,4 +16,5 @@ pub fn compiled_does_as()
     map_lists_locals();
     map_shows_visits();
     map_keeps_rules();
+    map_belongs();
 }

@@ -25,6 +25,7 @@ written_told reports.Compiled name source text map_bytes image old mid new kept 
       small = small;
       accepted = products.1;
       rules = products.2.1;
+      belongs = products.2.4;
       map_written = told.0 ∙ ap Some products.2.2;
       image_written = told.1;
       others = λ other n m. told.2 other n m ∙ kept other;

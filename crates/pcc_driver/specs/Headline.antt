@@ -2,7 +2,7 @@
 use Rattle.std.specs.Prelude.{◌≡◌, ◌≢◌, ◌≤◌, ℕ, List, length, Option, Some}
 use Rattle.c_tree.specs.Program.{Program}
 use Rattle.c_front.specs.Accepted.{IsProgram}
-use Rattle.pcc_compile.specs.Products.{DoesAs}
+use Rattle.pcc_compile.specs.Products.{BelongsTo, DoesAs}
 use Rattle.pcc_listing.specs.Lines.{Line, IsMap, map_text}
 use Rattle.pcc_driver.specs.Commands.{map_name}
 
@@ -14,7 +14,7 @@ file_limit = 1342177280
 abbrev pub Files : Type 0
 Files = List ℕ → Option (List ℕ)
 
--- What a compilation leaves: the source is a program, NAME.map holds the text of a map (and a text is the
+-- What a compilation leaves: the source is a program, NAME.map holds the text of the program's map (and a text is the
 -- text of one map at most), NAME holds an image that does what the program does, and no other file has
 -- changed.
 pub record IsCompiled (old new : Files) (name source : List ℕ) : Type 0 where
@@ -26,6 +26,7 @@ pub record IsCompiled (old new : Files) (name source : List ℕ) : Type 0 where
   pub small : length text ≤ file_limit
   pub accepted : IsProgram text program
   pub rules : IsMap map
+  pub belongs : BelongsTo program map
   pub map_written : new (map_name name) ≡ Some (map_text map)
   pub image_written : new name ≡ Some image
   pub others : (other : List ℕ) → other ≢ name → other ≢ map_name name → new other ≡ old other

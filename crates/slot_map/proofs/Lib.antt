@@ -1,3 +1,4 @@
+pub mod Belonging
 pub mod Filling
 pub mod Marked
 pub mod Parts

@@ -106,7 +106,7 @@ function-declares f k form = let few = declared-few (length f.locals) 0 0 f.body
 
 -- ---- points
 
-in-range : (a n p : ℕ) → a ≤ p → p < a + n → IsIn p (range_with_len a n)
+pub in-range : (a n p : ℕ) → a ≤ p → p < a + n → IsIn p (range_with_len a n)
 in-range a zero p low high = absurd (omega (arith, low, high))
 in-range a (suc n) p low high =
     elim (cases_lt a p) as (λ c. IsIn p (range_with_len a (suc n))) [

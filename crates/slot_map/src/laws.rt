@@ -1,6 +1,12 @@
 //! Laws of the lines of a function over slots: each function's contract is one, and the function does nothing.
 
-ghost use Rattle.slot_map.specs.MapLaws.{LinesBySameAddresses, MapKeepsRules, MapListsLocals, MapShowsVisits};
+ghost use Rattle.slot_map.specs.MapLaws.{LinesBySameAddresses, MapBelongs, MapKeepsRules, MapListsLocals, MapShowsVisits};
+
+/// The map is that of the function: it names the function and its locals, and lists at each statement exactly the
+/// locals that are declared before it.
+pub fn map_belongs()
+    ensures { MapBelongs }
+{}
 
 /// What the map lists are locals of the program.
 pub fn map_lists_locals()

@@ -20,6 +20,7 @@ returns c = λ program form slots code keeps is.
     let shows = c.map_shows_visits.ensures program form.form slots code is in
     record {
       keeps_rules = c.map_keeps_rules.ensures program form.form slots code is named.0.name named.0.locals;
+      is_map_of = c.map_belongs.ensures program form.form slots code is;
       does_as = image_does program code (lines_of f slots code) (image_bytes (parts_of_text code.text [])) keeps right.runs lists shows
           (λ input. c.text_begins.ensures code.text [] input (text_fits code.text is.bytes is.fits));
     }

@@ -103,4 +103,10 @@ returns c =
     let keeps = keeps_graph p c.requires.form (graphs_of c.in_ok-graphs.graphs) flow g.graphs low.graph g.outcome in
     let compiled = c.compiled_does_as.ensures p c.requires slots code keeps is-code in
     let file : c.in_ok-image.image.items ≡ image_bytes (parts_of_text linked.image.text.items []) = c.in_ok-image.ensures ∙ ap image_bytes (same_parts items linked one.is) in
-    (lines_of f slots code, compiled.keeps_rules, c.in_ok-map.ensures ∙ ap map_text lines-are, subst (λ (xs : List ℕ). DoesAs xs (lines_of f slots code) p) (sym file) compiled.does_as)
+    (
+      lines_of f slots code,
+      compiled.keeps_rules,
+      c.in_ok-map.ensures ∙ ap map_text lines-are,
+      subst (λ (xs : List ℕ). DoesAs xs (lines_of f slots code) p) (sym file) compiled.does_as,
+      (f, c.requires.form.one_function, compiled.is_map_of),
+    )
