@@ -1,12 +1,11 @@
 -- What is known of each section and object of those that can be linked.
-use Rattle.std.specs.Prelude.{◌≡◌, ◌⊎◌, ◌<◌, ◌≤◌, ℕ, zero, suc, ◌+◌, ◌^◌, List, [], ◌∷◌, ◌++◌, length, take, drop, map, slice_get, slice_index, Some, option_map}
-use Rattle.std.proofs.Common.{refl, sym, ap, ◌∙◌, subst, arith, get_or, inl, inr}
+use Rattle.std.specs.Prelude.{◌≡◌, ◌⊎◌, ◌<◌, ◌≤◌, ℕ, zero, suc, ◌+◌, List, [], ◌∷◌, length, drop, map, slice_get, Some, option_map}
+use Rattle.std.proofs.Common.{refl, sym, ap, ◌∙◌, arith, get_or, inl, inr}
 use Rattle.std.proofs.lemmas.List.{drop_more}
 use Rattle.std.proofs.lemmas.Option.{same_Some, slice_get-map, slice_get_read}
 use Rattle.pcc_base.specs.declared.object.DataObject.{DataObject}
 use Rattle.ia32_insn.specs.Items.{Object, elements_size}
-use Rattle.ia32_asm.specs.declared.section.Section.{Section}
-use Rattle.elf_link.specs.Linking.{CanHold, object_of, objects_size, sections_size}
+use Rattle.elf_link.specs.Linking.{CanHold, object_of, objects_size}
 
 -- an element that was read is there
 pub read_at : {X : Type 0} (items same : List X) (k : ℕ) (x : X) → same ≡ items → k < length items → x ≡ get_or same k x → slice_get items k ≡ Some x

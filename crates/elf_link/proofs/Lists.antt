@@ -1,7 +1,7 @@
 -- What is left of lists, and sums over them.
-use Rattle.std.specs.Prelude.{◌≡◌, ◌<◌, ◌≤◌, ℕ, zero, suc, ◌+◌, List, [], ◌∷◌, ◌++◌, length, drop, map, slice_get, Some}
-use Rattle.std.proofs.Common.{refl, sym, ap, ◌∙◌, subst, arith, get_or}
-use Rattle.std.proofs.lemmas.List.{append_assoc, drop_more, drop-map, length-map, get_or-map, drop_all, append-nil}
+use Rattle.std.specs.Prelude.{◌≡◌, List, [], ◌∷◌, ◌++◌}
+use Rattle.std.proofs.Common.{sym, ap, ◌∙◌}
+use Rattle.std.proofs.lemmas.List.{append_assoc}
 
 -- one more element moves from what is left of a list to what was made of it
 pub moved_on : {X : Type 0} (made made' rest : List X) (x : X) (whole left : List X) → left ≡ x ∷ rest → made' ≡ made ++ x ∷ [] → made ++ left ≡ whole → made' ++ rest ≡ whole

@@ -1,21 +1,21 @@
 -- Sections behind one another, with their words in place.
-use Rattle.std.specs.Prelude.{◌≡◌, ◌⊎◌, ⊤, ◌<◌, ◌≤◌, ℕ, zero, suc, ◌+◌, ◌*◌, ◌^◌, ◌-◌, ℤ, pos, List, [], ◌∷◌, ◌++◌, length, take, drop, map, slice_get, slice_index, Some, None, option_map, replicate, FitsSigned}
+use Rattle.std.specs.Prelude.{◌≡◌, ◌<◌, ◌≤◌, ℕ, zero, suc, ◌+◌, ◌*◌, ◌^◌, ◌-◌, ℤ, pos, List, [], ◌∷◌, ◌++◌, length, take, drop, slice_get, slice_index, Some, option_map, replicate, FitsSigned}
 use Rattle.std.specs.List.{filter_map}
 use Rattle.std.specs.Int.{w32, cast_unsigned, cast_signed}
-use Rattle.std.proofs.Common.{refl, sym, ap, ◌∙◌, subst, arith, get_or, inl, inr}
+use Rattle.std.proofs.Common.{refl, sym, ap, ◌∙◌, subst, arith, get_or}
 use Rattle.std.proofs.lemmas.List.{append_assoc, length-append, take_more, take_all, drop_more}
 use Rattle.std.proofs.lemmas.Int.{to_z-of_z}
-use Rattle.std.proofs.lemmas.Option.{same_Some, slice_get-map, slice_get_within, slice_get-get_or}
+use Rattle.std.proofs.lemmas.Option.{same_Some, slice_get-map, slice_get-get_or}
 use Rattle.byteorder.specs.Endian.{little_bytes}
 use Rattle.byteorder.proofs.Bytes.{take-bytes_low_first}
 use Rattle.ia32_insn.specs.declared.item.Item.{Item}
-use Rattle.ia32_insn.specs.Items.{Symbols, ItemsAt, Object, zeros, element_bytes, elements_size, object_bytes, text_start, start_items}
+use Rattle.ia32_insn.specs.Items.{Symbols, Object, zeros, element_bytes, elements_size, object_bytes, text_start, start_items}
 use Rattle.ia32_asm.specs.declared.section.Section.{Section}
 use Rattle.ia32_asm.specs.declared.section.Relocation.{Relocation}
 use Rattle.ia32_asm.specs.declared.section.Target.{Target}
 use Rattle.ia32_asm.specs.declared.section.Target.TheVariants as target
-use Rattle.ia32_asm.specs.Sections.{target_of, target_address, word_for, with_word, resolved, HasAddress, HaveAddresses, FollowFrom, IsSection, CanAssemble, items_size}
-use Rattle.ia32_asm.proofs.Resolved.{length-with_word, length-resolved, with_word-behind, resolved-push}
+use Rattle.ia32_asm.specs.Sections.{target_of, word_for, with_word, resolved, HasAddress, FollowFrom, IsSection, CanAssemble, items_size}
+use Rattle.ia32_asm.proofs.Resolved.{length-resolved, with_word-behind, resolved-push}
 use Rattle.elf_link.specs.declared.addresses.Addresses.{Addresses}
 use Rattle.elf_link.specs.Linking.{IsThere, FitsIn, sections_size}
 use Rattle.elf_link.specs.Laid.{addresses_from, symbols_of, AreInText, AreNamed, HasItems}

@@ -1,6 +1,6 @@
 -- Inner words: what the linker keeps of sections and objects while it goes through them.
 use Rattle.std.specs.List.{filter_map}
-use Rattle.std.specs.Prelude.{◌≡◌, ◌<◌, ◌≤◌, ℕ, ◌+◌, ◌*◌, ◌^◌, List, [], ◌∷◌, ◌++◌, length, map, slice_get, slice_index, Some, pos}
+use Rattle.std.specs.Prelude.{◌≡◌, ℕ, ◌+◌, List, [], ◌∷◌, ◌++◌, length, map, slice_get, Some}
 use Rattle.ia32_insn.specs.declared.item.Item.{Item}
 use Rattle.ia32_insn.specs.Items.{Symbols, Places, Object, ItemsAt, round_up, text_start, object_addresses, start_items, putchar_items, getchar_items, exit_items, check_items}
 use Rattle.ia32_asm.specs.declared.section.Section.{Section}

@@ -1,5 +1,5 @@
 -- Linked programs: the sections of all functions and the static objects in one image.
-use Rattle.std.specs.Prelude.{◌≡◌, ◌⊎◌, ◌<◌, ◌≤◌, ℕ, ◌+◌, ◌*◌, ◌^◌, ⊤, List, [], ◌∷◌, length, map, sum_by, slice_get, slice_index, Some}
+use Rattle.std.specs.Prelude.{◌≡◌, ◌⊎◌, ◌<◌, ◌≤◌, ℕ, ◌+◌, ◌^◌, ⊤, List, [], ◌∷◌, length, map, slice_get, slice_index, Some}
 pub use Rattle.pcc_base.specs.Objects.{object_of}
 use Rattle.ia32_insn.specs.declared.item.Item.{Item}
 use Rattle.ia32_insn.specs.declared.item.Item.TheVariants as item

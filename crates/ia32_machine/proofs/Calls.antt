@@ -1,16 +1,15 @@
 -- What the system calls lead to, case by case.
-use Rattle.std.specs.Prelude.{◌≡◌, ◌≢◌, ℕ, ◌+◌, ◌%◌, ◌<◌, ◌&&◌, ◌==◌, Bool, true, false, List, [], ◌∷◌, ◌++◌, take, Option, Some, None, Result, Ok, Err, if◌then◌else◌, refl}
+use Rattle.std.specs.Prelude.{◌≡◌, ◌≢◌, ℕ, ◌+◌, ◌%◌, ◌&&◌, ◌==◌, Bool, true, false, List, [], ◌∷◌, ◌++◌, take, Option, Some, None, Result, Ok, Err, if◌then◌else◌, refl}
 use Rattle.std.proofs.Common.{sym, ◌∙◌, ap, subst, arith, append-nil}
 use Rattle.std.proofs.lemmas.Bool.Decides.{Decides-eqb, nat_tests}
 use Rattle.pcc_base.specs.Outcome as outcome
 use Rattle.pcc_base.specs.declared.run.Stop.TheVariants.{Access, Call}
 use Rattle.ia32_regs.specs.declared.names.Reg32.TheVariants.{Eax, Ecx, Edx, Ebx}
-use Rattle.ia32_insn.specs.State.{State, Area, bytes_at, may_store, stored, at_address}
-use Rattle.ia32_insn.specs.Meaning.{Moved, Moves, Halts, moved_of, and_then, or_end, word_of, with_word, denied, load_bytes, store_bytes, take_byte, read_call, write_call, system_call}
+use Rattle.ia32_insn.specs.State.{State, Area, bytes_at, may_store, stored}
+use Rattle.ia32_insn.specs.Meaning.{Moved, Moves, moved_of, and_then, or_end, word_of, with_word, denied, store_bytes, take_byte, read_call, write_call}
 use Rattle.ia32_machine.specs.First.{lent}
 use Rattle.ia32_machine.specs.Runs.{alone}
 use Rattle.ia32_machine.specs.Performs.{PartTold, read_moved, write_moved, call_moved}
-use Rattle.ia32_machine.specs.declared.ends.MachineEnd.{MachineEnd}
 use Rattle.ia32_machine.specs.declared.ends.MachineEnd.TheVariants.{Ended, Stopped, ReadFault, WriteFault, NoMemory}
 
 -- a choice by a test that fails, and by one that holds

@@ -1,5 +1,5 @@
 -- A step is a fetch and a performance.
-use Rattle.std.specs.Prelude.{◌≡◌, ◌≢◌, ℕ, ◌+◌, ◌%◌, Bool, true, false, List, [], ◌++◌, Option, Some, None, Result, Ok, Err, if◌then◌else◌, refl}
+use Rattle.std.specs.Prelude.{◌≡◌, ◌≢◌, ℕ, ◌+◌, ◌%◌, Bool, true, false, List, [], Option, Result, Ok, Err, if◌then◌else◌, refl}
 use Rattle.std.proofs.Common.{sym, ◌∙◌, ap, subst, arith, inl, inr, append-nil}
 use Rattle.std.specs.Int.{w32, cast_unsigned}
 use Rattle.pcc_base.specs.Outcome as outcome
@@ -10,14 +10,14 @@ use Rattle.pcc_outside.specs.Streams.{SinkCounts}
 use Rattle.ia32_insn.specs.declared.insn.Insn.{Insn}
 use Rattle.ia32_insn.specs.declared.insn.Insn.TheVariants as insn
 use Rattle.ia32_insn.specs.State.{State, at_address}
-use Rattle.ia32_insn.specs.Meaning.{Moved, Moves, Halts, moved_of, and_then, decided, distant, push, system_call, effect, target, perform}
+use Rattle.ia32_insn.specs.Meaning.{Moved, Moves, Halts, moved_of, and_then, decided, push, system_call, effect, target, perform}
 use Rattle.ia32_insn.specs.Runs.{StepsAt, Steps}
 use Rattle.ia32_insn.proofs.Streams.{UsesNoStreams, perform-streamed}
 use Rattle.ia32_processor.specs.declared.halt.Halt.{Halt}
 use Rattle.ia32_processor.specs.declared.halt.Halt.TheVariants as halt
 use Rattle.ia32_processor.specs.Answers.{end_of}
 use Rattle.ia32_machine.specs.First.{lent}
-use Rattle.ia32_machine.specs.Runs.{LeadsTold, StepTold, StepCounts, alone}
+use Rattle.ia32_machine.specs.Runs.{LeadsTold, StepTold, alone}
 use Rattle.ia32_machine.specs.Performs.{FetchTold, end_at, step_of, call_moved, insn_moved, PartTold, PartCounts, AdvanceTold}
 use Rattle.ia32_machine.specs.declared.ends.MachineEnd.{MachineEnd}
 use Rattle.ia32_machine.specs.declared.ends.MachineEnd.TheVariants.{Ended, Trapped, Stopped, BudgetSpent, ReadFault, WriteFault, NoMemory}

@@ -1,7 +1,7 @@
 -- A run of the machine, step by step: the state that was reached, and the outcome that it gives.
-use Rattle.std.specs.Prelude.{◌≡◌, ℕ, zero, suc, ◌+◌, ◌-◌, ◌<◌, ◌≤◌, List, [], ◌∷◌, ◌++◌, length, take, drop, refl}
+use Rattle.std.specs.Prelude.{◌≡◌, ℕ, zero, suc, ◌+◌, ◌-◌, ◌<◌, List, [], ◌∷◌, ◌++◌, length, take, drop, refl}
 use Rattle.std.proofs.Common.{sym, ◌∙◌, ap, subst, arith, append-nil, append_assoc, add-zero}
-use Rattle.std.proofs.lemmas.List.{take_all, drop-drop}
+use Rattle.std.proofs.lemmas.List.{drop-drop}
 use Rattle.pcc_base.specs.Outcome as outcome
 use Rattle.ia32_insn.specs.State.{State}
 use Rattle.ia32_insn.specs.Meaning.{Moves, Halts}
@@ -9,7 +9,7 @@ use Rattle.ia32_insn.specs.Runs.{Steps, Runs, stands, no_visits}
 use Rattle.ia32_insn.proofs.Runs.{runs_after, runs_halts}
 use Rattle.ia32_insn.proofs.Streams.{since, steps-since, Takes, steps-takes}
 use Rattle.ia32_machine.specs.First.{lent}
-use Rattle.ia32_machine.specs.Runs.{alone, Reaches, HaltsAt, EndsTold, StepTold, Gives, GivesPart, RunTold, LeftAt, RunReaches}
+use Rattle.ia32_machine.specs.Runs.{alone, Reaches, HaltsAt, EndsTold, StepTold, Gives, GivesSoFar, GivesPart, RunTold, LeftAt, RunReaches}
 use Rattle.ia32_machine.specs.declared.ends.MachineEnd.{MachineEnd}
 use Rattle.ia32_machine.specs.declared.ends.MachineEnd.TheVariants.{Ended, Trapped, Stopped, BudgetSpent, ReadFault, WriteFault, NoMemory}
 use Rattle.ia32_machine.specs.declared.ends.StepEnd.TheVariants as step
@@ -104,12 +104,10 @@ ran_ends n budget s machine machine' left left' left'' taken taken' taken'' end 
     )
 
 -- a refusal of a lent object after some steps, of which it took the bytes
-ran_refused : (n budget : ℕ) (s machine machine' : State) (left left' left'' taken taken' taken'' : List ℕ) → n < budget → Ran n s machine left left' taken taken' → machine' ≡ alone (lent machine left') → left'' ≡ left' → taken'' ≡ taken' → GivesPart budget s taken taken'' × LeftAt budget s machine' left'' (λ t. Unit {0})
+ran_refused : (n budget : ℕ) (s machine machine' : State) (left left' left'' taken taken' taken'' : List ℕ) → n < budget → Ran n s machine left left' taken taken' → machine' ≡ alone (lent machine left') → left'' ≡ left' → taken'' ≡ taken' → GivesSoFar budget s left left'' taken taken'' × LeftAt budget s machine' left'' (λ t. Unit {0})
 ran_refused n budget s machine machine' left left' left'' taken taken' taken'' lt r m l e =
-    let t : State = r.state in
-    let part : taken'' ≡ taken ++ take (length t.written) t.written =
-    e ∙ r.wrote ∙ ap (λ (w : List ℕ). taken ++ w) (sym (take_all (length t.written) t.written (omega arith))) in (
-      (n, let le : n ≤ budget = omega arith in le, stands [] t outcome.Goes, reaches_goes n s t r.reaches, length t.written, part),
+    let t : State = r.state in (
+      (n, lt, (stands [] t outcome.Goes, reaches_goes n s t r.reaches, refl, l ∙ r.left_is ∙ r.took, e ∙ r.wrote)),
       (n, lt, t, r.reaches, tt, m ∙ ap alone r.machine_is, l ∙ r.left_is),
     )
 
@@ -121,7 +119,7 @@ take-append-more (x ∷ xs) ys k =
     ap (λ (l : List ℕ). x ∷ l) (take-append-more xs ys k) ∙ ap (λ (m : ℕ). take m (x ∷ (xs ++ ys))) e
 
 -- an output that failed in a step after some steps took a part of what the step writes
-ran_failed : (n budget : ℕ) (s machine machine' : State) (left left' left'' taken taken' taken'' : List ℕ) → n < budget → Ran n s machine left left' taken taken' → EndsTold (Steps (lent machine left')) (lent machine left') machine' left'' taken' taken'' WriteFault → GivesPart budget s taken taken'' × LeftAt budget s machine' left'' (λ t. Unit {0})
+ran_failed : (n budget : ℕ) (s machine machine' : State) (left left' left'' taken taken' taken'' : List ℕ) → n < budget → Ran n s machine left left' taken taken' → EndsTold (Steps (lent machine left')) (lent machine left') machine' left'' taken' taken'' WriteFault → GivesPart budget s left left'' taken taken'' × LeftAt budget s machine' left'' (λ t. Unit {0})
 ran_failed n budget s machine machine' left left' left'' taken taken' taken'' lt r h =
     let t : State = r.state in
     let u : State = since t.taken t.written h.0 in
@@ -129,7 +127,7 @@ ran_failed n budget s machine machine' left left' left'' taken taken' taken'' lt
     let part : taken'' ≡ taken ++ take (length t.written + h.4) (t.written ++ h.0.written) =
     h.5 ∙ ap (λ (l : List ℕ). l ++ take h.4 h.0.written) r.wrote ∙ append_assoc taken t.written (take h.4 h.0.written)
     ∙ ap (λ (w : List ℕ). taken ++ w) (take-append-more t.written h.0.written h.4) in (
-      (suc n, let le : suc n ≤ budget = omega arith in le, stands [] u outcome.Goes, reaches_goes (suc n) s u (reaches_more n s t u r.reaches steps), length t.written + h.4, part),
+      (n, lt, stands [] t outcome.Goes, stands [] u outcome.Goes, reaches_goes n s t r.reaches, reaches_goes (suc n) s u (reaches_more n s t u r.reaches steps), h.3 ∙ r.left_is ∙ r.took, h.4, part),
       (n, lt, t, r.reaches, tt, h.2 ∙ ap alone r.machine_is, h.3 ∙ r.left_is),
     )
 

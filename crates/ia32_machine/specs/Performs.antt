@@ -1,6 +1,5 @@
 -- What the parts of a step leave: the fetch of an instruction, its performance, and a system call.
 use Rattle.std.specs.Prelude.{◌≡◌, ℕ, List, Some, None, Result, Ok, Err}
-use Rattle.pcc_base.specs.Outcome as outcome
 use Rattle.pcc_base.specs.declared.run.Stop.{Stop}
 use Rattle.pcc_base.specs.declared.run.Stop.TheVariants.{Instruction, Access}
 use Rattle.pcc_outside.specs.Streams.{SinkCounts}

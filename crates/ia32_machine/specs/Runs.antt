@@ -1,5 +1,5 @@
 -- What a step and a run of the machine leave, by cases over their answers.
-use Rattle.std.specs.Prelude.{◌≡◌, ℕ, zero, suc, ◌<◌, ◌≤◌, List, [], ◌++◌, take, drop}
+use Rattle.std.specs.Prelude.{◌≡◌, ℕ, zero, suc, ◌+◌, ◌<◌, List, [], ◌++◌, length, take, drop}
 use Rattle.pcc_base.specs.Counts.{Rose}
 use Rattle.pcc_base.specs.Outcome as outcome
 use Rattle.pcc_outside.specs.Streams.{SinkCounts}
@@ -64,10 +64,16 @@ abbrev pub Gives : ℕ → State → List ℕ → List ℕ → List ℕ → List
 Gives n s left left' taken taken' end =
     (o : outcome.Outcome) × Runs no_visits n s o × (o.end ≡ end) × (left' ≡ drop o.taken left) × (taken' ≡ taken ++ o.written)
 
--- after a refusal the bytes taken are a prefix of what some number of steps writes
-abbrev pub GivesPart : ℕ → State → List ℕ → List ℕ → Type 0
-GivesPart budget s taken taken' =
-    (n : ℕ) × (n ≤ budget) × (o : outcome.Outcome) × Runs no_visits n s o × (k : ℕ) × (taken' ≡ taken ++ take k o.written)
+-- after a refusal: the input and the bytes taken are as fewer steps than the budget leave them
+abbrev pub GivesSoFar : ℕ → State → List ℕ → List ℕ → List ℕ → List ℕ → Type 0
+GivesSoFar budget s left left' taken taken' = (n : ℕ) × (n < budget) × Gives n s left left' taken taken' outcome.Goes
+
+-- after a fault of the output: the input is as those steps leave it, and of what one step more writes at least the bytes
+-- that they wrote are taken, in order
+abbrev pub GivesPart : ℕ → State → List ℕ → List ℕ → List ℕ → List ℕ → Type 0
+GivesPart budget s left left' taken taken' =
+    (n : ℕ) × (n < budget) × (o next : outcome.Outcome) × Runs no_visits n s o × Runs no_visits (suc n) s next
+    × (left' ≡ drop o.taken left) × (k : ℕ) × (taken' ≡ taken ++ take (length o.written + k) next.written)
 
 -- a run of at most `budget` steps from s
 unfoldable pub RunTold : ℕ → State → List ℕ → List ℕ → List ℕ → List ℕ → MachineEnd → Type 0
@@ -75,9 +81,9 @@ RunTold budget s left left' taken taken' (Ended status) = Gives budget s left le
 RunTold budget s left left' taken taken' (Trapped trap) = Gives budget s left left' taken taken' (outcome.Trapped trap)
 RunTold budget s left left' taken taken' (Stopped cause address) = Gives budget s left left' taken taken' (outcome.Stopped cause address)
 RunTold budget s left left' taken taken' BudgetSpent = Gives budget s left left' taken taken' outcome.Goes
-RunTold budget s left left' taken taken' ReadFault = GivesPart budget s taken taken'
-RunTold budget s left left' taken taken' WriteFault = GivesPart budget s taken taken'
-RunTold budget s left left' taken taken' NoMemory = GivesPart budget s taken taken'
+RunTold budget s left left' taken taken' ReadFault = GivesSoFar budget s left left' taken taken'
+RunTold budget s left left' taken taken' WriteFault = GivesPart budget s left left' taken taken'
+RunTold budget s left left' taken taken' NoMemory = GivesSoFar budget s left left' taken taken'
 
 -- the state in which a run ended, after fewer steps than the budget
 abbrev pub LeftAt : ℕ → State → State → List ℕ → (State → Type 0) → Type 0

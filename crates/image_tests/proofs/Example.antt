@@ -1,7 +1,7 @@
 -- The sections and objects of the example of the tests can be linked.
-use Rattle.std.specs.Prelude.{◌≡◌, ◌⊎◌, ◌<◌, ◌≤◌, ℕ, zero, suc, ◌+◌, ◌*◌, ◌^◌, pos, negsuc, List, [], ◌∷◌, length, map, slice_get, Some}
+use Rattle.std.specs.Prelude.{◌≡◌, ◌⊎◌, ℕ, zero, suc, ◌*◌, pos, negsuc, List, [], ◌∷◌, length, map, slice_get, Some}
 use Rattle.std.specs.List.{filter_map}
-use Rattle.std.proofs.Common.{refl, sym, ap, ◌∙◌, subst, arith, inl, inr}
+use Rattle.std.proofs.Common.{sym, ap, ◌∙◌, subst, arith, inl}
 use Rattle.std.proofs.lemmas.Option.{same_Some}
 use Rattle.pcc_base.specs.declared.object.DataObject.{DataObject}
 use Rattle.ia32_regs.specs.declared.names.Reg32.TheVariants.{Eax}

@@ -6,10 +6,10 @@ use Rattle.ia32_insn.specs.State.{State}
 use Rattle.pcc_base.specs.Outcome as outcome
 use Rattle.ia32_machine.specs.First.{First, first_state, lent}
 use Rattle.ia32_machine.specs.Runs as runs
-use Rattle.ia32_machine.specs.Runs.{Gives, GivesPart}
+use Rattle.ia32_machine.specs.Runs.{Gives, GivesSoFar, GivesPart}
 use Rattle.ia32_machine.specs.declared.ends.MachineEnd.{MachineEnd}
 use Rattle.ia32_machine.specs.declared.ends.MachineEnd.TheVariants as machine
-use Rattle.pcc_driver.specs.Answers.{Streams, RunTold, RunGives, RunGivesPart, Holds, GivesNoMachine, IsNoImage, report_of_end, run_steps}
+use Rattle.pcc_driver.specs.Answers.{Streams, RunTold, RunGives, RunGivesSoFar, RunGivesPart, Holds, GivesNoMachine, IsNoImage, report_of_end, run_steps}
 use Rattle.pcc_driver.specs.Headline.{file_limit}
 use Rattle.pcc_driver.specs.declared.report.Report.{Report}
 use Rattle.pcc_driver.specs.declared.report.Report.TheVariants as reports
@@ -45,8 +45,13 @@ lent_first image segments machine left loads same = (segments, loads, ap (λ (m 
 gives_told : (content : Option (List ℕ)) (image : List ℕ) (s : State) (streams streams' : Streams) (end : outcome.End) → content ≡ Some image → length image ≤ file_limit → First image streams.left s → Gives run_steps s streams.left streams'.left streams.taken streams'.taken end → Holds content (RunGives streams streams' end)
 gives_told content image s streams streams' end read small first told = (image, read, small, (s, first, told.0, told.1, told.2, told.3, told.4))
 
-part_told : (content : Option (List ℕ)) (image : List ℕ) (s : State) (streams streams' : Streams) → content ≡ Some image → length image ≤ file_limit → First image streams.left s → GivesPart run_steps s streams.taken streams'.taken → Holds content (RunGivesPart streams streams')
-part_told content image s streams streams' read small first told = (image, read, small, (s, first, told.0, told.1, told.2, told.3, told.4, told.5))
+so_far_told : (content : Option (List ℕ)) (image : List ℕ) (s : State) (streams streams' : Streams) → content ≡ Some image → length image ≤ file_limit → First image streams.left s → GivesSoFar run_steps s streams.left streams'.left streams.taken streams'.taken → Holds content (RunGivesSoFar streams streams')
+so_far_told content image s streams streams' read small first told =
+    (image, read, small, (s, first, told.0, told.1, told.2, told.3, told.4, told.5, told.6))
+
+part_told : (content : Option (List ℕ)) (image : List ℕ) (s : State) (streams streams' : Streams) → content ≡ Some image → length image ≤ file_limit → First image streams.left s → GivesPart run_steps s streams.left streams'.left streams.taken streams'.taken → Holds content (RunGivesPart streams streams')
+part_told content image s streams streams' read small first told =
+    (image, read, small, (s, first, told.0, told.1, told.2, told.3, told.4, told.5, told.6, told.7, told.8))
 
 -- the report of a run of the machine tells what the machine does
 pub machine_told : (end : MachineEnd) (content : Option (List ℕ)) (image : List ℕ) (s : State) (streams streams' : Streams) → content ≡ Some image → length image ≤ file_limit → First image streams.left s → runs.RunTold run_steps s streams.left streams'.left streams.taken streams'.taken end → RunTold content streams streams' (report_of_end end)
@@ -55,6 +60,6 @@ machine_told (machine.Ended status) content image s streams streams' read small 
 machine_told (machine.Trapped trap) content image s streams streams' read small first told = gives_told content image s streams streams' (outcome.Trapped trap) read small first told
 machine_told (machine.Stopped cause address) content image s streams streams' read small first told = gives_told content image s streams streams' (outcome.Stopped cause address) read small first told
 machine_told machine.BudgetSpent content image s streams streams' read small first told = (refl, gives_told content image s streams streams' outcome.Goes read small first told)
-machine_told machine.ReadFault content image s streams streams' read small first told = part_told content image s streams streams' read small first told
+machine_told machine.ReadFault content image s streams streams' read small first told = so_far_told content image s streams streams' read small first told
 machine_told machine.WriteFault content image s streams streams' read small first told = part_told content image s streams streams' read small first told
-machine_told machine.NoMemory content image s streams streams' read small first told = inr (part_told content image s streams streams' read small first told)
+machine_told machine.NoMemory content image s streams streams' read small first told = inr (so_far_told content image s streams streams' read small first told)

@@ -1,5 +1,5 @@
 -- What a command leaves behind and why, by cases over its report: impossible reports are refused.
-use Rattle.std.specs.Prelude.{◌≡◌, ◌≢◌, ◌<◌, ◌≤◌, ◌⊎◌, ℕ, List, ◌++◌, length, take, drop, Option, Some, None, Result, Ok, Err, ⊤}
+use Rattle.std.specs.Prelude.{◌≡◌, ◌≢◌, ◌<◌, ◌≤◌, ◌⊎◌, ℕ, suc, ◌+◌, List, ◌++◌, length, take, drop, Option, Some, None, Result, Ok, Err, ⊤}
 use Rattle.pcc_base.specs.Counts.{Rose}
 use Rattle.pcc_base.specs.Outcome as outcome
 use Rattle.pcc_base.specs.Outcome.{Outcome}
@@ -155,11 +155,18 @@ RunGives old new end image =
     (s : State) × First image old.left s × (o : Outcome) × Runs no_visits run_steps s o × (o.end ≡ end)
     × (new.left ≡ drop o.taken old.left) × (new.taken ≡ old.taken ++ o.written)
 
--- what was put on the output is a prefix of what some number of steps writes
+-- the streams are as fewer steps than that leave them
+abbrev pub RunGivesSoFar : Streams → Streams → List ℕ → Type 0
+RunGivesSoFar old new image =
+    (s : State) × First image old.left s × (n : ℕ) × (n < run_steps) × (o : Outcome) × Runs no_visits n s o × (o.end ≡ outcome.Goes)
+    × (new.left ≡ drop o.taken old.left) × (new.taken ≡ old.taken ++ o.written)
+
+-- the input is as those steps leave it, and what was put on the output is what they write, and a prefix of what one step
+-- more writes
 abbrev pub RunGivesPart : Streams → Streams → List ℕ → Type 0
 RunGivesPart old new image =
-    (s : State) × First image old.left s × (n : ℕ) × (n ≤ run_steps) × (o : Outcome) × Runs no_visits n s o
-    × (k : ℕ) × (new.taken ≡ old.taken ++ take k o.written)
+    (s : State) × First image old.left s × (n : ℕ) × (n < run_steps) × (o next : Outcome) × Runs no_visits n s o × Runs no_visits (suc n) s next
+    × (new.left ≡ drop o.taken old.left) × (k : ℕ) × (new.taken ≡ old.taken ++ take (length o.written + k) next.written)
 
 -- the image has no first state
 abbrev pub IsNoImage : List ℕ → List ℕ → Type 0
@@ -180,9 +187,9 @@ RunTold content old new reports.NotImage = Holds content (IsNoImage old.left) ×
 RunTold content old new (reports.TooLong Image) = IsTooLong content × (new ≡ old)
 RunTold content old new (reports.ReadFault Image) = new ≡ old
 RunTold content old new (reports.NoFile Image) = (content ≡ None) × (new ≡ old)
-RunTold content old new reports.InputFault = Holds content (RunGivesPart old new)
+RunTold content old new reports.InputFault = Holds content (RunGivesSoFar old new)
 RunTold content old new reports.OutputFault = Holds content (RunGivesPart old new)
-RunTold content old new reports.NoMemory = (new ≡ old) ⊎ Holds content (RunGivesPart old new)
+RunTold content old new reports.NoMemory = (new ≡ old) ⊎ Holds content (RunGivesSoFar old new)
 RunTold content old new _ = ⊥
 
 -- ---- the line, and the status

@@ -1,5 +1,5 @@
 -- The words so far are in place.
-use Rattle.std.proofs.Common.{◌≡◌, ◌++◌, length, take}
+use Rattle.std.proofs.Common.{◌≡◌, ◌++◌, take}
 use Rattle.ia32_asm.specs.Sections.{resolved}
 use Rattle.elf_link.specs.Laid.{symbols_of}
 use Rattle.elf_link.proofs.text.put_section.Given as goal

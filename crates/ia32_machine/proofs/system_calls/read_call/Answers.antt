@@ -1,6 +1,6 @@
-use Rattle.std.proofs.Common.{◌≡◌, ◌<◌, Bool, true, false, List, [], ◌∷◌, Option, Some, None, Ok, ℕ, refl, sym, ◌∙◌, ap, subst, arith}
-use Rattle.ia32_regs.specs.declared.names.Reg32.TheVariants.{Ecx, Edx}
-use Rattle.ia32_insn.specs.State.{State, may_store}
+use Rattle.std.proofs.Common.{◌≡◌, ◌<◌, true, false, ◌∷◌, sym, ◌∙◌, arith}
+use Rattle.ia32_regs.specs.declared.names.Reg32.TheVariants.{Edx}
+use Rattle.ia32_insn.specs.State.{State}
 use Rattle.ia32_insn.specs.Meaning.{word_of}
 use Rattle.ia32_machine.proofs.Storing.{one_byte}
 use Rattle.ia32_machine.proofs.Calls.{not_is, may_so, read_none, read_denied, read_end, read_byte, read_fault}

@@ -1,4 +1,4 @@
-use Rattle.std.proofs.Common.{◌≡◌, ◌≢◌, List, ℕ, Ok, refl, sym, ◌∙◌, ap, subst, arith}
+use Rattle.std.proofs.Common.{◌≡◌, ◌≢◌, List, ℕ, refl, sym, ◌∙◌, subst, arith}
 use Rattle.ia32_regs.specs.declared.names.Reg32.TheVariants.{Eax, Ebx}
 use Rattle.ia32_insn.specs.State.{State}
 use Rattle.ia32_insn.specs.Meaning.{Moved, word_of}

@@ -1,5 +1,5 @@
-use Rattle.std.proofs.Common.{◌≡◌, Bool, false, List, Option, Some, None, ℕ, refl, sym, ◌∙◌, ap}
-use Rattle.ia32_regs.specs.declared.names.Reg32.TheVariants.{Ecx, Edx}
+use Rattle.std.proofs.Common.{Some, None, refl, sym, ◌∙◌}
+use Rattle.ia32_regs.specs.declared.names.Reg32.TheVariants.{Edx}
 use Rattle.ia32_insn.specs.State.{State}
 use Rattle.ia32_insn.specs.Meaning.{word_of}
 use Rattle.ia32_machine.proofs.Calls.{not_is, bytes_so, write_none, write_denied, write_done, write_failed, write_wanted}

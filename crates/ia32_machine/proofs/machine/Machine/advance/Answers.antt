@@ -1,8 +1,5 @@
-use Rattle.std.proofs.Common.{◌≡◌, ◌≤◌, ◌+◌, ◌%◌, List, ℕ, Ok, Err, refl, sym, ◌∙◌, ap, subst, arith}
+use Rattle.std.proofs.Common.{◌≡◌, ◌≤◌, ◌+◌, ◌%◌, List, ℕ, refl, ap, arith}
 use Rattle.ia32_insn.specs.State.{State}
-use Rattle.ia32_machine.specs.First.{lent}
-use Rattle.ia32_machine.specs.Runs.{alone}
-use Rattle.ia32_machine.specs.Performs.{AdvanceTold}
 use Rattle.ia32_machine.proofs.Performs.{fetched, unfetched}
 use Rattle.ia32_machine.proofs.machine.Machine.advance.Goals as goal
 

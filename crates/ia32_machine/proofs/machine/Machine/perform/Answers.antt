@@ -1,7 +1,7 @@
-use Rattle.std.proofs.Common.{rules, ◌≡◌, ◌≢◌, Bool, true, false, List, ℕ, Ok, Err, refl, sym, ◌∙◌, ap, subst}
-use Rattle.std.specs.Prelude.{IsTrue, Result}
+use Rattle.std.proofs.Common.{rules, ◌≡◌, ◌≢◌, true, false, List, ℕ, Ok, Err, refl, sym, ◌∙◌, ap, subst}
+use Rattle.std.specs.Prelude.{Result}
 use Rattle.ia32_insn.specs.declared.insn.Insn.TheVariants as insn
-use Rattle.ia32_insn.specs.State.{State, at_address}
+use Rattle.ia32_insn.specs.State.{State}
 use Rattle.ia32_machine.specs.First.{lent}
 use Rattle.ia32_machine.specs.Runs.{alone}
 use Rattle.ia32_machine.specs.declared.ends.MachineEnd.{MachineEnd}

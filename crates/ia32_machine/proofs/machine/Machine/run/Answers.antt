@@ -2,7 +2,7 @@ use Rattle.std.proofs.Common.{◌≡◌, ℕ, suc, refl, sym, ◌∙◌, subst, 
 use Rattle.pcc_outside.specs.Streams.{SinkCounts}
 use Rattle.ia32_insn.specs.State.{State}
 use Rattle.ia32_machine.specs.First.{lent}
-use Rattle.ia32_machine.specs.Runs.{RunCounts, alone}
+use Rattle.ia32_machine.specs.Runs.{RunCounts}
 use Rattle.ia32_machine.proofs.Runs.{Ran, ran_none, ran_more, ran_last, ran_spent}
 use Rattle.ia32_machine.proofs.machine.Machine.run.Goals as goal
 
