@@ -47,7 +47,7 @@ gives_told content image s streams streams' end read small first told = (image, 
 
 so_far_told : (content : Option (List ℕ)) (image : List ℕ) (s : State) (streams streams' : Streams) → content ≡ Some image → length image ≤ file_limit → First image streams.left s → GivesSoFar run_steps s streams.left streams'.left streams.taken streams'.taken → Holds content (RunGivesSoFar streams streams')
 so_far_told content image s streams streams' read small first told =
-    (image, read, small, (s, first, told.0, told.1, told.2, told.3, told.4, told.5, told.6))
+    let gives = told.2 in (image, read, small, (s, first, told.0, told.1, gives.0, gives.1, gives.2, gives.3, gives.4))
 
 part_told : (content : Option (List ℕ)) (image : List ℕ) (s : State) (streams streams' : Streams) → content ≡ Some image → length image ≤ file_limit → First image streams.left s → GivesPart run_steps s streams.left streams'.left streams.taken streams'.taken → Holds content (RunGivesPart streams streams')
 part_told content image s streams streams' read small first told =
