@@ -1,7 +1,6 @@
 -- The worked program is of the form that is compiled.
-use Rattle.std.proofs.Common.{◌≡◌, ◌≤◌, ℕ, List, [], ◌∷◌, refl, arith, inl, inr}
+use Rattle.std.proofs.Common.{◌≤◌, ℕ, [], ◌∷◌, refl, arith, inr}
 use Rattle.std.specs.Prelude.{codes}
-use Rattle.std.specs.List.{All}
 use Rattle.std.proofs.lemmas.List.Elements.{All-cons, All-nil}
 use Rattle.pcc_listing.specs.Lines.{IsName, IsNameByte}
 use Rattle.c_tree.specs.SlotForm.{IsSlotProgram}

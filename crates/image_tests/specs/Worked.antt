@@ -1,5 +1,5 @@
 -- A program of each kind of statement: `int main(void) { int x = 70; x = x + 1; putchar(x); return x + 229; }`.
-use Rattle.std.specs.Prelude.{ℤ, pos, List, [], ◌∷◌, codes, Some}
+use Rattle.std.specs.Prelude.{ℤ, pos, [], ◌∷◌, codes, Some}
 use Rattle.c_tree.specs.declared.expression.BinaryOp.TheVariants.{Add}
 use Rattle.c_tree.specs.Program.{int, Expression, Constant, Read, Binary, Assign, Putchar, LocalPlace, Scalar, Declare, Evaluate, Return, Statements, Done, Next, Function, Program}
 

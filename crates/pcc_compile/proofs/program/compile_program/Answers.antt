@@ -102,8 +102,7 @@ returns c =
     in
     let keeps = keeps_graph p c.requires.form (graphs_of c.in_ok-graphs.graphs) flow g.graphs low.graph g.outcome in
     let compiled = c.compiled_does_as.ensures p c.requires slots code keeps is-code in
-    let file : c.in_ok-image.image.items ≡ image_bytes (parts_of_text linked.image.text.items []) = c.in_ok-image.ensures ∙ ap image_bytes (same_parts items linked one.is) in
-    (
+    let file : c.in_ok-image.image.items ≡ image_bytes (parts_of_text linked.image.text.items []) = c.in_ok-image.ensures ∙ ap image_bytes (same_parts items linked one.is) in (
       lines_of f slots code,
       compiled.keeps_rules,
       c.in_ok-map.ensures ∙ ap map_text lines-are,
