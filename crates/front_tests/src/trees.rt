@@ -14,7 +14,7 @@ use std::test::Fail;
 const MOST: usize = 65536;
 
 /// What is parsed of a text of one line that has tokens.
-fn parsed(alloc: Global, text: &str) -> Option<Result<RawUnit, Refusal>> {
+pub fn parsed(alloc: Global, text: &str) -> Option<Result<RawUnit, Refusal>> {
     if text.len() > 1_000_000 {
         return None;
     }
