@@ -16,7 +16,10 @@ use Rattle.ia32_machine.specs.First.{First}
 use Rattle.ia32_machine.specs.declared.ends.MachineEnd.{MachineEnd}
 use Rattle.ia32_machine.specs.declared.ends.MachineEnd.TheVariants as machine
 use Rattle.pcc_listing.specs.Lines.{Line, IsMap, map_text}
+use Rattle.c_tree.specs.Program.{Program}
+use Rattle.c_front.specs.Accepted.{IsProgram}
 use Rattle.c_front.specs.Refusals.{HasManyTokens, IsSourceFault}
+use Rattle.pcc_compile.specs.Products.{BelongsTo}
 use Rattle.pcc_driver.specs.Commands.{Command, Compile, Run, Usage, map_name}
 use Rattle.pcc_driver.specs.Headline.{Files, file_limit, IsCompiled}
 use Rattle.pcc_driver.specs.Reports.{status_of, report_line}
@@ -70,10 +73,11 @@ SameFiles old new = (other : List ℕ) → new other ≡ old other
 abbrev pub OnlyFile : List ℕ → Files → Files → Type 0
 OnlyFile name old new = (other : List ℕ) → other ≢ name → new other ≡ old other
 
--- NAME.map holds the text of a map; NAME, and no other file, may have changed
-abbrev pub MapStands : List ℕ → Files → Files → Type 0
-MapStands name old new =
-    ((map : List Line) × IsMap map × (new (map_name name) ≡ Some (map_text map)))
+-- NAME.map holds the text of the map of the source's program; NAME, and no other file, may have changed
+abbrev pub MapStands : List ℕ → List ℕ → Files → Files → Type 0
+MapStands name source old new =
+    ((text : List ℕ) × (program : Program) × (map : List Line) × (old source ≡ Some text) × IsProgram text program
+    × IsMap map × BelongsTo program map × (new (map_name name) ≡ Some (map_text map)))
     × ((other : List ℕ) → other ≢ name → other ≢ map_name name → new other ≡ old other)
 
 -- the file holds a text that may be read, and of which this holds
@@ -93,8 +97,8 @@ CompileTold name source old new (reports.TooLong Source) = IsTooLong (old source
 CompileTold name source old new (reports.ReadFault Source) = SameFiles old new
 CompileTold name source old new (reports.NoFile Source) = (old source ≡ None) × SameFiles old new
 CompileTold name source old new (reports.WriteFault Map) = OnlyFile (map_name name) old new
-CompileTold name source old new (reports.WriteFault Image) = MapStands name old new
-CompileTold name source old new reports.NoMemory = SameFiles old new ⊎ (MapStands name old new × (new name ≡ old name))
+CompileTold name source old new (reports.WriteFault Image) = MapStands name source old new
+CompileTold name source old new reports.NoMemory = SameFiles old new ⊎ (MapStands name source old new × (new name ≡ old name))
 CompileTold name source old new _ = ⊥
 
 -- ---- the steps of a command
