@@ -2,7 +2,8 @@
 
 ghost use Rattle.std.specs.Prelude.{◌≡◌, ◌<◌, ◌≤◌, ◌∷◌, length, IfOk};
 ghost use Rattle.c_grammar.specs.Declarations.{declarator_of, item_of, declaration_of};
-ghost use Rattle.c_grammar.proofs.DeclarationReading.{item_behind, read_item, read_more, declaration_behind, read_declaration};
+ghost use Rattle.c_grammar.proofs.DeclarationReading.{item_behind, read_item, read_more, declaration_behind};
+ghost use Rattle.c_grammar.proofs.DeclarationReading.{read_declaration};
 ghost use Rattle.c_expressions.specs.Readings.{below};
 ghost use Rattle.c_declarations.specs.Parts.{IsRead, items_listed};
 
@@ -23,7 +24,8 @@ fn item_behind(
 ) -> Result<Item, Refusal>
     requires low { 0 < height }
     requires high { height ≤ 256 }
-    ensures reads { IsRead item_of (item_behind (below height) (declarator_of declarator) parser.old.rest.now) parser.new.rest.now result }
+    ensures reads { IsRead item_of (item_behind (below height) (declarator_of declarator) parser.old.rest.now)
+        parser.new.rest.now result }
     ensures shorter { IfOk result (λ _. length parser.new.rest.now ≤ length parser.old.rest.now) }
 {
     let initialiser = maybe_value(parser, height)?;
@@ -48,7 +50,8 @@ fn item(parser: &mut Parser<'_>, height: u32) -> Result<Item, Refusal>
 fn items_behind(parser: &mut Parser<'_>, first: Item, height: u32) -> Result<ItemList, Refusal>
     requires low { 0 < height }
     requires high { height ≤ 256 }
-    ensures reads { IsRead items_listed (read_more (read_item (below height)) (item_of first) parser.old.rest.now) parser.new.rest.now result }
+    ensures reads { IsRead items_listed (read_more (read_item (below height)) (item_of first) parser.old.rest.now)
+        parser.new.rest.now result }
     ensures shorter { IfOk result (λ _. length parser.new.rest.now ≤ length parser.old.rest.now) }
 {
     let mut items = Vec::new(parser.alloc);
@@ -71,7 +74,9 @@ pub fn declaration_behind(
 ) -> Result<Declaration, Refusal>
     requires low { 0 < height }
     requires high { height ≤ 256 }
-    ensures reads { IsRead declaration_of (declaration_behind (below height) specifiers.items (declarator_of declarator) parser.old.rest.now) parser.new.rest.now result }
+    ensures reads { IsRead declaration_of
+        (declaration_behind (below height) specifiers.items (declarator_of declarator) parser.old.rest.now)
+        parser.new.rest.now result }
     ensures shorter { IfOk result (λ _. length parser.new.rest.now ≤ length parser.old.rest.now) }
 {
     let first = item_behind(parser, declarator, height)?;
@@ -91,7 +96,8 @@ pub fn declaration_behind(
 pub fn declaration(parser: &mut Parser<'_>, height: u32) -> Result<Declaration, Refusal>
     requires low { 0 < height }
     requires high { height ≤ 256 }
-    ensures reads { IsRead declaration_of (read_declaration (below height) parser.old.rest.now) parser.new.rest.now result }
+    ensures reads { IsRead declaration_of
+        (read_declaration (below height) parser.old.rest.now) parser.new.rest.now result }
     ensures shorter { IfOk result (λ _. length parser.new.rest.now < length parser.old.rest.now) }
 {
     let specifiers = some_specifiers(parser)?;

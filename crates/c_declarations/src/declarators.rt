@@ -2,7 +2,8 @@
 
 ghost use Rattle.std.specs.Prelude.{◌≡◌, ◌<◌, ◌≤◌, length, IfOk};
 ghost use Rattle.c_grammar.specs.Declarations.{parameter_of, parameters_of, part_of, declarator_of};
-ghost use Rattle.c_grammar.proofs.DeclarationReading.{read_parameter, read_parameters, parameters_behind, read_part, read_declarator};
+ghost use Rattle.c_grammar.proofs.DeclarationReading.{read_parameter, read_parameters, parameters_behind, read_part};
+ghost use Rattle.c_grammar.proofs.DeclarationReading.{read_declarator};
 ghost use Rattle.c_expressions.specs.Readings.{below};
 ghost use Rattle.c_declarations.specs.Parts.{IsRead, parameters_listed};
 
@@ -36,7 +37,8 @@ fn parameter(parser: &mut Parser<'_>, height: u32) -> Result<Parameter, Refusal>
 fn parameters(parser: &mut Parser<'_>, height: u32) -> Result<ParameterList, Refusal>
     requires low { 0 < height }
     requires high { height ≤ 256 }
-    ensures reads { IsRead parameters_listed (read_parameters (below height) parser.old.rest.now) parser.new.rest.now result }
+    ensures reads { IsRead parameters_listed
+        (read_parameters (below height) parser.old.rest.now) parser.new.rest.now result }
     ensures shorter { IfOk result (λ _. length parser.new.rest.now ≤ length parser.old.rest.now) }
 {
     let mut parameters = Vec::new(parser.alloc);
@@ -62,7 +64,8 @@ fn parameters_behind(
 ) -> Result<ParametersPart, Refusal>
     requires low { 0 < height }
     requires high { height ≤ 256 }
-    ensures reads { IsRead parameters_of (parameters_behind (below height) opening parser.old.rest.now) parser.new.rest.now result }
+    ensures reads { IsRead parameters_of
+        (parameters_behind (below height) opening parser.old.rest.now) parser.new.rest.now result }
     ensures shorter { IfOk result (λ _. length parser.new.rest.now ≤ length parser.old.rest.now) }
 {
     let list = parameters(parser, height)?;
@@ -99,7 +102,8 @@ fn part(parser: &mut Parser<'_>, height: u32) -> Result<DeclaratorPart, Refusal>
 pub fn declarator(parser: &mut Parser<'_>, height: u32) -> Result<Declarator, Refusal>
     requires low { 0 < height }
     requires high { height ≤ 256 }
-    ensures reads { IsRead declarator_of (read_declarator (below height) parser.old.rest.now) parser.new.rest.now result }
+    ensures reads { IsRead declarator_of
+        (read_declarator (below height) parser.old.rest.now) parser.new.rest.now result }
     ensures shorter { IfOk result (λ _. length parser.new.rest.now ≤ length parser.old.rest.now) }
 {
     let pointer = parser.take_pointer()?;

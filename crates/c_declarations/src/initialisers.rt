@@ -5,7 +5,8 @@ ghost use Rattle.c_grammar.proofs.Chains.{Done};
 ghost use Rattle.c_grammar.specs.Declarations.{initialiser_of, value_of};
 ghost use Rattle.c_grammar.proofs.Reading.{Readers, Values as ReadValues};
 ghost use Rattle.c_grammar.proofs.Taking.{take_mark};
-ghost use Rattle.c_grammar.proofs.DeclarationReading.{brace_step, braces_behind, read_initialiser, value_from, take_comma};
+ghost use Rattle.c_grammar.proofs.DeclarationReading.{brace_step, braces_behind, read_initialiser, value_from};
+ghost use Rattle.c_grammar.proofs.DeclarationReading.{take_comma};
 ghost use Rattle.c_expressions.specs.Readings.{IsValuesTurn, AreValues, values_of, height_of_values, below};
 ghost use Rattle.c_declarations.specs.Parts.{IsRead};
 ghost use Rattle.c_declarations.specs.Braces.{read_values};
@@ -17,8 +18,11 @@ use pcc_base::{FaultKind, Refusal, Span};
 
 /// Takes a `,` that is not the last before a `}`.
 fn take_separator(parser: &mut Parser<'_>) -> Option<Span>
-    ensures some { IfSome result (λ comma. (take_mark Punct.Comma parser.old.rest.now ≡ Some (comma, parser.new.rest.now)) × (take_mark Punct.RightBrace parser.new.rest.now ≡ None)) }
-    ensures none { IfNone result ((b : Readers) (so_far : ReadValues) → brace_step b so_far parser.old.rest.now ≡ Done) }
+    ensures some { IfSome result (λ comma.
+        (take_mark Punct.Comma parser.old.rest.now ≡ Some (comma, parser.new.rest.now))
+        × (take_mark Punct.RightBrace parser.new.rest.now ≡ None)) }
+    ensures none { IfNone result ((b : Readers) (so_far : ReadValues)
+        → brace_step b so_far parser.old.rest.now ≡ Done) }
     ensures stays { IfNone result (parser.new.rest.now ≡ parser.old.rest.now) }
     ensures shorter { IfSome result (λ _. length parser.new.rest.now < length parser.old.rest.now) }
 {
@@ -37,7 +41,8 @@ fn brace_value(parser: &mut Parser<'_>, values: Values, height: u32) -> Result<V
     requires high { height ≤ 256 }
     requires values { values.height ≡ height_of_values values }
     requires within { values.height < height }
-    ensures { IsValuesTurn (height - 1) (brace_step (below height) (values_of values) parser.old.rest.now) (values_of values) parser.old.rest.now parser.new.rest.now result }
+    ensures { IsValuesTurn (height - 1) (brace_step (below height) (values_of values) parser.old.rest.now)
+        (values_of values) parser.old.rest.now parser.new.rest.now result }
 {
     let Some(comma) = take_separator(parser) else {
         return Ok(ValuesTurn::LastValues(values));
@@ -68,7 +73,8 @@ fn values(parser: &mut Parser<'_>, equal: Span, height: u32) -> Result<Values, R
 fn initialiser(parser: &mut Parser<'_>, equal: Span, height: u32) -> Result<Initialiser, Refusal>
     requires low { 0 < height }
     requires high { height ≤ 256 }
-    ensures reads { IsRead initialiser_of (read_initialiser (below height) parser.old.rest.now) parser.new.rest.now result }
+    ensures reads { IsRead initialiser_of
+        (read_initialiser (below height) parser.old.rest.now) parser.new.rest.now result }
     ensures shorter { IfOk result (λ _. length parser.new.rest.now ≤ length parser.old.rest.now) }
 {
     let Some(opening) = parser.take_mark(Punct::LeftBrace) else {
@@ -96,7 +102,8 @@ pub(crate) fn maybe_value(
 ) -> Result<Option<InitialiserPart>, Refusal>
     requires low { 0 < height }
     requires high { height ≤ 256 }
-    ensures reads { IsRead value_of (value_from (below height) (take_mark Punct.Equal parser.old.rest.now) parser.old.rest.now) parser.new.rest.now result }
+    ensures reads { IsRead value_of (value_from (below height)
+        (take_mark Punct.Equal parser.old.rest.now) parser.old.rest.now) parser.new.rest.now result }
     ensures shorter { IfOk result (λ _. length parser.new.rest.now ≤ length parser.old.rest.now) }
 {
     let Some(equal) = parser.take_mark(Punct::Equal) else {

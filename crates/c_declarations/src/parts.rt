@@ -22,7 +22,8 @@ pub fn maybe(
     requires rule { IsRule rule }
     requires low { 0 < height }
     requires high { height ≤ 257 }
-    ensures reads { IsRead maybe_expr_of (maybe_before (reader_of rule (below height)) close parser.old.rest.now) parser.new.rest.now result }
+    ensures reads { IsRead maybe_expr_of
+        (maybe_before (reader_of rule (below height)) close parser.old.rest.now) parser.new.rest.now result }
     ensures shorter { IfOk result (λ _. length parser.new.rest.now ≤ length parser.old.rest.now) }
 {
     if parser.at_mark(close) {
@@ -77,7 +78,8 @@ pub(crate) fn array_behind(
 ) -> Result<ArrayPart, Refusal>
     requires low { 0 < height }
     requires high { height ≤ 256 }
-    ensures reads { IsRead array_of (array_behind (below height) opening parser.old.rest.now) parser.new.rest.now result }
+    ensures reads { IsRead array_of (array_behind (below height) opening parser.old.rest.now)
+        parser.new.rest.now result }
     ensures shorter { IfOk result (λ _. length parser.new.rest.now ≤ length parser.old.rest.now) }
 {
     let size = maybe(parser, Rule::Conditional, Punct::RightBracket, height)?;
@@ -98,7 +100,8 @@ pub(crate) fn maybe_array(
 ) -> Result<Option<ArrayPart>, Refusal>
     requires low { 0 < height }
     requires high { height ≤ 256 }
-    ensures reads { IsRead maybe_array_of (read_maybe_array (below height) parser.old.rest.now) parser.new.rest.now result }
+    ensures reads { IsRead maybe_array_of
+        (read_maybe_array (below height) parser.old.rest.now) parser.new.rest.now result }
     ensures shorter { IfOk result (λ _. length parser.new.rest.now ≤ length parser.old.rest.now) }
 {
     let Some(opening) = parser.take_mark(Punct::LeftBracket) else {

@@ -15,7 +15,8 @@ use Rattle.c_expressions.specs.declared.found.Turn.TheVariants.{More, Last}
 use Rattle.c_expressions.specs.declared.found.ValuesTurn.{ValuesTurn}
 use Rattle.c_expressions.specs.declared.found.ValuesTurn.TheVariants.{MoreValues, LastValues}
 use Rattle.c_expressions.specs.declared.expression.Rule.{Rule}
-use Rattle.c_expressions.specs.declared.expression.Rule.TheVariants.{Expression, Assignment, Conditional, Binary, Cast, Unary}
+use Rattle.c_expressions.specs.declared.expression.Rule.TheVariants.{Expression, Assignment, Conditional, Binary, Cast}
+use Rattle.c_expressions.specs.declared.expression.Rule.TheVariants.{Unary}
 
 -- a refusal: where it is a fault, nothing is read
 abbrev pub Refused : {A : Type 0} → Reads A → Refusal → Type 0
@@ -25,7 +26,8 @@ Refused reads NoMemory = Unit {0}
 
 -- an expression with its height, and the tokens behind it
 abbrev pub IsReading : Reads Expr → List Token → Result Found Refusal → Type 0
-IsReading reads rest (Ok f) = (reads ≡ Some (expr_of f.tree.value, rest)) × (f.height ≡ expr_height (expr_of f.tree.value))
+IsReading reads rest (Ok f) = (reads ≡ Some (expr_of f.tree.value, rest))
+  × (f.height ≡ expr_height (expr_of f.tree.value))
 IsReading reads rest (Err e) = Refused reads e
 
 abbrev pub RefusedStep : {A : Type 0} → Step A → Refusal → Type 0
@@ -36,8 +38,10 @@ RefusedStep step NoMemory = Unit {0}
 -- one turn of a loop over an expression, of a height that is at most so much
 abbrev pub IsTurn : ℕ → Step Expr → Expr → List Token → List Token → Result Turn Refusal → Type 0
 IsTurn height step was old new (Ok (More f)) =
-    (step ≡ Goes (expr_of f.tree.value) new) × (f.height ≡ expr_height (expr_of f.tree.value)) × (0 < f.height) × (f.height ≤ height) × (length new < length old)
-IsTurn height step was old new (Ok (Last f)) = (step ≡ Done) × (expr_of f.tree.value ≡ was) × (f.height ≡ expr_height was) × (new ≡ old)
+    (step ≡ Goes (expr_of f.tree.value) new) × (f.height ≡ expr_height (expr_of f.tree.value)) × (0 < f.height)
+      × (f.height ≤ height) × (length new < length old)
+IsTurn height step was old new (Ok (Last f)) = (step ≡ Done) × (expr_of f.tree.value ≡ was)
+  × (f.height ≡ expr_height was) × (new ≡ old)
 IsTurn height step was old new (Err e) = RefusedStep step e
 
 -- several values and the commas between them
@@ -52,10 +56,12 @@ AreValues reads rest (Ok v) = (reads ≡ Some (values_of v, rest)) × (v.height 
 AreValues reads rest (Err e) = Refused reads e
 
 -- one turn of a loop over values, of heights that are at most so much
-abbrev pub IsValuesTurn : ℕ → Step reading.Values → reading.Values → List Token → List Token → Result ValuesTurn Refusal → Type 0
+abbrev pub IsValuesTurn : ℕ → Step reading.Values → reading.Values → List Token → List Token
+  → Result ValuesTurn Refusal → Type 0
 IsValuesTurn height step was old new (Ok (MoreValues v)) =
     (step ≡ Goes (values_of v) new) × (v.height ≡ height_of_values v) × (v.height ≤ height) × (length new < length old)
-IsValuesTurn height step was old new (Ok (LastValues v)) = (step ≡ Done) × (values_of v ≡ was) × (v.height ≡ height_of_values v) × (new ≡ old)
+IsValuesTurn height step was old new (Ok (LastValues v)) = (step ≡ Done) × (values_of v ≡ was)
+  × (v.height ≡ height_of_values v) × (new ≡ old)
 IsValuesTurn height step was old new (Err e) = RefusedStep step e
 
 -- the readers for one less

@@ -33,7 +33,8 @@ pub(crate) fn parenthesised_node(
     close: Span,
 ) -> Result<Found, Refusal>
     requires { inner.height ≤ 256 }
-    ensures tree { IfOk result (λ f. expr_of f.tree.value ≡ trees.Parenthesised opening (expr_of inner.tree.value) close) }
+    ensures tree { IfOk result (λ f. expr_of f.tree.value
+        ≡ trees.Parenthesised opening (expr_of inner.tree.value) close) }
     ensures height { IfOk result (λ f. f.height ≡ suc inner.height) }
     ensures err { IfErr result (λ e. e ≡ NoMemory) }
 {
@@ -54,7 +55,8 @@ pub(crate) fn index_node(
 ) -> Result<Found, Refusal>
     requires base { base.height ≤ 256 }
     requires index { index.height ≤ 256 }
-    ensures tree { IfOk result (λ f. expr_of f.tree.value ≡ trees.Index (expr_of base.tree.value) opening (expr_of index.tree.value) close) }
+    ensures tree { IfOk result (λ f. expr_of f.tree.value
+        ≡ trees.Index (expr_of base.tree.value) opening (expr_of index.tree.value) close) }
     ensures height { IfOk result (λ f. f.height ≡ suc (max base.height index.height)) }
     ensures err { IfErr result (λ e. e ≡ NoMemory) }
 {
@@ -120,7 +122,8 @@ pub(crate) fn cast_node(
     operand: Found,
 ) -> Result<Found, Refusal>
     requires { operand.height ≤ 256 }
-    ensures tree { IfOk result (λ f. expr_of f.tree.value ≡ trees.Cast opening specifiers.items (star_of pointer) close (expr_of operand.tree.value)) }
+    ensures tree { IfOk result (λ f. expr_of f.tree.value
+        ≡ trees.Cast opening specifiers.items (star_of pointer) close (expr_of operand.tree.value)) }
     ensures height { IfOk result (λ f. f.height ≡ suc operand.height) }
     ensures err { IfErr result (λ e. e ≡ NoMemory) }
 {
@@ -145,7 +148,8 @@ pub(crate) fn binary_node(
 ) -> Result<Found, Refusal>
     requires left { left.height ≤ 256 }
     requires right { right.height ≤ 256 }
-    ensures tree { IfOk result (λ f. expr_of f.tree.value ≡ trees.Binary op (expr_of left.tree.value) at (expr_of right.tree.value)) }
+    ensures tree { IfOk result (λ f. expr_of f.tree.value
+        ≡ trees.Binary op (expr_of left.tree.value) at (expr_of right.tree.value)) }
     ensures height { IfOk result (λ f. f.height ≡ suc (max left.height right.height)) }
     ensures err { IfErr result (λ e. e ≡ NoMemory) }
 {
@@ -166,7 +170,8 @@ pub(crate) fn assignment_node(
 ) -> Result<Found, Refusal>
     requires left { left.height ≤ 256 }
     requires right { right.height ≤ 256 }
-    ensures tree { IfOk result (λ f. expr_of f.tree.value ≡ trees.Assignment op (expr_of left.tree.value) at (expr_of right.tree.value)) }
+    ensures tree { IfOk result (λ f. expr_of f.tree.value
+        ≡ trees.Assignment op (expr_of left.tree.value) at (expr_of right.tree.value)) }
     ensures height { IfOk result (λ f. f.height ≡ suc (max left.height right.height)) }
     ensures err { IfErr result (λ e. e ≡ NoMemory) }
 {
@@ -189,7 +194,9 @@ pub(crate) fn conditional_node(
     requires condition { condition.height ≤ 256 }
     requires first { first.height ≤ 256 }
     requires second { second.height ≤ 256 }
-    ensures tree { IfOk result (λ f. expr_of f.tree.value ≡ trees.Conditional (expr_of condition.tree.value) question (expr_of first.tree.value) colon (expr_of second.tree.value)) }
+    ensures tree { IfOk result (λ f. expr_of f.tree.value
+        ≡ trees.Conditional (expr_of condition.tree.value) question (expr_of first.tree.value) colon
+        (expr_of second.tree.value)) }
     ensures height { IfOk result (λ f. f.height ≡ suc (max condition.height (max first.height second.height))) }
     ensures err { IfErr result (λ e. e ≡ NoMemory) }
 {
@@ -212,7 +219,8 @@ pub(crate) fn call_node(
     close: Span,
 ) -> Result<Found, Refusal>
     requires { arguments.height ≤ 256 }
-    ensures tree { IfOk result (λ f. expr_of f.tree.value ≡ trees.Call function opening (exprs_of (map expr_of arguments.values.items)) arguments.commas.items close) }
+    ensures tree { IfOk result (λ f. expr_of f.tree.value
+        ≡ trees.Call function opening (exprs_of (map expr_of arguments.values.items)) arguments.commas.items close) }
     ensures height { IfOk result (λ f. f.height ≡ suc arguments.height) }
     ensures err { IfErr result (λ e. e ≡ NoMemory) }
 {
@@ -248,7 +256,8 @@ pub fn one_value(alloc: Global, first: Found) -> Result<Values, Refusal>
 pub fn one_more(before: Values, comma: Span, next: Found) -> Result<Values, Refusal>
     requires before { before.height ≡ height_of_values before }
     requires next { next.height ≡ expr_height (expr_of next.tree.value) }
-    ensures values { IfOk result (λ v. values_of v ≡ ((values_of before).0 ++ expr_of next.tree.value ∷ [], (values_of before).1 ++ comma ∷ [])) }
+    ensures values { IfOk result (λ v. values_of v
+        ≡ ((values_of before).0 ++ expr_of next.tree.value ∷ [], (values_of before).1 ++ comma ∷ [])) }
     ensures height { IfOk result (λ v. v.height ≡ height_of_values v) }
     ensures same { IfOk result (λ v. v.height ≡ max before.height next.height) }
     ensures err { IfErr result (λ e. e ≡ NoMemory) }

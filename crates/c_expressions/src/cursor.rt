@@ -1,10 +1,14 @@
-ghost use Rattle.std.specs.Prelude.{◌≡◌, ◌<◌, ◌≤◌, length, IfSome, IfNone, OnOk, IfErr, Some, None, ◌≢◌, ℕ, is_some, []};
+ghost use Rattle.std.specs.Prelude.{◌≡◌, ◌<◌, ◌≤◌, length, IfSome, IfNone, OnOk, IfErr, Some, None, ◌≢◌, ℕ, is_some};
+ghost use Rattle.std.specs.Prelude.{[]};
 ghost use Rattle.std.specs.Bool.{OnTrue, OnFalse};
 ghost use Rattle.pcc_base.specs.declared.refusal.Refusal.TheVariants.{Fault as Faulty};
 ghost use Rattle.pcc_base.specs.declared.fault.Fault.{Fault};
-ghost use Rattle.c_grammar.proofs.Taking.{take_mark, take_word, take_unary, take_step, take_assign, take_binary, take_specifiers};
+ghost use Rattle.pcc_base.specs.declared.fault.FaultKind.TheVariants.{TooDeep};
+ghost use Rattle.c_grammar.proofs.Taking.{take_mark, take_word, take_unary, take_step, take_assign, take_binary};
+ghost use Rattle.c_grammar.proofs.Taking.{take_specifiers};
 ghost use Rattle.c_grammar.proofs.Reading.{Readers, read_cast, read_unary};
 ghost use Rattle.c_expressions.specs.Rows.{BeginsWithSpecifier};
+ghost use Rattle.c_expressions.specs.Places.{next_place, kind_without_height};
 
 use crate::tables::{
     assign_of, begins_expression, binary_of, is_mark, is_word, specifier_of, step_of, unary_of,
@@ -74,8 +78,10 @@ impl Parser<'_> {
 
     /// Takes a `(` that begins a cast: a specifier stands behind it.
     pub(crate) fn take_cast(&mut self) -> Option<Span>
-        ensures some { IfSome result (λ at. (take_mark Punct.LeftParen self.old.rest.now ≡ Some (at, self.new.rest.now)) × BeginsWithSpecifier self.new.rest.now) }
-        ensures none { IfNone result ((height : ℕ) (below : Readers) → read_cast height below self.old.rest.now ≡ read_unary height below self.old.rest.now) }
+        ensures some { IfSome result (λ at. (take_mark Punct.LeftParen self.old.rest.now ≡ Some (at, self.new.rest.now))
+            × BeginsWithSpecifier self.new.rest.now) }
+        ensures none { IfNone result ((height : ℕ) (below : Readers) → read_cast height below self.old.rest.now
+            ≡ read_unary height below self.old.rest.now) }
         ensures stays { IfNone result (self.new.rest.now ≡ self.old.rest.now) }
         ensures shorter { IfSome result (λ _. length self.new.rest.now < length self.old.rest.now) }
     {
@@ -156,7 +162,7 @@ impl Parser<'_> {
 
     /// The refusal at the next token, or at the end where there is none.
     pub fn refusal(&self, kind: FaultKind) -> Refusal
-        ensures { (fault : Fault) × (result ≡ Faulty fault) }
+        ensures { result ≡ Faulty (record { kind = kind; at = next_place self.now.rest.now self.now.end }) }
     {
         let at = match self.rest.first() {
             Some(token) => token.at,
@@ -168,7 +174,10 @@ impl Parser<'_> {
     /// The refusal of the next token where an expression would be needed, and no height is left for one:
     /// TooDeep where an expression may begin with it, and otherwise Syntax.
     pub fn no_height(&self) -> Refusal
-        ensures { (fault : Fault) × (result ≡ Faulty fault) }
+        ensures { result ≡ Faulty (record {
+          kind = kind_without_height self.now.rest.now;
+          at = next_place self.now.rest.now self.now.end;
+        }) }
     {
         match self.rest.first() {
             Some(token) => {
@@ -184,7 +193,7 @@ impl Parser<'_> {
 
 /// The refusal at a place.
 pub fn fault_at(kind: FaultKind, at: Span) -> Refusal
-    ensures { (fault : Fault) × (result ≡ Faulty fault) }
+    ensures { result ≡ Faulty (record { kind = kind; at = at }) }
 {
     Refusal::Fault(Fault { kind, at })
 }
@@ -193,6 +202,7 @@ pub fn fault_at(kind: FaultKind, at: Span) -> Refusal
 pub fn height_below(height: u32, at: Span) -> Result<(), Refusal>
     ensures ok { OnOk result (height ≢ 1) }
     ensures err { IfErr result (λ e. (height ≡ 1) × ((fault : Fault) × (e ≡ Faulty fault))) }
+    ensures deep { IfErr result (λ e. e ≡ Faulty (record { kind = TooDeep; at = at })) }
 {
     if height == 1 {
         return Err(fault_at(FaultKind::TooDeep, at));

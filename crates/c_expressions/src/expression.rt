@@ -2,10 +2,12 @@
 
 ghost use Rattle.std.specs.Prelude.{◌≡◌, ◌<◌, ◌≤◌, length, ◌-◌, IfOk, IfErr, OnOk};
 ghost use Rattle.pcc_base.specs.declared.fault.Fault.{Fault};
+ghost use Rattle.pcc_base.specs.declared.fault.FaultKind.TheVariants.{TooDeep};
 ghost use Rattle.pcc_base.specs.declared.refusal.Refusal.TheVariants.{Fault as Faulty};
 ghost use Rattle.c_grammar.specs.Expressions.{expr_of};
 ghost use Rattle.c_grammar.specs.ExpressionTokens.{expr_height};
-ghost use Rattle.c_grammar.proofs.Reading.{read_expression, read_assignment, read_conditional, read_binary, read_cast, read_unary, infix_step, cast_from};
+ghost use Rattle.c_grammar.proofs.Reading.{read_expression, read_assignment, read_conditional, read_binary, read_cast};
+ghost use Rattle.c_grammar.proofs.Reading.{read_unary, infix_step, cast_from};
 ghost use Rattle.c_grammar.proofs.Taking.{take_mark};
 ghost use Rattle.c_expressions.specs.Readings.{IsReading, IsTurn, IsRule, below, reader_of};
 
@@ -40,6 +42,7 @@ pub enum Rule {
 pub(crate) fn height_beside(left: u32, height: u32, at: Span) -> Result<(), Refusal>
     ensures ok { OnOk result (left < height) }
     ensures err { IfErr result (λ e. (height ≤ left) × ((fault : Fault) × (e ≡ Faulty fault))) }
+    ensures deep { IfErr result (λ e. e ≡ Faulty (record { kind = TooDeep; at = at })) }
 {
     if left >= height {
         return Err(fault_at(FaultKind::TooDeep, at));
@@ -97,7 +100,9 @@ impl Parser<'_> {
         requires high { height ≤ 256 }
         requires left { left.height ≡ expr_height (expr_of left.tree.value) }
         requires within { (0 < left.height) × (left.height ≤ height) }
-        ensures { IsTurn height (infix_step 13 height (below height).assignment (expr_of left.tree.value) self.old.rest.now) (expr_of left.tree.value) self.old.rest.now self.new.rest.now result }
+        ensures { IsTurn height (infix_step 13 height (below height).assignment
+            (expr_of left.tree.value) self.old.rest.now)
+            (expr_of left.tree.value) self.old.rest.now self.new.rest.now result }
     {
         let Some((op, at)) = self.take_binary(COMMA) else {
             return Ok(Turn::Last(left));
@@ -182,7 +187,9 @@ impl Parser<'_> {
         requires high { height ≤ 256 }
         requires left { left.height ≡ expr_height (expr_of left.tree.value) }
         requires within { (0 < left.height) × (left.height ≤ height) }
-        ensures { IsTurn height (infix_step level height ((below height).binary (level - 1)) (expr_of left.tree.value) self.old.rest.now) (expr_of left.tree.value) self.old.rest.now self.new.rest.now result }
+        ensures { IsTurn height (infix_step level height ((below height).binary (level - 1))
+            (expr_of left.tree.value) self.old.rest.now)
+            (expr_of left.tree.value) self.old.rest.now self.new.rest.now result }
     {
         let Some((op, at)) = self.take_binary(level) else {
             return Ok(Turn::Last(left));

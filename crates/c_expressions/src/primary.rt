@@ -3,9 +3,11 @@
 ghost use Rattle.std.specs.Prelude.{◌≡◌, ◌<◌, ◌≤◌, length, ◌-◌, IfOk};
 ghost use Rattle.c_grammar.specs.Expressions.{expr_of};
 ghost use Rattle.c_grammar.specs.ExpressionTokens.{expr_height};
-ghost use Rattle.c_grammar.proofs.Reading.{read_postfix, read_primary, read_arguments, suffix_step, value_step, call_from, parenthesised_from};
+ghost use Rattle.c_grammar.proofs.Reading.{read_postfix, read_primary, read_arguments, suffix_step, value_step};
+ghost use Rattle.c_grammar.proofs.Reading.{call_from, parenthesised_from};
 ghost use Rattle.c_grammar.proofs.Taking.{take_mark};
-ghost use Rattle.c_expressions.specs.Readings.{IsReading, IsTurn, AreValues, IsValuesTurn, values_of, height_of_values, below};
+ghost use Rattle.c_expressions.specs.Readings.{IsReading, IsTurn, AreValues, IsValuesTurn, values_of, height_of_values};
+ghost use Rattle.c_expressions.specs.Readings.{below};
 
 use crate::build::{
     call_node, found_of, index_node, one_more, one_value, parenthesised_node, postfix_node,
@@ -44,7 +46,8 @@ impl Parser<'_> {
         requires high { height ≤ 256 }
         requires base { base.height ≡ expr_height (expr_of base.tree.value) }
         requires within { (0 < base.height) × (base.height ≤ height) }
-        ensures { IsTurn height (suffix_step height (below height) (expr_of base.tree.value) self.old.rest.now) (expr_of base.tree.value) self.old.rest.now self.new.rest.now result }
+        ensures { IsTurn height (suffix_step height (below height) (expr_of base.tree.value) self.old.rest.now)
+            (expr_of base.tree.value) self.old.rest.now self.new.rest.now result }
     {
         if let Some(opening) = self.take_mark(Punct::LeftBracket) {
             height_beside(base.height, height, opening)?;
@@ -109,7 +112,8 @@ impl Parser<'_> {
     fn parenthesised(&mut self, opening: Span, height: u32) -> Result<Found, Refusal>
         requires low { 0 < height }
         requires high { height ≤ 256 }
-        ensures reads { IsReading (parenthesised_from (below height) opening self.old.rest.now) self.new.rest.now result }
+        ensures reads { IsReading (parenthesised_from (below height) opening self.old.rest.now)
+            self.new.rest.now result }
         ensures within { IfOk result (λ f. (0 < f.height) × (f.height ≤ height)) }
         ensures shorter { IfOk result (λ _. length self.new.rest.now < length self.old.rest.now) }
     {
@@ -125,7 +129,8 @@ impl Parser<'_> {
     fn named(&mut self, name: Identifier, height: u32) -> Result<Found, Refusal>
         requires low { 0 < height }
         requires high { height ≤ 256 }
-        ensures reads { IsReading (call_from (below height) name (take_mark Punct.LeftParen self.old.rest.now) self.old.rest.now) self.new.rest.now result }
+        ensures reads { IsReading (call_from (below height) name
+            (take_mark Punct.LeftParen self.old.rest.now) self.old.rest.now) self.new.rest.now result }
         ensures within { IfOk result (λ f. (0 < f.height) × (f.height ≤ height)) }
         ensures shorter { IfOk result (λ _. length self.new.rest.now ≤ length self.old.rest.now) }
     {
@@ -175,7 +180,8 @@ impl Parser<'_> {
         requires high { height ≤ 256 }
         requires values { values.height ≡ height_of_values values }
         requires within { values.height < height }
-        ensures { IsValuesTurn (height - 1) (value_step (below height) (values_of values) self.old.rest.now) (values_of values) self.old.rest.now self.new.rest.now result }
+        ensures { IsValuesTurn (height - 1) (value_step (below height) (values_of values) self.old.rest.now)
+            (values_of values) self.old.rest.now self.new.rest.now result }
     {
         let Some(comma) = self.take_mark(Punct::Comma) else {
             return Ok(ValuesTurn::LastValues(values));

@@ -1,6 +1,7 @@
 //! Rows of tokens of one kind: specifiers, the words `const`, string literals.
 
-ghost use Rattle.std.specs.Prelude.{◌≡◌, ◌+◌, ◌<◌, ◌≤◌, ◌∷◌, ◌++◌, [], length, IfSome, IfNone, IfOk, IfErr, OnOk, Some, None};
+ghost use Rattle.std.specs.Prelude.{◌≡◌, ◌+◌, ◌<◌, ◌≤◌, ◌∷◌, ◌++◌, [], length, IfSome, IfNone, IfOk, IfErr, OnOk, Some};
+ghost use Rattle.std.specs.Prelude.{None};
 ghost use Rattle.pcc_base.specs.declared.refusal.Refusal.TheVariants.{NoMemory as Wanting};
 ghost use Rattle.c_grammar.specs.Expressions.{star_of};
 ghost use Rattle.c_grammar.proofs.Taking.{take_specifiers, take_consts, take_texts, take_pointer, with_front};
@@ -37,7 +38,8 @@ pub fn copy_of(alloc: Global, name: &Name) -> Result<Name, Refusal>
 impl Parser<'_> {
     /// Takes a specifier, where the next token is one.
     fn take_specifier(&mut self) -> Option<Specifier>
-        ensures some { IfSome result (λ s. take_specifiers self.old.rest.now ≡ with_front s (take_specifiers self.new.rest.now)) }
+        ensures some { IfSome result (λ s. take_specifiers self.old.rest.now
+            ≡ with_front s (take_specifiers self.new.rest.now)) }
         ensures none { IfNone result (take_specifiers self.old.rest.now ≡ ([], self.new.rest.now)) }
         ensures stays { IfNone result (self.new.rest.now ≡ self.old.rest.now) }
         ensures shorter { IfSome result (λ _. length self.new.rest.now < length self.old.rest.now) }
@@ -63,7 +65,8 @@ impl Parser<'_> {
 
     /// Takes a word `const`, where the next token is one.
     fn take_const(&mut self) -> Option<Span>
-        ensures some { IfSome result (λ at. take_consts self.old.rest.now ≡ with_front at (take_consts self.new.rest.now)) }
+        ensures some { IfSome result (λ at. take_consts self.old.rest.now
+            ≡ with_front at (take_consts self.new.rest.now)) }
         ensures none { IfNone result (take_consts self.old.rest.now ≡ ([], self.new.rest.now)) }
         ensures stays { IfNone result (self.new.rest.now ≡ self.old.rest.now) }
         ensures shorter { IfSome result (λ _. length self.new.rest.now < length self.old.rest.now) }
@@ -99,10 +102,12 @@ impl Parser<'_> {
 
     /// Takes a string literal, where the next token is one.
     fn take_text(&mut self) -> Result<Option<TextPiece>, Refusal>
-        ensures some { IfOk result (λ found. IfSome found (λ t. take_texts self.old.rest.now ≡ with_front t (take_texts self.new.rest.now))) }
+        ensures some { IfOk result (λ found.
+            IfSome found (λ t. take_texts self.old.rest.now ≡ with_front t (take_texts self.new.rest.now))) }
         ensures none { IfOk result (λ found. IfNone found (take_texts self.old.rest.now ≡ ([], self.new.rest.now))) }
         ensures stays { IfOk result (λ found. IfNone found (self.new.rest.now ≡ self.old.rest.now)) }
-        ensures shorter { IfOk result (λ found. IfSome found (λ _. length self.new.rest.now < length self.old.rest.now)) }
+        ensures shorter { IfOk result (λ found.
+            IfSome found (λ _. length self.new.rest.now < length self.old.rest.now)) }
         ensures err { IfErr result (λ e. e ≡ Wanting) }
     {
         let rest = self.rest;

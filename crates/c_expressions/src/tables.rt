@@ -3,7 +3,9 @@
 ghost use Rattle.std.specs.Prelude.{◌≡◌, nat_le};
 ghost use Rattle.c_grammar.specs.Expressions.{expr_of};
 ghost use Rattle.c_grammar.specs.ExpressionTokens.{binary_level, looseness};
-ghost use Rattle.c_grammar.proofs.Taking.{is_mark, is_word, of_mark, unary_of_mark, step_of_mark, assign_of_mark, binary_of_mark, specifier_of, at_level};
+ghost use Rattle.c_grammar.proofs.Taking.{is_mark, is_word, of_mark, unary_of_mark, step_of_mark, assign_of_mark};
+ghost use Rattle.c_grammar.proofs.Taking.{binary_of_mark, specifier_of, at_level};
+ghost use Rattle.c_grammar.proofs.Heads.{begins};
 
 use c_lexer::{Punct, TokenKind};
 use c_raw::{AssignOp, BinaryOp, Expression, SpecifierWord, StepOp, UnaryOp};
@@ -209,7 +211,9 @@ pub(crate) fn is_unary(e: &Expression) -> bool
 }
 
 /// Whether an expression may begin with this token.
-pub fn begins_expression(kind: &TokenKind) -> bool {
+pub fn begins_expression(kind: &TokenKind) -> bool
+    ensures { result ≡ begins kind.now }
+{
     match kind {
         TokenKind::Ident(_) | TokenKind::Number(_) | TokenKind::Text(_) => true,
         TokenKind::Mark(mark) => *mark == Punct::LeftParen

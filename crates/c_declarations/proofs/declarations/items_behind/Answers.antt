@@ -17,4 +17,5 @@ returns-in_err-next-clause-reads c =
     rw (p.1, p.2) (list_refused _ _ _ _ _ _ _ c.items.invariant.reads c.in-Some.ensures.some c.in_err-next.ensures.reads)
 
 pub returns-clause-reads : goal.returns-clause-reads
-returns-clause-reads c = list_done _ _ _ _ _ c.items.invariant.reads c.in_default.ensures.none c.in_default.ensures.stays
+returns-clause-reads c = list_done _ _ _ _ _ c.items.invariant.reads c.in_default.ensures.none
+  c.in_default.ensures.stays

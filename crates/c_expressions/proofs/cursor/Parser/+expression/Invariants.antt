@@ -3,7 +3,8 @@ use Rattle.std.proofs.Common.{◌≡◌, ◌<◌, ◌≤◌, length, ◌-◌, �
 use Rattle.c_grammar.specs.Expressions.{expr_of}
 use Rattle.c_grammar.specs.ExpressionTokens.{expr_height}
 use Rattle.c_grammar.proofs.Chains.{Continues}
-use Rattle.c_grammar.proofs.Reading.{read_expression, read_binary, read_postfix, read_arguments, infix_step, suffix_step, value_step}
+use Rattle.c_grammar.proofs.Reading.{read_expression, read_binary, read_postfix, read_arguments, infix_step}
+use Rattle.c_grammar.proofs.Reading.{suffix_step, value_step}
 use Rattle.c_expressions.specs.Readings.{values_of, height_of_values, below}
 use Rattle.c_expressions.proofs.cursor.Parser.+expression.Given as goal
 
@@ -59,7 +60,8 @@ decreases-value l = 32 * l.height + 1
 
 abbrev pub invariant-expression-operators : goal.invariant-expression-operators
 invariant-expression-operators l = record {
-  reads : Continues (infix_step 13 l.height (below l.height).assignment) (expr_of l.left.tree.value) l.self.rest.now (read_expression l.height (below l.height) l.fn.self.rest.now);
+  reads : Continues (infix_step 13 l.height (below l.height).assignment) (expr_of l.left.tree.value) l.self.rest.now
+    (read_expression l.height (below l.height) l.fn.self.rest.now);
   height : l.left.height ≡ expr_height (expr_of l.left.tree.value);
   within : (0 < l.left.height) × (l.left.height ≤ l.height);
   shorter : length l.self.rest.now < length l.fn.self.rest.now;
@@ -70,7 +72,8 @@ decreases-expression-operators l = length l.self.rest.now
 
 abbrev pub invariant-binary-operators : goal.invariant-binary-operators
 invariant-binary-operators l = record {
-  reads : Continues (infix_step l.level l.height ((below l.height).binary (l.level - 1))) (expr_of l.left.tree.value) l.self.rest.now (read_binary l.height (below l.height) l.level l.fn.self.rest.now);
+  reads : Continues (infix_step l.level l.height ((below l.height).binary (l.level - 1)))
+    (expr_of l.left.tree.value) l.self.rest.now (read_binary l.height (below l.height) l.level l.fn.self.rest.now);
   height : l.left.height ≡ expr_height (expr_of l.left.tree.value);
   within : (0 < l.left.height) × (l.left.height ≤ l.height);
   shorter : length l.self.rest.now < length l.fn.self.rest.now;
@@ -81,7 +84,8 @@ decreases-binary-operators l = length l.self.rest.now
 
 abbrev pub invariant-postfix-suffixes : goal.invariant-postfix-suffixes
 invariant-postfix-suffixes l = record {
-  reads : Continues (suffix_step l.height (below l.height)) (expr_of l.base.tree.value) l.self.rest.now (read_postfix l.height (below l.height) l.fn.self.rest.now);
+  reads : Continues (suffix_step l.height (below l.height)) (expr_of l.base.tree.value) l.self.rest.now
+    (read_postfix l.height (below l.height) l.fn.self.rest.now);
   height : l.base.height ≡ expr_height (expr_of l.base.tree.value);
   within : (0 < l.base.height) × (l.base.height ≤ l.height);
   shorter : length l.self.rest.now < length l.fn.self.rest.now;
@@ -92,7 +96,8 @@ decreases-postfix-suffixes l = length l.self.rest.now
 
 abbrev pub invariant-arguments-values : goal.invariant-arguments-values
 invariant-arguments-values l = record {
-  reads : Continues (value_step (below l.height)) (values_of l.values) l.self.rest.now (read_arguments (below l.height) l.fn.self.rest.now);
+  reads : Continues (value_step (below l.height)) (values_of l.values) l.self.rest.now
+    (read_arguments (below l.height) l.fn.self.rest.now);
   height : l.values.height ≡ height_of_values l.values;
   within : l.values.height < l.height;
   shorter : length l.self.rest.now ≤ length l.fn.self.rest.now;
