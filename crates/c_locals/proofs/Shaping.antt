@@ -8,7 +8,8 @@ only_map f [] = refl
 only_map f (x ∷ []) = refl
 only_map f (x ∷ (y ∷ ys)) = refl
 
-pub one_argument_map : {A : Type 0} (f : A → Expr) (xs : List A) → one_argument (exprs_of (map f xs)) ≡ option_map f (only xs)
+pub one_argument_map : {A : Type 0} (f : A → Expr) (xs : List A)
+  → one_argument (exprs_of (map f xs)) ≡ option_map f (only xs)
 one_argument_map f [] = refl
 one_argument_map f (x ∷ []) = refl
 one_argument_map f (x ∷ (y ∷ ys)) = refl

@@ -7,7 +7,8 @@
 --
 -- Locals are numbered in the order of their declarations. Statements and declared items are numbered
 -- together from 0, in the order of the text.
-use Rattle.std.specs.Prelude.{◌≡◌, ◌<◌, ◌≤◌, ◌⊎◌, ℕ, suc, List, [], ◌∷◌, ◌++◌, length, map, position, Bool, true, false, ◌&&◌, not, is_some, nat_lt, Option, Some, None, codes}
+use Rattle.std.specs.Prelude.{◌≡◌, ◌<◌, ◌≤◌, ◌⊎◌, ℕ, suc, List, [], ◌∷◌, ◌++◌, length, map, position, Bool, true, false}
+use Rattle.std.specs.Prelude.{◌&&◌, not, is_some, nat_lt, Option, Some, None, codes}
 use Rattle.c_raw.specs.declared.operator.BinaryOp as raw
 use Rattle.c_raw.specs.declared.operator.BinaryOp.TheVariants as raw_ops
 use Rattle.c_grammar.specs.Expressions as trees
@@ -15,7 +16,8 @@ use Rattle.c_grammar.specs.Expressions.{Expr}
 use Rattle.c_grammar.specs.Statements.{ExternalTree, Stmts, NoStmt, OneStmt}
 use Rattle.c_tree.specs.declared.expression.BinaryOp.{BinaryOp}
 use Rattle.c_tree.specs.declared.expression.BinaryOp.TheVariants.{Add, Subtract}
-use Rattle.c_tree.specs.Program.{int, Expression, Constant, Read, Binary, Assign, Putchar, LocalPlace, Scalar, Statement, Declare, Evaluate, Return, Statements, Done, Next, Local, Function, Program}
+use Rattle.c_tree.specs.Program.{int, Expression, Constant, Read, Binary, Assign, Putchar, LocalPlace, Scalar}
+use Rattle.c_tree.specs.Program.{Statement, Declare, Evaluate, Return, Statements, Done, Next, Local, Function, Program}
 use Rattle.c_locals.specs.Shapes.{same, is_reserved, Rule, Declares, Assigns, Puts, Returns, Other, rule_of, main_items}
 
 -- ---- names, in the order of their declarations
@@ -27,7 +29,8 @@ local_named names name = position (λ (n : List ℕ). same name n) names
 -- a name may be declared: it is none of `main`, `putchar`, `getchar` and `exit`, it isn't declared yet
 -- (C99 6.2.1, 6.7), and there are at most 1,000 names
 abbrev pub may_declare : List (List ℕ) → List ℕ → Bool
-may_declare names name = not (is_reserved name) && (not (is_some (local_named names name)) && nat_lt (length names) 1000)
+may_declare names name = not (is_reserved name)
+  && (not (is_some (local_named names name)) && nat_lt (length names) 1000)
 
 -- ---- sums, over the names that are declared
 
@@ -39,14 +42,16 @@ sign_of op = None
 
 -- atom : name | number
 abbrev pub IsAtom : List (List ℕ) → Expr → Expression → Type 0
-IsAtom names (trees.Identifier name) x = (v : ℕ) × (local_named names name.name ≡ Some v) × (x ≡ Read int (LocalPlace v))
+IsAtom names (trees.Identifier name) x = (v : ℕ) × (local_named names name.name ≡ Some v)
+  × (x ≡ Read int (LocalPlace v))
 IsAtom names (trees.Number value at) x = x ≡ Constant value
 IsAtom names e x = ⊥
 
 -- sum : atom (('+' | '-') atom)*, grouped from the left (C99 6.5.6); an `int` (C99 6.3.1.8)
 abbrev pub IsSum : List (List ℕ) → Expr → Expression → Type 0
 IsSum names (trees.Binary op l at r) x =
-    (o : BinaryOp) × (a : Expression) × (b : Expression) × (sign_of op ≡ Some o) × IsSum names l a × IsAtom names r b × (x ≡ Binary int o a b)
+    (o : BinaryOp) × (a : Expression) × (b : Expression) × (sign_of op ≡ Some o) × IsSum names l a × IsAtom names r b
+      × (x ≡ Binary int o a b)
 IsSum names e x = IsAtom names e x
 
 -- how many atoms a sum has
@@ -65,10 +70,12 @@ IsShortSum names e x = (nat_lt (atoms e) 253 ≡ true) × IsSum names e x
 abbrev pub IsItem : List (List ℕ) → ℕ → Rule → List (List ℕ) → Statement → Type 0
 -- 'int' name '=' sum ';'
 IsItem names n (Declares name value) after t =
-    (x : Expression) × (may_declare names name ≡ true) × IsShortSum names value x × (after ≡ names ++ name ∷ []) × (t ≡ Declare (Scalar n (length names) (Some x)))
+    (x : Expression) × (may_declare names name ≡ true) × IsShortSum names value x × (after ≡ names ++ name ∷ [])
+      × (t ≡ Declare (Scalar n (length names) (Some x)))
 -- name '=' sum ';'
 IsItem names n (Assigns name value) after t =
-    (v : ℕ) × (x : Expression) × (local_named names name ≡ Some v) × IsShortSum names value x × (after ≡ names) × (t ≡ Evaluate n (Assign int (LocalPlace v) x))
+    (v : ℕ) × (x : Expression) × (local_named names name ≡ Some v) × IsShortSum names value x × (after ≡ names)
+      × (t ≡ Evaluate n (Assign int (LocalPlace v) x))
 -- 'putchar' '(' sum ')' ';'
 IsItem names n (Puts value) after t =
     (x : Expression) × IsShortSum names value x × (after ≡ names) × (t ≡ Evaluate n (Putchar x))
@@ -85,7 +92,8 @@ abbrev pub IsBody : List (List ℕ) → ℕ → Stmts → List (List ℕ) → St
 IsBody names n NoStmt all body = ⊥
 IsBody names n (OneStmt s ss) all body =
     ((t : Statement) × (ss ≡ NoStmt) × IsLast names n (rule_of s) t × (all ≡ names) × (body ≡ Next t Done))
-    ⊎ ((after : List (List ℕ)) × (t : Statement) × (others : Statements) × IsItem names n (rule_of s) after t × IsBody after (suc n) ss all others × (body ≡ Next t others))
+    ⊎ ((after : List (List ℕ)) × (t : Statement) × (others : Statements) × IsItem names n (rule_of s) after t
+      × IsBody after (suc n) ss all others × (body ≡ Next t others))
 
 -- ---- programs
 
@@ -117,4 +125,5 @@ main_program names body = record {
 -- statements.
 abbrev pub IsLocalsProgram : List ExternalTree → Program → Type 0
 IsLocalsProgram unit program =
-    (items : Stmts) × (names : List (List ℕ)) × (body : Statements) × (main_items unit ≡ Some items) × (nat_lt (count items) 10001 ≡ true) × IsBody [] 0 items names body × (program ≡ main_program names body)
+    (items : Stmts) × (names : List (List ℕ)) × (body : Statements) × (main_items unit ≡ Some items)
+      × (nat_lt (count items) 10001 ≡ true) × IsBody [] 0 items names body × (program ≡ main_program names body)

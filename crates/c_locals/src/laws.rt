@@ -7,5 +7,6 @@ ghost use Rattle.c_locals.specs.Form.{IsLocalsProgram};
 
 /// A unit is of one program at most.
 pub fn one_program()
-    ensures { (unit : List ExternalTree) → (p : Program) → (q : Program) → IsLocalsProgram unit p → IsLocalsProgram unit q → p ≡ q }
+    ensures { (unit : List ExternalTree) → (p : Program) → (q : Program) → IsLocalsProgram unit p
+        → IsLocalsProgram unit q → p ≡ q }
 {}

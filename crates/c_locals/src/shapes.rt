@@ -2,7 +2,8 @@
 
 ghost use Rattle.std.specs.Prelude.{◌≡◌, option_copied, option_map, codes, map};
 ghost use Rattle.c_grammar.specs.Expressions.{expr_of, exprs_of};
-ghost use Rattle.c_grammar.specs.Declarations.{declaration_of, item_of, initialiser_of, declarator_of, parameter_of, part_of};
+ghost use Rattle.c_grammar.specs.Declarations.{declaration_of, item_of, initialiser_of, declarator_of, parameter_of};
+ghost use Rattle.c_grammar.specs.Declarations.{part_of};
 ghost use Rattle.c_grammar.specs.Statements.{stmt_of, stmts_of, unit_of, external_of};
 ghost use Rattle.c_locals.specs.Shapes as shapes;
 ghost use Rattle.c_locals.specs.Views.{rule_view};

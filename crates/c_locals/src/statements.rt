@@ -44,7 +44,8 @@ fn declared(
     value: &RawExpression,
 ) -> Result<Option<Statement>, NoMemory>
     requires { length names.old ≤ 1000 }
-    ensures read { IfOk result (λ t. item_view names.new t ≡ read_item names.old number (shapes.Declares name.now (expr_of value.now))) }
+    ensures read { IfOk result (λ t. item_view names.new t
+        ≡ read_item names.old number (shapes.Declares name.now (expr_of value.now))) }
     ensures few { OnOk result (length names.new ≤ 1000) }
 {
     if !may_declare(names, name) {
@@ -67,7 +68,8 @@ fn assigned(
     value: &RawExpression,
 ) -> Result<Option<Statement>, NoMemory>
     requires { length names.now ≤ 1000 }
-    ensures { IfOk result (λ t. item_view names.now t ≡ read_item names.now number (shapes.Assigns name.now (expr_of value.now))) }
+    ensures { IfOk result (λ t. item_view names.now t
+        ≡ read_item names.now number (shapes.Assigns name.now (expr_of value.now))) }
 {
     let Some(local) = names.find(name) else {
         return Ok(None);
@@ -133,7 +135,8 @@ fn last(
     value: &RawExpression,
 ) -> Result<Option<Statement>, NoMemory>
     requires { length names.now ≤ 1000 }
-    ensures { IfOk result (λ t. option_map statement_of t ≡ returned number (read_short names.now (expr_of value.now))) }
+    ensures { IfOk result (λ t. option_map statement_of t
+        ≡ returned number (read_short names.now (expr_of value.now))) }
 {
     let Some(value) = short_sum(alloc, names, value)? else {
         return Ok(None);

@@ -6,16 +6,8 @@ ghost use Rattle.c_tree.specs.Sizes.{function_size};
 ghost use Rattle.flow_graph.specs.Running.{IsNeverStuck};
 ghost use Rattle.c_lower.specs.Code.{lowered, slot_graphs};
 ghost use Rattle.c_tree.specs.SlotForm.{IsSlotFunction, IsSlotProgram};
-ghost use Rattle.c_lower.specs.Lowering.{
-  AreLowered,
-  AreObjects,
-  AreSmall,
-  HasObjects,
-  KeepsOutcome,
-  MarksOnce,
-  NamesItsOwn,
-  graphs_of,
-};
+ghost use Rattle.c_lower.specs.Lowering.{AreLowered, AreObjects, AreSmall, HasObjects, KeepsOutcome, MarksOnce};
+ghost use Rattle.c_lower.specs.Lowering.{NamesItsOwn, graphs_of};
 
 use crate::blocks::graph_of;
 use crate::graphs::Graphs;
@@ -55,8 +47,9 @@ fn lower_program(alloc: Global, program: &Program) -> Result<Graphs, NoMemory>
     })
 }
 
-/// The graphs of a program of the form that is lowered so far (`specs/SlotForm.antt` of `c_tree`). The only refusal is want of
-/// memory. Nothing is folded or forwarded: each evaluated reading of a local is an op that uses its variable.
+/// The graphs of a program of the form that is lowered so far (`specs/SlotForm.antt` of `c_tree`). The only
+/// refusal is want of memory. Nothing is folded or forwarded: each evaluated reading of a local is an op that
+/// uses its variable.
 pub fn lower(alloc: Global, program: &Program) -> Result<Graphs, NoMemory>
     requires { IsSlotProgram (program_of program.now) }
 

@@ -1,7 +1,8 @@
 -- What a program does in a number of turns (C99 5.1.2.3, 6.5 and 6.8). A turn is each start of a loop's test
 -- or of a `do` body, and each call of a defined function, that of `main` included. Operands and arguments are
 -- evaluated from the left to the right.
-use Rattle.std.specs.Prelude.{ℕ, zero, suc, ◌+◌, ◌%◌, Bool, true, false, ℤ, pos, List, [], ◌∷◌, ◌++◌, length, map, replicate, slice_get, Option, Some, None, nat_le, if◌then◌else◌}
+use Rattle.std.specs.Prelude.{ℕ, zero, suc, ◌+◌, ◌%◌, Bool, true, false, ℤ, pos, List, [], ◌∷◌, ◌++◌, length, map}
+use Rattle.std.specs.Prelude.{replicate, slice_get, Option, Some, None, nat_le, if◌then◌else◌}
 use Rattle.std.specs.Int.{w32, cast_unsigned}
 use Rattle.std.specs.Ordering.{int_eq}
 use Rattle.pcc_base.specs.Outcome.{End, Ended, Trapped, Goes, ArrayName, Static, Listing, Outcome}
@@ -11,8 +12,15 @@ use Rattle.c_tree.specs.declared.expression.BinaryOp.TheVariants.{Add}
 use Rattle.c_tree.specs.declared.statement.Label.{Label}
 use Rattle.c_tree.specs.declared.types.ValueType.{ValueType}
 use Rattle.c_tree.specs.Operators.{Computed, Computes, Traps, is_true, unary_value, binary_value, step_op, step_result}
-use Rattle.c_tree.specs.Program.{Expression, Constant, Start, Read, Address, Unary, Binary, And, Or, Conditional, Cast, Assign, Update, Step, Comma, Call, Putchar, Getchar, Exit, Place, LocalPlace, StaticPlace, Target, Element, Arguments, NoMore, Argument, Initialiser, Elements, Text, Item, Scalar, Array, First, Nothing, Evaluated as EvaluatedFirst, Declared, Statement, Declare, Empty, Evaluate, Block, If, While, Do, For, Switch, Break, Continue, Return, Statements, Done, Next, Local, Function, Program}
-use Rattle.c_tree.specs.Store.{Held, HoldsNumber, HoldsPointer, in_type, zero_of, Activation, State, held, with_local, array_named, with_array, array_of, element_at, with_element, first_values, first_array, visited, Evaluated, Gives, Ends, and_then, take_turn}
+use Rattle.c_tree.specs.Program.{Expression, Constant, Start, Read, Address, Unary, Binary, And, Or, Conditional, Cast}
+use Rattle.c_tree.specs.Program.{Assign, Update, Step, Comma, Call, Putchar, Getchar, Exit, Place, LocalPlace}
+use Rattle.c_tree.specs.Program.{StaticPlace, Target, Element, Arguments, NoMore, Argument, Initialiser, Elements, Text}
+use Rattle.c_tree.specs.Program.{Item, Scalar, Array, First, Nothing, Evaluated as EvaluatedFirst, Declared, Statement}
+use Rattle.c_tree.specs.Program.{Declare, Empty, Evaluate, Block, If, While, Do, For, Switch, Break, Continue, Return}
+use Rattle.c_tree.specs.Program.{Statements, Done, Next, Local, Function, Program}
+use Rattle.c_tree.specs.Store.{Held, HoldsNumber, HoldsPointer, in_type, zero_of, Activation, State, held, with_local}
+use Rattle.c_tree.specs.Store.{array_named, with_array, array_of, element_at, with_element, first_values, first_array}
+use Rattle.c_tree.specs.Store.{visited, Evaluated, Gives, Ends, and_then, take_turn}
 
 -- ---- places
 
@@ -55,7 +63,8 @@ element_written array index value s (Some old) =
 
 abbrev pub store : Found → Held → State → Evaluated Held
 store (InLocal local) value s = Gives value (with_local local value s)
-store (InObject object) value s = element_written (Static object) (pos 0) value s (element_at (array_named s (Static object)) (pos 0))
+store (InObject object) value s = element_written (Static object) (pos 0) value s
+  (element_at (array_named s (Static object)) (pos 0))
 store (AtIndex array index) value s = element_written array index value s (element_at (array_named s array) index)
 
 -- ---- the outside (C99 7.19 and 7.20)
@@ -88,7 +97,8 @@ truth_value b = HoldsNumber (if b then pos 1 else pos 0)
 
 -- an assignment with an operator: the place is found and loaded, then comes the right side, then the store
 abbrev pub updated : ValueType → BinaryOp → Found → Held → Held → State → Evaluated Held
-updated of op found old value s = and_then (computed (binary_value op old value) s) (λ new s'. store found (in_type of new) s')
+updated of op found old value s = and_then (computed (binary_value op old value) s)
+  (λ new s'. store found (in_type of new) s')
 
 abbrev mutual
   pub evaluate : Calls → Expression → State → Evaluated Held
@@ -98,20 +108,30 @@ abbrev mutual
   evaluate calls (Address element place) s = and_then (locate calls place s) (λ found s'. Gives (address_of found) s')
   evaluate calls (Unary op e) s = and_then (evaluate calls e s) (λ v s'. Gives (unary_value op v) s')
   evaluate calls (Binary of op a b) s =
-      and_then (evaluate calls a s) (λ x s'. and_then (evaluate calls b s') (λ y s''. computed (binary_value op x y) s''))
+      and_then (evaluate calls a s) (λ x s'.
+        and_then (evaluate calls b s') (λ y s''. computed (binary_value op x y) s''))
   evaluate calls (And a b) s =
-      and_then (evaluate calls a s) (λ x s'. if is_true x then and_then (evaluate calls b s') (λ y s''. Gives (truth_value (is_true y)) s'') else Gives (truth_value false) s')
+      and_then (evaluate calls a s) (λ x s'. if is_true x
+        then and_then (evaluate calls b s') (λ y s''. Gives (truth_value (is_true y)) s'')
+        else Gives (truth_value false) s')
   evaluate calls (Or a b) s =
-      and_then (evaluate calls a s) (λ x s'. if is_true x then Gives (truth_value true) s' else and_then (evaluate calls b s') (λ y s''. Gives (truth_value (is_true y)) s''))
+      and_then (evaluate calls a s) (λ x s'. if is_true x then Gives (truth_value true) s'
+        else and_then (evaluate calls b s') (λ y s''. Gives (truth_value (is_true y)) s''))
   evaluate calls (Conditional of t a b) s =
-      and_then (evaluate calls t s) (λ v s'. and_then (if is_true v then evaluate calls a s' else evaluate calls b s') (λ x s''. Gives (in_type of x) s''))
+      and_then (evaluate calls t s) (λ v s'.
+        and_then (if is_true v then evaluate calls a s' else evaluate calls b s') (λ x s''. Gives (in_type of x) s''))
   evaluate calls (Cast to e) s = and_then (evaluate calls e s) (λ v s'. Gives (in_type to v) s')
   evaluate calls (Assign of place e) s =
-      and_then (locate calls place s) (λ found s'. and_then (evaluate calls e s') (λ v s''. store found (in_type of v) s''))
+      and_then (locate calls place s) (λ found s'.
+        and_then (evaluate calls e s') (λ v s''. store found (in_type of v) s''))
   evaluate calls (Update of op place e) s =
-      and_then (locate calls place s) (λ found s'. and_then (load found s') (λ old s''. and_then (evaluate calls e s'') (updated of op found old)))
+      and_then (locate calls place s) (λ found s'.
+        and_then (load found s') (λ old s''. and_then (evaluate calls e s'') (updated of op found old)))
   evaluate calls (Step of op place) s =
-      and_then (locate calls place s) (λ found s'. and_then (load found s') (λ old s''. and_then (updated of (step_op op) found old (HoldsNumber (pos 1)) s'') (λ new s'''. Gives (step_result op old new) s''')))
+      and_then (locate calls place s) (λ found s'.
+        and_then (load found s') (λ old s''.
+        and_then (updated of (step_op op) found old (HoldsNumber (pos 1)) s'')
+        (λ new s'''. Gives (step_result op old new) s''')))
   evaluate calls (Comma a b) s = and_then (evaluate calls a s) (λ x s'. evaluate calls b s')
   evaluate calls (Call of f arguments) s = and_then (evaluate_all calls arguments s) (calls f)
   evaluate calls (Putchar e) s = and_then (evaluate calls e s) put
@@ -123,7 +143,9 @@ abbrev mutual
   locate calls (StaticPlace k) s = Gives (InObject k) s
   locate calls (Target element e) s = and_then (evaluate calls e s) (λ v s'. Gives (target_of v) s')
   locate calls (Element element a i) s =
-      and_then (evaluate calls a s) (λ x s'. and_then (evaluate calls i s') (λ y s''. and_then (computed (binary_value Add x y) s'') (λ v s'''. Gives (target_of v) s''')))
+      and_then (evaluate calls a s) (λ x s'.
+        and_then (evaluate calls i s') (λ y s''.
+        and_then (computed (binary_value Add x y) s'') (λ v s'''. Gives (target_of v) s''')))
 
   pub evaluate_all : Calls → Arguments → State → Evaluated (List Held)
   evaluate_all calls NoMore s = Gives [] s
@@ -136,7 +158,8 @@ abbrev mutual
 abbrev pub fill : Calls → ArrayName → ℕ → List Expression → State → Evaluated Unit
 fill calls array i [] s = Gives tt s
 fill calls array i (e ∷ es) s =
-    and_then (evaluate calls e s) (λ v s'. and_then (store (AtIndex array (pos i)) v s') (λ stored s''. fill calls array (suc i) es s''))
+    and_then (evaluate calls e s) (λ v s'.
+      and_then (store (AtIndex array (pos i)) v s') (λ stored s''. fill calls array (suc i) es s''))
 
 -- a text's elements, and zeros after them
 abbrev pub text_then_zeros : List ℤ → List ℤ → List ℤ
@@ -146,13 +169,15 @@ text_then_zeros (n ∷ ns) (c ∷ cs) = c ∷ text_then_zeros ns cs
 
 abbrev pub initialise : Calls → ArrayName → Initialiser → State → Evaluated Unit
 initialise calls array (Elements first) s = fill calls array 0 first s
-initialise calls array (Text k) s = Gives tt (with_array array (text_then_zeros (array_named s array) (array_named s (Static k))) s)
+initialise calls array (Text k) s = Gives tt
+  (with_array array (text_then_zeros (array_named s array) (array_named s (Static k))) s)
 
 -- A local is 0 or null, and an array zero, each time its declaration runs, before its initialiser is
 -- evaluated.
 abbrev pub initialise_local : Calls → ℕ → ValueType → Option Expression → State → Evaluated Unit
 initialise_local calls local of None s = Gives tt s
-initialise_local calls local of (Some e) s = and_then (evaluate calls e s) (λ v s'. Gives tt (with_local local (in_type of v) s'))
+initialise_local calls local of (Some e) s = and_then (evaluate calls e s)
+  (λ v s'. Gives tt (with_local local (in_type of v) s'))
 
 abbrev pub zeroed : List ℤ → List ℤ
 zeroed elements = replicate (length elements) (pos 0)
@@ -167,13 +192,16 @@ own_array s k = ArrayName.InFrame k (length s.active)
 
 abbrev pub declare : Calls → Listing → Types → Item → State → Evaluated Unit
 declare calls listing types (Scalar number local value) s =
-    initialise_local calls local (types local) value (with_local local (zero_of (types local)) (visited listing number s))
+    initialise_local calls local (types local) value
+      (with_local local (zero_of (types local)) (visited listing number s))
 declare calls listing types (Array number k value) s =
-    initialise calls (own_array s k) value (with_array (own_array s k) (zeroed (array_named s (own_array s k))) (visited listing number s))
+    initialise calls (own_array s k) value
+      (with_array (own_array s k) (zeroed (array_named s (own_array s k))) (visited listing number s))
 
 abbrev pub declare_all : Calls → Listing → Types → List Item → State → Evaluated Unit
 declare_all calls listing types [] s = Gives tt s
-declare_all calls listing types (item ∷ items) s = and_then (declare calls listing types item s) (λ done s'. declare_all calls listing types items s')
+declare_all calls listing types (item ∷ items) s = and_then (declare calls listing types item s)
+  (λ done s'. declare_all calls listing types items s')
 
 -- ---- statements (C99 6.8)
 
@@ -212,13 +240,16 @@ after_switch (Returns value) s = Gives (Returns value) s
 abbrev pub loop : ℕ → (State → Evaluated Bool) → Runs → Runs → Runs
 loop zero test body after s = Ends Goes s
 loop (suc bound) test body after s =
-    take_turn s (λ s'. and_then (test s') (λ holds s''. if holds then and_then (body s'') (after_body (λ t. and_then (after t) (λ left t'. loop bound test body after t'))) else Gives Falls s''))
+    take_turn s (λ s'. and_then (test s') (λ holds s''. if holds
+      then and_then (body s'') (after_body (λ t. and_then (after t) (λ left t'. loop bound test body after t')))
+      else Gives Falls s''))
 
 -- A `do`: each start of its body takes a turn.
 abbrev pub do_loop : ℕ → (State → Evaluated Bool) → Runs → Runs
 do_loop zero test body s = Ends Goes s
 do_loop (suc bound) test body s =
-    take_turn s (λ s'. and_then (body s') (after_body (λ t. and_then (test t) (λ holds t'. if holds then do_loop bound test body t' else Gives Falls t'))))
+    take_turn s (λ s'. and_then (body s')
+      (after_body (λ t. and_then (test t) (λ holds t'. if holds then do_loop bound test body t' else Gives Falls t'))))
 
 abbrev pub tested : Calls → Expression → State → Evaluated Bool
 tested calls e s = and_then (evaluate calls e s) (λ v s'. Gives (is_true v) s')
@@ -235,7 +266,8 @@ evaluated_if_any calls (Some e) s = and_then (evaluate calls e s) (λ v s'. Give
 abbrev pub run_first : Calls → Listing → Types → First → Runs
 run_first calls listing types Nothing s = Gives Falls s
 run_first calls listing types (EvaluatedFirst e) s = and_then (evaluate calls e s) (λ v s'. Gives Falls s')
-run_first calls listing types (Declared items) s = and_then (declare_all calls listing types items s) (λ done s'. Gives Falls s')
+run_first calls listing types (Declared items) s = and_then (declare_all calls listing types items s)
+  (λ done s'. Gives Falls s')
 
 abbrev pub returned : ValueType → Calls → Option Expression → State → Evaluated Left
 returned result calls None s = Gives (Returns None) s
@@ -267,20 +299,28 @@ none_or_from (Some place) from s = from place s
 
 abbrev mutual
   pub execute : Calls → ℕ → Listing → Types → ValueType → Statement → Runs
-  execute calls bound listing types result (Declare item) s = and_then (declare calls listing types item s) (λ done s'. Gives Falls s')
+  execute calls bound listing types result (Declare item) s = and_then (declare calls listing types item s)
+    (λ done s'. Gives Falls s')
   execute calls bound listing types result (Empty n) s = Gives Falls (visited listing n s)
-  execute calls bound listing types result (Evaluate n e) s = and_then (evaluate calls e (visited listing n s)) (λ v s'. Gives Falls s')
+  execute calls bound listing types result (Evaluate n e) s = and_then (evaluate calls e (visited listing n s))
+    (λ v s'. Gives Falls s')
   execute calls bound listing types result (Block body) s = execute_from calls bound listing types result body 0 s
   execute calls bound listing types result (If n e a b) s =
-      and_then (tested calls e (visited listing n s)) (λ holds s'. if holds then execute calls bound listing types result a s' else execute calls bound listing types result b s')
+      and_then (tested calls e (visited listing n s)) (λ holds s'. if holds
+        then execute calls bound listing types result a s' else execute calls bound listing types result b s')
   execute calls bound listing types result (While n e body) s =
-      loop bound (tested calls e) (execute calls bound listing types result body) (λ t. Gives Falls t) (visited listing n s)
+      loop bound (tested calls e) (execute calls bound listing types result body)
+        (λ t. Gives Falls t) (visited listing n s)
   execute calls bound listing types result (Do n body e) s =
       do_loop bound (tested calls e) (execute calls bound listing types result body) (visited listing n s)
   execute calls bound listing types result (For n first test after body) s =
-      and_then (run_first calls listing types first (visited listing n s)) (λ done s'. loop bound (tested_if_any calls test) (execute calls bound listing types result body) (evaluated_if_any calls after) s')
+      and_then (run_first calls listing types first (visited listing n s))
+        (λ done s'. loop bound (tested_if_any calls test) (execute calls bound listing types result body)
+        (evaluated_if_any calls after) s')
   execute calls bound listing types result (Switch n e labels body) s =
-      and_then (evaluate calls e (visited listing n s)) (λ v s'. and_then (none_or_from (switched labels v) (execute_from calls bound listing types result body) s') after_switch)
+      and_then (evaluate calls e (visited listing n s))
+        (λ v s'. and_then (none_or_from (switched labels v)
+        (execute_from calls bound listing types result body) s') after_switch)
   execute calls bound listing types result (Break n) s = Gives Breaks (visited listing n s)
   execute calls bound listing types result (Continue n) s = Gives Continues (visited listing n s)
   execute calls bound listing types result (Return n value) s = returned result calls value (visited listing n s)
@@ -289,8 +329,10 @@ abbrev mutual
   pub execute_from : Calls → ℕ → Listing → Types → ValueType → Statements → ℕ → Runs
   execute_from calls bound listing types result Done place s = Gives Falls s
   execute_from calls bound listing types result (Next first others) zero s =
-      and_then (execute calls bound listing types result first s) (after_statement (execute_from calls bound listing types result others 0))
-  execute_from calls bound listing types result (Next first others) (suc place) s = execute_from calls bound listing types result others place s
+      and_then (execute calls bound listing types result first s)
+        (after_statement (execute_from calls bound listing types result others 0))
+  execute_from calls bound listing types result (Next first others)
+    (suc place) s = execute_from calls bound listing types result others place s
 
 -- ---- calls (C99 6.5.2.2) and programs
 
@@ -348,7 +390,8 @@ outcome_of (Ends end s) = outcome_at end s
 
 abbrev pub first_state : Program → List ℕ → ℕ → State
 first_state program input n =
-    record { turns = n; left = input; taken = 0; written = []; visits = []; objects = map (λ o. o.elements) program.objects; active = [] }
+    record { turns = n; left = input; taken = 0; written = []; visits = [];
+      objects = map (λ o. o.elements) program.objects; active = [] }
 
 -- the outcome of n turns of the program over an input, with the visits that a listing asks for
 abbrev pub source_outcome : Program → Listing → List ℕ → ℕ → Outcome

@@ -1,14 +1,19 @@
 -- What the operators give (C99 6.5.3 to 6.5.16). Sums, differences, products and negations wrap at 32 bits.
-use Rattle.std.specs.Prelude.{ℕ, ◌/◌, ◌%◌, ◌^◌, ◌==◌, Bool, true, false, ◌&&◌, not, ℤ, pos, negsuc, ◌+ℤ◌, ◌-ℤ◌, ◌*ℤ◌, neg_ℤ, int_lt, int_div, int_rem, if◌then◌else◌}
+use Rattle.std.specs.Prelude.{ℕ, ◌/◌, ◌%◌, ◌^◌, ◌==◌, Bool, true, false, ◌&&◌, not, ℤ, pos, negsuc, ◌+ℤ◌, ◌-ℤ◌, ◌*ℤ◌}
+use Rattle.std.specs.Prelude.{neg_ℤ, int_lt, int_div, int_rem, if◌then◌else◌}
 use Rattle.std.specs.Int.{w32, int_wrap, int_bit_and, int_bit_or, int_bit_xor, int_bit_not, cast_unsigned}
 use Rattle.std.specs.Ordering.{int_eq}
 use Rattle.pcc_base.specs.Outcome.{ArrayName, Null, Static, InFrame, Unknown}
 use Rattle.pcc_base.specs.declared.run.Trap.{Trap}
 use Rattle.pcc_base.specs.declared.run.Trap.TheVariants.{Divide, Check}
 use Rattle.c_tree.specs.declared.expression.BinaryOp.{BinaryOp}
-use Rattle.c_tree.specs.declared.expression.BinaryOp.TheVariants.{Multiply, Divide as Division, Remainder, Add, Subtract, ShiftLeft, ShiftRight, Less, Greater, LessOrEqual, GreaterOrEqual, Equal, NotEqual, BitAnd, BitXor, BitOr}
+use Rattle.c_tree.specs.declared.expression.BinaryOp.TheVariants.{Multiply, Divide as Division, Remainder, Add}
+use Rattle.c_tree.specs.declared.expression.BinaryOp.TheVariants.{Subtract, ShiftLeft, ShiftRight, Less, Greater}
+use Rattle.c_tree.specs.declared.expression.BinaryOp.TheVariants.{LessOrEqual, GreaterOrEqual, Equal, NotEqual, BitAnd}
+use Rattle.c_tree.specs.declared.expression.BinaryOp.TheVariants.{BitXor, BitOr}
 use Rattle.c_tree.specs.declared.expression.StepOp.{StepOp}
-use Rattle.c_tree.specs.declared.expression.StepOp.TheVariants.{PreIncrement, PreDecrement, PostIncrement, PostDecrement}
+use Rattle.c_tree.specs.declared.expression.StepOp.TheVariants.{PreIncrement, PreDecrement, PostIncrement}
+use Rattle.c_tree.specs.declared.expression.StepOp.TheVariants.{PostDecrement}
 use Rattle.c_tree.specs.declared.expression.UnaryOp.{UnaryOp}
 use Rattle.c_tree.specs.declared.expression.UnaryOp.TheVariants.{Plus, Minus, Complement, Not}
 use Rattle.c_tree.specs.Store.{Held, HoldsNumber, HoldsPointer}

@@ -3,7 +3,12 @@ use Rattle.std.specs.Prelude.{ℕ, suc, ◌+◌, ◌*◌, ◌/◌, max, List, []
 use Rattle.c_tree.specs.declared.types.IntegerType.{IntegerType}
 use Rattle.c_tree.specs.declared.types.IntegerType.TheVariants.{Char, Short, Int}
 use Rattle.c_tree.specs.declared.statement.Label.{Label}
-use Rattle.c_tree.specs.Program.{Expression, Constant, Start, Read, Address, Unary, Binary, And, Or, Conditional, Cast, Assign, Update, Step, Comma, Call, Putchar, Getchar, Exit, Place, LocalPlace, StaticPlace, Target, Element, Arguments, NoMore, Argument, Initialiser, Elements, Text, Item, Scalar, Array, First, Nothing, Evaluated, Declared, Statement, Declare, Empty, Evaluate, Block, If, While, Do, For, Switch, Break, Continue, Return, Statements, Done, Next, LocalArray, Function, Program}
+use Rattle.c_tree.specs.Program.{Expression, Constant, Start, Read, Address, Unary, Binary, And, Or, Conditional, Cast}
+use Rattle.c_tree.specs.Program.{Assign, Update, Step, Comma, Call, Putchar, Getchar, Exit, Place, LocalPlace}
+use Rattle.c_tree.specs.Program.{StaticPlace, Target, Element, Arguments, NoMore, Argument, Initialiser, Elements, Text}
+use Rattle.c_tree.specs.Program.{Item, Scalar, Array, First, Nothing, Evaluated, Declared, Statement, Declare, Empty}
+use Rattle.c_tree.specs.Program.{Evaluate, Block, If, While, Do, For, Switch, Break, Continue, Return, Statements, Done}
+use Rattle.c_tree.specs.Program.{Next, LocalArray, Function, Program}
 
 -- ---- sizes: how many expressions, places, statements, declared items, labels and functions there are. Each
 -- has a token of its own in the text.
@@ -65,7 +70,8 @@ abbrev mutual
   statement_size (If n e a b) = suc (expression_size e + statement_size a + statement_size b)
   statement_size (While n e s) = suc (expression_size e + statement_size s)
   statement_size (Do n s e) = suc (statement_size s + expression_size e)
-  statement_size (For n first test after s) = suc (first_size first + option_size test + option_size after + statement_size s)
+  statement_size (For n first test after s) = suc
+    (first_size first + option_size test + option_size after + statement_size s)
   statement_size (Switch n e labels body) = suc (expression_size e + length labels + statements_size body)
   statement_size (Break n) = 1
   statement_size (Continue n) = 1

@@ -6,7 +6,8 @@ use Rattle.std.specs.Prelude.{◌≡◌, ◌<◌, ◌≤◌, ℕ, suc, List, [],
 use Rattle.c_tree.specs.declared.expression.BinaryOp.TheVariants.{Add, Subtract}
 use Rattle.c_tree.specs.declared.types.IntegerType.TheVariants.{Int}
 use Rattle.c_tree.specs.declared.types.ValueType.TheVariants.{Integer}
-use Rattle.c_tree.specs.Program.{int, Expression, Constant, Read, Binary, Assign, Putchar, LocalPlace, Scalar, Statement, Declare, Evaluate, Return, Statements, Done, Next, Local, Function, Program}
+use Rattle.c_tree.specs.Program.{int, Expression, Constant, Read, Binary, Assign, Putchar, LocalPlace, Scalar}
+use Rattle.c_tree.specs.Program.{Statement, Declare, Evaluate, Return, Statements, Done, Next, Local, Function, Program}
 use Rattle.c_tree.specs.Sizes.{size_of}
 
 -- a sum of constants and locals, of which so many are declared
@@ -20,7 +21,8 @@ IsSum declared _ = ⊥
 -- the statements of a body from a number on, where so many of the locals are declared
 abbrev pub IsBody : ℕ → ℕ → ℕ → Statements → Type 0
 IsBody locals declared number (Next (Declare (Scalar n v (Some e))) others) =
-    (n ≡ number) × (v ≡ declared) × (declared < locals) × IsSum declared e × IsBody locals (suc declared) (suc number) others
+    (n ≡ number) × (v ≡ declared) × (declared < locals) × IsSum declared e
+      × IsBody locals (suc declared) (suc number) others
 IsBody locals declared number (Next (Evaluate n (Assign (Integer Int) (LocalPlace v) e)) others) =
     (n ≡ number) × (v < declared) × IsSum declared e × IsBody locals declared (suc number) others
 IsBody locals declared number (Next (Evaluate n (Putchar e)) others) =

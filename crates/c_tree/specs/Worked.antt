@@ -2,13 +2,15 @@
 use Rattle.std.specs.Prelude.{ℕ, zero, suc, ℤ, pos, List, [], ◌∷◌, codes, map, Some}
 use Rattle.pcc_base.specs.Outcome.{Listing, Number, Scalar as ScalarPart, Visit}
 use Rattle.c_tree.specs.declared.expression.BinaryOp.TheVariants.{Add, Subtract}
-use Rattle.c_tree.specs.Program.{int, Expression, Constant, Read, Binary, Assign, Putchar, LocalPlace, Scalar, Statements, Declare, Evaluate, Return, Done, Next, Local, Program}
+use Rattle.c_tree.specs.Program.{int, Expression, Constant, Read, Binary, Assign, Putchar, LocalPlace, Scalar}
+use Rattle.c_tree.specs.Program.{Statements, Declare, Evaluate, Return, Done, Next, Local, Program}
 
 -- a program that is a `main` with these locals and this body
 abbrev main_with : List Local → Statements → Program
 main_with locals body = record {
   objects = [];
-  functions = record { name = codes "main"; result = int; parameters = 0; locals = locals; arrays = []; body = body } ∷ [];
+  functions = record { name = codes "main"; result = int; parameters = 0; locals = locals;
+    arrays = []; body = body } ∷ [];
   main = 0;
 }
 

@@ -120,7 +120,8 @@ impl Statement {
     ) -> Result<Self, NoMemory>
         ensures { IfOk result (λ s.
             statement_of s
-            ≡ typed.For number (first_of first) (option_map expression_of test) (option_map expression_of after) (statement_of body)) }
+            ≡ typed.For number (first_of first) (option_map expression_of test)
+              (option_map expression_of after) (statement_of body)) }
     {
         Ok(Statement::For(number, first, test, after, Box::new(alloc, body)?))
     }

@@ -2,7 +2,8 @@
 use Rattle.std.proofs.Common.{ℕ, zero, suc, ◌≡◌, ◌≤◌, List, [], ◌∷◌, ◌++◌, length, Some, refl, arith}
 use Rattle.std.specs.List.{slice_get}
 use Rattle.flow_graph.specs.declared.op.Op.{Op}
-use Rattle.flow_graph.specs.Graphs.{Flow, Need, Variable, AnyWidth, SameWidth, FrameArray, Target, IsMet, needs, FitsOp, HasFittingOp, IsPlainAt, EndsOnlyLast, IsBlock}
+use Rattle.flow_graph.specs.Graphs.{Flow, Need, Variable, AnyWidth, SameWidth, FrameArray, Target, IsMet, needs, FitsOp}
+use Rattle.flow_graph.specs.Graphs.{HasFittingOp, IsPlainAt, EndsOnlyLast, IsBlock}
 use Rattle.flow_graph.proofs.Points.{every-map}
 
 -- what is in a list stays there
@@ -17,7 +18,8 @@ pub record Grows (f g : Flow) : Type 0 where
   pub ops : Keeps f.ops g.ops
 
 -- an element stays where elements come after it
-slice_get-append : {X : Type 0} (xs ys : List X) (k : ℕ) (x : X) → slice_get xs k ≡ Some x → slice_get (xs ++ ys) k ≡ Some x
+slice_get-append : {X : Type 0} (xs ys : List X) (k : ℕ) (x : X) → slice_get xs k ≡ Some x
+  → slice_get (xs ++ ys) k ≡ Some x
 slice_get-append [] ys k x e = absurd (cc)
 slice_get-append (y ∷ xs) ys zero x e = e
 slice_get-append (y ∷ xs) ys (suc k) x e = slice_get-append xs ys k x e
@@ -62,9 +64,11 @@ ends-grows xs ys h (p ∷ []) e = tt
 ends-grows xs ys h (p ∷ q ∷ ps) e = (plain-grows xs ys h p e.0, ends-grows xs ys h (q ∷ ps) e.1)
 
 -- what a block keeps
-pub block-grows : (f g : Flow) (homes more : List ℕ) → Grows f g → Keeps homes more → (b : ℕ) (ps : List ℕ) → IsBlock f homes b ps → IsBlock g more b ps
+pub block-grows : (f g : Flow) (homes more : List ℕ) → Grows f g → Keeps homes more → (b : ℕ) (ps : List ℕ)
+  → IsBlock f homes b ps → IsBlock g more b ps
 block-grows f g homes more h k b ps i = record {
-  at_home = every-map (λ p. slice_get homes p ≡ Some b) (λ p. slice_get more p ≡ Some b) (λ p e. k.kept p b e) ps i.at_home;
+  at_home = every-map (λ p. slice_get homes p ≡ Some b) (λ p. slice_get more p ≡ Some b)
+    (λ p e. k.kept p b e) ps i.at_home;
   fits = every-map (HasFittingOp f) (HasFittingOp g) (fitting-grows f g h) ps i.fits;
   once = i.once;
   ends = ends-grows f.ops g.ops h.ops ps i.ends;

@@ -1,7 +1,10 @@
 -- Which variables are live, by paths through a graph.
 use Rattle.std.specs.Prelude.{◌≡◌, ◌⊎◌, ℕ, zero, suc, List, [], ◌∷◌, slice_get, Option, Some, None}
 use Rattle.flow_graph.specs.declared.op.Op.{Op}
-use Rattle.flow_graph.specs.declared.op.Op.TheVariants.{Const, Copy, Wide, Low, Low16, Neg, Not, Add, Sub, Mul, And, Or, Xor, Shl, Sar, Div, Rem, Set, Frame, Static, Load, Store, Get, Put, Clear, Param, Call, Putchar, Getchar, Exit, Same, Mark, Turn, Jump, Branch, Return}
+use Rattle.flow_graph.specs.declared.op.Op.TheVariants.{Const, Copy, Wide, Low, Low16, Neg, Not, Add, Sub, Mul, And, Or}
+use Rattle.flow_graph.specs.declared.op.Op.TheVariants.{Xor, Shl, Sar, Div, Rem, Set, Frame, Static, Load, Store, Get}
+use Rattle.flow_graph.specs.declared.op.Op.TheVariants.{Put, Clear, Param, Call, Putchar, Getchar, Exit, Same, Mark}
+use Rattle.flow_graph.specs.declared.op.Op.TheVariants.{Turn, Jump, Branch, Return}
 use Rattle.flow_graph.specs.Graphs.{Flow, IsIn, points_of, following}
 
 abbrev pub if_any : Option ℕ → List ℕ
@@ -112,7 +115,8 @@ IsDefinedAt flow v point = (op : Op) × (slice_get flow.ops point ≡ Some op) �
 -- a path of n steps from the point reaches a use, with no definition before it
 abbrev pub ReachesUse : Flow → ℕ → ℕ → ℕ → Type 0
 ReachesUse flow v zero point = IsUsedAt flow v point
-ReachesUse flow v (suc n) point = (IsDefinedAt flow v point → ⊥) × (next : ℕ) × IsSuccessor flow point next × ReachesUse flow v n next
+ReachesUse flow v (suc n) point = (IsDefinedAt flow v point → ⊥) × (next : ℕ) × IsSuccessor flow point next
+  × ReachesUse flow v n next
 
 -- the variable is live before the point: some path from it reaches a use with no definition before that use
 abbrev pub IsLiveBefore : Flow → ℕ → ℕ → Type 0

@@ -1,6 +1,8 @@
 -- How a program of graphs runs, and its outcome in a number of turns.
-use Rattle.std.specs.Prelude.{◌≡◌, ◌≢◌, ℕ, zero, suc, Bool, true, false, ℤ, pos, List, [], ◌∷◌, map, Option, Some, None, option_map}
-use Rattle.pcc_base.specs.Outcome.{End, Goes, ArrayName, Unknown, Value, Number, Array, Part, Scalar, ArrayOf, IndexOf, Visit, Listing, Outcome, after_visits}
+use Rattle.std.specs.Prelude.{◌≡◌, ◌≢◌, ℕ, zero, suc, Bool, true, false, ℤ, pos, List, [], ◌∷◌, map, Option, Some, None}
+use Rattle.std.specs.Prelude.{option_map}
+use Rattle.pcc_base.specs.Outcome.{End, Goes, ArrayName, Unknown, Value, Number, Array, Part, Scalar, ArrayOf, IndexOf}
+use Rattle.pcc_base.specs.Outcome.{Visit, Listing, Outcome, after_visits}
 use Rattle.flow_graph.specs.declared.op.Op.{Op}
 use Rattle.flow_graph.specs.declared.op.Op.TheVariants as op
 use Rattle.flow_graph.specs.Meaning.{Moved, Moves, Halts, Stuck, step}
@@ -48,7 +50,8 @@ part_value s (IndexOf v) = Number (number_or_zero (number_at s v))
 
 -- the visit of a mark, with the values before it
 abbrev pub visits_at : Listing → State → Option Op → List Visit
-visits_at listing s (Some (op.Mark statement)) = record { statement = statement; values = map (part_value s) (listing statement) } ∷ []
+visits_at listing s (Some (op.Mark statement)) = record { statement = statement;
+  values = map (part_value s) (listing statement) } ∷ []
 visits_at listing s _ = []
 
 -- ---- the outcome
@@ -77,12 +80,14 @@ abbrev pub run_within : GraphProgram → Listing → ℕ → ℕ → State → O
 run_within program listing zero turns s = None
 run_within program listing (suc steps) turns s =
     with_turn (takes_turn (op_at program s)) turns s
-    (λ left. option_map (after_visits (visits_at listing s (op_at program s))) (outcome_from (step program s) s (run_within program listing steps left)))
+    (λ left. option_map (after_visits (visits_at listing s (op_at program s)))
+      (outcome_from (step program s) s (run_within program listing steps left)))
 
 -- this is the outcome of the program over an input in so many turns
 abbrev pub GraphOutcome : GraphProgram → Listing → List ℕ → ℕ → Outcome → Type 0
 GraphOutcome program listing input turns outcome =
-    (s : State) × (first_state program input ≡ Some s) × (steps : ℕ) × (run_within program listing steps turns s ≡ Some outcome)
+    (s : State) × (first_state program input ≡ Some s) × (steps : ℕ)
+      × (run_within program listing steps turns s ≡ Some outcome)
 
 -- ---- laws
 
@@ -94,7 +99,8 @@ OneOutcome =
 
 -- after so many steps there is one state
 abbrev pub OneState : Type 0
-OneState = (program : GraphProgram) (input : List ℕ) (k : ℕ) (s t : State) → GraphAt program input k s → GraphAt program input k t → s ≡ t
+OneState = (program : GraphProgram) (input : List ℕ) (k : ℕ) (s t : State) → GraphAt program input k s
+  → GraphAt program input k t → s ≡ t
 
 -- a program that has an outcome over each input in each number of turns is never stuck
 abbrev pub NeverStuckWithOutcomes : Type 0

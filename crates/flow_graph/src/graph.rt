@@ -1,5 +1,7 @@
 ghost use Rattle.std.specs.Prelude.{ℕ, ◌≡◌, ◌<◌, ◌≤◌, ◌⊎◌, List, length, slice_get, Some, false, MatchResult, ⊤};
-ghost use Rattle.flow_graph.specs.Graphs.{empty_flow, with_variable, with_array, with_block, with_op, with_op_after, without_point, FitsOp, IsEnded, IsPlaced, IsPlainAt, IsFlow, Stands, is_end, points_of, following};
+ghost use Rattle.flow_graph.specs.Graphs.{empty_flow, with_variable, with_array, with_block, with_op, with_op_after};
+ghost use Rattle.flow_graph.specs.Graphs.{without_point, FitsOp, IsEnded, IsPlaced, IsPlainAt, IsFlow, Stands, is_end};
+ghost use Rattle.flow_graph.specs.Graphs.{points_of, following};
 
 use crate::block::Block;
 use crate::op::Op;
@@ -123,7 +125,8 @@ impl Graph {
         requires no_end { is_end op ≡ false }
         requires fits { FitsOp self.old op }
         ensures { MatchResult result
-            (λ new. (new ≡ length self.old.ops) × ((block : ℕ) → Stands self.old point block → self.new ≡ with_op_after self.old block point op))
+            (λ new. (new ≡ length self.old.ops)
+              × ((block : ℕ) → Stands self.old point block → self.new ≡ with_op_after self.old block point op))
             (λ _. self.new ≡ self.old) }
     {
         self.ops.reserve(1)?;
