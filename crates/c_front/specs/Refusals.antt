@@ -3,7 +3,8 @@ use Rattle.std.specs.Prelude.{◌≡◌, ◌≤◌, ◌<◌, ◌⊎◌, ⊤, ℕ
 use Rattle.pcc_base.specs.declared.span.Span.{Span}
 use Rattle.pcc_base.specs.declared.fault.Fault.{Fault}
 use Rattle.pcc_base.specs.declared.fault.FaultKind.{FaultKind}
-use Rattle.pcc_base.specs.declared.fault.FaultKind.TheVariants.{BadByte, BadNumber, Unclosed, BadEscape, Syntax, Unsupported, TooDeep, NotYet}
+use Rattle.pcc_base.specs.declared.fault.FaultKind.TheVariants.{BadByte, BadNumber, Unclosed, BadEscape, Syntax}
+use Rattle.pcc_base.specs.declared.fault.FaultKind.TheVariants.{Unsupported, TooDeep, NotYet}
 use Rattle.pcc_base.specs.declared.refusal.Limit.TheVariants.{Tokens}
 use Rattle.pcc_base.specs.declared.refusal.Refusal.{Refusal}
 use Rattle.pcc_base.specs.declared.refusal.Refusal.TheVariants as refusals
