@@ -4,8 +4,23 @@ use Rattle.std.proofs.Math.Nat.{mul-le-mul_left}
 use Rattle.std.proofs.lemmas.List.{drop_more}
 use Rattle.std.proofs.lemmas.Bool.{cases_lt}
 use Rattle.c_lexer.specs.Bytes.{number_after, number_in, digit_worth}
+use Rattle.c_lexer.specs.declared.numbers.Radix.{Radix}
+use Rattle.c_lexer.specs.declared.numbers.Radix.TheVariants.{Octal, Decimal, Hexadecimal}
+use Rattle.c_lexer.specs.Radixes.{base_of}
 use Rattle.c_lexer.specs.Literals.{AllPass, StartsNot}
 use Rattle.c_lexer.specs.Characters.{front_of, HasFront}
+
+-- a base is no less than one
+pub base_above : (radix : Radix) → 0 < base_of radix
+base_above Octal = omega arith
+base_above Decimal = omega arith
+base_above Hexadecimal = omega arith
+
+-- a digit behind a number, by what the base and the digit are
+pub digit_read : (number base of worth digit next : ℕ) → base ≡ of → worth ≡ digit
+  → (number ≤ 255 → next ≡ number * base + worth) → number ≤ 255 → next ≡ number * of + digit
+digit_read number base of worth digit next e f is small =
+    is small ∙ ap (λ (b : ℕ). number * b + worth) e ∙ ap (λ (d : ℕ). number * of + d) f
 
 -- a number grows by the digits behind it
 number_grows : (base n : ℕ) (ds : List ℕ) → 0 < base → n ≤ number_after base n ds

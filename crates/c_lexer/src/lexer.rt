@@ -56,7 +56,9 @@ fn keep(tokens: &mut Vec<Token>, scanned: Scanned, at: Span, most: usize) -> Res
     requires counted { length tokens.old.items < 2 ^ 32 }
     ensures kept { IfOk result (λ _. tokens.new.items ≡ tokens.old.items ++ tokens_of (piece_of scanned) at) }
     ensures few { IfOk result (λ _. length tokens.new.items ≤ most) }
-    ensures refused { IfErr result (λ e. (e ≡ Refused) ⊎ ((e ≡ AboveLimit (Tokens (most + 1))) × (length (tokens.old.items ++ tokens_of (piece_of scanned) at) ≡ most + 1))) }
+    ensures refused { IfErr result (λ e. (e ≡ Refused)
+        ⊎ ((e ≡ AboveLimit (Tokens (most + 1)))
+        × (length (tokens.old.items ++ tokens_of (piece_of scanned) at) ≡ most + 1))) }
 {
     match scanned {
         Scanned::Space | Scanned::Comment | Scanned::Skipped => Ok(()),

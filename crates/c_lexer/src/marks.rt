@@ -1,4 +1,5 @@
-ghost use Rattle.std.specs.Prelude.{◌≡◌, ◌≢◌, ◌<◌, ◌≤◌, ◌∷◌, ◌++◌, ℕ, List, Bool, IsFalse, MatchOption, Contains, length, take};
+ghost use Rattle.std.specs.Prelude.{◌≡◌, ◌≢◌, ◌<◌, ◌≤◌, ◌∷◌, ◌++◌, ℕ, List, Bool, IsFalse, MatchOption, Contains};
+ghost use Rattle.std.specs.Prelude.{length, take};
 ghost use Rattle.std.specs.List.{AllByRecursion};
 ghost use Rattle.c_lexer.specs.Bytes.{is_letter, is_space};
 ghost use Rattle.c_lexer.specs.Literals.{StartsNumber};
@@ -176,7 +177,8 @@ fn longest_at(rest: &[u8]) -> Option<(usize, Punct)>
 /// The punctuator that begins the rest (C99 6.4.6), and None where none does or the rest begins with
 /// `%:`. The rest begins with no letter, white space, number, quote, `/` or `#`.
 pub fn mark_at(rest: &[u8]) -> Option<(usize, Scanned)>
-    requires byte { (b : ℕ) × (others : List ℕ) × (rest.now ≡ b ∷ others) × IsFalse (is_letter b) × IsFalse (is_space b) × (b ≢ 39) × (b ≢ 34) × (b ≢ 47) × (b ≢ 35) }
+    requires byte { (b : ℕ) × (others : List ℕ) × (rest.now ≡ b ∷ others) × IsFalse (is_letter b) × IsFalse (is_space b)
+        × (b ≢ 39) × (b ≢ 34) × (b ≢ 47) × (b ≢ 35) }
     requires number { StartsNumber rest.now → ⊥ }
     ensures { (fresh : Bool) → IsFound fresh rest.now result }
 {

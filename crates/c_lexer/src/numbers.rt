@@ -1,4 +1,5 @@
-ghost use Rattle.std.specs.Prelude.{◌≡◌, ◌≤◌, ◌<◌, ◌==◌, ◌&&◌, ◌||◌, ℕ, Bool, IsTrue, IsFalse, MatchOption, pos, length, take};
+ghost use Rattle.std.specs.Prelude.{◌≡◌, ◌≤◌, ◌<◌, ◌==◌, ◌&&◌, ◌||◌, ℕ, Bool, IsTrue, IsFalse, MatchOption, pos};
+ghost use Rattle.std.specs.Prelude.{length, take};
 ghost use Rattle.c_lexer.specs.Bytes.{is_digit, is_letter, digit_worth, number_in};
 ghost use Rattle.c_lexer.specs.Literals.{AllPass, StartsNumber, IsNumberText, IsConstant, is_exponent_letter};
 ghost use Rattle.c_lexer.specs.Radixes.{base_of, is_digit_of};
@@ -12,7 +13,7 @@ const LIMIT: u64 = 2_147_483_647;
 
 /// The base of an integer constant (C99 6.4.4.1).
 #[derive(Clone, Copy)]
-enum Radix {
+pub(crate) enum Radix {
     Octal,
     Decimal,
     Hexadecimal,
@@ -21,7 +22,8 @@ enum Radix {
 /// Whether a byte goes on with a preprocessing number behind another: a digit, a letter, a dot, or a sign
 /// behind the letter of an exponent (C99 6.4.8).
 fn goes_on(before: u8, b: u8) -> bool
-    ensures { result ≡ ((is_digit b || (is_letter b || b == 46)) || (is_exponent_letter before && (b == 43 || b == 45))) }
+    ensures { result ≡ ((is_digit b || (is_letter b || b == 46)) ||
+        (is_exponent_letter before && (b == 43 || b == 45))) }
 {
     match b {
         b'0'..=b'9' | b'A'..=b'Z' | b'a'..=b'z' | b'_' | b'.' => true,
@@ -49,8 +51,9 @@ fn number_length(rest: &[u8]) -> usize
 }
 
 /// What a digit of a base is worth, and None where the byte is no digit of it.
-fn worth_of(radix: Radix, b: u8) -> Option<u64>
-    ensures { MatchOption result (IsFalse (is_digit_of radix b)) (λ worth. IsTrue (is_digit_of radix b) × (worth ≡ digit_worth b) × (worth < 16)) }
+pub(crate) fn worth_of(radix: Radix, b: u8) -> Option<u64>
+    ensures { MatchOption result (IsFalse (is_digit_of radix b)) (λ worth. IsTrue (is_digit_of radix b)
+        × (worth ≡ digit_worth b) × (worth < 16)) }
 {
     match (radix, b) {
         (_, b'0'..=b'7') => Some(u64::from(b - b'0')),
@@ -64,7 +67,8 @@ fn worth_of(radix: Radix, b: u8) -> Option<u64>
 /// The number that digits spell in a base, and None where one is no digit of it or the number is above the
 /// limit.
 fn value_in(radix: Radix, digits: &[u8]) -> Option<i32>
-    ensures { MatchOption result (AllPass (is_digit_of radix) digits.now → number_in (base_of radix) digits.now ≤ 2147483647 → ⊥)
+    ensures { MatchOption result
+        (AllPass (is_digit_of radix) digits.now → number_in (base_of radix) digits.now ≤ 2147483647 → ⊥)
         (λ z. AllPass (is_digit_of radix) digits.now × (number_in (base_of radix) digits.now ≤ 2147483647)
         × (z ≡ pos (number_in (base_of radix) digits.now))) }
 {
@@ -81,7 +85,7 @@ fn value_in(radix: Radix, digits: &[u8]) -> Option<i32>
 }
 
 /// The base as a number.
-fn base_in(radix: Radix) -> u64
+pub(crate) fn base_in(radix: Radix) -> u64
     ensures value { result ≡ base_of radix }
     ensures small { result ≤ 16 }
 {
@@ -94,7 +98,8 @@ fn base_in(radix: Radix) -> u64
 
 /// The value of an integer constant (C99 6.4.4.1), and None where the text is no constant of the profile.
 fn constant_value(text: &[u8]) -> Option<i32>
-    ensures { MatchOption result ((value : ℕ) → IsConstant text.now value → ⊥) (λ z. (value : ℕ) × IsConstant text.now value × (z ≡ pos value)) }
+    ensures { MatchOption result ((value : ℕ) → IsConstant text.now value → ⊥) (λ z. (value : ℕ)
+        × IsConstant text.now value × (z ≡ pos value)) }
 {
     if text.is_empty() {
         return None;

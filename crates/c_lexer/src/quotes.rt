@@ -1,10 +1,14 @@
-ghost use Rattle.std.specs.Prelude.{◌≡◌, ◌<◌, ◌≤◌, ◌+◌, ◌*◌, ◌^◌, ◌⊎◌, nat_le, ◌∷◌, ◌==◌, if◌then◌else◌, ℕ, List, Bool, IsTrue, IfOk, MatchOption, length};
+ghost use Rattle.std.specs.Prelude.{◌≡◌, ◌<◌, ◌≤◌, ◌+◌, ◌*◌, ◌^◌, ◌⊎◌, nat_le, ◌∷◌, ◌==◌, if◌then◌else◌, ℕ, List, Bool};
+ghost use Rattle.std.specs.Prelude.{IfOk, MatchOption, length};
 ghost use Rattle.byteorder.specs.Endian.{twos_complement};
-ghost use Rattle.c_lexer.specs.Bytes.{is_octal_digit, is_hexadecimal_digit, digit_worth};
-ghost use Rattle.c_lexer.specs.Characters.{front_of, HasFront, value_in, read_escape, read_character, IsWithin, IsClosedBehind, IsNeverClosed};
+ghost use Rattle.c_lexer.specs.Bytes.{is_octal_digit};
+ghost use Rattle.c_lexer.specs.Radixes.{base_of, is_digit_of};
+ghost use Rattle.c_lexer.specs.Characters.{front_of, HasFront, value_in, read_escape, read_character, IsWithin};
+ghost use Rattle.c_lexer.specs.Characters.{IsClosedBehind, IsNeverClosed};
 ghost use Rattle.c_lexer.specs.Literals.{simple_escapes};
 ghost use Rattle.c_lexer.specs.Scans.{IsScan};
 
+use crate::numbers::{Radix, base_in, worth_of};
 use crate::scanner::Scanned;
 use crate::token::TokenKind;
 use pcc_base::{Name, NoMemory};
@@ -25,68 +29,33 @@ fn is_octal(b: u8) -> bool
     b >= b'0' && b <= b'7'
 }
 
-fn is_hexadecimal(b: u8) -> bool
-    ensures { result ≡ is_hexadecimal_digit b }
-{
-    (b >= b'0' && b <= b'9') || ((b >= b'A' && b <= b'F') || (b >= b'a' && b <= b'f'))
-}
-
-fn worth(b: u8) -> u8
-    requires { IsTrue (is_hexadecimal_digit b) }
-    ensures value { result ≡ digit_worth b }
-    ensures small { result < 16 }
-{
-    if b <= b'9' {
-        b - b'0'
-    } else if b <= b'F' {
-        b - b'7'
-    } else {
-        b - b'W'
-    }
-}
-
 /// A number behind one more digit of a base, or the number itself where it is above 255 already.
-fn appended(base: u32, number: u32, digit: u8) -> u32
+fn appended(base: u64, number: u64, worth: u64) -> u64
     requires base { base ≤ 16 }
-    requires digit { IsTrue (is_hexadecimal_digit digit) }
-    ensures small { number ≤ 255 → result ≡ number * base + digit_worth digit }
+    requires worth { worth < 16 }
+    ensures small { number ≤ 255 → result ≡ number * base + worth }
     ensures large { 255 < number → result ≡ number }
 {
     if number <= 255 {
-        number * base + u32::from(worth(digit))
+        number * base + worth
     } else {
         number
     }
 }
 
-/// The number of the octal digits at the front, or some number above 255 where it is above, and how many
+/// The number of the digits of a base at the front, or some number above 255 where it is above, and how many
 /// they are.
-fn octal_front(bytes: &[u8]) -> (u32, usize)
-    ensures front { HasFront 8 (front_of is_octal_digit bytes.now) result.0 result.1 }
+fn digits_front(radix: Radix, bytes: &[u8]) -> (u64, usize)
+    ensures front { HasFront (base_of radix) (front_of (is_digit_of radix) bytes.now) result.0 result.1 }
     ensures within { result.1 ≤ length bytes.now }
 {
+    let base = base_in(radix);
     let mut number = 0;
     for (count, b) in bytes.iter().enumerate() {
-        if !is_octal(*b) {
+        let Some(worth) = worth_of(radix, *b) else {
             return (number, count);
-        }
-        number = appended(8, number, *b);
-    }
-    (number, bytes.len())
-}
-
-/// The number of the hexadecimal digits at the front, or some number above 255 where it is above, and how
-/// many they are.
-fn hexadecimal_front(bytes: &[u8]) -> (u32, usize)
-    ensures front { HasFront 16 (front_of is_hexadecimal_digit bytes.now) result.0 result.1 }
-    ensures within { result.1 ≤ length bytes.now }
-{
-    let mut number = 0;
-    for (count, b) in bytes.iter().enumerate() {
-        if !is_hexadecimal(*b) {
-            return (number, count);
-        }
-        number = appended(16, number, *b);
+        };
+        number = appended(base, number, worth);
     }
     (number, bytes.len())
 }
@@ -112,9 +81,10 @@ fn simple_escape(letter: u8) -> Option<u8>
 }
 
 /// The character of an octal or hexadecimal escape with such a number and so many digits.
-fn coded(number: u32, count: usize, start: usize) -> Reading
+fn coded(number: u64, count: usize, start: usize) -> Reading
     requires { start + count < 2 ^ 64 }
-    ensures { result ≡ (if count == 0 then Reading.Faulty else (if nat_le number 255 then Reading.Character number (start + count) else Reading.Faulty)) }
+    ensures { result ≡ (if count == 0 then Reading.Faulty else
+        (if nat_le number 255 then Reading.Character number (start + count) else Reading.Faulty)) }
 {
     if count == 0 {
         Reading::Faulty
@@ -134,10 +104,10 @@ fn escape_at(bytes: &[u8]) -> Reading
         [] => Reading::Faulty,
         [letter, digits @ ..] => {
             if is_octal(*letter) {
-                let (number, count) = octal_front(&bytes[..bytes.len().min(3)]);
+                let (number, count) = digits_front(Radix::Octal, &bytes[..bytes.len().min(3)]);
                 coded(number, count, 1)
             } else if *letter == b'x' {
-                let (number, count) = hexadecimal_front(digits);
+                let (number, count) = digits_front(Radix::Hexadecimal, digits);
                 coded(number, count, 2)
             } else {
                 match simple_escape(*letter) {
@@ -173,7 +143,8 @@ fn character_at(quote: u8, text: &[u8]) -> Reading
 /// The values of the literal whose opening quote stands before the text, and how many bytes its inside
 /// has.
 fn inside_at(alloc: Global, quote: u8, text: &[u8]) -> Result<Option<(Vec<u8>, usize)>, NoMemory>
-    ensures { IfOk result (λ found. MatchOption found (IsNeverClosed quote text.now) (λ p. IsClosedBehind quote text.now p.0.items p.1)) }
+    ensures { IfOk result (λ found. MatchOption found (IsNeverClosed quote text.now)
+        (λ p. IsClosedBehind quote text.now p.0.items p.1)) }
 {
     let mut values = Vec::new(alloc);
     let mut left = text;

@@ -1,4 +1,5 @@
-ghost use Rattle.std.specs.Prelude.{◌≡◌, ◌≢◌, ◌≤◌, ◌<◌, ◌+◌, ◌==◌, ◌↔◌, ◌∷◌, ℕ, List, Bool, IsTrue, MatchOption, length, not, slice_index};
+ghost use Rattle.std.specs.Prelude.{◌≡◌, ◌≢◌, ◌≤◌, ◌<◌, ◌+◌, ◌==◌, ◌↔◌, ◌∷◌, ℕ, List, Bool, IsTrue, MatchOption};
+ghost use Rattle.std.specs.Prelude.{length, not, slice_index};
 ghost use Rattle.std.specs.List.{prefix_len};
 ghost use Rattle.c_lexer.specs.Bytes.{is_blank, is_space, is_word_byte};
 ghost use Rattle.c_lexer.specs.Pieces.{IsMarker};
