@@ -21,7 +21,7 @@ IsRead tree reads rest (Err e) = Refused reads e
 -- at least one specifier, and the tokens behind them
 abbrev pub AreSpecifiers : List Token → List Token → List Specifier → Type 0
 AreSpecifiers old new items = (s : Specifier) × (ss : List Specifier) × (items ≡ s ∷ ss)
-  × (take_specifiers old ≡ (s ∷ ss, new))
+    × (take_specifiers old ≡ (s ∷ ss, new))
 
 -- a fault where there is none
 abbrev pub NoSpecifiers : List Token → Refusal → Type 0

@@ -27,7 +27,7 @@ Refused reads NoMemory = Unit {0}
 -- an expression with its height, and the tokens behind it
 abbrev pub IsReading : Reads Expr → List Token → Result Found Refusal → Type 0
 IsReading reads rest (Ok f) = (reads ≡ Some (expr_of f.tree.value, rest))
-  × (f.height ≡ expr_height (expr_of f.tree.value))
+    × (f.height ≡ expr_height (expr_of f.tree.value))
 IsReading reads rest (Err e) = Refused reads e
 
 abbrev pub RefusedStep : {A : Type 0} → Step A → Refusal → Type 0
@@ -39,9 +39,9 @@ RefusedStep step NoMemory = Unit {0}
 abbrev pub IsTurn : ℕ → Step Expr → Expr → List Token → List Token → Result Turn Refusal → Type 0
 IsTurn height step was old new (Ok (More f)) =
     (step ≡ Goes (expr_of f.tree.value) new) × (f.height ≡ expr_height (expr_of f.tree.value)) × (0 < f.height)
-      × (f.height ≤ height) × (length new < length old)
+    × (f.height ≤ height) × (length new < length old)
 IsTurn height step was old new (Ok (Last f)) = (step ≡ Done) × (expr_of f.tree.value ≡ was)
-  × (f.height ≡ expr_height was) × (new ≡ old)
+    × (f.height ≡ expr_height was) × (new ≡ old)
 IsTurn height step was old new (Err e) = RefusedStep step e
 
 -- several values and the commas between them
@@ -57,11 +57,11 @@ AreValues reads rest (Err e) = Refused reads e
 
 -- one turn of a loop over values, of heights that are at most so much
 abbrev pub IsValuesTurn : ℕ → Step reading.Values → reading.Values → List Token → List Token
-  → Result ValuesTurn Refusal → Type 0
+    → Result ValuesTurn Refusal → Type 0
 IsValuesTurn height step was old new (Ok (MoreValues v)) =
     (step ≡ Goes (values_of v) new) × (v.height ≡ height_of_values v) × (v.height ≤ height) × (length new < length old)
 IsValuesTurn height step was old new (Ok (LastValues v)) = (step ≡ Done) × (values_of v ≡ was)
-  × (v.height ≡ height_of_values v) × (new ≡ old)
+    × (v.height ≡ height_of_values v) × (new ≡ old)
 IsValuesTurn height step was old new (Err e) = RefusedStep step e
 
 -- the readers for one less

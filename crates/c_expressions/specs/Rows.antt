@@ -7,4 +7,4 @@ use Rattle.c_grammar.proofs.Taking.{take_specifiers}
 -- at least one specifier
 abbrev pub BeginsWithSpecifier : List Token → Type 0
 BeginsWithSpecifier ts = (s : Specifier) × (ss : List Specifier) × (us : List Token)
-  × (take_specifiers ts ≡ (s ∷ ss, us))
+    × (take_specifiers ts ≡ (s ∷ ss, us))

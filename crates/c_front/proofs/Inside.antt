@@ -72,14 +72,19 @@ mutual
   expr (Number value at) = (tt, tt)
   expr (Text pieces) = texts pieces
   expr (Parenthesised o e c) = (tt, both (expr_tokens e) _ (expr e) (tt, tt))
-  expr (Call f o arguments commas c) = (tt,
-    (tt, both (exprs_tokens arguments commas) _ (exprs arguments commas) (tt, tt)))
+  expr (Call f o arguments commas c) = (
+    tt,
+    (tt, both (exprs_tokens arguments commas) _ (exprs arguments commas) (tt, tt)),
+  )
   expr (Index b o e c) = both (expr_tokens b) _ (expr b) (tt, both (expr_tokens e) _ (expr e) (tt, tt))
   expr (Postfix b op at) = both (expr_tokens b) _ (expr b) (tt, tt)
   expr (Prefix op at e) = (tt, expr e)
   expr (Unary op at e) = (tt, expr e)
-  expr (Cast o ss p c e) = (tt, both (specifiers_tokens ss) _ (specifiers ss)
-    (both (pointer_tokens p) _ (pointer p) (tt, expr e)))
+  expr (Cast o ss p c e) = (
+    tt,
+    both (specifiers_tokens ss) _ (specifiers ss)
+        (both (pointer_tokens p) _ (pointer p) (tt, expr e)),
+  )
   expr (Binary op l at r) = both (expr_tokens l) _ (expr l) (tt, expr r)
   expr (Conditional c q f k s) = both (expr_tokens c) _ (expr c) (tt, both (expr_tokens f) _ (expr f) (tt, expr s))
   expr (Assignment op l at r) = both (expr_tokens l) _ (expr l) (tt, expr r)
@@ -99,18 +104,20 @@ mutual
 
 -- further parts behind commas have none where each has none
 follow : {A : Type 0} (tokens : A → List Token) → ((x : A) → NoneUnsupported (tokens x))
-  → (xs : List A) (commas : List Span) → NoneUnsupported (followed tokens xs commas)
+    → (xs : List A) (commas : List Span) → NoneUnsupported (followed tokens xs commas)
 follow tokens each [] commas = tt
 follow tokens each (x ∷ xs) [] = tt
-follow tokens each (x ∷ xs) (at ∷ commas) = (tt,
-  both (tokens x) (followed tokens xs commas) (each x) (follow tokens each xs commas))
+follow tokens each (x ∷ xs) (at ∷ commas) = (
+  tt,
+  both (tokens x) (followed tokens xs commas) (each x) (follow tokens each xs commas),
+)
 
 -- parts with commas between them have none where each has none
 separate : {A : Type 0} (tokens : A → List Token) → ((x : A) → NoneUnsupported (tokens x))
-  → (xs : List A) (commas : List Span) → NoneUnsupported (separated tokens xs commas)
+    → (xs : List A) (commas : List Span) → NoneUnsupported (separated tokens xs commas)
 separate tokens each [] commas = tt
 separate tokens each (x ∷ xs) commas = both (tokens x) (followed tokens xs commas) (each x)
-  (follow tokens each xs commas)
+    (follow tokens each xs commas)
 
 -- an expression that may be missing has none
 maybe_expr : (e : Option Expr) → NoneUnsupported (maybe_expr_tokens e)
@@ -142,8 +149,11 @@ parameter p =
 part : (p : PartTree) → NoneUnsupported (part_tokens p)
 part Plain = tt
 part (Array a) = array a
-part (Function p) = (tt, both (separated parameter_tokens p.parameters p.commas) _
-  (separate parameter_tokens parameter p.parameters p.commas) (tt, tt))
+part (Function p) = (
+  tt,
+  both (separated parameter_tokens p.parameters p.commas) _
+      (separate parameter_tokens parameter p.parameters p.commas) (tt, tt),
+)
 
 -- a declarator has none
 declarator : (d : DeclaratorTree) → NoneUnsupported (declarator_tokens d)
@@ -157,9 +167,11 @@ maybe_comma (Some at) = (tt, tt)
 -- an initialiser has none
 initialiser : (i : InitialiserTree) → NoneUnsupported (initialiser_tokens i)
 initialiser (Single e) = expr e
-initialiser (Braces o values commas trailing c) =
-    (tt, both (exprs_tokens values commas) _ (exprs values commas)
-      (both (maybe_comma_tokens trailing) _ (maybe_comma trailing) (tt, tt)))
+initialiser (Braces o values commas trailing c) = (
+  tt,
+  both (exprs_tokens values commas) _ (exprs values commas)
+      (both (maybe_comma_tokens trailing) _ (maybe_comma trailing) (tt, tt)),
+)
 
 -- an initial value has none
 value : (v : Option ValueTree) → NoneUnsupported (value_tokens v)
@@ -190,7 +202,7 @@ labels (l ∷ ls) = both (label_tokens l) (labels_tokens ls) (label l) (labels l
 
 -- an expression in parentheses has none where what follows has none
 parens : (o : Span) (e : Expr) (c : Span) (behind : List Token) → NoneUnsupported behind
-  → NoneUnsupported (in_parens o e c behind)
+    → NoneUnsupported (in_parens o e c behind)
 parens o e c behind h = (tt, both (expr_tokens e) _ (expr e) (tt, h))
 
 mutual
@@ -202,18 +214,36 @@ mutual
   stmt (Simple e semicolon) = both (maybe_expr_tokens e) _ (maybe_expr e) (tt, tt)
   stmt (If at o e c s) = (refl, parens o e c (stmt_tokens s) (stmt s))
   stmt (IfElse at o e c s otherwise t) = (refl, parens o e c _ (both (stmt_tokens s) _ (stmt s) (refl, stmt t)))
-  stmt (Switch at o e c begin items end) = (refl,
-    parens o e c _ (tt, both (stmts_tokens items) _ (stmts items) (tt, tt)))
+  stmt (Switch at o e c begin items end) = (
+    refl,
+    parens o e c _ (tt, both (stmts_tokens items) _ (stmts items) (tt, tt)),
+  )
   stmt (While at o e c s) = (refl, parens o e c (stmt_tokens s) (stmt s))
   stmt (Do at s until o e c semicolon) = (refl, both (stmt_tokens s) _ (stmt s) (refl, parens o e c _ (tt, tt)))
-  stmt (For at o start first condition second step c s) =
-      (refl, (tt, both (maybe_expr_tokens start) _ (maybe_expr start) (tt,
-        both (maybe_expr_tokens condition) _ (maybe_expr condition) (tt,
-        both (maybe_expr_tokens step) _ (maybe_expr step) (tt, stmt s)))))
-  stmt (ForDeclaration at o start condition second step c s) =
-      (refl, (tt, both (declaration_tokens start) _ (declaration start)
-        (both (maybe_expr_tokens condition) _ (maybe_expr condition) (tt,
-        both (maybe_expr_tokens step) _ (maybe_expr step) (tt, stmt s)))))
+  stmt (For at o start first condition second step c s) = (
+    refl,
+    (
+      tt,
+      both (maybe_expr_tokens start) _ (maybe_expr start) (
+        tt,
+        both (maybe_expr_tokens condition) _ (maybe_expr condition) (
+          tt,
+          both (maybe_expr_tokens step) _ (maybe_expr step) (tt, stmt s),
+        ),
+      ),
+    ),
+  )
+  stmt (ForDeclaration at o start condition second step c s) = (
+    refl,
+    (
+      tt,
+      both (declaration_tokens start) _ (declaration start)
+          (both (maybe_expr_tokens condition) _ (maybe_expr condition) (
+            tt,
+            both (maybe_expr_tokens step) _ (maybe_expr step) (tt, stmt s),
+          )),
+    ),
+  )
   stmt (Break at semicolon) = (refl, (tt, tt))
   stmt (Continue at semicolon) = (refl, (tt, tt))
   stmt (Return at e semicolon) = (refl, both (maybe_expr_tokens e) _ (maybe_expr e) (tt, tt))

@@ -77,7 +77,7 @@ IsSpelled t = SpelledKind t.kind
 
 -- the token of a piece is spelled so
 piece_spelled : (fresh : Bool) (rest : List ℕ) (n : ℕ) (piece : Piece) (at : Span) → IsPiece fresh rest n piece
-  → AllAre IsSpelled (tokens_of piece at)
+    → AllAre IsSpelled (tokens_of piece at)
 piece_spelled fresh rest n Space at h = tt
 piece_spelled fresh rest n Comment at h = tt
 piece_spelled fresh rest n Skipped at h = tt
@@ -94,12 +94,12 @@ joined (t ∷ ts) b h g = (h.0, joined ts b h.1 g)
 
 -- all tokens of a text are spelled so
 leads_spelled : (k : ℕ) (from : Reached) (tokens : List Token) (to : Reached) → Leads k from tokens to
-  → AllAre IsSpelled tokens
+    → AllAre IsSpelled tokens
 leads_spelled zero from tokens to h = subst (AllAre IsSpelled) (sym h.1) tt
 leads_spelled (suc k) from tokens to h =
     subst (AllAre IsSpelled) (sym h.4)
     (joined (tokens_of h.1 from.at) h.3 (piece_spelled from.fresh from.rest h.0 h.1 from.at h.2.is)
-      (leads_spelled k (behind from h.0 h.1) h.3 to h.5))
+    (leads_spelled k (behind from h.0 h.1) h.3 to h.5))
 
 -- ---- the names of a unit
 
@@ -138,7 +138,7 @@ value_named name (Braces o values commas trailing c) h = tt
 
 -- so does what stands behind the name
 part_named : (name : List ℕ) (part : PartTree) (value : Option ValueTree) → IsName name
-  → IsNamedRule (part_rule name part value)
+    → IsNamedRule (part_rule name part value)
 part_named name Plain None h = tt
 part_named name Plain (Some v) h = value_named name v.value h
 part_named name (Array a) value h = tt
@@ -146,27 +146,27 @@ part_named name (Function p) value h = tt
 
 -- the name of a declared item is one of its tokens
 item_named : (i : ItemTree) (others : List Token) → AllAre IsSpelled (item_tokens i ++ others)
-  → IsNamedRule (item_rule (Some i))
+    → IsNamedRule (item_rule (Some i))
 item_named i others h =
     let declarator : AllAre IsSpelled (declarator_tokens i.declarator) = front (declarator_tokens i.declarator) _ (front (item_tokens i) others h) in
     let name : IsName i.declarator.name.name = (back (pointer_tokens i.declarator.pointer) _ declarator).0 in
     where_false (is_some i.declarator.pointer) (part_rule i.declarator.name.name i.declarator.part i.initialiser)
-      (part_named i.declarator.name.name i.declarator.part i.initialiser name)
+    (part_named i.declarator.name.name i.declarator.part i.initialiser name)
 
 -- the same of the only item of a declaration
 items_named : (is : List ItemTree) (commas : List Span) → AllAre IsSpelled (separated item_tokens is commas)
-  → IsNamedRule (item_rule (only is))
+    → IsNamedRule (item_rule (only is))
 items_named [] commas h = tt
 items_named (i ∷ []) commas h = item_named i _ h
 items_named (i ∷ (j ∷ js)) commas h = tt
 
 -- a declaration of the form declares a name
 declaration_named : (d : DeclarationTree) → AllAre IsSpelled (stmt_tokens (Declared d))
-  → IsNamedRule (rule_of (Declared d))
+    → IsNamedRule (rule_of (Declared d))
 declaration_named d h =
     where_true (is_int d.specifiers) (item_rule (only d.items))
     (items_named d.items d.commas (front (separated item_tokens d.items d.commas) _
-      (back (specifiers_tokens d.specifiers) _ h)))
+    (back (specifiers_tokens d.specifiers) _ h)))
 
 -- an assignment declares none
 assigns_named : (left : Expr) (value : Expr) → IsNamedRule (assigns (variable left) value)
@@ -182,9 +182,9 @@ puts_named (OneExpr e (OneExpr f es)) = tt
 -- no expression declares one
 expression_named : (e : Expr) → IsNamedRule (expression_rule e)
 expression_named (trees.Assignment op left at value) = where_true (is_plain op) (assigns (variable left) value)
-  (assigns_named left value)
+    (assigns_named left value)
 expression_named (trees.Call f o arguments commas c) = where_true _ (puts (one_argument arguments))
-  (puts_named arguments)
+    (puts_named arguments)
 expression_named e = tt
 
 -- what a statement declares is a name
@@ -198,13 +198,13 @@ statement_named s h = tt
 
 -- a name behind names
 named_more : (names : List (List ℕ)) (name : List ℕ) → AllAre IsName names → IsName name
-  → AllAre IsName (names ++ name ∷ [])
+    → AllAre IsName (names ++ name ∷ [])
 named_more [] name h g = (g, tt)
 named_more (n ∷ ns) name h g = (h.0, named_more ns name h.1 g)
 
 -- the names behind a statement of the form are names
 item_names : (names : List (List ℕ)) (n : ℕ) (rule : Rule) (after : List (List ℕ)) (t : Statement)
-  → IsItem names n rule after t → IsNamedRule rule → AllAre IsName names → AllAre IsName after
+    → IsItem names n rule after t → IsNamedRule rule → AllAre IsName names → AllAre IsName after
 item_names names n (Declares name value) after t h named all = subst (AllAre IsName) (sym h.3) (named_more names name all named)
 item_names names n (Assigns name value) after t h named all = subst (AllAre IsName) (sym h.4) all
 item_names names n (Puts value) after t h named all = subst (AllAre IsName) (sym h.2) all
@@ -213,17 +213,17 @@ item_names names n Other after t h named all = absurd h
 
 -- all that a body declares are names
 body_names : (ss : Stmts) (names : List (List ℕ)) (n : ℕ) (all : List (List ℕ)) (body : Statements)
-  → IsBody names n ss all body → AllAre IsSpelled (stmts_tokens ss) → AllAre IsName names → AllAre IsName all
+    → IsBody names n ss all body → AllAre IsSpelled (stmts_tokens ss) → AllAre IsName names → AllAre IsName all
 body_names NoStmt names n all body h spelled named = absurd h
 body_names (OneStmt s ss) names n all body (inl h) spelled named = subst (AllAre IsName) (sym h.3) named
 body_names (OneStmt s ss) names n all body (inr h) spelled named =
     body_names ss h.0 (suc n) all h.2 h.4 (back (stmt_tokens s) (stmts_tokens ss) spelled)
     (item_names names n (rule_of s) h.0 h.1 h.3
-      (statement_named s (front (stmt_tokens s) (stmts_tokens ss) spelled)) named)
+    (statement_named s (front (stmt_tokens s) (stmts_tokens ss) spelled)) named)
 
 -- the statements in a block are of tokens that the block has
 block_spelled : (s : Stmt) (items : Stmts) → block_items s ≡ Some items → AllAre IsSpelled (stmt_tokens s)
-  → AllAre IsSpelled (stmts_tokens items)
+    → AllAre IsSpelled (stmts_tokens items)
 block_spelled (Block o body c) items e h =
     let same_items : body ≡ items = cc in
     subst (λ (ss : Stmts). AllAre IsSpelled (stmts_tokens ss)) same_items (front (stmts_tokens body) _ h.1)
@@ -236,19 +236,19 @@ if_some false o x e = absurd (cc)
 
 -- the statements of `main` are of tokens that the unit has
 unit_spelled : (unit : List ExternalTree) (items : Stmts) → main_items unit ≡ Some items
-  → AllAre IsSpelled (unit_tokens unit) → AllAre IsSpelled (stmts_tokens items)
+    → AllAre IsSpelled (unit_tokens unit) → AllAre IsSpelled (stmts_tokens items)
 unit_spelled [] items e h = absurd (cc)
 unit_spelled (FunctionTree specifiers d body ∷ []) items e h =
     block_spelled body items (if_some _ (block_items body) items e)
     (back (declarator_tokens d) (stmt_tokens body)
-      (back (specifiers_tokens specifiers) _
-      (front (specifiers_tokens specifiers ++ (declarator_tokens d ++ stmt_tokens body)) [] h)))
+    (back (specifiers_tokens specifiers) _
+    (front (specifiers_tokens specifiers ++ (declarator_tokens d ++ stmt_tokens body)) [] h)))
 unit_spelled (DeclaredTree d ∷ []) items e h = absurd (cc)
 unit_spelled (x ∷ (y ∷ ys)) items e h = absurd (cc)
 
 -- locals have the names that they are declared with
 local_names : (names : List (List ℕ)) → AllAre IsName names
-  → AllAre (λ (l : Local). IsName l.name) (map int_local names)
+    → AllAre (λ (l : Local). IsName l.name) (map int_local names)
 local_names [] h = tt
 local_names (name ∷ names) h = (h.0, local_names names h.1)
 
@@ -258,7 +258,7 @@ main_name = name_of_word 109 (97 ∷ 105 ∷ 110 ∷ []) refl (refl, (refl, (ref
 
 -- the names of a program of the form are those of its tokens
 unit_names : (unit : List ExternalTree) (p : Program) → IsLocalsProgram unit p → AllAre IsSpelled (unit_tokens unit)
-  → AllAre IsNamed p.functions
+    → AllAre IsNamed p.functions
 unit_names unit p h spelled =
     let named : AllAre IsName h.1 = body_names h.0 [] 0 h.1 h.2 h.5 (unit_spelled unit h.0 h.3 spelled) tt in
     subst (λ (q : Program). AllAre IsNamed q.functions) (sym h.6) ((main_name, local_names h.1 named), tt)

@@ -13,13 +13,13 @@ use Rattle.c_front.specs.Refusals.{HasLexicalFault, IsFaultOfKind, IsSourceRefus
 
 -- a quote begins one of two faults
 quoted : (P : FaultKind → Type 0) (closed : Bool) → P Unclosed → P BadEscape
-  → P (if closed then BadEscape else Unclosed)
+    → P (if closed then BadEscape else Unclosed)
 quoted P true unclosed escape = escape
 quoted P false unclosed escape = unclosed
 
 -- a lexical fault is of four kinds
 four_kinds : (P : FaultKind → Type 0) (rest : List ℕ) (kind : FaultKind) → IsFaultOf rest kind → P BadByte → P BadNumber
-  → P Unclosed → P BadEscape → P kind
+    → P Unclosed → P BadEscape → P kind
 four_kinds P [] kind h byte number unclosed escape = absurd h
 four_kinds P (b ∷ rest) kind (inl h) byte number unclosed escape = subst P (sym h.1) unclosed
 four_kinds P (b ∷ rest) kind (inr (inl h)) byte number unclosed escape = subst P (sym h.1) (quoted P (is_closed b rest) unclosed escape)

@@ -18,7 +18,7 @@ base_above Hexadecimal = omega arith
 
 -- a digit behind a number, by what the base and the digit are
 pub digit_read : (number base of worth digit next : ℕ) → base ≡ of → worth ≡ digit
-  → (number ≤ 255 → next ≡ number * base + worth) → number ≤ 255 → next ≡ number * of + digit
+    → (number ≤ 255 → next ≡ number * base + worth) → number ≤ 255 → next ≡ number * of + digit
 digit_read number base of worth digit next e f is small =
     is small ∙ ap (λ (b : ℕ). number * b + worth) e ∙ ap (λ (d : ℕ). number * of + d) f
 

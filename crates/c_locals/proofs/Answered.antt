@@ -19,22 +19,22 @@ use Rattle.c_locals.proofs.Frames.{small_frames}
 use Rattle.std.proofs.Common.{arith}
 
 pub found_program : (r : Result (Option Built) NoMemory) (unit : List ExternalTree)
-  → IfOk r (λ o. option_map program_of o ≡ read_unit unit)
-  → IfOk r (λ o. IfSome o (λ p. IsLocalsProgram unit (program_of p)))
+    → IfOk r (λ o. option_map program_of o ≡ read_unit unit)
+    → IfOk r (λ o. IfSome o (λ p. IsLocalsProgram unit (program_of p)))
 found_program (Ok (Some p)) unit e = unit_reads unit (program_of p) (sym e)
 found_program (Ok None) unit e = tt
 found_program (Err e) unit h = tt
 
 pub no_program : (r : Result (Option Built) NoMemory) (unit : List ExternalTree)
-  → IfOk r (λ o. option_map program_of o ≡ read_unit unit)
-  → IfOk r (λ o. IfNone o ((p : Program) → ¬ IsLocalsProgram unit p))
+    → IfOk r (λ o. option_map program_of o ≡ read_unit unit)
+    → IfOk r (λ o. IfNone o ((p : Program) → ¬ IsLocalsProgram unit p))
 no_program (Ok (Some p)) unit e = tt
 no_program (Ok None) unit e = none_read unit (sym e)
 no_program (Err e) unit h = tt
 
 pub sized_program : (r : Result (Option Built) NoMemory) (unit : List ExternalTree)
-  → IfOk r (λ o. option_map program_of o ≡ read_unit unit)
-  → IfOk r (λ o. IfSome o (λ p. size_of (program_of p) ≤ length (unit_tokens unit)))
+    → IfOk r (λ o. option_map program_of o ≡ read_unit unit)
+    → IfOk r (λ o. IfSome o (λ p. size_of (program_of p) ≤ length (unit_tokens unit)))
 sized_program (Ok (Some p)) unit e = program_size unit (program_of p) (unit_reads unit (program_of p) (sym e))
 sized_program (Ok None) unit e = tt
 sized_program (Err e) unit h = tt
@@ -43,18 +43,18 @@ few_tokens : (a b c : ℕ) → a ≤ b → b ≤ c → a ≤ c
 few_tokens a b c l m = omega arith
 
 pub accepted_program : (r : Result (Option Built) NoMemory) (unit : List ExternalTree)
-  → IfOk r (λ o. option_map program_of o ≡ read_unit unit)
-  → IfOk r (λ o. IfSome o (λ p. length (unit_tokens unit) ≤ 65536 → IsSlotProgram (program_of p)))
+    → IfOk r (λ o. option_map program_of o ≡ read_unit unit)
+    → IfOk r (λ o. IfSome o (λ p. length (unit_tokens unit) ≤ 65536 → IsSlotProgram (program_of p)))
 accepted_program (Ok (Some p)) unit e =
     λ few. slot_program unit (program_of p) (unit_reads unit (program_of p) (sym e))
     (few_tokens (size_of (program_of p)) (length (unit_tokens unit)) 65536
-      (program_size unit (program_of p) (unit_reads unit (program_of p) (sym e))) few)
+    (program_size unit (program_of p) (unit_reads unit (program_of p) (sym e))) few)
 accepted_program (Ok None) unit e = tt
 accepted_program (Err e) unit h = tt
 
 pub framed_program : (r : Result (Option Built) NoMemory) (unit : List ExternalTree)
-  → IfOk r (λ o. option_map program_of o ≡ read_unit unit)
-  → IfOk r (λ o. IfSome o (λ p. AllAre (λ (f : Function). frame_bound f ≤ 16384) (program_of p).functions))
+    → IfOk r (λ o. option_map program_of o ≡ read_unit unit)
+    → IfOk r (λ o. IfSome o (λ p. AllAre (λ (f : Function). frame_bound f ≤ 16384) (program_of p).functions))
 framed_program (Ok (Some p)) unit e = small_frames unit (program_of p) (unit_reads unit (program_of p) (sym e))
 framed_program (Ok None) unit e = tt
 framed_program (Err e) unit h = tt

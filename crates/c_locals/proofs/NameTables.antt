@@ -12,7 +12,7 @@ use Rattle.c_tree.specs.Erased.{local_of}
 use Rattle.c_locals.specs.Form.{local_named, int_local}
 
 position_or_len-map : {X Y : Type 0} (h : X → Y) (p : Y → Bool) (xs : List X)
-  → position_or_len p (map h xs) ≡ position_or_len (λ x. p (h x)) xs
+    → position_or_len p (map h xs) ≡ position_or_len (λ x. p (h x)) xs
 position_or_len-map h p [] = refl
 position_or_len-map h p (x ∷ xs) = ap (λ n. cond (not (p (h x))) (1 + n) 0) (position_or_len-map h p xs)
 
@@ -22,15 +22,15 @@ length-mapped h (x ∷ xs) = ap suc (length-mapped h xs)
 
 -- the first place in a list of images
 pub position-map : {X Y : Type 0} (h : X → Y) (p : Y → Bool) (xs : List X)
-  → position p (map h xs) ≡ position (λ x. p (h x)) xs
+    → position p (map h xs) ≡ position (λ x. p (h x)) xs
 position-map h p xs =
     ap (λ (i : ℕ). cond (nat_lt i (length (map h xs))) (Some i) None) (position_or_len-map h p xs)
     ∙ ap (λ (n : ℕ). cond (nat_lt (position_or_len (λ x. p (h x)) xs) n)
-      (Some (position_or_len (λ x. p (h x)) xs)) None) (length-mapped h xs)
+    (Some (position_or_len (λ x. p (h x)) xs)) None) (length-mapped h xs)
 
 none_here : {X : Type 0} (p : X → Bool) (x : X) (xs : List X) (b : Bool) → p x ≡ b
-  → (length xs ≤ position_or_len p xs → list_any p xs ≡ false) → length (x ∷ xs) ≤ position_or_len p (x ∷ xs)
-  → (p x || list_any p xs) ≡ false
+    → (length xs ≤ position_or_len p xs → list_any p xs ≡ false) → length (x ∷ xs) ≤ position_or_len p (x ∷ xs)
+    → (p x || list_any p xs) ≡ false
 none_here p x xs true e ih le = absurd (let z : position_or_len p (x ∷ xs) ≡ 0 = ap (λ b. cond (not b) (1 + position_or_len p xs) 0) e in omega (arith, le, z))
 none_here p x xs false e ih le =
     let s : position_or_len p (x ∷ xs) ≡ 1 + position_or_len p xs = ap (λ b. cond (not b) (1 + position_or_len p xs) 0) e in
@@ -53,29 +53,29 @@ map-push h (y ∷ ys) x = ap (λ zs. h y ∷ zs) (map-push h ys x)
 
 -- a name is found among those of the keys
 pub found : {V : Type 0} (ks : List V) (items : V → List ℕ) (names : List (List ℕ)) (name bytes : List ℕ) (r : Option ℕ)
-  → names ≡ map items ks → bytes ≡ name → r ≡ position (λ v. pointwise nat_eq bytes (items v)) ks
-  → r ≡ local_named names name
+    → names ≡ map items ks → bytes ≡ name → r ≡ position (λ v. pointwise nat_eq bytes (items v)) ks
+    → r ≡ local_named names name
 found ks items names name bytes r view e at =
     at ∙ ap (λ (n : List ℕ). position (λ v. pointwise nat_eq n (items v)) ks) e
     ∙ sym (position-map items (λ (n : List ℕ). pointwise nat_eq name n) ks)
-      ∙ ap (λ (ns : List (List ℕ)). local_named ns name) (sym view)
+    ∙ ap (λ (ns : List (List ℕ)). local_named ns name) (sym view)
 
 -- a name that isn't there goes last
 pub inserted : {V : Type 0} (ks new : List V) (items : V → List ℕ) (k : V) (names : List (List ℕ)) (name : List ℕ)
-  → new ≡ insert_key (λ (x y : V). pointwise nat_eq (items x) (items y)) ks k → items k ≡ name → names ≡ map items ks
-  → local_named names name ≡ None → map items new ≡ names ++ name ∷ []
+    → new ≡ insert_key (λ (x y : V). pointwise nat_eq (items x) (items y)) ks k → items k ≡ name → names ≡ map items ks
+    → local_named names name ≡ None → map items new ≡ names ++ name ∷ []
 inserted {V} ks new items k names name put e view none =
     let absent : position (λ (v : V). pointwise nat_eq name (items v)) ks ≡ None = sym (position-map items (λ (n : List ℕ). pointwise nat_eq name n) ks) ∙ ap (λ (ns : List (List ℕ)). local_named ns name) (sym view) ∙ none in
     let absent_key : position (λ (v : V). pointwise nat_eq (items k) (items v)) ks ≡ None = ap (λ (n : List ℕ). position (λ (v : V). pointwise nat_eq n (items v)) ks) e ∙ absent in
     let pushed : new ≡ ks ++ k ∷ [] = put ∙ ap (λ b. if b then ks else ks ++ k ∷ []) (none_found (λ (v : V). pointwise nat_eq (items k) (items v)) ks absent_key) in
     ap (map items) pushed ∙ map-push items ks k ∙ ap (λ n. map items ks ++ n ∷ []) e
-      ∙ ap (λ ns. ns ++ name ∷ []) (sym view)
+    ∙ ap (λ ns. ns ++ name ∷ []) (sym view)
 
 -- the local of one more name
 pub one_more_local : {V : Type 0} (ks : List V) (items : V → List ℕ) (i : ℕ) (k : V) (ls new : List Local) (l : Local)
-  → i < length ks → k ≡ get_or ks i k → new ≡ ls ++ l ∷ [] → local_of l ≡ int_local (items k)
-  → map local_of ls ≡ map int_local (map items (take i ks))
-  → map local_of new ≡ map int_local (map items (take (i + 1) ks))
+    → i < length ks → k ≡ get_or ks i k → new ≡ ls ++ l ∷ [] → local_of l ≡ int_local (items k)
+    → map local_of ls ≡ map int_local (map items (take i ks))
+    → map local_of new ≡ map int_local (map items (take (i + 1) ks))
 one_more_local ks items i k ls new l lt at push same before =
     let t : take (i + 1) ks ≡ take i ks ++ k ∷ [] = take_more ks i k lt ∙ ap (λ x. take i ks ++ x ∷ []) (sym at) in
     let a : map local_of new ≡ map local_of ls ++ local_of l ∷ [] = ap (map local_of) push ∙ map-push local_of ls l in
@@ -84,7 +84,7 @@ one_more_local ks items i k ls new l lt at push same before =
 
 -- the locals of all names
 pub all_locals : {V : Type 0} (ks : List V) (items : V → List ℕ) (n : ℕ) (ls : List Local) (names : List (List ℕ))
-  → length ks ≤ n → names ≡ map items ks → map local_of ls ≡ map int_local (map items (take n ks))
-  → map local_of ls ≡ map int_local names
+    → length ks ≤ n → names ≡ map items ks → map local_of ls ≡ map int_local (map items (take n ks))
+    → map local_of ls ≡ map int_local names
 all_locals ks items n ls names le view e = e ∙ ap (λ z. map int_local (map items z)) (take_all n ks le)
-  ∙ ap (map int_local) (sym view)
+    ∙ ap (map int_local) (sym view)

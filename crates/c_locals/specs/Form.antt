@@ -7,7 +7,7 @@
 --
 -- Locals are numbered in the order of their declarations. Statements and declared items are numbered
 -- together from 0, in the order of the text.
-use Rattle.std.specs.Prelude.{◌≡◌, ◌<◌, ◌≤◌, ◌⊎◌, ℕ, suc, List, [], ◌∷◌, ◌++◌, length, map, position, Bool, true, false}
+use Rattle.std.specs.Prelude.{◌≡◌, ◌⊎◌, ℕ, suc, List, [], ◌∷◌, ◌++◌, length, map, position, Bool, true}
 use Rattle.std.specs.Prelude.{◌&&◌, not, is_some, nat_lt, Option, Some, None, codes}
 use Rattle.c_raw.specs.declared.operator.BinaryOp as raw
 use Rattle.c_raw.specs.declared.operator.BinaryOp.TheVariants as raw_ops
@@ -17,7 +17,7 @@ use Rattle.c_grammar.specs.Statements.{ExternalTree, Stmts, NoStmt, OneStmt}
 use Rattle.c_tree.specs.declared.expression.BinaryOp.{BinaryOp}
 use Rattle.c_tree.specs.declared.expression.BinaryOp.TheVariants.{Add, Subtract}
 use Rattle.c_tree.specs.Program.{int, Expression, Constant, Read, Binary, Assign, Putchar, LocalPlace, Scalar}
-use Rattle.c_tree.specs.Program.{Statement, Declare, Evaluate, Return, Statements, Done, Next, Local, Function, Program}
+use Rattle.c_tree.specs.Program.{Statement, Declare, Evaluate, Return, Statements, Done, Next, Local, Program}
 use Rattle.c_locals.specs.Shapes.{same, is_reserved, Rule, Declares, Assigns, Puts, Returns, Other, rule_of, main_items}
 
 -- ---- names, in the order of their declarations
@@ -30,7 +30,7 @@ local_named names name = position (λ (n : List ℕ). same name n) names
 -- (C99 6.2.1, 6.7), and there are at most 1,000 names
 abbrev pub may_declare : List (List ℕ) → List ℕ → Bool
 may_declare names name = not (is_reserved name)
-  && (not (is_some (local_named names name)) && nat_lt (length names) 1000)
+    && (not (is_some (local_named names name)) && nat_lt (length names) 1000)
 
 -- ---- sums, over the names that are declared
 
@@ -43,7 +43,7 @@ sign_of op = None
 -- atom : name | number
 abbrev pub IsAtom : List (List ℕ) → Expr → Expression → Type 0
 IsAtom names (trees.Identifier name) x = (v : ℕ) × (local_named names name.name ≡ Some v)
-  × (x ≡ Read int (LocalPlace v))
+    × (x ≡ Read int (LocalPlace v))
 IsAtom names (trees.Number value at) x = x ≡ Constant value
 IsAtom names e x = ⊥
 
@@ -51,7 +51,7 @@ IsAtom names e x = ⊥
 abbrev pub IsSum : List (List ℕ) → Expr → Expression → Type 0
 IsSum names (trees.Binary op l at r) x =
     (o : BinaryOp) × (a : Expression) × (b : Expression) × (sign_of op ≡ Some o) × IsSum names l a × IsAtom names r b
-      × (x ≡ Binary int o a b)
+    × (x ≡ Binary int o a b)
 IsSum names e x = IsAtom names e x
 
 -- how many atoms a sum has
@@ -71,11 +71,11 @@ abbrev pub IsItem : List (List ℕ) → ℕ → Rule → List (List ℕ) → Sta
 -- 'int' name '=' sum ';'
 IsItem names n (Declares name value) after t =
     (x : Expression) × (may_declare names name ≡ true) × IsShortSum names value x × (after ≡ names ++ name ∷ [])
-      × (t ≡ Declare (Scalar n (length names) (Some x)))
+    × (t ≡ Declare (Scalar n (length names) (Some x)))
 -- name '=' sum ';'
 IsItem names n (Assigns name value) after t =
     (v : ℕ) × (x : Expression) × (local_named names name ≡ Some v) × IsShortSum names value x × (after ≡ names)
-      × (t ≡ Evaluate n (Assign int (LocalPlace v) x))
+    × (t ≡ Evaluate n (Assign int (LocalPlace v) x))
 -- 'putchar' '(' sum ')' ';'
 IsItem names n (Puts value) after t =
     (x : Expression) × IsShortSum names value x × (after ≡ names) × (t ≡ Evaluate n (Putchar x))
@@ -93,7 +93,7 @@ IsBody names n NoStmt all body = ⊥
 IsBody names n (OneStmt s ss) all body =
     ((t : Statement) × (ss ≡ NoStmt) × IsLast names n (rule_of s) t × (all ≡ names) × (body ≡ Next t Done))
     ⊎ ((after : List (List ℕ)) × (t : Statement) × (others : Statements) × IsItem names n (rule_of s) after t
-      × IsBody after (suc n) ss all others × (body ≡ Next t others))
+    × IsBody after (suc n) ss all others × (body ≡ Next t others))
 
 -- ---- programs
 
@@ -126,4 +126,4 @@ main_program names body = record {
 abbrev pub IsLocalsProgram : List ExternalTree → Program → Type 0
 IsLocalsProgram unit program =
     (items : Stmts) × (names : List (List ℕ)) × (body : Statements) × (main_items unit ≡ Some items)
-      × (nat_lt (count items) 10001 ≡ true) × IsBody [] 0 items names body × (program ≡ main_program names body)
+    × (nat_lt (count items) 10001 ≡ true) × IsBody [] 0 items names body × (program ≡ main_program names body)

@@ -1,5 +1,5 @@
 -- The one program that a unit of the form has, by a function.
-use Rattle.std.specs.Prelude.{◌≡◌, ℕ, suc, List, [], ◌∷◌, ◌++◌, length, Bool, true, false, Option, Some, None}
+use Rattle.std.specs.Prelude.{ℕ, suc, List, [], ◌∷◌, ◌++◌, length, Option, Some, None}
 use Rattle.std.specs.Prelude.{if◌then◌else◌, nat_lt}
 use Rattle.c_grammar.specs.Expressions as trees
 use Rattle.c_grammar.specs.Expressions.{Expr}
@@ -52,7 +52,7 @@ put names n (Some x) = some_item names (Evaluate n (Putchar x))
 
 abbrev pub read_item : List (List ℕ) → ℕ → Rule → Option Item
 read_item names n (Declares name value) = if may_declare names name
-  then declared names n name (read_short names value) else None
+    then declared names n name (read_short names value) else None
 read_item names n (Assigns name value) = assigned names n (local_named names name) (read_short names value)
 read_item names n (Puts value) = put names n (read_short names value)
 read_item names n (Returns value) = None
@@ -92,7 +92,7 @@ read_rule names n Other ss rest = None
 abbrev pub read_body : List (List ℕ) → ℕ → Stmts → Option Body
 read_body names n NoStmt = None
 read_body names n (OneStmt s ss) = read_rule names n (rule_of s) ss
-  (λ (after : List (List ℕ)). read_body after (suc n) ss)
+    (λ (after : List (List ℕ)). read_body after (suc n) ss)
 
 abbrev pub program_from : Option Body → Option Program
 program_from None = None

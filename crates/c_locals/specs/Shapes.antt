@@ -2,13 +2,12 @@
 use Rattle.std.specs.Prelude.{ℕ, List, [], ◌∷◌, Bool, true, false, ◌&&◌, ◌||◌, if◌then◌else◌, Option, Some, None}
 use Rattle.std.specs.Prelude.{nat_eq, codes, is_some, not}
 use Rattle.std.specs.Cmp.Lexicographic.{pointwise}
-use Rattle.pcc_base.specs.declared.span.Span.{Span}
 use Rattle.c_raw.specs.declared.operator.SpecifierWord.{SpecifierWord}
 use Rattle.c_raw.specs.declared.operator.SpecifierWord.TheVariants as words
 use Rattle.c_raw.specs.declared.operator.AssignOp.{AssignOp}
 use Rattle.c_raw.specs.declared.operator.AssignOp.TheVariants as assign
 use Rattle.c_raw.specs.declared.expression.Specifier.{Specifier}
-use Rattle.c_grammar.specs.Expressions.{Star, Expr, Exprs, Identifier, Call, Assignment, NoExpr, OneExpr}
+use Rattle.c_grammar.specs.Expressions.{Expr, Exprs, Identifier, Call, Assignment, NoExpr, OneExpr}
 use Rattle.c_grammar.specs.Declarations.{PartTree, Plain, Array, Function, ParameterTree, DeclaratorTree}
 use Rattle.c_grammar.specs.Declarations.{InitialiserTree, Single, Braces, ValueTree, ItemTree, DeclarationTree}
 use Rattle.c_grammar.specs.Statements.{Stmt, Declared, Block, Simple, Return, Stmts, ExternalTree, FunctionTree}
@@ -75,7 +74,7 @@ part_rule name (Function p) value = Other
 abbrev pub item_rule : Option ItemTree → Rule
 item_rule None = Other
 item_rule (Some i) = if is_some i.declarator.pointer then Other
-  else part_rule i.declarator.name.name i.declarator.part i.initialiser
+    else part_rule i.declarator.name.name i.declarator.part i.initialiser
 
 -- 'int' name '=' value ';'
 abbrev pub declaration_rule : DeclarationTree → Rule
@@ -135,7 +134,7 @@ rule_of s = Other
 abbrev pub is_nothing : Option ParameterTree → Bool
 is_nothing None = false
 is_nothing (Some p) = is_void p.specifiers
-  && (not (is_some p.pointer) && (not (is_some p.name) && not (is_some p.array)))
+    && (not (is_some p.pointer) && (not (is_some p.name) && not (is_some p.array)))
 
 -- '(' 'void' ')'
 abbrev pub takes_nothing : PartTree → Bool
@@ -155,7 +154,7 @@ block_items s = None
 abbrev pub external_items : Option ExternalTree → Option Stmts
 external_items None = None
 external_items (Some (FunctionTree specifiers d body)) = if is_int specifiers && is_main d
-  then block_items body else None
+    then block_items body else None
 external_items (Some (DeclaredTree d)) = None
 
 -- the statements of a unit 'int' 'main' '(' 'void' ')' '{' statements '}'
@@ -165,4 +164,4 @@ main_items unit = external_items (only unit)
 -- the names that no local has
 abbrev pub is_reserved : List ℕ → Bool
 is_reserved name = same name (codes "main")
-  || (same name (codes "putchar") || (same name (codes "getchar") || same name (codes "exit")))
+    || (same name (codes "putchar") || (same name (codes "getchar") || same name (codes "exit")))

@@ -31,7 +31,7 @@ abbrev mutual
   expression_of (built.And' p a q b) = typed.And (expression_of a) (expression_of b)
   expression_of (built.Or' p a q b) = typed.Or (expression_of a) (expression_of b)
   expression_of (built.Conditional' of p t q a r b) = typed.Conditional of (expression_of t)
-    (expression_of a) (expression_of b)
+      (expression_of a) (expression_of b)
   expression_of (built.Cast' to p e) = typed.Cast to (expression_of e)
   expression_of (built.Assign' of place p e) = typed.Assign of (place_of place) (expression_of e)
   expression_of (built.Update' of op place p e) = typed.Update of op (place_of place) (expression_of e)
@@ -75,7 +75,7 @@ abbrev mutual
   statement_of (statements.While' n e p s) = typed.While n (expression_of e) (statement_of s)
   statement_of (statements.Do' n p s e) = typed.Do n (statement_of s) (expression_of e)
   statement_of (statements.For' n first test after p s) = typed.For n (first_of first) (option_map expression_of test)
-    (option_map expression_of after) (statement_of s)
+      (option_map expression_of after) (statement_of s)
   statement_of (statements.Switch' n e labels shape body) = typed.Switch n (expression_of e) labels.items (row_of body)
   statement_of (statements.Break n) = typed.Break n
   statement_of (statements.Continue n) = typed.Continue n
@@ -110,5 +110,8 @@ function_of f = record {
 
 -- the program that a program in memory is
 abbrev pub program_of : Program → typed.Program
-program_of p = record { objects = map object_of p.objects.items;
-  functions = map function_of p.functions.items; main = p.main }
+program_of p = record {
+  objects = map object_of p.objects.items;
+  functions = map function_of p.functions.items;
+  main = p.main;
+}

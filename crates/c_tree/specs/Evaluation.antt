@@ -64,7 +64,7 @@ element_written array index value s (Some old) =
 abbrev pub store : Found → Held → State → Evaluated Held
 store (InLocal local) value s = Gives value (with_local local value s)
 store (InObject object) value s = element_written (Static object) (pos 0) value s
-  (element_at (array_named s (Static object)) (pos 0))
+    (element_at (array_named s (Static object)) (pos 0))
 store (AtIndex array index) value s = element_written array index value s (element_at (array_named s array) index)
 
 -- ---- the outside (C99 7.19 and 7.20)
@@ -98,7 +98,7 @@ truth_value b = HoldsNumber (if b then pos 1 else pos 0)
 -- an assignment with an operator: the place is found and loaded, then comes the right side, then the store
 abbrev pub updated : ValueType → BinaryOp → Found → Held → Held → State → Evaluated Held
 updated of op found old value s = and_then (computed (binary_value op old value) s)
-  (λ new s'. store found (in_type of new) s')
+    (λ new s'. store found (in_type of new) s')
 
 abbrev mutual
   pub evaluate : Calls → Expression → State → Evaluated Held
@@ -109,29 +109,29 @@ abbrev mutual
   evaluate calls (Unary op e) s = and_then (evaluate calls e s) (λ v s'. Gives (unary_value op v) s')
   evaluate calls (Binary of op a b) s =
       and_then (evaluate calls a s) (λ x s'.
-        and_then (evaluate calls b s') (λ y s''. computed (binary_value op x y) s''))
+      and_then (evaluate calls b s') (λ y s''. computed (binary_value op x y) s''))
   evaluate calls (And a b) s =
       and_then (evaluate calls a s) (λ x s'. if is_true x
-        then and_then (evaluate calls b s') (λ y s''. Gives (truth_value (is_true y)) s'')
-        else Gives (truth_value false) s')
+      then and_then (evaluate calls b s') (λ y s''. Gives (truth_value (is_true y)) s'')
+      else Gives (truth_value false) s')
   evaluate calls (Or a b) s =
       and_then (evaluate calls a s) (λ x s'. if is_true x then Gives (truth_value true) s'
-        else and_then (evaluate calls b s') (λ y s''. Gives (truth_value (is_true y)) s''))
+      else and_then (evaluate calls b s') (λ y s''. Gives (truth_value (is_true y)) s''))
   evaluate calls (Conditional of t a b) s =
       and_then (evaluate calls t s) (λ v s'.
-        and_then (if is_true v then evaluate calls a s' else evaluate calls b s') (λ x s''. Gives (in_type of x) s''))
+      and_then (if is_true v then evaluate calls a s' else evaluate calls b s') (λ x s''. Gives (in_type of x) s''))
   evaluate calls (Cast to e) s = and_then (evaluate calls e s) (λ v s'. Gives (in_type to v) s')
   evaluate calls (Assign of place e) s =
       and_then (locate calls place s) (λ found s'.
-        and_then (evaluate calls e s') (λ v s''. store found (in_type of v) s''))
+      and_then (evaluate calls e s') (λ v s''. store found (in_type of v) s''))
   evaluate calls (Update of op place e) s =
       and_then (locate calls place s) (λ found s'.
-        and_then (load found s') (λ old s''. and_then (evaluate calls e s'') (updated of op found old)))
+      and_then (load found s') (λ old s''. and_then (evaluate calls e s'') (updated of op found old)))
   evaluate calls (Step of op place) s =
       and_then (locate calls place s) (λ found s'.
-        and_then (load found s') (λ old s''.
-        and_then (updated of (step_op op) found old (HoldsNumber (pos 1)) s'')
-        (λ new s'''. Gives (step_result op old new) s''')))
+      and_then (load found s') (λ old s''.
+      and_then (updated of (step_op op) found old (HoldsNumber (pos 1)) s'')
+      (λ new s'''. Gives (step_result op old new) s''')))
   evaluate calls (Comma a b) s = and_then (evaluate calls a s) (λ x s'. evaluate calls b s')
   evaluate calls (Call of f arguments) s = and_then (evaluate_all calls arguments s) (calls f)
   evaluate calls (Putchar e) s = and_then (evaluate calls e s) put
@@ -144,8 +144,8 @@ abbrev mutual
   locate calls (Target element e) s = and_then (evaluate calls e s) (λ v s'. Gives (target_of v) s')
   locate calls (Element element a i) s =
       and_then (evaluate calls a s) (λ x s'.
-        and_then (evaluate calls i s') (λ y s''.
-        and_then (computed (binary_value Add x y) s'') (λ v s'''. Gives (target_of v) s''')))
+      and_then (evaluate calls i s') (λ y s''.
+      and_then (computed (binary_value Add x y) s'') (λ v s'''. Gives (target_of v) s''')))
 
   pub evaluate_all : Calls → Arguments → State → Evaluated (List Held)
   evaluate_all calls NoMore s = Gives [] s
@@ -159,7 +159,7 @@ abbrev pub fill : Calls → ArrayName → ℕ → List Expression → State → 
 fill calls array i [] s = Gives tt s
 fill calls array i (e ∷ es) s =
     and_then (evaluate calls e s) (λ v s'.
-      and_then (store (AtIndex array (pos i)) v s') (λ stored s''. fill calls array (suc i) es s''))
+    and_then (store (AtIndex array (pos i)) v s') (λ stored s''. fill calls array (suc i) es s''))
 
 -- a text's elements, and zeros after them
 abbrev pub text_then_zeros : List ℤ → List ℤ → List ℤ
@@ -170,14 +170,14 @@ text_then_zeros (n ∷ ns) (c ∷ cs) = c ∷ text_then_zeros ns cs
 abbrev pub initialise : Calls → ArrayName → Initialiser → State → Evaluated Unit
 initialise calls array (Elements first) s = fill calls array 0 first s
 initialise calls array (Text k) s = Gives tt
-  (with_array array (text_then_zeros (array_named s array) (array_named s (Static k))) s)
+    (with_array array (text_then_zeros (array_named s array) (array_named s (Static k))) s)
 
 -- A local is 0 or null, and an array zero, each time its declaration runs, before its initialiser is
 -- evaluated.
 abbrev pub initialise_local : Calls → ℕ → ValueType → Option Expression → State → Evaluated Unit
 initialise_local calls local of None s = Gives tt s
 initialise_local calls local of (Some e) s = and_then (evaluate calls e s)
-  (λ v s'. Gives tt (with_local local (in_type of v) s'))
+    (λ v s'. Gives tt (with_local local (in_type of v) s'))
 
 abbrev pub zeroed : List ℤ → List ℤ
 zeroed elements = replicate (length elements) (pos 0)
@@ -193,15 +193,15 @@ own_array s k = ArrayName.InFrame k (length s.active)
 abbrev pub declare : Calls → Listing → Types → Item → State → Evaluated Unit
 declare calls listing types (Scalar number local value) s =
     initialise_local calls local (types local) value
-      (with_local local (zero_of (types local)) (visited listing number s))
+    (with_local local (zero_of (types local)) (visited listing number s))
 declare calls listing types (Array number k value) s =
     initialise calls (own_array s k) value
-      (with_array (own_array s k) (zeroed (array_named s (own_array s k))) (visited listing number s))
+    (with_array (own_array s k) (zeroed (array_named s (own_array s k))) (visited listing number s))
 
 abbrev pub declare_all : Calls → Listing → Types → List Item → State → Evaluated Unit
 declare_all calls listing types [] s = Gives tt s
 declare_all calls listing types (item ∷ items) s = and_then (declare calls listing types item s)
-  (λ done s'. declare_all calls listing types items s')
+    (λ done s'. declare_all calls listing types items s')
 
 -- ---- statements (C99 6.8)
 
@@ -241,15 +241,15 @@ abbrev pub loop : ℕ → (State → Evaluated Bool) → Runs → Runs → Runs
 loop zero test body after s = Ends Goes s
 loop (suc bound) test body after s =
     take_turn s (λ s'. and_then (test s') (λ holds s''. if holds
-      then and_then (body s'') (after_body (λ t. and_then (after t) (λ left t'. loop bound test body after t')))
-      else Gives Falls s''))
+    then and_then (body s'') (after_body (λ t. and_then (after t) (λ left t'. loop bound test body after t')))
+    else Gives Falls s''))
 
 -- A `do`: each start of its body takes a turn.
 abbrev pub do_loop : ℕ → (State → Evaluated Bool) → Runs → Runs
 do_loop zero test body s = Ends Goes s
 do_loop (suc bound) test body s =
     take_turn s (λ s'. and_then (body s')
-      (after_body (λ t. and_then (test t) (λ holds t'. if holds then do_loop bound test body t' else Gives Falls t'))))
+    (after_body (λ t. and_then (test t) (λ holds t'. if holds then do_loop bound test body t' else Gives Falls t'))))
 
 abbrev pub tested : Calls → Expression → State → Evaluated Bool
 tested calls e s = and_then (evaluate calls e s) (λ v s'. Gives (is_true v) s')
@@ -267,7 +267,7 @@ abbrev pub run_first : Calls → Listing → Types → First → Runs
 run_first calls listing types Nothing s = Gives Falls s
 run_first calls listing types (EvaluatedFirst e) s = and_then (evaluate calls e s) (λ v s'. Gives Falls s')
 run_first calls listing types (Declared items) s = and_then (declare_all calls listing types items s)
-  (λ done s'. Gives Falls s')
+    (λ done s'. Gives Falls s')
 
 abbrev pub returned : ValueType → Calls → Option Expression → State → Evaluated Left
 returned result calls None s = Gives (Returns None) s
@@ -300,27 +300,27 @@ none_or_from (Some place) from s = from place s
 abbrev mutual
   pub execute : Calls → ℕ → Listing → Types → ValueType → Statement → Runs
   execute calls bound listing types result (Declare item) s = and_then (declare calls listing types item s)
-    (λ done s'. Gives Falls s')
+      (λ done s'. Gives Falls s')
   execute calls bound listing types result (Empty n) s = Gives Falls (visited listing n s)
   execute calls bound listing types result (Evaluate n e) s = and_then (evaluate calls e (visited listing n s))
-    (λ v s'. Gives Falls s')
+      (λ v s'. Gives Falls s')
   execute calls bound listing types result (Block body) s = execute_from calls bound listing types result body 0 s
   execute calls bound listing types result (If n e a b) s =
       and_then (tested calls e (visited listing n s)) (λ holds s'. if holds
-        then execute calls bound listing types result a s' else execute calls bound listing types result b s')
+      then execute calls bound listing types result a s' else execute calls bound listing types result b s')
   execute calls bound listing types result (While n e body) s =
       loop bound (tested calls e) (execute calls bound listing types result body)
-        (λ t. Gives Falls t) (visited listing n s)
+      (λ t. Gives Falls t) (visited listing n s)
   execute calls bound listing types result (Do n body e) s =
       do_loop bound (tested calls e) (execute calls bound listing types result body) (visited listing n s)
   execute calls bound listing types result (For n first test after body) s =
       and_then (run_first calls listing types first (visited listing n s))
-        (λ done s'. loop bound (tested_if_any calls test) (execute calls bound listing types result body)
-        (evaluated_if_any calls after) s')
+      (λ done s'. loop bound (tested_if_any calls test) (execute calls bound listing types result body)
+      (evaluated_if_any calls after) s')
   execute calls bound listing types result (Switch n e labels body) s =
       and_then (evaluate calls e (visited listing n s))
-        (λ v s'. and_then (none_or_from (switched labels v)
-        (execute_from calls bound listing types result body) s') after_switch)
+      (λ v s'. and_then (none_or_from (switched labels v)
+      (execute_from calls bound listing types result body) s') after_switch)
   execute calls bound listing types result (Break n) s = Gives Breaks (visited listing n s)
   execute calls bound listing types result (Continue n) s = Gives Continues (visited listing n s)
   execute calls bound listing types result (Return n value) s = returned result calls value (visited listing n s)
@@ -330,9 +330,9 @@ abbrev mutual
   execute_from calls bound listing types result Done place s = Gives Falls s
   execute_from calls bound listing types result (Next first others) zero s =
       and_then (execute calls bound listing types result first s)
-        (after_statement (execute_from calls bound listing types result others 0))
+      (after_statement (execute_from calls bound listing types result others 0))
   execute_from calls bound listing types result (Next first others)
-    (suc place) s = execute_from calls bound listing types result others place s
+      (suc place) s = execute_from calls bound listing types result others place s
 
 -- ---- calls (C99 6.5.2.2) and programs
 
@@ -390,8 +390,15 @@ outcome_of (Ends end s) = outcome_at end s
 
 abbrev pub first_state : Program → List ℕ → ℕ → State
 first_state program input n =
-    record { turns = n; left = input; taken = 0; written = []; visits = [];
-      objects = map (λ o. o.elements) program.objects; active = [] }
+    record {
+      turns = n;
+      left = input;
+      taken = 0;
+      written = [];
+      visits = [];
+      objects = map (λ o. o.elements) program.objects;
+      active = [];
+    }
 
 -- the outcome of n turns of the program over an input, with the visits that a listing asks for
 abbrev pub source_outcome : Program → Listing → List ℕ → ℕ → Outcome

@@ -71,7 +71,7 @@ abbrev mutual
   statement_size (While n e s) = suc (expression_size e + statement_size s)
   statement_size (Do n s e) = suc (statement_size s + expression_size e)
   statement_size (For n first test after s) = suc
-    (first_size first + option_size test + option_size after + statement_size s)
+      (first_size first + option_size test + option_size after + statement_size s)
   statement_size (Switch n e labels body) = suc (expression_size e + length labels + statements_size body)
   statement_size (Break n) = 1
   statement_size (Continue n) = 1

@@ -22,7 +22,7 @@ IsSum declared _ = ⊥
 abbrev pub IsBody : ℕ → ℕ → ℕ → Statements → Type 0
 IsBody locals declared number (Next (Declare (Scalar n v (Some e))) others) =
     (n ≡ number) × (v ≡ declared) × (declared < locals) × IsSum declared e
-      × IsBody locals (suc declared) (suc number) others
+    × IsBody locals (suc declared) (suc number) others
 IsBody locals declared number (Next (Evaluate n (Assign (Integer Int) (LocalPlace v) e)) others) =
     (n ≡ number) × (v < declared) × IsSum declared e × IsBody locals declared (suc number) others
 IsBody locals declared number (Next (Evaluate n (Putchar e)) others) =

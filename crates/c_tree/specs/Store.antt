@@ -79,8 +79,12 @@ held s local = slice_index_or (youngest s.active).values local (HoldsNumber (pos
 
 abbrev pub with_local : ℕ → Held → State → State
 with_local local value s =
-    record s { active = with_youngest (record { values = slice_set (youngest s.active).values local value;
-      arrays = (youngest s.active).arrays }) s.active }
+    record s {
+      active = with_youngest (record {
+        values = slice_set (youngest s.active).values local value;
+        arrays = (youngest s.active).arrays;
+      }) s.active;
+    }
 
 -- ---- arrays: static objects, and the arrays of active calls, which go by their depth, 1 for `main`
 
@@ -96,20 +100,22 @@ abbrev pub array_named : State → ArrayName → List ℤ
 array_named s outcome.Null = []
 array_named s (outcome.Static k) = slice_index_or s.objects k []
 array_named s (outcome.InFrame k depth) = slice_index_or
-  (arrays_in (slice_get s.active (place_of_depth s.active depth))) k []
+    (arrays_in (slice_get s.active (place_of_depth s.active depth))) k []
 array_named s outcome.Unknown = []
 
 abbrev pub with_array_in : ℕ → List ℤ → ℕ → Option Activation → List Activation → List Activation
 with_array_in k elements place None active = active
 with_array_in k elements place (Some a) active = slice_set active place
-  (record { values = a.values; arrays = slice_set a.arrays k elements })
+    (record { values = a.values; arrays = slice_set a.arrays k elements })
 
 abbrev pub with_array : ArrayName → List ℤ → State → State
 with_array outcome.Null elements s = s
 with_array (outcome.Static k) elements s = record s { objects = slice_set s.objects k elements }
 with_array (outcome.InFrame k depth) elements s =
-    record s { active = with_array_in k elements (place_of_depth s.active depth)
-      (slice_get s.active (place_of_depth s.active depth)) s.active }
+    record s {
+      active = with_array_in k elements (place_of_depth s.active depth)
+          (slice_get s.active (place_of_depth s.active depth)) s.active;
+    }
 with_array outcome.Unknown elements s = s
 
 -- the array that a function names, in its youngest call
@@ -159,8 +165,12 @@ part_value locals (outcome.IndexOf v) = Number (number_held (slice_get locals v)
 -- for it.
 abbrev pub visited : Listing → ℕ → State → State
 visited listing statement s =
-    record s { visits = s.visits ++ record { statement = statement;
-      values = map (part_value (youngest s.active).values) (listing statement) } ∷ [] }
+    record s {
+      visits = s.visits ++ record {
+        statement = statement;
+        values = map (part_value (youngest s.active).values) (listing statement);
+      } ∷ [];
+    }
 
 -- ---- how an evaluation comes out
 

@@ -9,8 +9,14 @@ use Rattle.c_tree.specs.Program.{Statements, Declare, Evaluate, Return, Done, Ne
 abbrev main_with : List Local → Statements → Program
 main_with locals body = record {
   objects = [];
-  functions = record { name = codes "main"; result = int; parameters = 0; locals = locals;
-    arrays = []; body = body } ∷ [];
+  functions = record {
+    name = codes "main";
+    result = int;
+    parameters = 0;
+    locals = locals;
+    arrays = [];
+    body = body;
+  } ∷ [];
   main = 0;
 }
 

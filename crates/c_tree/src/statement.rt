@@ -121,7 +121,7 @@ impl Statement {
         ensures { IfOk result (λ s.
             statement_of s
             ≡ typed.For number (first_of first) (option_map expression_of test)
-              (option_map expression_of after) (statement_of body)) }
+            (option_map expression_of after) (statement_of body)) }
     {
         Ok(Statement::For(number, first, test, after, Box::new(alloc, body)?))
     }

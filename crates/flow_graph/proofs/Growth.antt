@@ -19,7 +19,7 @@ pub record Grows (f g : Flow) : Type 0 where
 
 -- an element stays where elements come after it
 slice_get-append : {X : Type 0} (xs ys : List X) (k : ℕ) (x : X) → slice_get xs k ≡ Some x
-  → slice_get (xs ++ ys) k ≡ Some x
+    → slice_get (xs ++ ys) k ≡ Some x
 slice_get-append [] ys k x e = absurd (cc)
 slice_get-append (y ∷ xs) ys zero x e = e
 slice_get-append (y ∷ xs) ys (suc k) x e = slice_get-append xs ys k x e
@@ -65,10 +65,10 @@ ends-grows xs ys h (p ∷ q ∷ ps) e = (plain-grows xs ys h p e.0, ends-grows x
 
 -- what a block keeps
 pub block-grows : (f g : Flow) (homes more : List ℕ) → Grows f g → Keeps homes more → (b : ℕ) (ps : List ℕ)
-  → IsBlock f homes b ps → IsBlock g more b ps
+    → IsBlock f homes b ps → IsBlock g more b ps
 block-grows f g homes more h k b ps i = record {
   at_home = every-map (λ p. slice_get homes p ≡ Some b) (λ p. slice_get more p ≡ Some b)
-    (λ p e. k.kept p b e) ps i.at_home;
+      (λ p e. k.kept p b e) ps i.at_home;
   fits = every-map (HasFittingOp f) (HasFittingOp g) (fitting-grows f g h) ps i.fits;
   once = i.once;
   ends = ends-grows f.ops g.ops h.ops ps i.ends;

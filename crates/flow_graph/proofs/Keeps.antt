@@ -17,7 +17,7 @@ use Rattle.flow_graph.proofs.Growth.{block-grows}
 
 -- what holds of each block's points, after one block's points are set
 set_cases : (P : ℕ → List ℕ → Type 0) (blocks : List (List ℕ)) (k : ℕ) (new : List ℕ) → k < length blocks → P k new
-  → ((b : ℕ) → P b (get_or blocks b [])) → (b : ℕ) → P b (get_or (set blocks k new) b [])
+    → ((b : ℕ) → P b (get_or blocks b [])) → (b : ℕ) → P b (get_or (set blocks k new) b [])
 set_cases P blocks k new h w f b =
     elim (cases_eq b k) [
       | inl e ↦ subst (λ (j : ℕ). P j (get_or (set blocks k new) j [])) (sym e) (subst (λ (ps : List ℕ). P k ps) (sym (get_or-set_same blocks k new [] h)) w)
@@ -43,13 +43,13 @@ has_block (x ∷ xs) (suc b) p h = omega (arith, has_block xs b p h)
 
 -- with one more variable
 pub flow-variable : (f : Flow) (homes : List ℕ) (w : Width) → IsFlow f homes → length f.widths < 4294967295
-  → IsFlow (with_variable f w) homes
+    → IsFlow (with_variable f w) homes
 flow-variable f homes w i h =
     let grows : Grows f (with_variable f w) = record { widths = keeps-append f.widths (w ∷ []); arrays = omega arith; blocks = omega arith; ops = keeps-same f.ops } in
     record {
       one_home = i.one_home;
       each_block = λ b. block-grows f (with_variable f w) homes homes grows (keeps-same homes) b
-        (points_of f b) (i.each_block b);
+          (points_of f b) (i.each_block b);
       arrays_fit = i.arrays_fit;
       few_variables = omega (arith, length-push f.widths w);
       few_arrays = i.few_arrays;
@@ -59,14 +59,14 @@ flow-variable f homes w i h =
 
 -- with one more frame array
 pub flow-array : (f : Flow) (homes : List ℕ) (w n : ℕ) → IsFlow f homes → IsArray (w, n) → length f.arrays < 4294967295
-  → IsFlow (with_array f w n) homes
+    → IsFlow (with_array f w n) homes
 flow-array f homes w n i fit h =
     let more = length-push f.arrays (w, n) in
     let grows : Grows f (with_array f w n) = record { widths = keeps-same f.widths; arrays = omega (arith, more); blocks = omega arith; ops = keeps-same f.ops } in
     record {
       one_home = i.one_home;
       each_block = λ b. block-grows f (with_array f w n) homes homes grows (keeps-same homes) b
-        (points_of f b) (i.each_block b);
+          (points_of f b) (i.each_block b);
       arrays_fit = every-push IsArray f.arrays (w, n) i.arrays_fit fit;
       few_variables = i.few_variables;
       few_arrays = omega (arith, more);
@@ -76,7 +76,7 @@ flow-array f homes w n i fit h =
 
 -- with one more block
 pub flow-block : (f : Flow) (homes : List ℕ) → IsFlow f homes → length f.blocks < 4294967295
-  → IsFlow (with_block f) homes
+    → IsFlow (with_block f) homes
 flow-block f homes i h =
     let more : length (f.blocks ++ [] ∷ []) ≡ length f.blocks + 1 = length-push f.blocks [] in
     let grows : Grows f (with_block f) = record { widths = keeps-same f.widths; arrays = omega arith; blocks = omega (arith, more); ops = keeps-same f.ops } in
@@ -92,13 +92,17 @@ flow-block f homes i h =
 
 -- a graph grows by a point
 points-grow : (f : Flow) (b : ℕ) (ps : List ℕ) (op : Op) → Grows f (with_points f b ps op)
-points-grow f b ps op = record { widths = keeps-same f.widths; arrays = omega arith;
-  blocks = omega (arith, length-set f.blocks b ps); ops = keeps-append f.ops (op ∷ []) }
+points-grow f b ps op = record {
+  widths = keeps-same f.widths;
+  arrays = omega arith;
+  blocks = omega (arith, length-set f.blocks b ps);
+  ops = keeps-append f.ops (op ∷ []);
+}
 
 -- with one more point, where the block that it comes into keeps what it has to
 flow-points : (f : Flow) (homes : List ℕ) (b : ℕ) (ps : List ℕ) (op : Op) → IsFlow f homes → b < length f.blocks
-  → length f.ops < 4294967295 → IsBlock (with_points f b ps op) (homes ++ b ∷ []) b ps
-  → IsFlow (with_points f b ps op) (homes ++ b ∷ [])
+    → length f.ops < 4294967295 → IsBlock (with_points f b ps op) (homes ++ b ∷ []) b ps
+    → IsFlow (with_points f b ps op) (homes ++ b ∷ [])
 flow-points f homes b ps op i h room w =
     let all_homes = length-push homes b in
     let all_ops = length-push f.ops op in
@@ -107,7 +111,7 @@ flow-points f homes b ps op i h room w =
       one_home = omega (arith, all_homes, all_ops, i.one_home);
       each_block = set_cases (λ k qs. IsBlock (with_points f b ps op) (homes ++ b ∷ []) k qs) f.blocks b ps h w
           (λ k. block-grows f (with_points f b ps op) homes (homes ++ b ∷ []) (points-grow f b ps op)
-            (keeps-append homes (b ∷ [])) k (points_of f k) (i.each_block k));
+          (keeps-append homes (b ∷ [])) k (points_of f k) (i.each_block k));
       arrays_fit = i.arrays_fit;
       few_variables = i.few_variables;
       few_arrays = i.few_arrays;
@@ -126,7 +130,7 @@ new_home f homes b i = subst (λ (n : ℕ). slice_get (homes ++ b ∷ []) n ≡ 
 
 -- with a new point at the end of a block
 pub flow-append : (f : Flow) (homes : List ℕ) (b : ℕ) (op : Op) → IsFlow f homes → b < length f.blocks
-  → length f.ops < 4294967295 → (IsEnded f b → ⊥) → FitsOp f op → IsFlow (with_op f b op) (homes ++ b ∷ [])
+    → length f.ops < 4294967295 → (IsEnded f b → ⊥) → FitsOp f op → IsFlow (with_op f b op) (homes ++ b ∷ [])
 flow-append f homes b op i h room open_block fit =
     let ps : List ℕ = points_of f b in
     let x : ℕ = length f.ops in
@@ -142,13 +146,13 @@ flow-append f homes b op i h room open_block fit =
       ends = ends-push g.ops ps x
           (every-map (IsPlainAt f.ops) (IsPlainAt g.ops) (plain-grows f.ops g.ops grows.ops) ps
           (all_plain f.ops ps (every-map (HasFittingOp f) (λ p. (o : Op) × (slice_get f.ops p ≡ Some o))
-            (λ p m. (m.0, m.1)) ps old.fits) old.ends open_block));
+          (λ p m. (m.0, m.1)) ps old.fits) old.ends open_block));
     })
 
 -- with a new point right after a point
 pub flow-insert : (f : Flow) (homes : List ℕ) (b point : ℕ) (op : Op) → IsFlow f homes → b < length f.blocks
-  → length f.ops < 4294967295 → IsPlainAt f.ops point → is_end op ≡ false → FitsOp f op
-  → IsFlow (with_op_after f b point op) (homes ++ b ∷ [])
+    → length f.ops < 4294967295 → IsPlainAt f.ops point → is_end op ≡ false → FitsOp f op
+    → IsFlow (with_op_after f b point op) (homes ++ b ∷ [])
 flow-insert f homes b point op i h room plain no_end fit =
     let ps : List ℕ = points_of f b in
     let x : ℕ = length f.ops in
@@ -159,17 +163,23 @@ flow-insert f homes b point op i h room plain no_end fit =
     let grown : IsBlock g (homes ++ b ∷ []) b ps = block-grows f g homes (homes ++ b ∷ []) grows (keeps-append homes (b ∷ [])) b ps old in
     flow-points f homes b qs op i h room (record {
       at_home = every-insert (λ p. slice_get (homes ++ b ∷ []) p ≡ Some b) point x ps grown.at_home
-        (new_home f homes b i);
-      fits = every-insert (HasFittingOp g) point x ps grown.fits (op, slice_get-last f.ops op,
-        fits_op-grows f g grows op fit);
+          (new_home f homes b i);
+      fits = every-insert (HasFittingOp g) point x ps grown.fits (
+        op,
+        slice_get-last f.ops op,
+        fits_op-grows f g grows op fit,
+      );
       once = distinct-insert point x ps old.once (fresh f ps old.fits);
-      ends = ends-insert g.ops point x ps (plain-grows f.ops g.ops grows.ops point plain) (op,
-        slice_get-last f.ops op, no_end) grown.ends;
+      ends = ends-insert g.ops point x ps (plain-grows f.ops g.ops grows.ops point plain) (
+        op,
+        slice_get-last f.ops op,
+        no_end,
+      ) grown.ends;
     })
 
 -- without a point
 pub flow-remove : (f : Flow) (homes : List ℕ) (b point : ℕ) → IsFlow f homes → b < length f.blocks
-  → IsFlow (without_point f b point) homes
+    → IsFlow (without_point f b point) homes
 flow-remove f homes b point i h =
     let ps : List ℕ = points_of f b in
     let qs : List ℕ = without point ps in
@@ -205,7 +215,7 @@ home-within v f homes p e i s =
 
 -- the home that is read of a point of a block is that block
 pub home-is : (v f : Flow) (homes : List ℕ) (p b h : ℕ) → v ≡ f → IsFlow v homes → Stands f p b
-  → h ≡ get_or homes p h → h ≡ b
+    → h ≡ get_or homes p h → h ≡ b
 home-is v f homes p b h e i s r =
     let t : Stands v p b = subst (λ (g : Flow). Stands g p b) (sym e) s in
     let at : get_or homes p h ≡ b = get_or_from_slice_get homes p b h (home v homes p b i t) in
@@ -213,7 +223,7 @@ home-is v f homes p b h e i s r =
 
 -- the home that is read of a point is a block of the graph
 pub home-block : (v f : Flow) (homes : List ℕ) (p h : ℕ) → v ≡ f → IsFlow v homes → IsPlaced f p
-  → h ≡ get_or homes p h → h < length v.blocks
+    → h ≡ get_or homes p h → h < length v.blocks
 home-block v f homes p h e i s r =
     let same = home-is v f homes p s.0 h e i s.1 r in
     let t : Stands v p s.0 = subst (λ (g : Flow). Stands g p s.0) (sym e) s.1 in

@@ -25,19 +25,19 @@ agree-map f (Some x) None h a b e g = absurd (none-some b g)
 agree-map f (Some x) (Some y) h a b e g = sym (same_Some (f x) a e) ∙ ap f (h x y refl refl) ∙ same_Some (f y) b g
 
 agree-from : (m : Moved) (s : State) (go other : State → Option Outcome) → ((t : State) → Agree (go t) (other t))
-  → Agree (outcome_from m s go) (outcome_from m s other)
+    → Agree (outcome_from m s go) (outcome_from m s other)
 agree-from (Moves t) s go other h = h t
 agree-from (Halts end) s go other h = agree-same (Some (outcome_at s end))
 agree-from Stuck s go other h = agree-none None
 
 agree-turn : (takes : Bool) (turns : ℕ) (s : State) (go other : ℕ → Option Outcome)
-  → ((left : ℕ) → Agree (go left) (other left)) → Agree (with_turn takes turns s go) (with_turn takes turns s other)
+    → ((left : ℕ) → Agree (go left) (other left)) → Agree (with_turn takes turns s go) (with_turn takes turns s other)
 agree-turn false turns s go other h = h turns
 agree-turn true zero s go other h = agree-same (with_turn true zero s go)
 agree-turn true (suc turns) s go other h = h turns
 
 runs-agree : (program : GraphProgram) (listing : Listing) (k j turns : ℕ) (s : State)
-  → Agree (run_within program listing k turns s) (run_within program listing j turns s)
+    → Agree (run_within program listing k turns s) (run_within program listing j turns s)
 runs-agree program listing zero j turns s = agree-none (run_within program listing j turns s)
 runs-agree program listing (suc k) zero turns s = λ a b e f. absurd (none-some b f)
 runs-agree program listing (suc k) (suc j) turns s =
@@ -58,7 +58,7 @@ one_state program input k a b (s, first, run) (t, other, run') =
 -- ---- a program with an outcome in every number of turns is never stuck
 
 none-turn : (takes : Bool) (turns : ℕ) (s : State) (go : ℕ → Option Outcome) → 0 < turns
-  → ((left : ℕ) → turns ≤ left + 1 → go left ≡ None) → with_turn takes turns s go ≡ None
+    → ((left : ℕ) → turns ≤ left + 1 → go left ≡ None) → with_turn takes turns s go ≡ None
 none-turn false turns s go some h = h turns (omega arith)
 none-turn true zero s go some h = absurd (omega (arith, some))
 none-turn true (suc turns) s go some h = h turns (omega arith)
@@ -67,24 +67,24 @@ none-map : {A B : Type 0} (f : A → B) (o : Option A) → o ≡ None → option
 none-map f o e = ap (option_map f) e
 
 none-from : (m : Moved) (s t : State) (after : State → Option State) (go : State → Option Outcome)
-  → from_state m after ≡ Some t → ((u : State) → after u ≡ Some t → go u ≡ None) → outcome_from m s go ≡ None
+    → from_state m after ≡ Some t → ((u : State) → after u ≡ Some t → go u ≡ None) → outcome_from m s go ≡ None
 none-from (Moves u) s t after go e h = h u e
 none-from (Halts end) s t after go e h = absurd (none-some t e)
 none-from Stuck s t after go e h = absurd (none-some t e)
 
 -- a run that comes to a stuck state has no outcome in more turns than steps
 stuck-none : (program : GraphProgram) (listing : Listing) (k j turns : ℕ) (s t : State)
-  → state_after program k s ≡ Some t → step program t ≡ Stuck → k < turns → run_within program listing j turns s ≡ None
+    → state_after program k s ≡ Some t → step program t ≡ Stuck → k < turns → run_within program listing j turns s ≡ None
 stuck-none program listing k zero turns s t after stuck more = refl
 stuck-none program listing zero (suc j) turns s t after stuck more =
     let same : s ≡ t = same_Some s t after in
     none-turn (takes_turn (op_at program s)) turns s _ (omega arith)
     (λ left le. none-map _ _ (ap (λ (m : Moved). outcome_from m s (run_within program listing j left))
-      (ap (step program) same ∙ stuck)))
+    (ap (step program) same ∙ stuck)))
 stuck-none program listing (suc k) (suc j) turns s t after stuck more =
     none-turn (takes_turn (op_at program s)) turns s _ (omega arith)
     (λ left le. none-map _ _ (none-from (step program s) s t (state_after program k) _ after
-      (λ u on. stuck-none program listing k j left u t on stuck (omega (arith, le, more)))))
+    (λ u on. stuck-none program listing k j left u t on stuck (omega (arith, le, more)))))
 
 pub never_stuck : NeverStuckWithOutcomes
 never_stuck program listing outcomes input k t (s, first, after) stuck =

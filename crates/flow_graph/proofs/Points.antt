@@ -37,7 +37,7 @@ following-place x (p ∷ ps) =
 
 -- the new point stands at the next place
 insert_after-place : (x y : ℕ) (ps : List ℕ) → place_of x ps < length ps
-  → insert_after x y ps ≡ insert ps (place_of x ps + 1) y
+    → insert_after x y ps ≡ insert ps (place_of x ps + 1) y
 insert_after-place x y [] h = absurd (omega arith)
 insert_after-place x y (p ∷ ps) h =
     let step : (1 + place_of x ps) + 1 ≡ suc (place_of x ps + 1) = omega arith in
@@ -76,7 +76,7 @@ without-absent x (p ∷ ps) h =
 
 -- the next point, at the place that was found
 pub following-found : (x : ℕ) (ps : List ℕ) (i : ℕ) → position (λ p. p == x) ps ≡ Some i
-  → following x ps ≡ slice_get ps (i + 1)
+    → following x ps ≡ slice_get ps (i + 1)
 following-found x ps i e = subst (λ k. following x ps ≡ slice_get ps (k + 1)) (place-some x ps i e).0 (following-place x ps)
 
 -- there is no next point where there is no place
@@ -87,7 +87,7 @@ following-none x ps e =
 
 -- the points with a new one, at the place that was found
 pub insert_after-found : (x y : ℕ) (ps : List ℕ) (i : ℕ) → position (λ p. p == x) ps ≡ Some i
-  → insert_after x y ps ≡ insert ps (i + 1) y
+    → insert_after x y ps ≡ insert ps (i + 1) y
 insert_after-found x y ps i e =
     let at = place-some x ps i e in
     subst (λ k. insert_after x y ps ≡ insert ps (k + 1) y) at.0 (insert_after-place x y ps (subst (λ k. k < length ps) (sym at.0) at.1))
@@ -120,8 +120,10 @@ every-push P (y ∷ ys) x h w = (h.0, every-push P ys x h.1 w)
 pub every-insert : (P : ℕ → Type 0) (x y : ℕ) (ps : List ℕ) → Every P ps → P y → Every P (insert_after x y ps)
 every-insert P x y [] h w = tt
 every-insert P x y (p ∷ ps) h w =
-    choose p x (Every P) (p ∷ y ∷ ps) (p ∷ insert_after x y ps) (λ e. (h.0, (w, h.1))) (h.0,
-      every-insert P x y ps h.1 w)
+    choose p x (Every P) (p ∷ y ∷ ps) (p ∷ insert_after x y ps) (λ e. (h.0, (w, h.1))) (
+      h.0,
+      every-insert P x y ps h.1 w,
+    )
 
 -- what holds of each holds of each that is left
 pub every-without : (P : ℕ → Type 0) (x : ℕ) (ps : List ℕ) → Every P ps → Every P (without x ps)
@@ -151,8 +153,10 @@ distinct-insert x y (p ∷ ps) d f =
 pub distinct-without : (x : ℕ) (ps : List ℕ) → IsDistinct ps → IsDistinct (without x ps)
 distinct-without x [] d = tt
 distinct-without x (p ∷ ps) d =
-    choose p x IsDistinct ps (p ∷ without x ps) (λ e. d.1) (every-without (λ q. q ≢ p) x ps d.0,
-      distinct-without x ps d.1)
+    choose p x IsDistinct ps (p ∷ without x ps) (λ e. d.1) (
+      every-without (λ q. q ≢ p) x ps d.0,
+      distinct-without x ps d.1,
+    )
 
 -- a point that is no end, before points of which only the last may be one
 ends-cons : (ops : List Op) (p : ℕ) (ps : List ℕ) → IsPlainAt ops p → EndsOnlyLast ops ps → EndsOnlyLast ops (p ∷ ps)
@@ -166,7 +170,7 @@ end_or_plain ops p op e n =
 
 -- where the last is no end, none is
 pub all_plain : (ops : List Op) (ps : List ℕ) → Every (λ p. (op : Op) × (slice_get ops p ≡ Some op)) ps
-  → EndsOnlyLast ops ps → (LastIsEnd ops ps → ⊥) → Every (IsPlainAt ops) ps
+    → EndsOnlyLast ops ps → (LastIsEnd ops ps → ⊥) → Every (IsPlainAt ops) ps
 all_plain ops [] h e n = tt
 all_plain ops (p ∷ []) h e n = (end_or_plain ops p h.0.0 h.0.1 n, tt)
 all_plain ops (p ∷ q ∷ ps) h e n = (e.0, all_plain ops (q ∷ ps) h.1 e.1 n)
@@ -178,7 +182,7 @@ ends-push ops (p ∷ ps) y h = ends-cons ops p (ps ++ y ∷ []) h.0 (ends-push o
 
 -- a new point that is no end, after one that is none
 pub ends-insert : (ops : List Op) (x y : ℕ) (ps : List ℕ) → IsPlainAt ops x → IsPlainAt ops y → EndsOnlyLast ops ps
-  → EndsOnlyLast ops (insert_after x y ps)
+    → EndsOnlyLast ops (insert_after x y ps)
 ends-insert ops x y [] h w e = tt
 ends-insert ops x y (p ∷ []) h w e =
     choose p x (EndsOnlyLast ops) (p ∷ y ∷ []) (p ∷ []) (λ s. (subst (IsPlainAt ops) (sym s) h, tt)) tt

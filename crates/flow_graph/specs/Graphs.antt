@@ -170,13 +170,21 @@ following point (p ∷ ps) = cond (eqb p point) (slice_get ps 0) (following poin
 
 -- the graph with one more variable
 abbrev pub with_variable : Flow → Width → Flow
-with_variable flow width = record { widths = flow.widths ++ width ∷ []; arrays = flow.arrays;
-  blocks = flow.blocks; ops = flow.ops }
+with_variable flow width = record {
+  widths = flow.widths ++ width ∷ [];
+  arrays = flow.arrays;
+  blocks = flow.blocks;
+  ops = flow.ops;
+}
 
 -- the graph with one more frame array
 abbrev pub with_array : Flow → ℕ → ℕ → Flow
-with_array flow width count = record { widths = flow.widths; arrays = flow.arrays ++ (width, count) ∷ [];
-  blocks = flow.blocks; ops = flow.ops }
+with_array flow width count = record {
+  widths = flow.widths;
+  arrays = flow.arrays ++ (width, count) ∷ [];
+  blocks = flow.blocks;
+  ops = flow.ops;
+}
 
 -- the graph with one more block, which is empty
 abbrev pub with_block : Flow → Flow
@@ -184,8 +192,12 @@ with_block flow = record { widths = flow.widths; arrays = flow.arrays; blocks = 
 
 -- the graph with one more op, and these points in a block
 abbrev pub with_points : Flow → ℕ → List ℕ → Op → Flow
-with_points flow block points op = record { widths = flow.widths; arrays = flow.arrays;
-  blocks = slice_set flow.blocks block points; ops = flow.ops ++ op ∷ [] }
+with_points flow block points op = record {
+  widths = flow.widths;
+  arrays = flow.arrays;
+  blocks = slice_set flow.blocks block points;
+  ops = flow.ops ++ op ∷ [];
+}
 
 -- the graph with a new point at the end of a block
 abbrev pub with_op : Flow → ℕ → Op → Flow
@@ -194,12 +206,16 @@ with_op flow block op = with_points flow block (points_of flow block ++ length f
 -- the graph with a new point right after a point of a block
 abbrev pub with_op_after : Flow → ℕ → ℕ → Op → Flow
 with_op_after flow block point op = with_points flow block
-  (insert_after point (length flow.ops) (points_of flow block)) op
+    (insert_after point (length flow.ops) (points_of flow block)) op
 
 -- the graph with a point removed from a block; its op stays, and its number is not used again
 abbrev pub without_point : Flow → ℕ → ℕ → Flow
-without_point flow block point = record { widths = flow.widths; arrays = flow.arrays;
-  blocks = slice_set flow.blocks block (without point (points_of flow block)); ops = flow.ops }
+without_point flow block point = record {
+  widths = flow.widths;
+  arrays = flow.arrays;
+  blocks = slice_set flow.blocks block (without point (points_of flow block));
+  ops = flow.ops;
+}
 
 -- the point has an op, and it fits
 abbrev pub HasFittingOp : Flow → ℕ → Type 0

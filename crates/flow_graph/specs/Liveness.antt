@@ -116,7 +116,7 @@ IsDefinedAt flow v point = (op : Op) × (slice_get flow.ops point ≡ Some op) �
 abbrev pub ReachesUse : Flow → ℕ → ℕ → ℕ → Type 0
 ReachesUse flow v zero point = IsUsedAt flow v point
 ReachesUse flow v (suc n) point = (IsDefinedAt flow v point → ⊥) × (next : ℕ) × IsSuccessor flow point next
-  × ReachesUse flow v n next
+    × ReachesUse flow v n next
 
 -- the variable is live before the point: some path from it reaches a use with no definition before that use
 abbrev pub IsLiveBefore : Flow → ℕ → ℕ → Type 0

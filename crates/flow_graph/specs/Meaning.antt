@@ -51,7 +51,7 @@ one_number program s d a f = given (number_at s a) (λ x. sets program s d (Numb
 
 abbrev pub two_numbers : GraphProgram → State → ℕ → ℕ → ℕ → (ℤ → ℤ → ℤ) → Moved
 two_numbers program s d a b f = given (number_at s a)
-  (λ x. given (number_at s b) (λ y. sets program s d (Number (f x y))))
+    (λ x. given (number_at s b) (λ y. sets program s d (Number (f x y))))
 
 -- ---- arithmetic
 
@@ -71,7 +71,7 @@ no_quotient a b = if int_eq b (pos 0) then true else int_eq a (negsuc 2147483647
 abbrev pub divided : GraphProgram → State → ℕ → ℕ → ℕ → (ℤ → ℤ → ℤ) → Moved
 divided program s d a b f =
     given (number_at s a) (λ x. given (number_at s b) (λ y. if no_quotient x y then Halts (Trapped Divide)
-      else sets program s d (Number (f x y))))
+    else sets program s d (Number (f x y))))
 
 -- ---- comparisons
 
@@ -107,7 +107,7 @@ first_of None other = other
 -- two numbers, or two values that are each an array or 0
 abbrev pub comparison : Comparison → State → ℕ → ℕ → Option Bool
 comparison how s a b = first_of (both (number_at s a) (number_at s b) (compared how))
-  (arrays_compared how (array_at s a) (array_at s b))
+    (arrays_compared how (array_at s a) (array_at s b))
 
 -- ---- accesses
 
@@ -139,19 +139,19 @@ checked (Some n) go = go n
 
 abbrev pub loads : GraphProgram → State → Bits → ℕ → ArrayName → ℤ → Moved
 loads program s bits d array i = accessed program s bits array
-  (λ elements. checked (element_at elements i) (λ n. sets program s d (Number n)))
+    (λ elements. checked (element_at elements i) (λ n. sets program s d (Number n)))
 
 abbrev pub stores : GraphProgram → State → Bits → ArrayName → ℤ → ℤ → Moved
 stores program s bits array i n =
     accessed program s bits array (λ elements.
-      checked (element_at elements i) (λ old.
-      onward program (with_array array (with_element elements i (stored bits n)) s)))
+    checked (element_at elements i) (λ old.
+    onward program (with_array array (with_element elements i (stored bits n)) s)))
 
 -- the frame array becomes zero
 abbrev pub clears : GraphProgram → State → ℕ → Moved
 clears program s k =
     given (slice_get s.current.arrays k)
-      (λ elements. onward program (with_array (InFrame k (depth_of s)) (replicate (length elements) (pos 0)) s))
+    (λ elements. onward program (with_array (InFrame k (depth_of s)) (replicate (length elements) (pos 0)) s))
 
 -- ---- calls
 
@@ -178,7 +178,7 @@ enters program s f arguments =
 abbrev pub calls : GraphProgram → State → ℕ → List ℕ → Moved
 calls program s f arguments =
     given (values_at s arguments) (λ values. if nat_le most_active (depth_of s) then Halts (Trapped Check)
-      else enters program s f values)
+    else enters program s f values)
 
 -- the state of the caller, at its call
 abbrev pub back_to : State → Waiting → List Waiting → State
@@ -201,7 +201,7 @@ ends_program (Some n) = Halts (Ended (low_byte n))
 abbrev pub returns_to : GraphProgram → State → List Waiting → Option ℤ → Moved
 returns_to program s [] n = ends_program n
 returns_to program s (w ∷ waiting) n = result_to program (back_to s w waiting) n
-  (op_of program w.activation.function w.point)
+    (op_of program w.activation.function w.point)
 
 -- ---- the outside
 
@@ -234,14 +234,14 @@ act program s (op.Sar d a c) = two_numbers program s d a c (λ x y. shifted_righ
 act program s (op.Div d a b) = divided program s d a b int_div
 act program s (op.Rem d a b) = divided program s d a b int_rem
 act program s (op.Set how d a b) = given (comparison how s a b)
-  (λ holds. sets program s d (Number (if holds then pos 1 else pos 0)))
+    (λ holds. sets program s d (Number (if holds then pos 1 else pos 0)))
 act program s (op.Frame d k) = sets program s d (Array (InFrame k (depth_of s)))
 act program s (op.Static d k) = sets program s d (Array (Static k))
 act program s (op.Load bits d p i) = given (array_at s p)
-  (λ array. given (number_at s i) (loads program s bits d array))
+    (λ array. given (number_at s i) (loads program s bits d array))
 act program s (op.Store bits p i a) =
     given (array_at s p) (λ array. given (number_at s i)
-      (λ index. given (number_at s a) (stores program s bits array index)))
+    (λ index. given (number_at s a) (stores program s bits array index)))
 act program s (op.Get bits d k) = loads program s bits d (Static k) (pos 0)
 act program s (op.Put bits k a) = given (number_at s a) (stores program s bits (Static k) (pos 0))
 act program s (op.Clear k) = clears program s k
@@ -251,12 +251,12 @@ act program s (op.Putchar d a) = given (number_at s a) (puts program s d)
 act program s (op.Getchar d) = gets program s d s.left
 act program s (op.Exit a) = given (number_at s a) (λ n. Halts (Ended (low_byte n)))
 act program s (op.Same a b) = given (comparison Eq s a b) (λ holds. if holds then onward program s
-  else Halts (Trapped Check))
+    else Halts (Trapped Check))
 act program s (op.Mark statement) = onward program s
 act program s op.Turn = onward program s
 act program s (op.Jump x) = into_block program x s
 act program s (op.Branch how a b x y) = given (comparison how s a b)
-  (λ holds. into_block program (if holds then x else y) s)
+    (λ holds. into_block program (if holds then x else y) s)
 act program s (op.Return (Some a)) = given (number_at s a) (λ n. returns_to program s s.waiting (Some n))
 act program s (op.Return None) = returns_to program s s.waiting None
 

@@ -50,8 +50,10 @@ part_value s (IndexOf v) = Number (number_or_zero (number_at s v))
 
 -- the visit of a mark, with the values before it
 abbrev pub visits_at : Listing → State → Option Op → List Visit
-visits_at listing s (Some (op.Mark statement)) = record { statement = statement;
-  values = map (part_value s) (listing statement) } ∷ []
+visits_at listing s (Some (op.Mark statement)) = record {
+  statement = statement;
+  values = map (part_value s) (listing statement);
+} ∷ []
 visits_at listing s _ = []
 
 -- ---- the outcome
@@ -81,13 +83,13 @@ run_within program listing zero turns s = None
 run_within program listing (suc steps) turns s =
     with_turn (takes_turn (op_at program s)) turns s
     (λ left. option_map (after_visits (visits_at listing s (op_at program s)))
-      (outcome_from (step program s) s (run_within program listing steps left)))
+    (outcome_from (step program s) s (run_within program listing steps left)))
 
 -- this is the outcome of the program over an input in so many turns
 abbrev pub GraphOutcome : GraphProgram → Listing → List ℕ → ℕ → Outcome → Type 0
 GraphOutcome program listing input turns outcome =
     (s : State) × (first_state program input ≡ Some s) × (steps : ℕ)
-      × (run_within program listing steps turns s ≡ Some outcome)
+    × (run_within program listing steps turns s ≡ Some outcome)
 
 -- ---- laws
 
@@ -100,7 +102,7 @@ OneOutcome =
 -- after so many steps there is one state
 abbrev pub OneState : Type 0
 OneState = (program : GraphProgram) (input : List ℕ) (k : ℕ) (s t : State) → GraphAt program input k s
-  → GraphAt program input k t → s ≡ t
+    → GraphAt program input k t → s ≡ t
 
 -- a program that has an outcome over each input in each number of turns is never stuck
 abbrev pub NeverStuckWithOutcomes : Type 0

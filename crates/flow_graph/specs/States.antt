@@ -103,8 +103,14 @@ array_at s v = array_from (value_at s v)
 
 abbrev pub with_variables : List Value → State → State
 with_variables variables s =
-    record s { current = record { function = s.current.function; arguments = s.current.arguments; variables = variables;
-      arrays = s.current.arrays } }
+    record s {
+      current = record {
+        function = s.current.function;
+        arguments = s.current.arguments;
+        variables = variables;
+        arrays = s.current.arrays;
+      };
+    }
 
 -- the state with another value in a variable
 abbrev pub with_value : ℕ → Value → State → State
@@ -125,8 +131,12 @@ abbrev pub depth_of : State → ℕ
 depth_of s = suc (length s.waiting)
 
 abbrev pub with_elements : ℕ → List ℤ → Activation → Activation
-with_elements k elements a = record { function = a.function; arguments = a.arguments; variables = a.variables;
-  arrays = slice_set a.arrays k elements }
+with_elements k elements a = record {
+  function = a.function;
+  arguments = a.arguments;
+  variables = a.variables;
+  arrays = slice_set a.arrays k elements;
+}
 
 -- the place among the waiting calls of the one of a depth, with `main` at depth 1
 abbrev pub waiting_place : State → ℕ → ℕ
@@ -135,7 +145,7 @@ waiting_place s depth = length s.waiting - depth
 -- the active call of a depth
 abbrev pub frame_at : State → ℕ → Option Activation
 frame_at s depth = if depth == depth_of s then Some s.current
-  else option_map (λ w. w.activation) (slice_get s.waiting (waiting_place s depth))
+    else option_map (λ w. w.activation) (slice_get s.waiting (waiting_place s depth))
 
 -- an array: the bytes of an element, and its elements
 abbrev pub Elements : Type 0
@@ -148,20 +158,23 @@ elements_with _ _ = None
 abbrev pub elements_in : GraphProgram → ℕ → Option Activation → Option Elements
 elements_in program k None = None
 elements_in program k (Some a) = elements_with
-  (option_map (λ array. array.0) (slice_get (flow_at program a.function).arrays k)) (slice_get a.arrays k)
+    (option_map (λ array. array.0) (slice_get (flow_at program a.function).arrays k)) (slice_get a.arrays k)
 
 abbrev pub elements_of : GraphProgram → State → ArrayName → Option Elements
 elements_of program s Null = None
 elements_of program s (Static k) = elements_with (option_map (λ object. object.width) (slice_get program.objects k))
-  (slice_get s.objects k)
+    (slice_get s.objects k)
 elements_of program s (InFrame k depth) = elements_in program k (frame_at s depth)
 elements_of program s Unknown = None
 
 abbrev pub waiting_with : ℕ → List ℤ → ℕ → Option Waiting → List Waiting → List Waiting
 waiting_with k elements place None waiting = waiting
 waiting_with k elements place (Some w) waiting =
-    slice_set waiting place (record { activation = with_elements k elements w.activation;
-      block = w.block; point = w.point })
+    slice_set waiting place (record {
+      activation = with_elements k elements w.activation;
+      block = w.block;
+      point = w.point;
+    })
 
 -- the state where an array has these elements
 abbrev pub with_array : ArrayName → List ℤ → State → State
@@ -169,8 +182,10 @@ with_array Null elements s = s
 with_array (Static k) elements s = record s { objects = slice_set s.objects k elements }
 with_array (InFrame k depth) elements s =
     if depth == depth_of s then record s { current = with_elements k elements s.current }
-    else record s { waiting = waiting_with k elements (waiting_place s depth)
-      (slice_get s.waiting (waiting_place s depth)) s.waiting }
+    else record s {
+      waiting = waiting_with k elements (waiting_place s depth)
+          (slice_get s.waiting (waiting_place s depth)) s.waiting;
+    }
 with_array Unknown elements s = s
 
 -- the element at an index, where there is one

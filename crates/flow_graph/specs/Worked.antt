@@ -27,5 +27,9 @@ abbrev pub nothing_yet : Outcome
 nothing_yet = record { visits = []; taken = 0; written = []; end = Goes }
 
 abbrev pub written_and_ended : Outcome
-written_and_ended = record { visits = record { statement = 7; values = Number (pos 0) ∷ [] } ∷ []; taken = 0;
-  written = 44 ∷ []; end = Ended 44 }
+written_and_ended = record {
+  visits = record { statement = 7; values = Number (pos 0) ∷ [] } ∷ [];
+  taken = 0;
+  written = 44 ∷ [];
+  end = Ended 44;
+}

@@ -126,7 +126,7 @@ impl Graph {
         requires fits { FitsOp self.old op }
         ensures { MatchResult result
             (λ new. (new ≡ length self.old.ops)
-              × ((block : ℕ) → Stands self.old point block → self.new ≡ with_op_after self.old block point op))
+            × ((block : ℕ) → Stands self.old point block → self.new ≡ with_op_after self.old block point op))
             (λ _. self.new ≡ self.old) }
     {
         self.ops.reserve(1)?;

@@ -9,8 +9,8 @@ use Rattle.c_declarations.proofs.declarations.items_behind.Given as goal
 abbrev pub invariant-items : goal.invariant-items
 invariant-items l = record {
   reads : Continues (list_step (read_item (below l.height)))
-    (map item_of l.items.items, l.commas.items) l.parser.rest.now
-    (read_more (read_item (below l.height)) (item_of l.fn.first) l.fn.parser.rest.now);
+      (map item_of l.items.items, l.commas.items) l.parser.rest.now
+      (read_more (read_item (below l.height)) (item_of l.fn.first) l.fn.parser.rest.now);
   shorter : length l.parser.rest.now ≤ length l.fn.parser.rest.now;
 }
 

@@ -18,4 +18,4 @@ returns-in_err-next-clause-reads c =
 
 pub returns-clause-reads : goal.returns-clause-reads
 returns-clause-reads c = list_done _ _ _ _ _ c.parameters.invariant.reads c.in_default.ensures.none
-  c.in_default.ensures.stays
+    c.in_default.ensures.stays

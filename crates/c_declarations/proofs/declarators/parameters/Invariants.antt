@@ -9,8 +9,8 @@ use Rattle.c_declarations.proofs.declarators.parameters.Given as goal
 abbrev pub invariant-parameters : goal.invariant-parameters
 invariant-parameters l = record {
   reads : Continues (list_step (read_parameter (below l.height)))
-    (map parameter_of l.parameters.items, l.commas.items) l.parser.rest.now
-    (read_parameters (below l.height) l.fn.parser.rest.now);
+      (map parameter_of l.parameters.items, l.commas.items) l.parser.rest.now
+      (read_parameters (below l.height) l.fn.parser.rest.now);
   shorter : length l.parser.rest.now ≤ length l.fn.parser.rest.now;
 }
 

@@ -9,7 +9,7 @@ use Rattle.c_declarations.proofs.initialisers.values.Given as goal
 abbrev pub invariant-values : goal.invariant-values
 invariant-values l = record {
   reads : Continues (brace_step (below l.height)) (values_of l.values) l.parser.rest.now
-    (read_values (below l.height) l.fn.parser.rest.now);
+      (read_values (below l.height) l.fn.parser.rest.now);
   height : l.values.height ≡ height_of_values l.values;
   within : l.values.height < l.height;
   shorter : length l.parser.rest.now ≤ length l.fn.parser.rest.now;

@@ -13,7 +13,7 @@ use Rattle.c_front.proofs.program.program_of_source.Goals as goal
 
 -- the names of a program of the text's tokens
 named : (text : List ℕ) (tokens : List Token) (r : Result Built Refusal) → HasTokens 0 text tokens
-  → IfOk r (λ p. HasProgram tokens (program_of p)) → IfOk r (λ p. AllAre IsNamed (program_of p).functions)
+    → IfOk r (λ p. HasProgram tokens (program_of p)) → IfOk r (λ p. AllAre IsNamed (program_of p).functions)
 named text tokens (Ok p) lexed has = program_names text (program_of p) (tokens, lexed, has)
 named text tokens (Err e) lexed has = tt
 
@@ -24,4 +24,4 @@ returns-in_err-tokens-clause-refused c =
 
 pub returns-clause-names : goal.returns-clause-names
 returns-clause-names c = named c.args.text.now c.in_ok-tokens.tokens.items c.program_of_tokens.result
-  c.in_ok-tokens.ensures.tokens c.program_of_tokens.ensures.accepted
+    c.in_ok-tokens.ensures.tokens c.program_of_tokens.ensures.accepted

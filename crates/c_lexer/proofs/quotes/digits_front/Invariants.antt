@@ -7,4 +7,4 @@ use Rattle.c_lexer.proofs.quotes.digits_front.Given as goal
 abbrev pub invariant-loop-count : goal.invariant-loop-count
 invariant-loop-count l =
     FrontState (base_of l.radix) (front_of (is_digit_of l.radix) l.bytes) l.number l.count
-      (front_of (is_digit_of l.radix) (drop l.count l.bytes))
+    (front_of (is_digit_of l.radix) (drop l.count l.bytes))

@@ -25,7 +25,7 @@ pub returns-in_default-3 : goal.returns-in_default-3
 returns-in_default-3 c =
     let a : At c.args.statements.now c.statements.s-index c.s-item.result c.statements.body.items c.len-number.result c.statements.names (read_body [] 0 (stmts_of (map stmt_of c.args.statements.now))) = record { inside = omega arith; here = c.s-item.is; counted = omega (arith, c.len-number.ensures, c.statements.invariant.counted); read = c.statements.invariant.read } in
     item_stops a (rule_view c.rule_of-rule.result) c.rule_of-rule.ensures
-      (rw c.in_default.is at c.value_returned.ensures) (rw c.in_default-3.is at c.in_ok-next.ensures.read)
+    (rw c.in_default.is at c.value_returned.ensures) (rw c.in_default-3.is at c.in_ok-next.ensures.read)
 
 pub statements-preserved : goal.statements-preserved
 statements-preserved c =

@@ -11,5 +11,5 @@ invariant-statements l = record {
   few : length l.names ≤ 1000;
   counted : length l.body.items ≡ l.s-index;
   read : joined (map statement_of l.body.items) (body_from l.names l.s-index (drop l.s-index l.statements))
-    ≡ read_body [] 0 (stmts_of (map stmt_of l.statements));
+      ≡ read_body [] 0 (stmts_of (map stmt_of l.statements));
 }

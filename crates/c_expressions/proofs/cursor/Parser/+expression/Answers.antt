@@ -13,7 +13,7 @@ use Rattle.c_expressions.proofs.cursor.Parser.+expression.Goals as goal
 pub below-returns-then-height-eq1-clause-reads : goal.below-returns-then-height-eq1-clause-reads
 below-returns-then-height-eq1-clause-reads t c =
     refused_fault _ _ _ (none_below c.args.rule c.args.height c.args.self.now.rest.now
-      c.if-height-eq1.true) c.fault_at.ensures
+    c.if-height-eq1.true) c.fault_at.ensures
 
 pub below-returns-in-Expression-clause-reads : goal.below-returns-in-Expression-clause-reads
 below-returns-in-Expression-clause-reads t c =
@@ -55,7 +55,7 @@ binary-returns-in_err-left-clause-reads t c =
     let p = err_from_is_err_and c.from_residual.result c.from_residual.ensures.1 in
     let pos : 0 < c.args.level = omega (arith, c.if-level-eq0.false) in
     rw (p.1, p.2) (rw (read_binary_above c.args.height (below c.args.height) c.args.level c.args.self.now.rest.now pos)
-      (refused_then _ _ _ c.in_err-left.ensures.reads))
+    (refused_then _ _ _ c.in_err-left.ensures.reads))
 
 pub binary-operators-preserved : goal.binary-operators-preserved
 binary-operators-preserved t c =
@@ -120,7 +120,7 @@ postfix-returns-in-Last-clause-reads t c =
 pub arguments-returns-then-height-eq1-clause-values : goal.arguments-returns-then-height-eq1-clause-values
 arguments-returns-then-height-eq1-clause-values t c =
     refused_fault _ _ _ (no_arguments c.args.height c.args.self.now.rest.now c.if-height-eq1.true (sym c.at_mark.ensures
-      ∙ c.if-at_mark.false)) c.no_height.ensures
+    ∙ c.if-at_mark.false)) c.no_height.ensures
 
 pub arguments-values-preserved : goal.arguments-values-preserved
 arguments-values-preserved t c =

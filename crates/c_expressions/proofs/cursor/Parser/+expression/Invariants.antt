@@ -61,7 +61,7 @@ decreases-value l = 32 * l.height + 1
 abbrev pub invariant-expression-operators : goal.invariant-expression-operators
 invariant-expression-operators l = record {
   reads : Continues (infix_step 13 l.height (below l.height).assignment) (expr_of l.left.tree.value) l.self.rest.now
-    (read_expression l.height (below l.height) l.fn.self.rest.now);
+      (read_expression l.height (below l.height) l.fn.self.rest.now);
   height : l.left.height ≡ expr_height (expr_of l.left.tree.value);
   within : (0 < l.left.height) × (l.left.height ≤ l.height);
   shorter : length l.self.rest.now < length l.fn.self.rest.now;
@@ -73,7 +73,7 @@ decreases-expression-operators l = length l.self.rest.now
 abbrev pub invariant-binary-operators : goal.invariant-binary-operators
 invariant-binary-operators l = record {
   reads : Continues (infix_step l.level l.height ((below l.height).binary (l.level - 1)))
-    (expr_of l.left.tree.value) l.self.rest.now (read_binary l.height (below l.height) l.level l.fn.self.rest.now);
+      (expr_of l.left.tree.value) l.self.rest.now (read_binary l.height (below l.height) l.level l.fn.self.rest.now);
   height : l.left.height ≡ expr_height (expr_of l.left.tree.value);
   within : (0 < l.left.height) × (l.left.height ≤ l.height);
   shorter : length l.self.rest.now < length l.fn.self.rest.now;
@@ -85,7 +85,7 @@ decreases-binary-operators l = length l.self.rest.now
 abbrev pub invariant-postfix-suffixes : goal.invariant-postfix-suffixes
 invariant-postfix-suffixes l = record {
   reads : Continues (suffix_step l.height (below l.height)) (expr_of l.base.tree.value) l.self.rest.now
-    (read_postfix l.height (below l.height) l.fn.self.rest.now);
+      (read_postfix l.height (below l.height) l.fn.self.rest.now);
   height : l.base.height ≡ expr_height (expr_of l.base.tree.value);
   within : (0 < l.base.height) × (l.base.height ≤ l.height);
   shorter : length l.self.rest.now < length l.fn.self.rest.now;
@@ -97,7 +97,7 @@ decreases-postfix-suffixes l = length l.self.rest.now
 abbrev pub invariant-arguments-values : goal.invariant-arguments-values
 invariant-arguments-values l = record {
   reads : Continues (value_step (below l.height)) (values_of l.values) l.self.rest.now
-    (read_arguments (below l.height) l.fn.self.rest.now);
+      (read_arguments (below l.height) l.fn.self.rest.now);
   height : l.values.height ≡ height_of_values l.values;
   within : l.values.height < l.height;
   shorter : length l.self.rest.now ≤ length l.fn.self.rest.now;

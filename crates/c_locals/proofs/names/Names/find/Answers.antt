@@ -1,4 +1,4 @@
-use Rattle.std.proofs.Common.{sym, ◌∙◌, rules}
+use Rattle.std.proofs.Common.{sym, ◌∙◌}
 use Rattle.c_locals.proofs.NameTables.{found}
 use Rattle.c_locals.proofs.names.Names.find.Goals as goal
 

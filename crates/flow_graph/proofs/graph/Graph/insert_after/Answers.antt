@@ -22,7 +22,7 @@ invariant_of-self-2 c =
     let put : c.insert_after.new.self ≡ insert_after c.args.point c.len-new.result c.index_mut-points.result.now = c.in_ok-insert_after.ensures in
     put ∙ rw (element, count) refl) in
     rw (ops_are, homes_are, points_are)
-      (flow-insert _ _ c.index-block.result.now c.args.point c.args.op c.self.invariant h
+    (flow-insert _ _ c.index-block.result.now c.args.point c.args.op c.self.invariant h
     (subst (λ (f : Flow). length f.ops < 4294967295) (sym c.self.view_is) c.requires.room)
     (subst (λ (f : Flow). IsPlainAt f.ops c.args.point) (sym c.self.view_is) c.requires.plain)
     c.requires.no_end

@@ -19,5 +19,5 @@ returns c = λ block s.
     let same : c.index-block.result.now ≡ block = home-is _ c.args.self.now _ c.args.point block _ c.self.view_is c.self.invariant s c.index-block.ensures in
     let h : c.index-block.result.now < length c.self.inside.blocks.items = home-block _ c.args.self.now _ c.args.point _ c.self.view_is c.self.invariant c.requires c.index-block.ensures in
     rw (← same) (rw (← c.self.view_is) (c.next.ensures
-      ∙ ap (following c.args.point) (c.index-points.ensures
-      ∙ get_or_default c.self.inside.blocks.items c.index-block.result.now c.index-points.result.now [] h)))
+    ∙ ap (following c.args.point) (c.index-points.ensures
+    ∙ get_or_default c.self.inside.blocks.items c.index-block.result.now c.index-points.result.now [] h)))

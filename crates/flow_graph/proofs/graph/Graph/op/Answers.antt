@@ -11,5 +11,5 @@ index-requires c =
 pub returns : goal.returns
 returns c =
     rw (← c.self.view_is) (slice_get_read c.self.inside.ops.items
-      (length c.self.inside.ops.items) c.args.point c.index.result.now refl
-      (has_op _ c.args.self.now _ c.args.point c.self.view_is c.self.invariant c.requires) c.index.ensures)
+    (length c.self.inside.ops.items) c.args.point c.index.result.now refl
+    (has_op _ c.args.self.now _ c.args.point c.self.view_is c.self.invariant c.requires) c.index.ensures)
