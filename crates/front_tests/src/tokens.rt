@@ -56,6 +56,7 @@ const TOKENS: [(&str, &str); 15] = texts! {
 /// The text of each row has these tokens.
 fn expect_tokens(rt: &impl Abort, alloc: Global, rows: &[(&str, &str)]) -> Result<(), Fail> {
     for (text, shown) in rows {
+        assert!(rt; text.len() <= 1000);
         let tokens = match lex(alloc, 0, text.as_bytes(), MOST) {
             Ok(tokens) => tokens,
             Err(_) => return Err(Fail::new(text)),
@@ -106,6 +107,7 @@ fn expect_faults(
     rows: &[(&str, (u32, u32, FaultKind))],
 ) -> Result<(), Fail> {
     for (text, (line, col, kind)) in rows {
+        assert!(rt; text.len() <= 1000);
         match lex(alloc, 3, text.as_bytes(), MOST) {
             Err(Refusal::Fault(fault)) => {
                 assert_eq!(rt; fault.kind, *kind, "{text}");

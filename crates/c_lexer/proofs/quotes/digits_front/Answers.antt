@@ -1,4 +1,4 @@
-use Rattle.std.proofs.Common.{◌≡◌, ◌<◌, ◌+◌, true, length, drop, get_or, arith}
+use Rattle.std.proofs.Common.{◌<◌, ◌+◌, length, drop, get_or, arith}
 use Rattle.c_lexer.specs.Radixes.{base_of, is_digit_of}
 use Rattle.c_lexer.specs.Characters.{front_of}
 use Rattle.c_lexer.proofs.DigitFronts.{base_above, digit_read, front_next, front_pass}
