@@ -155,35 +155,35 @@ read_fields8 bytes = read_fields bytes >>= (λ f. Some (f.0, rm8_of f.1, f.2))
 -- no fields: 50+rd, 58+rd, 90, 99, C3, C9
 unfoldable pub lone_insn : ℕ → Option Insn
 lone_insn opcode =
-    if nat_le 80 opcode && nat_lt opcode 88 then Some (insn.Push (rm.Reg (register_at (opcode - 80))))
-    else if nat_le 88 opcode && nat_lt opcode 96 then Some (insn.Pop (register_at (opcode - 88)))
-    else if opcode == 144 then Some insn.Nop
-    else if opcode == 153 then Some insn.Cdq
-    else if opcode == 195 then Some insn.Ret
-    else if opcode == 201 then Some insn.Leave
+    if nat_le 0x50 opcode && nat_lt opcode 0x58 then Some (insn.Push (rm.Reg (register_at (opcode - 0x50))))
+    else if nat_le 0x58 opcode && nat_lt opcode 0x60 then Some (insn.Pop (register_at (opcode - 0x58)))
+    else if opcode == 0x90 then Some insn.Nop
+    else if opcode == 0x99 then Some insn.Cdq
+    else if opcode == 0xc3 then Some insn.Ret
+    else if opcode == 0xc9 then Some insn.Leave
     else None
 
 -- a byte: B0+rb, CD
 unfoldable pub byte_insn : ℕ → ℕ → Option Insn
 byte_insn opcode n =
-    if nat_le 176 opcode && nat_lt opcode 184 then Some (insn.Mov8Imm (byte_register_at (opcode - 176)) n)
-    else if opcode == 205 then Some (insn.Int n)
+    if nat_le 0xb0 opcode && nat_lt opcode 0xb8 then Some (insn.Mov8Imm (byte_register_at (opcode - 0xb0)) n)
+    else if opcode == 0xcd then Some (insn.Int n)
     else None
 
 -- a signed byte: 70+cc, EB
 unfoldable pub short_insn : ℕ → ℤ → Option Insn
 short_insn opcode z =
-    if nat_le 112 opcode && nat_lt opcode 128 then Some (insn.Jcc (condition_at (opcode - 112)) z)
-    else if opcode == 235 then Some (insn.Jmp z)
+    if nat_le 0x70 opcode && nat_lt opcode 0x80 then Some (insn.Jcc (condition_at (opcode - 0x70)) z)
+    else if opcode == 0xeb then Some (insn.Jmp z)
     else None
 
 -- four bytes: 68, B8+rd, E8, E9
 unfoldable pub long_insn : ℕ → ℤ → Option Insn
 long_insn opcode z =
-    if opcode == 104 then Some (insn.PushImm z)
-    else if nat_le 184 opcode && nat_lt opcode 192 then Some (insn.MovImm (rm.Reg (register_at (opcode - 184))) z)
-    else if opcode == 232 then Some (insn.Call z)
-    else if opcode == 233 then Some (insn.Jmp z)
+    if opcode == 0x68 then Some (insn.PushImm z)
+    else if nat_le 0xb8 opcode && nat_lt opcode 0xc0 then Some (insn.MovImm (rm.Reg (register_at (opcode - 0xb8))) z)
+    else if opcode == 0xe8 then Some (insn.Call z)
+    else if opcode == 0xe9 then Some (insn.Jmp z)
     else None
 
 -- from memory, or between registers, with the destination in the reg field
@@ -222,52 +222,52 @@ unary_insn number operand =
 -- ModRM with an operand of 32 bits: 00 to 3F, 85, 87, 89, 8B, 8D, D3, F7, FF
 unfoldable pub fields32_insn : ℕ → ℕ → Rm32 → Option Insn
 fields32_insn opcode reg operand =
-    if nat_lt opcode 64 then (operation_at (opcode / 8) >>= (λ op. alu_insn (opcode % 8) op (register_at reg) operand))
-    else if opcode == 133 then Some (insn.Test operand (register_at reg))
-    else if opcode == 135 then Some (insn.Xchg operand (register_at reg))
-    else if opcode == 137 then Some (insn.Mov operand (register_at reg))
-    else if opcode == 139 then Some (mov_from (register_at reg) operand)
-    else if opcode == 141 then lea_from (register_at reg) operand
-    else if opcode == 211 then (shift_at reg >>= (λ op. Some (insn.ShiftCl op operand)))
-    else if opcode == 247 then unary_insn reg operand
-    else if opcode == 255 && reg == 6 then Some (insn.Push operand)
+    if nat_lt opcode 0x40 then (operation_at (opcode / 8) >>= (λ op. alu_insn (opcode % 8) op (register_at reg) operand))
+    else if opcode == 0x85 then Some (insn.Test operand (register_at reg))
+    else if opcode == 0x87 then Some (insn.Xchg operand (register_at reg))
+    else if opcode == 0x89 then Some (insn.Mov operand (register_at reg))
+    else if opcode == 0x8b then Some (mov_from (register_at reg) operand)
+    else if opcode == 0x8d then lea_from (register_at reg) operand
+    else if opcode == 0xd3 then (shift_at reg >>= (λ op. Some (insn.ShiftCl op operand)))
+    else if opcode == 0xf7 then unary_insn reg operand
+    else if opcode == 0xff && reg == 6 then Some (insn.Push operand)
     else None
 
 -- with one of 8 bits: 86, 88, 8A
 unfoldable pub fields8_insn : ℕ → ℕ → Rm8 → Option Insn
 fields8_insn opcode reg operand =
-    if opcode == 134 then Some (insn.Xchg8 operand (byte_register_at reg))
-    else if opcode == 136 then Some (insn.Mov8 operand (byte_register_at reg))
-    else if opcode == 138 then Some (mov8_from (byte_register_at reg) operand)
+    if opcode == 0x86 then Some (insn.Xchg8 operand (byte_register_at reg))
+    else if opcode == 0x88 then Some (insn.Mov8 operand (byte_register_at reg))
+    else if opcode == 0x8a then Some (mov8_from (byte_register_at reg) operand)
     else None
 
 -- with one of 32 bits, and a signed number after it: 81 and 83, C7 /0
 unfoldable pub immediate_insn : ℕ → ℕ → Rm32 → ℤ → Option Insn
 immediate_insn opcode reg operand z =
-    if opcode == 129 || opcode == 131 then (operation_at reg >>= (λ op. Some (insn.AluImm op operand z)))
-    else if opcode == 199 && reg == 0 then Some (insn.MovImm operand z)
+    if opcode == 0x81 || opcode == 0x83 then (operation_at reg >>= (λ op. Some (insn.AluImm op operand z)))
+    else if opcode == 0xc7 && reg == 0 then Some (insn.MovImm operand z)
     else None
 
 -- after 0F, with one of 32 or 16 bits: AF, B7, BF
 unfoldable pub extended32_insn : ℕ → ℕ → Rm32 → Option Insn
 extended32_insn opcode reg operand =
-    if opcode == 175 then Some (insn.IMul (register_at reg) operand)
-    else if opcode == 183 then Some (insn.MovZx16 (register_at reg) operand)
-    else if opcode == 191 then Some (insn.MovSx16 (register_at reg) operand)
+    if opcode == 0xaf then Some (insn.IMul (register_at reg) operand)
+    else if opcode == 0xb7 then Some (insn.MovZx16 (register_at reg) operand)
+    else if opcode == 0xbf then Some (insn.MovSx16 (register_at reg) operand)
     else None
 
 -- with one of 8 bits: 90+cc, B6, BE
 unfoldable pub extended8_insn : ℕ → ℕ → Rm8 → Option Insn
 extended8_insn opcode reg operand =
-    if nat_le 144 opcode && nat_lt opcode 160 then Some (insn.SetCc (condition_at (opcode - 144)) operand)
-    else if opcode == 182 then Some (insn.MovZx8 (register_at reg) operand)
-    else if opcode == 190 then Some (insn.MovSx8 (register_at reg) operand)
+    if nat_le 0x90 opcode && nat_lt opcode 0xa0 then Some (insn.SetCc (condition_at (opcode - 0x90)) operand)
+    else if opcode == 0xb6 then Some (insn.MovZx8 (register_at reg) operand)
+    else if opcode == 0xbe then Some (insn.MovSx8 (register_at reg) operand)
     else None
 
 -- after 66: 89
 unfoldable pub sixteen_insn : ℕ → ℕ → Rm32 → Option Insn
 sixteen_insn opcode reg operand =
-    if opcode == 137 then Some (insn.Mov16 operand (register_at reg))
+    if opcode == 0x89 then Some (insn.Mov16 operand (register_at reg))
     else None
 
 -- ---- instructions, by what follows an opcode of so many bytes
@@ -318,10 +318,10 @@ read_shift bytes = do
 -- after 0F
 unfoldable pub read_extended : ℕ → List ℕ → Option (Insn × ℕ)
 read_extended opcode rest =
-    if opcode == 11 then Some (insn.Ud2, 2)
-    else if nat_le 128 opcode && nat_lt opcode 144 then read_with_signed 2 4 (λ z. Some (insn.Jcc (condition_at (opcode - 128)) z)) rest
-    else if nat_le 144 opcode && nat_lt opcode 160 || opcode == 182 || opcode == 190 then read_with8 2 (extended8_insn opcode) rest
-    else if opcode == 175 || opcode == 183 || opcode == 191 then read_with32 2 (extended32_insn opcode) rest
+    if opcode == 0x0b then Some (insn.Ud2, 2)
+    else if nat_le 0x80 opcode && nat_lt opcode 0x90 then read_with_signed 2 4 (λ z. Some (insn.Jcc (condition_at (opcode - 0x80)) z)) rest
+    else if nat_le 0x90 opcode && nat_lt opcode 0xa0 || opcode == 0xb6 || opcode == 0xbe then read_with8 2 (extended8_insn opcode) rest
+    else if opcode == 0xaf || opcode == 0xb7 || opcode == 0xbf then read_with32 2 (extended32_insn opcode) rest
     else None
 
 -- after 66
@@ -336,31 +336,31 @@ read_two_byte (opcode ∷ rest) = read_extended opcode rest
 -- the opcodes after which ModRM follows and nothing else
 abbrev pub has_fields32 : ℕ → Bool
 has_fields32 opcode =
-    nat_lt opcode 64 || opcode == 133 || opcode == 135 || opcode == 137 || opcode == 139 || opcode == 141 || opcode == 211 || opcode == 247 || opcode == 255
+    nat_lt opcode 0x40 || opcode == 0x85 || opcode == 0x87 || opcode == 0x89 || opcode == 0x8b || opcode == 0x8d || opcode == 0xd3 || opcode == 0xf7 || opcode == 0xff
 
 abbrev pub has_fields8 : ℕ → Bool
-has_fields8 opcode = opcode == 134 || opcode == 136 || opcode == 138
+has_fields8 opcode = opcode == 0x86 || opcode == 0x88 || opcode == 0x8a
 
 -- after which a signed number of four bytes follows, or of one, or an unsigned byte
 abbrev pub has_long : ℕ → Bool
-has_long opcode = opcode == 104 || nat_le 184 opcode && nat_lt opcode 192 || opcode == 232 || opcode == 233
+has_long opcode = opcode == 0x68 || nat_le 0xb8 opcode && nat_lt opcode 0xc0 || opcode == 0xe8 || opcode == 0xe9
 
 abbrev pub has_short : ℕ → Bool
-has_short opcode = nat_le 112 opcode && nat_lt opcode 128 || opcode == 235
+has_short opcode = nat_le 0x70 opcode && nat_lt opcode 0x80 || opcode == 0xeb
 
 abbrev pub has_byte : ℕ → Bool
-has_byte opcode = nat_le 176 opcode && nat_lt opcode 184 || opcode == 205
+has_byte opcode = nat_le 0xb0 opcode && nat_lt opcode 0xb8 || opcode == 0xcd
 
 -- an opcode: 0F and 66 lead to a second one; 81, 83 and C7 have ModRM and a number, and C1 ModRM and a count
 unfoldable pub read_opcode : ℕ → List ℕ → Option (Insn × ℕ)
 read_opcode opcode rest =
-    if opcode == 15 then read_two_byte rest
-    else if opcode == 102 then read_sixteen rest
+    if opcode == 0x0f then read_two_byte rest
+    else if opcode == 0x66 then read_sixteen rest
     else if has_fields32 opcode then read_with32 1 (fields32_insn opcode) rest
     else if has_fields8 opcode then read_with8 1 (fields8_insn opcode) rest
-    else if opcode == 129 || opcode == 199 then read_immediate 4 (immediate_insn opcode) rest
-    else if opcode == 131 then read_immediate 1 (immediate_insn opcode) rest
-    else if opcode == 193 then read_shift rest
+    else if opcode == 0x81 || opcode == 0xc7 then read_immediate 4 (immediate_insn opcode) rest
+    else if opcode == 0x83 then read_immediate 1 (immediate_insn opcode) rest
+    else if opcode == 0xc1 then read_shift rest
     else if has_long opcode then read_with_signed 1 4 (long_insn opcode) rest
     else if has_short opcode then read_with_signed 1 1 (short_insn opcode) rest
     else if has_byte opcode then read_with_byte (byte_insn opcode) rest

@@ -140,70 +140,70 @@ cond_number cond.G = 15
 -- the bytes are a spelling of the instruction
 abbrev pub Spells : Insn → List ℕ → Type 0
 -- MOV r/m32, r32: 89 /r; MOV r32, r/m32: 8B /r
-Spells (insn.Mov operand r) bytes = Row (137 ∷ []) (number32 r) (operand32 operand) bytes ⊎ Reversed (139 ∷ []) (operand32 operand) (number32 r) bytes
-Spells (insn.MovLoad r m) bytes = Row (139 ∷ []) (number32 r) (InMemory m) bytes
+Spells (insn.Mov operand r) bytes = Row (0x89 ∷ []) (number32 r) (operand32 operand) bytes ⊎ Reversed (0x8b ∷ []) (operand32 operand) (number32 r) bytes
+Spells (insn.MovLoad r m) bytes = Row (0x8b ∷ []) (number32 r) (InMemory m) bytes
 -- MOV r32, imm32: B8+rd id; MOV r/m32, imm32: C7 /0 id
-Spells (insn.MovImm (rm.Reg r) z) bytes = Immediate ((184 + number32 r) ∷ []) 4 z bytes ⊎ RowWith (199 ∷ []) 0 (InRegister (number32 r)) 4 z bytes
-Spells (insn.MovImm (rm.Mem m) z) bytes = RowWith (199 ∷ []) 0 (InMemory m) 4 z bytes
+Spells (insn.MovImm (rm.Reg r) z) bytes = Immediate ((0xb8 + number32 r) ∷ []) 4 z bytes ⊎ RowWith (0xc7 ∷ []) 0 (InRegister (number32 r)) 4 z bytes
+Spells (insn.MovImm (rm.Mem m) z) bytes = RowWith (0xc7 ∷ []) 0 (InMemory m) 4 z bytes
 -- MOV r/m8, r8: 88 /r; MOV r8, r/m8: 8A /r
-Spells (insn.Mov8 operand r) bytes = Row (136 ∷ []) (number8 r) (operand8 operand) bytes ⊎ Reversed (138 ∷ []) (operand8 operand) (number8 r) bytes
-Spells (insn.Mov8Load r m) bytes = Row (138 ∷ []) (number8 r) (InMemory m) bytes
+Spells (insn.Mov8 operand r) bytes = Row (0x88 ∷ []) (number8 r) (operand8 operand) bytes ⊎ Reversed (0x8a ∷ []) (operand8 operand) (number8 r) bytes
+Spells (insn.Mov8Load r m) bytes = Row (0x8a ∷ []) (number8 r) (InMemory m) bytes
 -- MOV r8, imm8: B0+rb ib
-Spells (insn.Mov8Imm r n) bytes = bytes ≡ (176 + number8 r) ∷ n ∷ []
+Spells (insn.Mov8Imm r n) bytes = bytes ≡ (0xb0 + number8 r) ∷ n ∷ []
 -- MOV r/m16, r16: 66 89 /r
-Spells (insn.Mov16 operand r) bytes = Row (102 ∷ 137 ∷ []) (number32 r) (operand32 operand) bytes
+Spells (insn.Mov16 operand r) bytes = Row (0x66 ∷ 0x89 ∷ []) (number32 r) (operand32 operand) bytes
 -- MOVZX r32, r/m8: 0F B6 /r; MOVZX r32, r/m16: 0F B7 /r
-Spells (insn.MovZx8 r operand) bytes = Row (15 ∷ 182 ∷ []) (number32 r) (operand8 operand) bytes
-Spells (insn.MovZx16 r operand) bytes = Row (15 ∷ 183 ∷ []) (number32 r) (operand32 operand) bytes
+Spells (insn.MovZx8 r operand) bytes = Row (0x0f ∷ 0xb6 ∷ []) (number32 r) (operand8 operand) bytes
+Spells (insn.MovZx16 r operand) bytes = Row (0x0f ∷ 0xb7 ∷ []) (number32 r) (operand32 operand) bytes
 -- MOVSX r32, r/m8: 0F BE /r; MOVSX r32, r/m16: 0F BF /r
-Spells (insn.MovSx8 r operand) bytes = Row (15 ∷ 190 ∷ []) (number32 r) (operand8 operand) bytes
-Spells (insn.MovSx16 r operand) bytes = Row (15 ∷ 191 ∷ []) (number32 r) (operand32 operand) bytes
+Spells (insn.MovSx8 r operand) bytes = Row (0x0f ∷ 0xbe ∷ []) (number32 r) (operand8 operand) bytes
+Spells (insn.MovSx16 r operand) bytes = Row (0x0f ∷ 0xbf ∷ []) (number32 r) (operand32 operand) bytes
 -- XCHG r/m8, r8: 86 /r; XCHG r/m32, r32: 87 /r
-Spells (insn.Xchg8 operand r) bytes = Row (134 ∷ []) (number8 r) (operand8 operand) bytes
-Spells (insn.Xchg operand r) bytes = Row (135 ∷ []) (number32 r) (operand32 operand) bytes
+Spells (insn.Xchg8 operand r) bytes = Row (0x86 ∷ []) (number8 r) (operand8 operand) bytes
+Spells (insn.Xchg operand r) bytes = Row (0x87 ∷ []) (number32 r) (operand32 operand) bytes
 -- LEA r32, m: 8D /r
-Spells (insn.Lea r m) bytes = Row (141 ∷ []) (number32 r) (InMemory m) bytes
+Spells (insn.Lea r m) bytes = Row (0x8d ∷ []) (number32 r) (InMemory m) bytes
 -- ADD, OR, AND, SUB, XOR, CMP r/m32, r32: 01, 09, 21, 29, 31, 39 /r; with r32, r/m32: 03, 0B, 23, 2B, 33, 3B /r
 Spells (insn.Alu op operand r) bytes =
     Row ((8 * alu_number op + 1) ∷ []) (number32 r) (operand32 operand) bytes ⊎ Reversed ((8 * alu_number op + 3) ∷ []) (operand32 operand) (number32 r) bytes
 Spells (insn.AluLoad op r m) bytes = Row ((8 * alu_number op + 3) ∷ []) (number32 r) (InMemory m) bytes
 -- the same r/m32, imm8, sign-extended: 83 /n ib; r/m32, imm32: 81 /n id
-Spells (insn.AluImm op operand z) bytes = RowWith (131 ∷ []) (alu_number op) (operand32 operand) 1 z bytes ⊎ RowWith (129 ∷ []) (alu_number op) (operand32 operand) 4 z bytes
+Spells (insn.AluImm op operand z) bytes = RowWith (0x83 ∷ []) (alu_number op) (operand32 operand) 1 z bytes ⊎ RowWith (0x81 ∷ []) (alu_number op) (operand32 operand) 4 z bytes
 -- TEST r/m32, r32: 85 /r
-Spells (insn.Test operand r) bytes = Row (133 ∷ []) (number32 r) (operand32 operand) bytes
+Spells (insn.Test operand r) bytes = Row (0x85 ∷ []) (number32 r) (operand32 operand) bytes
 -- IMUL r32, r/m32: 0F AF /r
-Spells (insn.IMul r operand) bytes = Row (15 ∷ 175 ∷ []) (number32 r) (operand32 operand) bytes
+Spells (insn.IMul r operand) bytes = Row (0x0f ∷ 0xaf ∷ []) (number32 r) (operand32 operand) bytes
 -- NOT, NEG, DIV, IDIV r/m32: F7 /2, /3, /6, /7
-Spells (insn.Not operand) bytes = Row (247 ∷ []) 2 (operand32 operand) bytes
-Spells (insn.Neg operand) bytes = Row (247 ∷ []) 3 (operand32 operand) bytes
-Spells (insn.Div operand) bytes = Row (247 ∷ []) 6 (operand32 operand) bytes
-Spells (insn.IDiv operand) bytes = Row (247 ∷ []) 7 (operand32 operand) bytes
+Spells (insn.Not operand) bytes = Row (0xf7 ∷ []) 2 (operand32 operand) bytes
+Spells (insn.Neg operand) bytes = Row (0xf7 ∷ []) 3 (operand32 operand) bytes
+Spells (insn.Div operand) bytes = Row (0xf7 ∷ []) 6 (operand32 operand) bytes
+Spells (insn.IDiv operand) bytes = Row (0xf7 ∷ []) 7 (operand32 operand) bytes
 -- CDQ: 99
-Spells insn.Cdq bytes = bytes ≡ 153 ∷ []
+Spells insn.Cdq bytes = bytes ≡ 0x99 ∷ []
 -- SHL, SHR, SAR r/m32, CL: D3 /4, /5, /7; with imm8: C1 /4, /5, /7 ib
-Spells (insn.ShiftCl op operand) bytes = Row (211 ∷ []) (shift_number op) (operand32 operand) bytes
+Spells (insn.ShiftCl op operand) bytes = Row (0xd3 ∷ []) (shift_number op) (operand32 operand) bytes
 Spells (insn.ShiftImm op operand n) bytes =
-    (fields : List ℕ) × (bytes ≡ 193 ∷ fields ++ n ∷ []) × HasFields (shift_number op) (operand32 operand) fields
+    (fields : List ℕ) × (bytes ≡ 0xc1 ∷ fields ++ n ∷ []) × HasFields (shift_number op) (operand32 operand) fields
 -- PUSH r32: 50+rd; PUSH r/m32: FF /6
-Spells (insn.Push (rm.Reg r)) bytes = (bytes ≡ (80 + number32 r) ∷ []) ⊎ Row (255 ∷ []) 6 (InRegister (number32 r)) bytes
-Spells (insn.Push (rm.Mem m)) bytes = Row (255 ∷ []) 6 (InMemory m) bytes
+Spells (insn.Push (rm.Reg r)) bytes = (bytes ≡ (0x50 + number32 r) ∷ []) ⊎ Row (0xff ∷ []) 6 (InRegister (number32 r)) bytes
+Spells (insn.Push (rm.Mem m)) bytes = Row (0xff ∷ []) 6 (InMemory m) bytes
 -- PUSH imm32: 68 id; POP r32: 58+rd
-Spells (insn.PushImm z) bytes = Immediate (104 ∷ []) 4 z bytes
-Spells (insn.Pop r) bytes = bytes ≡ (88 + number32 r) ∷ []
+Spells (insn.PushImm z) bytes = Immediate (0x68 ∷ []) 4 z bytes
+Spells (insn.Pop r) bytes = bytes ≡ (0x58 + number32 r) ∷ []
 -- CALL rel32: E8 cd; RET: C3; LEAVE: C9
-Spells (insn.Call distance) bytes = Immediate (232 ∷ []) 4 distance bytes
-Spells insn.Ret bytes = bytes ≡ 195 ∷ []
-Spells insn.Leave bytes = bytes ≡ 201 ∷ []
+Spells (insn.Call distance) bytes = Immediate (0xe8 ∷ []) 4 distance bytes
+Spells insn.Ret bytes = bytes ≡ 0xc3 ∷ []
+Spells insn.Leave bytes = bytes ≡ 0xc9 ∷ []
 -- JMP rel32: E9 cd; JMP rel8: EB cb
-Spells (insn.Jmp distance) bytes = Immediate (233 ∷ []) 4 distance bytes ⊎ Immediate (235 ∷ []) 1 distance bytes
+Spells (insn.Jmp distance) bytes = Immediate (0xe9 ∷ []) 4 distance bytes ⊎ Immediate (0xeb ∷ []) 1 distance bytes
 -- Jcc rel32: 0F 80+cc cd; Jcc rel8: 70+cc cb
-Spells (insn.Jcc c distance) bytes = Immediate (15 ∷ (128 + cond_number c) ∷ []) 4 distance bytes ⊎ Immediate ((112 + cond_number c) ∷ []) 1 distance bytes
+Spells (insn.Jcc c distance) bytes = Immediate (0x0f ∷ (0x80 + cond_number c) ∷ []) 4 distance bytes ⊎ Immediate ((0x70 + cond_number c) ∷ []) 1 distance bytes
 -- SETcc r/m8: 0F 90+cc, with any reg field
-Spells (insn.SetCc c operand) bytes = (reg : ℕ) × Row (15 ∷ (144 + cond_number c) ∷ []) reg (operand8 operand) bytes
+Spells (insn.SetCc c operand) bytes = (reg : ℕ) × Row (0x0f ∷ (0x90 + cond_number c) ∷ []) reg (operand8 operand) bytes
 -- INT imm8: CD ib; UD2: 0F 0B; NOP: 90
-Spells (insn.Int n) bytes = bytes ≡ 205 ∷ n ∷ []
-Spells insn.Ud2 bytes = bytes ≡ 15 ∷ 11 ∷ []
-Spells insn.Nop bytes = bytes ≡ 144 ∷ []
+Spells (insn.Int n) bytes = bytes ≡ 0xcd ∷ n ∷ []
+Spells insn.Ud2 bytes = bytes ≡ 0x0f ∷ 0x0b ∷ []
+Spells insn.Nop bytes = bytes ≡ 0x90 ∷ []
 
 -- the first n bytes are a spelling of the instruction
 abbrev pub Begins : Insn → ℕ → List ℕ → Type 0
