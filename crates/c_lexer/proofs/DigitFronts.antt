@@ -1,5 +1,6 @@
 -- The digits at the front of a list, and the number that they spell.
-use Rattle.std.proofs.Common.{◌≡◌, ◌≤◌, ◌<◌, inl, inr, ℕ, ◌+◌, ◌*◌, Bool, true, false, cond, List, [], ◌∷◌, ◌++◌, length, drop, get_or, refl, sym, ◌∙◌, ap, arith}
+use Rattle.std.proofs.Common.{◌≡◌, ◌≤◌, ◌<◌, inl, inr, ℕ, ◌+◌, ◌*◌, Bool, true, false, cond, List, [], ◌∷◌, ◌++◌}
+use Rattle.std.proofs.Common.{length, drop, get_or, refl, sym, ◌∙◌, ap, arith}
 use Rattle.std.proofs.Math.Nat.{mul-le-mul_left}
 use Rattle.std.proofs.lemmas.List.{drop_more}
 use Rattle.std.proofs.lemmas.Bool.{cases_lt}
@@ -27,7 +28,8 @@ number_grows : (base n : ℕ) (ds : List ℕ) → 0 < base → n ≤ number_afte
 number_grows base n [] h = omega arith
 number_grows base n (d ∷ ds) h =
     let grows : n ≤ n * base + digit_worth d = omega (arith, mul-le-mul_left n h) in
-    let rest : n * base + digit_worth d ≤ number_after base (n * base + digit_worth d) ds = number_grows base (n * base + digit_worth d) ds h in
+    let rest : n * base + digit_worth d ≤ number_after base (n * base + digit_worth d) ds =
+    number_grows base (n * base + digit_worth d) ds h in
     omega arith
 
 -- i of the digits are read, which spell this number or both are above 255, and the others are ahead
@@ -41,7 +43,9 @@ pub front_start : (base : ℕ) (full : List ℕ) → FrontState base full 0 0 fu
 front_start base full = record { count = omega arith; small = λ _. refl; large = λ h. absurd (omega arith) }
 
 -- one digit more
-pub front_next : (base : ℕ) (full : List ℕ) (number i b : ℕ) (ahead : List ℕ) (next : ℕ) → 0 < base → FrontState base full number i (b ∷ ahead) → (number ≤ 255 → next ≡ number * base + digit_worth b) → (255 < number → next ≡ number) → FrontState base full next (i + 1) ahead
+pub front_next : (base : ℕ) (full : List ℕ) (number i b : ℕ) (ahead : List ℕ) (next : ℕ) → 0 < base
+    → FrontState base full number i (b ∷ ahead) → (number ≤ 255 → next ≡ number * base + digit_worth b)
+    → (255 < number → next ≡ number) → FrontState base full next (i + 1) ahead
 front_next base full number i b ahead next h s p q =
     elim (cases_lt 255 number) [
       | inl above ↦
@@ -51,21 +55,25 @@ front_next base full number i b ahead next h s p q =
       | inr below ↦
           let is : next ≡ number * base + digit_worth b = p below in
           let spells : number_in base full ≡ number_after base (number * base + digit_worth b) ahead = s.small below in
-          let spells_next : number_in base full ≡ number_after base next ahead = spells ∙ ap (λ n. number_after base n ahead) (sym is) in
+          let spells_next : number_in base full ≡ number_after base next ahead =
+          spells ∙ ap (λ n. number_after base n ahead) (sym is) in
           let grows : next ≤ number_after base next ahead = number_grows base next ahead h in
           record { count = omega (arith, s.count); small = λ _. spells_next; large = λ above. omega arith }
     ]
 
 -- no digit is ahead
-pub front_end : (base : ℕ) (full : List ℕ) (number i : ℕ) → FrontState base full number i [] → HasFront base full number i
+pub front_end : (base : ℕ) (full : List ℕ) (number i : ℕ) → FrontState base full number i []
+    → HasFront base full number i
 front_end base full number i s = (s.small, s.large, omega (arith, s.count))
 
 -- the front where the next byte passes
-pub front_pass : (test : ℕ → Bool) (bytes : List ℕ) (i : ℕ) → i < length bytes → test (get_or bytes i 0) ≡ true → front_of test (drop i bytes) ≡ get_or bytes i 0 ∷ front_of test (drop (i + 1) bytes)
+pub front_pass : (test : ℕ → Bool) (bytes : List ℕ) (i : ℕ) → i < length bytes → test (get_or bytes i 0) ≡ true
+    → front_of test (drop i bytes) ≡ get_or bytes i 0 ∷ front_of test (drop (i + 1) bytes)
 front_pass test bytes i h e = ap (front_of test) (drop_more bytes i 0 h) ∙ rw e refl
 
 -- the front where the next byte fails
-pub front_fail : (test : ℕ → Bool) (bytes : List ℕ) (i : ℕ) → i < length bytes → test (get_or bytes i 0) ≡ false → front_of test (drop i bytes) ≡ []
+pub front_fail : (test : ℕ → Bool) (bytes : List ℕ) (i : ℕ) → i < length bytes → test (get_or bytes i 0) ≡ false
+    → front_of test (drop i bytes) ≡ []
 front_fail test bytes i h e = ap (front_of test) (drop_more bytes i 0 h) ∙ rw e refl
 
 -- a list is its front that passes, and a rest that doesn't begin so
@@ -76,7 +84,8 @@ pub record FrontSplit (test : ℕ → Bool) (xs front : List ℕ) : Type 0 where
   pub passes : AllPass test front
 
 -- one byte more in front of such a list
-front_split_cons : (test : ℕ → Bool) (x : ℕ) (xs : List ℕ) (v : Bool) → test x ≡ v → FrontSplit test xs (front_of test xs) → FrontSplit test (x ∷ xs) (cond v (x ∷ front_of test xs) [])
+front_split_cons : (test : ℕ → Bool) (x : ℕ) (xs : List ℕ) (v : Bool) → test x ≡ v
+    → FrontSplit test xs (front_of test xs) → FrontSplit test (x ∷ xs) (cond v (x ∷ front_of test xs) [])
 front_split_cons test x xs true e s =
     record { rest = s.rest; is = ap (λ r. x ∷ r) s.is; stops = s.stops; passes = (e, s.passes) }
 front_split_cons test x xs false e s = record { rest = x ∷ xs; is = refl; stops = e; passes = tt }
@@ -87,7 +96,8 @@ front_split test [] = record { rest = []; is = refl; stops = tt; passes = tt }
 front_split test (x ∷ xs) = front_split_cons test x xs (test x) refl (front_split test xs)
 
 -- digits before a rest that doesn't begin so are the front
-pub front_is : (test : ℕ → Bool) (ds rest : List ℕ) → AllPass test ds → StartsNot test rest → front_of test (ds ++ rest) ≡ ds
+pub front_is : (test : ℕ → Bool) (ds rest : List ℕ) → AllPass test ds → StartsNot test rest → front_of test (ds ++ rest)
+    ≡ ds
 front_is test [] [] p s = refl
 front_is test [] (b ∷ bs) p s = rw s refl
 front_is test (d ∷ ds) rest p s = rw p.0 (ap (λ r. d ∷ r) (front_is test ds rest p.1 s))

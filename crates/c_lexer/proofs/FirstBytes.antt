@@ -1,5 +1,6 @@
 -- What the first byte of a piece says of its kind.
-use Rattle.std.proofs.Common.{◌≡◌, ◌==◌, inl, inr, ℕ, zero, suc, Bool, true, false, not, cond, List, [], ◌∷◌, take, refl, sym, ◌∙◌, ap, subst, rules, arith, IsTrue, IsFalse}
+use Rattle.std.proofs.Common.{◌≡◌, ◌==◌, inl, inr, ℕ, zero, suc, Bool, true, false, not, cond, List, [], ◌∷◌, take}
+use Rattle.std.proofs.Common.{refl, sym, ◌∙◌, ap, subst, rules, arith, IsTrue, IsFalse}
 use Rattle.std.proofs.lemmas.List.Sums.{take_while-cons}
 use Rattle.std.proofs.lemmas.Bool.Decides.{nat_tests}
 use Rattle.c_lexer.specs.declared.token.TokenKind.TheVariants as kinds
@@ -51,7 +52,8 @@ starts_number b (c ∷ others) (suc m) (inl h) = inl h.0
 starts_number b (c ∷ others) (suc m) (inr h) = inr (h.0, h.1)
 
 -- the kinds that a piece may be
-pub kind_of : (fresh : Bool) (b : ℕ) (others : List ℕ) (m : ℕ) (piece : Piece) → IsPiece fresh (b ∷ others) (suc m) piece → Kind b (b ∷ others) (suc m)
+pub kind_of : (fresh : Bool) (b : ℕ) (others : List ℕ) (m : ℕ) (piece : Piece)
+    → IsPiece fresh (b ∷ others) (suc m) piece → Kind b (b ∷ others) (suc m)
 kind_of fresh b others m Space h = let same : h.0 ≡ b = cc in Spaced (subst (λ x. IsTrue (is_space x)) same h.2)
 kind_of fresh b others m Comment (inl h) = let e = h.1 in Slashed cc
 kind_of fresh b others m Comment (inr h) = let e = h.1 in Slashed cc
@@ -108,7 +110,8 @@ letter_starts_no_number b (c ∷ others) l (inl h) = letter_no_digit b l h
 letter_starts_no_number b (c ∷ others) l (inr h) = letter_is_not b 46 l refl h.0
 
 -- where a letter begins the rest, only word bytes make a piece
-pub letter_kind : (b : ℕ) (others : List ℕ) (m : ℕ) → IsTrue (is_letter b) → Kind b (b ∷ others) (suc m) → AllPass is_word_byte (take (suc m) (b ∷ others))
+pub letter_kind : (b : ℕ) (others : List ℕ) (m : ℕ) → IsTrue (is_letter b) → Kind b (b ∷ others) (suc m)
+    → AllPass is_word_byte (take (suc m) (b ∷ others))
 letter_kind b others m l (Spaced h) = absurd (letter_no_space b l h)
 letter_kind b others m l (Slashed h) = absurd (letter_is_not b 47 l refl h)
 letter_kind b others m l (Hashed h) = absurd (letter_is_not b 35 l refl h)

@@ -1,5 +1,7 @@
 -- Preprocessing numbers and integer constants.
-use Rattle.std.proofs.Common.{◌≡◌, ◌≢◌, ◌<◌, ◌≤◌, ◌+◌, ◌*◌, min, ℕ, zero, suc, Bool, true, false, ◌||◌, ◌&&◌, cond, List, [], ◌∷◌, ◌++◌, take, drop, get_or, length, IsTrue, MatchOption, Option, Some, None, ℤ, pos, refl, sym, ap, subst, inl, inr, ◌⊎◌, ◌∙◌, arith}
+use Rattle.std.proofs.Common.{◌≡◌, ◌≢◌, ◌<◌, ◌≤◌, ◌+◌, ◌*◌, min, ℕ, zero, suc, Bool, true, false, ◌||◌, ◌&&◌, cond}
+use Rattle.std.proofs.Common.{List, [], ◌∷◌, ◌++◌, take, drop, get_or, length, IsTrue, MatchOption, Option, Some, None}
+use Rattle.std.proofs.Common.{ℤ, pos, refl, sym, ap, subst, inl, inr, ◌⊎◌, ◌∙◌, arith}
 use Rattle.std.proofs.lemmas.List.{take_min, at_drop_more, at_drop_all}
 use Rattle.std.proofs.lemmas.Int.{to_z_pos}
 use mir.Val.{to_z, of_z}
@@ -10,8 +12,10 @@ use Rattle.std.proofs.lemmas.Bool.{false≢true, cases_lt}
 use Rattle.std.proofs.lemmas.Bool.Decides.{nat_tests}
 use Rattle.std.specs.Prelude.{◌==◌}
 use Rattle.c_lexer.specs.declared.token.TokenKind.TheVariants as kinds
-use Rattle.c_lexer.specs.Bytes.{is_digit, is_octal_digit, is_hexadecimal_digit, is_letter, digit_worth, number_after, number_in}
-use Rattle.c_lexer.specs.Literals.{AllPass, GoesOnAsNumber, IsNumberText, StartsNumber, ConstantValue, IsConstant, is_exponent_letter}
+use Rattle.c_lexer.specs.Bytes.{is_digit, is_octal_digit, is_hexadecimal_digit, is_letter, digit_worth, number_after}
+use Rattle.c_lexer.specs.Bytes.{number_in}
+use Rattle.c_lexer.specs.Literals.{AllPass, GoesOnAsNumber, IsNumberText, StartsNumber, ConstantValue, IsConstant}
+use Rattle.c_lexer.specs.Literals.{is_exponent_letter}
 use Rattle.c_lexer.specs.Pieces.{Piece, Space, Comment, Skipped, Spelled, IsPiece, IsBarred, Begins, NoneBegins}
 use Rattle.c_lexer.specs.declared.numbers.Radix.{Radix}
 use Rattle.c_lexer.specs.declared.numbers.Radix.TheVariants.{Octal, Decimal, Hexadecimal}
@@ -52,7 +56,8 @@ follows_from : (before : ℕ) (bs : List ℕ) → GoesOnAsNumber bs → Follows 
 follows_from before [] g = tt
 follows_from before (b ∷ []) g = (plain_goes before b g, tt)
 follows_from before (b ∷ c ∷ rest) (inl h) = (plain_goes before b h.0, follows_from b (c ∷ rest) h.1)
-follows_from before (b ∷ c ∷ rest) (inr h) = (plain_goes before b (exponent_plain b h.0), (sign_goes b c h.0 h.1, follows_from c rest h.2))
+follows_from before (b ∷ c ∷ rest) (inr h) =
+    (plain_goes before b (exponent_plain b h.0), (sign_goes b c h.0 h.1, follows_from c rest h.2))
 
 goes_plain : (before b : ℕ) → is_exponent_letter before ≡ false → IsTrue (goes before b) → IsTrue (is_plain b)
 goes_plain before b no_letter h = grind (arith, nat_tests)
@@ -61,7 +66,8 @@ both : (x y : Bool) → IsTrue (x && y) → IsTrue x × IsTrue y
 both true y h = (refl, h)
 both false y h = absurd (false≢true h)
 
-goes_sign : (before b : ℕ) → is_plain b ≡ false → IsTrue (goes before b) → IsTrue (is_exponent_letter before) × IsTrue (b == 43 || b == 45)
+goes_sign : (before b : ℕ) → is_plain b ≡ false → IsTrue (goes before b) → IsTrue (is_exponent_letter before)
+    × IsTrue (b == 43 || b == 45)
 goes_sign before b no_plain h = both (is_exponent_letter before) (b == 43 || b == 45) (rw no_plain at h)
 
 plain_no : (b : ℕ) → is_plain b ≡ false → is_exponent_letter b ≡ false
@@ -72,13 +78,15 @@ goes_on_from : (before : ℕ) (bs : List ℕ) → is_exponent_letter before ≡ 
 goes_on_from before [] no_letter h = tt
 goes_on_from before (b ∷ []) no_letter h = goes_plain before b no_letter h.0
 goes_on_from before (b ∷ c ∷ rest) no_letter h =
-    let more : (r : Bool) → is_plain c ≡ r → GoesOnAsNumber (b ∷ c ∷ rest) = λ r. elim r as (λ q. is_plain c ≡ q → GoesOnAsNumber (b ∷ c ∷ rest)) [
+    let more : (r : Bool) → is_plain c ≡ r → GoesOnAsNumber (b ∷ c ∷ rest) =
+    λ r. elim r as (λ q. is_plain c ≡ q → GoesOnAsNumber (b ∷ c ∷ rest)) [
       | true ↦ λ e. inl (goes_plain before b no_letter h.0, goes_on_from 48 (c ∷ rest) refl (plain_goes 48 c e, h.1.1))
       | false ↦ λ e. let sign = goes_sign b c e h.1.0 in inr (sign.0, sign.1, goes_on_from c rest (plain_no c e) h.1.1)
     ] in
     more (is_plain c) refl
 
-run_follows_by : (before b : ℕ) (bs : List ℕ) (r : Bool) → goes before b ≡ r → Follows b (take (run b bs) bs) → Follows before (take (cond r (1 + run b bs) 0) (b ∷ bs))
+run_follows_by : (before b : ℕ) (bs : List ℕ) (r : Bool) → goes before b ≡ r → Follows b (take (run b bs) bs)
+    → Follows before (take (cond r (1 + run b bs) 0) (b ∷ bs))
 run_follows_by before b bs true e rest = rw one-add (e, rest)
 run_follows_by before b bs false e rest = tt
 
@@ -125,11 +133,17 @@ start_at_digit (b ∷ c ∷ bs) (inl h) no_dot = inl (refl, omega arith, h)
 start_at_digit (b ∷ c ∷ bs) (inr h) no_dot = absurd (no_dot h.0)
 
 -- the longest number is one
-pub number_text : (rest : List ℕ) (start n : ℕ) → IsNumberStart rest start → n ≡ start + run 48 (drop start rest) → IsNumberText (take n rest)
+pub number_text : (rest : List ℕ) (start n : ℕ) → IsNumberStart rest start → n ≡ start + run 48 (drop start rest)
+    → IsNumberText (take n rest)
 number_text [] start n (inl h) count = absurd (omega (arith, h.1))
 number_text [] start n (inr h) count = absurd (omega (arith, h.1))
 number_text (b ∷ bs) start n (inl h) count =
-    rw (count, h.0, one-add) (digit_text b (take (run 48 bs) bs) h.2 (goes_on_from 48 (take (run 48 bs) bs) refl (run_follows 48 bs)))
+    rw (
+      count,
+      h.0,
+      one-add,
+    ) (digit_text b (take (run 48 bs) bs) h.2
+    (goes_on_from 48 (take (run 48 bs) bs) refl (run_follows 48 bs)))
 number_text (b ∷ []) start n (inr h) count = absurd (omega (arith, h.1))
 number_text (b ∷ c ∷ bs) start n (inr h) count =
     let k : ℕ = run 48 bs in
@@ -137,12 +151,14 @@ number_text (b ∷ c ∷ bs) start n (inr h) count =
     rw (count, h.0, two) (inr (h.2, h.3, goes_on_from 48 (take k bs) refl (run_follows 48 bs)))
 
 -- no longer prefix is one
-pub number_longest : (rest : List ℕ) (start n : ℕ) → IsNumberStart rest start → n ≡ start + run 48 (drop start rest) → (m : ℕ) → n < m → m ≤ length rest → IsNumberText (take m rest) → ⊥
+pub number_longest : (rest : List ℕ) (start n : ℕ) → IsNumberStart rest start → n ≡ start + run 48 (drop start rest)
+    → (m : ℕ) → n < m → m ≤ length rest → IsNumberText (take m rest) → ⊥
 number_longest [] start n (inl h) count m less within text = omega (arith, h.1)
 number_longest [] start n (inr h) count m less within text = omega (arith, h.1)
 number_longest rest start n is count zero less within text = omega arith
 number_longest (b ∷ bs) start n (inl h) count (suc m) less within text =
-    let longest = run_longest 48 m bs (omega arith) (follows_from 48 (take m bs) (digit_goes_on b (take m bs) h.2 text)) in
+    let longest =
+    run_longest 48 m bs (omega arith) (follows_from 48 (take m bs) (digit_goes_on b (take m bs) h.2 text)) in
     let counted : n ≡ 1 + run 48 bs = rw h.0 at count in
     omega arith
 number_longest (b ∷ []) start n (inr h) count (suc m) less within text = omega (arith, h.1)
@@ -153,15 +169,18 @@ number_longest (b ∷ c ∷ bs) start n (inr h) count (suc (suc m)) less within 
     let counted : n ≡ 2 + run 48 bs = rw h.0 at count in
     omega arith
 
-run_stops : (before : ℕ) (rest : List ℕ) (i : ℕ) → i < length rest → goes before (get_or rest i 0) ≡ false → run before (drop i rest) ≡ 0
+run_stops : (before : ℕ) (rest : List ℕ) (i : ℕ) → i < length rest → goes before (get_or rest i 0) ≡ false
+    → run before (drop i rest) ≡ 0
 run_stops before rest i less stops = at_drop_more (run before) rest i 0 less ∙ rw stops refl
 
 -- a run ends where a byte doesn't go on
-pub count_stops : (before : ℕ) (rest : List ℕ) (i start : ℕ) → i < length rest → goes before (get_or rest i 0) ≡ false → i + run before (drop i rest) ≡ start + run 48 (drop start rest) → i ≡ start + run 48 (drop start rest)
+pub count_stops : (before : ℕ) (rest : List ℕ) (i start : ℕ) → i < length rest → goes before (get_or rest i 0) ≡ false
+    → i + run before (drop i rest) ≡ start + run 48 (drop start rest) → i ≡ start + run 48 (drop start rest)
 count_stops before rest i start less stops count = omega (arith, run_stops before rest i less stops)
 
 -- and where the bytes end
-pub count_ends : (before : ℕ) (rest : List ℕ) (i start : ℕ) → i ≡ length rest → i + run before (drop i rest) ≡ start + run 48 (drop start rest) → length rest ≡ start + run 48 (drop start rest)
+pub count_ends : (before : ℕ) (rest : List ℕ) (i start : ℕ) → i ≡ length rest → i + run before (drop i rest)
+    ≡ start + run 48 (drop start rest) → length rest ≡ start + run 48 (drop start rest)
 count_ends before rest i start end count = omega (arith, at_drop_all (run before) rest i (omega arith))
 
 pub start_fits : (rest : List ℕ) (start : ℕ) → IsNumberStart rest start → start ≤ length rest
@@ -178,9 +197,11 @@ after_grows base n (d ∷ ds) some =
     omega (arith, more, grown)
 
 -- what digits spell is no less than what the first of them do
-pub value_grows : (base v : ℕ) (ds : List ℕ) (i : ℕ) → 0 < base → i < length ds → v * base + digit_worth (get_or ds i 0) ≤ number_after base v (drop i ds)
+pub value_grows : (base v : ℕ) (ds : List ℕ) (i : ℕ) → 0 < base → i < length ds → v * base + digit_worth (get_or ds i 0)
+    ≤ number_after base v (drop i ds)
 value_grows base v ds i some less =
-    rw (at_drop_more (number_after base v) ds i 0 less) (after_grows base (v * base + digit_worth (get_or ds i 0)) (drop (i + 1) ds) some)
+    rw (at_drop_more (number_after base v) ds i 0 less)
+    (after_grows base (v * base + digit_worth (get_or ds i 0)) (drop (i + 1) ds) some)
 
 pub base_some : (radix : Radix) → 0 < base_of radix
 base_some Octal = omega arith
@@ -190,8 +211,10 @@ base_some Hexadecimal = omega arith
 -- ---- integer constants as pieces
 
 -- the longest number that begins the rest is one text
-same_longest : (rest : List ℕ) (n k : ℕ) → n ≤ length rest → IsNumberText (take n rest) → ((m : ℕ) → n < m → m ≤ length rest → IsNumberText (take m rest) → ⊥)
-    → IsNumberText (take k rest) → ((m : ℕ) → k < m → m ≤ length rest → IsNumberText (take m rest) → ⊥) → take k rest ≡ take n rest
+same_longest : (rest : List ℕ) (n k : ℕ) → n ≤ length rest → IsNumberText (take n rest)
+    → ((m : ℕ) → n < m → m ≤ length rest → IsNumberText (take m rest) → ⊥)
+    → IsNumberText (take k rest) → ((m : ℕ) → k < m → m ≤ length rest → IsNumberText (take m rest) → ⊥)
+    → take k rest ≡ take n rest
 same_longest rest n k within text longest other others =
     let j : ℕ = min k (length rest) in
     let same : take j rest ≡ take k rest = take_min k rest in
@@ -204,49 +227,71 @@ same_longest rest n k within text longest other others =
     ]
 
 -- where the longest number is no constant, nothing begins
-pub number_begins_none : (fresh : Bool) (rest : List ℕ) (n : ℕ) → StartsNumber rest → n ≤ length rest → IsNumberText (take n rest) → ((m : ℕ) → n < m → m ≤ length rest → IsNumberText (take m rest) → ⊥)
+pub number_begins_none : (fresh : Bool) (rest : List ℕ) (n : ℕ) → StartsNumber rest → n ≤ length rest
+    → IsNumberText (take n rest) → ((m : ℕ) → n < m → m ≤ length rest → IsNumberText (take m rest) → ⊥)
     → ((value : ℕ) → IsConstant (take n rest) value → ⊥) → NoneBegins fresh rest
 number_begins_none fresh rest n starts_so within text longest none k piece begins =
     begins.free (inr (inr (inr (
       starts_so,
       λ m value other others constant.
-          none value (subst (λ (bs : List ℕ). IsConstant bs value) (same_longest rest n m within text longest other others) constant),
+          none value
+          (subst (λ (bs : List ℕ). IsConstant bs value) (same_longest rest n m within text longest other others)
+          constant),
     ))))
 
 -- a piece that begins with a digit is a number
-digit_piece : (fresh : Bool) (b : ℕ) (others : List ℕ) (m : ℕ) (other : Piece) → IsTrue (is_digit b) → IsPiece fresh (b ∷ others) (suc m) other → IsNumberText (take (suc m) (b ∷ others))
-digit_piece fresh b others m Space digit is = let first = piece_starts fresh b others m Space is in absurd (grind (arith, nat_tests))
-digit_piece fresh b others m Comment digit is = let first = piece_starts fresh b others m Comment is in absurd (grind (arith, nat_tests))
-digit_piece fresh b others m Skipped digit is = let first = piece_starts fresh b others m Skipped is in absurd (grind (arith, nat_tests))
-digit_piece fresh b others m (Spelled (kinds.Word word)) digit is = let first = piece_starts fresh b others m (Spelled (kinds.Word word)) is in absurd (grind (arith, nat_tests))
-digit_piece fresh b others m (Spelled (kinds.Ident name)) digit is = let first = piece_starts fresh b others m (Spelled (kinds.Ident name)) is in absurd (grind (arith, nat_tests))
+digit_piece : (fresh : Bool) (b : ℕ) (others : List ℕ) (m : ℕ) (other : Piece) → IsTrue (is_digit b)
+    → IsPiece fresh (b ∷ others) (suc m) other → IsNumberText (take (suc m) (b ∷ others))
+digit_piece fresh b others m Space digit is = let first = piece_starts fresh b others m Space is in
+    absurd (grind (arith, nat_tests))
+digit_piece fresh b others m Comment digit is = let first = piece_starts fresh b others m Comment is in
+    absurd (grind (arith, nat_tests))
+digit_piece fresh b others m Skipped digit is = let first = piece_starts fresh b others m Skipped is in
+    absurd (grind (arith, nat_tests))
+digit_piece fresh b others m (Spelled (kinds.Word word)) digit is = let first =
+    piece_starts fresh b others m (Spelled (kinds.Word word)) is in absurd (grind (arith, nat_tests))
+digit_piece fresh b others m (Spelled (kinds.Ident name)) digit is = let first =
+    piece_starts fresh b others m (Spelled (kinds.Ident name)) is in absurd (grind (arith, nat_tests))
 digit_piece fresh b others m (Spelled (kinds.Number z)) digit (inl h) = h.0
 digit_piece fresh b others m (Spelled (kinds.Number z)) digit (inr (value, (inside, e, has), is)) =
-    let quote : IsTrue (b == 39) = same_first (λ x. x == 39) b (take m others) (39 ∷ inside ++ 39 ∷ []) e refl in absurd (grind (arith, nat_tests))
-digit_piece fresh b others m (Spelled (kinds.Text bytes)) digit is = let first = piece_starts fresh b others m (Spelled (kinds.Text bytes)) is in absurd (grind (arith, nat_tests))
-digit_piece fresh b others m (Spelled (kinds.Mark mark)) digit is = let first = piece_starts fresh b others m (Spelled (kinds.Mark mark)) is in absurd (grind (arith, nat_tests))
+    let quote : IsTrue (b == 39) = same_first (λ x. x == 39) b (take m others) (39 ∷ inside ++ 39 ∷ []) e refl in
+    absurd (grind (arith, nat_tests))
+digit_piece fresh b others m (Spelled (kinds.Text bytes)) digit is = let first =
+    piece_starts fresh b others m (Spelled (kinds.Text bytes)) is in absurd (grind (arith, nat_tests))
+digit_piece fresh b others m (Spelled (kinds.Mark mark)) digit is = let first =
+    piece_starts fresh b others m (Spelled (kinds.Mark mark)) is in absurd (grind (arith, nat_tests))
 
 -- a constant begins with a digit
 constant_digit : (b : ℕ) (bs : List ℕ) (value : ℕ) → IsConstant (b ∷ bs) value → IsTrue (is_digit b)
 constant_digit b bs value (inl (d, ds, e, digit, apart, passes, is), low) = same_first is_digit b bs (d ∷ ds) e digit
 constant_digit b bs value (inr (inl (ds, e, passes, is)), low) = same_first is_digit b bs (48 ∷ ds) e refl
-constant_digit b bs value (inr (inr (x, ds, e, letter, some, passes, is)), low) = same_first is_digit b bs (48 ∷ x ∷ ds) e refl
+constant_digit b bs value (inr (inr (x, ds, e, letter, some, passes, is)), low) =
+    same_first is_digit b bs (48 ∷ x ∷ ds) e refl
 
 -- only a number that is no constant bars a piece that begins with a digit
-digit_free : (b : ℕ) (others : List ℕ) (n value : ℕ) → IsTrue (is_digit b) → IsNumberText (take n (b ∷ others)) → ((m : ℕ) → n < m → m ≤ length (b ∷ others) → IsNumberText (take m (b ∷ others)) → ⊥)
+digit_free : (b : ℕ) (others : List ℕ) (n value : ℕ) → IsTrue (is_digit b) → IsNumberText (take n (b ∷ others))
+    → ((m : ℕ) → n < m → m ≤ length (b ∷ others) → IsNumberText (take m (b ∷ others)) → ⊥)
     → IsConstant (take n (b ∷ others)) value → IsBarred (b ∷ others) → ⊥
-digit_free b others n value digit text longest constant (inl (body, e, open_)) = let first : IsTrue (b == 47) = same_first (λ x. x == 47) b others (47 ∷ 42 ∷ body) e refl in grind (arith, nat_tests)
-digit_free b others n value digit text longest constant (inr (inl (rest, e))) = let first : IsTrue (b == 37) = same_first (λ x. x == 37) b others (37 ∷ 58 ∷ rest) e refl in grind (arith, nat_tests)
-digit_free b others n value digit text longest constant (inr (inr (inl (quote, rest, e, h)))) = let first : IsTrue (b == 76) = same_first (λ x. x == 76) b others (76 ∷ quote ∷ rest) e refl in grind (arith, nat_tests)
-digit_free b others n value digit text longest constant (inr (inr (inr (starts_so, none)))) = none n value text longest constant
+digit_free b others n value digit text longest constant (inl (body, e, open_)) = let first : IsTrue (b == 47) =
+    same_first (λ x. x == 47) b others (47 ∷ 42 ∷ body) e refl in grind (arith, nat_tests)
+digit_free b others n value digit text longest constant (inr (inl (rest, e))) = let first : IsTrue (b == 37) =
+    same_first (λ x. x == 37) b others (37 ∷ 58 ∷ rest) e refl in grind (arith, nat_tests)
+digit_free b others n value digit text longest constant (inr (inr (inl (quote, rest, e, h)))) =
+    let first : IsTrue (b == 76) = same_first (λ x. x == 76) b others (76 ∷ quote ∷ rest) e refl in
+    grind (arith, nat_tests)
+digit_free b others n value digit text longest constant (inr (inr (inr (starts_so, none)))) =
+    none n value text longest constant
 
-digit_longest : (fresh : Bool) (b : ℕ) (others : List ℕ) (n : ℕ) → IsTrue (is_digit b) → ((m : ℕ) → n < m → m ≤ length (b ∷ others) → IsNumberText (take m (b ∷ others)) → ⊥)
+digit_longest : (fresh : Bool) (b : ℕ) (others : List ℕ) (n : ℕ) → IsTrue (is_digit b)
+    → ((m : ℕ) → n < m → m ≤ length (b ∷ others) → IsNumberText (take m (b ∷ others)) → ⊥)
     → (m : ℕ) (other : Piece) → n < m → m ≤ length (b ∷ others) → IsPiece fresh (b ∷ others) m other → ⊥
 digit_longest fresh b others n digit longest zero other less within is = omega arith
-digit_longest fresh b others n digit longest (suc m) other less within is = longest (suc m) less within (digit_piece fresh b others m other digit is)
+digit_longest fresh b others n digit longest (suc m) other less within is =
+    longest (suc m) less within (digit_piece fresh b others m other digit is)
 
 -- the longest number, where it is a constant, is the piece
-pub number_begins : (fresh : Bool) (rest : List ℕ) (n value : ℕ) → n ≤ length rest → IsNumberText (take n rest) → ((m : ℕ) → n < m → m ≤ length rest → IsNumberText (take m rest) → ⊥)
+pub number_begins : (fresh : Bool) (rest : List ℕ) (n value : ℕ) → n ≤ length rest → IsNumberText (take n rest)
+    → ((m : ℕ) → n < m → m ≤ length rest → IsNumberText (take m rest) → ⊥)
     → IsConstant (take n rest) value → Begins fresh rest n (Spelled (kinds.Number (pos value)))
 number_begins fresh rest zero value within text longest constant = absurd text
 number_begins fresh [] (suc n) value within text longest constant = absurd (omega arith)
@@ -262,32 +307,43 @@ number_begins fresh (b ∷ others) (suc n) value within text longest constant =
 
 -- ---- hexadecimal constants
 
-hexadecimal_to : (text : List ℕ) → 2 < length text → get_or text 0 0 ≡ 48 → ((get_or text 1 0 ≡ 120) ⊎ (get_or text 1 0 ≡ 88)) → AllPass is_hexadecimal_digit (drop 2 text) → ConstantValue text (number_in 16 (drop 2 text))
+hexadecimal_to : (text : List ℕ) → 2 < length text → get_or text 0 0 ≡ 48
+    → ((get_or text 1 0 ≡ 120) ⊎ (get_or text 1 0 ≡ 88)) → AllPass is_hexadecimal_digit (drop 2 text)
+    → ConstantValue text (number_in 16 (drop 2 text))
 hexadecimal_to [] long zero_first letter passes = absurd (omega arith)
 hexadecimal_to (a ∷ []) long zero_first letter passes = absurd (omega arith)
-hexadecimal_to (a ∷ x ∷ ds) long zero_first letter passes = inr (inr (x, ds, ap (λ (b : ℕ). b ∷ x ∷ ds) zero_first, letter, omega arith, passes, refl))
+hexadecimal_to (a ∷ x ∷ ds) long zero_first letter passes =
+    inr (inr (x, ds, ap (λ (b : ℕ). b ∷ x ∷ ds) zero_first, letter, omega arith, passes, refl))
 
 letter_apart : (x : ℕ) → ((x ≡ 120) ⊎ (x ≡ 88)) → IsTrue (is_octal_digit x) → ⊥
 letter_apart x (inl e) h = false≢true (subst (λ (b : ℕ). IsTrue (is_octal_digit b)) e h)
 letter_apart x (inr e) h = false≢true (subst (λ (b : ℕ). IsTrue (is_octal_digit b)) e h)
 
-hexadecimal_from : (text : List ℕ) → 2 < length text → get_or text 0 0 ≡ 48 → ((get_or text 1 0 ≡ 120) ⊎ (get_or text 1 0 ≡ 88)) → (value : ℕ) → ConstantValue text value → AllPass is_hexadecimal_digit (drop 2 text) × (value ≡ number_in 16 (drop 2 text))
+hexadecimal_from : (text : List ℕ) → 2 < length text → get_or text 0 0 ≡ 48
+    → ((get_or text 1 0 ≡ 120) ⊎ (get_or text 1 0 ≡ 88)) → (value : ℕ) → ConstantValue text value
+    → AllPass is_hexadecimal_digit (drop 2 text) × (value ≡ number_in 16 (drop 2 text))
 hexadecimal_from [] long zero_first letter value h = absurd (omega arith)
 hexadecimal_from (a ∷ []) long zero_first letter value h = absurd (omega arith)
-hexadecimal_from (a ∷ x ∷ rest) long zero_first letter value (inl (d, ds, e, digit, apart, passes, is)) = let same : d ≡ 48 = cc in absurd (apart same)
+hexadecimal_from (a ∷ x ∷ rest) long zero_first letter value (inl (d, ds, e, digit, apart, passes, is)) =
+    let same : d ≡ 48 = cc in absurd (apart same)
 hexadecimal_from (a ∷ x ∷ rest) long zero_first letter value (inr (inl (ds, e, passes, is))) =
     let same : ds ≡ x ∷ rest = cc in
     let octal : AllPass is_octal_digit (x ∷ rest) = subst (λ (bs : List ℕ). AllPass is_octal_digit bs) same passes in
     absurd (letter_apart x letter octal.0)
 hexadecimal_from (a ∷ x ∷ rest) long zero_first letter value (inr (inr (y, ds, e, other, some, passes, is))) =
-    let same : ds ≡ rest = cc in
-    (subst (λ (bs : List ℕ). AllPass is_hexadecimal_digit bs) same passes, is ∙ ap (λ (bs : List ℕ). number_in 16 bs) same)
+    let same : ds ≡ rest = cc in (
+      subst (λ (bs : List ℕ). AllPass is_hexadecimal_digit bs) same passes,
+      is ∙ ap (λ (bs : List ℕ). number_in 16 bs) same,
+    )
 
 -- what hexadecimal digits behind `0x` say of the constant
-pub hexadecimal_result : (r : Option ℤ) (text : List ℕ) → 2 < length text → get_or text 0 0 ≡ 48 → ((get_or text 1 0 ≡ 120) ⊎ (get_or text 1 0 ≡ 88))
+pub hexadecimal_result : (r : Option ℤ) (text : List ℕ) → 2 < length text → get_or text 0 0 ≡ 48
+    → ((get_or text 1 0 ≡ 120) ⊎ (get_or text 1 0 ≡ 88))
     → MatchOption r (AllPass is_hexadecimal_digit (drop 2 text) → number_in 16 (drop 2 text) ≤ 2147483647 → ⊥)
-    (λ z. AllPass is_hexadecimal_digit (drop 2 text) × (number_in 16 (drop 2 text) ≤ 2147483647) × (z ≡ pos (number_in 16 (drop 2 text))))
-    → MatchOption r ((value : ℕ) → IsConstant text value → ⊥) (λ z. (value : ℕ) × IsConstant text value × (z ≡ pos value))
+    (λ z. AllPass is_hexadecimal_digit (drop 2 text) × (number_in 16 (drop 2 text) ≤ 2147483647)
+    × (z ≡ pos (number_in 16 (drop 2 text))))
+    → MatchOption r ((value : ℕ) → IsConstant text value → ⊥) (λ z. (value : ℕ) × IsConstant text value
+    × (z ≡ pos value))
 hexadecimal_result None text long zero_first letter none = λ value constant.
     let digits = hexadecimal_from text long zero_first letter value constant.0 in
     none digits.0 (omega (arith, digits.1, constant.1))

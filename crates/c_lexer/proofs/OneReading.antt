@@ -1,5 +1,6 @@
 -- A text is read in one way, up to where no piece begins, and one fault stands there.
-use Rattle.std.proofs.Common.{◌≡◌, ◌≢◌, ℕ, zero, suc, Bool, true, false, List, [], ◌∷◌, ◌++◌, length, ◌||◌, ◌&&◌, ◌==◌, cond, inl, inr, refl, sym, ap, ap₂, subst, ◌∙◌, arith, eq-eqb, ne_eqb}
+use Rattle.std.proofs.Common.{◌≡◌, ◌≢◌, ℕ, zero, suc, Bool, true, false, List, [], ◌∷◌, ◌++◌, length, ◌||◌, ◌&&◌, ◌==◌}
+use Rattle.std.proofs.Common.{cond, inl, inr, refl, sym, ap, ap₂, subst, ◌∙◌, arith, eq-eqb, ne_eqb}
 use Rattle.std.proofs.lemmas.Bool.Decides.{nat_tests}
 use Rattle.pcc_base.specs.declared.fault.Fault.{Fault}
 use Rattle.pcc_base.specs.declared.span.Span.{Span}
@@ -22,13 +23,17 @@ none_at_end fresh rest e n piece b =
     omega (arith, ap length e)
 
 -- pieces lead from a place to one where none begins in one way
-pub leads_once : (k l : ℕ) (from to other : Reached) (a b : List Token) → Leads k from a to → Leads l from b other → NoneBegins to.fresh to.rest → NoneBegins other.fresh other.rest → (a ≡ b) × (to ≡ other)
+pub leads_once : (k l : ℕ) (from to other : Reached) (a b : List Token) → Leads k from a to → Leads l from b other
+    → NoneBegins to.fresh to.rest → NoneBegins other.fresh other.rest → (a ≡ b) × (to ≡ other)
 leads_once zero zero from to other a b p q s t = (p.1 ∙ sym q.1, p.0 ∙ sym q.0)
-leads_once zero (suc l) from to other a b p q s t = absurd (subst (λ (r : Reached). NoneBegins r.fresh r.rest) p.0 s q.0 q.1 q.2)
-leads_once (suc k) zero from to other a b p q s t = absurd (subst (λ (r : Reached). NoneBegins r.fresh r.rest) q.0 t p.0 p.1 p.2)
+leads_once zero (suc l) from to other a b p q s t =
+    absurd (subst (λ (r : Reached). NoneBegins r.fresh r.rest) p.0 s q.0 q.1 q.2)
+leads_once (suc k) zero from to other a b p q s t =
+    absurd (subst (λ (r : Reached). NoneBegins r.fresh r.rest) q.0 t p.0 p.1 p.2)
 leads_once (suc k) (suc l) from to other a b p q s t =
     let once = begins_once from.fresh from.rest p.0 q.0 p.1 q.1 p.2 q.2 in
-    let place : behind from q.0 q.1 ≡ behind from p.0 p.1 = ap₂ (λ (n : ℕ) (x : Piece). behind from n x) (sym once.0) (sym once.1) in
+    let place : behind from q.0 q.1 ≡ behind from p.0 p.1 =
+    ap₂ (λ (n : ℕ) (x : Piece). behind from n x) (sym once.0) (sym once.1) in
     let again : Leads l (behind from p.0 p.1) q.3 other = subst (λ (r : Reached). Leads l r q.3 other) place q.5 in
     let more = leads_once k l (behind from p.0 p.1) to other p.3 q.3 p.5 again s t in
     (p.4 ∙ ap₂ (λ (x : Piece) (ts : List Token). tokens_of x from.at ++ ts) once.1 more.0 ∙ sym q.4, more.1)
@@ -108,7 +113,8 @@ fault_is b rest kind (inr (inr (inl (number, is)))) =
 fault_is b rest kind (inr (inr (inr (single, double, number, slash, is)))) =
     let no_slash : (b == 47 && starts_with_star rest) ≡ false = no_comment b rest slash in
     let other : (b == 39 || b == 34) ≡ false = no_quote b single double in
-    let none : starts_number (b ∷ rest) ≡ false = not_true (starts_number (b ∷ rest)) (λ h. number (starts_back (b ∷ rest) h)) in
+    let none : starts_number (b ∷ rest) ≡ false =
+    not_true (starts_number (b ∷ rest)) (λ h. number (starts_back (b ∷ rest) h)) in
     is ∙ sym (rw (no_slash, other, none) refl)
 
 -- one fault stands there
@@ -121,16 +127,19 @@ one_fault_kind (b ∷ rest) k l p q = fault_is b rest k p ∙ sym (fault_is b re
 -- a text has one token list
 pub one_list : (file : ℕ) (text : List ℕ) (a b : List Token) → HasTokens file text a → HasTokens file text b → a ≡ b
 one_list file text a b (k, to, p, end) (l, other, q, stop) =
-    (leads_once k l (start_of file text) to other a b p q (none_at_end to.fresh to.rest end) (none_at_end other.fresh other.rest stop)).0
+    (leads_once k l (start_of file text) to other a b p q (none_at_end to.fresh to.rest end)
+    (none_at_end other.fresh other.rest stop)).0
 
 -- a text with a token list has no fault
-pub tokens_or_fault : (file : ℕ) (text : List ℕ) (a b : List Token) (fault : Fault) → HasTokens file text a → HasFault file text b fault → ⊥
+pub tokens_or_fault : (file : ℕ) (text : List ℕ) (a b : List Token) (fault : Fault) → HasTokens file text a
+    → HasFault file text b fault → ⊥
 tokens_or_fault file text a b fault (k, to, p, end) (l, other, q, some, none, kind, at) =
     let once = leads_once k l (start_of file text) to other a b p q (none_at_end to.fresh to.rest end) none in
     some (ap (λ (r : Reached). r.rest) (sym once.1) ∙ end)
 
 -- a text has one fault
-pub one_fault : (file : ℕ) (text : List ℕ) (a b : List Token) (e f : Fault) → HasFault file text a e → HasFault file text b f → (a ≡ b) × (e ≡ f)
+pub one_fault : (file : ℕ) (text : List ℕ) (a b : List Token) (e f : Fault) → HasFault file text a e
+    → HasFault file text b f → (a ≡ b) × (e ≡ f)
 one_fault file text a b e f (k, to, p, some, none, kind, at) (l, other, q, more, stuck, sort, place) =
     let once = leads_once k l (start_of file text) to other a b p q none stuck in
     let same : IsFaultOf to.rest f.kind = subst (λ (r : Reached). IsFaultOf r.rest f.kind) (sym once.1) sort in

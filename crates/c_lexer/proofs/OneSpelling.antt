@@ -1,6 +1,7 @@
 -- A text spells one keyword at most and one punctuator at most, and its first bytes tell which kind of
 -- piece it may be.
-use Rattle.std.proofs.Common.{◌≡◌, ℕ, List, [], ◌∷◌, ◌++◌, map, ◌||◌, ◌==◌, cond, Option, Some, None, inl, inr, refl, sym, ap, ◌∙◌, bytes_eq, codes}
+use Rattle.std.proofs.Common.{◌≡◌, ℕ, List, [], ◌∷◌, ◌++◌, map, ◌||◌, ◌==◌, cond, Option, Some, None, inl, inr, refl}
+use Rattle.std.proofs.Common.{sym, ap, ◌∙◌, bytes_eq, codes}
 use Rattle.pcc_base.specs.declared.keyword.Keyword.{Keyword}
 use Rattle.pcc_base.specs.declared.keyword.Keyword.TheVariants as words
 use Rattle.c_lexer.specs.declared.token.Punct.{Punct}
@@ -13,10 +14,14 @@ use Rattle.c_lexer.specs.Spellings.{keyword_text, mark_text, IsDigraph, IsMark}
 -- each keyword
 abbrev all_words : List Keyword
 all_words =
-    words.Auto ∷ words.Break ∷ words.Case ∷ words.Char ∷ words.Const ∷ words.Continue ∷ words.Default ∷ words.Do ∷ words.Double ∷ words.Else ∷
-    words.Enum ∷ words.Extern ∷ words.Float ∷ words.For ∷ words.Goto ∷ words.If ∷ words.Inline ∷ words.Int ∷ words.Long ∷ words.Register ∷
-    words.Restrict ∷ words.Return ∷ words.Short ∷ words.Signed ∷ words.Sizeof ∷ words.Static ∷ words.Struct ∷ words.Switch ∷ words.Typedef ∷
-    words.Union ∷ words.Unsigned ∷ words.Void ∷ words.Volatile ∷ words.While ∷ words.Bool ∷ words.Complex ∷ words.Imaginary ∷ []
+    words.Auto ∷ words.Break ∷ words.Case ∷ words.Char ∷ words.Const ∷ words.Continue ∷ words.Default ∷ words.Do
+    ∷ words.Double ∷ words.Else ∷
+    words.Enum ∷ words.Extern ∷ words.Float ∷ words.For ∷ words.Goto ∷ words.If ∷ words.Inline ∷ words.Int ∷ words.Long
+    ∷ words.Register ∷
+    words.Restrict ∷ words.Return ∷ words.Short ∷ words.Signed ∷ words.Sizeof ∷ words.Static ∷ words.Struct
+    ∷ words.Switch ∷ words.Typedef ∷
+    words.Union ∷ words.Unsigned ∷ words.Void ∷ words.Volatile ∷ words.While ∷ words.Bool ∷ words.Complex
+    ∷ words.Imaginary ∷ []
 
 -- the first keyword of a list that has the text
 abbrev word_in : List Keyword → List ℕ → Option Keyword
@@ -39,16 +44,22 @@ one_word v w e =
 -- each punctuator
 abbrev all_marks : List Punct
 all_marks =
-    marks.LeftBracket ∷ marks.RightBracket ∷ marks.LeftParen ∷ marks.RightParen ∷ marks.LeftBrace ∷ marks.RightBrace ∷ marks.Dot ∷ marks.Arrow ∷
-    marks.PlusPlus ∷ marks.MinusMinus ∷ marks.And ∷ marks.Star ∷ marks.Plus ∷ marks.Minus ∷ marks.Tilde ∷ marks.Bang ∷ marks.Slash ∷ marks.Percent ∷
-    marks.ShiftLeft ∷ marks.ShiftRight ∷ marks.Less ∷ marks.Greater ∷ marks.LessEqual ∷ marks.GreaterEqual ∷ marks.EqualEqual ∷ marks.BangEqual ∷
-    marks.Caret ∷ marks.Or ∷ marks.AndAnd ∷ marks.OrOr ∷ marks.Question ∷ marks.Colon ∷ marks.Semicolon ∷ marks.Ellipsis ∷ marks.Equal ∷
-    marks.StarEqual ∷ marks.SlashEqual ∷ marks.PercentEqual ∷ marks.PlusEqual ∷ marks.MinusEqual ∷ marks.ShiftLeftEqual ∷ marks.ShiftRightEqual ∷
+    marks.LeftBracket ∷ marks.RightBracket ∷ marks.LeftParen ∷ marks.RightParen ∷ marks.LeftBrace ∷ marks.RightBrace
+    ∷ marks.Dot ∷ marks.Arrow ∷
+    marks.PlusPlus ∷ marks.MinusMinus ∷ marks.And ∷ marks.Star ∷ marks.Plus ∷ marks.Minus ∷ marks.Tilde ∷ marks.Bang
+    ∷ marks.Slash ∷ marks.Percent ∷
+    marks.ShiftLeft ∷ marks.ShiftRight ∷ marks.Less ∷ marks.Greater ∷ marks.LessEqual ∷ marks.GreaterEqual
+    ∷ marks.EqualEqual ∷ marks.BangEqual ∷
+    marks.Caret ∷ marks.Or ∷ marks.AndAnd ∷ marks.OrOr ∷ marks.Question ∷ marks.Colon ∷ marks.Semicolon ∷ marks.Ellipsis
+    ∷ marks.Equal ∷
+    marks.StarEqual ∷ marks.SlashEqual ∷ marks.PercentEqual ∷ marks.PlusEqual ∷ marks.MinusEqual ∷ marks.ShiftLeftEqual
+    ∷ marks.ShiftRightEqual ∷
     marks.AndEqual ∷ marks.CaretEqual ∷ marks.OrEqual ∷ marks.Comma ∷ []
 
 -- each digraph and its mark
 abbrev digraphs : List (List ℕ × Punct)
-digraphs = (codes "<:", marks.LeftBracket) ∷ (codes ":>", marks.RightBracket) ∷ (codes "<%", marks.LeftBrace) ∷ (codes "%>", marks.RightBrace) ∷ []
+digraphs = (codes "<:", marks.LeftBracket) ∷ (codes ":>", marks.RightBracket) ∷ (codes "<%", marks.LeftBrace)
+    ∷ (codes "%>", marks.RightBrace) ∷ []
 
 -- each spelling of a punctuator
 abbrev spellings : List (List ℕ × Punct)
@@ -95,7 +106,10 @@ class_behind_slash (b ∷ bs) = cond (b == 47 || b == 42) 1 6
 abbrev pub class_of : List ℕ → ℕ
 class_of [] = 7
 class_of (b ∷ bs) =
-    cond (is_space b) 0 (cond (is_letter b) 3 (cond (is_digit b || b == 39) 4 (cond (b == 34) 5 (cond (b == 35) 2 (cond (b == 47) (class_behind_slash bs) 6)))))
+    cond (is_space b) 0
+    (cond (is_letter b) 3
+    (cond (is_digit b
+    || b == 39) 4 (cond (b == 34) 5 (cond (b == 35) 2 (cond (b == 47) (class_behind_slash bs) 6)))))
 
 -- a keyword is a word
 pub class_keyword : (w : Keyword) → class_of (keyword_text w) ≡ 3

@@ -1,5 +1,6 @@
 -- What the first bytes of each kind of piece are.
-use Rattle.std.proofs.Common.{◌≡◌, ℕ, zero, suc, Bool, true, false, not, ◌||◌, ◌&&◌, List, [], ◌∷◌, ◌++◌, take, IsTrue, refl, sym, subst, inl, inr, arith}
+use Rattle.std.proofs.Common.{◌≡◌, ℕ, zero, suc, Bool, true, false, not, ◌||◌, ◌&&◌, List, [], ◌∷◌, ◌++◌, take, IsTrue}
+use Rattle.std.proofs.Common.{refl, sym, subst, inl, inr, arith}
 use Rattle.std.proofs.lemmas.Bool.Decides.{nat_tests}
 use Rattle.std.specs.Prelude.{nat_le, ◌==◌}
 use Rattle.std.specs.List.{prefix_len}
@@ -16,7 +17,10 @@ use Rattle.c_lexer.specs.Pieces.{Piece, Space, Comment, Skipped, Spelled, IsPiec
 -- a byte that begins a punctuator
 abbrev pub is_mark_byte : ℕ → Bool
 is_mark_byte b =
-    (b == 33 || (nat_le 37 b && nat_le b 38)) || ((nat_le 40 b && nat_le b 47) || ((nat_le 58 b && nat_le b 63) || ((b == 91 || (nat_le 93 b && nat_le b 94)) || (nat_le 123 b && nat_le b 126))))
+    (b == 33 || (nat_le 37 b && nat_le b 38))
+    || ((nat_le 40 b && nat_le b 47)
+    || ((nat_le 58 b && nat_le b 63)
+    || ((b == 91 || (nat_le 93 b && nat_le b 94)) || (nat_le 123 b && nat_le b 126))))
 
 abbrev pub is_empty : List ℕ → Bool
 is_empty [] = true
@@ -73,7 +77,8 @@ number_first b [] h = grind (arith, nat_tests)
 number_first b (c ∷ cs) (inl h) = let d : IsTrue (is_digit b) = h.0 in grind (arith, nat_tests)
 number_first b (c ∷ cs) (inr h) = subst (λ (x : ℕ). IsTrue (is_digit x || (x == 46 || x == 39))) (sym h.0) refl
 
-pub same_first : (test : ℕ → Bool) (b : ℕ) (bs text : List ℕ) → b ∷ bs ≡ text → IsTrue (begins_with test text) → IsTrue (test b)
+pub same_first : (test : ℕ → Bool) (b : ℕ) (bs text : List ℕ) → b ∷ bs ≡ text → IsTrue (begins_with test text)
+    → IsTrue (test b)
 same_first test b bs text e h = subst (λ (xs : List ℕ). IsTrue (begins_with test xs)) (sym e) h
 
 -- what a list that a front begins with begins with
@@ -82,19 +87,28 @@ take_first zero b others c xs e = cc
 take_first (suc k) b others c xs e = cc
 
 -- a piece's first byte is one that its kind may have
-pub piece_starts : (fresh : Bool) (b : ℕ) (others : List ℕ) (m : ℕ) (other : Piece) → IsPiece fresh (b ∷ others) (suc m) other → IsTrue (starts other b)
+pub piece_starts : (fresh : Bool) (b : ℕ) (others : List ℕ) (m : ℕ) (other : Piece)
+    → IsPiece fresh (b ∷ others) (suc m) other → IsTrue (starts other b)
 piece_starts fresh b others m Space (c, e, h) = same_first is_space b (take m others) (c ∷ []) e h
 piece_starts fresh b others m Comment (inl (body, e, h)) = same_first (λ x. x == 47) b (take m others) _ e refl
-piece_starts fresh b others m Comment (inr (body, e, h)) = same_first (λ x. x == 47) b (take m others) (47 ∷ 42 ∷ body ++ 42 ∷ 47 ∷ []) e refl
+piece_starts fresh b others m Comment (inr (body, e, h)) =
+    same_first (λ x. x == 47) b (take m others) (47 ∷ 42 ∷ body ++ 42 ∷ 47 ∷ []) e refl
 piece_starts fresh b others m Skipped (f, (blanks, more, e, passes, rest), is) =
     let first : b ≡ 35 = take_first (prefix_len (λ x. not (x == 10)) (b ∷ others)) b others 35 (blanks ++ more) e in
     grind (arith, nat_tests)
-piece_starts fresh b others m (Spelled (kinds.Word word)) e = same_first is_letter b (take m others) (keyword_text word) e (keyword_letter word)
-piece_starts fresh b others m (Spelled (kinds.Ident name)) (e, (c, cs, is, letter, all), none) = same_first is_letter b (take m others) name e (subst (λ (xs : List ℕ). IsTrue (begins_with is_letter xs)) (sym is) letter)
-piece_starts fresh b others m (Spelled (kinds.Number z)) (inl (text, longest, more)) = number_first b (take m others) text
-piece_starts fresh b others m (Spelled (kinds.Number z)) (inr (value, (inside, e, has), is)) = same_first (λ x. is_digit x || (x == 46 || x == 39)) b (take m others) (39 ∷ inside ++ 39 ∷ []) e refl
-piece_starts fresh b others m (Spelled (kinds.Text bytes)) (inside, e, has) = same_first (λ x. x == 34) b (take m others) (34 ∷ inside ++ 34 ∷ []) e refl
-piece_starts fresh b others m (Spelled (kinds.Mark mark)) h = mark_first b (take m others) (IsMark-may mark (b ∷ take m others) h)
+piece_starts fresh b others m (Spelled (kinds.Word word)) e =
+    same_first is_letter b (take m others) (keyword_text word) e (keyword_letter word)
+piece_starts fresh b others m (Spelled (kinds.Ident name)) (e, (c, cs, is, letter, all), none) =
+    same_first is_letter b (take m others) name e
+    (subst (λ (xs : List ℕ). IsTrue (begins_with is_letter xs)) (sym is) letter)
+piece_starts fresh b others m (Spelled (kinds.Number z)) (inl (text, longest, more)) =
+    number_first b (take m others) text
+piece_starts fresh b others m (Spelled (kinds.Number z)) (inr (value, (inside, e, has), is)) =
+    same_first (λ x. is_digit x || (x == 46 || x == 39)) b (take m others) (39 ∷ inside ++ 39 ∷ []) e refl
+piece_starts fresh b others m (Spelled (kinds.Text bytes)) (inside, e, has) =
+    same_first (λ x. x == 34) b (take m others) (34 ∷ inside ++ 34 ∷ []) e refl
+piece_starts fresh b others m (Spelled (kinds.Mark mark)) h =
+    mark_first b (take m others) (IsMark-may mark (b ∷ take m others) h)
 
 -- a byte with which what bars a piece may begin
 abbrev pub may_bar : ℕ → Bool

@@ -1,5 +1,6 @@
 -- How the inside of a literal is read from left to right, one character at a time (C99 6.4.4.4, 6.4.5).
-use Rattle.std.specs.Prelude.{◌≡◌, ◌≤◌, ◌<◌, ℕ, ◌+◌, Bool, List, [], ◌∷◌, length, take, drop, nat_le, Option, Some, None, ⊤, ◌==◌, if◌then◌else◌}
+use Rattle.std.specs.Prelude.{◌≡◌, ◌≤◌, ◌<◌, ℕ, ◌+◌, Bool, List, [], ◌∷◌, length, take, drop, nat_le, Option, Some}
+use Rattle.std.specs.Prelude.{None, ⊤, ◌==◌, if◌then◌else◌}
 use Rattle.c_lexer.specs.declared.quotes.Reading.{Reading}
 use Rattle.c_lexer.specs.declared.quotes.Reading.TheVariants.{Character, Closing, Faulty}
 use Rattle.c_lexer.specs.Bytes.{is_octal_digit, is_hexadecimal_digit, number_in}
@@ -13,7 +14,8 @@ front_of test (b ∷ bs) = if test b then b ∷ front_of test bs else []
 -- the digits' number, or one above 255 where theirs is above, and how many digits they are
 abbrev pub HasFront : ℕ → List ℕ → ℕ → ℕ → Type 0
 HasFront base digits number count =
-    (number ≤ 255 → number_in base digits ≡ number) × (255 < number → 255 < number_in base digits) × (length digits ≡ count)
+    (number ≤ 255 → number_in base digits ≡ number) × (255 < number → 255 < number_in base digits)
+    × (length digits ≡ count)
 
 -- what a table of escapes has for a letter
 abbrev pub value_in : List (ℕ × ℕ) → ℕ → Option ℕ
@@ -28,13 +30,17 @@ simple_reading (Some value) = Character value 2
 -- the character whose number the digits spell, behind so many bytes of the escape
 abbrev pub coded_reading : ℕ → ℕ → List ℕ → Reading
 coded_reading base start digits =
-    if length digits == 0 then Faulty else (if nat_le (number_in base digits) 255 then Character (number_in base digits) (start + length digits) else Faulty)
+    if length digits == 0 then Faulty
+    else (if nat_le (number_in base digits) 255 then Character (number_in base digits) (start + length digits)
+    else Faulty)
 
 -- the escape whose backslash stands before these bytes
 abbrev pub read_escape : List ℕ → Reading
 read_escape [] = Faulty
 read_escape (e ∷ rest) =
-    if is_octal_digit e then coded_reading 8 1 (front_of is_octal_digit (take 3 (e ∷ rest))) else (if e == 120 then coded_reading 16 2 (front_of is_hexadecimal_digit rest) else simple_reading (value_in simple_escapes e))
+    if is_octal_digit e then coded_reading 8 1 (front_of is_octal_digit (take 3 (e ∷ rest)))
+    else (if e == 120 then coded_reading 16 2 (front_of is_hexadecimal_digit rest)
+    else simple_reading (value_in simple_escapes e))
 
 -- what stands at the front of the rest of a literal
 abbrev pub read_character : ℕ → List ℕ → Reading
@@ -52,12 +58,14 @@ IsWithin n Faulty = ⊤
 abbrev pub ReadsFront : ℕ → List ℕ → List ℕ → List ℕ → Type 0
 ReadsFront quote text [] rest = text ≡ rest
 ReadsFront quote text (value ∷ values) rest =
-    (n : ℕ) × (read_character quote text ≡ Character value n) × (value ≤ 255) × ReadsFront quote (drop n text) values rest
+    (n : ℕ) × (read_character quote text ≡ Character value n) × (value ≤ 255)
+    × ReadsFront quote (drop n text) values rest
 
 -- the text is closed behind n bytes, which have these values
 abbrev pub IsClosedBehind : ℕ → List ℕ → List ℕ → ℕ → Type 0
 IsClosedBehind quote text values n =
-    (rest : List ℕ) × ReadsFront quote text values rest × (read_character quote rest ≡ Closing) × (n + length rest ≡ length text)
+    (rest : List ℕ) × ReadsFront quote text values rest × (read_character quote rest ≡ Closing)
+    × (n + length rest ≡ length text)
 
 -- reading comes to a place where neither a character nor the closing quote stands
 abbrev pub IsNeverClosed : ℕ → List ℕ → Type 0

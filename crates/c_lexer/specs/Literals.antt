@@ -1,5 +1,6 @@
 -- Constants and string literals (C99 6.4.4.1, 6.4.4.4, 6.4.5, 6.4.8).
-use Rattle.std.specs.Prelude.{◌≡◌, ◌≢◌, ◌≤◌, ◌<◌, ◌⊎◌, ℕ, Bool, true, false, ◌||◌, List, [], ◌∷◌, ◌++◌, length, ◌==◌, if◌then◌else◌, IsTrue, IsFalse, ℤ}
+use Rattle.std.specs.Prelude.{◌≡◌, ◌≢◌, ◌≤◌, ◌<◌, ◌⊎◌, ℕ, Bool, true, false, ◌||◌, List, [], ◌∷◌, ◌++◌, length, ◌==◌}
+use Rattle.std.specs.Prelude.{if◌then◌else◌, IsTrue, IsFalse, ℤ}
 use Rattle.std.specs.List.{AllByRecursion}
 use Rattle.byteorder.specs.Endian.{twos_complement}
 use Rattle.c_lexer.specs.Bytes.{is_digit, is_octal_digit, is_hexadecimal_digit, is_letter, number_in}
@@ -27,7 +28,8 @@ GoesOnAsNumber (b ∷ c ∷ rest) =
 abbrev pub IsNumberText : List ℕ → Type 0
 IsNumberText [] = ⊥
 IsNumberText (b ∷ []) = IsTrue (is_digit b)
-IsNumberText (b ∷ c ∷ rest) = (IsTrue (is_digit b) × GoesOnAsNumber (c ∷ rest)) ⊎ ((b ≡ 46) × IsTrue (is_digit c) × GoesOnAsNumber rest)
+IsNumberText (b ∷ c ∷ rest) = (IsTrue (is_digit b) × GoesOnAsNumber (c ∷ rest))
+    ⊎ ((b ≡ 46) × IsTrue (is_digit c) × GoesOnAsNumber rest)
 
 abbrev pub StartsNumber : List ℕ → Type 0
 StartsNumber [] = ⊥
@@ -37,9 +39,11 @@ StartsNumber (b ∷ c ∷ rest) = IsTrue (is_digit b) ⊎ ((b ≡ 46) × IsTrue 
 -- an integer constant without suffix: decimal, octal or hexadecimal (C99 6.4.4.1)
 abbrev pub ConstantValue : List ℕ → ℕ → Type 0
 ConstantValue bytes value =
-    ((d : ℕ) × (ds : List ℕ) × (bytes ≡ d ∷ ds) × IsTrue (is_digit d) × (d ≢ 48) × AllPass is_digit ds × (value ≡ number_in 10 bytes))
+    ((d : ℕ) × (ds : List ℕ) × (bytes ≡ d ∷ ds) × IsTrue (is_digit d) × (d ≢ 48) × AllPass is_digit ds
+    × (value ≡ number_in 10 bytes))
     ⊎ ((ds : List ℕ) × (bytes ≡ 48 ∷ ds) × AllPass is_octal_digit ds × (value ≡ number_in 8 ds))
-    ⊎ ((x : ℕ) × (ds : List ℕ) × (bytes ≡ 48 ∷ x ∷ ds) × ((x ≡ 120) ⊎ (x ≡ 88)) × (0 < length ds) × AllPass is_hexadecimal_digit ds × (value ≡ number_in 16 ds))
+    ⊎ ((x : ℕ) × (ds : List ℕ) × (bytes ≡ 48 ∷ x ∷ ds) × ((x ≡ 120) ⊎ (x ≡ 88)) × (0 < length ds)
+    × AllPass is_hexadecimal_digit ds × (value ≡ number_in 16 ds))
 
 -- a constant of the profile
 abbrev pub IsConstant : List ℕ → ℕ → Type 0
@@ -50,7 +54,8 @@ IsConstant bytes value = ConstantValue bytes value × (value ≤ 2147483647)
 -- the escapes of one letter and what they are worth (C99 6.4.4.4)
 abbrev pub simple_escapes : List (ℕ × ℕ)
 simple_escapes =
-    (39, 39) ∷ (34, 34) ∷ (63, 63) ∷ (92, 92) ∷ (97, 7) ∷ (98, 8) ∷ (102, 12) ∷ (110, 10) ∷ (114, 13) ∷ (116, 9) ∷ (118, 11) ∷ []
+    (39, 39) ∷ (34, 34) ∷ (63, 63) ∷ (92, 92) ∷ (97, 7) ∷ (98, 8) ∷ (102, 12) ∷ (110, 10) ∷ (114, 13) ∷ (116, 9)
+    ∷ (118, 11) ∷ []
 
 abbrev pub EscapeIn : List (ℕ × ℕ) → ℕ → ℕ → Type 0
 EscapeIn [] letter value = ⊥
@@ -68,18 +73,22 @@ abbrev pub IsCharacter : ℕ → List ℕ → List ℕ → ℕ → Type 0
 IsCharacter quote bytes rest value =
     ((bytes ≡ value ∷ []) × (value ≢ quote) × (value ≢ 92) × (value ≢ 10))
     ⊎ ((letter : ℕ) × (bytes ≡ 92 ∷ letter ∷ []) × EscapeIn simple_escapes letter value)
-    ⊎ ((ds : List ℕ) × (bytes ≡ 92 ∷ ds) × (0 < length ds) × (length ds ≤ 3) × AllPass is_octal_digit ds × ((length ds ≡ 3) ⊎ StartsNot is_octal_digit rest) × (value ≡ number_in 8 ds))
-    ⊎ ((ds : List ℕ) × (bytes ≡ 92 ∷ 120 ∷ ds) × (0 < length ds) × AllPass is_hexadecimal_digit ds × StartsNot is_hexadecimal_digit rest × (value ≡ number_in 16 ds))
+    ⊎ ((ds : List ℕ) × (bytes ≡ 92 ∷ ds) × (0 < length ds) × (length ds ≤ 3) × AllPass is_octal_digit ds
+    × ((length ds ≡ 3) ⊎ StartsNot is_octal_digit rest) × (value ≡ number_in 8 ds))
+    ⊎ ((ds : List ℕ) × (bytes ≡ 92 ∷ 120 ∷ ds) × (0 < length ds) × AllPass is_hexadecimal_digit ds
+    × StartsNot is_hexadecimal_digit rest × (value ≡ number_in 16 ds))
 
 -- the inside of a literal has these values, each at most 255
 abbrev pub HasValues : ℕ → List ℕ → List ℕ → Type 0
 HasValues quote inside [] = inside ≡ []
 HasValues quote inside (value ∷ values) =
-    (bytes rest : List ℕ) × (inside ≡ bytes ++ rest) × IsCharacter quote bytes rest value × (value ≤ 255) × HasValues quote rest values
+    (bytes rest : List ℕ) × (inside ≡ bytes ++ rest) × IsCharacter quote bytes rest value × (value ≤ 255)
+    × HasValues quote rest values
 
 -- a literal in such quotes
 abbrev pub IsLiteral : ℕ → List ℕ → List ℕ → Type 0
-IsLiteral quote bytes values = (inside : List ℕ) × (bytes ≡ quote ∷ inside ++ quote ∷ []) × HasValues quote inside values
+IsLiteral quote bytes values = (inside : List ℕ) × (bytes ≡ quote ∷ inside ++ quote ∷ [])
+    × HasValues quote inside values
 
 -- a character constant holds one character, whose byte is read as a signed char
 abbrev pub IsCharacterConstant : List ℕ → ℤ → Type 0
@@ -91,4 +100,6 @@ abbrev pub is_closed : ℕ → List ℕ → Bool
 is_closed quote [] = false
 is_closed quote (b ∷ []) = b == quote
 is_closed quote (b ∷ c ∷ rest) =
-    if b == quote then true else (if b == 10 then false else (if b == 92 then (if c == 10 then false else is_closed quote rest) else is_closed quote (c ∷ rest)))
+    if b == quote then true
+    else (if b == 10 then false
+    else (if b == 92 then (if c == 10 then false else is_closed quote rest) else is_closed quote (c ∷ rest)))

@@ -1,6 +1,7 @@
 -- The pieces that a text is made of: white space, comments, skipped lines and tokens (C99 6.4, 6.4.9).
 -- Each is the longest that begins there.
-use Rattle.std.specs.Prelude.{◌≡◌, ◌≢◌, ◌≤◌, ◌<◌, ◌⊎◌, ℕ, Bool, true, List, [], ◌∷◌, ◌++◌, length, take, take_while, not, ◌==◌, IsTrue, pos, codes, if◌then◌else◌}
+use Rattle.std.specs.Prelude.{◌≡◌, ◌≢◌, ◌≤◌, ◌<◌, ◌⊎◌, ℕ, Bool, true, List, [], ◌∷◌, ◌++◌, length, take, take_while}
+use Rattle.std.specs.Prelude.{not, ◌==◌, IsTrue, pos, codes, if◌then◌else◌}
 use Rattle.pcc_base.specs.declared.keyword.Keyword.{Keyword}
 use Rattle.pcc_base.specs.declared.fault.FaultKind.{FaultKind}
 use Rattle.pcc_base.specs.declared.fault.FaultKind.TheVariants.{BadByte, BadNumber, Unclosed, BadEscape}
@@ -8,7 +9,8 @@ use Rattle.c_lexer.specs.declared.token.TokenKind.{TokenKind}
 use Rattle.c_lexer.specs.declared.token.TokenKind.TheVariants as kinds
 use Rattle.c_lexer.specs.Bytes.{is_space, is_blank, is_digit, is_letter, is_word_byte}
 use Rattle.c_lexer.specs.Spellings.{keyword_text, IsMark}
-use Rattle.c_lexer.specs.Literals.{AllPass, StartsNot, StartsNumber, IsNumberText, IsConstant, IsLiteral, IsCharacterConstant, is_closed}
+use Rattle.c_lexer.specs.Literals.{AllPass, StartsNot, StartsNumber, IsNumberText, IsConstant, IsLiteral}
+use Rattle.c_lexer.specs.Literals.{IsCharacterConstant, is_closed}
 
 pub data Piece : Type 0 where
   -- one byte of white space
@@ -31,13 +33,15 @@ IsLineComment bytes = (body : List ℕ) × (bytes ≡ 47 ∷ 47 ∷ body) × All
 -- `/*` and the first `*/` behind it
 abbrev pub IsBlockComment : List ℕ → Type 0
 IsBlockComment bytes =
-    (body : List ℕ) × (bytes ≡ 47 ∷ 42 ∷ body ++ 42 ∷ 47 ∷ []) × ((before after : List ℕ) → body ++ 42 ∷ [] ≢ before ++ 42 ∷ 47 ∷ after)
+    (body : List ℕ) × (bytes ≡ 47 ∷ 42 ∷ body ++ 42 ∷ 47 ∷ [])
+    × ((before after : List ℕ) → body ++ 42 ∷ [] ≢ before ++ 42 ∷ 47 ∷ after)
 
 -- behind `#`, spaces and tabs comes a digit or the word `pragma`
 abbrev pub IsMarker : List ℕ → Type 0
 IsMarker line =
     (blanks more : List ℕ) × (line ≡ 35 ∷ blanks ++ more) × AllPass is_blank blanks
-    × (((d : ℕ) × (others : List ℕ) × (more ≡ d ∷ others) × IsTrue (is_digit d)) ⊎ ((others : List ℕ) × (more ≡ codes "pragma" ++ others) × StartsNot is_word_byte others))
+    × (((d : ℕ) × (others : List ℕ) × (more ≡ d ∷ others) × IsTrue (is_digit d))
+    ⊎ ((others : List ℕ) × (more ≡ codes "pragma" ++ others) × StartsNot is_word_byte others))
 
 -- an identifier, or a keyword (C99 6.4.2.1)
 abbrev pub IsWordText : List ℕ → Type 0
@@ -56,7 +60,8 @@ IsPiece fresh rest n Skipped = (fresh ≡ true) × IsMarker (line_of rest) × (n
 IsPiece fresh rest n (Spelled (kinds.Word word)) = take n rest ≡ keyword_text word
 IsPiece fresh rest n (Spelled (kinds.Ident name)) = (take n rest ≡ name) × IsWordText name × IsNoKeyword name
 IsPiece fresh rest n (Spelled (kinds.Number z)) =
-    (IsNumberText (take n rest) × ((m : ℕ) → n < m → m ≤ length rest → IsNumberText (take m rest) → ⊥) × ((value : ℕ) × IsConstant (take n rest) value × (z ≡ pos value)))
+    (IsNumberText (take n rest) × ((m : ℕ) → n < m → m ≤ length rest → IsNumberText (take m rest) → ⊥)
+    × ((value : ℕ) × IsConstant (take n rest) value × (z ≡ pos value)))
     ⊎ IsCharacterConstant (take n rest) z
 IsPiece fresh rest n (Spelled (kinds.Text bytes)) = IsLiteral 34 (take n rest) bytes
 IsPiece fresh rest n (Spelled (kinds.Mark mark)) = IsMark mark (take n rest)
@@ -69,7 +74,9 @@ IsBarred rest =
     ((body : List ℕ) × (rest ≡ 47 ∷ 42 ∷ body) × ((before after : List ℕ) → body ≢ before ++ 42 ∷ 47 ∷ after))
     ⊎ ((others : List ℕ) × (rest ≡ 37 ∷ 58 ∷ others))
     ⊎ ((quote : ℕ) × (others : List ℕ) × (rest ≡ 76 ∷ quote ∷ others) × ((quote ≡ 39) ⊎ (quote ≡ 34)))
-    ⊎ (StartsNumber rest × ((n value : ℕ) → IsNumberText (take n rest) → ((m : ℕ) → n < m → m ≤ length rest → IsNumberText (take m rest) → ⊥) → IsConstant (take n rest) value → ⊥))
+    ⊎ (StartsNumber rest
+    × ((n value : ℕ) → IsNumberText (take n rest)
+    → ((m : ℕ) → n < m → m ≤ length rest → IsNumberText (take m rest) → ⊥) → IsConstant (take n rest) value → ⊥))
 
 -- the piece that begins the rest is its first n bytes: no longer prefix is a piece
 pub record Begins (fresh : Bool) (rest : List ℕ) (n : ℕ) (piece : Piece) : Type 0 where

@@ -27,7 +27,8 @@ IsScan fresh rest (Err e) = ⊤
 
 -- why a text has no token list of at most so many tokens
 abbrev pub IsRefused : ℕ → List ℕ → ℕ → Refusal → Type 0
-IsRefused file text most (refusals.Fault fault) = (before : List Token) × HasFault file text before fault × (length before ≤ most)
+IsRefused file text most (refusals.Fault fault) = (before : List Token) × HasFault file text before fault
+    × (length before ≤ most)
 IsRefused file text most (refusals.Limit (Tokens n)) =
     (n ≡ most + 1) × ((before : List Token) × BeginsWith file text before × (length before ≡ most + 1))
 IsRefused file text most refusals.NoMemory = ⊤

@@ -1,5 +1,6 @@
 -- The tokens of a text, and where a text has none.
-use Rattle.std.specs.Prelude.{◌≡◌, ◌≢◌, ℕ, zero, suc, ◌+◌, Bool, true, false, ◌&&◌, List, [], ◌∷◌, ◌++◌, take, drop, ◌==◌, if◌then◌else◌}
+use Rattle.std.specs.Prelude.{◌≡◌, ◌≢◌, ℕ, zero, suc, ◌+◌, Bool, true, false, ◌&&◌, List, [], ◌∷◌, ◌++◌, take, drop}
+use Rattle.std.specs.Prelude.{◌==◌, if◌then◌else◌}
 use Rattle.pcc_base.specs.declared.span.Span.{Span}
 use Rattle.pcc_base.specs.declared.fault.Fault.{Fault}
 use Rattle.c_lexer.specs.declared.token.Token.{Token}
@@ -30,7 +31,12 @@ pub record Reached : Type 0 where
 
 abbrev pub behind : Reached → ℕ → Piece → Reached
 behind r n piece =
-    record { rest = drop n r.rest; at = place_after r.at (take n r.rest); fresh = fresh_after r.fresh piece (take n r.rest) }
+    record {
+      rest = drop n r.rest;
+      at = place_after r.at (take n r.rest);
+      fresh =
+          fresh_after r.fresh piece (take n r.rest);
+    }
 
 -- k pieces lead from one to the other, and their tokens are these
 abbrev pub Leads : ℕ → Reached → List Token → Reached → Type 0

@@ -8,15 +8,24 @@ use Rattle.ia32_insn.specs.declared.item.Item.TheVariants as item
 use Rattle.ia32_asm.specs.Sections.{Stands, StandOnce, IsSpelled, HasLabel, items_size, CanAssemble}
 
 -- what holds of each item
-all_at : (P : Item → Type 0) (items : List Item) → AllByRecursion P items → (j : ℕ) (i : Item) → slice_get items j ≡ Some i → P i
+all_at : (P : Item → Type 0) (items : List Item) → AllByRecursion P items → (j : ℕ) (i : Item) → slice_get items j
+    ≡ Some i → P i
 all_at P [] h j i e = absurd (cc)
 all_at P (x ∷ xs) h zero i e = subst P (same_Some x i e) h.0
 all_at P (x ∷ xs) h (suc j) i e = all_at P xs h.1 j i e
 
-pub can_assemble : (items : List Item) → AllByRecursion IsSpelled items → AllByRecursion (HasLabel items) items → StandOnce item.Label items → StandOnce item.Point items
+pub can_assemble : (items : List Item) → AllByRecursion IsSpelled items → AllByRecursion (HasLabel items) items
+    → StandOnce item.Label items → StandOnce item.Point items
     → items_size items < 2 ^ 30 → CanAssemble items
 can_assemble items s l labels points size =
-    record { spelled = all_at IsSpelled items s; labelled = all_at (HasLabel items) items l; labels_once = labels; points_once = points; size = size }
+    record {
+      spelled = all_at IsSpelled items s;
+      labelled = all_at (HasLabel items) items l;
+      labels_once =
+          labels;
+      points_once = points;
+      size = size;
+    }
 
 -- a mark that does not stand in the items
 pub absent_none : (y : Item) → Stands y [] → ⊥
@@ -25,7 +34,8 @@ absent_none y s = let h = s.1 in cc
 pub absent_more : (y x : Item) (xs : List Item) → (x ≡ y → ⊥) → (Stands y xs → ⊥) → Stands y (x ∷ xs) → ⊥
 absent_more y x xs other h s = absent_at y x xs other h s.0 s.1
   where
-    absent_at : (y x : Item) (xs : List Item) → (x ≡ y → ⊥) → (Stands y xs → ⊥) → (j : ℕ) → slice_get (x ∷ xs) j ≡ Some y → ⊥
+    absent_at : (y x : Item) (xs : List Item) → (x ≡ y → ⊥) → (Stands y xs → ⊥) → (j : ℕ) → slice_get (x ∷ xs) j
+        ≡ Some y → ⊥
     absent_at y x xs other h zero e = other (same_Some x y e)
     absent_at y x xs other h (suc j) e = h (j, e)
 
@@ -33,12 +43,14 @@ absent_more y x xs other h s = absent_at y x xs other h s.0 s.1
 pub once_none : (mark : ℕ → Item) → StandOnce mark []
 once_none mark i j n e f = absurd (cc)
 
-pub once_other : (mark : ℕ → Item) (x : Item) (xs : List Item) → ((n : ℕ) → x ≡ mark n → ⊥) → StandOnce mark xs → StandOnce mark (x ∷ xs)
+pub once_other : (mark : ℕ → Item) (x : Item) (xs : List Item) → ((n : ℕ) → x ≡ mark n → ⊥) → StandOnce mark xs
+    → StandOnce mark (x ∷ xs)
 once_other mark x xs other h zero j n e f = absurd (other n (same_Some x (mark n) e))
 once_other mark x xs other h (suc i) zero n e f = absurd (other n (same_Some x (mark n) f))
 once_other mark x xs other h (suc i) (suc j) n e f = omega (arith, h i j n e f)
 
-pub once_mark : (mark : ℕ → Item) (x : Item) (xs : List Item) → (Stands x xs → ⊥) → StandOnce mark xs → StandOnce mark (x ∷ xs)
+pub once_mark : (mark : ℕ → Item) (x : Item) (xs : List Item) → (Stands x xs → ⊥) → StandOnce mark xs
+    → StandOnce mark (x ∷ xs)
 once_mark mark x xs absent h zero zero n e f = refl
 once_mark mark x xs absent h zero (suc j) n e f = absurd (absent (j, f ∙ sym e))
 once_mark mark x xs absent h (suc i) zero n e f = absurd (absent (i, e ∙ sym f))

@@ -1,7 +1,8 @@
 -- Words in their places.
 use Rattle.std.specs.Prelude.{◌≡◌, ℕ, suc, ◌+◌, ◌≤◌, List, [], ◌∷◌, ◌++◌, length, take, drop, slice_get, Some}
 use Rattle.std.proofs.Common.{refl, sym, ap, ◌∙◌, arith}
-use Rattle.std.proofs.lemmas.List.{append_assoc, length-append, length-take-le, length-drop, take_at, drop_at, drop-drop, take-append-drop}
+use Rattle.std.proofs.lemmas.List.{append_assoc, length-append, length-take-le, length-drop, take_at, drop_at}
+use Rattle.std.proofs.lemmas.List.{drop-drop, take-append-drop}
 use Rattle.byteorder.specs.Endian.{little_bytes}
 use Rattle.ia32_insn.specs.Items.{Symbols}
 use Rattle.ia32_asm.specs.declared.section.Relocation.{Relocation}
@@ -11,7 +12,8 @@ use Rattle.ia32_asm.specs.Sections.{word_for, with_word, resolved}
 pub resolved-append : (symbols : Symbols) (base : ℕ) (rs qs : List Relocation) (bytes : List ℕ)
     → resolved symbols base (rs ++ qs) bytes ≡ resolved symbols base qs (resolved symbols base rs bytes)
 resolved-append symbols base [] qs bytes = refl
-resolved-append symbols base (r ∷ rs) qs bytes = resolved-append symbols base rs qs (with_word r.at (word_for symbols base r) bytes)
+resolved-append symbols base (r ∷ rs) qs bytes =
+    resolved-append symbols base rs qs (with_word r.at (word_for symbols base r) bytes)
 
 -- four bytes between others are replaced by a word
 pub with_word-at : (front op four tail : List ℕ) (offset word : ℕ) → offset ≡ length front + length op → length four ≡ 4
@@ -23,7 +25,8 @@ with_word-at front op four tail offset word o f =
     in
     let longer : front ++ ((op ++ four) ++ tail) ≡ ((front ++ op) ++ four) ++ tail = simp append_assoc in
     let behind : drop (offset + 4) (front ++ ((op ++ four) ++ tail)) ≡ tail =
-    ap (drop (offset + 4)) longer ∙ drop_at ((front ++ op) ++ four) tail (offset + 4) (omega (arith, length-append (front ++ op) four, length-append front op))
+    ap (drop (offset + 4)) longer ∙ drop_at ((front ++ op)
+    ++ four) tail (offset + 4) (omega (arith, length-append (front ++ op) four, length-append front op))
     in
     ap (λ (xs : List ℕ). xs ++ little_bytes 4 word ++ drop (offset + 4) (front ++ ((op ++ four) ++ tail))) ahead
     ∙ ap (λ (xs : List ℕ). (front ++ op) ++ little_bytes 4 word ++ xs) behind
@@ -33,17 +36,28 @@ with_word-at front op four tail offset word o f =
     regroup a b c d = simp append_assoc
 
 -- a word within bytes leaves their length
-pub length-with_word : (offset word : ℕ) (bytes : List ℕ) → offset + 4 ≤ length bytes → length (with_word offset word bytes) ≡ length bytes
+pub length-with_word : (offset word : ℕ) (bytes : List ℕ) → offset + 4 ≤ length bytes
+    → length (with_word offset word bytes) ≡ length bytes
 length-with_word offset word bytes h =
     length-append (take offset bytes ++ little_bytes 4 word) (drop (offset + 4) bytes)
-    ∙ omega (arith, length-append (take offset bytes) (little_bytes 4 word), length-take-le offset bytes (omega arith), length-drop (offset + 4) bytes)
+    ∙ omega (
+      arith,
+      length-append (take offset bytes) (little_bytes 4 word),
+      length-take-le offset bytes (omega arith),
+      length-drop (offset + 4) bytes,
+    )
 
 pub length-resolved : (symbols : Symbols) (base : ℕ) (rs : List Relocation) (bytes : List ℕ)
-    → ((j : ℕ) (r : Relocation) → slice_get rs j ≡ Some r → r.at + 4 ≤ length bytes) → length (resolved symbols base rs bytes) ≡ length bytes
+    → ((j : ℕ) (r : Relocation) → slice_get rs j ≡ Some r → r.at + 4 ≤ length bytes)
+    → length (resolved symbols base rs bytes) ≡ length bytes
 length-resolved symbols base [] bytes inside = refl
 length-resolved symbols base (r ∷ rs) bytes inside =
     let same = length-with_word r.at (word_for symbols base r) bytes (inside 0 r refl) in
-    length-resolved symbols base rs (with_word r.at (word_for symbols base r) bytes) (λ j q e. omega (arith, inside (suc j) q e, same)) ∙ same
+    length-resolved symbols base rs (with_word r.at (word_for symbols base r) bytes) (λ j q e. omega (
+      arith,
+      inside (suc j) q e,
+      same,
+    )) ∙ same
 
 -- a word behind other bytes
 pub with_word-behind : (front bytes : List ℕ) (offset word : ℕ) → offset + 4 ≤ length bytes
@@ -65,5 +79,6 @@ with_word-behind front bytes offset word h =
 
 -- one more relocation
 pub resolved-push : (symbols : Symbols) (base : ℕ) (rs : List Relocation) (r : Relocation) (bytes : List ℕ)
-    → resolved symbols base (rs ++ r ∷ []) bytes ≡ with_word r.at (word_for symbols base r) (resolved symbols base rs bytes)
+    → resolved symbols base (rs ++ r ∷ []) bytes
+    ≡ with_word r.at (word_for symbols base r) (resolved symbols base rs bytes)
 resolved-push symbols base rs r bytes = resolved-append symbols base rs (r ∷ []) bytes

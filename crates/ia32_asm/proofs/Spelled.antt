@@ -22,14 +22,21 @@ spelled_in z (item.Plain i) f h = h
 spelled_in z (item.Label l) f h = tt
 spelled_in z (item.Point p) f h = tt
 spelled_in z (item.JumpTo l) f h = (233 ∷ word_bytes z, inl (word_bytes z, refl, reads_signed z f))
-spelled_in z (item.JumpIf c l) f h = (15 ∷ (128 + cond_number c) ∷ word_bytes z, inl (word_bytes z, refl, reads_signed z f))
-spelled_in z (item.CallFunction g) f h = (232 ∷ word_bytes (pos 0), (word_bytes (pos 0), refl, reads_signed (pos 0) no_distance))
-spelled_in z (item.CallStub s) f h = (232 ∷ word_bytes (pos 0), (word_bytes (pos 0), refl, reads_signed (pos 0) no_distance))
-spelled_in z (item.JumpTrap None) f h = (233 ∷ word_bytes (pos 0), inl (word_bytes (pos 0), refl, reads_signed (pos 0) no_distance))
-spelled_in z (item.JumpTrap (Some c)) f h = (15 ∷ (128 + cond_number c) ∷ word_bytes (pos 0), inl (word_bytes (pos 0), refl, reads_signed (pos 0) no_distance))
-spelled_in z (item.AddressOf r k) f h = ((184 + number32 r) ∷ word_bytes (pos 0), inl (word_bytes (pos 0), refl, reads_signed (pos 0) no_distance))
+spelled_in z (item.JumpIf c l) f h =
+    (15 ∷ (128 + cond_number c) ∷ word_bytes z, inl (word_bytes z, refl, reads_signed z f))
+spelled_in z (item.CallFunction g) f h =
+    (232 ∷ word_bytes (pos 0), (word_bytes (pos 0), refl, reads_signed (pos 0) no_distance))
+spelled_in z (item.CallStub s) f h =
+    (232 ∷ word_bytes (pos 0), (word_bytes (pos 0), refl, reads_signed (pos 0) no_distance))
+spelled_in z (item.JumpTrap None) f h =
+    (233 ∷ word_bytes (pos 0), inl (word_bytes (pos 0), refl, reads_signed (pos 0) no_distance))
+spelled_in z (item.JumpTrap (Some c)) f h =
+    (15 ∷ (128 + cond_number c) ∷ word_bytes (pos 0), inl (word_bytes (pos 0), refl, reads_signed (pos 0) no_distance))
+spelled_in z (item.AddressOf r k) f h =
+    ((184 + number32 r) ∷ word_bytes (pos 0), inl (word_bytes (pos 0), refl, reads_signed (pos 0) no_distance))
 
-pub spelled_some : (z : ℤ) (i : Item) (x : Insn) → FitsSigned w32 z → IsSpelled i → instruction_in z i ≡ Some x → HasSpelling x
+pub spelled_some : (z : ℤ) (i : Item) (x : Insn) → FitsSigned w32 z → IsSpelled i → instruction_in z i ≡ Some x
+    → HasSpelling x
 spelled_some z i x f h e = MatchOption-at_some ⊤ HasSpelling x e (spelled_in z i f h)
 
 -- an item has as many bytes as its size says
@@ -53,7 +60,8 @@ pub piece_none : (z : ℤ) (i : Item) → instruction_in z i ≡ None → piece 
 piece_none z i e = ap spelling_of e
 
 -- a plain instruction whose spelling is the preferred one
-pub preferred_some : (z : ℤ) (i : Item) (x : Insn) (bytes : List ℕ) → instruction_in z i ≡ Some x → Spells x bytes → bytes ≡ preferred x → IsPreferred i
+pub preferred_some : (z : ℤ) (i : Item) (x : Insn) (bytes : List ℕ) → instruction_in z i ≡ Some x → Spells x bytes
+    → bytes ≡ preferred x → IsPreferred i
 preferred_some z (item.Plain i) x bytes e s p =
     subst (λ (y : Insn). Spells y (preferred y)) (sym (same_Some i x e)) (subst (λ (ys : List ℕ). Spells x ys) p s)
 preferred_some z (item.Label l) x bytes e s p = tt

@@ -20,15 +20,22 @@ twos_complement-word w h =
 
 -- four bytes of a word read as its signed number
 pub reads_word : (w : ℕ) → w < 2 ^ 32 → ReadsSigned 4 (little_bytes 4 w) (cast_signed w32 w)
-reads_word w h = record { count = refl; reads = ap (twos_complement 4) (little_number-reads_back 4 w [] h) ∙ twos_complement-word w h }
+reads_word w h =
+    record {
+      count = refl;
+      reads =
+          ap (twos_complement 4) (little_number-reads_back 4 w [] h) ∙ twos_complement-word w h;
+    }
 
 -- a signed number of 32 bits is read from its bytes
 pub reads_signed : (z : ℤ) → FitsSigned w32 z → ReadsSigned 4 (word_bytes z) z
 reads_signed z f =
-    subst (λ (y : ℤ). ReadsSigned 4 (word_bytes z) y) (to_z-of_z w32 z f) (reads_word (cast_unsigned w32 z) (omega (arith, ints)))
+    subst (λ (y : ℤ). ReadsSigned 4 (word_bytes z) y) (to_z-of_z w32 z f)
+    (reads_word (cast_unsigned w32 z) (omega (arith, ints)))
 
 -- behind the distance from one place to another stands that other place, also where both are moved on
-pub distance-leads : (base from to : ℕ) → from ≤ 2 ^ 32 → base + to < 2 ^ 32 → (base + from + distance_word from to) % 2 ^ 32 ≡ base + to
+pub distance-leads : (base from to : ℕ) → from ≤ 2 ^ 32 → base + to < 2 ^ 32
+    → (base + from + distance_word from to) % 2 ^ 32 ≡ base + to
 distance-leads base from to h k = omega arith
 
 -- a distance is a word

@@ -1,5 +1,6 @@
 -- Inner words: what the assembler keeps of items while it goes through them.
-use Rattle.std.specs.Prelude.{◌≡◌, ◌⊎◌, ◌<◌, ◌≤◌, ℕ, ◌+◌, ◌-◌, ⊤, ℤ, pos, List, [], ◌∷◌, length, take, slice_get, slice_index, Option, Some, None, ◌==◌, if◌then◌else◌}
+use Rattle.std.specs.Prelude.{◌≡◌, ◌⊎◌, ◌<◌, ◌≤◌, ℕ, ◌+◌, ◌-◌, ⊤, ℤ, pos, List, [], ◌∷◌, length, take, slice_get}
+use Rattle.std.specs.Prelude.{slice_index, Option, Some, None, ◌==◌, if◌then◌else◌}
 use Rattle.std.specs.Int.{w32, cast_signed}
 use Rattle.ia32_insn.specs.declared.operand.Rm32.TheVariants as rm
 use Rattle.ia32_insn.specs.declared.insn.Insn.{Insn}
@@ -100,13 +101,16 @@ pub record AreLaid (items : List Item) (offsets : Offsets) : Type 0 where
 
 -- only the bytes are more, by those of the item
 abbrev pub IsLonger : Item → Offsets → Offsets → Type 0
-IsLonger i old new = (new.labels.items ≡ old.labels.items) × (new.points.items ≡ old.points.items) × (new.size ≡ old.size + item_size i)
+IsLonger i old new = (new.labels.items ≡ old.labels.items) × (new.points.items ≡ old.points.items)
+    × (new.size ≡ old.size + item_size i)
 
 -- one more item behind those that were laid
 abbrev pub Adds : Item → Offsets → Offsets → Type 0
 Adds (item.Plain i) old new = IsLonger (item.Plain i) old new
-Adds (item.Label l) old new = IsPut old.labels.items l old.size new.labels.items × (new.points.items ≡ old.points.items) × (new.size ≡ old.size)
-Adds (item.Point p) old new = IsPut old.points.items p old.size new.points.items × (new.labels.items ≡ old.labels.items) × (new.size ≡ old.size)
+Adds (item.Label l) old new = IsPut old.labels.items l old.size new.labels.items × (new.points.items ≡ old.points.items)
+    × (new.size ≡ old.size)
+Adds (item.Point p) old new = IsPut old.points.items p old.size new.points.items × (new.labels.items ≡ old.labels.items)
+    × (new.size ≡ old.size)
 Adds (item.JumpTo l) old new = IsLonger (item.JumpTo l) old new
 Adds (item.JumpIf c l) old new = IsLonger (item.JumpIf c l) old new
 Adds (item.CallFunction f) old new = IsLonger (item.CallFunction f) old new

@@ -1,6 +1,8 @@
 -- Sections: the code of one function, and where it awaits the addresses of a program (ELF, "Relocation"; System V
 -- ABI, Intel386 supplement, R_386_32 and R_386_PC32, with an addend of 0 and a distance from the end of the word).
-use Rattle.std.specs.Prelude.{◌≡◌, ◌<◌, ◌≤◌, ℕ, ◌+◌, ◌-◌, ◌%◌, ◌^◌, ◌==◌, ⊤, Bool, true, false, List, [], ◌∷◌, ◌++◌, length, take, drop, map, slice_get, slice_index, Option, Some, None, unwrap_or, if◌then◌else◌}
+use Rattle.std.specs.Prelude.{◌≡◌, ◌<◌, ◌≤◌, ℕ, ◌+◌, ◌-◌, ◌%◌, ◌^◌, ◌==◌, ⊤, Bool, true, false, List, [], ◌∷◌, ◌++◌}
+use Rattle.std.specs.Prelude.{length, take, drop, map, slice_get, slice_index, Option, Some, None, unwrap_or}
+use Rattle.std.specs.Prelude.{if◌then◌else◌}
 use Rattle.std.specs.List.{filter_map}
 use Rattle.byteorder.specs.Endian.{little_bytes}
 use Rattle.ia32_insn.specs.declared.item.Item.{Item}
@@ -67,7 +69,8 @@ with_word offset word bytes = take offset bytes ++ little_bytes 4 word ++ drop (
 -- the bytes of a section at this address, with the words that its relocations await
 abbrev pub resolved : Symbols → ℕ → List Relocation → List ℕ → List ℕ
 resolved symbols base [] bytes = bytes
-resolved symbols base (r ∷ relocations) bytes = resolved symbols base relocations (with_word r.at (word_for symbols base r) bytes)
+resolved symbols base (r ∷ relocations) bytes =
+    resolved symbols base relocations (with_word r.at (word_for symbols base r) bytes)
 
 -- the target has an address of 32 bits
 abbrev pub HasAddress : Symbols → Target → Type 0
@@ -75,7 +78,8 @@ HasAddress symbols t = (address : ℕ) × (target_address symbols t ≡ Some add
 
 -- each target of the relocations has one
 abbrev pub HaveAddresses : Symbols → List Relocation → Type 0
-HaveAddresses symbols relocations = (j : ℕ) (r : Relocation) → slice_get relocations j ≡ Some r → HasAddress symbols r.target
+HaveAddresses symbols relocations = (j : ℕ) (r : Relocation) → slice_get relocations j ≡ Some r
+    → HasAddress symbols r.target
 
 -- ---- sections
 
@@ -99,14 +103,21 @@ FollowFrom offset (r ∷ relocations) n = (offset ≤ r.at) × FollowFrom (r.at 
 -- target, in their order, whose four bytes are 0.
 pub record IsSection (function : ℕ) (items : List Item) (section : Section) : Type 0 where
   pub labels : ℕ → ℕ
-  pub stands : (symbols : Symbols) (base : ℕ) → base + length section.bytes.items < 2 ^ 32 → HaveAddresses symbols section.relocations.items
-      → ItemsAt symbols (record { labels = λ l. base + labels l; points = λ p. base + slice_index section.points.items p }) base items
+  pub stands : (symbols : Symbols) (base : ℕ) → base + length section.bytes.items < 2 ^ 32
+      → HaveAddresses symbols section.relocations.items
+      → ItemsAt symbols (record {
+        labels = λ l. base + labels l;
+        points =
+            λ p. base + slice_index section.points.items p;
+      }) base items
       (resolved symbols base section.relocations.items section.bytes.items)
   pub one_symbol : section.symbols.items ≡ record { function = function; offset = 0 } ∷ []
   pub targets : map (λ r. r.target) section.relocations.items ≡ filter_map target_of items
-  pub relative : (j : ℕ) (r : Relocation) → slice_get section.relocations.items j ≡ Some r → r.relative ≡ is_relative r.target
+  pub relative : (j : ℕ) (r : Relocation) → slice_get section.relocations.items j ≡ Some r
+      → r.relative ≡ is_relative r.target
   pub apart : FollowFrom 0 section.relocations.items (length section.bytes.items)
-  pub empty : (j : ℕ) (r : Relocation) → slice_get section.relocations.items j ≡ Some r → take 4 (drop r.at section.bytes.items) ≡ 0 ∷ 0 ∷ 0 ∷ 0 ∷ []
+  pub empty : (j : ℕ) (r : Relocation) → slice_get section.relocations.items j ≡ Some r
+      → take 4 (drop r.at section.bytes.items) ≡ 0 ∷ 0 ∷ 0 ∷ 0 ∷ []
   pub numbered : IsNumbered item.Point items section.points.items
   pub points_within : (p : ℕ) → slice_index section.points.items p ≤ length section.bytes.items
 

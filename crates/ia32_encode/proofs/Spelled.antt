@@ -16,10 +16,13 @@ use Rattle.ia32_insn.specs.declared.insn.ShiftOp.{ShiftOp}
 use Rattle.ia32_insn.specs.declared.insn.ShiftOp.TheVariants as shift
 use Rattle.ia32_insn.specs.declared.insn.Insn.{Insn}
 use Rattle.ia32_insn.specs.declared.insn.Insn.TheVariants as insn
-use Rattle.ia32_insn.specs.Spelling.{Spells, HasSpelling, HasFields, Row, RowWith, Reversed, Immediate, ReadsSigned, Operand, InRegister, InMemory, operand32, operand8, alu_number, shift_number, cond_number}
+use Rattle.ia32_insn.specs.Spelling.{Spells, HasSpelling, HasFields, Row, RowWith, Reversed, Immediate, ReadsSigned}
+use Rattle.ia32_insn.specs.Spelling.{Operand, InRegister, InMemory, operand32, operand8, alu_number, shift_number}
+use Rattle.ia32_insn.specs.Spelling.{cond_number}
 use Rattle.ia32_insn.specs.Preferred.{preferred, fields_for, fits_byte, word_bytes, byte_bytes}
 use Rattle.ia32_encode.specs.Parts.{IsOperand, IsInRange, HasIndex, IsIndexed}
-use Rattle.ia32_encode.proofs.Operands.{IsSpelled, number32-lt, number8-lt, fields-spelled, fields-preferred, reads-word, reads-byte}
+use Rattle.ia32_encode.proofs.Operands.{IsSpelled, number32-lt, number8-lt, fields-spelled, fields-preferred}
+use Rattle.ia32_encode.proofs.Operands.{reads-word, reads-byte}
 
 -- ---- operands
 
@@ -57,27 +60,34 @@ fields-index reg o bytes h = index-spelled o (fields-spelled reg o bytes h).1
 row-index : (opcode : List ℕ) (reg : ℕ) (o : Operand) (bytes : List ℕ) → Row opcode reg o bytes → HasIndex o
 row-index opcode reg o bytes h = fields-index reg o h.0 h.2
 
-either-index : (opcode other : List ℕ) (reg : ℕ) (o : Operand) (bytes : List ℕ) → Row opcode reg o bytes ⊎ Reversed other o reg bytes → HasIndex o
+either-index : (opcode other : List ℕ) (reg : ℕ) (o : Operand) (bytes : List ℕ) → Row opcode reg o bytes
+    ⊎ Reversed other o reg bytes → HasIndex o
 either-index opcode other reg o bytes (inl h) = row-index opcode reg o bytes h
 either-index opcode other reg (InRegister number) bytes (inr h) = tt
 either-index opcode other reg (InMemory m) bytes (inr h) = absurd h
 
-with-index : (opcode : List ℕ) (reg : ℕ) (o : Operand) (n : ℕ) (z : ℤ) (bytes : List ℕ) → RowWith opcode reg o n z bytes → HasIndex o
+with-index : (opcode : List ℕ) (reg : ℕ) (o : Operand) (n : ℕ) (z : ℤ) (bytes : List ℕ) → RowWith opcode reg o n z bytes
+    → HasIndex o
 with-index opcode reg o n z bytes h = fields-index reg o h.0 h.3
 
 -- ---- and rows with such an index are spelled
 
-row-spells : (opcode : List ℕ) (reg : ℕ) (o : Operand) → reg < 8 → IsOperand o → IsSpelled o → Row opcode reg o (opcode ++ fields_for reg o)
+row-spells : (opcode : List ℕ) (reg : ℕ) (o : Operand) → reg < 8 → IsOperand o → IsSpelled o
+    → Row opcode reg o (opcode ++ fields_for reg o)
 row-spells opcode reg o below range h = (fields_for reg o, refl, fields-preferred reg o below h range)
 
-with-spells : (opcode : List ℕ) (reg : ℕ) (o : Operand) (n : ℕ) (z : ℤ) (immediate : List ℕ) → reg < 8 → IsOperand o → IsSpelled o → ReadsSigned n immediate z
+with-spells : (opcode : List ℕ) (reg : ℕ) (o : Operand) (n : ℕ) (z : ℤ) (immediate : List ℕ) → reg < 8 → IsOperand o
+    → IsSpelled o → ReadsSigned n immediate z
     → RowWith opcode reg o n z (opcode ++ fields_for reg o ++ immediate)
-with-spells opcode reg o n z immediate below range h reads = (fields_for reg o, immediate, refl, fields-preferred reg o below h range, reads)
+with-spells opcode reg o n z immediate below range h reads =
+    (fields_for reg o, immediate, refl, fields-preferred reg o below h range, reads)
 
 -- an immediate of one byte or four
 alu-spells : (reg : ℕ) (o : Operand) (z : ℤ) → reg < 8 → IsOperand o → IsSpelled o → FitsSigned w32 z
-    → RowWith (131 ∷ []) reg o 1 z (if fits_byte z then 131 ∷ fields_for reg o ++ byte_bytes z else 129 ∷ fields_for reg o ++ word_bytes z)
-    ⊎ RowWith (129 ∷ []) reg o 4 z (if fits_byte z then 131 ∷ fields_for reg o ++ byte_bytes z else 129 ∷ fields_for reg o ++ word_bytes z)
+    → RowWith (131 ∷ []) reg o 1 z (if fits_byte z then 131 ∷ fields_for reg o ++ byte_bytes z
+    else 129 ∷ fields_for reg o ++ word_bytes z)
+    ⊎ RowWith (129 ∷ []) reg o 4 z (if fits_byte z then 131 ∷ fields_for reg o ++ byte_bytes z
+    else 129 ∷ fields_for reg o ++ word_bytes z)
 alu-spells reg o z below range h fits =
     elim (cases_Bool (fits_byte z)) [
       | inl t ↦ inl (rw t (with-spells (131 ∷ []) reg o 1 z (byte_bytes z) below range h (reads-byte z t)))
@@ -106,9 +116,17 @@ indexed-spelled (insn.MovSx16 r operand) h = row-index (15 ∷ 191 ∷ []) (numb
 indexed-spelled (insn.Xchg8 operand r) h = row-index (134 ∷ []) (number8 r) (operand8 operand) h.0 h.1
 indexed-spelled (insn.Xchg operand r) h = row-index (135 ∷ []) (number32 r) (operand32 operand) h.0 h.1
 indexed-spelled (insn.Lea r m) h = row-index (141 ∷ []) (number32 r) (InMemory m) h.0 h.1
-indexed-spelled (insn.Alu op operand r) h = either-index ((8 * alu_number op + 1) ∷ []) ((8 * alu_number op + 3) ∷ []) (number32 r) (operand32 operand) h.0 h.1
+indexed-spelled (insn.Alu op operand r) h =
+    either-index ((8 * alu_number op + 1) ∷ []) ((8 * alu_number op + 3) ∷ []) (number32 r) (operand32 operand) h.0 h.1
 indexed-spelled (insn.AluLoad op r m) h = row-index ((8 * alu_number op + 3) ∷ []) (number32 r) (InMemory m) h.0 h.1
-indexed-spelled (insn.AluImm op operand z) h = (elim h.1 [ inl short ↦ with-index (131 ∷ []) (alu_number op) (operand32 operand) 1 z h.0 short | inr long ↦ with-index (129 ∷ []) (alu_number op) (operand32 operand) 4 z h.0 long ], tt)
+indexed-spelled (insn.AluImm op operand z) h = (
+  elim h.1 [
+    | inl short ↦ with-index (131 ∷ []) (alu_number op) (operand32 operand) 1 z h.0 short
+    | inr long ↦
+        with-index (129 ∷ []) (alu_number op) (operand32 operand) 4 z h.0 long
+  ],
+  tt,
+)
 indexed-spelled (insn.Test operand r) h = row-index (133 ∷ []) (number32 r) (operand32 operand) h.0 h.1
 indexed-spelled (insn.IMul r operand) h = row-index (15 ∷ 175 ∷ []) (number32 r) (operand32 operand) h.0 h.1
 indexed-spelled (insn.Not operand) h = row-index (247 ∷ []) 2 (operand32 operand) h.0 h.1
@@ -134,33 +152,61 @@ indexed-spelled insn.Nop h = tt
 
 -- the preferred spelling is one, where the indices can be named
 pub preferred-indexed : (i : Insn) → IsInRange i → IsIndexed i → Spells i (preferred i)
-preferred-indexed (insn.Mov operand r) range index = inl (row-spells (137 ∷ []) (number32 r) (operand32 operand) (number32-lt r) range (spelled32 operand index))
-preferred-indexed (insn.MovLoad r m) range index = row-spells (139 ∷ []) (number32 r) (InMemory m) (number32-lt r) range index
+preferred-indexed (insn.Mov operand r) range index =
+    inl (row-spells (137 ∷ []) (number32 r) (operand32 operand) (number32-lt r) range (spelled32 operand index))
+preferred-indexed (insn.MovLoad r m) range index =
+    row-spells (139 ∷ []) (number32 r) (InMemory m) (number32-lt r) range index
 preferred-indexed (insn.MovImm (rm.Reg r) z) range index = inl (immediate-spells ((184 + number32 r) ∷ []) z range.1)
-preferred-indexed (insn.MovImm (rm.Mem m) z) range index = with-spells (199 ∷ []) 0 (InMemory m) 4 z (word_bytes z) (lit< tt) range.0 index.0 (reads-word z range.1)
-preferred-indexed (insn.Mov8 operand r) range index = inl (row-spells (136 ∷ []) (number8 r) (operand8 operand) (number8-lt r) range (spelled8 operand index))
-preferred-indexed (insn.Mov8Load r m) range index = row-spells (138 ∷ []) (number8 r) (InMemory m) (number8-lt r) range index
+preferred-indexed (insn.MovImm (rm.Mem m) z) range index =
+    with-spells (199 ∷ []) 0 (InMemory m) 4 z (word_bytes z) (lit< tt) range.0 index.0 (reads-word z range.1)
+preferred-indexed (insn.Mov8 operand r) range index =
+    inl (row-spells (136 ∷ []) (number8 r) (operand8 operand) (number8-lt r) range (spelled8 operand index))
+preferred-indexed (insn.Mov8Load r m) range index =
+    row-spells (138 ∷ []) (number8 r) (InMemory m) (number8-lt r) range index
 preferred-indexed (insn.Mov8Imm r n) range index = refl
-preferred-indexed (insn.Mov16 operand r) range index = row-spells (102 ∷ 137 ∷ []) (number32 r) (operand32 operand) (number32-lt r) range (spelled32 operand index)
-preferred-indexed (insn.MovZx8 r operand) range index = row-spells (15 ∷ 182 ∷ []) (number32 r) (operand8 operand) (number32-lt r) range (spelled8 operand index)
-preferred-indexed (insn.MovZx16 r operand) range index = row-spells (15 ∷ 183 ∷ []) (number32 r) (operand32 operand) (number32-lt r) range (spelled32 operand index)
-preferred-indexed (insn.MovSx8 r operand) range index = row-spells (15 ∷ 190 ∷ []) (number32 r) (operand8 operand) (number32-lt r) range (spelled8 operand index)
-preferred-indexed (insn.MovSx16 r operand) range index = row-spells (15 ∷ 191 ∷ []) (number32 r) (operand32 operand) (number32-lt r) range (spelled32 operand index)
-preferred-indexed (insn.Xchg8 operand r) range index = row-spells (134 ∷ []) (number8 r) (operand8 operand) (number8-lt r) range (spelled8 operand index)
-preferred-indexed (insn.Xchg operand r) range index = row-spells (135 ∷ []) (number32 r) (operand32 operand) (number32-lt r) range (spelled32 operand index)
-preferred-indexed (insn.Lea r m) range index = row-spells (141 ∷ []) (number32 r) (InMemory m) (number32-lt r) range index
-preferred-indexed (insn.Alu op operand r) range index = inl (row-spells ((8 * alu_number op + 1) ∷ []) (number32 r) (operand32 operand) (number32-lt r) range (spelled32 operand index))
-preferred-indexed (insn.AluLoad op r m) range index = row-spells ((8 * alu_number op + 3) ∷ []) (number32 r) (InMemory m) (number32-lt r) range index
-preferred-indexed (insn.AluImm op operand z) range index = alu-spells (alu_number op) (operand32 operand) z (alu_number-lt op) range.0 (spelled32 operand index.0) range.1
-preferred-indexed (insn.Test operand r) range index = row-spells (133 ∷ []) (number32 r) (operand32 operand) (number32-lt r) range (spelled32 operand index)
-preferred-indexed (insn.IMul r operand) range index = row-spells (15 ∷ 175 ∷ []) (number32 r) (operand32 operand) (number32-lt r) range (spelled32 operand index)
-preferred-indexed (insn.Not operand) range index = row-spells (247 ∷ []) 2 (operand32 operand) (lit< tt) range (spelled32 operand index)
-preferred-indexed (insn.Neg operand) range index = row-spells (247 ∷ []) 3 (operand32 operand) (lit< tt) range (spelled32 operand index)
-preferred-indexed (insn.Div operand) range index = row-spells (247 ∷ []) 6 (operand32 operand) (lit< tt) range (spelled32 operand index)
-preferred-indexed (insn.IDiv operand) range index = row-spells (247 ∷ []) 7 (operand32 operand) (lit< tt) range (spelled32 operand index)
+preferred-indexed (insn.Mov16 operand r) range index =
+    row-spells (102 ∷ 137 ∷ []) (number32 r) (operand32 operand) (number32-lt r) range (spelled32 operand index)
+preferred-indexed (insn.MovZx8 r operand) range index =
+    row-spells (15 ∷ 182 ∷ []) (number32 r) (operand8 operand) (number32-lt r) range (spelled8 operand index)
+preferred-indexed (insn.MovZx16 r operand) range index =
+    row-spells (15 ∷ 183 ∷ []) (number32 r) (operand32 operand) (number32-lt r) range (spelled32 operand index)
+preferred-indexed (insn.MovSx8 r operand) range index =
+    row-spells (15 ∷ 190 ∷ []) (number32 r) (operand8 operand) (number32-lt r) range (spelled8 operand index)
+preferred-indexed (insn.MovSx16 r operand) range index =
+    row-spells (15 ∷ 191 ∷ []) (number32 r) (operand32 operand) (number32-lt r) range (spelled32 operand index)
+preferred-indexed (insn.Xchg8 operand r) range index =
+    row-spells (134 ∷ []) (number8 r) (operand8 operand) (number8-lt r) range (spelled8 operand index)
+preferred-indexed (insn.Xchg operand r) range index =
+    row-spells (135 ∷ []) (number32 r) (operand32 operand) (number32-lt r) range (spelled32 operand index)
+preferred-indexed (insn.Lea r m) range index =
+    row-spells (141 ∷ []) (number32 r) (InMemory m) (number32-lt r) range index
+preferred-indexed (insn.Alu op operand r) range index =
+    inl (row-spells ((8 * alu_number op + 1) ∷ []) (number32 r) (operand32 operand) (number32-lt r) range
+    (spelled32 operand index))
+preferred-indexed (insn.AluLoad op r m) range index =
+    row-spells ((8 * alu_number op + 3) ∷ []) (number32 r) (InMemory m) (number32-lt r) range index
+preferred-indexed (insn.AluImm op operand z) range index =
+    alu-spells (alu_number op) (operand32 operand) z (alu_number-lt op) range.0 (spelled32 operand index.0) range.1
+preferred-indexed (insn.Test operand r) range index =
+    row-spells (133 ∷ []) (number32 r) (operand32 operand) (number32-lt r) range (spelled32 operand index)
+preferred-indexed (insn.IMul r operand) range index =
+    row-spells (15 ∷ 175 ∷ []) (number32 r) (operand32 operand) (number32-lt r) range (spelled32 operand index)
+preferred-indexed (insn.Not operand) range index =
+    row-spells (247 ∷ []) 2 (operand32 operand) (lit< tt) range (spelled32 operand index)
+preferred-indexed (insn.Neg operand) range index =
+    row-spells (247 ∷ []) 3 (operand32 operand) (lit< tt) range (spelled32 operand index)
+preferred-indexed (insn.Div operand) range index =
+    row-spells (247 ∷ []) 6 (operand32 operand) (lit< tt) range (spelled32 operand index)
+preferred-indexed (insn.IDiv operand) range index =
+    row-spells (247 ∷ []) 7 (operand32 operand) (lit< tt) range (spelled32 operand index)
 preferred-indexed insn.Cdq range index = refl
-preferred-indexed (insn.ShiftCl op operand) range index = row-spells (211 ∷ []) (shift_number op) (operand32 operand) (shift_number-lt op) range (spelled32 operand index)
-preferred-indexed (insn.ShiftImm op operand n) range index = (fields_for (shift_number op) (operand32 operand), refl, fields-preferred (shift_number op) (operand32 operand) (shift_number-lt op) (spelled32 operand index) range)
+preferred-indexed (insn.ShiftCl op operand) range index =
+    row-spells (211 ∷ []) (shift_number op) (operand32 operand) (shift_number-lt op) range (spelled32 operand index)
+preferred-indexed (insn.ShiftImm op operand n) range index = (
+  fields_for (shift_number op) (operand32 operand),
+  refl,
+  fields-preferred (shift_number op) (operand32 operand) (shift_number-lt op) (spelled32 operand index) range,
+)
 preferred-indexed (insn.Push (rm.Reg r)) range index = inl refl
 preferred-indexed (insn.Push (rm.Mem m)) range index = row-spells (255 ∷ []) 6 (InMemory m) (lit< tt) range index
 preferred-indexed (insn.PushImm z) range index = immediate-spells (104 ∷ []) z range
@@ -169,8 +215,10 @@ preferred-indexed (insn.Call distance) range index = immediate-spells (232 ∷ [
 preferred-indexed insn.Ret range index = refl
 preferred-indexed insn.Leave range index = refl
 preferred-indexed (insn.Jmp distance) range index = inl (immediate-spells (233 ∷ []) distance range)
-preferred-indexed (insn.Jcc c distance) range index = inl (immediate-spells (15 ∷ (128 + cond_number c) ∷ []) distance range)
-preferred-indexed (insn.SetCc c operand) range index = (0, row-spells (15 ∷ (144 + cond_number c) ∷ []) 0 (operand8 operand) (lit< tt) range (spelled8 operand index))
+preferred-indexed (insn.Jcc c distance) range index =
+    inl (immediate-spells (15 ∷ (128 + cond_number c) ∷ []) distance range)
+preferred-indexed (insn.SetCc c operand) range index =
+    (0, row-spells (15 ∷ (144 + cond_number c) ∷ []) 0 (operand8 operand) (lit< tt) range (spelled8 operand index))
 preferred-indexed (insn.Int n) range index = refl
 preferred-indexed insn.Ud2 range index = refl
 preferred-indexed insn.Nop range index = refl

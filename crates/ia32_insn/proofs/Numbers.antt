@@ -84,7 +84,8 @@ condition_at-number cond.Le = refl
 condition_at-number cond.G = refl
 
 -- the number of a condition of at least eight
-upper_condition : (n : ℕ) → n < 8 → cond_number (condition_at (suc (suc (suc (suc (suc (suc (suc (suc n))))))))) ≡ suc (suc (suc (suc (suc (suc (suc (suc n)))))))
+upper_condition : (n : ℕ) → n < 8 → cond_number (condition_at (suc (suc (suc (suc (suc (suc (suc (suc n)))))))))
+    ≡ suc (suc (suc (suc (suc (suc (suc (suc n)))))))
 unfolding condition_at
 upper_condition zero h = refl
 upper_condition (suc zero) h = refl

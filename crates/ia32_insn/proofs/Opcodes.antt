@@ -8,7 +8,10 @@ use Rattle.ia32_insn.specs.declared.operand.Rm32.{Rm32}
 use Rattle.ia32_insn.specs.declared.operand.Rm32.TheVariants as rm
 use Rattle.ia32_insn.specs.declared.operand.Rm8.{Rm8}
 use Rattle.ia32_insn.specs.declared.insn.Insn.TheVariants as insn
-use Rattle.ia32_insn.specs.Reading.{◌>>=◌, register_at, byte_register_at, condition_at, operation_at, lone_insn, byte_insn, short_insn, long_insn, alu_insn, fields32_insn, extended8_insn, read_lone, read_with_byte, read_with_signed, read_with32, read_with8, read_extended, read_opcode}
+use Rattle.ia32_insn.specs.Reading.{◌>>=◌, register_at, byte_register_at, condition_at, operation_at, lone_insn}
+use Rattle.ia32_insn.specs.Reading.{byte_insn, short_insn, long_insn, alu_insn, fields32_insn, extended8_insn}
+use Rattle.ia32_insn.specs.Reading.{read_lone, read_with_byte, read_with_signed, read_with32, read_with8, read_extended}
+use Rattle.ia32_insn.specs.Reading.{read_opcode}
 
 -- 50+rd, 58+rd
 pub push_opcode : (k : ℕ) (rest : List ℕ) → k < 8 → read_opcode (80 + k) rest ≡ read_lone (lone_insn (80 + k))
@@ -28,7 +31,8 @@ unfolding lone_insn
 pop_made k h = grind (arith, nat_tests)
 
 -- B0+rb
-pub mov8_opcode : (k : ℕ) (rest : List ℕ) → k < 8 → read_opcode (176 + k) rest ≡ read_with_byte (byte_insn (176 + k)) rest
+pub mov8_opcode : (k : ℕ) (rest : List ℕ) → k < 8 → read_opcode (176 + k) rest
+    ≡ read_with_byte (byte_insn (176 + k)) rest
 unfolding read_opcode
 mov8_opcode k rest h = grind (arith, nat_tests)
 
@@ -37,7 +41,8 @@ unfolding byte_insn
 mov8_made k n h = grind (arith, nat_tests)
 
 -- B8+rd
-pub mov_opcode : (k : ℕ) (rest : List ℕ) → k < 8 → read_opcode (184 + k) rest ≡ read_with_signed 1 4 (long_insn (184 + k)) rest
+pub mov_opcode : (k : ℕ) (rest : List ℕ) → k < 8 → read_opcode (184 + k) rest
+    ≡ read_with_signed 1 4 (long_insn (184 + k)) rest
 unfolding read_opcode
 mov_opcode k rest h = grind (arith, nat_tests)
 
@@ -46,7 +51,8 @@ unfolding long_insn
 mov_made k z h = grind (arith, nat_tests)
 
 -- 70+cc
-pub short_opcode : (k : ℕ) (rest : List ℕ) → k < 16 → read_opcode (112 + k) rest ≡ read_with_signed 1 1 (short_insn (112 + k)) rest
+pub short_opcode : (k : ℕ) (rest : List ℕ) → k < 16 → read_opcode (112 + k) rest
+    ≡ read_with_signed 1 1 (short_insn (112 + k)) rest
 unfolding read_opcode
 short_opcode k rest h = grind (arith, nat_tests)
 
@@ -55,14 +61,16 @@ unfolding short_insn
 short_made k z h = grind (arith, nat_tests)
 
 -- 0F 80+cc
-pub near_opcode : (k : ℕ) (rest : List ℕ) → k < 16 → read_extended (128 + k) rest ≡ read_with_signed 2 4 (λ z. Some (insn.Jcc (condition_at k) z)) rest
+pub near_opcode : (k : ℕ) (rest : List ℕ) → k < 16 → read_extended (128 + k) rest
+    ≡ read_with_signed 2 4 (λ z. Some (insn.Jcc (condition_at k) z)) rest
 unfolding read_extended
 near_opcode k rest h =
     let same : 128 + k - 128 ≡ k = omega arith in
     rw (← same) (grind (arith, nat_tests))
 
 -- 0F 90+cc
-pub set_opcode : (k : ℕ) (rest : List ℕ) → k < 16 → read_extended (144 + k) rest ≡ read_with8 2 (extended8_insn (144 + k)) rest
+pub set_opcode : (k : ℕ) (rest : List ℕ) → k < 16 → read_extended (144 + k) rest
+    ≡ read_with8 2 (extended8_insn (144 + k)) rest
 unfolding read_extended
 set_opcode k rest h = grind (arith, nat_tests)
 
@@ -71,11 +79,13 @@ unfolding extended8_insn
 set_made k reg x h = grind (arith, nat_tests)
 
 -- the operations of two operands, one way and the other
-pub alu_opcode : (k way : ℕ) (rest : List ℕ) → k < 8 → way < 4 → read_opcode (8 * k + way) rest ≡ read_with32 1 (fields32_insn (8 * k + way)) rest
+pub alu_opcode : (k way : ℕ) (rest : List ℕ) → k < 8 → way < 4 → read_opcode (8 * k + way) rest
+    ≡ read_with32 1 (fields32_insn (8 * k + way)) rest
 unfolding read_opcode
 alu_opcode k way rest h w = grind (arith, nat_tests)
 
-pub alu_made : (k way reg : ℕ) (x : Rm32) → k < 8 → way < 4 → fields32_insn (8 * k + way) reg x ≡ (operation_at k >>= (λ op. alu_insn way op (register_at reg) x))
+pub alu_made : (k way reg : ℕ) (x : Rm32) → k < 8 → way < 4 → fields32_insn (8 * k + way) reg x
+    ≡ (operation_at k >>= (λ op. alu_insn way op (register_at reg) x))
 unfolding fields32_insn
 alu_made k way reg x h w =
     let number : (8 * k + way) / 8 ≡ k = omega arith in

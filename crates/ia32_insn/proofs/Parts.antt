@@ -30,11 +30,13 @@ take-Part P n bytes p =
     let size : length bytes ≡ length (p.front ++ p.after) = ap length p.bytes_are in
     let room : n ≤ length bytes = omega (arith, size, length-append p.front p.after, p.count) in
     let same : p.front ≡ take n bytes =
-    sym (take-append_seam p.front p.after) ∙ ap (λ (bs : List ℕ). take (length p.front) bs) (sym p.bytes_are) ∙ ap (λ (k : ℕ). take k bytes) (sym p.count) in
+    sym (take-append_seam p.front p.after) ∙ ap (λ (bs : List ℕ). take (length p.front) bs) (sym p.bytes_are) ∙ ap
+    (λ (k : ℕ). take k bytes) (sym p.count) in
     (room, subst P same p.holds)
 
 -- what holds of what a second part reads, where it holds of each first part
-pub then_holds : {A B : Type 0} (o : Option A) (f : A → Option B) (P : A → Type 0) (Q : B → Type 0) → IfSome o P → ((x : A) → P x → IfSome (f x) Q) → IfSome (o >>= f) Q
+pub then_holds : {A B : Type 0} (o : Option A) (f : A → Option B) (P : A → Type 0) (Q : B → Type 0) → IfSome o P
+    → ((x : A) → P x → IfSome (f x) Q) → IfSome (o >>= f) Q
 then_holds None f P Q h next = tt
 then_holds (Some x) f P Q h next = next x h
 

@@ -34,7 +34,8 @@ found_at bytes i n e =
 pub read_insn-sound : (i : Insn) (n : ℕ) (bytes : List ℕ) → read_insn bytes ≡ Some (i, n) → Begins i n bytes
 read_insn-sound i n bytes e = take-Part (Spells i) n bytes (found_at bytes i n e).part
 
-begins_if : (bytes : List ℕ) (o : Option (Insn × ℕ)) → IfSome o (Found bytes) → IfSome o (λ found. Begins found.0 found.1 bytes)
+begins_if : (bytes : List ℕ) (o : Option (Insn × ℕ)) → IfSome o (Found bytes)
+    → IfSome o (λ found. Begins found.0 found.1 bytes)
 begins_if bytes None h = tt
 begins_if bytes (Some found) h = take-Part (Spells found.0) found.1 bytes h.part
 
@@ -87,6 +88,17 @@ pub int_begins : (n : ℕ) (rest : List ℕ) → Begins (insn.Int n) 2 (205 ∷ 
 int_begins n rest = (omega arith, refl)
 
 -- MOV r32, imm32 is spelled by its opcode and four bytes
-pub mov_begins : (r : Reg32) (z : ℤ) (rest : List ℕ) → 4 ≤ length rest → twos_complement 4 (little_number 4 rest) ≡ z → Begins (insn.MovImm (rm.Reg r) z) 5 ((184 + number32 r) ∷ rest)
-mov_begins r z rest h e =
-    (omega arith, inl (take 4 rest, refl, record { count = length-take-le 4 rest h; reads = ap (twos_complement 4) (little_from-take 0 4 4 rest (omega arith)) ∙ e }))
+pub mov_begins : (r : Reg32) (z : ℤ) (rest : List ℕ) → 4 ≤ length rest → twos_complement 4 (little_number 4 rest) ≡ z
+    → Begins (insn.MovImm (rm.Reg r) z) 5 ((184 + number32 r) ∷ rest)
+mov_begins r z rest h e = (
+  omega arith,
+  inl (
+    take 4 rest,
+    refl,
+    record {
+      count = length-take-le 4 rest h;
+      reads =
+          ap (twos_complement 4) (little_from-take 0 4 4 rest (omega arith)) ∙ e;
+    },
+  ),
+)

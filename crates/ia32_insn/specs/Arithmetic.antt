@@ -1,6 +1,8 @@
 -- What instructions compute on words, which are numbers below 2 ^ 32, and the flags that they set (Intel
 -- manual, volume 1, sections 3.4.3 and 7.3, and volume 2, the operation of each instruction).
-use Rattle.std.specs.Prelude.{ℕ, ◌+◌, ◌-◌, ◌*◌, ◌/◌, ◌%◌, ◌^◌, ℤ, pos, neg_ℤ, ◌+ℤ◌, ◌-ℤ◌, int_le, int_lt, int_div, int_rem, bit_and, bit_or, bit_xor, Bool, true, false, not, ◌&&◌, ◌||◌, Option, Some, None, nat_le, nat_lt, ◌==◌, if◌then◌else◌}
+use Rattle.std.specs.Prelude.{ℕ, ◌+◌, ◌-◌, ◌*◌, ◌/◌, ◌%◌, ◌^◌, ℤ, pos, neg_ℤ, ◌+ℤ◌, ◌-ℤ◌, int_le, int_lt, int_div}
+use Rattle.std.specs.Prelude.{int_rem, bit_and, bit_or, bit_xor, Bool, true, false, not, ◌&&◌, ◌||◌, Option, Some, None}
+use Rattle.std.specs.Prelude.{nat_le, nat_lt, ◌==◌, if◌then◌else◌}
 use Rattle.std.specs.Int.{w8, w16, w32, w64, cast_signed, cast_unsigned, int_shr}
 use Rattle.ia32_insn.specs.declared.flags.Flags.{Flags}
 use Rattle.ia32_insn.specs.declared.insn.AluOp.{AluOp}
@@ -58,7 +60,13 @@ alu_overflow alu.Cmp a b = not (fits_signed (signed a -ℤ signed b))
 
 abbrev pub alu_flags : AluOp → ℕ → ℕ → Flags
 alu_flags op a b =
-    record { cf = alu_carry op a b; zf = alu_value op a b == 0; sf = is_negative (alu_value op a b); of = alu_overflow op a b }
+    record {
+      cf = alu_carry op a b;
+      zf = alu_value op a b == 0;
+      sf = is_negative (alu_value op a b);
+      of =
+          alu_overflow op a b;
+    }
 
 -- SHL, SHR and SAR by a count, of which five bits count
 abbrev pub shift_value : ShiftOp → ℕ → ℕ → ℕ
@@ -80,15 +88,18 @@ negation a = (2 ^ 32 - a) % 2 ^ 32
 -- DIV: quotient and remainder of a number of 64 bits, where the divisor isn't 0 and the quotient fits 32 bits
 abbrev pub divided : ℕ → ℕ → Option (ℕ × ℕ)
 divided dividend divisor =
-    if divisor == 0 then None else if nat_lt (dividend / divisor) (2 ^ 32) then Some (dividend / divisor, dividend % divisor) else None
+    if divisor == 0 then None else if nat_lt (dividend / divisor) (2 ^ 32)
+    then Some (dividend / divisor, dividend % divisor) else None
 
 -- IDIV: the same of signed numbers; the quotient is cut off towards zero, and the remainder has the dividend's sign
 abbrev pub signed_quotient : ℤ → ℤ → Option (ℕ × ℕ)
 signed_quotient dividend divisor =
-    if fits_signed (int_div dividend divisor) then Some (cast_unsigned w32 (int_div dividend divisor), cast_unsigned w32 (int_rem dividend divisor)) else None
+    if fits_signed (int_div dividend divisor)
+    then Some (cast_unsigned w32 (int_div dividend divisor), cast_unsigned w32 (int_rem dividend divisor)) else None
 
 abbrev pub signed_divided : ℕ → ℕ → Option (ℕ × ℕ)
-signed_divided dividend divisor = if divisor == 0 then None else signed_quotient (cast_signed w64 dividend) (signed divisor)
+signed_divided dividend divisor = if divisor == 0 then None
+    else signed_quotient (cast_signed w64 dividend) (signed divisor)
 
 -- CDQ: the sign bit of EAX in every bit
 abbrev pub sign_word : ℕ → ℕ

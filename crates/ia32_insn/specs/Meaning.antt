@@ -1,6 +1,7 @@
 -- What one instruction does (Intel manual, volume 2, the operation of each instruction), and the system calls
 -- of `int 0x80` of Linux on i386.
-use Rattle.std.specs.Prelude.{ℕ, ℤ, ◌+◌, ◌*◌, ◌%◌, ◌^◌, ◌&&◌, ◌==◌, Bool, true, false, List, [], ◌∷◌, ◌++◌, Option, Some, None, Result, Ok, Err, slice_index, slice_set, if◌then◌else◌}
+use Rattle.std.specs.Prelude.{ℕ, ℤ, ◌+◌, ◌*◌, ◌%◌, ◌^◌, ◌&&◌, ◌==◌, Bool, true, false, List, [], ◌∷◌, ◌++◌, Option}
+use Rattle.std.specs.Prelude.{Some, None, Result, Ok, Err, slice_index, slice_set, if◌then◌else◌}
 use Rattle.std.specs.Int.{w32, cast_unsigned}
 use Rattle.byteorder.specs.Endian.{little_number, little_bytes}
 use Rattle.pcc_base.specs.Outcome.{End, Ended, Trapped, Stopped}
@@ -22,7 +23,9 @@ use Rattle.ia32_insn.specs.declared.insn.AluOp.TheVariants as alu
 use Rattle.ia32_insn.specs.declared.insn.Cond.{Cond}
 use Rattle.ia32_insn.specs.declared.insn.Insn.{Insn}
 use Rattle.ia32_insn.specs.declared.insn.Insn.TheVariants as insn
-use Rattle.ia32_insn.specs.Arithmetic.{sum, difference, alu_value, alu_flags, shift_value, product, complement, negation, divided, signed_divided, sign_word, extended8, extended16, with_low16, holds}
+use Rattle.ia32_insn.specs.Arithmetic.{sum, difference, alu_value, alu_flags, shift_value, product, complement}
+use Rattle.ia32_insn.specs.Arithmetic.{negation, divided, signed_divided, sign_word, extended8, extended16, with_low16}
+use Rattle.ia32_insn.specs.Arithmetic.{holds}
 use Rattle.ia32_insn.specs.State.{State, at_address, bytes_at, may_store, stored}
 
 -- what a step leads to: the next state, or an end
@@ -85,7 +88,8 @@ abbrev pub load : ℕ → ℕ → State → Result ℕ End
 load n address s = and_then (load_bytes n address s) (λ bytes. Ok (little_number n bytes))
 
 abbrev pub store_bytes : ℕ → List ℕ → State → Result State End
-store_bytes address bytes s = and_then (or_end (stored address bytes s.memory) (denied address s)) (λ memory. Ok (record s { memory = memory }))
+store_bytes address bytes s =
+    and_then (or_end (stored address bytes s.memory) (denied address s)) (λ memory. Ok (record s { memory = memory }))
 
 -- the lowest n bytes of a number, the lowest first
 abbrev pub store : ℕ → ℕ → ℕ → State → Result State End
@@ -127,7 +131,9 @@ write_result op operand value s = write32 operand value s
 -- an operation on a first operand that is read and written, and a second that has this value
 abbrev pub operate : AluOp → Rm32 → ℕ → State → Result State End
 operate op operand b s =
-    and_then (read32 operand s) (λ a. and_then (write_result op operand (alu_value op a b) s) (λ t. Ok (with_flags (Some (alu_flags op a b)) t)))
+    and_then (read32 operand s)
+    (λ a. and_then (write_result op operand (alu_value op a b) s)
+    (λ t. Ok (with_flags (Some (alu_flags op a b)) t)))
 
 -- an operand is changed, and the flags are unknown after it
 abbrev pub change : (ℕ → ℕ) → Rm32 → State → Result State End
@@ -170,22 +176,28 @@ distant address distance = address + cast_unsigned w32 distance
 abbrev pub take_byte : ℕ → List ℕ → State → Result State End
 take_byte address [] s = Ok (with_word Eax 0 s)
 take_byte address (byte ∷ left) s =
-    and_then (store_bytes address (byte ∷ []) s) (λ t. Ok (with_word Eax 1 (record t { left = left; taken = t.taken + 1 })))
+    and_then (store_bytes address (byte ∷ []) s)
+    (λ t. Ok (with_word Eax 1 (record t { left = left; taken = t.taken + 1 })))
 
 -- `read` of so many bytes to an address. All of them are checked before one is taken.
 abbrev pub read_call : ℕ → ℕ → State → Result State End
 read_call count address s =
-    if count == 0 then Ok (with_word Eax 0 s) else if may_store count address s.memory then take_byte address s.left s else Err (denied address s)
+    if count == 0 then Ok (with_word Eax 0 s) else if may_store count address s.memory then take_byte address s.left s
+    else Err (denied address s)
 
 -- `write` of so many bytes from an address. All of them are checked before one is written.
 abbrev pub write_call : ℕ → ℕ → State → Result State End
 write_call count address s =
-    if count == 0 then Ok (with_word Eax 0 s) else and_then (load_bytes count address s) (λ bytes. Ok (with_word Eax count (record s { written = s.written ++ bytes })))
+    if count == 0 then Ok (with_word Eax 0 s)
+    else and_then (load_bytes count address s)
+    (λ bytes. Ok (with_word Eax count (record s { written = s.written ++ bytes })))
 
 -- `exit` is call 1, with the low byte of EBX; `read` of file 0 is call 3, and `write` of file 1 call 4
 abbrev pub system_call : State → Result State End
 system_call s =
-    if word_of Eax s == 1 then Err (Ended (word_of Ebx s % 256)) else if word_of Eax s == 3 && word_of Ebx s == 0 then read_call (word_of Edx s) (word_of Ecx s) s else if word_of Eax s == 4 && word_of Ebx s == 1 then write_call (word_of Edx s) (word_of Ecx s) s else Err (Stopped NoCall s.eip)
+    if word_of Eax s == 1 then Err (Ended (word_of Ebx s % 256)) else if word_of Eax s == 3 && word_of Ebx s == 0
+    then read_call (word_of Edx s) (word_of Ecx s) s else if word_of Eax s == 4 && word_of Ebx s == 1
+    then write_call (word_of Edx s) (word_of Ecx s) s else Err (Stopped NoCall s.eip)
 
 abbrev pub interrupt : ℕ → State → Result State End
 interrupt n s = if n == 128 then system_call s else Err (Stopped NoCall s.eip)
@@ -208,8 +220,10 @@ effect (insn.MovZx16 r operand) after s = and_then (read16 operand s) (λ value.
 effect (insn.MovSx8 r operand) after s = and_then (read8 operand s) (λ value. Ok (with_word r (extended8 value) s))
 effect (insn.MovSx16 r operand) after s = and_then (read16 operand s) (λ value. Ok (with_word r (extended16 value) s))
 -- XCHG
-effect (insn.Xchg8 operand r) after s = and_then (read8 operand s) (λ value. and_then (write8 operand (byte_of r s) s) (λ t. Ok (with_byte r value t)))
-effect (insn.Xchg operand r) after s = and_then (read32 operand s) (λ value. and_then (write32 operand (word_of r s) s) (λ t. Ok (with_word r value t)))
+effect (insn.Xchg8 operand r) after s =
+    and_then (read8 operand s) (λ value. and_then (write8 operand (byte_of r s) s) (λ t. Ok (with_byte r value t)))
+effect (insn.Xchg operand r) after s =
+    and_then (read32 operand s) (λ value. and_then (write32 operand (word_of r s) s) (λ t. Ok (with_word r value t)))
 -- LEA
 effect (insn.Lea r m) after s = Ok (with_word r (address_of m s) s)
 -- ADD, OR, AND, SUB, XOR, CMP
@@ -217,13 +231,16 @@ effect (insn.Alu op operand r) after s = operate op operand (word_of r s) s
 effect (insn.AluLoad op r m) after s = and_then (read32 (rm.Mem m) s) (λ value. operate op (rm.Reg r) value s)
 effect (insn.AluImm op operand z) after s = operate op operand (cast_unsigned w32 z) s
 -- TEST: AND without its result
-effect (insn.Test operand r) after s = and_then (read32 operand s) (λ value. Ok (with_flags (Some (alu_flags alu.And value (word_of r s))) s))
+effect (insn.Test operand r) after s =
+    and_then (read32 operand s) (λ value. Ok (with_flags (Some (alu_flags alu.And value (word_of r s))) s))
 -- IMUL, NOT, NEG, DIV, IDIV, CDQ
-effect (insn.IMul r operand) after s = and_then (read32 operand s) (λ value. Ok (with_flags None (with_word r (product (word_of r s) value) s)))
+effect (insn.IMul r operand) after s =
+    and_then (read32 operand s) (λ value. Ok (with_flags None (with_word r (product (word_of r s) value) s)))
 effect (insn.Not operand) after s = and_then (read32 operand s) (λ value. write32 operand (complement value) s)
 effect (insn.Neg operand) after s = change negation operand s
 effect (insn.Div operand) after s = and_then (read32 operand s) (λ value. take_quotient (divided (dividend s) value) s)
-effect (insn.IDiv operand) after s = and_then (read32 operand s) (λ value. take_quotient (signed_divided (dividend s) value) s)
+effect (insn.IDiv operand) after s =
+    and_then (read32 operand s) (λ value. take_quotient (signed_divided (dividend s) value) s)
 effect insn.Cdq after s = Ok (with_word Edx (sign_word (word_of Eax s)) s)
 -- SHL, SHR, SAR
 effect (insn.ShiftCl op operand) after s = change (λ a. shift_value op a (byte_of Cl s)) operand s
@@ -235,7 +252,8 @@ effect (insn.Pop r) after s = and_then (pop s) (λ popped. Ok (with_word r poppe
 -- CALL, RET, LEAVE
 effect (insn.Call distance) after s = push (after % 2 ^ 32) s
 effect insn.Ret after s = and_then (pop s) (λ popped. Ok popped.1)
-effect insn.Leave after s = and_then (load 4 (word_of Ebp s) s) (λ value. Ok (with_word Ebp value (with_word Esp (sum (word_of Ebp s) 4) s)))
+effect insn.Leave after s =
+    and_then (load 4 (word_of Ebp s) s) (λ value. Ok (with_word Ebp value (with_word Esp (sum (word_of Ebp s) 4) s)))
 -- JMP, Jcc, SETcc
 effect (insn.Jmp distance) after s = Ok s
 effect (insn.Jcc c distance) after s = and_then (decided c s) (λ known. Ok s)
@@ -250,7 +268,8 @@ abbrev pub target : Insn → ℕ → State → Result ℕ End
 target (insn.Call distance) after s = Ok (distant after distance)
 target insn.Ret after s = load 4 (word_of Esp s) s
 target (insn.Jmp distance) after s = Ok (distant after distance)
-target (insn.Jcc c distance) after s = and_then (decided c s) (λ known. Ok (if known then distant after distance else after))
+target (insn.Jcc c distance) after s =
+    and_then (decided c s) (λ known. Ok (if known then distant after distance else after))
 target _ after s = Ok after
 
 abbrev pub moved_of : Result State End → Moved
@@ -259,4 +278,5 @@ moved_of (Err end) = Halts end
 
 -- the instruction in this state, where the next one in memory is at the address `after`
 abbrev pub perform : Insn → ℕ → State → Moved
-perform i after s = moved_of (and_then (effect i after s) (λ t. and_then (target i after s) (λ address. Ok (at_address address t))))
+perform i after s =
+    moved_of (and_then (effect i after s) (λ t. and_then (target i after s) (λ address. Ok (at_address address t))))

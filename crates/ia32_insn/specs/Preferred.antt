@@ -1,7 +1,8 @@
 -- The spelling of each instruction that an encoder prefers: no displacement where it is 0 and the base isn't
 -- EBP, then 8 bits, then 32; no SIB byte where none is needed, and scale bits 0 where there is no index; a
 -- jump with 32 bits of distance, and else the shortest opcode.
-use Rattle.std.specs.Prelude.{ℕ, ◌+◌, ◌*◌, ℤ, pos, neg_ℤ, int_le, int_lt, Bool, true, ◌&&◌, not, ◌==◌, List, [], ◌∷◌, ◌++◌, Option, Some, None, if◌then◌else◌}
+use Rattle.std.specs.Prelude.{ℕ, ◌+◌, ◌*◌, ℤ, pos, neg_ℤ, int_le, int_lt, Bool, true, ◌&&◌, not, ◌==◌, List, [], ◌∷◌}
+use Rattle.std.specs.Prelude.{◌++◌, Option, Some, None, if◌then◌else◌}
 use Rattle.std.specs.Int.{w8, w32, cast_unsigned}
 use Rattle.byteorder.specs.Endian.{little_bytes}
 use Rattle.ia32_regs.specs.Registers.{number32, number8}
@@ -9,7 +10,8 @@ use Rattle.ia32_regs.specs.declared.names.Reg32.{Reg32}
 use Rattle.ia32_insn.specs.declared.operand.Rm32.TheVariants as rm
 use Rattle.ia32_insn.specs.declared.insn.Insn.{Insn}
 use Rattle.ia32_insn.specs.declared.insn.Insn.TheVariants as insn
-use Rattle.ia32_insn.specs.Spelling.{Operand, InRegister, InMemory, operand32, operand8, alu_number, shift_number, cond_number}
+use Rattle.ia32_insn.specs.Spelling.{Operand, InRegister, InMemory, operand32, operand8, alu_number, shift_number}
+use Rattle.ia32_insn.specs.Spelling.{cond_number}
 
 -- a signed number in one byte, and in four, the lowest first
 abbrev pub byte_bytes : ℤ → List ℕ
@@ -33,12 +35,14 @@ base_number (Some r) = number32 r
 -- which mod goes with a base and a displacement
 abbrev pub mod_for : Option Reg32 → ℤ → ℕ
 mod_for None z = 0
-mod_for (Some r) z = if int_le z (pos 0) && int_le (pos 0) z && not (number32 r == 5) then 0 else if fits_byte z then 1 else 2
+mod_for (Some r) z = if int_le z (pos 0) && int_le (pos 0) z && not (number32 r == 5) then 0 else if fits_byte z then 1
+    else 2
 
 -- and which bytes of displacement
 abbrev pub displacement_for : Option Reg32 → ℤ → List ℕ
 displacement_for None z = word_bytes z
-displacement_for (Some r) z = if mod_for (Some r) z == 0 then [] else if mod_for (Some r) z == 1 then byte_bytes z else word_bytes z
+displacement_for (Some r) z = if mod_for (Some r) z == 0 then [] else if mod_for (Some r) z == 1 then byte_bytes z
+    else word_bytes z
 
 -- the scale bits of a factor of 1, 2, 4 or 8
 abbrev pub scale_bits : ℕ → ℕ
@@ -58,7 +62,9 @@ needs_sib None base = base_number base == 4
 abbrev pub fields_for : ℕ → Operand → List ℕ
 fields_for reg (InRegister number) = fields_byte 3 reg number ∷ []
 fields_for reg (InMemory m) =
-    if needs_sib m.index m.base then fields_byte (mod_for m.base m.disp) reg 4 ∷ sib_for m.index m.base ∷ displacement_for m.base m.disp else fields_byte (mod_for m.base m.disp) reg (base_number m.base) ∷ displacement_for m.base m.disp
+    if needs_sib m.index m.base then fields_byte (mod_for m.base m.disp) reg 4 ∷ sib_for m.index m.base
+    ∷ displacement_for m.base m.disp else fields_byte (mod_for m.base m.disp) reg (base_number m.base)
+    ∷ displacement_for m.base m.disp
 
 -- the preferred spelling
 abbrev pub preferred : Insn → List ℕ
@@ -80,7 +86,8 @@ preferred (insn.Lea r m) = 0x8d ∷ fields_for (number32 r) (InMemory m)
 preferred (insn.Alu op operand r) = (8 * alu_number op + 1) ∷ fields_for (number32 r) (operand32 operand)
 preferred (insn.AluLoad op r m) = (8 * alu_number op + 3) ∷ fields_for (number32 r) (InMemory m)
 preferred (insn.AluImm op operand z) =
-    if fits_byte z then 0x83 ∷ fields_for (alu_number op) (operand32 operand) ++ byte_bytes z else 0x81 ∷ fields_for (alu_number op) (operand32 operand) ++ word_bytes z
+    if fits_byte z then 0x83 ∷ fields_for (alu_number op) (operand32 operand) ++ byte_bytes z
+    else 0x81 ∷ fields_for (alu_number op) (operand32 operand) ++ word_bytes z
 preferred (insn.Test operand r) = 0x85 ∷ fields_for (number32 r) (operand32 operand)
 preferred (insn.IMul r operand) = 0x0f ∷ 0xaf ∷ fields_for (number32 r) (operand32 operand)
 preferred (insn.Not operand) = 0xf7 ∷ fields_for 2 (operand32 operand)

@@ -1,7 +1,8 @@
 -- The instruction that begins some bytes, and the length of its spelling, read from the front: a map of the
 -- opcodes (Intel manual, volume 2, appendix A) by what follows them. It reads exactly what `Spelling.antt`
 -- says is spelled, which is proved in `proofs/Spelling.antt`.
-use Rattle.std.specs.Prelude.{ℕ, ◌+◌, ◌-◌, ◌/◌, ◌%◌, ◌^◌, ℤ, Bool, ◌&&◌, ◌||◌, ◌==◌, nat_le, nat_lt, List, [], ◌∷◌, length, drop, Option, Some, None, option_and_then, if◌then◌else◌}
+use Rattle.std.specs.Prelude.{ℕ, ◌+◌, ◌-◌, ◌/◌, ◌%◌, ◌^◌, ℤ, Bool, ◌&&◌, ◌||◌, ◌==◌, nat_le, nat_lt, List, [], ◌∷◌}
+use Rattle.std.specs.Prelude.{length, drop, Option, Some, None, option_and_then, if◌then◌else◌}
 use Rattle.byteorder.specs.Endian.{little_number, twos_complement}
 use Rattle.ia32_regs.specs.declared.names.Reg32.{Reg32}
 use Rattle.ia32_regs.specs.declared.names.Reg32.TheVariants.{Eax, Ecx, Edx, Ebx, Esp, Ebp, Esi, Edi}
@@ -20,7 +21,8 @@ use Rattle.ia32_insn.specs.declared.insn.Cond.{Cond}
 use Rattle.ia32_insn.specs.declared.insn.Cond.TheVariants as cond
 use Rattle.ia32_insn.specs.declared.insn.Insn.{Insn}
 use Rattle.ia32_insn.specs.declared.insn.Insn.TheVariants as insn
-use Rattle.ia32_insn.specs.Spelling.{high_field, middle_field, low_field, displacement_size, Operand, InRegister, InMemory}
+use Rattle.ia32_insn.specs.Spelling.{high_field, middle_field, low_field, displacement_size, Operand, InRegister}
+use Rattle.ia32_insn.specs.Spelling.{InMemory}
 
 -- a part is read, and then the next
 infixl 10 ◌>>=◌
@@ -118,7 +120,9 @@ read_address mode base index bytes = do
 unfoldable pub read_sib : ℕ → List ℕ → Option (Mem × ℕ)
 read_sib mode [] = None
 read_sib mode (sib ∷ rest) =
-    if nat_lt sib 256 then (read_address mode (low_field sib) (read_index (high_field sib) (middle_field sib)) rest >>= (λ m. Some (m.0, 1 + m.1)))
+    if nat_lt sib 256
+    then (read_address mode (low_field sib) (read_index (high_field sib) (middle_field sib)) rest
+    >>= (λ m. Some (m.0, 1 + m.1)))
     else None
 
 -- what follows a ModRM byte with this mod, which isn't 3, and this r/m
@@ -132,7 +136,9 @@ unfoldable pub read_fields : List ℕ → Option (ℕ × Operand × ℕ)
 read_fields [] = None
 read_fields (modrm ∷ rest) =
     if high_field modrm == 3 then Some (middle_field modrm, InRegister (low_field modrm), 1)
-    else if nat_lt (high_field modrm) 3 then (read_memory (high_field modrm) (low_field modrm) rest >>= (λ m. Some (middle_field modrm, InMemory m.0, 1 + m.1)))
+    else if nat_lt (high_field modrm) 3
+    then (read_memory (high_field modrm) (low_field modrm) rest
+    >>= (λ m. Some (middle_field modrm, InMemory m.0, 1 + m.1)))
     else None
 
 -- the operand of 32 or 16 bits, or of 8
@@ -222,7 +228,8 @@ unary_insn number operand =
 -- ModRM with an operand of 32 bits: 00 to 3F, 85, 87, 89, 8B, 8D, D3, F7, FF
 unfoldable pub fields32_insn : ℕ → ℕ → Rm32 → Option Insn
 fields32_insn opcode reg operand =
-    if nat_lt opcode 0x40 then (operation_at (opcode / 8) >>= (λ op. alu_insn (opcode % 8) op (register_at reg) operand))
+    if nat_lt opcode 0x40
+    then (operation_at (opcode / 8) >>= (λ op. alu_insn (opcode % 8) op (register_at reg) operand))
     else if opcode == 0x85 then Some (insn.Test operand (register_at reg))
     else if opcode == 0x87 then Some (insn.Xchg operand (register_at reg))
     else if opcode == 0x89 then Some (insn.Mov operand (register_at reg))
@@ -319,8 +326,10 @@ read_shift bytes = do
 unfoldable pub read_extended : ℕ → List ℕ → Option (Insn × ℕ)
 read_extended opcode rest =
     if opcode == 0x0b then Some (insn.Ud2, 2)
-    else if nat_le 0x80 opcode && nat_lt opcode 0x90 then read_with_signed 2 4 (λ z. Some (insn.Jcc (condition_at (opcode - 0x80)) z)) rest
-    else if nat_le 0x90 opcode && nat_lt opcode 0xa0 || opcode == 0xb6 || opcode == 0xbe then read_with8 2 (extended8_insn opcode) rest
+    else if nat_le 0x80 opcode && nat_lt opcode 0x90
+    then read_with_signed 2 4 (λ z. Some (insn.Jcc (condition_at (opcode - 0x80)) z)) rest
+    else if nat_le 0x90 opcode && nat_lt opcode 0xa0 || opcode == 0xb6 || opcode == 0xbe
+    then read_with8 2 (extended8_insn opcode) rest
     else if opcode == 0xaf || opcode == 0xb7 || opcode == 0xbf then read_with32 2 (extended32_insn opcode) rest
     else None
 
@@ -336,7 +345,8 @@ read_two_byte (opcode ∷ rest) = read_extended opcode rest
 -- the opcodes after which ModRM follows and nothing else
 abbrev pub has_fields32 : ℕ → Bool
 has_fields32 opcode =
-    nat_lt opcode 0x40 || opcode == 0x85 || opcode == 0x87 || opcode == 0x89 || opcode == 0x8b || opcode == 0x8d || opcode == 0xd3 || opcode == 0xf7 || opcode == 0xff
+    nat_lt opcode 0x40 || opcode == 0x85 || opcode == 0x87 || opcode == 0x89 || opcode == 0x8b || opcode == 0x8d
+    || opcode == 0xd3 || opcode == 0xf7 || opcode == 0xff
 
 abbrev pub has_fields8 : ℕ → Bool
 has_fields8 opcode = opcode == 0x86 || opcode == 0x88 || opcode == 0x8a

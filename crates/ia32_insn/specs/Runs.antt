@@ -12,7 +12,8 @@ use Rattle.ia32_insn.specs.Meaning.{Moved, Moves, Halts, perform}
 abbrev pub StepsAt : Option (List ℕ) → State → Moved → Type 0
 StepsAt None s moved = moved ≡ Halts (Stopped (Access s.eip) s.eip)
 StepsAt (Some code) s moved =
-    ((i : Insn) × (n : ℕ) × Begins i n code × (moved ≡ perform i (s.eip + n) s)) ⊎ (NoneBegins code × (moved ≡ Halts (Stopped Instruction s.eip)))
+    ((i : Insn) × (n : ℕ) × Begins i n code × (moved ≡ perform i (s.eip + n) s))
+    ⊎ (NoneBegins code × (moved ≡ Halts (Stopped Instruction s.eip)))
 
 -- one step from the state leads there
 abbrev pub Steps : State → Moved → Type 0

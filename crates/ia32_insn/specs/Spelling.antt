@@ -1,7 +1,8 @@
 -- How instructions are spelled in bytes (Intel manual, volume 2, chapter 2 and the opcode tables of each
 -- instruction): the opcode, and then fields that read as the operands. An instruction may have several
 -- spellings.
-use Rattle.std.specs.Prelude.{◌≡◌, ◌≢◌, ◌⊎◌, ◌<◌, ℕ, ◌+◌, ◌*◌, ◌/◌, ◌%◌, ◌^◌, ◌≤◌, ℤ, ◌&&◌, ◌==◌, List, [], ◌∷◌, ◌++◌, length, take, Option, Some, None, option_map, if◌then◌else◌}
+use Rattle.std.specs.Prelude.{◌≡◌, ◌≢◌, ◌⊎◌, ◌<◌, ℕ, ◌+◌, ◌*◌, ◌/◌, ◌%◌, ◌^◌, ◌≤◌, ℤ, ◌&&◌, ◌==◌, List, [], ◌∷◌, ◌++◌}
+use Rattle.std.specs.Prelude.{length, take, Option, Some, None, option_map, if◌then◌else◌}
 use Rattle.byteorder.specs.Endian.{little_number, twos_complement}
 use Rattle.ia32_regs.specs.Registers.{number32, number8}
 use Rattle.ia32_regs.specs.declared.names.Reg32.{Reg32}
@@ -58,11 +59,13 @@ pub record IsAddress (mode base : ℕ) (index : Option (ℕ × ℕ)) (m : Mem) (
 -- the memory operand that a SIB byte and what follows it name
 abbrev pub HasSib : ℕ → Mem → List ℕ → Type 0
 HasSib mode m bytes =
-    (sib : ℕ) × (rest : List ℕ) × (bytes ≡ sib ∷ rest) × (sib < 256) × IsAddress mode (low_field sib) (index_named (high_field sib) (middle_field sib)) m rest
+    (sib : ℕ) × (rest : List ℕ) × (bytes ≡ sib ∷ rest) × (sib < 256)
+    × IsAddress mode (low_field sib) (index_named (high_field sib) (middle_field sib)) m rest
 
 -- the memory operand that mod, r/m and what follows a ModRM byte name: a SIB byte follows where r/m is 4
 abbrev pub IsMemory : ℕ → ℕ → Mem → List ℕ → Type 0
-IsMemory mode number m bytes = ((number ≢ 4) × IsAddress mode number None m bytes) ⊎ ((number ≡ 4) × HasSib mode m bytes)
+IsMemory mode number m bytes = ((number ≢ 4) × IsAddress mode number None m bytes)
+    ⊎ ((number ≡ 4) × HasSib mode m bytes)
 
 -- what the r/m field names: the register with a number, or memory
 pub data Operand : Type 0 where
@@ -72,9 +75,11 @@ pub data Operand : Type 0 where
 -- a ModRM byte, and what follows it, with this number in its reg field and this operand in its r/m field
 abbrev pub HasFields : ℕ → Operand → List ℕ → Type 0
 HasFields reg (InRegister number) bytes =
-    (modrm : ℕ) × (bytes ≡ modrm ∷ []) × (high_field modrm ≡ 3) × (middle_field modrm ≡ reg) × (low_field modrm ≡ number)
+    (modrm : ℕ) × (bytes ≡ modrm ∷ []) × (high_field modrm ≡ 3) × (middle_field modrm ≡ reg)
+    × (low_field modrm ≡ number)
 HasFields reg (InMemory m) bytes =
-    (modrm : ℕ) × (rest : List ℕ) × (bytes ≡ modrm ∷ rest) × (high_field modrm < 3) × (middle_field modrm ≡ reg) × IsMemory (high_field modrm) (low_field modrm) m rest
+    (modrm : ℕ) × (rest : List ℕ) × (bytes ≡ modrm ∷ rest) × (high_field modrm < 3) × (middle_field modrm ≡ reg)
+    × IsMemory (high_field modrm) (low_field modrm) m rest
 
 -- ---- rows
 
@@ -85,7 +90,8 @@ Row opcode reg operand bytes = (fields : List ℕ) × (bytes ≡ opcode ++ field
 -- the opcode, these fields, and then n bytes that read as a signed number
 abbrev pub RowWith : List ℕ → ℕ → Operand → ℕ → ℤ → List ℕ → Type 0
 RowWith opcode reg operand n z bytes =
-    (fields : List ℕ) × (rest : List ℕ) × (bytes ≡ opcode ++ fields ++ rest) × HasFields reg operand fields × ReadsSigned n rest z
+    (fields : List ℕ) × (rest : List ℕ) × (bytes ≡ opcode ++ fields ++ rest) × HasFields reg operand fields
+    × ReadsSigned n rest z
 
 -- the opcode, and then n bytes that read as a signed number
 abbrev pub Immediate : List ℕ → ℕ → ℤ → List ℕ → Type 0
@@ -140,13 +146,16 @@ cond_number cond.G = 15
 -- the bytes are a spelling of the instruction
 abbrev pub Spells : Insn → List ℕ → Type 0
 -- MOV r/m32, r32: 89 /r; MOV r32, r/m32: 8B /r
-Spells (insn.Mov operand r) bytes = Row (0x89 ∷ []) (number32 r) (operand32 operand) bytes ⊎ Reversed (0x8b ∷ []) (operand32 operand) (number32 r) bytes
+Spells (insn.Mov operand r) bytes = Row (0x89 ∷ []) (number32 r) (operand32 operand) bytes
+    ⊎ Reversed (0x8b ∷ []) (operand32 operand) (number32 r) bytes
 Spells (insn.MovLoad r m) bytes = Row (0x8b ∷ []) (number32 r) (InMemory m) bytes
 -- MOV r32, imm32: B8+rd id; MOV r/m32, imm32: C7 /0 id
-Spells (insn.MovImm (rm.Reg r) z) bytes = Immediate ((0xb8 + number32 r) ∷ []) 4 z bytes ⊎ RowWith (0xc7 ∷ []) 0 (InRegister (number32 r)) 4 z bytes
+Spells (insn.MovImm (rm.Reg r) z) bytes = Immediate ((0xb8 + number32 r) ∷ []) 4 z bytes
+    ⊎ RowWith (0xc7 ∷ []) 0 (InRegister (number32 r)) 4 z bytes
 Spells (insn.MovImm (rm.Mem m) z) bytes = RowWith (0xc7 ∷ []) 0 (InMemory m) 4 z bytes
 -- MOV r/m8, r8: 88 /r; MOV r8, r/m8: 8A /r
-Spells (insn.Mov8 operand r) bytes = Row (0x88 ∷ []) (number8 r) (operand8 operand) bytes ⊎ Reversed (0x8a ∷ []) (operand8 operand) (number8 r) bytes
+Spells (insn.Mov8 operand r) bytes = Row (0x88 ∷ []) (number8 r) (operand8 operand) bytes
+    ⊎ Reversed (0x8a ∷ []) (operand8 operand) (number8 r) bytes
 Spells (insn.Mov8Load r m) bytes = Row (0x8a ∷ []) (number8 r) (InMemory m) bytes
 -- MOV r8, imm8: B0+rb ib
 Spells (insn.Mov8Imm r n) bytes = bytes ≡ (0xb0 + number8 r) ∷ n ∷ []
@@ -165,10 +174,12 @@ Spells (insn.Xchg operand r) bytes = Row (0x87 ∷ []) (number32 r) (operand32 o
 Spells (insn.Lea r m) bytes = Row (0x8d ∷ []) (number32 r) (InMemory m) bytes
 -- ADD, OR, AND, SUB, XOR, CMP r/m32, r32: 01, 09, 21, 29, 31, 39 /r; with r32, r/m32: 03, 0B, 23, 2B, 33, 3B /r
 Spells (insn.Alu op operand r) bytes =
-    Row ((8 * alu_number op + 1) ∷ []) (number32 r) (operand32 operand) bytes ⊎ Reversed ((8 * alu_number op + 3) ∷ []) (operand32 operand) (number32 r) bytes
+    Row ((8 * alu_number op + 1) ∷ []) (number32 r) (operand32 operand) bytes
+    ⊎ Reversed ((8 * alu_number op + 3) ∷ []) (operand32 operand) (number32 r) bytes
 Spells (insn.AluLoad op r m) bytes = Row ((8 * alu_number op + 3) ∷ []) (number32 r) (InMemory m) bytes
 -- the same r/m32, imm8, sign-extended: 83 /n ib; r/m32, imm32: 81 /n id
-Spells (insn.AluImm op operand z) bytes = RowWith (0x83 ∷ []) (alu_number op) (operand32 operand) 1 z bytes ⊎ RowWith (0x81 ∷ []) (alu_number op) (operand32 operand) 4 z bytes
+Spells (insn.AluImm op operand z) bytes = RowWith (0x83 ∷ []) (alu_number op) (operand32 operand) 1 z bytes
+    ⊎ RowWith (0x81 ∷ []) (alu_number op) (operand32 operand) 4 z bytes
 -- TEST r/m32, r32: 85 /r
 Spells (insn.Test operand r) bytes = Row (0x85 ∷ []) (number32 r) (operand32 operand) bytes
 -- IMUL r32, r/m32: 0F AF /r
@@ -185,7 +196,8 @@ Spells (insn.ShiftCl op operand) bytes = Row (0xd3 ∷ []) (shift_number op) (op
 Spells (insn.ShiftImm op operand n) bytes =
     (fields : List ℕ) × (bytes ≡ 0xc1 ∷ fields ++ n ∷ []) × HasFields (shift_number op) (operand32 operand) fields
 -- PUSH r32: 50+rd; PUSH r/m32: FF /6
-Spells (insn.Push (rm.Reg r)) bytes = (bytes ≡ (0x50 + number32 r) ∷ []) ⊎ Row (0xff ∷ []) 6 (InRegister (number32 r)) bytes
+Spells (insn.Push (rm.Reg r)) bytes = (bytes ≡ (0x50 + number32 r) ∷ [])
+    ⊎ Row (0xff ∷ []) 6 (InRegister (number32 r)) bytes
 Spells (insn.Push (rm.Mem m)) bytes = Row (0xff ∷ []) 6 (InMemory m) bytes
 -- PUSH imm32: 68 id; POP r32: 58+rd
 Spells (insn.PushImm z) bytes = Immediate (0x68 ∷ []) 4 z bytes
@@ -197,7 +209,8 @@ Spells insn.Leave bytes = bytes ≡ 0xc9 ∷ []
 -- JMP rel32: E9 cd; JMP rel8: EB cb
 Spells (insn.Jmp distance) bytes = Immediate (0xe9 ∷ []) 4 distance bytes ⊎ Immediate (0xeb ∷ []) 1 distance bytes
 -- Jcc rel32: 0F 80+cc cd; Jcc rel8: 70+cc cb
-Spells (insn.Jcc c distance) bytes = Immediate (0x0f ∷ (0x80 + cond_number c) ∷ []) 4 distance bytes ⊎ Immediate ((0x70 + cond_number c) ∷ []) 1 distance bytes
+Spells (insn.Jcc c distance) bytes = Immediate (0x0f ∷ (0x80 + cond_number c) ∷ []) 4 distance bytes
+    ⊎ Immediate ((0x70 + cond_number c) ∷ []) 1 distance bytes
 -- SETcc r/m8: 0F 90+cc, with any reg field
 Spells (insn.SetCc c operand) bytes = (reg : ℕ) × Row (0x0f ∷ (0x90 + cond_number c) ∷ []) reg (operand8 operand) bytes
 -- INT imm8: CD ib; UD2: 0F 0B; NOP: 90

@@ -1,6 +1,7 @@
 -- A state of the machine, and its memory (Intel manual, volume 1, sections 3.3 and 3.4). Memory is flat, and
 -- is a list of areas, each with what may be done there.
-use Rattle.std.specs.Prelude.{ℕ, ⊤, ◌≤◌, ◌⊎◌, ◌+◌, ◌-◌, ◌%◌, ◌^◌, Bool, true, false, ◌&&◌, List, [], ◌∷◌, ◌++◌, length, take, drop, Option, Some, None, option_map, nat_le, if◌then◌else◌}
+use Rattle.std.specs.Prelude.{ℕ, ⊤, ◌≤◌, ◌⊎◌, ◌+◌, ◌-◌, ◌%◌, ◌^◌, Bool, true, false, ◌&&◌, List, [], ◌∷◌, ◌++◌, length}
+use Rattle.std.specs.Prelude.{take, drop, Option, Some, None, option_map, nat_le, if◌then◌else◌}
 use Rattle.std.specs.List.{AllByRecursion}
 use Rattle.ia32_insn.specs.declared.flags.Flags.{Flags}
 
@@ -31,18 +32,21 @@ has_bytes area address n = nat_le area.address address && nat_le (address + n) (
 abbrev pub code_at : ℕ → List Area → Option (List ℕ)
 code_at address [] = None
 code_at address (area ∷ areas) =
-    if area.runnable && has_bytes area address 1 then Some (drop (address - area.address) area.bytes) else code_at address areas
+    if area.runnable && has_bytes area address 1 then Some (drop (address - area.address) area.bytes)
+    else code_at address areas
 
 -- the n bytes from an address on, where one area has them all and may be read
 abbrev pub bytes_at : ℕ → ℕ → List Area → Option (List ℕ)
 bytes_at n address [] = None
 bytes_at n address (area ∷ areas) =
-    if area.readable && has_bytes area address n then Some (take n (drop (address - area.address) area.bytes)) else bytes_at n address areas
+    if area.readable && has_bytes area address n then Some (take n (drop (address - area.address) area.bytes))
+    else bytes_at n address areas
 
 -- one area has all the n bytes from an address on, and may be written
 abbrev pub may_store : ℕ → ℕ → List Area → Bool
 may_store n address [] = false
-may_store n address (area ∷ areas) = if area.writable && has_bytes area address n then true else may_store n address areas
+may_store n address (area ∷ areas) = if area.writable && has_bytes area address n then true
+    else may_store n address areas
 
 -- the area with these bytes from an address of it on
 abbrev pub with_bytes : ℕ → List ℕ → Area → Area
@@ -54,7 +58,8 @@ with_bytes address bytes area =
 abbrev pub stored : ℕ → List ℕ → List Area → Option (List Area)
 stored address bytes [] = None
 stored address bytes (area ∷ areas) =
-    if area.writable && has_bytes area address (length bytes) then Some (with_bytes address bytes area ∷ areas) else option_map (λ others. area ∷ others) (stored address bytes areas)
+    if area.writable && has_bytes area address (length bytes) then Some (with_bytes address bytes area ∷ areas)
+    else option_map (λ others. area ∷ others) (stored address bytes areas)
 
 -- an area without its bytes
 pub record Shape : Type 0 where
@@ -65,7 +70,14 @@ pub record Shape : Type 0 where
   pub runnable : Bool
 
 abbrev pub shape_of : Area → Shape
-shape_of area = record { address = area.address; size = length area.bytes; readable = area.readable; writable = area.writable; runnable = area.runnable }
+shape_of area = record {
+  address = area.address;
+  size = length area.bytes;
+  readable = area.readable;
+  writable =
+      area.writable;
+  runnable = area.runnable;
+}
 
 -- two areas have no address in common
 abbrev pub IsApart : Area → Area → Type 0

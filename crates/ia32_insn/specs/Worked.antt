@@ -4,4 +4,13 @@ use Rattle.ia32_insn.specs.State.{State}
 
 -- these registers, at the address 0, with no memory, unknown flags, and nothing to read
 abbrev pub bare : List ℕ → State
-bare registers = record { registers = registers; flags = None; eip = 0; memory = []; left = []; taken = 0; written = [] }
+bare registers = record {
+  registers = registers;
+  flags = None;
+  eip = 0;
+  memory = [];
+  left = [];
+  taken = 0;
+  written =
+      [];
+}

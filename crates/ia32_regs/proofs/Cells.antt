@@ -1,5 +1,6 @@
 -- What the methods of `RegFile` do to its words, said of the bytes of the words.
-use Rattle.std.proofs.Common.{◌≡◌, ◌⊎◌, ℕ, ◌+◌, ◌-◌, ◌*◌, ◌/◌, ◌%◌, ◌^◌, ◌<◌, List, [], ◌∷◌, length, drop, get_or, bit_and, bit_or, sym, ap, ◌∙◌, inl, inr, arith}
+use Rattle.std.proofs.Common.{◌≡◌, ◌⊎◌, ℕ, ◌+◌, ◌-◌, ◌*◌, ◌/◌, ◌%◌, ◌^◌, ◌<◌, List, [], ◌∷◌, length, drop, get_or}
+use Rattle.std.proofs.Common.{bit_and, bit_or, sym, ap, ◌∙◌, inl, inr, arith}
 use Rattle.std.proofs.Math.ListN.{set}
 use Rattle.std.proofs.lemmas.Nat.{and_block, and_mask, or_block, or_comm, or_shifted}
 use Rattle.std.proofs.lemmas.Nat.Bits.{and_high_mask}
@@ -8,7 +9,8 @@ use Rattle.byteorder.specs.Endian.{little_bytes, little_from}
 use Rattle.ia32_regs.specs.declared.names.Reg32.{Reg32}
 use Rattle.ia32_regs.specs.Registers.{AreRegisters, number32, register, with_register}
 use Rattle.ia32_regs.specs.Words.{bytes_of_words}
-use Rattle.ia32_regs.proofs.Words.{bytes_of_words-lt, bytes_of_words-set, get_or-word, length-bytes_of_words, little_from-word, set-word}
+use Rattle.ia32_regs.proofs.Words.{bytes_of_words-lt, bytes_of_words-set, get_or-word, length-bytes_of_words}
+use Rattle.ia32_regs.proofs.Words.{little_from-word, set-word}
 
 -- eight words are the registers
 pub AreRegisters-words : (ws bs : List ℕ) → length ws ≡ 8 → bytes_of_words ws ≡ bs → AreRegisters bs
@@ -60,7 +62,8 @@ merged w s v = bit_or (bit_and w (4294967295 - 255 * 2 ^ s % 4294967296)) (v * 2
 -- the lowest byte
 merged-low : (w v : ℕ) → w < 2 ^ 32 → v < 256 → merged w 0 v ≡ w / 256 * 256 + v
 merged-low w v h b =
-    let kept : bit_and w (4294967295 - 255 * 2 ^ 0 % 4294967296) ≡ w / 256 * 256 = and_high_mask 32 8 (omega arith) w h in
+    let kept : bit_and w (4294967295 - 255 * 2 ^ 0 % 4294967296) ≡ w / 256 * 256 =
+    and_high_mask 32 8 (omega arith) w h in
     let moved : v * 2 ^ 0 % 4294967296 ≡ v = omega arith in
     ap (λ (x : ℕ). bit_or x (v * 2 ^ 0 % 4294967296)) kept
     ∙ ap (λ (x : ℕ). bit_or (w / 256 * 256) x) moved
@@ -72,15 +75,18 @@ merged-second w v h b =
     let split : w ≡ w / 65536 * 65536 + w % 65536 = omega arith in
     let high : bit_and (w / 65536) 65535 ≡ w / 65536 = and_mask (w / 65536) 16 ∙ omega arith in
     let low : bit_and (w % 65536) 255 ≡ w % 256 = and_mask (w % 65536) 8 ∙ omega arith in
-    let block : bit_and (w / 65536 * 65536 + w % 65536) 4294902015 ≡ bit_and (w / 65536) 65535 * 65536 + bit_and (w % 65536) 255 =
+    let block : bit_and (w / 65536 * 65536 + w % 65536) 4294902015
+    ≡ bit_and (w / 65536) 65535 * 65536 + bit_and (w % 65536) 255 =
     and_block 16 (w / 65536) 65535 (w % 65536) 255 (omega arith) (omega arith) in
     let kept : bit_and w 4294902015 ≡ w / 65536 * 65536 + w % 256 =
     ap (λ (x : ℕ). bit_and x 4294902015) split ∙ block ∙ ap (λ (x : ℕ). x * 65536 + bit_and (w % 65536) 255) high
     ∙ ap (λ (x : ℕ). w / 65536 * 65536 + x) low in
     let moved : v * 2 ^ 8 % 4294967296 ≡ v * 256 = omega arith in
-    let lower : bit_or (w % 256) (v * 256) ≡ v * 256 + w % 256 = or_comm (w % 256) (v * 256) ∙ or_shifted v 8 (w % 256) (omega arith) in
+    let lower : bit_or (w % 256) (v * 256) ≡ v * 256 + w % 256 =
+    or_comm (w % 256) (v * 256) ∙ or_shifted v 8 (w % 256) (omega arith) in
     let none : bit_or (w / 65536) 0 ≡ w / 65536 = or_zero_r (w / 65536) in
-    let joined : bit_or (w / 65536 * 65536 + w % 256) (0 * 65536 + v * 256) ≡ bit_or (w / 65536) 0 * 65536 + bit_or (w % 256) (v * 256) =
+    let joined : bit_or (w / 65536 * 65536 + w % 256) (0 * 65536 + v * 256)
+    ≡ bit_or (w / 65536) 0 * 65536 + bit_or (w % 256) (v * 256) =
     or_block 16 (w / 65536) 0 (w % 256) (v * 256) (omega arith) (omega arith) in
     let plain : 0 * 65536 + v * 256 ≡ v * 256 = omega arith in
     ap (λ (x : ℕ). bit_or x (v * 2 ^ 8 % 4294967296)) kept
@@ -98,7 +104,8 @@ bytes-low : (w v : ℕ) → v < 256 → little_bytes 4 (w / 256 * 256 + v) ≡ s
 bytes-low w v b = same_four _ _ _ _ _ _ _ _ (omega arith) (omega arith) (omega arith) (omega arith)
 
 -- the bytes of a word with another second byte
-bytes-second : (w v : ℕ) → v < 256 → little_bytes 4 (w / 65536 * 65536 + (v * 256 + w % 256)) ≡ set (little_bytes 4 w) 1 v
+bytes-second : (w v : ℕ) → v < 256 → little_bytes 4 (w / 65536 * 65536 + (v * 256 + w % 256))
+    ≡ set (little_bytes 4 w) 1 v
 bytes-second w v b = same_four _ _ _ _ _ _ _ _ (omega arith) (omega arith) (omega arith) (omega arith)
 
 -- the word with a byte put in is the cell, set

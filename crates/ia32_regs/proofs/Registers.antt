@@ -1,8 +1,10 @@
 -- The laws of the registers: a register that was set has its value, and the others keep theirs.
-use Rattle.std.proofs.Common.{◌≡◌, ◌≢◌, ◌⊎◌, ℕ, ◌+◌, ◌-◌, ◌^◌, ◌<◌, ◌≤◌, List, [], ◌∷◌, ◌++◌, length, take, drop, get_or, refl, sym, ap, ◌∙◌, inl, inr, arith, append_assoc, length-append, length-drop}
+use Rattle.std.proofs.Common.{◌≡◌, ◌≢◌, ◌⊎◌, ℕ, ◌+◌, ◌-◌, ◌^◌, ◌<◌, ◌≤◌, List, [], ◌∷◌, ◌++◌, length, take, drop}
+use Rattle.std.proofs.Common.{get_or, refl, sym, ap, ◌∙◌, inl, inr, arith, append_assoc, length-append, length-drop}
 use Rattle.std.proofs.lemmas.Bool.{cases_eq, cases_lt}
 use Rattle.std.proofs.Math.ListN.{set, length-set}
-use Rattle.std.proofs.lemmas.List.{drop-append-le, drop_all, get_or-append_right, get_or-drop, get_or-take, get_or-set_other, get_or-set_same, get_or_append_left, get_or_past, length-take-le}
+use Rattle.std.proofs.lemmas.List.{drop-append-le, drop_all, get_or-append_right, get_or-drop, get_or-take}
+use Rattle.std.proofs.lemmas.List.{get_or-set_other, get_or-set_same, get_or_append_left, get_or_past, length-take-le}
 use Rattle.byteorder.specs.Endian.{little_bytes, little_from}
 use Rattle.byteorder.specs.Numbers.{length-bytes_low_first, little_number-reads_back}
 use Rattle.ia32_regs.specs.declared.names.Reg32.{Reg32}
@@ -36,7 +38,8 @@ length-with_four p v bs h =
     omega (arith, front, four, rest, first, whole)
 
 -- the cells from place p on
-drop-with_four : (p v : ℕ) (bs : List ℕ) → p + 4 ≤ length bs → drop p (with_four p v bs) ≡ little_bytes 4 v ++ drop (p + 4) bs
+drop-with_four : (p v : ℕ) (bs : List ℕ) → p + 4 ≤ length bs → drop p (with_four p v bs) ≡ little_bytes 4 v
+    ++ drop (p + 4) bs
 drop-with_four p v bs h =
     let front : length (take p bs) ≡ p = length-take-le p bs (omega arith) in
     ap (drop p) (append_assoc (take p bs) (little_bytes 4 v) (drop (p + 4) bs))
@@ -54,7 +57,8 @@ get_or-with_four p v i bs h (inl before) =
 get_or-with_four p v i bs h (inr after) =
     let front : length (take p bs) ≡ p = length-take-le p bs (omega arith) in
     let four = length-bytes_low_first 0 4 v in
-    let first : length (take p bs ++ little_bytes 4 v) ≡ p + 4 = omega (arith, four, length-append (take p bs) (little_bytes 4 v)) in
+    let first : length (take p bs ++ little_bytes 4 v) ≡ p + 4 =
+    omega (arith, four, length-append (take p bs) (little_bytes 4 v)) in
     let same : p + 4 + (i - (p + 4)) ≡ i = omega arith in
     get_or-append_right (take p bs ++ little_bytes 4 v) (drop (p + 4) bs) (p + 4) i 0 first after
     ∙ get_or-drop (p + 4) bs (i - (p + 4)) 0
@@ -79,7 +83,8 @@ length-with_register r v bs e =
     length-with_four (word_place r) v bs (omega arith) ∙ e
 
 -- a register that is set has the value
-pub register-with_same : (r : Reg32) (v : ℕ) (bs : List ℕ) → length bs ≡ 32 → v < 2 ^ 32 → register r (with_register r v bs) ≡ v
+pub register-with_same : (r : Reg32) (v : ℕ) (bs : List ℕ) → length bs ≡ 32 → v < 2 ^ 32
+    → register r (with_register r v bs) ≡ v
 register-with_same r v bs e h =
     let below = number32_below r in
     ap (little_from 0 4) (drop-with_four (word_place r) v bs (omega arith))
@@ -91,7 +96,8 @@ pub register-with_other : (r q : Reg32) (v : ℕ) (bs : List ℕ) → length bs 
 register-with_other r q v bs e other =
     let below = number32_below q in
     little_from-same (word_place r) (with_register q v bs) bs
-    (λ m h. get_or-with_four (word_place q) v (word_place r + m) bs (omega arith) (elim (cases_lt (number32 r) (number32 q)) [
+    (λ m h. get_or-with_four (word_place q) v (word_place r + m) bs (omega arith)
+    (elim (cases_lt (number32 r) (number32 q)) [
       | inl before ↦ inl (omega arith)
       | inr after ↦ inr (omega arith)
     ]))
@@ -107,7 +113,8 @@ get_or-four p v i bs h low high =
     omega (arith, moved, from, front, byte)
 
 -- registers stay registers where one is set
-pub AreRegisters-with_register : (r : Reg32) (v : ℕ) (bs : List ℕ) → AreRegisters bs → AreRegisters (with_register r v bs)
+pub AreRegisters-with_register : (r : Reg32) (v : ℕ) (bs : List ℕ) → AreRegisters bs
+    → AreRegisters (with_register r v bs)
 AreRegisters-with_register r v bs shape =
     let below = number32_below r in
     let room : word_place r + 4 ≤ length bs = omega (arith, shape.cells) in
@@ -127,5 +134,13 @@ pub AreRegisters-set : (p v : ℕ) (bs : List ℕ) → v < 256 → AreRegisters 
 AreRegisters-set p v bs h shape =
     record {
       cells = length-set bs p v ∙ shape.cells;
-      below = λ i. grind (arith, get_or-set_same bs i v 0, get_or-set_other bs p i v 0, cases_eq i p, shape.below i, get_or_past (set bs p v) i 0, length-set bs p v);
+      below = λ i. grind (
+        arith,
+        get_or-set_same bs i v 0,
+        get_or-set_other bs p i v 0,
+        cases_eq i p,
+        shape.below i,
+        get_or_past (set bs p v) i 0,
+        length-set bs p v,
+      );
     }

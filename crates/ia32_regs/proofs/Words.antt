@@ -1,5 +1,6 @@
 -- What the bytes of a list of words say of the words.
-use Rattle.std.proofs.Common.{◌≡◌, ℕ, zero, suc, ◌+◌, ◌*◌, ◌^◌, ◌<◌, List, [], ◌∷◌, ◌++◌, length, take, drop, get_or, refl, ap, arith}
+use Rattle.std.proofs.Common.{◌≡◌, ℕ, zero, suc, ◌+◌, ◌*◌, ◌^◌, ◌<◌, List, [], ◌∷◌, ◌++◌, length, take, drop, get_or}
+use Rattle.std.proofs.Common.{refl, ap, arith}
 use Rattle.std.proofs.Math.ListN.{set}
 use Rattle.std.specs.Int.{byte_at}
 use Rattle.byteorder.specs.Endian.{little_bytes, little_from}
@@ -42,7 +43,8 @@ little_from-word (suc k) (w ∷ ws) h below = rw (four_more k) (little_from-word
 
 -- the bytes with another number in the place of a word are those of the words with it
 pub bytes_of_words-set : (k v : ℕ) (ws : List ℕ) → k < length ws
-    → bytes_of_words (set ws k v) ≡ take (4 * k) (bytes_of_words ws) ++ little_bytes 4 v ++ drop (4 * k + 4) (bytes_of_words ws)
+    → bytes_of_words (set ws k v) ≡ take (4 * k) (bytes_of_words ws) ++ little_bytes 4 v
+    ++ drop (4 * k + 4) (bytes_of_words ws)
 bytes_of_words-set k v [] h = absurd (omega arith)
 bytes_of_words-set zero v (w ∷ ws) h = refl
 bytes_of_words-set (suc k) v (w ∷ ws) h =

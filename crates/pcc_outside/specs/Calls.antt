@@ -4,7 +4,8 @@ use Rattle.std.specs.declared.alloc.Global.{Global}
 use Rattle.pcc_base.specs.Counts.{last_count}
 use Rattle.pcc_outside.specs.declared.source.Failed.{Failed}
 use Rattle.pcc_outside.specs.declared.file_store.ReadRefusal.{ReadRefusal}
-use Rattle.pcc_outside.specs.declared.file_store.ReadRefusal.TheVariants.{Missing, TooLong, Failed as ReadFailed, NoMemory as NoReadMemory}
+use Rattle.pcc_outside.specs.declared.file_store.ReadRefusal.TheVariants.{Missing, TooLong, Failed as ReadFailed}
+use Rattle.pcc_outside.specs.declared.file_store.ReadRefusal.TheVariants.{NoMemory as NoReadMemory}
 use Rattle.pcc_outside.specs.declared.sink.WriteRefusal.{WriteRefusal}
 use Rattle.pcc_outside.specs.declared.sink.WriteRefusal.TheVariants.{Failed as WriteFailed, NoMemory as NoWriteMemory}
 use Rattle.pcc_outside.specs.Files.{StoreCounts, OnlyMissing, OnlyTooLong, OnlyReadFaults, OnlyWriteFaults}

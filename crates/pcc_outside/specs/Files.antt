@@ -3,7 +3,8 @@ use Rattle.std.specs.Prelude.{◌≡◌, ◌<◌, ℕ, List, length, Option, Som
 use Rattle.std.specs.declared.alloc.Global.{Global}
 use Rattle.pcc_base.specs.Counts.{Rose}
 use Rattle.pcc_outside.specs.declared.file_store.ReadRefusal.{ReadRefusal}
-use Rattle.pcc_outside.specs.declared.file_store.ReadRefusal.TheVariants.{Missing, TooLong, Failed as ReadFailed, NoMemory as NoReadMemory}
+use Rattle.pcc_outside.specs.declared.file_store.ReadRefusal.TheVariants.{Missing, TooLong, Failed as ReadFailed}
+use Rattle.pcc_outside.specs.declared.file_store.ReadRefusal.TheVariants.{NoMemory as NoReadMemory}
 use Rattle.pcc_outside.specs.declared.sink.WriteRefusal.{WriteRefusal}
 use Rattle.pcc_outside.specs.declared.sink.WriteRefusal.TheVariants.{Failed as WriteFailed, NoMemory as NoWriteMemory}
 
@@ -15,16 +16,20 @@ pub record StoreCounts : Type 0 where
 
 -- the counts of a store in which one, and no other, may have risen
 abbrev pub OnlyMissing : StoreCounts → StoreCounts → Type 0
-OnlyMissing old new = (new.read_faults ≡ old.read_faults) × (new.write_faults ≡ old.write_faults) × (new.too_long ≡ old.too_long)
+OnlyMissing old new = (new.read_faults ≡ old.read_faults) × (new.write_faults ≡ old.write_faults)
+    × (new.too_long ≡ old.too_long)
 
 abbrev pub OnlyTooLong : StoreCounts → StoreCounts → Type 0
-OnlyTooLong old new = (new.read_faults ≡ old.read_faults) × (new.write_faults ≡ old.write_faults) × (new.missing ≡ old.missing)
+OnlyTooLong old new = (new.read_faults ≡ old.read_faults) × (new.write_faults ≡ old.write_faults)
+    × (new.missing ≡ old.missing)
 
 abbrev pub OnlyReadFaults : StoreCounts → StoreCounts → Type 0
-OnlyReadFaults old new = (new.write_faults ≡ old.write_faults) × (new.missing ≡ old.missing) × (new.too_long ≡ old.too_long)
+OnlyReadFaults old new = (new.write_faults ≡ old.write_faults) × (new.missing ≡ old.missing)
+    × (new.too_long ≡ old.too_long)
 
 abbrev pub OnlyWriteFaults : StoreCounts → StoreCounts → Type 0
-OnlyWriteFaults old new = (new.read_faults ≡ old.read_faults) × (new.missing ≡ old.missing) × (new.too_long ≡ old.too_long)
+OnlyWriteFaults old new = (new.read_faults ≡ old.read_faults) × (new.missing ≡ old.missing)
+    × (new.too_long ≡ old.too_long)
 
 -- a store's counts over a read
 abbrev pub CountsRead : StoreCounts → StoreCounts → Result (Vec ℕ Global) ReadRefusal → Type 0

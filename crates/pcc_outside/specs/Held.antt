@@ -15,4 +15,10 @@ store_calls store = store.log
 
 -- how often each answer that has a count was given
 abbrev pub store_counts : MemFiles → StoreCounts
-store_counts store = record { read_faults = store.read_faults; write_faults = store.write_faults; missing = store.missing; too_long = store.too_long }
+store_counts store = record {
+  read_faults = store.read_faults;
+  write_faults = store.write_faults;
+  missing =
+      store.missing;
+  too_long = store.too_long;
+}

@@ -29,7 +29,13 @@ AppendsPrefix old new bytes = (n : ℕ) × Appends old new (take n bytes)
 
 -- how often each answer of the files that has a count was given
 abbrev pub host_counts : {R : Type 0} → HostFiles R → StoreCounts
-host_counts store = record { read_faults = store.read_faults; write_faults = store.write_faults; missing = store.missing; too_long = store.too_long }
+host_counts store = record {
+  read_faults = store.read_faults;
+  write_faults = store.write_faults;
+  missing =
+      store.missing;
+  too_long = store.too_long;
+}
 
 -- how often the input failed
 abbrev pub input_faults : {R : Type 0} → HostInput R → ℕ

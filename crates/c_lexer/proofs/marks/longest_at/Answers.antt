@@ -8,11 +8,16 @@ pub returns-in-Some-digraph_at : goal.returns-in-Some-digraph_at
 returns-in-Some-digraph_at c = longest_digraph _ _ c.in_default.ensures c.in-Some-digraph_at.ensures
 
 pub returns-in-Some-spelled_at : goal.returns-in-Some-spelled_at
-returns-in-Some-spelled_at c = longest_two _ _ c.in_default.ensures c.in-Some-spelled_at.ensures.0 c.in-Some-spelled_at.ensures.1
+returns-in-Some-spelled_at c =
+    longest_two _ _ c.in_default.ensures c.in-Some-spelled_at.ensures.0 c.in-Some-spelled_at.ensures.1
 
 pub returns-in_err-mark : goal.returns-in_err-mark
 returns-in_err-mark c =
-    rw c.from_residual.ensures (none_at_all _ c.in_default.ensures c.in_default-digraph_at.ensures c.in_default-spelled_at.ensures c.in_err-mark.ensures)
+    rw c.from_residual.ensures
+    (none_at_all _ c.in_default.ensures c.in_default-digraph_at.ensures c.in_default-spelled_at.ensures
+    c.in_err-mark.ensures)
 
 pub returns : goal.returns
-returns c = longest_one _ _ c.in_default.ensures c.in_default-digraph_at.ensures c.in_default-spelled_at.ensures c.in_ok-mark.ensures.0 c.in_ok-mark.ensures.1
+returns c =
+    longest_one _ _ c.in_default.ensures c.in_default-digraph_at.ensures c.in_default-spelled_at.ensures
+    c.in_ok-mark.ensures.0 c.in_ok-mark.ensures.1

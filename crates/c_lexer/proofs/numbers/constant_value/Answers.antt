@@ -14,6 +14,9 @@ returns-then-text-eq88 c =
       | then-text-eq120 w ↦ inl w.if-text-eq120.true
       | else-text-eq120 w ↦ let shows = w.value-is in inr (grind (arith, nat_tests))
     ] in
-    let digits = subst (λ (ds : List ℕ). MatchOption c.value_in-then-text-eq88.result (AllPass is_hexadecimal_digit ds → number_in 16 ds ≤ 2147483647 → ⊥)
-    (λ (z : ℤ). AllPass is_hexadecimal_digit ds × (number_in 16 ds ≤ 2147483647) × (z ≡ pos (number_in 16 ds)))) (take_rest text 2) c.value_in-then-text-eq88.ensures in
+    let digits =
+    subst (λ (ds : List ℕ). MatchOption c.value_in-then-text-eq88.result (AllPass is_hexadecimal_digit ds
+    → number_in 16 ds ≤ 2147483647 → ⊥)
+    (λ (z : ℤ). AllPass is_hexadecimal_digit ds × (number_in 16 ds ≤ 2147483647) × (z ≡ pos (number_in 16 ds))))
+    (take_rest text 2) c.value_in-then-text-eq88.ensures in
     hexadecimal_result c.value_in-then-text-eq88.result text c.if-text-gt2.true c.if-text-ne48.false letter digits

@@ -11,4 +11,6 @@ returns-then-b-ne9-clause-count c =
 
 pub returns-clause-count : goal.returns-clause-count
 returns-clause-count c =
-    sym (prefix_len_is is_blank c.args.bytes.now (length c.args.bytes.now) 0 (omega arith) (λ k less. c.loop-i.invariant k (omega arith)) (λ (less : length c.args.bytes.now < length c.args.bytes.now). absurd (omega arith)))
+    sym (prefix_len_is is_blank c.args.bytes.now (length c.args.bytes.now) 0 (omega arith)
+    (λ k less. c.loop-i.invariant k (omega arith)) (λ (less : length c.args.bytes.now
+    < length c.args.bytes.now). absurd (omega arith)))

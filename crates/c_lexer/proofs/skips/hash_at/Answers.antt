@@ -20,7 +20,8 @@ returns-then-is_marker c =
     let line = behind_hash rest starts.0 end starts.1 count in
     let marker = subst IsMarker (line ∙ ap line_of starts.1) (c.is_marker.ensures.0 c.if-is_marker.true) in
     let begins = skipped_begins starts.0 marker in
-    let counted : end ≡ prefix_len no_newline (35 ∷ starts.0) = count ∙ ap (λ (bs : List ℕ). prefix_len no_newline bs) starts.1 in
+    let counted : end ≡ prefix_len no_newline (35 ∷ starts.0) =
+    count ∙ ap (λ (bs : List ℕ). prefix_len no_newline bs) starts.1 in
     subst (λ (f : Bool). Begins f rest end Skipped) (sym c.if-not-fresh.false)
     (subst (λ (bs : List ℕ). Begins true bs end Skipped) (sym starts.1)
     (subst (λ (n : ℕ). Begins true (35 ∷ starts.0) n Skipped) (sym counted) begins))
@@ -32,4 +33,5 @@ returns-else-is_marker c =
     let line = behind_hash rest starts.0 c.line_length-end.result starts.1 c.line_length-end.ensures.count in
     subst (λ (bs : List ℕ). NoneBegins c.args.fresh bs) (sym starts.1)
     (hash_begins_none c.args.fresh starts.0 (λ _ marker.
-    false≢true (sym c.if-is_marker.false ∙ c.is_marker.ensures.1 (subst IsMarker (sym (line ∙ ap line_of starts.1)) marker))))
+    false≢true
+    (sym c.if-is_marker.false ∙ c.is_marker.ensures.1 (subst IsMarker (sym (line ∙ ap line_of starts.1)) marker))))

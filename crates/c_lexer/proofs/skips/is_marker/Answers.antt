@@ -11,5 +11,7 @@ returns c =
     let behind = c.args.behind.now in
     let n = c.blank_count-blanks.result in
     let e : take (length behind - n) (drop n behind) ≡ drop (prefix_len is_blank behind) behind =
-    take_rest behind n ∙ ap (λ (k : ℕ). drop k behind) c.blank_count-blanks.ensures.count in
-    (λ holds. marker_from behind (subst IsDirective e (c.is_directive.ensures.0 holds)), λ marker. c.is_directive.ensures.1 (subst IsDirective (sym e) (marker_to behind marker)))
+    take_rest behind n ∙ ap (λ (k : ℕ). drop k behind) c.blank_count-blanks.ensures.count in (
+      λ holds. marker_from behind (subst IsDirective e (c.is_directive.ensures.0 holds)),
+      λ marker. c.is_directive.ensures.1 (subst IsDirective (sym e) (marker_to behind marker)),
+    )

@@ -13,4 +13,6 @@ differs r s w t is apart e same =
     cc
 
 pub loop-keyword-preserved : goal.loop-keyword-preserved
-loop-keyword-preserved c = more (λ k. keyword_text k ≢ c.args.word.now) _ c.loop-keyword.keyword-index _ (omega arith) c.loop-keyword.invariant (differs _ _ _ _ c.eq.ensures c.if-eq.false c.spelling.ensures)
+loop-keyword-preserved c =
+    more (λ k. keyword_text k ≢ c.args.word.now) _ c.loop-keyword.keyword-index _ (omega arith) c.loop-keyword.invariant
+    (differs _ _ _ _ c.eq.ensures c.if-eq.false c.spelling.ensures)

@@ -9,10 +9,13 @@ use Rattle.c_lexer.proofs.words.word_at.Goals.{in-Some, in-None+in_ok-from_slice
 pub returns : goal.returns
 returns c = λ fresh.
     let run = c.word_length-length.ensures in
-    let un = unprefixed c.args.rest.now _ _ c.starts_with.ensures.value c.if-starts_with.false c.starts_with-else-starts_with.ensures.value c.if-starts_with-2.false in
+    let un = unprefixed c.args.rest.now _ _ c.starts_with.ensures.value c.if-starts_with.false
+    c.starts_with-else-starts_with.ensures.value c.if-starts_with-2.false in
     let P : TokenKind → Type 0 = λ kind. Begins fresh c.args.rest.now c.word_length-length.result (Spelled kind) in
     elim c.match-keyword_of.branch [
-      | in-Some w ↦ subst P (sym w.kind-is) (keyword_begins fresh c.args.rest.now _ _ c.requires run.within run.longest un w.in-Some.ensures)
+      | in-Some w ↦
+          subst P (sym w.kind-is)
+          (keyword_begins fresh c.args.rest.now _ _ c.requires run.within run.longest un w.in-Some.ensures)
       | in-None+in_ok-from_slice-in-None w ↦
           let name = w.new.ensures ∙ w.in_ok-from_slice-in-None.ensures.items in
           subst P (sym (w.kind-is ∙ ap kinds.Ident name))

@@ -8,5 +8,6 @@ add-requires-clause-room c = omega (arith, items_size-take c.loop-item.item-inde
 
 pub loop-item-preserved : goal.loop-item-preserved
 loop-item-preserved c =
-    laid_step c.args.items.now.items c.deref-item-items.result.now c.loop-item.item-index _ c.loop-item.offsets c.add.new.offsets
+    laid_step c.args.items.now.items c.deref-item-items.result.now c.loop-item.item-index _ c.loop-item.offsets
+    c.add.new.offsets
     c.deref-item-items.ensures.value (omega arith) c.requires c.in_ok-add.ensures c.loop-item.invariant

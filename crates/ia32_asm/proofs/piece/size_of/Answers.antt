@@ -5,7 +5,9 @@ use Rattle.ia32_asm.proofs.Spelled.{spelled_some, length-piece, piece_some}
 use Rattle.ia32_asm.proofs.piece.size_of.Goals as goal
 
 pub encode-requires : goal.encode-requires
-encode-requires c = spelled_some (pos 0) c.args.item.now c.in-Some.insn (search rules) c.requires (sym c.instruction_in.ensures ∙ c.in-Some.is)
+encode-requires c =
+    spelled_some (pos 0) c.args.item.now c.in-Some.insn (search rules) c.requires
+    (sym c.instruction_in.ensures ∙ c.in-Some.is)
 
 pub returns-in-Some-clause-value : goal.returns-in-Some-clause-value
 returns-in-Some-clause-value c =

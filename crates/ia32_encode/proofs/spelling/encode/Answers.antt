@@ -6,4 +6,5 @@ use Rattle.ia32_encode.proofs.spelling.encode.Goals as goal
 
 pub returns-clause-spells : goal.returns-clause-spells
 returns-clause-spells c =
-    subst (λ (bytes : List ℕ). Spells c.args.insn.now bytes) (sym c.preferred_bytes.ensures.bytes) (preferred-spells c.args.insn.now c.preferred_bytes.ensures.range c.requires)
+    subst (λ (bytes : List ℕ). Spells c.args.insn.now bytes) (sym c.preferred_bytes.ensures.bytes)
+    (preferred-spells c.args.insn.now c.preferred_bytes.ensures.range c.requires)

@@ -5,5 +5,14 @@ use Rattle.pcc_outside.proofs.host.read_to_most.Goals as goal
 
 pub returns-else-len-most-clause-told : goal.returns-else-len-most-clause-told
 returns-else-len-most-clause-told g c =
-    let short : length c.read_to_end.new.buf.items < c.take-limited.result.limit = omega (arith, c.read_to_end.new.buf.ok, c.read_to_end.new.buf.small, c.saturating_add.ensures, c.take-limited.ensures.limit) in
-    whole_read g.R.Read.remaining c.args.reader c.take-limited.result.inner c.take-limited.result.limit c.new-bytes.result.items c.read_to_end.new.buf.items c.take-limited.ensures.inner c.new-bytes.ensures.items c.in-Ok.ensures.bytes short
+    let short : length c.read_to_end.new.buf.items < c.take-limited.result.limit =
+    omega (
+      arith,
+      c.read_to_end.new.buf.ok,
+      c.read_to_end.new.buf.small,
+      c.saturating_add.ensures,
+      c.take-limited.ensures.limit,
+    ) in
+    whole_read g.R.Read.remaining c.args.reader c.take-limited.result.inner c.take-limited.result.limit
+    c.new-bytes.result.items c.read_to_end.new.buf.items c.take-limited.ensures.inner c.new-bytes.ensures.items
+    c.in-Ok.ensures.bytes short
