@@ -1,17 +1,18 @@
 -- What lowering promises of the graphs of a program.
-use Rattle.std.specs.Prelude.{◌≡◌, ◌≢◌, ◌⊎◌, ◌<◌, ◌≤◌, ℕ, ◌+◌, ◌-◌, ◌*◌, ◌/◌, ◌^◌, max, ℤ, pos, neg_ℤ, ◌≤ℤ◌, ◌<ℤ◌, List, [], ◌∷◌, ◌++◌, length, map, slice_get, Some, sum_by}
-pub use Rattle.pcc_base.specs.Objects.{Object, object_of}
+use Rattle.std.specs.Prelude.{◌≡◌, ◌≢◌, ◌<◌, ◌≤◌, ℕ, ◌+◌, ◌*◌, ◌/◌, max, List, [], ◌∷◌, ◌++◌, length, map, slice_get, Some, sum_by}
+pub use Rattle.pcc_base.specs.Objects.{IsObject, Object, object_of}
 use Rattle.pcc_base.specs.declared.run.Width.{Width}
 use Rattle.pcc_base.specs.Outcome.{Listing}
 use Rattle.c_tree.specs.Evaluation.{source_outcome}
 use Rattle.c_tree.specs.Program.{StaticObject, LocalArray, Function, Program}
 use Rattle.c_tree.specs.Sizes.{bytes_of, frame_bound, size_of}
 use Rattle.flow_graph.specs.declared.op.Op.{Op}
-use Rattle.flow_graph.specs.declared.op.Op.TheVariants.{Call, Div, Get, Mark, Put, Rem, Sar, Shl, Static}
+use Rattle.flow_graph.specs.declared.op.Op.TheVariants.{Call, Div, Mark, Rem, Sar, Shl}
 use Rattle.flow_graph.specs.Graphs.{Every, Flow, IsDistinct, IsEnded}
 use Rattle.flow_graph.specs.Liveness.{BeginsWith, IsLiveAfter, IsLiveBefore}
 use Rattle.flow_graph.specs.Running.{GraphOutcome}
 use Rattle.flow_graph.specs.States.{GraphProgram}
+pub use Rattle.flow_graph.specs.WellFormed.{NamesWithin}
 use Rattle.c_lower.specs.declared.graphs.Graphs.{Graphs}
 use Rattle.c_lower.specs.Shown.{ListsLocals, local_widths, variables_shown}
 
@@ -96,14 +97,7 @@ pub record AreSmall (program : Program) (graphs : GraphProgram) : Type 0 where
 
 -- ---- names
 
--- the op names only functions and objects that are there
-abbrev pub NamesWithin : ℕ → ℕ → Op → Type 0
-NamesWithin functions objects (Call d f arguments) = f < functions
-NamesWithin functions objects (Static d k) = k < objects
-NamesWithin functions objects (Get bits d k) = k < objects
-NamesWithin functions objects (Put bits k s) = k < objects
-NamesWithin functions objects _ = Unit {0}
-
+-- every op names functions and objects of the program alone
 abbrev pub NamesItsOwn : GraphProgram → Type 0
 NamesItsOwn graphs = Every (λ flow. Every (NamesWithin (length graphs.functions) (length graphs.objects)) flow.ops) graphs.functions
 
@@ -132,14 +126,6 @@ first_object o = record { width = bytes_of o.element; elements = o.elements }
 -- the objects are the program's with their first contents
 abbrev pub HasObjects : Program → GraphProgram → Type 0
 HasObjects program graphs = graphs.objects ≡ map first_object program.objects
-
--- the elements of an object of so many bytes each are signed numbers of that width
-abbrev pub FitsBytes : ℕ → ℤ → Type 0
-FitsBytes width n = (neg_ℤ (pos (2 ^ (8 * width - 1))) ≤ℤ n) × (n <ℤ pos (2 ^ (8 * width - 1)))
-
--- an object has elements of 1, 2 or 4 bytes, at least one, and each is a signed number of that width
-abbrev pub IsObject : Object → Type 0
-IsObject o = ((o.width ≡ 1) ⊎ ((o.width ≡ 2) ⊎ (o.width ≡ 4))) × (1 ≤ length o.elements) × Every (FitsBytes o.width) o.elements
 
 abbrev pub AreObjects : GraphProgram → Type 0
 AreObjects graphs = Every IsObject graphs.objects

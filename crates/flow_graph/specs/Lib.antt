@@ -4,4 +4,5 @@ pub mod Lives
 pub mod Meaning
 pub mod Running
 pub mod States
+pub mod WellFormed
 pub mod Worked

@@ -1,5 +1,5 @@
 -- The states of a program of graphs.
-use Rattle.std.specs.Prelude.{ℕ, suc, ◌-◌, ◌==◌, ℤ, pos, negsuc, List, [], length, map, replicate, slice_get, slice_set}
+use Rattle.std.specs.Prelude.{ℕ, suc, ◌-◌, ◌==◌, ℤ, pos, negsuc, List, [], ◌∷◌, length, map, replicate, slice_get, slice_set}
 use Rattle.std.specs.Prelude.{slice_index_or, Option, Some, None, option_map, if◌then◌else◌}
 use Rattle.std.specs.Int.{w8, int_wrap}
 use Rattle.pcc_base.specs.Outcome.{ArrayName, Null, Static, InFrame, Unknown, Value, Number, Array}
@@ -125,6 +125,10 @@ abbrev pub width_of : GraphProgram → State → ℕ → Option Width
 width_of program s v = slice_get (flow_at program s.current.function).widths v
 
 -- ---- arrays
+
+-- the active calls, the youngest first
+abbrev pub active_of : State → List Activation
+active_of s = s.current ∷ map (λ w. w.activation) s.waiting
 
 -- how many calls are active
 abbrev pub depth_of : State → ℕ
