@@ -16,6 +16,7 @@ use Rattle.c_grammar.specs.Expressions.{Expr}
 use Rattle.c_grammar.specs.Statements.{ExternalTree, Stmts, NoStmt, OneStmt}
 use Rattle.c_tree.specs.declared.expression.BinaryOp.{BinaryOp}
 use Rattle.c_tree.specs.declared.expression.BinaryOp.TheVariants.{Add, Subtract}
+use Rattle.c_tree.specs.declared.types.IntegerType.TheVariants.{Int}
 use Rattle.c_tree.specs.Program.{int, Expression, Constant, Read, Binary, Assign, Putchar, LocalPlace, Scalar}
 use Rattle.c_tree.specs.Program.{Statement, Declare, Evaluate, Return, Statements, Done, Next, Local, Program}
 use Rattle.c_locals.specs.Shapes.{same, is_reserved, Rule, Declares, Assigns, Puts, Returns, Other, rule_of, main_items}
@@ -44,7 +45,7 @@ sign_of op = None
 abbrev pub IsAtom : List (List ℕ) → Expr → Expression → Type 0
 IsAtom names (trees.Identifier name) x = (v : ℕ) × (local_named names name.name ≡ Some v)
     × (x ≡ Read int (LocalPlace v))
-IsAtom names (trees.Number value at) x = x ≡ Constant value
+IsAtom names (trees.Number value at) x = x ≡ Constant Int value
 IsAtom names e x = ⊥
 
 -- sum : atom (('+' | '-') atom)*, grouped from the left (C99 6.5.6); an `int` (C99 6.3.1.8)

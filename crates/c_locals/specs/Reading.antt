@@ -5,6 +5,7 @@ use Rattle.c_grammar.specs.Expressions as trees
 use Rattle.c_grammar.specs.Expressions.{Expr}
 use Rattle.c_grammar.specs.Statements.{ExternalTree, Stmts, NoStmt, OneStmt}
 use Rattle.c_tree.specs.declared.expression.BinaryOp.{BinaryOp}
+use Rattle.c_tree.specs.declared.types.IntegerType.TheVariants.{Int}
 use Rattle.c_tree.specs.Program.{int, Expression, Constant, Read, Binary, Assign, Putchar, LocalPlace, Scalar}
 use Rattle.c_tree.specs.Program.{Statement, Declare, Evaluate, Return, Statements, Done, Next, Program}
 use Rattle.c_locals.specs.Shapes.{Rule, Declares, Assigns, Puts, Returns, Other, rule_of, main_items}
@@ -16,7 +17,7 @@ read_local (Some v) = Some (Read int (LocalPlace v))
 
 abbrev pub read_atom : List (List ℕ) → Expr → Option Expression
 read_atom names (trees.Identifier name) = read_local (local_named names name.name)
-read_atom names (trees.Number value at) = Some (Constant value)
+read_atom names (trees.Number value at) = Some (Constant Int value)
 read_atom names e = None
 
 -- both operands and the operator, where there are all of them

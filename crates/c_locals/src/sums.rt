@@ -55,7 +55,7 @@ fn atom(names: &Names, e: &RawExpression) -> Option<Expression>
             None => None,
             Some(local) => Some(Expression::Read(INT, Place::Local(local))),
         },
-        RawExpression::Number(value, _) => Some(Expression::Constant(*value)),
+        RawExpression::Number(value, _) => Some(Expression::Constant(IntegerType::Int, *value)),
         RawExpression::Text(_)
         | RawExpression::Parenthesised(_, _, _)
         | RawExpression::Call { .. }

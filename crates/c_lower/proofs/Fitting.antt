@@ -44,7 +44,7 @@ height-some e locals is = height-positive e locals is
 
 -- what holds of each op of a sum, if it holds of these
 pub every-sum : (P : Op → Type 0) (e : Expression) (locals d top : ℕ) → IsSum locals e → d + height e ≤ top → ((k : ℕ) (n : ℤ) → k < top → P (op.Const k n)) → ((k v : ℕ) → k < top → v < locals → P (op.Copy k v)) → ((k : ℕ) → suc k < top → P (op.Add k k (suc k))) → ((k : ℕ) → suc k < top → P (op.Sub k k (suc k))) → Every P (sum_ops d e)
-every-sum P (Constant n) locals d top is room c r a s = (c d n (omega (arith, room)), tt)
+every-sum P (Constant Int n) locals d top is room c r a s = (c d n (omega (arith, room)), tt)
 every-sum P (Read of (LocalPlace v)) locals d top is room c r a s = (r d v (omega (arith, room)) is, tt)
 every-sum P (Binary of binary.Add x y) locals d top is room c r a s =
     every-append P (sum_ops d x) _ (every-sum P x locals d top is.0 (omega (arith, room)) c r a s)
@@ -155,7 +155,7 @@ slots-body locals declared number _ is fewer = absurd is
 
 -- a sum is no higher than it is large, and has an op for each part
 sum-sizes : (locals d : ℕ) (e : Expression) → IsSum locals e → (height e ≤ expression_size e) × (length (sum_ops d e) ≡ expression_size e)
-sum-sizes locals d (Constant n) is = (omega arith, refl)
+sum-sizes locals d (Constant Int n) is = (omega arith, refl)
 sum-sizes locals d (Read of (LocalPlace v)) is = (omega arith, refl)
 sum-sizes locals d (Binary of binary.Add a b) is =
     let x = sum-sizes locals d a is.0 in
@@ -215,7 +215,7 @@ body-sizes locals declared number _ is = absurd is
 -- ---- marks
 
 sum-marks : (locals d : ℕ) (e : Expression) → IsSum locals e → marks_in (sum_ops d e) ≡ []
-sum-marks locals d (Constant n) is = refl
+sum-marks locals d (Constant Int n) is = refl
 sum-marks locals d (Read of (LocalPlace v)) is = refl
 sum-marks locals d (Binary of binary.Add a b) is =
     marks-append (sum_ops d a) (sum_ops (suc d) b ++ op.Add d d (suc d) ∷ [])

@@ -9,6 +9,7 @@ use Rattle.c_tree.specs.declared.expression.BinaryOp.TheVariants as binary
 use Rattle.c_tree.specs.declared.types.ValueType.{ValueType}
 use Rattle.c_tree.specs.Evaluation.{Calls, computed, evaluate}
 use Rattle.c_tree.specs.Operators.{binary_value}
+use Rattle.c_tree.specs.declared.types.IntegerType.TheVariants.{Int}
 use Rattle.c_tree.specs.Program.{Expression, Constant, Read, Binary, LocalPlace}
 use Rattle.c_tree.specs.Sizes.{height}
 use Rattle.c_tree.specs.Store as source
@@ -25,7 +26,7 @@ use Rattle.c_lower.proofs.GraphSteps.{Comes, at, const_step, copy_step, one_bloc
 
 -- the value of a sum, where the locals hold these values
 abbrev pub sum_value : List Held → Expression → ℤ
-sum_value values (Constant n) = n
+sum_value values (Constant of n) = n
 sum_value values (Read of (LocalPlace v)) = number_held (slice_get values v)
 sum_value values (Binary of binary.Add a b) = int_wrap w32 (sum_value values a +ℤ sum_value values b)
 sum_value values (Binary of binary.Subtract a b) = int_wrap w32 (sum_value values a -ℤ sum_value values b)
@@ -37,7 +38,7 @@ pub record Matches (locals : ℕ) (values : List Held) (variables : List Value) 
 
 -- more locals may be declared
 pub sum-more : (few many : ℕ) (e : Expression) → few ≤ many → IsSum few e → IsSum many e
-sum-more few many (Constant n) le is = tt
+sum-more few many (Constant Int n) le is = tt
 sum-more few many (Read of (LocalPlace v)) le is = omega (arith, is)
 sum-more few many (Binary of binary.Add a b) le is = (sum-more few many a le is.0, sum-more few many b le is.1)
 sum-more few many (Binary of binary.Subtract a b) le is = (sum-more few many a le is.0, sum-more few many b le is.1)
@@ -65,7 +66,7 @@ two_give calls of o a b s x y z ea eb ez =
 
 -- the value of a sum, which changes nothing
 pub sum_gives : (calls : Calls) (e : Expression) (locals : ℕ) (arrays objects : List (List ℤ)) (turns : ℕ) (left : List ℕ) (taken : ℕ) (written : List ℕ) (visits : List Visit) (values : List Held) (variables : List Value) → IsSum locals e → Matches locals values variables → evaluate calls e (running arrays objects turns left taken written visits values) ≡ Gives (HoldsNumber (sum_value values e)) (running arrays objects turns left taken written visits values)
-sum_gives calls (Constant n) locals arrays objects turns left taken written visits values variables is matches = refl
+sum_gives calls (Constant Int n) locals arrays objects turns left taken written visits values variables is matches = refl
 sum_gives calls (Read of (LocalPlace v)) locals arrays objects turns left taken written visits values variables is matches =
     let (n, held, there) = matches.same v is in
     let s = running arrays objects turns left taken written visits values in
@@ -82,7 +83,7 @@ sum_gives calls _ locals arrays objects turns left taken written visits values v
 
 -- a sum takes a temporary
 pub height-positive : (e : Expression) (locals : ℕ) → IsSum locals e → 0 < height e
-height-positive (Constant n) locals is = omega arith
+height-positive (Constant Int n) locals is = omega arith
 height-positive (Read of (LocalPlace v)) locals is = omega arith
 height-positive (Binary of binary.Add a b) locals is = omega (arith, height-positive a locals is.0)
 height-positive (Binary of binary.Subtract a b) locals is = omega (arith, height-positive a locals is.0)
@@ -132,7 +133,7 @@ module _ (variables : ℕ) (ops : List Op) (listing : Listing) where
       subst (λ (k : ℕ). Puts d p k (f x y) before) len whole
 
   pub sum_puts : (e : Expression) (locals d p : ℕ) (values : List Held) (before : List Value) → IsSum locals e → HasAt ops p (sum_ops d e) → p + length (sum_ops d e) < length ops → locals ≤ d → d + height e ≤ variables → length before ≡ variables → Matches locals values before → Puts d p (p + length (sum_ops d e)) (sum_value values e) before
-  sum_puts (Constant n) locals d p values before is has more le room long matches =
+  sum_puts (Constant Int n) locals d p values before is has more le room long matches =
       let there : d < variables = omega (arith, room) in
       let next : suc p < length ops = omega (arith, more) in
       put_one d p n before long there (λ turns left taken written o r. const_step variables ops listing p d turns n before left taken written o has.0 next there r)

@@ -15,7 +15,7 @@ use Rattle.flow_graph.specs.States.{GraphProgram}
 -- The value of a sum into a variable, by temporaries from that variable on: the left operand into the
 -- variable itself, and the right one into the next. Each reading of a local is an op that uses its variable.
 abbrev pub sum_ops : ℕ → Expression → List Op
-sum_ops d (Constant n) = op.Const d n ∷ []
+sum_ops d (Constant of n) = op.Const d n ∷ []
 sum_ops d (Read of (LocalPlace v)) = op.Copy d v ∷ []
 sum_ops d (Binary of binary.Add a b) = sum_ops d a ++ (sum_ops (suc d) b ++ op.Add d d (suc d) ∷ [])
 sum_ops d (Binary of binary.Subtract a b) = sum_ops d a ++ (sum_ops (suc d) b ++ op.Sub d d (suc d) ∷ [])

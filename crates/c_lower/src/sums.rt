@@ -17,7 +17,7 @@ pub fn height(locals: u32, sum: &Expression) -> u32
     ensures { result ≡ sizes.height (expression_of sum.now) }
 {
     match sum {
-        Expression::Constant(_) | Expression::Read(_, Place::Local(_)) => 1,
+        Expression::Constant(_, _) | Expression::Read(_, Place::Local(_)) => 1,
         Expression::Binary(_, BinaryOp::Add | BinaryOp::Subtract, left, right) => {
             let left_height = height(locals, left);
             left_height.max(height(locals, right) + 1)
@@ -33,7 +33,7 @@ pub fn emit_sum(ops: &mut Vec<Op>, locals: u32, into: u32, sum: &Expression) -> 
     ensures { OnOk result (ops.new.items ≡ ops.old.items ++ sum_ops into (expression_of sum.now)) }
 {
     match sum {
-        Expression::Constant(number) => emit(ops, Op::Const(into, *number)),
+        Expression::Constant(_, number) => emit(ops, Op::Const(into, *number)),
         Expression::Read(_, Place::Local(local)) => emit(ops, Op::Copy(into, *local)),
         Expression::Binary(_, BinaryOp::Add, left, right) => {
             emit_sum(ops, locals, into, left)?;

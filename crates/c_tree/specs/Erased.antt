@@ -22,11 +22,11 @@ use Rattle.c_tree.specs.Program as typed
 
 abbrev mutual
   pub expression_of : Expression → typed.Expression
-  expression_of (built.Constant n) = typed.Constant n
+  expression_of (built.Constant of n) = typed.Constant of n
   expression_of (built.Start element array) = typed.Start element array
   expression_of (built.Read of place) = typed.Read of (place_of place)
   expression_of (built.Address element place) = typed.Address element (place_of place)
-  expression_of (built.Unary' op p e) = typed.Unary op (expression_of e)
+  expression_of (built.Unary' of op p e) = typed.Unary of op (expression_of e)
   expression_of (built.Binary' of op p a q b) = typed.Binary of op (expression_of a) (expression_of b)
   expression_of (built.And' p a q b) = typed.And (expression_of a) (expression_of b)
   expression_of (built.Or' p a q b) = typed.Or (expression_of a) (expression_of b)
@@ -58,7 +58,7 @@ initialiser_of (initialisers.Text k) = typed.Text k
 
 abbrev pub item_of : Item → typed.Item
 item_of (items.Scalar number local value) = typed.Scalar number local (option_map expression_of value)
-item_of (items.Array number array value) = typed.Array number array (initialiser_of value)
+item_of (items.Array number array element value) = typed.Array number array element (initialiser_of value)
 
 abbrev pub first_of : First → typed.First
 first_of firsts.Nothing = typed.Nothing

@@ -10,7 +10,9 @@ use Rattle.pcc_base.specs.declared.run.Trap.TheVariants.{Check}
 use Rattle.c_tree.specs.declared.expression.BinaryOp.{BinaryOp}
 use Rattle.c_tree.specs.declared.expression.BinaryOp.TheVariants.{Add}
 use Rattle.c_tree.specs.declared.statement.Label.{Label}
+use Rattle.c_tree.specs.declared.types.IntegerType.{IntegerType}
 use Rattle.c_tree.specs.declared.types.ValueType.{ValueType}
+use Rattle.c_tree.specs.declared.types.ValueType.TheVariants.{Integer}
 use Rattle.c_tree.specs.Operators.{Computed, Computes, Traps, is_true, unary_value, binary_value, step_op, step_result}
 use Rattle.c_tree.specs.Program.{Expression, Constant, Start, Read, Address, Unary, Binary, And, Or, Conditional, Cast}
 use Rattle.c_tree.specs.Program.{Assign, Update, Step, Comma, Call, Putchar, Getchar, Exit, Place, LocalPlace}
@@ -18,9 +20,9 @@ use Rattle.c_tree.specs.Program.{StaticPlace, Target, Element, Arguments, NoMore
 use Rattle.c_tree.specs.Program.{Item, Scalar, Array, First, Nothing, Evaluated as EvaluatedFirst, Declared, Statement}
 use Rattle.c_tree.specs.Program.{Declare, Empty, Evaluate, Block, If, While, Do, For, Switch, Break, Continue, Return}
 use Rattle.c_tree.specs.Program.{Statements, Done, Next, Local, Function, Program}
-use Rattle.c_tree.specs.Store.{Held, HoldsNumber, HoldsPointer, in_type, zero_of, Activation, State, held, with_local}
-use Rattle.c_tree.specs.Store.{array_named, with_array, array_of, element_at, with_element, first_values, first_array}
-use Rattle.c_tree.specs.Store.{visited, Evaluated, Gives, Ends, and_then, take_turn}
+use Rattle.c_tree.specs.Store.{Held, HoldsNumber, HoldsPointer, converted, in_type, zero_of, Activation, State, held}
+use Rattle.c_tree.specs.Store.{with_local, array_named, with_array, array_of, element_at, with_element, first_values}
+use Rattle.c_tree.specs.Store.{first_array, visited, Evaluated, Gives, Ends, and_then, take_turn}
 
 -- ---- places
 
@@ -102,11 +104,11 @@ updated of op found old value s = and_then (computed (binary_value op old value)
 
 abbrev mutual
   pub evaluate : Calls → Expression → State → Evaluated Held
-  evaluate calls (Constant n) s = Gives (HoldsNumber n) s
+  evaluate calls (Constant of n) s = Gives (HoldsNumber (converted of n)) s
   evaluate calls (Start element array) s = Gives (HoldsPointer (array_of s array) (pos 0)) s
   evaluate calls (Read of place) s = and_then (locate calls place s) load
   evaluate calls (Address element place) s = and_then (locate calls place s) (λ found s'. Gives (address_of found) s')
-  evaluate calls (Unary op e) s = and_then (evaluate calls e s) (λ v s'. Gives (unary_value op v) s')
+  evaluate calls (Unary of op e) s = and_then (evaluate calls e s) (λ v s'. Gives (unary_value of op v) s')
   evaluate calls (Binary of op a b) s =
       and_then (evaluate calls a s) (λ x s'.
       and_then (evaluate calls b s') (λ y s''. computed (binary_value op x y) s''))
@@ -154,12 +156,14 @@ abbrev mutual
 
 -- ---- declared items (C99 6.7.8)
 
--- the elements of an array, in order from a place on
-abbrev pub fill : Calls → ArrayName → ℕ → List Expression → State → Evaluated Unit
-fill calls array i [] s = Gives tt s
-fill calls array i (e ∷ es) s =
+-- The elements of an array, in order from a place on. Each is converted to their type, as an assignment to it is
+-- (C99 6.7.8p11 and 6.5.16.1p2).
+abbrev pub fill : Calls → ArrayName → IntegerType → ℕ → List Expression → State → Evaluated Unit
+fill calls array element i [] s = Gives tt s
+fill calls array element i (e ∷ es) s =
     and_then (evaluate calls e s) (λ v s'.
-    and_then (store (AtIndex array (pos i)) v s') (λ stored s''. fill calls array (suc i) es s''))
+    and_then (store (AtIndex array (pos i)) (in_type (Integer element) v) s')
+    (λ stored s''. fill calls array element (suc i) es s''))
 
 -- a text's elements, and zeros after them
 abbrev pub text_then_zeros : List ℤ → List ℤ → List ℤ
@@ -167,9 +171,9 @@ text_then_zeros [] text = []
 text_then_zeros (n ∷ ns) [] = pos 0 ∷ text_then_zeros ns []
 text_then_zeros (n ∷ ns) (c ∷ cs) = c ∷ text_then_zeros ns cs
 
-abbrev pub initialise : Calls → ArrayName → Initialiser → State → Evaluated Unit
-initialise calls array (Elements first) s = fill calls array 0 first s
-initialise calls array (Text k) s = Gives tt
+abbrev pub initialise : Calls → ArrayName → IntegerType → Initialiser → State → Evaluated Unit
+initialise calls array element (Elements first) s = fill calls array element 0 first s
+initialise calls array element (Text k) s = Gives tt
     (with_array array (text_then_zeros (array_named s array) (array_named s (Static k))) s)
 
 -- A local is 0 or null, and an array zero, each time its declaration runs, before its initialiser is
@@ -194,8 +198,8 @@ abbrev pub declare : Calls → Listing → Types → Item → State → Evaluate
 declare calls listing types (Scalar number local value) s =
     initialise_local calls local (types local) value
     (with_local local (zero_of (types local)) (visited listing number s))
-declare calls listing types (Array number k value) s =
-    initialise calls (own_array s k) value
+declare calls listing types (Array number k element value) s =
+    initialise calls (own_array s k) element value
     (with_array (own_array s k) (zeroed (array_named s (own_array s k))) (visited listing number s))
 
 abbrev pub declare_all : Calls → Listing → Types → List Item → State → Evaluated Unit

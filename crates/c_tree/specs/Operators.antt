@@ -16,7 +16,8 @@ use Rattle.c_tree.specs.declared.expression.StepOp.TheVariants.{PreIncrement, Pr
 use Rattle.c_tree.specs.declared.expression.StepOp.TheVariants.{PostDecrement}
 use Rattle.c_tree.specs.declared.expression.UnaryOp.{UnaryOp}
 use Rattle.c_tree.specs.declared.expression.UnaryOp.TheVariants.{Plus, Minus, Complement, Not}
-use Rattle.c_tree.specs.Store.{Held, HoldsNumber, HoldsPointer}
+use Rattle.c_tree.specs.declared.types.IntegerType.{IntegerType}
+use Rattle.c_tree.specs.Store.{Held, HoldsNumber, HoldsPointer, converted}
 
 -- an operator gives a value, or traps
 pub data Computed : Type 0 where
@@ -51,10 +52,12 @@ unary_number Minus n = int_wrap w32 (neg_ℤ n)
 unary_number Complement n = int_bit_not w32 n
 unary_number Not n = if int_eq n (pos 0) then pos 1 else pos 0
 
-abbrev pub unary_value : UnaryOp → Held → Held
-unary_value op (HoldsNumber n) = HoldsNumber (unary_number op n)
-unary_value Not (HoldsPointer array index) = HoldsNumber (if is_true (HoldsPointer array index) then pos 0 else pos 1)
-unary_value _ (HoldsPointer array index) = HoldsNumber (pos 0)
+-- The result is converted to its type.
+abbrev pub unary_value : IntegerType → UnaryOp → Held → Held
+unary_value of op (HoldsNumber n) = HoldsNumber (converted of (unary_number op n))
+unary_value of Not (HoldsPointer array index) = HoldsNumber
+    (if is_true (HoldsPointer array index) then pos 0 else pos 1)
+unary_value of _ (HoldsPointer array index) = HoldsNumber (pos 0)
 
 -- ---- two numbers (C99 6.5.5 to 6.5.12)
 

@@ -13,8 +13,8 @@ use Rattle.c_tree.specs.declared.statement.Label.{Label}
 mutual
   -- An expression. Each has a type: the first part of those whose type isn't settled by their form.
   pub data Expression : Type 0 where
-    -- a constant, an `int` (C99 6.4.4)
-    Constant : (value : ℤ) → Expression
+    -- a constant (C99 6.4.4)
+    Constant : (of : IntegerType) (value : ℤ) → Expression
     -- the name of an array or a string literal: a pointer to its first element (C99 6.3.2.1)
     Start : (element : IntegerType) (array : ArrayRef) → Expression
     -- the value of a place (C99 6.3.2.1)
@@ -22,7 +22,7 @@ mutual
     -- `&` of an element (C99 6.5.3.2)
     Address : (element : IntegerType) (place : Place) → Expression
     -- `+`, `-`, `~` and `!` (C99 6.5.3.3)
-    Unary : (op : UnaryOp) (operand : Expression) → Expression
+    Unary : (of : IntegerType) (op : UnaryOp) (operand : Expression) → Expression
     -- the operators that evaluate both operands (C99 6.5.5 to 6.5.12)
     Binary : (of : ValueType) (op : BinaryOp) (left right : Expression) → Expression
     -- `&&` and `||` (C99 6.5.13 and 6.5.14)
@@ -64,11 +64,11 @@ abbrev pub int : ValueType
 int = Integer Int
 
 abbrev pub value_type : Expression → ValueType
-value_type (Constant n) = int
+value_type (Constant of n) = Integer of
 value_type (Start element array) = Pointer element
 value_type (Read of place) = of
 value_type (Address element place) = Pointer element
-value_type (Unary op e) = int
+value_type (Unary of op e) = Integer of
 value_type (Binary of op a b) = of
 value_type (And a b) = int
 value_type (Or a b) = int
@@ -88,10 +88,11 @@ pub data Initialiser : Type 0 where
   Elements : (first : List Expression) → Initialiser
   Text : (object : ℕ) → Initialiser
 
--- A declared item, with its number: a local that is no array, by its number, or an array, by its number.
+-- A declared item, with its number: a local that is no array, by its number, or an array, by its number,
+-- with the type of its elements.
 pub data Item : Type 0 where
   Scalar : (number local : ℕ) (value : Option Expression) → Item
-  Array : (number array : ℕ) (value : Initialiser) → Item
+  Array : (number array : ℕ) (element : IntegerType) (value : Initialiser) → Item
 
 -- the first part of a `for` (C99 6.8.5.3)
 pub data First : Type 0 where

@@ -2,7 +2,6 @@
 use Rattle.std.specs.Prelude.{ℕ, suc, ◌+◌, ◌*◌, ◌/◌, max, List, [], ◌∷◌, length, Option, Some, None, sum_by}
 use Rattle.c_tree.specs.declared.types.IntegerType.{IntegerType}
 use Rattle.c_tree.specs.declared.types.IntegerType.TheVariants.{Char, Short, Int}
-use Rattle.c_tree.specs.declared.statement.Label.{Label}
 use Rattle.c_tree.specs.Program.{Expression, Constant, Start, Read, Address, Unary, Binary, And, Or, Conditional, Cast}
 use Rattle.c_tree.specs.Program.{Assign, Update, Step, Comma, Call, Putchar, Getchar, Exit, Place, LocalPlace}
 use Rattle.c_tree.specs.Program.{StaticPlace, Target, Element, Arguments, NoMore, Argument, Initialiser, Elements, Text}
@@ -10,16 +9,16 @@ use Rattle.c_tree.specs.Program.{Item, Scalar, Array, First, Nothing, Evaluated,
 use Rattle.c_tree.specs.Program.{Evaluate, Block, If, While, Do, For, Switch, Break, Continue, Return, Statements, Done}
 use Rattle.c_tree.specs.Program.{Next, LocalArray, Function, Program}
 
--- ---- sizes: how many expressions, places, statements, declared items, labels and functions there are. Each
--- has a token of its own in the text.
+-- ---- sizes: how many expressions, places, statements, declared items, labels, parameters and functions there
+-- are. Each has a token of its own in the text.
 
 abbrev mutual
   pub expression_size : Expression → ℕ
-  expression_size (Constant n) = 1
+  expression_size (Constant of n) = 1
   expression_size (Start element array) = 1
   expression_size (Read of place) = place_size place
   expression_size (Address element place) = suc (place_size place)
-  expression_size (Unary op e) = suc (expression_size e)
+  expression_size (Unary of op e) = suc (expression_size e)
   expression_size (Binary of op a b) = suc (expression_size a + expression_size b)
   expression_size (And a b) = suc (expression_size a + expression_size b)
   expression_size (Or a b) = suc (expression_size a + expression_size b)
@@ -54,7 +53,7 @@ initialiser_size (Text k) = 0
 
 abbrev pub item_size : Item → ℕ
 item_size (Scalar n v value) = suc (option_size value)
-item_size (Array n k value) = suc (initialiser_size value)
+item_size (Array n k element value) = suc (initialiser_size value)
 
 abbrev pub first_size : First → ℕ
 first_size Nothing = 0
@@ -82,7 +81,7 @@ abbrev mutual
   statements_size (Next s others) = statement_size s + statements_size others
 
 abbrev pub function_size : Function → ℕ
-function_size f = suc (statements_size f.body)
+function_size f = suc (f.parameters + statements_size f.body)
 
 abbrev pub size_of : Program → ℕ
 size_of program = sum_by function_size program.functions
@@ -91,11 +90,11 @@ size_of program = sum_by function_size program.functions
 
 abbrev mutual
   pub height : Expression → ℕ
-  height (Constant n) = 1
+  height (Constant of n) = 1
   height (Start element array) = 1
   height (Read of place) = place_height place
   height (Address element place) = suc (place_height place)
-  height (Unary op e) = suc (height e)
+  height (Unary of op e) = suc (height e)
   height (Binary of op a b) = max (height a) (suc (height b))
   height (And a b) = max (height a) (height b)
   height (Or a b) = max (height a) (height b)
@@ -136,8 +135,8 @@ highest by (e ∷ es) = max (height e + by) (highest by es)
 
 abbrev pub item_height : Item → ℕ
 item_height (Scalar n v value) = raised 1 value
-item_height (Array n k (Elements first)) = highest 2 first
-item_height (Array n k (Text object)) = 0
+item_height (Array n k element (Elements first)) = highest 2 first
+item_height (Array n k element (Text object)) = 0
 
 abbrev pub items_height : List Item → ℕ
 items_height [] = 0

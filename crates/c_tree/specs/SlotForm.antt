@@ -12,7 +12,7 @@ use Rattle.c_tree.specs.Sizes.{size_of}
 
 -- a sum of constants and locals, of which so many are declared
 abbrev pub IsSum : ℕ → Expression → Type 0
-IsSum declared (Constant n) = Unit {0}
+IsSum declared (Constant Int n) = Unit {0}
 IsSum declared (Read of (LocalPlace v)) = v < declared
 IsSum declared (Binary of Add a b) = IsSum declared a × IsSum declared b
 IsSum declared (Binary of Subtract a b) = IsSum declared a × IsSum declared b

@@ -1,6 +1,6 @@
 -- What a program holds while it runs, and how far it has come (C99 5.1.2.3 and 6.2.4).
-use Rattle.std.specs.Prelude.{ℕ, zero, suc, ◌-◌, ℤ, pos, negsuc, List, [], ◌∷◌, ◌++◌, length, map, replicate, slice_get}
-use Rattle.std.specs.Prelude.{slice_set, slice_index_or, Option, Some, None}
+use Rattle.std.specs.Prelude.{ℕ, zero, suc, ◌==◌, ℤ, pos, negsuc, List, [], ◌∷◌, ◌++◌, length, map, replicate, slice_get}
+use Rattle.std.specs.Prelude.{slice_set, slice_index_or, Option, Some, None, if◌then◌else◌}
 use Rattle.std.specs.Int.{w8, w16, int_wrap}
 use Rattle.pcc_base.specs.Outcome.{End, Goes, Trapped, ArrayName, Value, Number, Part, Visit, Listing}
 use Rattle.pcc_base.specs.Outcome as outcome
@@ -92,30 +92,30 @@ abbrev pub arrays_in : Option Activation → List (List ℤ)
 arrays_in None = []
 arrays_in (Some a) = a.arrays
 
--- the place among the active calls of the one of a depth
-abbrev pub place_of_depth : List Activation → ℕ → ℕ
-place_of_depth active depth = length active - depth
+-- the active call of a depth, where there is one
+abbrev pub call_of_depth : List Activation → ℕ → Option Activation
+call_of_depth [] depth = None
+call_of_depth (a ∷ others) depth = if depth == suc (length others) then Some a else call_of_depth others depth
 
 abbrev pub array_named : State → ArrayName → List ℤ
 array_named s outcome.Null = []
 array_named s (outcome.Static k) = slice_index_or s.objects k []
-array_named s (outcome.InFrame k depth) = slice_index_or
-    (arrays_in (slice_get s.active (place_of_depth s.active depth))) k []
+array_named s (outcome.InFrame k depth) = slice_index_or (arrays_in (call_of_depth s.active depth)) k []
 array_named s outcome.Unknown = []
 
-abbrev pub with_array_in : ℕ → List ℤ → ℕ → Option Activation → List Activation → List Activation
-with_array_in k elements place None active = active
-with_array_in k elements place (Some a) active = slice_set active place
-    (record { values = a.values; arrays = slice_set a.arrays k elements })
+abbrev pub with_own : ℕ → List ℤ → Activation → Activation
+with_own k elements a = record { values = a.values; arrays = slice_set a.arrays k elements }
+
+-- the active calls, with these elements in an array of the one of a depth, where there is one
+abbrev pub with_array_in : ℕ → ℕ → List ℤ → List Activation → List Activation
+with_array_in k depth elements [] = []
+with_array_in k depth elements (a ∷ others) = if depth == suc (length others) then with_own k elements a ∷ others
+    else a ∷ with_array_in k depth elements others
 
 abbrev pub with_array : ArrayName → List ℤ → State → State
 with_array outcome.Null elements s = s
 with_array (outcome.Static k) elements s = record s { objects = slice_set s.objects k elements }
-with_array (outcome.InFrame k depth) elements s =
-    record s {
-      active = with_array_in k elements (place_of_depth s.active depth)
-          (slice_get s.active (place_of_depth s.active depth)) s.active;
-    }
+with_array (outcome.InFrame k depth) elements s = record s { active = with_array_in k depth elements s.active }
 with_array outcome.Unknown elements s = s
 
 -- the array that a function names, in its youngest call

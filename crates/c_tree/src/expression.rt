@@ -9,7 +9,7 @@ use crate::types::{IntegerType, ValueType};
 use pcc_base::NoMemory;
 use std::alloc::Global;
 
-/// The operators on one operand (C99 6.5.3.3). Their result is an `int`.
+/// The operators on one operand (C99 6.5.3.3).
 #[derive(Clone, Copy, Debug, PartialEq, Eq)]
 pub enum UnaryOp {
     Plus,
@@ -61,16 +61,16 @@ pub enum ArrayRef {
 #[cycle(expression)]
 #[derive(Drop)]
 pub enum Expression {
-    /// A constant, an `int` (C99 6.4.4).
-    Constant(i32),
+    /// A constant (C99 6.4.4).
+    Constant(IntegerType, i32),
     /// The name of an array or a string literal: a pointer to its first element (C99 6.3.2.1).
     Start(IntegerType, ArrayRef),
     /// The value of a place (C99 6.3.2.1).
     Read(ValueType, Place),
     /// `&` of an element, a pointer (C99 6.5.3.2).
     Address(IntegerType, Place),
-    /// An `int`.
-    Unary(UnaryOp, Box<Expression>),
+    /// An operator on one operand, with the type of its result (C99 6.5.3.3).
+    Unary(IntegerType, UnaryOp, Box<Expression>),
     Binary(ValueType, BinaryOp, Box<Expression>, Box<Expression>),
     /// `&&`, an `int` (C99 6.5.13).
     And(Box<Expression>, Box<Expression>),
@@ -112,11 +112,16 @@ pub enum Place {
 }
 
 impl Expression {
-    /// An operator on one operand.
-    pub fn unary(alloc: Global, op: UnaryOp, operand: Expression) -> Result<Self, NoMemory>
-        ensures { IfOk result (λ e. expression_of e ≡ typed.Unary op (expression_of operand)) }
+    /// An operator on one operand, with the type of its result.
+    pub fn unary(
+        alloc: Global,
+        of: IntegerType,
+        op: UnaryOp,
+        operand: Expression,
+    ) -> Result<Self, NoMemory>
+        ensures { IfOk result (λ e. expression_of e ≡ typed.Unary of op (expression_of operand)) }
     {
-        Ok(Expression::Unary(op, Box::new(alloc, operand)?))
+        Ok(Expression::Unary(of, op, Box::new(alloc, operand)?))
     }
 
     /// An operator on two operands, with the type of its result.
@@ -241,11 +246,10 @@ impl Expression {
             Expression::Start(element, _) | Expression::Address(element, _) => {
                 ValueType::Pointer(*element)
             }
+            Expression::Constant(of, _) | Expression::Unary(of, _, _) => ValueType::Integer(*of),
             Expression::Comma(_, right) => right.value_type(),
             Expression::Exit(_) => ValueType::Void,
-            Expression::Constant(_)
-            | Expression::Unary(_, _)
-            | Expression::And(_, _)
+            Expression::And(_, _)
             | Expression::Or(_, _)
             | Expression::Putchar(_)
             | Expression::Getchar => ValueType::Integer(IntegerType::Int),

@@ -6,6 +6,7 @@ ghost use Rattle.c_tree.specs.Erased.{expression_of, first_of, statement_of};
 ghost use Rattle.c_tree.specs.Program as typed;
 
 use crate::expression::Expression;
+use crate::types::IntegerType;
 use pcc_base::NoMemory;
 use std::alloc::Global;
 
@@ -23,8 +24,8 @@ pub enum Initialiser {
 pub enum Item {
     /// A local that is no array, by its number, and its initialiser.
     Scalar(u32, u32, Option<Expression>),
-    /// An array of the function, by its number.
-    Array(u32, u32, Initialiser),
+    /// An array of the function, by its number, the type of its elements, and what it holds at first.
+    Array(u32, u32, IntegerType, Initialiser),
 }
 
 /// The first part of a `for` (C99 6.8.5.3).

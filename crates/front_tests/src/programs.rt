@@ -11,7 +11,7 @@ use std::test::Fail;
 /// The value of a sum where each local is 10.
 fn value_of(e: &Expression) -> i32 {
     match e {
-        Expression::Constant(n) => *n,
+        Expression::Constant(_, n) => *n,
         Expression::Read(_, _) => 10,
         Expression::Binary(_, BinaryOp::Add, left, right) => value_of(left).wrapping_add(value_of(
             right,

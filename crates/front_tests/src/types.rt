@@ -9,7 +9,12 @@ fn type_of_a_comma(rt: HostRuntime) -> Result<(), Fail> {
     let alloc = rt.alloc();
     let char_type = ValueType::Integer(IntegerType::Char);
     let array = Expression::Start(IntegerType::Short, ArrayRef::Frame(0));
-    let place = Place::element(alloc, IntegerType::Short, array, Expression::Constant(2))?;
+    let place = Place::element(
+        alloc,
+        IntegerType::Short,
+        array,
+        Expression::Constant(IntegerType::Int, 2),
+    )?;
     let left = Expression::Read(char_type, Place::Local(0));
     assert_eq!(rt; left.value_type(), char_type);
     let right = Expression::Address(IntegerType::Short, place);

@@ -71,7 +71,11 @@ fn two_statements(rt: HostRuntime) -> Result<(), Fail> {
         of: INT,
     })?;
     let mut body = Vec::new(alloc);
-    body.push(Statement::Declare(Item::Scalar(0, 0, Some(Expression::Constant(70)))))?;
+    body.push(Statement::Declare(Item::Scalar(
+        0,
+        0,
+        Some(Expression::Constant(IntegerType::Int, 70)),
+    )))?;
     body.push(Statement::Return(1, Some(Expression::Read(INT, Place::Local(0)))))?;
     let ops = [
         "Turn",
@@ -90,12 +94,12 @@ fn two_statements(rt: HostRuntime) -> Result<(), Fail> {
 #[test]
 fn difference(rt: HostRuntime) -> Result<(), Fail> {
     let alloc = rt.alloc();
-    let five = Expression::Constant(5);
-    let three = Expression::Constant(3);
+    let five = Expression::Constant(IntegerType::Int, 5);
+    let three = Expression::Constant(IntegerType::Int, 3);
     let sum = Expression::binary(alloc, INT, BinaryOp::Subtract, five, three)?;
     let mut body = Vec::new(alloc);
     body.push(Statement::Expression(0, Expression::putchar(alloc, sum)?))?;
-    body.push(Statement::Return(1, Some(Expression::Constant(0))))?;
+    body.push(Statement::Return(1, Some(Expression::Constant(IntegerType::Int, 0))))?;
     let ops = [
         "Turn",
         "Mark(0)",
@@ -115,7 +119,7 @@ fn difference(rt: HostRuntime) -> Result<(), Fail> {
 fn one_return(rt: HostRuntime) -> Result<(), Fail> {
     let alloc = rt.alloc();
     let mut body = Vec::new(alloc);
-    body.push(Statement::Return(0, Some(Expression::Constant(300))))?;
+    body.push(Statement::Return(0, Some(Expression::Constant(IntegerType::Int, 300))))?;
     let ops = ["Turn", "Mark(0)", "Const(0, 300)", "Return(Some(0))"];
     expect_lowered(&rt, alloc, Vec::new(alloc), body, &ops)
 }

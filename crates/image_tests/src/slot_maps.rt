@@ -64,10 +64,16 @@ fn two_locals(rt: HostRuntime) -> Result<(), Fail> {
     let alloc = rt.alloc();
     let locals = vec![in alloc; int!(alloc b"x"), int!(alloc b"y")]?;
     let x = Expression::Read(INT, Place::Local(0));
-    let less = Expression::binary(alloc, INT, BinaryOp::Subtract, x, Expression::Constant(1))?;
+    let less = Expression::binary(
+        alloc,
+        INT,
+        BinaryOp::Subtract,
+        x,
+        Expression::Constant(IntegerType::Int, 1),
+    )?;
     let put = Expression::putchar(alloc, Expression::Read(INT, Place::Local(1)))?;
     let body = vec![in alloc;
-        Statement::Declare(Item::Scalar(0, 0, Some(Expression::Constant(70)))),
+        Statement::Declare(Item::Scalar(0, 0, Some(Expression::Constant(IntegerType::Int, 70)))),
         Statement::Declare(Item::Scalar(1, 1, Some(less))),
         Statement::Expression(2, put),
         Statement::Return(3, Some(Expression::Read(INT, Place::Local(0)))),

@@ -22,7 +22,13 @@ fn sum(alloc: Global, number: i32) -> Result<Expression, NoMemory>
     ensures { IfOk result (λ e. expression_of e ≡ worked_sum number) }
 {
     let x = Expression::Read(INT, Place::Local(0));
-    Expression::binary(alloc, INT, BinaryOp::Add, x, Expression::Constant(number))
+    Expression::binary(
+        alloc,
+        INT,
+        BinaryOp::Add,
+        x,
+        Expression::Constant(IntegerType::Int, number),
+    )
 }
 
 /// `int x = 70; x = x + 1; putchar(x); return x + 229;`
@@ -33,7 +39,11 @@ fn body(alloc: Global) -> Result<Vec<Statement>, NoMemory>
     let written = Expression::putchar(alloc, Expression::Read(INT, Place::Local(0)))?;
     let returned = sum(alloc, 229)?;
     let mut body = Vec::new(alloc);
-    body.push(Statement::Declare(Item::Scalar(0, 0, Some(Expression::Constant(70)))))?;
+    body.push(Statement::Declare(Item::Scalar(
+        0,
+        0,
+        Some(Expression::Constant(IntegerType::Int, 70)),
+    )))?;
     body.push(Statement::Expression(1, assigned))?;
     body.push(Statement::Expression(2, written))?;
     body.push(Statement::Return(3, Some(returned)))?;

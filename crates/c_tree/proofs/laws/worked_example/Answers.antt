@@ -10,3 +10,7 @@ returns-clause-wraps c = refl
 pub returns-clause-writes : goal.returns-clause-writes
 unfolding int_wrap
 returns-clause-writes c = refl
+
+pub returns-clause-converts : goal.returns-clause-converts
+unfolding int_wrap
+returns-clause-converts c = refl

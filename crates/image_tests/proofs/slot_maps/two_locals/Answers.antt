@@ -60,8 +60,8 @@ worked-slots = record {
 -- the body of the function
 abbrev worked_body : Statements
 worked_body =
-    Next (Declare (Scalar 0 0 (Some (Constant (pos 70)))))
-    (Next (Declare (Scalar 1 1 (Some (Binary (Integer Int) Subtract (Read (Integer Int) (LocalPlace 0)) (Constant (pos 1))))))
+    Next (Declare (Scalar 0 0 (Some (Constant Int (pos 70)))))
+    (Next (Declare (Scalar 1 1 (Some (Binary (Integer Int) Subtract (Read (Integer Int) (LocalPlace 0)) (Constant Int (pos 1))))))
     (Next (Evaluate 2 (Putchar (Read (Integer Int) (LocalPlace 1)))) (Next (Return 3 (Some (Read (Integer Int) (LocalPlace 0)))) Done)))
 
 -- two locals and this body are lowered so
