@@ -1,5 +1,6 @@
 -- What every program of graphs keeps, and what each of its states keeps.
-use Rattle.std.specs.Prelude.{ℕ, ◌≡◌, ◌<◌, ◌≤◌, ◌-◌, ℤ, List, [], ◌∷◌, length, map, slice_get, Option, Some, FitsSigned, ⊤}
+use Rattle.std.specs.Prelude.{ℕ, ◌≡◌, ◌<◌, ◌≤◌, ◌-◌, ℤ, List, [], ◌∷◌, length, map, slice_get, Option, Some, FitsSigned}
+use Rattle.std.specs.Prelude.{⊤}
 use Rattle.std.specs.Int.{w8, w32}
 use Rattle.std.specs.declared.vec.Vec.{Vec}
 use Rattle.std.specs.declared.alloc.Global.{Global}

@@ -1,0 +1,9 @@
+pub mod Arrays
+pub mod Calls
+pub mod Changes
+pub mod Held
+pub mod Keeping
+pub mod Lists
+pub mod Numbers
+pub mod Steps
+pub mod Values
