@@ -42,7 +42,7 @@ FixedDies flow point _ = Unit {0}
 
 -- the argument words of an op that is a call
 abbrev pub words_of : Op → ℕ
-words_of (Call d f arguments) = length arguments.items
+words_of (Call d f arguments) = length arguments
 words_of _ = 0
 
 abbrev pub most_words : List Op → ℕ

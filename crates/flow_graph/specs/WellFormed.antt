@@ -2,8 +2,6 @@
 use Rattle.std.specs.Prelude.{ℕ, ◌≡◌, ◌<◌, ◌≤◌, ◌-◌, ℤ, List, [], ◌∷◌, length, map, slice_get, Option, Some, FitsSigned}
 use Rattle.std.specs.Prelude.{⊤}
 use Rattle.std.specs.Int.{w8, w32}
-use Rattle.std.specs.declared.vec.Vec.{Vec}
-use Rattle.std.specs.declared.alloc.Global.{Global}
 use Rattle.std.specs.List.{All, AllZip}
 use Rattle.pcc_base.specs.Bytes.{AreBytes}
 use Rattle.pcc_base.specs.Objects.{FitsBytes, IsObject, Object}
@@ -136,9 +134,9 @@ AreActivations program (a ∷ older) = IsActivation program (functions_of older)
 pub record IsWaiting (program : GraphProgram) (w : Waiting) (younger : Activation) : Type 0 where
   pub placed : Stands (flow_at program w.activation.function) w.point w.block
   pub result : Option ℕ
-  pub words : Vec ℕ Global
+  pub words : List ℕ
   pub calls : op_of program w.activation.function w.point ≡ Some (op.Call result younger.function words)
-  pub passes : map (slice_get w.activation.variables) words.items ≡ map Some younger.arguments
+  pub passes : map (slice_get w.activation.variables) words ≡ map Some younger.arguments
 
 -- what the waiting calls of an active one keep; the oldest call is that of `main`, without argument words
 abbrev pub AreWaiting : GraphProgram → Activation → List Waiting → Type 0

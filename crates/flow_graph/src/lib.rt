@@ -15,8 +15,10 @@ mod graph;
 mod laws;
 mod live_sets;
 mod op;
+mod words;
 
 pub use graph::Graph;
 pub use laws::{never_stuck, one_outcome, one_state, worked_example};
 pub use live_sets::LiveSets;
 pub use op::{Bits, Comparison, Op};
+pub use words::Words;

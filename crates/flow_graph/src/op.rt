@@ -1,3 +1,5 @@
+use crate::words::Words;
+
 /// How many bits an access has.
 #[derive(Clone, Copy, Debug, PartialEq, Eq)]
 pub enum Bits {
@@ -75,7 +77,7 @@ pub enum Op {
     /// The argument word of that number.
     Param(u32, u32),
     /// A call: the variable of the result, if it is wanted, the function, and the argument words.
-    Call(Option<u32>, u32, Vec<u32>),
+    Call(Option<u32>, u32, Words),
     /// Writes the low byte of the second, and gives it.
     Putchar(u32, u32),
     /// Takes a byte of the input, or -1 at its end.

@@ -56,12 +56,12 @@ first-kept program f arguments older lt fit = record {
 enters-kept : (program : GraphProgram) (s : State) (result : Option ℕ) (f : ℕ) (words : _) (values : List Value)
     → IsState program s → f < length program.functions
     → op_of program s.current.function s.point ≡ Some (Call result f words)
-    → Every (IsMet (flow_at program s.current.function)) (map two words.items) → values_at s words.items ≡ Some values
+    → Every (IsMet (flow_at program s.current.function)) (map two words) → values_at s words ≡ Some values
     → depth_of s < most_active → Kept program (enters program s f values)
 enters-kept program s result f words values i lt op met e few =
     let active = functions_of (active_of s) in
     let fit : All (FitsWidth program active Two) values =
-    words-fit program (functions_of (map (λ (w : Waiting). w.activation) s.waiting)) s words.items values i.active.0
+    words-fit program (functions_of (map (λ (w : Waiting). w.activation) s.waiting)) s words values i.active.0
     met e in
     let waits : Waiting = record { activation = s.current; block = s.block; point = s.point } in
     let callee = first_activation program f values in
@@ -78,7 +78,7 @@ enters-kept program s result f words values i lt op met e few =
           result = result;
           words = words;
           calls = op;
-          passes = words-pass s words.items values e;
+          passes = words-pass s words values e;
         },
         i.waiting,
       );
@@ -90,7 +90,7 @@ enters-kept program s result f words values i lt op met e few =
 
 -- the words that a call passes are variables of width Two
 words-met : (flow : Flow) (result : Option ℕ) (f : ℕ) (words : _) → FitsOp flow (Call result f words)
-    → Every (IsMet flow) (map two words.items)
+    → Every (IsMet flow) (map two words)
 words-met flow None f words met = met
 words-met flow (Some d) f words met = met.1
 
@@ -98,7 +98,7 @@ words-met flow (Some d) f words met = met.1
 begins-kept : (program : GraphProgram) (s : State) (result : Option ℕ) (f : ℕ) (words : _) (values : List Value)
     (many : Bool) → IsState program s → f < length program.functions
     → op_of program s.current.function s.point ≡ Some (Call result f words)
-    → Every (IsMet (flow_at program s.current.function)) (map two words.items) → values_at s words.items ≡ Some values
+    → Every (IsMet (flow_at program s.current.function)) (map two words) → values_at s words ≡ Some values
     → nat_le most_active (depth_of s) ≡ many
     → Kept program (if many then Halts (Trapped Check) else enters program s f values)
 begins-kept program s result f words values true i lt op met e is = tt
@@ -107,9 +107,9 @@ begins-kept program s result f words values false i lt op met e is =
 
 pub calls-kept : (program : GraphProgram) (s : State) (result : Option ℕ) (f : ℕ) (words : _) → IsState program s
     → f < length program.functions → op_of program s.current.function s.point ≡ Some (Call result f words)
-    → FitsOp (flow_at program s.current.function) (Call result f words) → Kept program (calls program s f words.items)
+    → FitsOp (flow_at program s.current.function) (Call result f words) → Kept program (calls program s f words)
 calls-kept program s result f words i lt op met =
-    given-kept program (values_at s words.items) _ (λ values e.
+    given-kept program (values_at s words) _ (λ values e.
     begins-kept program s result f words values (nat_le most_active (depth_of s)) i lt op
     (words-met (flow_at program s.current.function) result f words met) e refl)
 

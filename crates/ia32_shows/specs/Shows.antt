@@ -65,7 +65,7 @@ AllStand code active frames s frame a place_of =
 
 -- how many argument words the op passes
 abbrev pub argument_words : Option Op → ℕ
-argument_words (Some (Call d f arguments)) = length arguments.items
+argument_words (Some (Call d f arguments)) = length arguments
 argument_words _ = 0
 
 -- the variable that has the op's result, if it is a call that wants one
