@@ -27,7 +27,7 @@ use Rattle.c_locals.specs.Shapes.{only, Rule, Declares, Assigns, Puts, Returns, 
 use Rattle.c_locals.specs.Shapes.{is_int, variable, assigns, is_plain, one_argument, puts, expression_rule, rule_of}
 use Rattle.c_locals.specs.Shapes.{block_items, main_items}
 use Rattle.c_locals.specs.Form.{int_local, IsItem, IsBody, IsLocalsProgram}
-use Rattle.pcc_listing.specs.Lines.{IsDigit, IsNameByte, IsName}
+use Rattle.pcc_base.specs.Names.{IsDigit, IsNameByte, IsName}
 use Rattle.c_front.specs.Accepted.{IsProgram, IsNamed}
 
 -- ---- a word is a name

@@ -7,7 +7,7 @@ use Rattle.c_grammar.specs.Statements.{ExternalTree}
 use Rattle.c_grammar.specs.Grammar.{Tree}
 use Rattle.c_tree.specs.Program.{Local, Function, Program}
 use Rattle.c_locals.specs.Form.{IsLocalsProgram}
-use Rattle.pcc_listing.specs.Lines.{IsName}
+use Rattle.pcc_base.specs.Names.{IsName}
 
 -- these tokens, of which there are at most 10,000, have a raw tree of height at most 256, which is of the form
 -- with locals and has this program

@@ -6,7 +6,8 @@ use Rattle.byteorder.specs.Endian.{little_number}
 use Rattle.byteorder.specs.Numbers.{little_from-take, little_number-reads_back}
 use Rattle.std.specs.Int.{next_multiple_of}
 use Rattle.elf_image.specs.Fields.{text_length, parts_in}
-use Rattle.elf_image.specs.Layout.{Parts, Fits, zeros, elf_header, program_header, text_address, text_span, data_memory, image_bytes}
+use Rattle.pcc_base.specs.Bytes.{zeros}
+use Rattle.elf_image.specs.Layout.{Parts, Fits, elf_header, program_header, text_address, text_span, data_memory, image_bytes}
 
 -- the bytes before the text
 pub front : Parts → List ℕ

@@ -1,7 +1,8 @@
 -- The bytes of an image file (ELF, "ELF Header" and "Program Header"; System V ABI, Intel386 supplement).
-use Rattle.std.specs.Prelude.{ℕ, ◌+◌, ◌-◌, ◌<◌, ◌≤◌, ◌^◌, List, [], ◌∷◌, ◌++◌, length, replicate, All}
+use Rattle.std.specs.Prelude.{ℕ, ◌+◌, ◌-◌, ◌<◌, ◌≤◌, ◌^◌, List, [], ◌∷◌, ◌++◌, length}
 use Rattle.std.specs.Int.{next_multiple_of}
 use Rattle.byteorder.specs.Endian.{little_bytes}
+use Rattle.pcc_base.specs.Bytes.{AreBytes, zeros}
 
 -- what an image is made of
 pub record Parts : Type 0 where
@@ -9,19 +10,12 @@ pub record Parts : Type 0 where
   pub text : List ℕ
   pub data_bytes : List ℕ
 
-abbrev pub AreBytes : List ℕ → Type 0
-AreBytes bytes = All (λ b. b < 256) bytes
-
 -- what an image may be made of
 pub record Fits (parts : Parts) : Type 0 where
   pub entry : parts.entry < 2 ^ 32
   pub text : AreBytes parts.text
   pub data_bytes : AreBytes parts.data_bytes
   pub size : length parts.text + length parts.data_bytes ≤ 1200000000
-
--- n bytes that are 0
-unfoldable pub zeros : ℕ → List ℕ
-zeros n = replicate n 0
 
 -- a word of four bytes, the lowest first
 abbrev pub word : ℕ → List ℕ

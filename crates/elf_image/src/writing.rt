@@ -1,5 +1,6 @@
 ghost use Rattle.std.specs.Prelude.{◌≡◌, ◌+◌, ◌≤◌, ◌++◌, length, OnOk, IfOk, vec_len};
-ghost use Rattle.elf_image.specs.Layout.{elf_header, image_bytes, program_header, word, zeros};
+ghost use Rattle.pcc_base.specs.Bytes.{zeros};
+ghost use Rattle.elf_image.specs.Layout.{elf_header, image_bytes, program_header, word};
 ghost use Rattle.elf_image.specs.Segments.{parts_of};
 
 use crate::image::{Image, PAGE, TEXT_ADDRESS};

@@ -9,7 +9,8 @@ use Rattle.std.proofs.Math.Nat.{mul-suc}
 use Rattle.byteorder.specs.Numbers.{length-bytes_low_first}
 use Rattle.ia32_insn.specs.declared.item.Item.{Item}
 use Rattle.ia32_insn.specs.declared.item.Stub.TheVariants as stub
-use Rattle.ia32_insn.specs.Items.{Symbols, Places, Object, ItemsAt, FunctionsAt, round_up, zeros, text_start, element_bytes, elements_size, object_bytes, data_bytes, object_addresses, data_start, stack_end, start_items, putchar_items, getchar_items, exit_items, check_items}
+use Rattle.pcc_base.specs.Bytes.{zeros}
+use Rattle.ia32_insn.specs.Items.{Symbols, Places, Object, ItemsAt, FunctionsAt, round_up, text_start, element_bytes, elements_size, object_bytes, data_bytes, object_addresses, data_start, stack_end, start_items, putchar_items, getchar_items, exit_items, check_items}
 use Rattle.ia32_asm.specs.declared.section.Section.{Section}
 use Rattle.ia32_asm.specs.declared.section.Target.{Target}
 use Rattle.ia32_asm.specs.declared.section.Target.TheVariants as target

@@ -4,7 +4,8 @@ use Rattle.std.specs.Int.{next_multiple_of}
 use Rattle.std.proofs.Common.{arith, ap, ◌∙◌}
 use Rattle.std.proofs.lemmas.List.{append-nil}
 use Rattle.ia32_insn.specs.State.{Area}
-use Rattle.ia32_insn.specs.Items.{Object, round_up, zeros, text_start, data_bytes, data_start, data_memory, text_area, text_state}
+use Rattle.pcc_base.specs.Bytes.{zeros}
+use Rattle.ia32_insn.specs.Items.{Object, round_up, text_start, data_bytes, data_start, data_memory, text_area, text_state}
 use Rattle.elf_image.specs.Segments.{image_segments}
 use Rattle.elf_link.specs.Areas.{area_of, parts_of_text}
 

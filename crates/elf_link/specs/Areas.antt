@@ -1,7 +1,8 @@
 -- The segments of an image as areas of memory.
 use Rattle.std.specs.Prelude.{ℕ, ◌-◌, ◌++◌, List, length}
 use Rattle.ia32_insn.specs.State.{Area}
-use Rattle.ia32_insn.specs.Items.{Object, zeros, text_start, data_bytes}
+use Rattle.pcc_base.specs.Bytes.{zeros}
+use Rattle.ia32_insn.specs.Items.{Object, text_start, data_bytes}
 use Rattle.elf_image.specs.Layout.{Parts}
 use Rattle.elf_image.specs.Segments.{Piece}
 

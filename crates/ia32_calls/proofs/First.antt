@@ -5,7 +5,8 @@ use Rattle.std.proofs.lemmas.Option.{same_Some}
 use Rattle.std.proofs.lemmas.Bool.{cases_lt}
 use Rattle.std.proofs.lemmas.List.{length-replicate, get_or-replicate, get_or_past}
 use Rattle.ia32_regs.specs.Registers.{AreRegisters, zero_registers}
-use Rattle.ia32_insn.specs.Items.{Object, Symbols, Places, IsText, ItemsAt, FunctionsAt, round_up, zeros, text_start, text_state, data_bytes, data_start, data_memory, stack_end, putchar_items}
+use Rattle.pcc_base.specs.Bytes.{zeros}
+use Rattle.ia32_insn.specs.Items.{Object, Symbols, Places, IsText, ItemsAt, FunctionsAt, round_up, text_start, text_state, data_bytes, data_start, data_memory, stack_end, putchar_items}
 use Rattle.ia32_insn.specs.declared.item.Item.{Item}
 use Rattle.ia32_shows.specs.Paths.{IsAt}
 use Rattle.ia32_shows.proofs.Sound.{IsSound}

@@ -1,8 +1,9 @@
 -- Texts of items: how the code of a program stands in memory, function by function, with the routines that it
 -- calls, and the state in which its image starts.
-use Rattle.std.specs.Prelude.{◌≡◌, ◌⊎◌, ℕ, ◌+◌, ◌-◌, ◌*◌, ◌/◌, ◌%◌, ◌^◌, ℤ, pos, true, false, List, [], ◌∷◌, ◌++◌, flat_map, length, replicate, slice_get, Option, Some, None}
+use Rattle.std.specs.Prelude.{◌≡◌, ◌⊎◌, ℕ, ◌+◌, ◌-◌, ◌*◌, ◌/◌, ◌%◌, ◌^◌, ℤ, pos, true, false, List, [], ◌∷◌, ◌++◌, flat_map, length, slice_get, Option, Some, None}
 use Rattle.std.specs.Int.{w32, cast_unsigned, cast_signed}
 use Rattle.byteorder.specs.Endian.{little_bytes}
+use Rattle.pcc_base.specs.Bytes.{zeros}
 pub use Rattle.pcc_base.specs.Objects.{Object}
 use Rattle.ia32_regs.specs.Registers.{zero_registers}
 use Rattle.ia32_regs.specs.declared.names.Reg32.{Reg32}
@@ -162,10 +163,6 @@ round_up k n = k * ((n + (k - 1)) / k)
 -- where the text begins, 0x08048000
 abbrev pub text_start : ℕ
 text_start = 134512640
-
--- bytes of value 0
-unfoldable pub zeros : ℕ → List ℕ
-zeros n = replicate n 0
 
 -- the bytes of an object's elements, and how much memory they take
 abbrev pub element_bytes : Object → List ℕ

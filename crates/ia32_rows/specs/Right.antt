@@ -1,7 +1,7 @@
 -- What it means that the items of a graph over slots are right: from every state of the machine that shows a state of
 -- the program the machine comes to one that shows the next, or has its end; so a whole run has the program's outcome.
 use Rattle.std.specs.Prelude.{◌≡◌, ◌<◌, ◌≤◌, ◌+◌, ◌^◌, ⊤, ℕ, Bool, true, false, List, [], ◌∷◌, length, Option, Some}
-use Rattle.std.specs.List.{All}
+use Rattle.pcc_base.specs.Bytes.{AreBytes}
 use Rattle.pcc_base.specs.Outcome.{End, Visit, Listing, Outcome}
 use Rattle.ia32_insn.specs.declared.item.Item.{Item}
 use Rattle.ia32_insn.specs.State as machine
@@ -19,10 +19,6 @@ use Rattle.ia32_shows.specs.Paths.{Comes, IsClear}
 use Rattle.ia32_shows.specs.Placements.{Code, in_slots}
 use Rattle.ia32_shows.specs.Shows.{Shows}
 use Rattle.ia32_rows.specs.Rows.{HasSlots, frame_of, selected}
-
--- each number of the text is a byte
-abbrev pub AreBytes : List ℕ → Type 0
-AreBytes text = All (λ byte. byte < 256) text
 
 -- a program of one graph without static objects
 abbrev pub one_graph : Flow → GraphProgram

@@ -4,7 +4,8 @@ use Rattle.std.specs.Prelude.{map, option_map, slice_get, slice_index_or}
 use Rattle.std.proofs.lemmas.Option.{same_Some}
 use Rattle.std.proofs.lemmas.List.{length-replicate}
 use Rattle.ia32_insn.specs.State.{Area, Shape, shape_of}
-use Rattle.ia32_insn.specs.Items.{zeros, text_area, data_area, data_bytes, data_memory, data_start, stack_end}
+use Rattle.pcc_base.specs.Bytes.{zeros}
+use Rattle.ia32_insn.specs.Items.{text_area, data_area, data_bytes, data_memory, data_start, stack_end}
 use Rattle.ia32_shows.proofs.Sound.{data_from}
 use Rattle.ia32_simulation.proofs.Setup.{Setup, length-data, data-size}
 

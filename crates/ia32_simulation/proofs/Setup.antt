@@ -1,6 +1,7 @@
 -- A code over slots and a state of its program by their parts, so that what is asked of them computes.
 use Rattle.std.proofs.Common.{◌≡◌, ℕ, ◌+◌, ◌*◌, ◌/◌, ◌<◌, ◌≤◌, List, [], ◌∷◌, length, refl, ap, ◌∙◌, arith, length-append}
-use Rattle.ia32_insn.specs.Items.{Symbols, Places, text_start, zeros, round_up, data_bytes, data_memory, data_start, stack_end}
+use Rattle.pcc_base.specs.Bytes.{zeros}
+use Rattle.ia32_insn.specs.Items.{Symbols, Places, text_start, round_up, data_bytes, data_memory, data_start, stack_end}
 use Rattle.flow_graph.specs.Graphs.{Flow}
 use Rattle.flow_graph.specs.States as graph
 use Rattle.ia32_shows.specs.Placements.{Code, in_slots}

@@ -3,7 +3,8 @@ use Rattle.std.specs.Prelude.{◌≡◌, List, [], ◌∷◌, map, None, refl}
 use Rattle.std.proofs.Common.{sym, ◌∙◌, ap}
 use Rattle.ia32_regs.specs.Registers.{zero_registers}
 use Rattle.ia32_insn.specs.State.{Area}
-use Rattle.ia32_insn.specs.Items.{zeros, text_start, text_state}
+use Rattle.pcc_base.specs.Bytes.{zeros}
+use Rattle.ia32_insn.specs.Items.{text_start, text_state}
 use Rattle.elf_image.specs.Segments.{Piece, image_segments}
 use Rattle.elf_link.specs.Areas as linked
 use Rattle.elf_link.specs.Areas.{parts_of_text}

@@ -2,7 +2,7 @@
 use Rattle.std.proofs.Common.{◌≤◌, ℕ, [], ◌∷◌, refl, arith, inr}
 use Rattle.std.specs.Prelude.{codes}
 use Rattle.std.proofs.lemmas.List.Elements.{All-cons, All-nil}
-use Rattle.pcc_listing.specs.Lines.{IsName, IsNameByte}
+use Rattle.pcc_base.specs.Names.{IsName, IsNameByte}
 use Rattle.c_tree.specs.SlotForm.{IsSlotProgram}
 use Rattle.pcc_compile.specs.Products.{IsCompiledForm}
 use Rattle.image_tests.specs.Worked.{worked_main, worked_program}

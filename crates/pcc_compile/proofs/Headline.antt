@@ -3,14 +3,16 @@ use Rattle.std.proofs.Common.{ℕ, ◌+◌, ◌<◌, ◌^◌, List, [], length, 
 use Rattle.std.proofs.lemmas.List.Elements.{All-replicate}
 use Rattle.c_tree.specs.Program.{Program}
 use Rattle.c_tree.specs.Evaluation.{source_outcome}
-use Rattle.ia32_insn.specs.Items.{text_state, zeros}
+use Rattle.pcc_base.specs.Bytes.{zeros}
+use Rattle.ia32_insn.specs.Items.{text_state}
 use Rattle.c_lower.specs.Lowering.{KeepsOutcome}
 use Rattle.c_lower.specs.Shown.{ListsLocals, variables_shown}
 use Rattle.elf_image.specs.Layout.{Fits}
 use Rattle.elf_link.specs.Areas.{parts_of_text}
 use Rattle.ia32_machine.specs.First.{First}
 use Rattle.ia32_shows.specs.Placements.{Code}
-use Rattle.ia32_rows.specs.Right.{AreBytes, RunsAs, ShowsVisits}
+use Rattle.pcc_base.specs.Bytes.{AreBytes}
+use Rattle.ia32_rows.specs.Right.{RunsAs, ShowsVisits}
 use Rattle.pcc_listing.specs.Lines.{Line}
 use Rattle.pcc_listing.specs.Marks.{listed, visits_of}
 use Rattle.pcc_compile.specs.Products.{DoesAs}

@@ -6,7 +6,8 @@ use Rattle.std.proofs.lemmas.Option.{none-some, same_Some, slice_get-map}
 use Rattle.ia32_insn.specs.declared.item.Item.{Item}
 use Rattle.ia32_insn.specs.declared.item.Item.TheVariants as item
 use Rattle.ia32_insn.specs.declared.item.Stub.TheVariants as stub
-use Rattle.ia32_insn.specs.Items.{FunctionsAt, Places, Symbols, text_start, zeros}
+use Rattle.pcc_base.specs.Bytes.{zeros}
+use Rattle.ia32_insn.specs.Items.{FunctionsAt, Places, Symbols, text_start}
 use Rattle.ia32_asm.specs.declared.section.Section.{Section}
 use Rattle.ia32_asm.specs.declared.section.Relocation.{Relocation}
 use Rattle.ia32_asm.specs.declared.section.Target.{Target}
@@ -20,7 +21,8 @@ use Rattle.elf_link.proofs.Placing.{follow_inside}
 use Rattle.flow_graph.specs.Graphs.{Flow, IsFlow}
 use Rattle.ia32_shows.specs.Placements.{Code, address_in, in_slots, point_address}
 use Rattle.ia32_rows.specs.Rows.{HasSlots, frame_of, selected}
-use Rattle.ia32_rows.specs.Right.{AreBytes, IsSlotCode, one_graph}
+use Rattle.pcc_base.specs.Bytes.{AreBytes}
+use Rattle.ia32_rows.specs.Right.{IsSlotCode, one_graph}
 
 -- the code of one graph over slots, with these items, where it was linked
 abbrev pub linked_code : (flow : Flow) (slots : List ℕ) (items : List Item) (linked : Linked) → IsLinked (items ∷ []) [] 0 linked → Code

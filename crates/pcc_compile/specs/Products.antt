@@ -10,7 +10,8 @@ use Rattle.flow_graph.specs.Graphs.{Every}
 use Rattle.ia32_insn.specs.State.{State}
 use Rattle.ia32_insn.specs.Runs.{Runs}
 use Rattle.ia32_machine.specs.First.{First}
-use Rattle.pcc_listing.specs.Lines.{Line, IsMap, IsName, map_text}
+use Rattle.pcc_base.specs.Names.{IsName}
+use Rattle.pcc_listing.specs.Lines.{Line, IsMap, map_text}
 use Rattle.pcc_listing.specs.Marks.{visits_of, listed}
 use Rattle.slot_map.specs.MapLaws.{IsMapOf}
 

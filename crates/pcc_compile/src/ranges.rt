@@ -1,6 +1,6 @@
 //! What numbers are by their types, as facts for callers.
 
-ghost use Rattle.ia32_rows.specs.Right.{AreBytes};
+ghost use Rattle.pcc_base.specs.Bytes.{AreBytes};
 
 /// Bytes are below 256.
 pub fn are_bytes(bytes: &[u8])

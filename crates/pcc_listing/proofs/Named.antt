@@ -2,7 +2,8 @@
 use Rattle.std.proofs.Common.{◌≡◌, ◌<◌, ℕ, List, [], ◌∷◌, ◌++◌, codes, get_or, ap, sym, refl, ◌∙◌, arith, append_assoc}
 use Rattle.std.specs.List.{AllByRecursion}
 use Rattle.std.proofs.lemmas.List.Elements.{recursion_from_All}
-use Rattle.pcc_listing.specs.Lines.{Named, NamesScalar, NamesArray, NamesIndex, Temporary, IsName, IsNamed, IsNameByte, named_text}
+use Rattle.pcc_base.specs.Names.{IsName, IsNameByte}
+use Rattle.pcc_listing.specs.Lines.{Named, NamesScalar, NamesArray, NamesIndex, Temporary, IsNamed, named_text}
 use Rattle.pcc_listing.proofs.Fields.{Stops, field-one}
 
 -- a name's text is a name, and then what tells its kind

@@ -1,7 +1,8 @@
 -- The lines of a map, of the kinds that are built so far, and their text. Numbers are decimal,
 -- addresses are eight lower-case hexadecimal digits, and each line ends in a newline.
-use Rattle.std.specs.Prelude.{◌≡◌, ◌<◌, ◌≤◌, ◌⊎◌, ⊤, ℕ, zero, suc, ◌+◌, ◌/◌, ◌%◌, ◌^◌, length, slice_index, List, [], ◌∷◌, ◌++◌, flat_map, codes, decimal, nat_lt, if◌then◌else◌}
+use Rattle.std.specs.Prelude.{◌<◌, ◌≤◌, ⊤, ℕ, zero, suc, ◌+◌, ◌/◌, ◌%◌, ◌^◌, List, [], ◌∷◌, ◌++◌, flat_map, codes, decimal, nat_lt, if◌then◌else◌}
 use Rattle.std.specs.List.{All}
+use Rattle.pcc_base.specs.Names.{IsName}
 use Rattle.pcc_base.specs.declared.run.Width.{Width}
 use Rattle.pcc_base.specs.declared.run.Width.TheVariants.{One, Two}
 use Rattle.ia32_regs.specs.declared.names.Reg32.{Reg32}
@@ -120,19 +121,6 @@ map_text lines = codes "pcc map 1" ++ newline ∷ [] ++ flat_map line_text lines
 -- every number of a map
 abbrev pub IsNumber : ℕ → Type 0
 IsNumber n = n < 2 ^ 32
-
-abbrev pub IsDigit : ℕ → Type 0
-IsDigit c = (48 ≤ c) × (c ≤ 57)
-
--- a byte of a name: an ASCII letter, a digit or `_` (C99 6.4.2.1)
-abbrev pub IsNameByte : ℕ → Type 0
-IsNameByte c = IsDigit c ⊎ (((65 ≤ c) × (c ≤ 90)) ⊎ ((c ≡ 95) ⊎ ((97 ≤ c) × (c ≤ 122))))
-
--- a name doesn't begin with a digit
-pub record IsName (name : List ℕ) : Type 0 where
-  pub nonempty : 0 < length name
-  pub bytes : All IsNameByte name
-  pub begins : IsDigit (slice_index name 0) → ⊥
 
 -- the registers that variables stand in
 abbrev pub IsGeneral : Reg32 → Type 0

@@ -20,7 +20,8 @@ use Rattle.ia32_shows.specs.Paths.{IsAt}
 use Rattle.ia32_shows.specs.Placements.{point_address}
 use Rattle.ia32_rows.specs.Rows.{IsSlot, frame_of}
 use Rattle.ia32_rows.proofs.Laid.{mark-at}
-use Rattle.pcc_listing.specs.Lines.{IsLine, IsName, IsNumber, IsStanding}
+use Rattle.pcc_base.specs.Names.{IsName}
+use Rattle.pcc_listing.specs.Lines.{IsLine, IsNumber, IsStanding}
 use Rattle.slot_map.specs.SlotLines.{declared_before, op_lines, point_lines, block_lines, slot_lines, standings_from, variable_lines}
 use Rattle.slot_map.specs.MapLaws.{MapKeepsRules}
 use Rattle.slot_map.proofs.Marked.{count, every-take, marked-below}

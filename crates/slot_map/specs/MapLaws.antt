@@ -13,7 +13,8 @@ use Rattle.c_lower.specs.Shown.{ListsLocals, numbers_of, variables_shown}
 use Rattle.ia32_shows.specs.Placements.{Code, point_address}
 use Rattle.ia32_rows.specs.Rows.{selected}
 use Rattle.ia32_rows.specs.Right.{IsSlotCode, ShowsVisits}
-use Rattle.pcc_listing.specs.Lines.{Line, FunctionLine, IsMap, IsName, Named, NamesScalar, Temporary}
+use Rattle.pcc_base.specs.Names.{IsName}
+use Rattle.pcc_listing.specs.Lines.{Line, FunctionLine, IsMap, Named, NamesScalar, Temporary}
 use Rattle.pcc_listing.specs.Marks.{listed, variables_in, visits_of}
 use Rattle.slot_map.specs.SlotLines.{declared_before, slot_lines}
 

@@ -5,7 +5,8 @@ use Rattle.std.proofs.lemmas.List.{get_or_default, length-take}
 use Rattle.std.proofs.lemmas.List.Elements.{All-take, All-drop}
 use Rattle.std.specs.Int.{next_multiple_of}
 use Rattle.elf_image.proofs.Front.{image-room, field-reads, take-rest, parts-equal}
-use Rattle.elf_image.specs.Layout.{Parts, AreBytes}
+use Rattle.pcc_base.specs.Bytes.{AreBytes}
+use Rattle.elf_image.specs.Layout.{Parts}
 use Rattle.elf_image.specs.Fields.{text_length}
 use Rattle.elf_image.proofs.reading.candidate.Goals as goal
 

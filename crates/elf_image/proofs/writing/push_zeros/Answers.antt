@@ -1,7 +1,7 @@
 -- What is there is kept whole, and the zeros follow.
 use Rattle.std.proofs.Common.{arith}
 use Rattle.std.proofs.lemmas.Grind.{common_steps}
-use Rattle.elf_image.specs.Layout.{zeros}
+use Rattle.pcc_base.specs.Bytes.{zeros}
 use Rattle.elf_image.proofs.writing.push_zeros.Goals as goal
 
 pub returns : goal.returns

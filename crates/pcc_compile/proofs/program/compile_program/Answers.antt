@@ -8,7 +8,8 @@ use Rattle.elf_image.specs.Layout.{image_bytes}
 use Rattle.elf_link.specs.Areas.{parts_of_text}
 use Rattle.ia32_shows.specs.Placements.{point_address}
 use Rattle.ia32_rows.specs.Rows.{selected}
-use Rattle.ia32_rows.specs.Right.{AreBytes, IsSlotCode}
+use Rattle.pcc_base.specs.Bytes.{AreBytes}
+use Rattle.ia32_rows.specs.Right.{IsSlotCode}
 use Rattle.ia32_select.specs.Offsets.{slots_of}
 use Rattle.pcc_listing.specs.Lines.{map_text}
 use Rattle.pcc_listing.specs.Views.{line_of}
