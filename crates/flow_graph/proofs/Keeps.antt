@@ -7,7 +7,7 @@ use Rattle.std.proofs.lemmas.Bool.{cases_eq}
 use Rattle.std.proofs.lemmas.Option.{slice_get_within, get_or_from_slice_get}
 use Rattle.pcc_base.specs.declared.run.Width.{Width}
 use Rattle.flow_graph.specs.declared.op.Op.{Op}
-use Rattle.flow_graph.specs.Graphs.{Flow, Every, IsIn, FitsOp, HasFittingOp, IsPlainAt, IsEnded, IsArray, IsBlock}
+use Rattle.flow_graph.specs.Graphs.{Flow, Every, IsIn, FitsOp, HasFittingOp, HasWord, IsPlainAt, IsEnded, IsArray, IsBlock}
 use Rattle.flow_graph.specs.Graphs.{IsFlow, IsPlaced, Stands, points_of, insert_after, is_end, with_variable}
 use Rattle.flow_graph.specs.Graphs.{with_array, with_block, with_points, with_op, with_op_after, without, without_point}
 use Rattle.flow_graph.proofs.Points.{every-map, every-push, every-insert, every-without, every-in, distinct-push}
@@ -51,6 +51,7 @@ flow-variable f homes w i h =
       each_block = λ b. block-grows f (with_variable f w) homes homes grows (keeps-same homes) b
           (points_of f b) (i.each_block b);
       arrays_fit = i.arrays_fit;
+      words = i.words;
       few_variables = omega (arith, length-push f.widths w);
       few_arrays = i.few_arrays;
       few_blocks = i.few_blocks;
@@ -68,6 +69,7 @@ flow-array f homes w n i fit h =
       each_block = λ b. block-grows f (with_array f w n) homes homes grows (keeps-same homes) b
           (points_of f b) (i.each_block b);
       arrays_fit = every-push IsArray f.arrays (w, n) i.arrays_fit fit;
+      words = i.words;
       few_variables = i.few_variables;
       few_arrays = omega (arith, more);
       few_blocks = i.few_blocks;
@@ -84,6 +86,7 @@ flow-block f homes i h =
       one_home = i.one_home;
       each_block = λ b. subst (λ (ps : List ℕ). IsBlock (with_block f) homes b ps) (get_or-empty f.blocks b) (block-grows f (with_block f) homes homes grows (keeps-same homes) b (points_of f b) (i.each_block b));
       arrays_fit = i.arrays_fit;
+      words = i.words;
       few_variables = i.few_variables;
       few_arrays = i.few_arrays;
       few_blocks = omega (arith, more);
@@ -101,9 +104,9 @@ points-grow f b ps op = record {
 
 -- with one more point, where the block that it comes into keeps what it has to
 flow-points : (f : Flow) (homes : List ℕ) (b : ℕ) (ps : List ℕ) (op : Op) → IsFlow f homes → b < length f.blocks
-    → length f.ops < 4294967295 → IsBlock (with_points f b ps op) (homes ++ b ∷ []) b ps
+    → length f.ops < 4294967295 → HasWord op → IsBlock (with_points f b ps op) (homes ++ b ∷ []) b ps
     → IsFlow (with_points f b ps op) (homes ++ b ∷ [])
-flow-points f homes b ps op i h room w =
+flow-points f homes b ps op i h room word w =
     let all_homes = length-push homes b in
     let all_ops = length-push f.ops op in
     let all_blocks = length-set f.blocks b ps in
@@ -113,6 +116,7 @@ flow-points f homes b ps op i h room w =
           (λ k. block-grows f (with_points f b ps op) homes (homes ++ b ∷ []) (points-grow f b ps op)
           (keeps-append homes (b ∷ [])) k (points_of f k) (i.each_block k));
       arrays_fit = i.arrays_fit;
+      words = every-push HasWord f.ops op i.words word;
       few_variables = i.few_variables;
       few_arrays = i.few_arrays;
       few_blocks = omega (arith, all_blocks, i.few_blocks);
@@ -130,8 +134,8 @@ new_home f homes b i = subst (λ (n : ℕ). slice_get (homes ++ b ∷ []) n ≡ 
 
 -- with a new point at the end of a block
 pub flow-append : (f : Flow) (homes : List ℕ) (b : ℕ) (op : Op) → IsFlow f homes → b < length f.blocks
-    → length f.ops < 4294967295 → (IsEnded f b → ⊥) → FitsOp f op → IsFlow (with_op f b op) (homes ++ b ∷ [])
-flow-append f homes b op i h room open_block fit =
+    → length f.ops < 4294967295 → (IsEnded f b → ⊥) → FitsOp f op → HasWord op → IsFlow (with_op f b op) (homes ++ b ∷ [])
+flow-append f homes b op i h room open_block fit word =
     let ps : List ℕ = points_of f b in
     let x : ℕ = length f.ops in
     let qs : List ℕ = ps ++ x ∷ [] in
@@ -139,7 +143,7 @@ flow-append f homes b op i h room open_block fit =
     let grows : Grows f g = points-grow f b qs op in
     let old : IsBlock f homes b ps = i.each_block b in
     let grown : IsBlock g (homes ++ b ∷ []) b ps = block-grows f g homes (homes ++ b ∷ []) grows (keeps-append homes (b ∷ [])) b ps old in
-    flow-points f homes b qs op i h room (record {
+    flow-points f homes b qs op i h room word (record {
       at_home = every-push (λ p. slice_get (homes ++ b ∷ []) p ≡ Some b) ps x grown.at_home (new_home f homes b i);
       fits = every-push (HasFittingOp g) ps x grown.fits (op, slice_get-last f.ops op, fits_op-grows f g grows op fit);
       once = distinct-push ps x old.once (fresh f ps old.fits);
@@ -151,9 +155,9 @@ flow-append f homes b op i h room open_block fit =
 
 -- with a new point right after a point
 pub flow-insert : (f : Flow) (homes : List ℕ) (b point : ℕ) (op : Op) → IsFlow f homes → b < length f.blocks
-    → length f.ops < 4294967295 → IsPlainAt f.ops point → is_end op ≡ false → FitsOp f op
+    → length f.ops < 4294967295 → IsPlainAt f.ops point → is_end op ≡ false → FitsOp f op → HasWord op
     → IsFlow (with_op_after f b point op) (homes ++ b ∷ [])
-flow-insert f homes b point op i h room plain no_end fit =
+flow-insert f homes b point op i h room plain no_end fit word =
     let ps : List ℕ = points_of f b in
     let x : ℕ = length f.ops in
     let qs : List ℕ = insert_after point x ps in
@@ -161,7 +165,7 @@ flow-insert f homes b point op i h room plain no_end fit =
     let grows : Grows f g = points-grow f b qs op in
     let old : IsBlock f homes b ps = i.each_block b in
     let grown : IsBlock g (homes ++ b ∷ []) b ps = block-grows f g homes (homes ++ b ∷ []) grows (keeps-append homes (b ∷ [])) b ps old in
-    flow-points f homes b qs op i h room (record {
+    flow-points f homes b qs op i h room word (record {
       at_home = every-insert (λ p. slice_get (homes ++ b ∷ []) p ≡ Some b) point x ps grown.at_home
           (new_home f homes b i);
       fits = every-insert (HasFittingOp g) point x ps grown.fits (
@@ -197,6 +201,7 @@ flow-remove f homes b point i h =
       each_block = set_cases (λ k rs. IsBlock g homes k rs) f.blocks b qs h left
           (λ k. block-grows f g homes homes grows (keeps-same homes) k (points_of f k) (i.each_block k));
       arrays_fit = i.arrays_fit;
+      words = i.words;
       few_variables = i.few_variables;
       few_arrays = i.few_arrays;
       few_blocks = omega (arith, length-set f.blocks b qs, i.few_blocks);

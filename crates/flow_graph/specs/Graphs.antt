@@ -1,6 +1,7 @@
 -- What a contract sees of a graph, which ops fit in it, what each call leaves, and what every graph keeps.
 use Rattle.std.specs.Prelude.{ℕ, ◌≡◌, ◌≢◌, ◌<◌, ◌≤◌, ◌⊎◌, Bool, true, false, cond, eqb, List, [], ◌∷◌, ◌++◌, length}
-use Rattle.std.specs.Prelude.{map, Option, Some, None, slice_get, slice_set, slice_index_or}
+use Rattle.std.specs.Prelude.{map, Option, Some, None, slice_get, slice_set, slice_index_or, FitsSigned}
+use Rattle.std.specs.Int.{w32}
 use Rattle.pcc_base.specs.declared.run.Width.{Width}
 use Rattle.pcc_base.specs.declared.run.Width.TheVariants.{One, Two}
 use Rattle.flow_graph.specs.declared.op.Op.{Op}
@@ -112,6 +113,11 @@ IsMet flow (AnyWidth v) = (width : Width) × HasWidth flow v width
 IsMet flow (SameWidth d s) = (width : Width) × HasWidth flow d width × HasWidth flow s width
 IsMet flow (FrameArray k) = k < length flow.arrays
 IsMet flow (Target x) = x < length flow.blocks
+
+-- the number of a `const` is one of 32 bits
+abbrev pub HasWord : Op → Type 0
+HasWord (Const d n) = FitsSigned w32 n
+HasWord _ = Unit {0}
 
 -- the variables, arrays and blocks that the op names are there, with the widths that it asks for
 abbrev pub FitsOp : Flow → Op → Type 0
@@ -234,11 +240,13 @@ pub record IsBlock (flow : Flow) (homes : List ℕ) (block : ℕ) (points : List
   pub ends : EndsOnlyLast flow.ops points
 
 -- What every graph keeps, where `homes` has the block of each point, so that no point is in two blocks: each
--- block keeps the above, each frame array is one, and the variables, arrays, blocks and points are at most 4294967295.
+-- block keeps the above, each frame array is one, the number of each `const` has 32 bits, and the variables, arrays,
+-- blocks and points are at most 4294967295.
 pub record IsFlow (flow : Flow) (homes : List ℕ) : Type 0 where
   pub one_home : length homes ≡ length flow.ops
   pub each_block : (block : ℕ) → IsBlock flow homes block (points_of flow block)
   pub arrays_fit : Every IsArray flow.arrays
+  pub words : Every HasWord flow.ops
   pub few_variables : length flow.widths ≤ 4294967295
   pub few_arrays : length flow.arrays ≤ 4294967295
   pub few_blocks : length flow.blocks ≤ 4294967295

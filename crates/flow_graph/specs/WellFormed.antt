@@ -57,11 +57,6 @@ NamesWithin functions objects (op.Jump x) = ⊤
 NamesWithin functions objects (op.Branch how a b x y) = ⊤
 NamesWithin functions objects (op.Return a) = ⊤
 
--- the number of a `const` is one of 32 bits
-abbrev pub HasWord : Op → Type 0
-HasWord (op.Const d n) = FitsSigned w32 n
-HasWord _ = ⊤
-
 -- What the graph of a function keeps in a program of so many functions and objects: it has a first block, each of its
 -- blocks is ended, and its ops name functions and objects of the program alone.
 pub record IsGraph (functions objects : ℕ) (flow : Flow) : Type 0 where
@@ -69,7 +64,6 @@ pub record IsGraph (functions objects : ℕ) (flow : Flow) : Type 0 where
   pub begins : 0 < length flow.blocks
   pub ended : All (LastIsEnd flow.ops) flow.blocks
   pub names : All (NamesWithin functions objects) flow.ops
-  pub words : All HasWord flow.ops
 
 -- what every program of graphs keeps
 pub record IsGraphProgram (program : GraphProgram) : Type 0 where

@@ -107,6 +107,7 @@ impl Graph {
             (λ point. (point ≡ length self.old.ops) × (self.new ≡ with_op self.old block op))
             (λ _. self.new ≡ self.old) }
     {
+        op.has_word();
         self.ops.reserve(1)?;
         self.homes.reserve(1)?;
         let point = self.ops.len() as u32;
@@ -129,6 +130,7 @@ impl Graph {
             × ((block : ℕ) → Stands self.old point block → self.new ≡ with_op_after self.old block point op))
             (λ _. self.new ≡ self.old) }
     {
+        op.has_word();
         self.ops.reserve(1)?;
         self.homes.reserve(1)?;
         let new = self.ops.len() as u32;

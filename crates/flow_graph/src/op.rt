@@ -1,3 +1,7 @@
+ghost use Rattle.std.specs.Int.{w32};
+ghost use Rattle.std.specs.Int.RustNames.{FitsSigned};
+ghost use Rattle.flow_graph.specs.Graphs.{HasWord};
+
 use crate::words::Words;
 
 /// How many bits an access has.
@@ -96,4 +100,22 @@ pub enum Op {
     Branch(Comparison, u32, u32, u32, u32),
     /// Ends a call, with its result or without.
     Return(Option<u32>),
+}
+
+/// A number of 32 bits fits them: a fact for callers.
+fn fits_word(number: i32)
+    ensures { FitsSigned w32 number }
+{
+    let _ = number;
+}
+
+impl Op {
+    /// The number of a `const` is one of 32 bits, as its type has it: a fact for callers.
+    pub(crate) fn has_word(&self)
+        ensures { HasWord self.now }
+    {
+        if let Op::Const(_, number) = self {
+            fits_word(*number);
+        }
+    }
 }

@@ -1,5 +1,5 @@
 -- The arrays that variables hold are there.
-use Rattle.std.proofs.Common.{◌≡◌, ℕ, zero, suc, ◌-◌, ◌<◌, Bool, true, false, ℤ, List, [], ◌∷◌, length, Option, Some}
+use Rattle.std.proofs.Common.{◌≡◌, ℕ, zero, suc, ◌-◌, ◌<◌, Bool, false, ℤ, List, [], ◌∷◌, length, Option, Some}
 use Rattle.std.proofs.Common.{inl, inr, refl, sym, ap, subst, ◌∙◌, eq-eqb, arith, rules}
 use Rattle.std.specs.Prelude.{◌==◌, if◌then◌else◌, option_map, slice_get}
 use Rattle.std.specs.List.{All}
@@ -9,7 +9,7 @@ use Rattle.pcc_base.specs.Objects.{FitsBytes, IsObject, Object}
 use Rattle.pcc_base.specs.Outcome.{ArrayName, Null, Static, InFrame, Unknown, Array}
 use Rattle.pcc_base.specs.declared.run.Width.{Width}
 use Rattle.pcc_base.specs.declared.run.Width.TheVariants.{One, Two}
-use Rattle.flow_graph.specs.Graphs.{Every, IsArray}
+use Rattle.flow_graph.specs.Graphs.{IsArray}
 use Rattle.flow_graph.specs.States.{Activation, GraphProgram, State, Waiting, active_of, depth_of, elements_in}
 use Rattle.flow_graph.specs.States.{elements_of, elements_with, flow_at, frame_at, waiting_place}
 use Rattle.flow_graph.specs.WellFormed.{AreElementsIn, AreElementsOf, FitsWidth, HasArray, HasFrameArray}
@@ -17,14 +17,8 @@ use Rattle.flow_graph.specs.WellFormed.{HeldArraysAreThere}
 use Rattle.flow_graph.specs.WellFormed.{IsGraphProgram, IsState, functions_of}
 use Rattle.graph_states.proofs.Arrays.{frame-active, length-functions}
 use Rattle.graph_states.proofs.Changes.{activations, store}
-use Rattle.graph_states.proofs.Lists.{all-at, at-within, zip-first, zip-second}
+use Rattle.graph_states.proofs.Lists.{all-at, at-within, every-at, zip-first, zip-second}
 use Rattle.graph_states.proofs.Values.{graph-of}
-
--- what holds of each element holds of one
-every-at : {A : Type 0} (P : A → Type 0) (xs : List A) (k : ℕ) (x : A) → Every P xs → slice_get xs k ≡ Some x → P x
-every-at P [] k x h e = absurd (none-some x e)
-every-at P (y ∷ xs) zero x h e = subst P (same_Some y x e) h.0
-every-at P (y ∷ xs) (suc k) x h e = every-at P xs k x h.1 e
 
 -- an array that is there, with its elements
 pub record HasElements (program : GraphProgram) (s : State) (array : ArrayName) : Type 0 where
@@ -70,6 +64,24 @@ has-same : (program : GraphProgram) (k f g : ℕ) → f ≡ g → k < length (fl
     → k < length (flow_at program f).arrays
 has-same program k f g e lt = subst (λ (h : ℕ). k < length (flow_at program h).arrays) (sym e) lt
 
+-- the active call of the greatest depth is the youngest
+youngest : (s : State) (depth : ℕ) → depth ≡ depth_of s → frame_at s depth ≡ Some s.current
+youngest s depth e =
+    ap (λ (y : Bool). if y then Some s.current
+    else option_map (λ (w : Waiting). w.activation) (slice_get s.waiting (waiting_place s depth)))
+    (eq-eqb depth (depth_of s) e)
+
+-- and that of another is a waiting one
+waiting : (s : State) (depth : ℕ) (w : Waiting) → (depth ≡ depth_of s → ⊥)
+    → slice_get s.waiting (waiting_place s depth) ≡ Some w → frame_at s depth ≡ Some w.activation
+waiting s depth w n at =
+    let test : depth == depth_of s ≡ false = search (rules, n) in
+    let call : option_map (λ (u : Waiting). u.activation) (slice_get s.waiting (waiting_place s depth))
+    ≡ Some w.activation =
+    ap (option_map (λ (u : Waiting). u.activation)) at in
+    ap (λ (y : Bool). if y then Some s.current
+    else option_map (λ (u : Waiting). u.activation) (slice_get s.waiting (waiting_place s depth))) test ∙ call
+
 -- the active call of a depth whose function has frame array k
 record IsFrame (program : GraphProgram) (s : State) (k depth : ℕ) : Type 0 where
   call : Activation
@@ -77,8 +89,7 @@ record IsFrame (program : GraphProgram) (s : State) (k depth : ℕ) : Type 0 whe
   has : k < length (flow_at program call.function).arrays
 
 frame-of : (program : GraphProgram) (s : State) (k depth : ℕ)
-    → HasFrameArray program (functions_of (active_of s)) k depth
-    → IsFrame program s k depth
+    → HasFrameArray program (functions_of (active_of s)) k depth → IsFrame program s k depth
 frame-of program s k depth (one, old, f, at, has) =
     let few = length-functions s.waiting in
     elim (cases_eq depth (depth_of s)) [
@@ -87,11 +98,9 @@ frame-of program s k depth (one, old, f, at, has) =
           let same : s.current.function ≡ f =
           same_Some s.current.function f
           (at-place (functions_of (active_of s)) f (length (functions_of (active_of s)) - depth) 0 here at) in
-          let test : depth == depth_of s ≡ true = eq-eqb depth (depth_of s) e in
           record {
             call = s.current;
-            at = ap (λ (y : Bool). if y then Some s.current
-                else option_map (λ (w : Waiting). w.activation) (slice_get s.waiting (waiting_place s depth))) test;
+            at = youngest s depth e;
             has = has-same program k s.current.function f same has;
           }
       | inr n ↦
@@ -101,12 +110,9 @@ frame-of program s k depth (one, old, f, at, has) =
           waiting-at s.waiting (waiting_place s depth) f
           (at-place (functions_of (active_of s)) f (length (functions_of (active_of s)) - depth)
           (suc (waiting_place s depth)) there at) in
-          let test : depth == depth_of s ≡ false = search (rules, n) in
           record {
             call = w.activation;
-            at = ap (λ (y : Bool). if y then Some s.current
-                else option_map (λ (w : Waiting). w.activation) (slice_get s.waiting (waiting_place s depth))) test
-                ∙ ap (option_map (λ (w : Waiting). w.activation)) is_w;
+            at = waiting s depth w n is_w;
             has = has-same program k w.activation.function f same has;
           }
     ]

@@ -18,7 +18,7 @@ use Rattle.flow_graph.specs.declared.op.Bits.{Bits}
 use Rattle.flow_graph.specs.declared.op.Comparison.TheVariants.{Eq}
 use Rattle.flow_graph.specs.declared.op.Op.{Op}
 use Rattle.flow_graph.specs.declared.op.Op.TheVariants as op
-use Rattle.flow_graph.specs.Graphs.{FitsOp, HasWidth}
+use Rattle.flow_graph.specs.Graphs.{FitsOp, HasWidth, HasWord}
 use Rattle.flow_graph.specs.Meaning.{Moved, Halts, Stuck, accessed, act, bytes_of, checked, clears, comparison, divided}
 use Rattle.flow_graph.specs.Meaning.{given, gets, into_block, loads, low_byte, no_quotient, of_width, one_number}
 use Rattle.flow_graph.specs.Meaning.{onward, puts, sets}
@@ -26,7 +26,7 @@ use Rattle.flow_graph.specs.Meaning.{shift_count, step, stored, stores, two_numb
 use Rattle.flow_graph.specs.States.{Elements, GraphProgram, State, Waiting, active_of, depth_of, element_at}
 use Rattle.flow_graph.specs.States.{elements_of, fitted, flow_at, array_at, number_at, op_at, value_at, width_of}
 use Rattle.flow_graph.specs.States.{with_array, with_element}
-use Rattle.flow_graph.specs.WellFormed.{AreElements, FitsWidth, HasWord, IsGraphProgram, IsState, NamesWithin}
+use Rattle.flow_graph.specs.WellFormed.{AreElements, FitsWidth, IsGraphProgram, IsState, NamesWithin}
 use Rattle.flow_graph.specs.WellFormed.{functions_of}
 use Rattle.graph_states.proofs.Lists.{all-at}
 use Rattle.graph_states.proofs.Numbers.{and-fits, byte-fits, byte-word, element-fits, half-word, low_byte-below}

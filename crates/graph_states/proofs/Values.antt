@@ -10,13 +10,14 @@ use Rattle.pcc_base.specs.Outcome.{Null, Static, InFrame, Unknown, Value, Number
 use Rattle.pcc_base.specs.declared.run.Width.{Width}
 use Rattle.pcc_base.specs.declared.run.Width.TheVariants.{One, Two}
 use Rattle.flow_graph.specs.declared.op.Op.{Op}
-use Rattle.flow_graph.specs.Graphs.{Every, FitsOp, empty_flow, HasFittingOp, HasWidth, IsIn, IsMet, Stands, points_of}
+use Rattle.flow_graph.specs.Graphs.{Every, FitsOp, HasWord, empty_flow, HasFittingOp, HasWidth, IsIn, IsMet, Stands}
+use Rattle.flow_graph.specs.Graphs.{points_of}
 use Rattle.flow_graph.specs.Graphs.{two}
 use Rattle.flow_graph.specs.Meaning.{one_more, values_at}
 use Rattle.flow_graph.specs.States.{Activation, GraphProgram, State, flow_at, number_of, op_of, value_at}
-use Rattle.flow_graph.specs.WellFormed.{FitsWidth, HasFrameArray, HasWord, IsActivation, IsGraph, IsGraphProgram}
+use Rattle.flow_graph.specs.WellFormed.{FitsWidth, HasFrameArray, IsActivation, IsGraph, IsGraphProgram}
 use Rattle.flow_graph.specs.WellFormed.{NamesWithin}
-use Rattle.graph_states.proofs.Lists.{all-at, zip-at}
+use Rattle.graph_states.proofs.Lists.{all-at, every-at, zip-at}
 
 -- ---- programs
 
@@ -49,7 +50,7 @@ op-at program f point block h lt stands =
       there = m.1;
       fits = m.2;
       names = all-at (NamesWithin (length program.functions) (length program.objects)) flow.ops point m.0 g.names m.1;
-      word = all-at HasWord flow.ops point m.0 g.words m.1;
+      word = every-at HasWord flow.ops point m.0 g.keeps.1.words m.1;
     }
 
 -- ---- variables

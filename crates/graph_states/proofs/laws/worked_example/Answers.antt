@@ -5,7 +5,7 @@ use Rattle.std.proofs.lemmas.List.Elements.{All-from_recursion, All-nil}
 use Rattle.pcc_base.specs.Objects.{FitsBytes, IsObject}
 use Rattle.pcc_base.specs.declared.run.Width.TheVariants.{Two}
 use Rattle.flow_graph.specs.Graphs.{IsBlock, IsFlow, LastIsEnd, points_of}
-use Rattle.flow_graph.specs.WellFormed.{FitsWidth, HasWord, IsGraph, NamesWithin}
+use Rattle.flow_graph.specs.WellFormed.{FitsWidth, IsGraph, NamesWithin}
 use Rattle.graph_states.specs.Worked.{element_graph, element_program}
 use Rattle.graph_states.proofs.laws.worked_example.Goals as goal
 
@@ -29,6 +29,7 @@ flow-kept = record {
   one_home = refl;
   each_block = each-block;
   arrays_fit = tt;
+  words = (tt, (tt, tt));
   few_variables = omega arith;
   few_arrays = omega arith;
   few_blocks = omega arith;
@@ -41,7 +42,6 @@ graph-kept = record {
   begins = omega arith;
   ended = All-from_recursion (LastIsEnd element_graph.ops) element_graph.blocks ((_, refl, refl), tt);
   names = All-from_recursion (NamesWithin 1 1) element_graph.ops (tt, (tt, tt));
-  words = All-from_recursion HasWord element_graph.ops (tt, (tt, tt));
 }
 
 -- the one element fits

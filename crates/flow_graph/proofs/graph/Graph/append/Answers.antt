@@ -17,4 +17,5 @@ invariant_of-self-2 c =
     rw (ops_are, homes_are, points_are) (flow-append _ _ c.args.block c.args.op c.self.invariant h
     (subst (λ (f : Flow). length f.ops < 4294967295) (sym c.self.view_is) c.requires.room)
     (subst (λ (f : Flow). IsEnded f c.args.block → ⊥) (sym c.self.view_is) c.requires.not_ended)
-    (subst (λ (f : Flow). FitsOp f c.args.op) (sym c.self.view_is) c.requires.fits))
+    (subst (λ (f : Flow). FitsOp f c.args.op) (sym c.self.view_is) c.requires.fits)
+    c.has_word.ensures)

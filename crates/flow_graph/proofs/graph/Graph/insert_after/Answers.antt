@@ -26,7 +26,8 @@ invariant_of-self-2 c =
     (subst (λ (f : Flow). length f.ops < 4294967295) (sym c.self.view_is) c.requires.room)
     (subst (λ (f : Flow). IsPlainAt f.ops c.args.point) (sym c.self.view_is) c.requires.plain)
     c.requires.no_end
-    (subst (λ (f : Flow). FitsOp f c.args.op) (sym c.self.view_is) c.requires.fits))
+    (subst (λ (f : Flow). FitsOp f c.args.op) (sym c.self.view_is) c.requires.fits)
+    c.has_word.ensures)
 
 pub returns : goal.returns
 returns c =
