@@ -53,7 +53,7 @@ first-kept program f arguments older lt fit = record {
 }
 
 -- the state at the beginning of a call
-enters-kept : (program : GraphProgram) (s : State) (result : Option ℕ) (f : ℕ) (words : _) (values : List Value)
+enters-kept : (program : GraphProgram) (s : State) (result : Option ℕ) (f : ℕ) (words : List ℕ) (values : List Value)
     → IsState program s → f < length program.functions
     → op_of program s.current.function s.point ≡ Some (Call result f words)
     → Every (IsMet (flow_at program s.current.function)) (map two words) → values_at s words ≡ Some values
@@ -89,13 +89,13 @@ enters-kept program s result f words values i lt op met e few =
     })
 
 -- the words that a call passes are variables of width Two
-words-met : (flow : Flow) (result : Option ℕ) (f : ℕ) (words : _) → FitsOp flow (Call result f words)
+words-met : (flow : Flow) (result : Option ℕ) (f : ℕ) (words : List ℕ) → FitsOp flow (Call result f words)
     → Every (IsMet flow) (map two words)
 words-met flow None f words met = met
 words-met flow (Some d) f words met = met.1
 
 -- a call begins, or too many are active
-begins-kept : (program : GraphProgram) (s : State) (result : Option ℕ) (f : ℕ) (words : _) (values : List Value)
+begins-kept : (program : GraphProgram) (s : State) (result : Option ℕ) (f : ℕ) (words : List ℕ) (values : List Value)
     (many : Bool) → IsState program s → f < length program.functions
     → op_of program s.current.function s.point ≡ Some (Call result f words)
     → Every (IsMet (flow_at program s.current.function)) (map two words) → values_at s words ≡ Some values
@@ -105,7 +105,7 @@ begins-kept program s result f words values true i lt op met e is = tt
 begins-kept program s result f words values false i lt op met e is =
     enters-kept program s result f words values i lt op met e (search (rules, is))
 
-pub calls-kept : (program : GraphProgram) (s : State) (result : Option ℕ) (f : ℕ) (words : _) → IsState program s
+pub calls-kept : (program : GraphProgram) (s : State) (result : Option ℕ) (f : ℕ) (words : List ℕ) → IsState program s
     → f < length program.functions → op_of program s.current.function s.point ≡ Some (Call result f words)
     → FitsOp (flow_at program s.current.function) (Call result f words) → Kept program (calls program s f words)
 calls-kept program s result f words i lt op met =
@@ -121,7 +121,7 @@ ResultFits None = ⊤
 ResultFits (Some n) = FitsSigned w32 n
 
 -- the caller goes on, with the result where it wants one
-result-kept : (program : GraphProgram) (s : State) (n : Option ℤ) (result : Option ℕ) (f : ℕ) (words : _)
+result-kept : (program : GraphProgram) (s : State) (n : Option ℤ) (result : Option ℕ) (f : ℕ) (words : List ℕ)
     → IsStore program s → ResultFits n → FitsOp (flow_at program s.current.function) (Call result f words)
     → Kept program (result_to program s n (Some (Call result f words)))
 result-kept program s None None f words i fits met = onward-kept program s i
