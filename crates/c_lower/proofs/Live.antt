@@ -60,7 +60,7 @@ slot-at (j ∷ ops) zero i slot e = subst IsSlotOp (same_Some j i e) slot.0
 slot-at (j ∷ ops) (suc p) i slot e = slot-at ops p i slot.1 e
 
 next-only : (variables : ℕ) (ops : List Op) (p q : ℕ) → Every IsSlotOp ops → IsSuccessor (straight variables ops) p q → q ≡ suc p
-next-only variables ops p q slot (i, at, leads) = leads-next variables ops p q i (slot-at ops p i slot at) leads
+next-only variables ops p q slot (placed, i, at, leads) = leads-next variables ops p q i (slot-at ops p i slot at) leads
 
 -- ---- every use has a definition before it, or is known from before
 
@@ -80,11 +80,11 @@ beyond (j ∷ ops) (suc q) i h at = beyond ops q i (omega (arith, h)) at
 
 -- what is live there is known from before
 live-known : (variables : ℕ) (ops is : List Op) (n p v : ℕ) (known : List ℕ) → Every IsSlotOp ops → HasAt ops p is → p + length is ≡ length ops → Closed known is → ReachesUse (straight variables ops) v n p → IsIn v known
-live-known variables ops [] zero p v known slot has end closed (i, at, used) = absurd (past-end ops p i end at)
-live-known variables ops (i ∷ is) zero p v known slot has end closed (j, at, used) =
+live-known variables ops [] zero p v known slot has end closed (placed, i, at, used) = absurd (past-end ops p i end at)
+live-known variables ops (i ∷ is) zero p v known slot has end closed (placed, j, at, used) =
     let same : j ≡ i = same_Some j i (sym at ∙ has.0) in
     every-in (λ u. IsIn u known) v (uses i) closed.0 (subst (λ (k : Op). IsIn v (uses k)) same used)
-live-known variables ops [] (suc n) p v known slot has end closed (kept, q, (j, at, leads), reach) = absurd (past-end ops p j end at)
+live-known variables ops [] (suc n) p v known slot has end closed (kept, q, (placed, j, at, leads), reach) = absurd (past-end ops p j end at)
 live-known variables ops (i ∷ is) (suc n) p v known slot has end closed (kept, q, next, reach) =
     let e : q ≡ suc p = next-only variables ops p q slot next in
     let later = live-known variables ops is n (suc p) v (if_any (defined i) ++ known) slot has.1 (omega (arith, end)) closed.1 (subst (λ (k : ℕ). ReachesUse (straight variables ops) v n k) e reach) in

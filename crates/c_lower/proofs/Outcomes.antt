@@ -12,7 +12,7 @@ use Rattle.c_tree.specs.Store as source
 use Rattle.c_tree.specs.Store.{Held, HoldsNumber, first_array, first_values, number_held, zero_of}
 use Rattle.flow_graph.specs.declared.op.Op.TheVariants as op
 use Rattle.flow_graph.specs.Graphs.{Every}
-use Rattle.flow_graph.specs.Running.{GraphOutcome, number_or_zero, part_value}
+use Rattle.flow_graph.specs.Running.{GraphOutcome, number_or_unknown, part_value}
 use Rattle.flow_graph.specs.States.{GraphProgram, number_of}
 use Rattle.c_lower.specs.Code.{body_ops, function_ops, variables}
 use Rattle.c_tree.specs.SlotForm.{AreIntLocals, IsSlotFunction, IsSlotProgram}
@@ -70,8 +70,8 @@ part-shown : (locals : List Local) (part : Part) (p : ℕ) (values : List Held) 
 part-shown locals (Scalar k) p values before left taken written ints (l, e, is) matches =
     let below = local-within locals k l e in
     let (n, held, there) = matches.same k below in
-    ap (λ (v : ℕ). Number (number_or_zero (number_of (slice_get before v)))) (first-same locals k ints below)
-    ∙ ap (λ (x : Option Value). Number (number_or_zero (number_of x))) there
+    ap (λ (v : ℕ). number_or_unknown (number_of (slice_get before v))) (first-same locals k ints below)
+    ∙ ap (λ (x : Option Value). number_or_unknown (number_of x)) there
     ∙ sym (ap (λ (x : Option Held). Number (number_held x)) held)
 part-shown locals (ArrayOf k) p values before left taken written ints (l, e, is) matches = absurd (subst (λ (t : ValueType). IsPointer t) (local-int locals k l ints e) is)
 part-shown locals (IndexOf k) p values before left taken written ints (l, e, is) matches = absurd (subst (λ (t : ValueType). IsPointer t) (local-int locals k l ints e) is)

@@ -5,7 +5,7 @@ use Rattle.flow_graph.specs.declared.op.Op.TheVariants.{Const, Copy, Wide, Low, 
 use Rattle.flow_graph.specs.declared.op.Op.TheVariants.{Xor, Shl, Sar, Div, Rem, Set, Frame, Static, Load, Store, Get}
 use Rattle.flow_graph.specs.declared.op.Op.TheVariants.{Put, Clear, Param, Call, Putchar, Getchar, Exit, Same, Mark}
 use Rattle.flow_graph.specs.declared.op.Op.TheVariants.{Turn, Jump, Branch, Return}
-use Rattle.flow_graph.specs.Graphs.{Flow, IsIn, points_of, following}
+use Rattle.flow_graph.specs.Graphs.{Flow, IsIn, IsPlaced, points_of, following}
 
 abbrev pub if_any : Option ℕ → List ℕ
 if_any None = []
@@ -103,11 +103,15 @@ LeadsTo flow point next (Jump x) = BeginsWith flow x next
 LeadsTo flow point next (Branch how a b x y) = BeginsWith flow x next ⊎ BeginsWith flow y next
 LeadsTo flow point next _ = (block : ℕ) × (following point (points_of flow block) ≡ Some next)
 
+-- no path goes from a point that was removed
 abbrev pub IsSuccessor : Flow → ℕ → ℕ → Type 0
-IsSuccessor flow point next = (op : Op) × (slice_get flow.ops point ≡ Some op) × LeadsTo flow point next op
+IsSuccessor flow point next =
+    IsPlaced flow point × (op : Op) × (slice_get flow.ops point ≡ Some op) × LeadsTo flow point next op
 
+-- and none uses anything
 abbrev pub IsUsedAt : Flow → ℕ → ℕ → Type 0
-IsUsedAt flow v point = (op : Op) × (slice_get flow.ops point ≡ Some op) × IsIn v (uses op)
+IsUsedAt flow v point =
+    IsPlaced flow point × (op : Op) × (slice_get flow.ops point ≡ Some op) × IsIn v (uses op)
 
 abbrev pub IsDefinedAt : Flow → ℕ → ℕ → Type 0
 IsDefinedAt flow v point = (op : Op) × (slice_get flow.ops point ≡ Some op) × (defined op ≡ Some v)

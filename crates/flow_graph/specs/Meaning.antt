@@ -147,6 +147,19 @@ stores program s bits array i n =
     checked (element_at elements i) (λ old.
     onward program (with_array array (with_element elements i (stored bits n)) s)))
 
+-- element 0 of a static object; one without elements has none
+abbrev pub scalar_of : GraphProgram → State → Bits → ℕ → (List ℤ → ℤ → Moved) → Moved
+scalar_of program s bits k go =
+    given (elements_of program s (Static k))
+    (λ elements. of_width bits elements (λ numbers. given (slice_get numbers 0) (go numbers)))
+
+abbrev pub gets_scalar : GraphProgram → State → Bits → ℕ → ℕ → Moved
+gets_scalar program s bits d k = scalar_of program s bits k (λ numbers n. sets program s d (Number n))
+
+abbrev pub puts_scalar : GraphProgram → State → Bits → ℕ → ℤ → Moved
+puts_scalar program s bits k n = scalar_of program s bits k
+    (λ numbers old. onward program (with_array (Static k) (with_element numbers (pos 0) (stored bits n)) s))
+
 -- the frame array becomes zero
 abbrev pub clears : GraphProgram → State → ℕ → Moved
 clears program s k =
@@ -242,8 +255,8 @@ act program s (op.Load bits d p i) = given (array_at s p)
 act program s (op.Store bits p i a) =
     given (array_at s p) (λ array. given (number_at s i)
     (λ index. given (number_at s a) (stores program s bits array index)))
-act program s (op.Get bits d k) = loads program s bits d (Static k) (pos 0)
-act program s (op.Put bits k a) = given (number_at s a) (stores program s bits (Static k) (pos 0))
+act program s (op.Get bits d k) = gets_scalar program s bits d k
+act program s (op.Put bits k a) = given (number_at s a) (puts_scalar program s bits k)
 act program s (op.Clear k) = clears program s k
 act program s (op.Param d k) = given (slice_get s.current.arguments k) (sets program s d)
 act program s (op.Call d f arguments) = calls program s f arguments

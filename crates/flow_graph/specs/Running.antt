@@ -35,18 +35,19 @@ IsNeverStuck program = (input : List ℕ) (k : ℕ) (t : State) → GraphAt prog
 
 -- ---- visits: here a part goes by its variable in the graph
 
-abbrev pub number_or_zero : Option ℤ → ℤ
-number_or_zero None = pos 0
-number_or_zero (Some n) = n
+-- where a variable holds an array, as no local that is a scalar or an index does, its number is unknown
+abbrev pub number_or_unknown : Option ℤ → Value
+number_or_unknown None = Array Unknown
+number_or_unknown (Some n) = Number n
 
 abbrev pub array_or_unknown : Option ArrayName → ArrayName
 array_or_unknown None = Unknown
 array_or_unknown (Some a) = a
 
 abbrev pub part_value : State → Part → Value
-part_value s (Scalar v) = Number (number_or_zero (number_at s v))
+part_value s (Scalar v) = number_or_unknown (number_at s v)
 part_value s (ArrayOf v) = Array (array_or_unknown (array_at s v))
-part_value s (IndexOf v) = Number (number_or_zero (number_at s v))
+part_value s (IndexOf v) = number_or_unknown (number_at s v)
 
 -- the visit of a mark, with the values before it
 abbrev pub visits_at : Listing → State → Option Op → List Visit

@@ -1,8 +1,12 @@
 //! Laws of the meaning of graphs: each function's contract is one, and the function does nothing.
 
-ghost use Rattle.std.specs.Prelude.{[]};
-ghost use Rattle.flow_graph.specs.Running.{GraphOutcome, NeverStuckWithOutcomes, OneOutcome, OneState};
+ghost use Rattle.std.specs.Prelude.{ℕ, ◌≡◌, []};
+ghost use Rattle.pcc_base.specs.Outcome.{Array, Scalar, Unknown};
+ghost use Rattle.flow_graph.specs.Liveness.{IsLiveBefore};
+ghost use Rattle.flow_graph.specs.Meaning.{Stuck, step};
+ghost use Rattle.flow_graph.specs.Running.{GraphOutcome, NeverStuckWithOutcomes, OneOutcome, OneState, part_value};
 ghost use Rattle.flow_graph.specs.Worked.{low_byte_program, nothing_yet, variable_listed, written_and_ended};
+ghost use Rattle.flow_graph.specs.Worked.{before_reading, empty_object_program, holding_array, one_removed};
 
 /// A program of graphs has one outcome over an input in so many turns.
 pub fn one_outcome()
@@ -19,9 +23,13 @@ pub fn never_stuck()
     ensures { NeverStuckWithOutcomes }
 {}
 
-/// The definitions give a small graph (`specs/Worked.antt`) the outcome that a reader expects, before its turn
-/// and after it.
+/// The definitions say of small graphs (`specs/Worked.antt`) what a reader expects: their outcome before a turn and after
+/// it; nothing is live at a point that was removed; a static object without elements can't be read; and a scalar whose
+/// variable holds an array has no number to show.
 pub fn worked_example()
     ensures before { GraphOutcome low_byte_program variable_listed [] 0 nothing_yet }
     ensures after { GraphOutcome low_byte_program variable_listed [] 1 written_and_ended }
+    ensures removed { (v : ℕ) → IsLiveBefore one_removed v 0 → ⊥ }
+    ensures no_scalar { step empty_object_program before_reading ≡ Stuck }
+    ensures unknown { part_value holding_array (Scalar 0) ≡ Array Unknown }
 {}

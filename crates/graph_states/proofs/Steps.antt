@@ -22,7 +22,7 @@ use Rattle.flow_graph.specs.Graphs.{FitsOp, HasWidth, HasWord}
 use Rattle.flow_graph.specs.Meaning.{Moved, Halts, Stuck, accessed, act, bytes_of, checked, clears, comparison, divided}
 use Rattle.flow_graph.specs.Meaning.{given, gets, into_block, loads, low_byte, no_quotient, of_width, one_number}
 use Rattle.flow_graph.specs.Meaning.{onward, puts, sets}
-use Rattle.flow_graph.specs.Meaning.{shift_count, step, stored, stores, two_numbers}
+use Rattle.flow_graph.specs.Meaning.{gets_scalar, puts_scalar, shift_count, step, stored, stores, two_numbers}
 use Rattle.flow_graph.specs.States.{Elements, GraphProgram, State, Waiting, active_of, depth_of, element_at}
 use Rattle.flow_graph.specs.States.{elements_of, fitted, flow_at, array_at, number_at, op_at, value_at, width_of}
 use Rattle.flow_graph.specs.States.{with_array, with_element}
@@ -178,6 +178,26 @@ stores-kept program s bits array i n h fits =
     (element-set (bytes_of bits) elements i (stored bits n)
     (elements-fit program s array (bytes_of bits) elements (store program s h) e) (stored-fits bits n fits)))))
 
+gets_scalar-kept : (program : GraphProgram) (s : State) (bits : Bits) (d k : ℕ) → IsState program s
+    → Has program s d Two → Kept program (gets_scalar program s bits d k)
+gets_scalar-kept program s bits d k h wd =
+    there-kept program bits (elements_of program s (Static k)) _
+    (λ elements e. given-kept program (slice_get elements 0) _
+    (λ n at. a-value program s d Two (Number n) h wd
+    (element-fits bits n (all-at (FitsBytes (bytes_of bits)) elements 0 n
+    (elements-fit program s (Static k) (bytes_of bits) elements (store program s h) e) at))))
+
+puts_scalar-kept : (program : GraphProgram) (s : State) (bits : Bits) (k : ℕ) (n : ℤ) → IsState program s
+    → FitsSigned w32 n → Kept program (puts_scalar program s bits k n)
+puts_scalar-kept program s bits k n h fits =
+    there-kept program bits (elements_of program s (Static k)) _
+    (λ elements e. given-kept program (slice_get elements 0) _
+    (λ old at. onward-kept program (with_array (Static k) (with_element elements (pos 0) (stored bits n)) s)
+    (array-kept program s (Static k) (bytes_of bits) elements (with_element elements (pos 0) (stored bits n))
+    (store program s h) e
+    (element-set (bytes_of bits) elements (pos 0) (stored bits n)
+    (elements-fit program s (Static k) (bytes_of bits) elements (store program s h) e) (stored-fits bits n fits)))))
+
 -- a frame array of the youngest call becomes zero
 clears-kept : (program : GraphProgram) (s : State) (k : ℕ) → IsState program s → Kept program (clears program s k)
 clears-kept program s k i =
@@ -278,10 +298,10 @@ act-kept program s (op.Store bits p j a) h i at met names word =
     given-kept program (array_at s p) _ (λ array e. given-kept program (number_at s j) _
     (λ index g. given-kept program (number_at s a) _
     (λ n f. stores-kept program s bits array index n i (a-number program s a Two n i met.1.1.0 f))))
-act-kept program s (op.Get bits d k) h i at met names word = loads-kept program s bits d (Static k) (pos 0) i met.0
+act-kept program s (op.Get bits d k) h i at met names word = gets_scalar-kept program s bits d k i met.0
 act-kept program s (op.Put bits k a) h i at met names word =
     given-kept program (number_at s a) _
-    (λ n e. stores-kept program s bits (Static k) (pos 0) n i (a-number program s a Two n i met.0 e))
+    (λ n e. puts_scalar-kept program s bits k n i (a-number program s a Two n i met.0 e))
 act-kept program s (op.Clear k) h i at met names word = clears-kept program s k i
 act-kept program s (op.Param d k) h i at met names word =
     given-kept program (slice_get s.current.arguments k) _

@@ -39,7 +39,9 @@ use Rattle.ia32_rows.proofs.ItemKinds.{every-get}
 use Rattle.slot_map.proofs.Marked.{function-declares}
 use Rattle.slot_map.proofs.Reading.{IsLocalAt, mark_at, marks-are, points_all, variables-are, variables_over}
 use Rattle.slot_map.proofs.Parts.{listed-mark, local-all, parts-are, scalars, scalars-kept, slots-few, slots_before}
-use Rattle.slot_map.proofs.Reached.{op-main, reached-whole}
+use Rattle.slot_map.proofs.Reached.{IsNumber, op-main, reached-whole}
+use Rattle.graph_states.proofs.Lists.{all-at}
+use Rattle.std.specs.List.{All}
 use Rattle.slot_map.proofs.Words.{load-number, readable-by, shown_number, slot-address, word-shown}
 use Rattle.slot_map.proofs.Visits.{ShowsSlot, slot-before, slots-show, visit_at, visits-here, visits-none}
 
@@ -80,8 +82,8 @@ stands-only f p (suc b) h = absurd h
 
 -- the slot of a variable shows its value
 slot-shown : (flow : Flow) (slots : List ℕ) (code : Code) (input : List ℕ) (g : graph.State) (s : machine.State) (v slot : ℕ) → IsSlotCode flow slots (selected flow slots) code → Shows code input g s
-    → g.current.function ≡ 0 → length g.current.variables ≡ length flow.widths → slice_get slots v ≡ Some slot → ShowsSlot s g v slot
-slot-shown flow slots code input g s v slot h shows main values there =
+    → g.current.function ≡ 0 → length g.current.variables ≡ length flow.widths → All IsNumber g.current.variables → slice_get slots v ≡ Some slot → ShowsSlot s g v slot
+slot-shown flow slots code input g s v slot h shows main values numbers there =
     let function = g.current.function in
     let inside = slice_get_within slots v slot there in
     let known : v < length flow.widths = omega (arith, inside, h.has_slots.as_many) in
@@ -102,7 +104,7 @@ slot-shown flow slots code input g s v slot h shows main values there =
     let address = slot-address s slot room (register-small Ebp s.registers shows.registers) (omega (arith, fits.low)) in
     let number : number_in Two (InSlot slot) s ≡ Some stands.0 = ap (λ (a : ℕ). shown.number_at 4 a s.memory) address ∙ load-number 4 (word_of Ebp s - slot) stands.0 s readable stands.1 in
     ap (signed_value Two) number
-    ∙ word-shown code (active_of g) shows.frames value stands.0 h.text.objects_are (code-arrays flow slots code h) stands.2
+    ∙ word-shown code (active_of g) shows.frames value stands.0 (all-at IsNumber g.current.variables v value numbers at) stands.2
     ∙ ap shown_number (sym at)
 
 -- ---- marks
@@ -145,7 +147,7 @@ mark-values f slots code input k g s statement p h reached shows few =
     let there = slot-before slots (declared_before f.body statement) j slot e in
     let same : j ≡ 0 + j = omega arith in
     subst (λ (v : ℕ). IsLocalAt vs v × ShowsSlot s g v slot) same
-    (local-all f j (omega (arith, there.0, few)), slot-shown flow slots code input g s j slot h shows whole.main whole.values there.1))
+    (local-all f j (omega (arith, there.0, few)), slot-shown flow slots code input g s j slot h shows whole.main whole.values whole.numbers there.1))
 
 -- what the listing of the map shows of the graph
 listed-shown : (program : Program) (form : IsSlotProgram program) (slots : List ℕ) (code : Code) (p statement : ℕ) → IsIn p (points_all form.function) → slice_get (lowered form.function).ops p ≡ Some (op.Mark statement)

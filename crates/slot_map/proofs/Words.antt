@@ -12,7 +12,8 @@ use Rattle.ia32_asm.proofs.Words.{twos_complement-word}
 use Rattle.ia32_insn.specs.State.{State, Area, bytes_at, has_bytes, shape_of}
 use Rattle.ia32_insn.specs.Meaning.{and_then, load, or_end}
 use Rattle.flow_graph.specs.Graphs.{Every}
-use Rattle.flow_graph.specs.Running.{number_or_zero}
+use Rattle.flow_graph.specs.Running.{number_or_unknown}
+use Rattle.slot_map.proofs.Reached.{IsNumber}
 use Rattle.flow_graph.specs.States.{Activation, number_of}
 use Rattle.ia32_shows.specs.Placements.{Code, placement_of}
 use Rattle.ia32_shows.specs.Shows.{IsWord}
@@ -56,22 +57,12 @@ slot-address s below low high some = omega (arith, low, high, some)
 
 -- the number that a graph's visit shows of a value
 abbrev pub shown_number : Option Value → Value
-shown_number value = Number (number_or_zero (number_of value))
+shown_number value = number_or_unknown (number_of value)
 
--- the word of a value is shown as the graph shows the value, where there are no arrays
-pub word-shown : (code : Code) (active : List Activation) (frames : List ℕ) (value : Value) (word : ℕ) → code.symbols.objects ≡ [] → ((function : ℕ) → (placement_of code function).arrays ≡ [])
+-- the word of a number is shown as the graph shows the number
+pub word-shown : (code : Code) (active : List Activation) (frames : List ℕ) (value : Value) (word : ℕ) → IsNumber value
     → IsWord code active frames value word → Number (twos_complement 4 word) ≡ shown_number (Some value)
-word-shown code active frames (Number n) word objects arrays is =
+word-shown code active frames (Number n) word number is =
     let small : word < 2 ^ 32 = omega (arith, is.1, Fits-of_z is.0) in
     ap Number (twos_complement-word word small ∙ ap (cast_signed w32) is.1 ∙ to_z-of_z is.0)
-word-shown code active frames (Array Null) word objects arrays is = ap (λ (w : ℕ). Number (twos_complement 4 w)) is
-word-shown code active frames (Array (Static k)) word objects arrays is = absurd (none-at k word (sym (ap (λ (l : List ℕ). slice_get l k) objects) ∙ is))
-  where
-    none-at : (j w : ℕ) → slice_get [] j ≡ Some w → ⊥
-    none-at j w e = cc
-word-shown code active frames (Array (InFrame k depth)) word objects arrays (a, frame, below, at, there, array, is) =
-    absurd (none-at k below (sym (ap (λ (l : List ℕ). slice_get l k) (arrays a.function)) ∙ array))
-  where
-    none-at : (j w : ℕ) → slice_get [] j ≡ Some w → ⊥
-    none-at j w e = cc
-word-shown code active frames (Array Unknown) word objects arrays is = absurd is
+word-shown code active frames (Array a) word number is = absurd number
