@@ -1,4 +1,3 @@
-pub mod Rounding
 pub mod Lists
 pub mod Holding
 pub mod RoutineItems

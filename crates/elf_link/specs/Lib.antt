@@ -1,3 +1,2 @@
 pub mod Linking
 pub mod Laid
-pub mod Areas

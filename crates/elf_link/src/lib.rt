@@ -7,13 +7,11 @@
 
 mod addresses;
 mod data;
-mod laws;
 mod linked;
 mod linking;
 mod points;
 mod routines;
 mod text;
 
-pub use laws::image_loads_text;
 pub use linked::Linked;
 pub use linking::link;

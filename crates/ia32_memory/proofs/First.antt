@@ -2,25 +2,26 @@
 use Rattle.std.specs.Prelude.{◌≡◌, ℕ, ◌-◌, ◌≤◌, ◌<◌, List, ◌++◌, length, take, replicate, map, get_or, All}
 use Rattle.std.proofs.Common.{sym, ◌∙◌, ap, subst, arith, append-nil, length-append}
 use Rattle.std.proofs.lemmas.List.{take_all, length-replicate, get_or-map, length-map}
+use Rattle.pcc_base.specs.Bytes.{zeros}
 use Rattle.elf_image.specs.declared.loaded.Segment.{Segment}
 use Rattle.elf_image.specs.Segments.{IsPiece, Piece, piece_of}
 use Rattle.ia32_memory.specs.First.{padded}
 
 -- bytes that fill their size are padded by nothing
 pub padded-full : (n : ℕ) (bytes : List ℕ) → length bytes ≡ n → padded n bytes ≡ bytes
-unfolding padded
+unfolding padded zeros
 padded-full n bytes full =
     let none : n - length bytes ≡ 0 = omega (arith, full) in
     ap (λ (k : ℕ). bytes ++ replicate k 0) none ∙ append-nil bytes
 
 -- a list that was filled up with zeros is padded
 pub padded-filled : (n : ℕ) (bytes filled : List ℕ) → length bytes ≤ n → filled ≡ take n bytes ++ replicate (n - length bytes) 0 → filled ≡ padded n bytes
-unfolding padded
+unfolding padded zeros
 padded-filled n bytes filled fits e = e ∙ ap (λ (b : List ℕ). b ++ replicate (n - length bytes) 0) (take_all n bytes fits)
 
 -- the bytes and their zeros have the size
 pub length-padded : (n : ℕ) (bytes : List ℕ) → length bytes ≤ n → length (padded n bytes) ≡ n
-unfolding padded
+unfolding padded zeros
 length-padded n bytes fits = simp (length-append, length-replicate) (omega arith)
 
 -- each segment is a piece, where all are

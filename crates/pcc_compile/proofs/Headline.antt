@@ -8,7 +8,7 @@ use Rattle.ia32_insn.specs.Items.{text_state}
 use Rattle.c_lower.specs.Lowering.{KeepsOutcome}
 use Rattle.c_lower.specs.Shown.{ListsLocals, variables_shown}
 use Rattle.elf_image.specs.Layout.{Fits}
-use Rattle.elf_link.specs.Areas.{parts_of_text}
+use Rattle.image_start.specs.Begins.{parts_of_text}
 use Rattle.ia32_machine.specs.First.{First}
 use Rattle.ia32_shows.specs.Placements.{Code}
 use Rattle.pcc_base.specs.Bytes.{AreBytes}

@@ -14,7 +14,7 @@ use Rattle.ia32_asm.specs.declared.section.Target.{Target}
 use Rattle.ia32_asm.specs.declared.section.Target.TheVariants as target
 use Rattle.ia32_asm.specs.Sections.{IsSection, Stands, target_of}
 use Rattle.elf_image.specs.Segments.{parts_of}
-use Rattle.elf_link.specs.Areas.{parts_of_text}
+use Rattle.image_start.specs.Begins.{parts_of_text}
 use Rattle.elf_link.specs.declared.linked.Linked.{Linked}
 use Rattle.elf_link.specs.Linking.{CanLink, FitsIn, IsLinked, IsThere}
 use Rattle.elf_link.proofs.Placing.{follow_inside}

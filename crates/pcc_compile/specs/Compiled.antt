@@ -3,7 +3,7 @@ use Rattle.std.specs.Prelude.{ℕ, List, []}
 use Rattle.c_tree.specs.Program.{Program}
 use Rattle.c_lower.specs.Lowering.{KeepsOutcome}
 use Rattle.elf_image.specs.Layout.{image_bytes}
-use Rattle.elf_link.specs.Areas.{parts_of_text}
+use Rattle.image_start.specs.Begins.{parts_of_text}
 use Rattle.ia32_shows.specs.Placements.{Code}
 use Rattle.pcc_listing.specs.Lines.{IsMap}
 use Rattle.slot_map.specs.MapLaws.{IsCodeOf, IsMapOf, lines_of}

@@ -3,7 +3,7 @@
 ghost use Rattle.pcc_compile.specs.Compiled.{CompiledDoesAs};
 
 use ia32_simulation::slots_are_right;
-use image_first::text_begins;
+use image_start::text_begins;
 use slot_map::{map_belongs, map_keeps_rules, map_lists_locals, map_shows_visits};
 
 /// Where the code of a program's function was linked, the map of its points is that of the function, and the image of

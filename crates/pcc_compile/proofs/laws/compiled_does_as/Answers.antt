@@ -3,7 +3,7 @@ use Rattle.std.proofs.Common.{List, [], ◌∷◌, subst}
 use Rattle.c_tree.specs.Program.{Function}
 use Rattle.flow_graph.specs.Graphs.{Every}
 use Rattle.elf_image.specs.Layout.{image_bytes}
-use Rattle.elf_link.specs.Areas.{parts_of_text}
+use Rattle.image_start.specs.Begins.{parts_of_text}
 use Rattle.c_lower.specs.Code.{lowered}
 use Rattle.ia32_shows.specs.Placements.{point_address}
 use Rattle.slot_map.specs.MapLaws.{lines_of}

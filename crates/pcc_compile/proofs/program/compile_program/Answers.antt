@@ -5,7 +5,7 @@ use Rattle.c_tree.specs.Erased.{function_of, program_of}
 use Rattle.flow_graph.specs.Graphs.{Flow}
 use Rattle.c_lower.specs.Lowering.{graphs_of}
 use Rattle.elf_image.specs.Layout.{image_bytes}
-use Rattle.elf_link.specs.Areas.{parts_of_text}
+use Rattle.image_start.specs.Begins.{parts_of_text}
 use Rattle.ia32_shows.specs.Placements.{point_address}
 use Rattle.ia32_rows.specs.Rows.{selected}
 use Rattle.pcc_base.specs.Bytes.{AreBytes}

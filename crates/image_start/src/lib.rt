@@ -4,4 +4,4 @@
 
 mod laws;
 
-pub use laws::{one_area, text_begins};
+pub use laws::{image_loads_text, text_begins};
