@@ -1,7 +1,9 @@
 -- What lowering promises beside the outcome.
 use Rattle.std.proofs.Common.{◌≡◌, ℕ, zero, suc, ◌+◌, ◌*◌, ◌<◌, ◌≤◌, true, List, [], ◌∷◌, ◌++◌, length, map, replicate, Some, refl, sym, ap, ◌∙◌, subst, arith}
 use Rattle.std.specs.Prelude.{slice_get, sum_by}
-use Rattle.std.specs.List.{range_with_len}
+use Rattle.std.specs.List.{All, range_with_len}
+use Rattle.std.proofs.lemmas.List.Elements.{All-cons, All-nil}
+use Rattle.pcc_base.specs.Objects.{IsObject}
 use Rattle.std.proofs.lemmas.List.{append-nil}
 use Rattle.std.proofs.lemmas.List.Sums.{sum_by-cons}
 use Rattle.std.proofs.lemmas.Option.{none-some, same_Some}
@@ -13,14 +15,15 @@ use Rattle.c_tree.specs.Program.{Local, Function, Program}
 use Rattle.c_tree.specs.Sizes.{function_size, size_of, statements_size}
 use Rattle.flow_graph.specs.declared.op.Op.{Op}
 use Rattle.flow_graph.specs.declared.op.Op.TheVariants as op
-use Rattle.flow_graph.specs.Graphs.{Every, Flow, IsDistinct, IsEnded, LastIsEnd, is_end}
+use Rattle.flow_graph.specs.Graphs.{Every, Flow, IsDistinct, IsEnded, IsFlow, LastIsEnd, is_end}
 use Rattle.flow_graph.specs.Liveness.{IsLiveBefore}
 use Rattle.flow_graph.specs.Running.{IsNeverStuck}
 use Rattle.flow_graph.specs.States.{GraphProgram}
+use Rattle.flow_graph.specs.WellFormed.{IsGraph, IsGraphProgram, NamesWithin}
 use Rattle.flow_graph.proofs.OneRun.{never_stuck}
 use Rattle.c_lower.specs.Code.{AllFit, EndsLast, body_ops, function_ops, lowered, slot_graphs, temporaries, variables}
 use Rattle.c_tree.specs.SlotForm.{AreSlotStatements, AreIntLocals, IsSlotFunction, IsSlotProgram}
-use Rattle.c_lower.specs.Lowering.{AreLowered, AreSmall, FixedDies, HasObjects, IsLowered, KeepsOutcome, MarksOnce, NamesItsOwn, NamesWithin, array_of, first_object, marks_in, most_words, points_in, words_in, arrays_in, words_of}
+use Rattle.c_lower.specs.Lowering.{AreLowered, AreSmall, FixedDies, HasObjects, IsLowered, KeepsOutcome, MarksOnce, array_of, first_object, marks_in, most_words, points_in, words_in, arrays_in, words_of}
 use Rattle.c_lower.specs.Shown.{local_widths, type_widths, variables_shown}
 use Rattle.c_lower.proofs.Elements.{has_all}
 use Rattle.c_lower.proofs.Fitting.{IsSlotOp, body-marks, body-sizes, ends-body, fit-body, slot-body, slots-body}
@@ -123,9 +126,11 @@ names-own functions objects (op.Get bits d k) slot = absurd slot
 names-own functions objects (op.Put bits k s) slot = absurd slot
 names-own functions objects _ slot = tt
 
-every-names : (functions objects : ℕ) (ops : List Op) → Every IsSlotOp ops → Every (NamesWithin functions objects) ops
-every-names functions objects [] slot = tt
-every-names functions objects (i ∷ ops) slot = (names-own functions objects i slot.0, every-names functions objects ops slot.1)
+all-names : (functions objects : ℕ) (ops : List Op) → Every IsSlotOp ops → All (NamesWithin functions objects) ops
+all-names functions objects [] slot = All-nil (NamesWithin functions objects)
+all-names functions objects (i ∷ ops) slot =
+    All-cons (NamesWithin functions objects) i ops (names-own functions objects i slot.0)
+    (all-names functions objects ops slot.1)
 
 most-none : (ops : List Op) → Every IsSlotOp ops → most_words ops ≡ 0
 most-none [] slot = refl
@@ -198,9 +203,26 @@ functions-lowered program slot = record {
 pub objects-kept : (program : Program) → IsSlotProgram program → HasObjects program (slot_graphs program)
 objects-kept program slot = sym (ap (map first_object) slot.no_objects)
 
-pub names-kept : (program : Program) → IsSlotProgram program → NamesItsOwn (slot_graphs program)
-names-kept program slot =
-    subst (λ (g : GraphProgram). NamesItsOwn g) (sym (one-graph program slot)) (every-names 1 0 (function_ops slot.function) (slot-ops slot.function slot.accepted), tt)
+-- graphs that are graphs are those of a program of graphs
+pub program-kept : (program : Program) (graphs : GraphProgram) → IsSlotProgram program → graphs ≡ slot_graphs program
+    → Every (λ flow. (homes : List ℕ) × IsFlow flow homes) graphs.functions → IsGraphProgram graphs
+program-kept program graphs slot same flows =
+    let f = slot.function in
+    let one = one_block (variables f) (function_ops f) in
+    let is : graphs ≡ one = same ∙ one-graph program slot in
+    let kept : Every (λ flow. (homes : List ℕ) × IsFlow flow homes) one.functions = subst (λ (g : GraphProgram). Every (λ flow. (homes : List ℕ) × IsFlow flow homes) g.functions) is flows in
+    let ended = straight-ended (function_ops f) (function-facts f slot.accepted).ends in
+    let graph : IsGraph 1 0 (lowered f) = record {
+      keeps = kept.0;
+      begins = omega arith;
+      ended = All-cons (LastIsEnd (function_ops f)) _ [] ended (All-nil (LastIsEnd (function_ops f)));
+      names = all-names 1 0 (function_ops f) (slot-ops f slot.accepted);
+    } in
+    subst (λ (g : GraphProgram). IsGraphProgram g) (sym is) (record {
+      functions = All-cons (IsGraph 1 0) (lowered f) [] graph (All-nil (IsGraph 1 0));
+      objects = All-nil IsObject;
+      main = omega arith;
+    })
 
 pub marks-once : (program : Program) → IsSlotProgram program → MarksOnce (slot_graphs program)
 marks-once program slot =

@@ -1,6 +1,6 @@
 -- What lowering promises of the graphs of a program.
 use Rattle.std.specs.Prelude.{◌≡◌, ◌≢◌, ◌<◌, ◌≤◌, ℕ, ◌+◌, ◌*◌, ◌/◌, max, List, [], ◌∷◌, ◌++◌, length, map, slice_get, Some, sum_by}
-pub use Rattle.pcc_base.specs.Objects.{IsObject, Object, object_of}
+pub use Rattle.pcc_base.specs.Objects.{Object, object_of}
 use Rattle.pcc_base.specs.declared.run.Width.{Width}
 use Rattle.pcc_base.specs.Outcome.{Listing}
 use Rattle.c_tree.specs.Evaluation.{source_outcome}
@@ -8,11 +8,10 @@ use Rattle.c_tree.specs.Program.{StaticObject, LocalArray, Function, Program}
 use Rattle.c_tree.specs.Sizes.{bytes_of, frame_bound, size_of}
 use Rattle.flow_graph.specs.declared.op.Op.{Op}
 use Rattle.flow_graph.specs.declared.op.Op.TheVariants.{Call, Div, Mark, Rem, Sar, Shl}
-use Rattle.flow_graph.specs.Graphs.{Every, Flow, IsDistinct, IsEnded}
+use Rattle.flow_graph.specs.Graphs.{Flow, IsDistinct, IsEnded}
 use Rattle.flow_graph.specs.Liveness.{BeginsWith, IsLiveAfter, IsLiveBefore}
 use Rattle.flow_graph.specs.Running.{GraphOutcome}
 use Rattle.flow_graph.specs.States.{GraphProgram}
-pub use Rattle.flow_graph.specs.WellFormed.{NamesWithin}
 use Rattle.c_lower.specs.declared.graphs.Graphs.{Graphs}
 use Rattle.c_lower.specs.Shown.{ListsLocals, local_widths, variables_shown}
 
@@ -95,11 +94,7 @@ pub record AreSmall (program : Program) (graphs : GraphProgram) : Type 0 where
   pub words : sum_by words_in graphs.functions ≤ 2 * size_of program
   pub arrays : sum_by arrays_in graphs.functions ≤ size_of program
 
--- ---- names
-
--- every op names functions and objects of the program alone
-abbrev pub NamesItsOwn : GraphProgram → Type 0
-NamesItsOwn graphs = Every (λ flow. Every (NamesWithin (length graphs.functions) (length graphs.objects)) flow.ops) graphs.functions
+-- ---- marks
 
 -- the statements that ops mark
 abbrev pub mark_of : Op → List ℕ
@@ -126,6 +121,3 @@ first_object o = record { width = bytes_of o.element; elements = o.elements }
 -- the objects are the program's with their first contents
 abbrev pub HasObjects : Program → GraphProgram → Type 0
 HasObjects program graphs = graphs.objects ≡ map first_object program.objects
-
-abbrev pub AreObjects : GraphProgram → Type 0
-AreObjects graphs = Every IsObject graphs.objects

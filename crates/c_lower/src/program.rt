@@ -4,10 +4,10 @@ ghost use Rattle.std.specs.Prelude.{◌≡◌, ◌≤◌, IfOk};
 ghost use Rattle.c_tree.specs.Erased.{function_of, program_of};
 ghost use Rattle.c_tree.specs.Sizes.{function_size};
 ghost use Rattle.flow_graph.specs.Running.{IsNeverStuck};
+ghost use Rattle.flow_graph.specs.WellFormed.{IsGraphProgram};
 ghost use Rattle.c_lower.specs.Code.{lowered, slot_graphs};
 ghost use Rattle.c_tree.specs.SlotForm.{IsSlotFunction, IsSlotProgram};
-ghost use Rattle.c_lower.specs.Lowering.{AreLowered, AreObjects, AreSmall, HasObjects, KeepsOutcome, MarksOnce};
-ghost use Rattle.c_lower.specs.Lowering.{NamesItsOwn, graphs_of};
+ghost use Rattle.c_lower.specs.Lowering.{AreLowered, AreSmall, HasObjects, KeepsOutcome, MarksOnce, graphs_of};
 
 use crate::blocks::graph_of;
 use crate::graphs::Graphs;
@@ -35,9 +35,11 @@ fn lower_function(alloc: Global, function: &Function) -> Result<Graph, NoMemory>
 /// The graphs of a program of one function.
 fn lower_program(alloc: Global, program: &Program) -> Result<Graphs, NoMemory>
     requires { IsSlotProgram (program_of program.now) }
-    ensures { IfOk result (λ graphs. graphs_of graphs ≡ slot_graphs (program_of program.now)) }
+    ensures graphs { IfOk result (λ graphs. graphs_of graphs ≡ slot_graphs (program_of program.now)) }
+    ensures well_formed { IfOk result (λ graphs. IsGraphProgram (graphs_of graphs)) }
 {
     let graph = lower_function(alloc, &program.functions[0])?;
+    graph.is_flow();
     let mut functions = Vec::new(alloc);
     functions.push(graph)?;
     Ok(Graphs {
@@ -59,11 +61,13 @@ pub fn lower(alloc: Global, program: &Program) -> Result<Graphs, NoMemory>
     // Every state that comes has its next one or an end.
     ensures never_stuck { IfOk result (λ graphs. IsNeverStuck (graphs_of graphs)) }
 
+    // Each graph is one, and each of its blocks is ended; ops name functions and objects of the graphs alone; each
+    // object is one.
+    ensures well_formed { IfOk result (λ graphs. IsGraphProgram (graphs_of graphs)) }
+
     // The functions' graphs: their first variables, frame arrays, ends of blocks, live variables, and frames.
     ensures functions { IfOk result (λ graphs. AreLowered (program_of program.now) (graphs_of graphs)) }
     ensures has_objects { IfOk result (λ graphs. HasObjects (program_of program.now) (graphs_of graphs)) }
-    ensures objects { IfOk result (λ graphs. AreObjects (graphs_of graphs)) }
-    ensures names { IfOk result (λ graphs. NamesItsOwn (graphs_of graphs)) }
     ensures marks { IfOk result (λ graphs. MarksOnce (graphs_of graphs)) }
 
     // The graphs are those of the ops of each statement.

@@ -1,3 +1,4 @@
+pub mod Active
 pub mod Arrays
 pub mod Calls
 pub mod Changes
