@@ -3,7 +3,7 @@ use Rattle.std.proofs.Common.{◌≡◌, ℕ, zero, suc, pos, List, [], ◌∷�
 use Rattle.std.specs.Prelude.{slice_get, option_map, ⊤}
 use Rattle.std.specs.List.{All}
 use Rattle.std.proofs.lemmas.List.{length-map, length-set}
-use Rattle.std.proofs.lemmas.List.Elements.{All-set}
+use Rattle.std.proofs.lemmas.List.Elements.{All-cons, All-nil, All-set}
 use Rattle.std.proofs.lemmas.Option.{none-some, same_Some}
 use Rattle.pcc_base.specs.declared.run.Width.{Width}
 use Rattle.pcc_base.specs.Outcome.{Value, Number, Array}
@@ -120,8 +120,9 @@ after-whole flow (suc k) g h ops whole e =
     after-whole flow k u h ops (step-whole flow g u ops whole moves) later
 
 all-zero : (widths : List Width) → All IsNumber (map (λ width. Number (pos 0)) widths)
-all-zero [] = tt
-all-zero (width ∷ widths) = (tt, all-zero widths)
+all-zero [] = All-nil IsNumber
+all-zero (width ∷ widths) =
+    All-cons IsNumber (Number (pos 0)) (map (λ (w : Width). Number (pos 0)) widths) tt (all-zero widths)
 
 first-whole : (flow : Flow) (input : List ℕ) (g : State) (entry : Option ℕ) → option_map (first_state_at (one_graph flow) input) entry ≡ Some g → IsWhole flow g
 first-whole flow input g None e = absurd (none-some g e)

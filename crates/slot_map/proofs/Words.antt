@@ -1,11 +1,11 @@
 -- What a slot shows: the word that stands there, read as a signed number.
 use Rattle.std.proofs.Common.{◌≡◌, ℕ, ◌-◌, ◌<◌, ◌≤◌, ◌^◌, Bool, true, false, List, [], ◌∷◌, map, take, drop, Option, Some, None, Ok, refl, sym, ap, ◌∙◌, arith}
-use Rattle.std.specs.Prelude.{option_map, slice_get, if◌then◌else◌}
+use Rattle.std.specs.Prelude.{option_map, if◌then◌else◌}
 use Rattle.std.specs.Int.{w32, cast_signed}
 use Rattle.std.proofs.Math.Facts.{to_z-of_z, Fits-of_z}
 use Rattle.byteorder.specs.Endian.{little_number, twos_complement}
 use Rattle.byteorder.specs.Numbers.{little_from-take}
-use Rattle.pcc_base.specs.Outcome.{End, Null, Static, InFrame, Unknown, Value, Number, Array}
+use Rattle.pcc_base.specs.Outcome.{End, Value, Number, Array}
 use Rattle.ia32_regs.specs.Registers.{register}
 use Rattle.ia32_regs.specs.declared.names.Reg32.TheVariants.{Ebp}
 use Rattle.ia32_asm.proofs.Words.{twos_complement-word}
@@ -15,7 +15,7 @@ use Rattle.flow_graph.specs.Graphs.{Every}
 use Rattle.flow_graph.specs.Running.{number_or_unknown}
 use Rattle.slot_map.proofs.Reached.{IsNumber}
 use Rattle.flow_graph.specs.States.{Activation, number_of}
-use Rattle.ia32_shows.specs.Placements.{Code, placement_of}
+use Rattle.ia32_shows.specs.Placements.{Code}
 use Rattle.ia32_shows.specs.Shows.{IsWord}
 use Rattle.pcc_listing.specs.Marks as shown
 
