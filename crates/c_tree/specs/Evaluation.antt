@@ -240,7 +240,8 @@ after_switch Breaks s = Gives Falls s
 after_switch Continues s = Gives Continues s
 after_switch (Returns value) s = Gives (Returns value) s
 
--- A `while` or `for`: each test takes a turn. The bound is never met before the turns are used.
+-- A `while` or `for`: each test takes a turn. It goes over a bound above the turns: what still goes has then no turn
+-- left, and every such bound makes the same of it (proved in `c_bounds`).
 abbrev pub loop : ℕ → (State → Evaluated Bool) → Runs → Runs → Runs
 loop zero test body after s = Ends Goes s
 loop (suc bound) test body after s =
@@ -378,7 +379,8 @@ run_function calls bound listing None arguments s = Gives (HoldsNumber (pos 0)) 
 run_function calls bound listing (Some f) arguments s =
     enter f arguments (execute_from calls bound listing (type_at f) f.result f.body 0) s
 
--- Calls within calls go over a bound, which is never met before the turns are used.
+-- Calls within calls go over a bound above the turns: what still goes has then no turn left, and every such bound makes
+-- the same of it (proved in `c_bounds`).
 abbrev pub call_within : ℕ → Program → Listing → Calls
 call_within zero program listing f arguments s = Ends Goes s
 call_within (suc bound) program listing f arguments s =

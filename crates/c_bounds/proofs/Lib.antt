@@ -1,0 +1,6 @@
+pub mod After
+pub mod Keeping
+pub mod Extending
+pub mod Trees
+pub mod Calls
+pub mod Outcomes

@@ -1,0 +1,142 @@
+-- The laws of bounds: what holds of every evaluation of a tree whose calls keep it, and of every program.
+use Rattle.std.specs.Prelude.{◌≡◌, ◌≢◌, ℕ, suc, ◌+◌, ◌≤◌, ◌<◌, Bool, List, ◌++◌, length}
+use Rattle.pcc_base.specs.Outcome.{Goes, Listing, Outcome, Visit}
+use Rattle.c_tree.specs.Evaluation.{Calls, evaluate, locate, evaluate_all, Types, declare, Runs, run_first}
+use Rattle.c_tree.specs.Evaluation.{loop, do_loop, execute, execute_from, call_within, source_outcome}
+use Rattle.c_tree.specs.declared.types.ValueType.{ValueType}
+use Rattle.c_tree.specs.Program.{Arguments, Expression, First, Item, Place, Program, Statement, Statements}
+use Rattle.c_tree.specs.Store.{Held, State, Evaluated, Ends}
+use Rattle.c_bounds.specs.Bounds.{CallsAgree, CallsExtend, CallsKeep, Extending, Keeps}
+
+-- ---- trees
+
+-- The evaluation of every tree keeps what evaluations keep, with loops over a bound that isn't lower.
+pub record TreesKeep (bound : ℕ) (calls : Calls) : Type 0 where
+  pub expressions : (e : Expression) (s : State) → Keeps bound s (evaluate calls e s)
+  pub places : (place : Place) (s : State) → Keeps bound s (locate calls place s)
+  pub arguments : (arguments : Arguments) (s : State) → Keeps bound s (evaluate_all calls arguments s)
+  pub items : (listing : Listing) (types : Types) (item : Item) (s : State)
+      → Keeps bound s (declare calls listing types item s)
+  pub firsts : (listing : Listing) (types : Types) (first : First) (s : State)
+      → Keeps bound s (run_first calls listing types first s)
+  pub statements : (loops : ℕ) (listing : Listing) (types : Types) (result : ValueType) (x : Statement) (s : State)
+      → bound ≤ loops → Keeps bound s (execute calls loops listing types result x s)
+  pub bodies : (loops : ℕ) (listing : Listing) (types : Types) (result : ValueType) (xs : Statements) (place : ℕ)
+      (s : State) → bound ≤ loops → Keeps bound s (execute_from calls loops listing types result xs place s)
+
+-- Trees whose calls keep it do so.
+abbrev pub TreesKeepAsCalls : Type 0
+TreesKeepAsCalls = (bound : ℕ) (calls : Calls) → CallsKeep bound calls → TreesKeep bound calls
+
+-- The evaluation of every tree with other calls, and more turns, comes to what it does with the first ones.
+pub record TreesExtend (bound more : ℕ) (calls others : Calls) : Type 0 where
+  pub expressions : (e : Expression) → Extending bound more (evaluate calls e) (evaluate others e)
+  pub places : (place : Place) → Extending bound more (locate calls place) (locate others place)
+  pub arguments : (arguments : Arguments) → Extending bound more (evaluate_all calls arguments)
+      (evaluate_all others arguments)
+  pub items : (listing : Listing) (types : Types) (item : Item)
+      → Extending bound more (declare calls listing types item) (declare others listing types item)
+  pub firsts : (listing : Listing) (types : Types) (first : First)
+      → Extending bound more (run_first calls listing types first) (run_first others listing types first)
+  pub statements : (loops other : ℕ) (listing : Listing) (types : Types) (result : ValueType) (x : Statement)
+      → bound ≤ loops → bound + more ≤ other → Extending bound more (execute calls loops listing types result x)
+      (execute others other listing types result x)
+  pub bodies : (loops other : ℕ) (listing : Listing) (types : Types) (result : ValueType) (xs : Statements) (place : ℕ)
+      → bound ≤ loops → bound + more ≤ other
+      → Extending bound more (execute_from calls loops listing types result xs place)
+      (execute_from others other listing types result xs place)
+
+abbrev pub TreesExtendAsCalls : Type 0
+TreesExtendAsCalls = (bound more : ℕ) (calls others : Calls) → CallsExtend bound more calls others
+    → TreesExtend bound more calls others
+
+-- The evaluation of every tree is the same with other calls, from a state with fewer turns than the bound.
+pub record TreesAgree (bound : ℕ) (calls others : Calls) : Type 0 where
+  pub expressions : (e : Expression) (s : State) → s.turns < bound → evaluate calls e s ≡ evaluate others e s
+  pub places : (place : Place) (s : State) → s.turns < bound → locate calls place s ≡ locate others place s
+  pub arguments : (arguments : Arguments) (s : State) → s.turns < bound
+      → evaluate_all calls arguments s ≡ evaluate_all others arguments s
+  pub items : (listing : Listing) (types : Types) (item : Item) (s : State) → s.turns < bound
+      → declare calls listing types item s ≡ declare others listing types item s
+  pub firsts : (listing : Listing) (types : Types) (first : First) (s : State) → s.turns < bound
+      → run_first calls listing types first s ≡ run_first others listing types first s
+  pub statements : (loops other : ℕ) (listing : Listing) (types : Types) (result : ValueType) (x : Statement)
+      (s : State) → bound ≤ loops → bound ≤ other → s.turns < bound
+      → execute calls loops listing types result x s ≡ execute others other listing types result x s
+  pub bodies : (loops other : ℕ) (listing : Listing) (types : Types) (result : ValueType) (xs : Statements) (place : ℕ)
+      (s : State) → bound ≤ loops → bound ≤ other → s.turns < bound
+      → execute_from calls loops listing types result xs place s
+      ≡ execute_from others other listing types result xs place s
+
+abbrev pub TreesAgreeAsCalls : Type 0
+TreesAgreeAsCalls = (bound : ℕ) (calls others : Calls) → CallsKeep bound calls → CallsKeep bound others
+    → CallsAgree bound calls others → TreesAgree bound calls others
+
+-- ---- loops
+
+-- the parts of a loop keep what evaluations keep
+pub record LoopKeeps (bound : ℕ) (test : State → Evaluated Bool) (body after : Runs) : Type 0 where
+  pub tests : (s : State) → Keeps bound s (test s)
+  pub bodies : (s : State) → Keeps bound s (body s)
+  pub afters : (s : State) → Keeps bound s (after s)
+
+-- Then so does the loop, over a bound that isn't lower.
+abbrev pub LoopsKeep : Type 0
+LoopsKeep = (bound loops : ℕ) (test : State → Evaluated Bool) (body after : Runs) (s : State) → bound ≤ loops
+    → LoopKeeps bound test body after
+    → Keeps bound s (loop loops test body after s) × Keeps bound s (do_loop loops test body s)
+
+-- Two bounds above the turns make the same of a loop.
+abbrev pub LoopBoundsAgree : Type 0
+LoopBoundsAgree = (bound other : ℕ) (test : State → Evaluated Bool) (body after : Runs) (s : State)
+    → s.turns < bound → s.turns < other → LoopKeeps (suc s.turns) test body after
+    → (loop bound test body after s ≡ loop other test body after s)
+    × (do_loop bound test body s ≡ do_loop other test body s)
+
+-- ---- calls
+
+-- Calls keep what evaluations keep.
+abbrev pub ProgramsKeep : Type 0
+ProgramsKeep = (program : Program) (listing : Listing) (bound : ℕ) → CallsKeep bound (call_within bound program listing)
+
+-- A call that ends, and the program still goes, with the bound above the turns, has no turn left.
+abbrev pub GoesWithoutTurns : Type 0
+GoesWithoutTurns = (program : Program) (listing : Listing) (bound f : ℕ) (arguments : List Held) (s t : State)
+    → s.turns < bound → call_within bound program listing f arguments s ≡ Ends Goes t → t.turns ≡ 0
+
+-- Two bounds above the turns make the same of a call.
+abbrev pub CallBoundsAgree : Type 0
+CallBoundsAgree = (program : Program) (listing : Listing) (bound other f : ℕ) (arguments : List Held) (s : State)
+    → s.turns < bound → s.turns < other
+    → call_within bound program listing f arguments s ≡ call_within other program listing f arguments s
+
+-- With more turns, and bounds that aren't lower, calls come to what they do with fewer.
+abbrev pub ProgramsExtend : Type 0
+ProgramsExtend = (program : Program) (listing : Listing) (bound more calls others : ℕ) → bound ≤ calls
+    → bound + more ≤ others → CallsExtend bound more (call_within calls program listing)
+    (call_within others program listing)
+
+-- ---- programs
+
+-- A program that has ended after some turns has the same outcome after more.
+abbrev pub EndsStay : Type 0
+EndsStay = (program : Program) (listing : Listing) (input : List ℕ) (n m : ℕ) → n ≤ m
+    → ((source_outcome program listing input n).end ≢ Goes)
+    → source_outcome program listing input m ≡ source_outcome program listing input n
+
+-- An outcome goes on from another: visits and bytes written stand behind those of the other, and no fewer bytes are
+-- taken.
+pub record GoesOn (o more : Outcome) : Type 0 where
+  pub visits : (others : List Visit) × (more.visits ≡ o.visits ++ others)
+  pub written : (others : List ℕ) × (more.written ≡ o.written ++ others)
+  pub taken : o.taken ≤ more.taken
+
+-- More turns go on from fewer.
+abbrev pub OutcomesGoOn : Type 0
+OutcomesGoOn = (program : Program) (listing : Listing) (input : List ℕ) (n m : ℕ) → n ≤ m
+    → GoesOn (source_outcome program listing input n) (source_outcome program listing input m)
+
+-- No more bytes are taken than the input has.
+abbrev pub TakenIsThere : Type 0
+TakenIsThere = (program : Program) (listing : Listing) (input : List ℕ) (n : ℕ)
+    → (source_outcome program listing input n).taken ≤ length input
