@@ -19,14 +19,14 @@ use Rattle.ia32_insn.specs.Preferred.{fields_for, displacement_for, word_bytes, 
 use Rattle.ia32_encode.proofs.Spelled.{spelling-indexed}
 use Rattle.flow_graph.specs.declared.op.Op.{Op}
 use Rattle.flow_graph.specs.declared.op.Op.TheVariants as op
-use Rattle.flow_graph.specs.Graphs.{Flow, Every, IsFlow}
+use Rattle.flow_graph.specs.Graphs.{Flow, Every, HasWord, IsFlow}
 use Rattle.ia32_asm.specs.declared.section.Target.TheVariants as target
 use Rattle.ia32_asm.specs.Sections.{CanAssemble, IsSpelled, HasLabel, items_size, target_of}
 use Rattle.ia32_asm.proofs.Laying.{items_size-append}
 use Rattle.ia32_shows.specs.Placements.{below}
 use Rattle.ia32_rows.specs.Rows.{IsSlot, HasSlots, frame_of, row, clears, prologue, point_row, point_rows, block_rows, selected}
 use Rattle.ia32_rows.proofs.ItemKinds.{IsRowItem, every-join, every-get, selected-items}
-use Rattle.ia32_select.specs.Offsets.{NumberFits, NumberFitsAt, NamesOnlyPutchar}
+use Rattle.ia32_select.specs.Offsets.{NamesOnlyPutchar}
 use Rattle.ia32_select.proofs.Marked.{all_points, labels-once, points-once, few-points}
 
 -- ---- spellings
@@ -64,7 +64,7 @@ push-spelled r = ((80 + number32 r) ∷ [], inl refl)
 number-spelled : (r : Reg32) (z : ℤ) → FitsSigned w32 z → HasSpelling (insn.MovImm (rm.Reg r) z)
 number-spelled r z h = spelling-indexed (insn.MovImm (rm.Reg r) z) (tt, h) (tt, tt)
 
-row-spelled : (slots : List ℕ) (o : Op) → AreSmall slots → NumberFits o → Every IsSpelled (row slots o)
+row-spelled : (slots : List ℕ) (o : Op) → AreSmall slots → HasWord o → Every IsSpelled (row slots o)
 row-spelled slots (op.Const d n) small fits = (number-spelled Esi n fits, (write-spelled Esi _ (small d), tt))
 row-spelled slots (op.Copy d s) small fits = (read-spelled Esi _ (small s), (write-spelled Esi _ (small d), tt))
 row-spelled slots (op.Add d a b) small fits = (read-spelled Esi _ (small a), (read-spelled Edi _ (small b), (operation-spelled alu.Add, (write-spelled Esi _ (small d), tt))))
@@ -100,27 +100,27 @@ prologue-spelled frame slots h small = (
   ),
 )
 
--- the number of a point's op fits, also where there is no such point
-number-at : (ops : List Op) (p : ℕ) → NumberFitsAt ops p → NumberFits (slice_index_or ops p op.Turn)
-number-at [] zero h = tt
-number-at [] (suc p) h = tt
-number-at (o ∷ ops) zero h = h o refl
-number-at (o ∷ ops) (suc p) h = number-at ops p h
+-- the number of a point's op has 32 bits, also where there is no such point
+word-at : (ops : List Op) (p : ℕ) → Every HasWord ops → HasWord (slice_index_or ops p op.Turn)
+word-at [] zero h = tt
+word-at [] (suc p) h = tt
+word-at (o ∷ ops) zero h = h.0
+word-at (o ∷ ops) (suc p) h = word-at ops p h.1
 
-points-spelled : (ops : List Op) (slots points : List ℕ) → AreSmall slots → Every (NumberFitsAt ops) points → Every IsSpelled (point_rows ops slots points)
+points-spelled : (ops : List Op) (slots points : List ℕ) → AreSmall slots → Every HasWord ops → Every IsSpelled (point_rows ops slots points)
 points-spelled ops slots [] small h = tt
 points-spelled ops slots (p ∷ ps) small h =
-    every-join IsSpelled (point_row ops slots p) (point_rows ops slots ps) (tt, row-spelled slots (slice_index_or ops p op.Turn) small (number-at ops p h.0)) (points-spelled ops slots ps small h.1)
+    every-join IsSpelled (point_row ops slots p) (point_rows ops slots ps) (tt, row-spelled slots (slice_index_or ops p op.Turn) small (word-at ops p h)) (points-spelled ops slots ps small h)
 
-blocks-spelled : (ops : List Op) (slots : List ℕ) (k : ℕ) (blocks : List (List ℕ)) → AreSmall slots → Every (Every (NumberFitsAt ops)) blocks → Every IsSpelled (block_rows ops slots k blocks)
+blocks-spelled : (ops : List Op) (slots : List ℕ) (k : ℕ) (blocks : List (List ℕ)) → AreSmall slots → Every HasWord ops → Every IsSpelled (block_rows ops slots k blocks)
 blocks-spelled ops slots k [] small h = tt
 blocks-spelled ops slots k (points ∷ blocks) small h =
-    every-join IsSpelled (item.Label k ∷ point_rows ops slots points) (block_rows ops slots (suc k) blocks) (tt, points-spelled ops slots points small h.0) (blocks-spelled ops slots (suc k) blocks small h.1)
+    every-join IsSpelled (item.Label k ∷ point_rows ops slots points) (block_rows ops slots (suc k) blocks) (tt, points-spelled ops slots points small h) (blocks-spelled ops slots (suc k) blocks small h)
 
-selected-spelled : (flow : Flow) (slots : List ℕ) → HasSlots flow slots → Every (Every (NumberFitsAt flow.ops)) flow.blocks → Every IsSpelled (selected flow slots)
-selected-spelled flow slots h numbers =
+selected-spelled : (flow : Flow) (slots : List ℕ) → HasSlots flow slots → Every HasWord flow.ops → Every IsSpelled (selected flow slots)
+selected-spelled flow slots h words =
     let small : AreSmall slots = λ v. let in_frame = slot-small (frame_of flow) slots v h.within in let frame = h.small in omega arith in
-    every-join IsSpelled (prologue (frame_of flow) slots) (block_rows flow.ops slots 0 flow.blocks) (prologue-spelled (frame_of flow) slots h.small h.within) (blocks-spelled flow.ops slots 0 flow.blocks small numbers)
+    every-join IsSpelled (prologue (frame_of flow) slots) (block_rows flow.ops slots 0 flow.blocks) (prologue-spelled (frame_of flow) slots h.small h.within) (blocks-spelled flow.ops slots 0 flow.blocks small words)
 
 -- ---- no jumps, and no names but putchar
 
@@ -214,12 +214,12 @@ selected-size flow homes slots f h =
 
 -- ---- all of it
 
-pub selected-assembles : (flow : Flow) (homes slots : List ℕ) → IsFlow flow homes → HasSlots flow slots → Every (Every (NumberFitsAt flow.ops)) flow.blocks → length flow.ops ≤ 1310720 → CanAssemble (selected flow slots)
-selected-assembles flow homes slots f h numbers bound =
+pub selected-assembles : (flow : Flow) (homes slots : List ℕ) → IsFlow flow homes → HasSlots flow slots → length flow.ops ≤ 1310720 → CanAssemble (selected flow slots)
+selected-assembles flow homes slots f h bound =
     let size = selected-size flow homes slots f h in
     let frame = h.small in
     record {
-      spelled = λ j i e. every-get IsSpelled (selected flow slots) j i (selected-spelled flow slots h numbers) e;
+      spelled = λ j i e. every-get IsSpelled (selected flow slots) j i (selected-spelled flow slots h f.words) e;
       labelled = λ j i e. kind-labelled (selected flow slots) i (every-get IsRowItem (selected flow slots) j i (selected-items flow slots) e);
       labels_once = labels-once flow slots;
       points_once = points-once flow homes slots f;

@@ -1,6 +1,6 @@
 -- What is known of the offsets and of the ops of a graph over slots.
 use Rattle.std.proofs.Common.{◌≡◌, ℕ, zero, suc, inl, inr, get_or, ◌<◌, ◌*◌, ◌+◌, ℤ, List, [], ◌∷◌, length, Some, refl, sym, ap, subst, ◌∙◌, ◌++◌, append_assoc, arith}
-use Rattle.std.specs.Prelude.{slice_get, slice_index_or, Result, Ok, Err, IfOk}
+use Rattle.std.specs.Prelude.{slice_get, slice_index_or}
 use Rattle.std.proofs.lemmas.List.{length-map}
 use Rattle.std.proofs.lemmas.Option.{same_Some, slice_get_within, get_or_from_slice_get}
 use Rattle.pcc_base.specs.declared.run.Width.{Width}
@@ -65,8 +65,3 @@ pub in-at : (ps : List ℕ) (i : ℕ) → i < length ps → IsIn (get_or ps i 0)
 in-at [] i h = absurd (omega arith)
 in-at (p ∷ ps) zero h = inl refl
 in-at (p ∷ ps) (suc i) h = inr (in-at ps i (omega arith))
-
--- two facts on a value that there may be give a third
-pub both-ok : {X Y : Type 0} (r : Result X Y) (P Q R : X → Type 0) → ((x : X) → P x → Q x → R x) → IfOk r P → IfOk r Q → IfOk r R
-both-ok (Ok x) P Q R f a b = f x a b
-both-ok (Err e) P Q R f a b = tt

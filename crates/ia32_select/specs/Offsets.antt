@@ -1,7 +1,5 @@
 -- Slots by their offsets from EBP, and what the code over slots names.
 use Rattle.std.specs.Prelude.{◌≡◌, ◌⊎◌, ◌<◌, ⊤, ℕ, suc, ℤ, pos, negsuc, List, map, slice_get, Some, None}
-use Rattle.std.specs.Int.{w32}
-use Rattle.std.specs.Int.RustNames.{FitsSigned}
 use Rattle.ia32_insn.specs.declared.item.Item.{Item}
 use Rattle.ia32_insn.specs.declared.item.Stub.TheVariants as stub
 use Rattle.flow_graph.specs.declared.op.Op.{Op}
@@ -34,15 +32,6 @@ IsSlotOpOver n (op.Mark s) = ⊤
 IsSlotOpOver n op.Turn = ⊤
 IsSlotOpOver n (op.Return (Some a)) = a < n
 IsSlotOpOver n _ = ⊥
-
--- the number of an op that has one is of 32 bits, as its type has it
-abbrev pub NumberFits : Op → Type 0
-NumberFits (op.Const d n) = FitsSigned w32 n
-NumberFits _ = ⊤
-
--- the op of the point has such a number
-abbrev pub NumberFitsAt : List Op → ℕ → Type 0
-NumberFitsAt ops point = (o : Op) → slice_get ops point ≡ Some o → NumberFits o
 
 -- the items name no function and no object: only `putchar`
 abbrev pub NamesOnlyPutchar : List Item → Type 0

@@ -2,9 +2,9 @@
 
 ghost use Rattle.std.specs.Prelude.{◌≡◌, ◌<◌, ◌∷◌, ◌++◌, length, OnOk};
 ghost use Rattle.ia32_insn.specs.declared.item.Item.TheVariants as item;
-ghost use Rattle.flow_graph.specs.Graphs.{Every, IsPlaced, points_of};
+ghost use Rattle.flow_graph.specs.Graphs.{IsPlaced, points_of};
 ghost use Rattle.ia32_rows.specs.Rows.{HasSlots, point_row, point_rows, block_rows};
-ghost use Rattle.ia32_select.specs.Offsets.{slots_of, NumberFitsAt};
+ghost use Rattle.ia32_select.specs.Offsets.{slots_of};
 
 use crate::ops::emit_op;
 use flow_graph::Graph;
@@ -20,9 +20,8 @@ fn emit_point(
 ) -> Result<(), NoMemory>
     requires slots { HasSlots graph.now (slots_of offsets.now) }
     requires placed { IsPlaced graph.now point }
-    ensures items { OnOk result (items.new.items
+    ensures { OnOk result (items.new.items
         ≡ items.old.items ++ point_row graph.now.ops (slots_of offsets.now) point) }
-    ensures number { OnOk result (NumberFitsAt graph.now.ops point) }
 {
     graph.is_flow();
     items.push(Item::Point(point))?;
@@ -38,9 +37,8 @@ fn emit_block(
 ) -> Result<(), NoMemory>
     requires slots { HasSlots graph.now (slots_of offsets.now) }
     requires in_range { block < length graph.now.blocks }
-    ensures items { OnOk result (items.new.items ≡ items.old.items
+    ensures { OnOk result (items.new.items ≡ items.old.items
         ++ item.Label block ∷ point_rows graph.now.ops (slots_of offsets.now) (points_of graph.now block)) }
-    ensures numbers { OnOk result (Every (NumberFitsAt graph.now.ops) (points_of graph.now block)) }
 {
     items.push(Item::Label(block))?;
     for point in graph.points_in(block) {
@@ -52,9 +50,8 @@ fn emit_block(
 /// All blocks, in order.
 pub fn emit_blocks(items: &mut Vec<Item>, graph: &Graph, offsets: &[i32]) -> Result<(), NoMemory>
     requires { HasSlots graph.now (slots_of offsets.now) }
-    ensures items { OnOk result (items.new.items
+    ensures { OnOk result (items.new.items
         ≡ items.old.items ++ block_rows graph.now.ops (slots_of offsets.now) 0 graph.now.blocks) }
-    ensures numbers { OnOk result (Every (Every (NumberFitsAt graph.now.ops)) graph.now.blocks) }
 {
     for block in 0..graph.blocks() {
         emit_block(items, graph, offsets, block)?;

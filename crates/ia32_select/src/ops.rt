@@ -2,7 +2,7 @@
 
 ghost use Rattle.std.specs.Prelude.{◌≡◌, ◌<◌, ◌++◌, length, OnOk};
 ghost use Rattle.ia32_rows.specs.Rows.{operation, putchar_row, return_row, row};
-ghost use Rattle.ia32_select.specs.Offsets.{slots_of, AreBelow, IsSlotOpOver, NumberFits};
+ghost use Rattle.ia32_select.specs.Offsets.{slots_of, AreBelow, IsSlotOpOver};
 
 use crate::slots::{emit, emit_number, emit_read, emit_restore, emit_write};
 use flow_graph::Op;
@@ -70,8 +70,7 @@ fn emit_return(items: &mut Vec<Item>, offsets: &[i32], variable: u32) -> Result<
 pub fn emit_op(items: &mut Vec<Item>, offsets: &[i32], op: &Op) -> Result<(), NoMemory>
     requires op { IsSlotOpOver (length offsets.now) op.now }
     requires below { AreBelow offsets.now }
-    ensures items { OnOk result (items.new.items ≡ items.old.items ++ row (slots_of offsets.now) op.now) }
-    ensures number { NumberFits op.now }
+    ensures { OnOk result (items.new.items ≡ items.old.items ++ row (slots_of offsets.now) op.now) }
 {
     match op {
         Op::Const(variable, number) => {

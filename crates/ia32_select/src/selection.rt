@@ -2,11 +2,11 @@
 
 ghost use Rattle.std.specs.Prelude.{◌≡◌, ◌<◌, ◌≤◌, ◌+◌, ◌*◌, ◌++◌, ◌↔◌, ℕ, length, IfOk, OnOk};
 ghost use Rattle.ia32_insn.specs.declared.item.Item.TheVariants as item;
-ghost use Rattle.flow_graph.specs.Graphs.{Every, IsPlaced};
+ghost use Rattle.flow_graph.specs.Graphs.{IsPlaced};
 ghost use Rattle.ia32_asm.specs.Sections.{CanAssemble, Stands, items_size};
 ghost use Rattle.ia32_rows.specs.Right.{AreRight};
 ghost use Rattle.ia32_rows.specs.Rows.{HasSlots, clears, prologue, selected};
-ghost use Rattle.ia32_select.specs.Offsets.{distance, slots_of, AreBelow, NumberFitsAt, NamesOnlyPutchar};
+ghost use Rattle.ia32_select.specs.Offsets.{distance, slots_of, AreBelow, NamesOnlyPutchar};
 
 use crate::blocks::emit_blocks;
 use crate::slots::{at_offset, emit, emit_number};
@@ -48,8 +48,7 @@ fn emit_prologue(items: &mut Vec<Item>, frame: i32, offsets: &[i32]) -> Result<(
 /// The items that the definitions name.
 fn select_items(alloc: Global, graph: &Graph, offsets: &[i32]) -> Result<Vec<Item>, NoMemory>
     requires { HasSlots graph.now (slots_of offsets.now) }
-    ensures items { IfOk result (λ v. v.items ≡ selected graph.now (slots_of offsets.now)) }
-    ensures numbers { IfOk result (λ _. Every (Every (NumberFitsAt graph.now.ops)) graph.now.blocks) }
+    ensures { IfOk result (λ v. v.items ≡ selected graph.now (slots_of offsets.now)) }
 {
     let frame = -16 - 4 * graph.vars() as i32;
     let mut items = Vec::new(alloc);

@@ -1,11 +1,9 @@
 use Rattle.std.proofs.Common.{◌≡◌, ◌++◌, drop}
-use Rattle.flow_graph.specs.Graphs.{Every}
 use Rattle.ia32_rows.specs.Rows.{block_rows}
-use Rattle.ia32_select.specs.Offsets.{slots_of, NumberFitsAt}
+use Rattle.ia32_select.specs.Offsets.{slots_of}
 use Rattle.ia32_select.proofs.blocks.emit_blocks.Given as goal
 
 abbrev pub invariant-loop-block : goal.invariant-loop-block
-invariant-loop-block l = record {
-  emitted : l.items.items ++ block_rows l.graph.ops (slots_of l.offsets) l.block (drop l.block l.graph.blocks) ≡ l.initial.items.items ++ block_rows l.graph.ops (slots_of l.offsets) 0 l.graph.blocks;
-  numbers : Every (Every (NumberFitsAt l.graph.ops)) (drop l.block l.graph.blocks) → Every (Every (NumberFitsAt l.graph.ops)) l.graph.blocks;
-}
+invariant-loop-block l =
+    l.items.items ++ block_rows l.graph.ops (slots_of l.offsets) l.block (drop l.block l.graph.blocks)
+    ≡ l.initial.items.items ++ block_rows l.graph.ops (slots_of l.offsets) 0 l.graph.blocks

@@ -11,8 +11,8 @@ emit_op-requires-clause-op c =
 pub emit_op-requires-clause-below : goal.emit_op-requires-clause-below
 emit_op-requires-clause-below c = below-slots c.args.graph.now c.args.offsets.now c.requires.slots
 
-pub returns-clause-items : goal.returns-clause-items
-returns-clause-items c =
+pub returns : goal.returns
+returns c =
     on_ok_weaker c.emit_op.result
     (point-emitted c.args.items.now.items c.push.new.self.items c.emit_op.new.items.items c.args.graph.now.ops (slots_of c.args.offsets.now) c.args.point c.op.result.now (search rules) c.op.ensures)
-    c.emit_op.ensures.items
+    c.emit_op.ensures

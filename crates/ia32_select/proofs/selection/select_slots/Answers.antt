@@ -3,12 +3,11 @@ use Rattle.std.proofs.Common.{◌≡◌, ◌≤◌, ◌+◌, ◌*◌, ◌↔◌,
 use Rattle.std.proofs.lemmas.Result.{IfOk-weaker}
 use Rattle.ia32_insn.specs.declared.item.Item.{Item}
 use Rattle.ia32_insn.specs.declared.item.Item.TheVariants as item
-use Rattle.flow_graph.specs.Graphs.{Flow, Every, IsPlaced}
+use Rattle.flow_graph.specs.Graphs.{Flow, IsPlaced}
 use Rattle.ia32_asm.specs.Sections.{CanAssemble, Stands, items_size}
 use Rattle.ia32_rows.specs.Right.{AreRight}
 use Rattle.ia32_rows.specs.Rows.{selected}
-use Rattle.ia32_select.specs.Offsets.{slots_of, NumberFitsAt, NamesOnlyPutchar}
-use Rattle.ia32_select.proofs.Known.{both-ok}
+use Rattle.ia32_select.specs.Offsets.{slots_of, NamesOnlyPutchar}
 use Rattle.ia32_select.proofs.Marked.{stands-placed, placed-stands}
 use Rattle.ia32_select.proofs.Assembled.{selected-size, selected-names, selected-assembles}
 use Rattle.ia32_select.proofs.selection.select_slots.Goals as goal
@@ -19,15 +18,15 @@ returns-clause-right c =
     let slots : List ℕ = slots_of c.args.offsets.now in
     IfOk-weaker c.select_items.result (λ v. v.items ≡ selected flow slots) (λ v. AreRight flow slots v.items)
     (λ v e. subst (AreRight flow slots) (sym e) (c.slots_are_right.ensures flow slots))
-    c.select_items.ensures.items
+    c.select_items.ensures
 
 pub returns-clause-assembles : goal.returns-clause-assembles
 returns-clause-assembles c =
     let flow : Flow = c.args.graph.now in
     let slots : List ℕ = slots_of c.args.offsets.now in
-    both-ok c.select_items.result (λ v. v.items ≡ selected flow slots) (λ v. Every (Every (NumberFitsAt flow.ops)) flow.blocks) (λ v. CanAssemble v.items)
-    (λ v e n. subst CanAssemble (sym e) (selected-assembles flow c.is_flow.ensures.0 slots c.is_flow.ensures.1 c.requires.slots n c.requires.few_points))
-    c.select_items.ensures.items c.select_items.ensures.numbers
+    IfOk-weaker c.select_items.result (λ v. v.items ≡ selected flow slots) (λ v. CanAssemble v.items)
+    (λ v e. subst CanAssemble (sym e) (selected-assembles flow c.is_flow.ensures.0 slots c.is_flow.ensures.1 c.requires.slots c.requires.few_points))
+    c.select_items.ensures
 
 pub returns-clause-size : goal.returns-clause-size
 returns-clause-size c =
@@ -35,7 +34,7 @@ returns-clause-size c =
     let slots : List ℕ = slots_of c.args.offsets.now in
     IfOk-weaker c.select_items.result (λ v. v.items ≡ selected flow slots) (λ v. items_size v.items ≤ 800 * length flow.ops + 8 * length flow.widths + 64)
     (λ v e. subst (λ (items : List Item). items_size items ≤ 800 * length flow.ops + 8 * length flow.widths + 64) (sym e) (selected-size flow c.is_flow.ensures.0 slots c.is_flow.ensures.1 c.requires.slots))
-    c.select_items.ensures.items
+    c.select_items.ensures
 
 pub returns-clause-points : goal.returns-clause-points
 returns-clause-points c =
@@ -43,7 +42,7 @@ returns-clause-points c =
     let slots : List ℕ = slots_of c.args.offsets.now in
     IfOk-weaker c.select_items.result (λ v. v.items ≡ selected flow slots) (λ v. (p : ℕ) → Stands (item.Point p) v.items ↔ IsPlaced flow p)
     (λ v e p. (λ s. stands-placed flow slots p (subst (Stands (item.Point p)) e s), λ s. subst (Stands (item.Point p)) (sym e) (placed-stands flow slots p s)))
-    c.select_items.ensures.items
+    c.select_items.ensures
 
 pub returns-clause-names : goal.returns-clause-names
 returns-clause-names c =
@@ -51,4 +50,4 @@ returns-clause-names c =
     let slots : List ℕ = slots_of c.args.offsets.now in
     IfOk-weaker c.select_items.result (λ v. v.items ≡ selected flow slots) (λ v. NamesOnlyPutchar v.items)
     (λ v e. subst NamesOnlyPutchar (sym e) (selected-names flow slots))
-    c.select_items.ensures.items
+    c.select_items.ensures
