@@ -22,7 +22,7 @@ local_within : (names : List (List ℕ)) (name : List ℕ) (v : ℕ) → local_n
 local_within names name v e = (position-Some (λ (n : List ℕ). same name n) names v [] e).0
 
 slot_atom : (names : List (List ℕ)) (e : Expr) (x : Expression) → IsAtom names e x → slots.IsSum (length names) x
-slot_atom names (trees.Identifier name) x h = subst (λ (y : Expression). slots.IsSum (length names) y) (sym h.2) (local_within names name.name h.0 h.1)
+slot_atom names (trees.Identifier name) x h = subst (λ (y : Expression). slots.IsSum (length names) y) (sym h.2) (local_within names name.name h.0 h.1, refl)
 slot_atom names (trees.Number value at) x h = subst (λ (y : Expression). slots.IsSum (length names) y) (sym h) tt
 slot_atom names e x h = absurd h
 
@@ -33,8 +33,8 @@ two_signs op o e = absurd (cc)
 
 slot_binary : (d : ℕ) (o : BinaryOp) (a b : Expression) → (o ≡ Add) ⊎ (o ≡ Subtract) → slots.IsSum d a → slots.IsSum d b
     → slots.IsSum d (Binary int o a b)
-slot_binary d o a b (inl e) f g = subst (λ (p : BinaryOp). slots.IsSum d (Binary int p a b)) (sym e) (f, g)
-slot_binary d o a b (inr e) f g = subst (λ (p : BinaryOp). slots.IsSum d (Binary int p a b)) (sym e) (f, g)
+slot_binary d o a b (inl e) f g = subst (λ (p : BinaryOp). slots.IsSum d (Binary int p a b)) (sym e) (f, g, refl)
+slot_binary d o a b (inr e) f g = subst (λ (p : BinaryOp). slots.IsSum d (Binary int p a b)) (sym e) (f, g, refl)
 
 slot_sum : (names : List (List ℕ)) (e : Expr) (x : Expression) → IsSum names e x → slots.IsSum (length names) x
 slot_sum names (trees.Binary op l at r) x h =

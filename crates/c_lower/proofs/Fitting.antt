@@ -45,7 +45,7 @@ height-some e locals is = height-positive e locals is
 -- what holds of each op of a sum, if it holds of these
 pub every-sum : (P : Op → Type 0) (e : Expression) (locals d top : ℕ) → IsSum locals e → d + height e ≤ top → ((k : ℕ) (n : ℤ) → k < top → P (op.Const k n)) → ((k v : ℕ) → k < top → v < locals → P (op.Copy k v)) → ((k : ℕ) → suc k < top → P (op.Add k k (suc k))) → ((k : ℕ) → suc k < top → P (op.Sub k k (suc k))) → Every P (sum_ops d e)
 every-sum P (Constant Int n) locals d top is room c r a s = (c d n (omega (arith, room)), tt)
-every-sum P (Read of (LocalPlace v)) locals d top is room c r a s = (r d v (omega (arith, room)) is, tt)
+every-sum P (Read of (LocalPlace v)) locals d top is room c r a s = (r d v (omega (arith, room)) is.0, tt)
 every-sum P (Binary of binary.Add x y) locals d top is room c r a s =
     every-append P (sum_ops d x) _ (every-sum P x locals d top is.0 (omega (arith, room)) c r a s)
     (every-append P (sum_ops (suc d) y) _ (every-sum P y locals (suc d) top is.1 (omega (arith, room)) c r a s) (a d (omega (arith, room, height-some y locals is.1)), tt))

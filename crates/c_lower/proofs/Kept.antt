@@ -23,7 +23,8 @@ use Rattle.flow_graph.specs.WellFormed.{IsGraph, IsGraphProgram, NamesWithin}
 use Rattle.flow_graph.proofs.OneRun.{never_stuck}
 use Rattle.c_lower.specs.Code.{AllFit, EndsLast, body_ops, function_ops, lowered, slot_graphs, temporaries, variables}
 use Rattle.c_tree.specs.SlotForm.{AreSlotStatements, AreIntLocals, IsSlotFunction, IsSlotProgram}
-use Rattle.c_lower.specs.Lowering.{AreLowered, AreSmall, FixedDies, HasObjects, IsLowered, KeepsOutcome, MarksOnce, array_of, first_object, marks_in, most_words, points_in, words_in, arrays_in, words_of}
+use Rattle.c_tree.specs.Objects.{data_object}
+use Rattle.c_lower.specs.Lowering.{AreLowered, AreSmall, FixedDies, HasObjects, IsLowered, KeepsOutcome, MarksOnce, array_of, marks_in, most_words, points_in, words_in, arrays_in, words_of}
 use Rattle.c_lower.specs.Shown.{local_widths, type_widths, variables_shown}
 use Rattle.c_lower.proofs.Elements.{has_all}
 use Rattle.c_lower.proofs.Fitting.{IsSlotOp, body-marks, body-sizes, ends-body, fit-body, slot-body, slots-body}
@@ -201,7 +202,7 @@ functions-lowered program slot = record {
 }
 
 pub objects-kept : (program : Program) → IsSlotProgram program → HasObjects program (slot_graphs program)
-objects-kept program slot = sym (ap (map first_object) slot.no_objects)
+objects-kept program slot = sym (ap (map data_object) slot.no_objects)
 
 -- graphs that are graphs are those of a program of graphs
 pub program-kept : (program : Program) (graphs : GraphProgram) → IsSlotProgram program → graphs ≡ slot_graphs program

@@ -116,7 +116,7 @@ within-trans xs ys zs f g = record { all = λ v h. g.all v (f.all v h) }
 
 sum-closed : (declared d : ℕ) (e : Expression) (known : List ℕ) (rest : List Op) → IsSum declared e → Knows declared known → ((more : List ℕ) → IsWithin known more → IsIn d more → Closed more rest) → Closed known (sum_ops d e ++ rest)
 sum-closed declared d (Constant Int n) known rest is knows go = (tt, go (d ∷ known) (within-more d known) (inl refl))
-sum-closed declared d (Read of (LocalPlace v)) known rest is knows go = ((knows.all v is, tt), go (d ∷ known) (within-more d known) (inl refl))
+sum-closed declared d (Read of (LocalPlace v)) known rest is knows go = ((knows.all v is.0, tt), go (d ∷ known) (within-more d known) (inl refl))
 sum-closed declared d (Binary of binary.Add a b) known rest is knows go =
     let i = op.Add d d (suc d) in
     let flat : sum_ops d a ++ (sum_ops (suc d) b ++ (i ∷ rest)) ≡ (sum_ops d a ++ (sum_ops (suc d) b ++ i ∷ [])) ++ rest = simp append_assoc in

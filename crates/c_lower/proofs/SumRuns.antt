@@ -39,9 +39,9 @@ pub record Matches (locals : ℕ) (values : List Held) (variables : List Value) 
 -- more locals may be declared
 pub sum-more : (few many : ℕ) (e : Expression) → few ≤ many → IsSum few e → IsSum many e
 sum-more few many (Constant Int n) le is = tt
-sum-more few many (Read of (LocalPlace v)) le is = omega (arith, is)
-sum-more few many (Binary of binary.Add a b) le is = (sum-more few many a le is.0, sum-more few many b le is.1)
-sum-more few many (Binary of binary.Subtract a b) le is = (sum-more few many a le is.0, sum-more few many b le is.1)
+sum-more few many (Read of (LocalPlace v)) le is = (omega (arith, is.0), is.1)
+sum-more few many (Binary of binary.Add a b) le is = (sum-more few many a le is.0, sum-more few many b le is.1, is.2)
+sum-more few many (Binary of binary.Subtract a b) le is = (sum-more few many a le is.0, sum-more few many b le is.1, is.2)
 sum-more few many _ le is = absurd is
 
 -- ---- the source
@@ -68,7 +68,7 @@ two_give calls of o a b s x y z ea eb ez =
 pub sum_gives : (calls : Calls) (e : Expression) (locals : ℕ) (arrays objects : List (List ℤ)) (turns : ℕ) (left : List ℕ) (taken : ℕ) (written : List ℕ) (visits : List Visit) (values : List Held) (variables : List Value) → IsSum locals e → Matches locals values variables → evaluate calls e (running arrays objects turns left taken written visits values) ≡ Gives (HoldsNumber (sum_value values e)) (running arrays objects turns left taken written visits values)
 sum_gives calls (Constant Int n) locals arrays objects turns left taken written visits values variables is matches = refl
 sum_gives calls (Read of (LocalPlace v)) locals arrays objects turns left taken written visits values variables is matches =
-    let (n, held, there) = matches.same v is in
+    let (n, held, there) = matches.same v is.0 in
     let s = running arrays objects turns left taken written visits values in
     let read : slice_index_or values v (HoldsNumber (pos 0)) ≡ HoldsNumber n = get_or_from_slice_get values v (HoldsNumber n) (HoldsNumber (pos 0)) held in
     let number : n ≡ number_held (slice_get values v) = sym (ap number_held held) in
@@ -138,7 +138,7 @@ module _ (variables : ℕ) (ops : List Op) (listing : Listing) where
       let next : suc p < length ops = omega (arith, more) in
       put_one d p n before long there (λ turns left taken written o r. const_step variables ops listing p d turns n before left taken written o has.0 next there r)
   sum_puts (Read of (LocalPlace v)) locals d p values before is has more le room long matches =
-      let (n, held, there) = matches.same v is in
+      let (n, held, there) = matches.same v is.0 in
       let number : n ≡ number_held (slice_get values v) = sym (ap number_held held) in
       let next : suc p < length ops = omega (arith, more) in
       let put : Puts d p (p + 1) n before = put_one d p n before long (omega (arith, room)) (λ turns left taken written o r. copy_step variables ops listing p d v turns (Number n) before left taken written o has.0 next there r) in

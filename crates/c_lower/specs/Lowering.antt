@@ -1,10 +1,11 @@
 -- What lowering promises of the graphs of a program.
 use Rattle.std.specs.Prelude.{◌≡◌, ◌≢◌, ◌<◌, ◌≤◌, ℕ, ◌+◌, ◌*◌, ◌/◌, max, List, [], ◌∷◌, ◌++◌, length, map, slice_get, Some, sum_by}
-pub use Rattle.pcc_base.specs.Objects.{Object, object_of}
+pub use Rattle.pcc_base.specs.Objects.{object_of}
 use Rattle.pcc_base.specs.declared.run.Width.{Width}
 use Rattle.pcc_base.specs.Outcome.{Listing}
 use Rattle.c_tree.specs.Evaluation.{source_outcome}
-use Rattle.c_tree.specs.Program.{StaticObject, LocalArray, Function, Program}
+use Rattle.c_tree.specs.Objects.{data_objects}
+use Rattle.c_tree.specs.Program.{LocalArray, Function, Program}
 use Rattle.c_tree.specs.Sizes.{bytes_of, frame_bound, size_of}
 use Rattle.flow_graph.specs.declared.op.Op.{Op}
 use Rattle.flow_graph.specs.declared.op.Op.TheVariants.{Call, Div, Mark, Rem, Sar, Shl}
@@ -115,9 +116,6 @@ MarksOnce graphs = IsDistinct (marks_of graphs.functions)
 
 -- ---- static objects
 
-abbrev pub first_object : StaticObject → Object
-first_object o = record { width = bytes_of o.element; elements = o.elements }
-
 -- the objects are the program's with their first contents
 abbrev pub HasObjects : Program → GraphProgram → Type 0
-HasObjects program graphs = graphs.objects ≡ map first_object program.objects
+HasObjects program graphs = graphs.objects ≡ data_objects program

@@ -10,12 +10,12 @@ use Rattle.c_tree.specs.Program.{int, Expression, Constant, Read, Binary, Assign
 use Rattle.c_tree.specs.Program.{Statement, Declare, Evaluate, Return, Statements, Done, Next, Local, Function, Program}
 use Rattle.c_tree.specs.Sizes.{size_of}
 
--- a sum of constants and locals, of which so many are declared
+-- a sum of constants and locals of type `int`, of which so many are declared
 abbrev pub IsSum : ℕ → Expression → Type 0
 IsSum declared (Constant Int n) = Unit {0}
-IsSum declared (Read of (LocalPlace v)) = v < declared
-IsSum declared (Binary of Add a b) = IsSum declared a × IsSum declared b
-IsSum declared (Binary of Subtract a b) = IsSum declared a × IsSum declared b
+IsSum declared (Read of (LocalPlace v)) = (v < declared) × (of ≡ int)
+IsSum declared (Binary of Add a b) = IsSum declared a × IsSum declared b × (of ≡ int)
+IsSum declared (Binary of Subtract a b) = IsSum declared a × IsSum declared b × (of ≡ int)
 IsSum declared _ = ⊥
 
 -- the statements of a body from a number on, where so many of the locals are declared

@@ -1,13 +1,16 @@
 -- Programs that the definitions are read on, as their sources' typed trees.
-use Rattle.std.specs.Prelude.{ℕ, zero, suc, ℤ, pos, List, [], ◌∷◌, codes, map, replicate, Some}
+use Rattle.std.specs.Prelude.{ℕ, zero, suc, ℤ, pos, List, [], ◌∷◌, codes, map, replicate, Some, None}
 use Rattle.pcc_base.specs.Outcome.{Listing, Number, Scalar as ScalarPart, Visit}
 use Rattle.c_tree.specs.declared.expression.BinaryOp.TheVariants.{Add, Subtract, Less}
 use Rattle.c_tree.specs.declared.expression.ArrayRef.TheVariants.{Frame}
+use Rattle.c_tree.specs.declared.expression.StepOp.TheVariants.{PostIncrement}
+use Rattle.c_tree.specs.declared.statement.Label.{Label}
 use Rattle.c_tree.specs.declared.types.IntegerType.TheVariants.{Char, Int}
-use Rattle.c_tree.specs.declared.types.ValueType.TheVariants.{Integer}
-use Rattle.c_tree.specs.Program.{int, Expression, Constant, Start, Read, Binary, Assign, Putchar, LocalPlace, Element}
-use Rattle.c_tree.specs.Program.{Elements, Scalar, Array, Statements, Declare, Evaluate, Return, Done, Next, Local}
-use Rattle.c_tree.specs.Program.{LocalArray, Function, Program}
+use Rattle.c_tree.specs.declared.types.ValueType.TheVariants.{Integer, Pointer}
+use Rattle.c_tree.specs.Program.{int, Expression, Constant, Start, Read, Binary, Assign, Step, Call, Putchar, Exit}
+use Rattle.c_tree.specs.Program.{LocalPlace, Target, Element, NoMore, Argument, Elements, Text, Scalar, Array, Statements}
+use Rattle.c_tree.specs.Program.{Declare, Evaluate, While, Switch, Break, Return, Done, Next, Local, LocalArray, Function}
+use Rattle.c_tree.specs.Program.{Program}
 
 -- a program that is a `main` with these locals and arrays and this body
 abbrev main_with : List Local → List LocalArray → Statements → Program
@@ -90,3 +93,66 @@ takes_and_ignores count = record {
   arrays = [];
   body = Done;
 }
+
+-- ---- programs to be typed
+
+-- `int f(char *p){while(*p) p++; return 1;}`
+abbrev f_with_pointer : Function
+f_with_pointer = record {
+  name = codes "f";
+  result = int;
+  parameters = 1;
+  locals = record { name = codes "p"; of = Pointer Char } ∷ [];
+  arrays = [];
+  body =
+      Next (While 0 (Read (Integer Char) (Target Char (Read (Pointer Char) (LocalPlace 0))))
+      (Evaluate 1 (Step (Pointer Char) PostIncrement (LocalPlace 0))))
+      (Next (Return 2 (Some (Constant Int (pos 1)))) Done);
+}
+
+-- `f(a)`, for an array, and `f(0)`, for a null constant
+abbrev f_of : Expression → Expression
+f_of e = Call int 0 (Argument e NoMore)
+
+-- `case 1:` before the first statement, and `default:` before the second
+abbrev worked_labels : List Label
+worked_labels = record { value = Some (pos 1); before = 0 } ∷ record { value = None; before = 1 } ∷ []
+
+-- `int main(void){char a[3]="ab"; switch(f(a)){case 1: break; default: return 0;} return f(0);}`, behind `f`
+abbrev main_with_switch : Function
+main_with_switch = record {
+  name = codes "main";
+  result = int;
+  parameters = 0;
+  locals = [];
+  arrays = record { name = codes "a"; element = Char; count = 3 } ∷ [];
+  body =
+      Next (Declare (Array 3 0 Char (Text 0)))
+      (Next (Switch 4 (f_of (Start Char (Frame 0))) worked_labels
+      (Next (Break 5) (Next (Return 6 (Some zero_constant)) Done)))
+      (Next (Return 7 (Some (f_of zero_constant))) Done));
+}
+
+-- the program of both, whose `main` has this number
+abbrev pub two_functions : ℕ → Program
+two_functions main = record {
+  objects = record { element = Char; elements = pos 97 ∷ pos 98 ∷ pos 0 ∷ [] } ∷ [];
+  functions = f_with_pointer ∷ main_with_switch ∷ [];
+  main = main;
+}
+
+-- `int main(void){break;}`
+abbrev pub breaks_nothing : Program
+breaks_nothing = main_with [] [] (Next (Break 0) Done)
+
+-- `int main(void){return x;}`, without a local
+abbrev pub reads_no_local : Program
+reads_no_local = main_with [] [] (Next (Return 0 (Some x)) Done)
+
+-- `int main(void){return exit(0);}`
+abbrev pub returns_no_value : Program
+returns_no_value = main_with [] [] (Next (Return 0 (Some (Exit zero_constant))) Done)
+
+-- `int main(void){return 0;}`, with a statement of this number
+abbrev pub numbered_from : ℕ → Program
+numbered_from number = main_with [] [] (Next (Return number (Some zero_constant)) Done)

@@ -3,17 +3,24 @@
 ghost use Rattle.std.specs.Prelude.{◌≡◌, [], ◌∷◌, pos, negsuc};
 ghost use Rattle.pcc_base.specs.Outcome.{Ended, Goes};
 ghost use Rattle.c_tree.specs.Evaluation.{source_outcome};
+ghost use Rattle.c_tree.specs.Laws.{SlotProgramsAreTyped};
 ghost use Rattle.c_tree.specs.Sizes.{function_size};
 ghost use Rattle.c_tree.specs.Worked.{
+  breaks_nothing,
   converts_200,
   declared_listed,
   nothing_listed,
+  numbered_from,
+  reads_no_local,
+  returns_no_value,
   shown,
   sum_wraps,
   takes_and_ignores,
+  two_functions,
   writes_he,
   x_listed,
 };
+ghost use Rattle.c_tree.specs.WellTyped.{WellTyped};
 
 /// The definitions give small programs (`specs/Worked.antt`) the outcomes that a reader expects.
 ///
@@ -45,4 +52,21 @@ pub fn worked_example()
     ensures converts { source_outcome converts_200 nothing_listed [] 1
         ≡ record { visits = shown 0 [] ∷ shown 1 [] ∷ []; taken = 0; written = []; end = Ended 1 } }
     ensures parameters { function_size (takes_and_ignores 90) ≡ 91 }
+{}
+
+/// The programs that are compiled so far (`specs/SlotForm.antt`) are well typed (`specs/WellTyped.antt`).
+pub fn slot_programs_are_typed()
+    ensures { SlotProgramsAreTyped }
+{}
+
+/// The definition of well typed programs takes one with a pointer, a null constant, a text, a loop and a switch, and
+/// refuses programs that break one rule each: a `main` with a parameter, a `break` that stands in no loop or switch, a
+/// local that isn't there, a value of type `void` that is returned, and statements that aren't numbered from 0.
+pub fn worked_types()
+    ensures typed { WellTyped (two_functions 1) }
+    ensures main { WellTyped (two_functions 0) → ⊥ }
+    ensures jump { WellTyped breaks_nothing → ⊥ }
+    ensures local { WellTyped reads_no_local → ⊥ }
+    ensures value { WellTyped returns_no_value → ⊥ }
+    ensures numbers { WellTyped (numbered_from 1) → ⊥ }
 {}

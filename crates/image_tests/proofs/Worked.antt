@@ -42,7 +42,12 @@ worked_slots =
           refl,
           omega arith,
           tt,
-          (refl, omega arith, (omega arith, tt), (refl, omega arith, (refl, refl, (omega arith, tt)))),
+          (
+            refl,
+            omega arith,
+            ((omega arith, refl), tt, refl),
+            (refl, (omega arith, refl), (refl, refl, ((omega arith, refl), tt, refl))),
+          ),
         );
       };
       small = omega arith;
