@@ -1,5 +1,5 @@
 -- What the bytes of a file load: segments of memory, and where running begins.
-use Rattle.std.specs.Prelude.{◌≡◌, ℕ, ◌+◌, ◌≤◌, ◌^◌, ◌⊎◌, Bool, true, false, List, [], ◌∷◌, length, map, sum_by, All, AllPairs}
+use Rattle.std.specs.Prelude.{◌≡◌, ℕ, ◌+◌, ◌<◌, ◌≤◌, ◌^◌, Bool, true, false, List, [], ◌∷◌, length, map, sum_by, All, AllPairs}
 use Rattle.elf_image.specs.declared.image.Image.{Image}
 use Rattle.elf_image.specs.declared.loaded.Segment.{Segment}
 use Rattle.elf_image.specs.declared.loaded.Loaded.{Loaded}
@@ -43,14 +43,22 @@ image_segments parts =
 abbrev pub Loads : List ℕ → Segments → Type 0
 Loads bytes segments = (parts : Parts) × Fits parts × (bytes ≡ image_bytes parts) × (segments ≡ image_segments parts)
 
+-- so many bytes from an offset on lie in the file; also where they are none, the offset is one of the file or its end
+abbrev pub IsFilePart : List ℕ → ℕ → ℕ → Type 0
+IsFilePart file offset size = offset + size ≤ length file
+
 -- a segment's bytes fit into it, and it ends within the address space
 pub record IsPiece (piece : Piece) : Type 0 where
   pub filled : length piece.bytes ≤ piece.size
   pub within : piece.address + piece.size ≤ 2 ^ 32
 
--- two segments have no address in common
+-- the address is one of the segment's memory
+abbrev pub HasAddress : Piece → ℕ → Type 0
+HasAddress piece address = (piece.address ≤ address) × (address < piece.address + piece.size)
+
+-- two segments have no address in common; a segment of size 0 has none, wherever it lies
 abbrev pub AreApart : Piece → Piece → Type 0
-AreApart a b = (a.address + a.size ≤ b.address) ⊎ (b.address + b.size ≤ a.address)
+AreApart a b = (address : ℕ) → HasAddress a address → HasAddress b address → ⊥
 
 -- what a machine may be loaded with
 pub record IsLoadable (segments : Segments) : Type 0 where

@@ -1,16 +1,16 @@
 -- Memory after a store: what is loaded from it, and what it keeps.
-use Rattle.std.specs.Prelude.{◌≡◌, ℕ, ◌+◌, ◌-◌, ◌≤◌, ◌<◌, Bool, true, false, ◌&&◌, List, [], ◌∷◌, length, take, drop}
+use Rattle.std.specs.Prelude.{◌≡◌, ℕ, ◌+◌, ◌-◌, ◌≤◌, ◌<◌, Bool, true, false, IsTrue, ◌&&◌, List, [], ◌∷◌, length, take, drop}
 use Rattle.std.specs.Prelude.{map, Option, Some, None, option_map, nat_le, if◌then◌else◌, refl}
 use Rattle.std.specs.List.{AllByRecursion}
 use Rattle.std.proofs.Common.{sym, ◌∙◌, ap, arith, inl, inr}
-use Rattle.std.proofs.lemmas.Bool.{leb-true}
+use Rattle.std.proofs.lemmas.Bool.{leb-true, le-leb}
 use Rattle.ia32_insn.specs.State.{Area, has_bytes, bytes_at, code_at, stored, with_bytes, Shape, shape_of, AreApart}
 use Rattle.ia32_insn.specs.State.{IsApart}
 use Rattle.ia32_insn.specs.Keeps.{IsCodeOrData, AreDisjoint}
 use Rattle.ia32_insn.proofs.Splices.{length-replaced, replaced-same, replaced-before, replaced-after}
 
 -- where a place is in an area
-record IsInside (area : Area) (address n : ℕ) : Type 0 where
+pub record IsInside (area : Area) (address n : ℕ) : Type 0 where
   pub from : area.address ≤ address
   pub to : address + n ≤ area.address + length area.bytes
 
@@ -19,7 +19,7 @@ both : (a b : Bool) → (a && b) ≡ true → (a ≡ true) × (b ≡ true)
 both true b e = (refl, e)
 both false b e = absurd (let no : false ≡ true = e in cc)
 
-inside : (area : Area) (address n : ℕ) → has_bytes area address n ≡ true → IsInside area address n
+pub inside : (area : Area) (address n : ℕ) → has_bytes area address n ≡ true → IsInside area address n
 inside area address n e =
     let parts = both (nat_le area.address address) (nat_le (address + n) (area.address + length area.bytes)) e in
     record {
@@ -161,14 +161,17 @@ code-store a b bytes (area ∷ areas) new each e =
 
 -- ---- what was stored
 
+-- an area that has bytes from an address on has that address
+first-byte : (area : Area) (address n : ℕ) → 0 < n → IsInside area address n → IsTrue (has_bytes area address 1)
+first-byte area address n some h =
+    ap (λ (v : Bool). v && nat_le (address + 1) (area.address + length area.bytes)) (le-leb area.address address h.from)
+    ∙ le-leb (address + 1) (area.address + length area.bytes) (omega (arith, some, h.to))
+
 -- where an area has a place, none apart from it has
 apart-none : (address n : ℕ) (area other : Area) → 0 < n → IsApart area other → IsInside area address n
     → IsInside other address n → ⊥
 apart-none address n area other some apart h k =
-    elim apart [
-      | inl before ↦ absurd (omega (arith, h.from, h.to, k.from, k.to, before))
-      | inr after ↦ absurd (omega (arith, h.from, h.to, k.from, k.to, after))
-    ]
+    apart address (first-byte area address n some h) (first-byte other address n some k)
 
 -- a load behind an area that has the place finds nothing
 load-past : (address n : ℕ) (area : Area) (areas : List Area) → 0 < n → AllByRecursion (IsApart area) areas

@@ -1,6 +1,6 @@
 -- A state of the machine, and its memory (Intel manual, volume 1, sections 3.3 and 3.4). Memory is flat, and
 -- is a list of areas, each with what may be done there.
-use Rattle.std.specs.Prelude.{ℕ, ⊤, ◌≤◌, ◌⊎◌, ◌+◌, ◌-◌, ◌%◌, ◌^◌, Bool, true, false, ◌&&◌, List, [], ◌∷◌, ◌++◌, length}
+use Rattle.std.specs.Prelude.{ℕ, ⊤, ◌+◌, ◌-◌, ◌%◌, ◌^◌, Bool, true, false, IsTrue, ◌&&◌, List, [], ◌∷◌, ◌++◌, length}
 use Rattle.std.specs.Prelude.{take, drop, Option, Some, None, option_map, nat_le, if◌then◌else◌}
 use Rattle.std.specs.List.{AllByRecursion}
 use Rattle.ia32_insn.specs.declared.flags.Flags.{Flags}
@@ -79,9 +79,9 @@ shape_of area = record {
   runnable = area.runnable;
 }
 
--- two areas have no address in common
+-- two areas have no address in common; an area without bytes has none, wherever it lies
 abbrev pub IsApart : Area → Area → Type 0
-IsApart a b = (a.address + length a.bytes ≤ b.address) ⊎ (b.address + length b.bytes ≤ a.address)
+IsApart a b = (address : ℕ) → IsTrue (has_bytes a address 1) → IsTrue (has_bytes b address 1) → ⊥
 
 -- nor have any two of these
 abbrev pub AreApart : List Area → Type 0

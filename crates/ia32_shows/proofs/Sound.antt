@@ -10,12 +10,12 @@ use Rattle.ia32_regs.specs.declared.names.Reg32.{Reg32}
 use Rattle.ia32_regs.specs.Registers.{AreRegisters, number32, word_place}
 use Rattle.ia32_regs.proofs.Registers.{register-with_same, register-with_other, AreRegisters-with_register}
 use Rattle.ia32_insn.specs.declared.flags.Flags.{Flags}
-use Rattle.ia32_insn.specs.State.{State, Area, AreApart, has_bytes, bytes_at, stored, with_bytes, at_address}
+use Rattle.ia32_insn.specs.State.{State, Area, IsApart, AreApart, has_bytes, bytes_at, stored, with_bytes, at_address}
 use Rattle.ia32_insn.specs.Meaning.{and_then, or_end, denied, load, load_bytes, store, word_of, with_word, with_flags}
 use Rattle.ia32_insn.specs.Keeps.{AreDisjoint, KeepsAllButMemory}
 use Rattle.ia32_insn.specs.Items.{text_start, text_area}
 use Rattle.ia32_insn.proofs.Access.{load-elsewhere, load-stored, store-keeps_rest, and_then-ok, or_end-ok, ok-once}
-use Rattle.ia32_insn.proofs.Memory.{load-store_same}
+use Rattle.ia32_insn.proofs.Memory.{inside, load-store_same}
 use Rattle.ia32_insn.proofs.Splices.{length-replaced}
 
 -- data from an address on
@@ -126,8 +126,15 @@ pub record Stored (text : List ℕ) (low high a value : ℕ) (s t : State) : Typ
   pub apart : (n b v : ℕ) → AreDisjoint a 4 b n → load n b s ≡ Ok v → load n b t ≡ Ok v
   pub rest : KeepsAllButMemory s t
 
+-- no address is one of the text and one of the data
 pub areas-apart : (text : List ℕ) (low high : ℕ) (s : State) → IsSound text low high s → AreApart s.memory
-areas-apart text low high s h = subst AreApart (sym h.memory) ((inl h.above, tt), (tt, tt))
+areas-apart text low high s h =
+    let apart : IsApart (text_area text) (data_from low h.bytes) = λ address in_text in_data.
+    let before = inside (text_area text) address 1 in_text in
+    let behind = inside (data_from low h.bytes) address 1 in_data in
+    absurd (omega (arith, before.to, behind.from, h.above))
+    in
+    subst AreApart (sym h.memory) ((apart, tt), (tt, tt))
 
 pub store-in : (text : List ℕ) (low high a value : ℕ) (s : State) → IsSound text low high s → low ≤ a → a + 4 ≤ high → value < 2 ^ 32 → (t : State) × Stored text low high a value s t
 store-in text low high a value s h from to fits =

@@ -140,6 +140,42 @@ fn spends_the_budget(rt: HostRuntime) -> Result<(), Fail> {
     Ok(())
 }
 
+/// A segment of the exit, and one of this size in its middle.
+fn exit_around(alloc: Global, size: u32) -> Result<Loaded, NoMemory> {
+    let text = Segment {
+        addr: TEXT,
+        bytes: EXIT.to_vec(alloc)?,
+        size: 12,
+        read: true,
+        write: false,
+        exec: true,
+    };
+    let inner = Segment {
+        addr: TEXT + 5,
+        bytes: Vec::new(alloc),
+        size,
+        read: true,
+        write: true,
+        exec: false,
+    };
+    Ok(Loaded {
+        entry: TEXT,
+        segments: vec![in alloc; text, inner]?,
+    })
+}
+
+#[test]
+fn loads_segments_that_do_not_overlap(rt: HostRuntime) -> Result<(), Fail> {
+    let loaded = exit_around(rt.alloc(), 0)?;
+    assert!(rt; loaded.is_loadable());
+    let mut machine = Machine::load(rt.alloc(), &loaded)?;
+    let mut input = SureSource::new(Vec::new(rt.alloc()));
+    let end = machine.run(&mut input, &mut SureSink::new(), 1000);
+    assert_eq!(rt; end, MachineEnd::Ended(44));
+    assert!(rt; !exit_around(rt.alloc(), 1)?.is_loadable());
+    Ok(())
+}
+
 /// Texts, and how they end.
 const ENDS: [(&[u8], MachineEnd); 16] = [
     (HIGH_BYTE, MachineEnd::Ended(0x55)),
