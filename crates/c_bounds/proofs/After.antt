@@ -1,9 +1,9 @@
 -- States that come after one another, and what single changes of a state leave as it was.
 use Rattle.std.proofs.Common.{◌≡◌, ℕ, suc, ◌+◌, ℤ, pos, negsuc, List, [], ◌∷◌, ◌++◌, length, set}
 use Rattle.std.proofs.Common.{get_or, Bool, true, false, Some, refl, sym, ap, arith, ◌∙◌, append_assoc}
-use Rattle.std.proofs.Common.{length-append}
-use Rattle.std.proofs.lemmas.List.{append-nil, length-set, length-replicate}
-use Rattle.std.proofs.Math.Seq.{map-set_same}
+use Rattle.std.proofs.Common.{length-append, ◌≤◌, drop}
+use Rattle.std.proofs.lemmas.List.{append-nil, drop-drop, length-drop, length-set, length-replicate}
+use Rattle.std.proofs.Math.Seq.{map-set_same, drop-append_seam}
 use Rattle.std.specs.Prelude.{if◌then◌else◌, ◌==◌}
 use Rattle.pcc_base.specs.Outcome.{ArrayName, Null, Static, InFrame, Unknown, Listing}
 use Rattle.c_tree.specs.Evaluation.{text_then_zeros, zeroed}
@@ -11,15 +11,20 @@ use Rattle.c_tree.specs.Store.{Activation, Held, State, with_local, with_younges
 use Rattle.c_tree.specs.Store.{with_array_in, call_of_depth, arrays_in, with_own, with_element, visited}
 use Rattle.c_bounds.specs.Bounds.{ComesAfter, lengths, sizes, sizes_of}
 
+-- nothing but turns, active calls and elements of objects change
+unchanged : (s t : State) → t.turns ≤ s.turns → t.visits ≡ s.visits → t.written ≡ s.written → t.left ≡ s.left
+    → t.taken ≡ s.taken → lengths t.objects ≡ lengths s.objects → ComesAfter s t
+unchanged s t le v w l n o = record {
+  turns = le;
+  visits = ([], v ∙ sym (append-nil s.visits));
+  written = ([], w ∙ sym (append-nil s.written));
+  input = ([], sym l, omega (arith, n));
+  objects = o;
+}
+
 -- a state comes after itself
 pub after-same : (s : State) → ComesAfter s s
-after-same s = record {
-  turns = omega arith;
-  visits = ([], sym (append-nil s.visits));
-  written = ([], sym (append-nil s.written));
-  input = ([], refl, omega arith);
-  objects = refl;
-}
+after-same s = unchanged s s (omega arith) refl refl refl refl refl
 
 -- what stands behind a list, and more behind that
 behind : {A : Type 0} (xs ys zs m n : List A) → ys ≡ xs ++ m → zs ≡ ys ++ n → zs ≡ xs ++ (m ++ n)
@@ -39,14 +44,28 @@ after-then s t u a b = record {
   objects = b.objects ∙ a.objects;
 }
 
+-- What is left of the input, and how much of it was taken, stays so.
+pub input-stays : (input : List ℕ) (s t : State) → ComesAfter s t → s.left ≡ drop s.taken input
+    → s.taken ≤ length input → (t.left ≡ drop t.taken input) × (t.taken ≤ length input)
+input-stays input s t h e le =
+    let bytes : List ℕ = h.input.0 in
+    let f : drop s.taken input ≡ bytes ++ t.left = sym e ∙ h.input.1 in
+    let n : length (drop s.taken input) ≡ length bytes + length t.left = ap length f ∙ length-append bytes t.left in (
+      sym (ap (λ (k : ℕ). drop k input) h.input.2 ∙ sym (drop-drop (length bytes) s.taken input)
+          ∙ ap (λ (xs : List ℕ). drop (length bytes) xs) f ∙ drop-append_seam bytes t.left),
+      omega (arith, n, length-drop s.taken input, h.input.2),
+    )
+
 -- a state comes after another, and the calls hold as much as before
 pub record Follows (s t : State) : Type 0 where
   pub after : ComesAfter s t
   pub same : sizes t.active ≡ sizes s.active
 
+-- a state follows itself
 pub follows-same : (s : State) → Follows s s
 follows-same s = record { after = after-same s; same = refl }
 
+-- and what the one before it follows
 pub follows-then : (s t u : State) → Follows s t → Follows t u → Follows s u
 follows-then s t u a b = record { after = after-then s t u a.after b.after; same = b.same ∙ a.same }
 
@@ -54,18 +73,13 @@ follows-then s t u a b = record { after = after-then s t u a.after b.after; same
 calls-follow : (s : State) (active : List Activation) → sizes active ≡ sizes s.active
     → Follows s (record s { active = active })
 calls-follow s active e = record {
-  after = record {
-    turns = omega arith;
-    visits = ([], sym (append-nil s.visits));
-    written = ([], sym (append-nil s.written));
-    input = ([], refl, omega arith);
-    objects = refl;
-  };
+  after = unchanged s _ (omega arith) refl refl refl refl refl;
   same = e;
 }
 
 -- ---- a local
 
+-- another value in a local of the youngest call leaves as many
 sizes-youngest : (local : ℕ) (value : Held) (active : List Activation) → sizes (with_youngest
     (record { values = set (youngest active).values local value; arrays = (youngest active).arrays }) active)
     ≡ sizes active
@@ -73,6 +87,7 @@ sizes-youngest local value [] = refl
 sizes-youngest local value (a ∷ others) =
     ap (λ (n : ℕ). (n, lengths a.arrays) ∷ sizes others) (length-set a.values local value)
 
+-- another value in a local
 pub local-follows : (local : ℕ) (value : Held) (s : State) → Follows s (with_local local value s)
 local-follows local value s = calls-follow s _ (sizes-youngest local value s.active)
 
@@ -83,6 +98,7 @@ lengths-set : (arrays : List (List ℤ)) (k : ℕ) (elements : List ℤ) → len
     → lengths (set arrays k elements) ≡ lengths arrays
 lengths-set arrays k elements e = map-set_same (λ xs. length xs) arrays k elements [] e
 
+-- as many elements in an array of one call, or of those below it
 sizes-here : (here : Bool) (k depth : ℕ) (elements : List ℤ) (a : Activation) (others : List Activation)
     → length elements ≡ length (get_or (arrays_in (if here then Some a else call_of_depth others depth)) k [])
     → (length elements ≡ length (get_or (arrays_in (call_of_depth others depth)) k [])
@@ -93,6 +109,7 @@ sizes-here true k depth elements a others e below =
     ap (λ (ns : List ℕ). (length a.values, ns) ∷ sizes others) (lengths-set a.arrays k elements e)
 sizes-here false k depth elements a others e below = ap (λ (xs : _). sizes_of a ∷ xs) (below e)
 
+-- as many elements in an array of the call of a depth
 sizes-array : (k depth : ℕ) (elements : List ℤ) (active : List Activation)
     → length elements ≡ length (get_or (arrays_in (call_of_depth active depth)) k [])
     → sizes (with_array_in k depth elements active) ≡ sizes active
@@ -105,13 +122,7 @@ pub array-follows : (array : ArrayName) (elements : List ℤ) (s : State)
     → length elements ≡ length (array_named s array) → Follows s (with_array array elements s)
 array-follows Null elements s e = follows-same s
 array-follows (Static k) elements s e = record {
-  after = record {
-    turns = omega arith;
-    visits = ([], sym (append-nil s.visits));
-    written = ([], sym (append-nil s.written));
-    input = ([], refl, omega arith);
-    objects = lengths-set s.objects k elements e;
-  };
+  after = unchanged s _ (omega arith) refl refl refl refl (lengths-set s.objects k elements e);
   same = refl;
 }
 array-follows (InFrame k depth) elements s e = calls-follow s _ (sizes-array k depth elements s.active e)
@@ -129,6 +140,7 @@ length-text [] text = refl
 length-text (n ∷ ns) [] = ap suc (length-text ns [])
 length-text (n ∷ ns) (c ∷ cs) = ap suc (length-text ns cs)
 
+-- and zeros in place of all
 pub length-zeroed : (elements : List ℤ) → length (zeroed elements) ≡ length elements
 length-zeroed elements = length-replicate (length elements) (pos 0)
 
@@ -177,12 +189,6 @@ taken-follows byte bytes s e = record {
 -- a turn is taken
 pub turn-follows : (n : ℕ) (s : State) → s.turns ≡ suc n → Follows s (record s { turns = n })
 turn-follows n s e = record {
-  after = record {
-    turns = omega arith;
-    visits = ([], sym (append-nil s.visits));
-    written = ([], sym (append-nil s.written));
-    input = ([], refl, omega arith);
-    objects = refl;
-  };
+  after = unchanged s _ (omega (arith, e)) refl refl refl refl refl;
   same = refl;
 }

@@ -1,130 +1,20 @@
--- What trees keep whose calls keep it, what calls keep, and calls with more turns.
-use Rattle.std.proofs.Common.{◌≡◌, ℕ, zero, suc, ◌+◌, ◌<◌, ◌≤◌, pos, Bool, true, false, List, [], ◌∷◌, length, Option}
-use Rattle.std.proofs.Common.{Some, None, refl, sym, ap, subst, arith, ◌∙◌}
+-- What calls keep, and calls with more turns.
+use Rattle.std.proofs.Common.{◌≡◌, ℕ, zero, suc, ◌+◌, ◌≤◌, Bool, true, false, List, [], ◌∷◌, length, Option}
+use Rattle.std.proofs.Common.{Some, None, refl, arith}
 use Rattle.std.specs.Prelude.{nat_le, slice_get, if◌then◌else◌}
 use Rattle.pcc_base.specs.Outcome.{Trapped, Goes, Listing}
 use Rattle.pcc_base.specs.declared.run.Trap.TheVariants.{Check}
 use Rattle.c_tree.specs.Evaluation.{Calls, Left, Runs, older, type_at, call_over, first_activation, enter}
 use Rattle.c_tree.specs.Evaluation.{run_function, call_within, value_left, most_active}
 use Rattle.c_tree.specs.Program.{Function}
-use Rattle.c_tree.specs.Store.{Held, HoldsNumber, Activation, State, Evaluated, Gives, Ends, and_then}
-use Rattle.c_bounds.specs.Bounds.{CallsExtend, ComesAfter, Extending, Extends, Keeps, sizes}
-use Rattle.c_bounds.specs.Bounds.{state_of, with_more}
-use Rattle.c_bounds.specs.Laws.{CallBoundsAgree, ProgramsExtend, ProgramsKeep, GoesWithoutTurns, LoopBoundsAgree}
-use Rattle.c_bounds.specs.Laws.{LoopsKeep, TreesAgreeAsCalls, TreesExtend, TreesExtendAsCalls}
-use Rattle.c_bounds.specs.Laws.{TreesKeepAsCalls}
+use Rattle.c_tree.specs.Store.{Held, Activation, State, Evaluated, Gives, Ends, and_then}
+use Rattle.c_bounds.specs.Bounds.{CallsExtend, ComesAfter, Extending, Extends, Keeps, sizes, state_of, with_more}
+use Rattle.c_bounds.specs.Laws.{CallBoundsAgree, CallsUnfold, GoesWithoutTurns, ProgramsExtend, ProgramsKeep}
 use Rattle.c_bounds.proofs.After.{after-same}
-use Rattle.c_bounds.proofs.Keeping.{gives-keeps, ends-keeps, lower-keeps, loop-keeps, do-keeps}
-use Rattle.c_bounds.proofs.Keeping.{either-keeps}
-use Rattle.c_bounds.proofs.Extending.{same-both, none-both, then-extends, turn-both, ends-both, loop-both, do-both}
-use Rattle.c_bounds.proofs.Extending.{gives-extends}
-use Rattle.c_bounds.proofs.Trees.{expression-both, place-both, arguments-both, item-both, first-both, statement_both}
+use Rattle.c_bounds.proofs.Keeping.{gives-keeps, ends-keeps, lower-keeps, either-keeps}
+use Rattle.c_bounds.proofs.Extending.{gives-extends, same-both, none-both, then-extends, turn-both, ends-both}
 use Rattle.c_bounds.proofs.Trees.{statements_both}
-
--- ---- trees
-
-pub trees_extend : TreesExtendAsCalls
-trees_extend k d calls others h = record {
-  expressions = expression-both k d calls others h;
-  places = place-both k d calls others h;
-  arguments = arguments-both k d calls others h;
-  items = item-both k d calls others h;
-  firsts = first-both k d calls others h;
-  statements = λ loops other listing types result x le le'.
-      statement_both k d calls others h loops other le le' listing types result x;
-  bodies = λ loops other listing types result xs place le le'.
-      statements_both k d calls others h loops other le le' listing types result xs place;
-}
-
--- no more turns
-more-none : (s : State) → with_more 0 s ≡ s
-more-none s = let e : s.turns + 0 ≡ s.turns = omega arith in ap (λ (n : ℕ). record s { turns = n }) e
-
--- what an evaluation comes to with no more turns
-none-extends : {A : Type 0} (r : Evaluated A) → Extends 0 r r
-none-extends {A} r = record {
-  gives = λ v t e. e ∙ ap (λ (w : State). Gives v w) (sym (more-none t));
-  ends = λ end t e h. e ∙ ap (λ (w : State). Ends end w) (sym (more-none t));
-  goes = λ t e. rw (e, more-none t) (after-same t);
-}
-
--- two evaluations that agree are such with no more turns
-pub agree-both : {A : Type 0} (k : ℕ) (f g : State → Evaluated A) → ((s : State) → Keeps k s (f s))
-    → ((s : State) → Keeps k s (g s)) → ((s : State) → s.turns < k → f s ≡ g s) → Extending k 0 f g
-agree-both {A} k f g h h' agree = record {
-  keeps = h;
-  keeps_too = λ s. lower-keeps 0 k (omega arith) (h' s);
-  extends = λ s lt. rw (more-none s, sym (agree s lt)) (none-extends (f s));
-}
-
--- and the other way round
-extends-same : {A : Type 0} (r other : Evaluated A) → Extends 0 r other → r ≡ other
-extends-same (Gives value t) other h =
-    ap (λ (w : State). Gives value w) (sym (more-none t)) ∙ sym (h.gives value t refl)
-extends-same (Ends end t) other h =
-    ap (λ (w : State). Ends end w) (sym (more-none t)) ∙ sym (h.ends end t refl (λ e. refl))
-
-pub both-agree : {A : Type 0} {f g : State → Evaluated A} (k : ℕ) → Extending k 0 f g → (s : State) → s.turns < k
-    → f s ≡ g s
-both-agree {A} {f} {g} k h s lt =
-    extends-same (f s) (g s) (subst (λ (t : State). Extends 0 (f s) (g t)) (more-none s) (h.extends s lt))
-
-pub trees_keep : TreesKeepAsCalls
-trees_keep k calls h =
-    let g : TreesExtend k 0 calls calls = trees_extend k 0 calls calls (λ f arguments.
-    agree-both k (calls f arguments) (calls f arguments) (h f arguments) (h f arguments) (λ s lt. refl)) in
-    record {
-      expressions = λ e. (g.expressions e).keeps;
-      places = λ place. (g.places place).keeps;
-      arguments = λ arguments. (g.arguments arguments).keeps;
-      items = λ listing types item. (g.items listing types item).keeps;
-      firsts = λ listing types first. (g.firsts listing types first).keeps;
-      statements = λ loops listing types result x s le.
-          (g.statements loops loops listing types result x le (omega (arith, le))).keeps s;
-      bodies = λ loops listing types result xs place s le.
-          (g.bodies loops loops listing types result xs place le (omega (arith, le))).keeps s;
-    }
-
-pub trees_agree : TreesAgreeAsCalls
-trees_agree k calls others h h' agree =
-    let g : TreesExtend k 0 calls others = trees_extend k 0 calls others (λ f arguments.
-    agree-both k (calls f arguments) (others f arguments) (h f arguments) (h' f arguments) (agree f arguments)) in
-    record {
-      expressions = λ e. both-agree k (g.expressions e);
-      places = λ place. both-agree k (g.places place);
-      arguments = λ arguments. both-agree k (g.arguments arguments);
-      items = λ listing types item. both-agree k (g.items listing types item);
-      firsts = λ listing types first. both-agree k (g.firsts listing types first);
-      statements = λ loops other listing types result x s le le'.
-          both-agree k (g.statements loops other listing types result x le (omega (arith, le'))) s;
-      bodies = λ loops other listing types result xs place s le le'.
-          both-agree k (g.bodies loops other listing types result xs place le (omega (arith, le'))) s;
-    }
-
--- ---- loops
-
-pub loops_keep : LoopsKeep
-loops_keep k loops test body after s le h = (
-  loop-keeps loops k test body after le h.tests h.bodies h.afters s,
-  do-keeps loops k test body le h.tests h.bodies s,
-)
-
--- an evaluation beside itself
-pub same-agree : {A : Type 0} {f : State → Evaluated A} (k : ℕ) → ((s : State) → Keeps k s (f s)) → Extending k 0 f f
-same-agree {A} {f} k h = agree-both k f f h h (λ s lt. refl)
-
-pub loop_bounds_agree : LoopBoundsAgree
-loop_bounds_agree bound other test body after s lt lt' h =
-    let k : ℕ = suc s.turns in
-    let t : Extending k 0 test test = same-agree k h.tests in
-    let b : Extending k 0 body body = same-agree k h.bodies in
-    let a : Extending k 0 after after = same-agree k h.afters in (
-      both-agree k (loop-both bound other k 0 test test body body after after (omega arith) (omega arith) t b a) s
-          (omega arith),
-      both-agree k (do-both bound other k 0 test test body body (omega arith) (omega arith) t b) s (omega arith),
-    )
-
--- ---- calls
+use Rattle.c_bounds.proofs.Agreeing.{both-agree, same-agree}
 
 -- a call begins
 abbrev pushed : Activation → State → State
@@ -170,6 +60,7 @@ over-after left t = let h = after-same t in record {
   objects = h.objects;
 }
 
+-- a call runs and is over
 over-both : {body body' : Runs} (k d : ℕ) (a : Activation) → Extending k d body body' → Extending k d
     (λ s. and_then (body (pushed a s)) call_over) (λ s. and_then (body' (pushed a s)) call_over)
 over-both {body} {body'} k d a h = record {
@@ -190,23 +81,27 @@ tested-both {A} {f} {g} {f'} {g'} k d test same h h' = record {
   extends = λ s lt. rw (same s) (chosen (test s) (h.extends s lt) (h'.extends s lt));
 }
   where
+    -- one of two
     chosen : {r o r' o' : Evaluated A} (b : Bool) → Extends d r o → Extends d r' o'
         → Extends d (if b then r else r') (if b then o else o')
     chosen true e e' = e
     chosen false e e' = e'
 
+-- a call begins with a turn
 enter-both : {body body' : Runs} (k d : ℕ) (f : Function) (arguments : List Held) → Extending k d body body'
     → Extending (suc k) d (enter f arguments body) (enter f arguments body')
 enter-both k d f arguments h = tested-both (suc k) d (λ s. nat_le most_active (length s.active)) (λ s. refl)
-    (ends-both (suc k) d (Trapped Check) (λ e. cc)) (turn-both k d (over-both k d (first_activation f arguments) h))
+    (ends-both (Trapped Check) (λ e. cc)) (turn-both k d (over-both k d (first_activation f arguments) h))
 
+-- a function that is there runs, and one that is none gives 0
 function-both : (k d bound other : ℕ) (calls others : Calls) → CallsExtend k d calls others → k ≤ bound → k + d ≤ other
     → (listing : Listing) (f : Option Function) (arguments : List Held)
     → Extending (suc k) d (run_function calls bound listing f arguments) (run_function others other listing f arguments)
-function-both k d bound other calls others h le le' listing None arguments = same-both (suc k) d (HoldsNumber (pos 0))
+function-both k d bound other calls others h le le' listing None arguments = same-both
 function-both k d bound other calls others h le le' listing (Some f) arguments = enter-both k d f arguments
     (statements_both k d calls others h bound other le le' listing (type_at f) f.result f.body 0)
 
+-- what calls keep, by the bound
 pub calls_keep : ProgramsKeep
 calls_keep program listing zero f arguments s = ends-keeps 0 s Goes (λ e lt. absurd (omega (arith, lt)))
 calls_keep program listing (suc k) f arguments s =
@@ -215,6 +110,7 @@ calls_keep program listing (suc k) f arguments s =
     (function-both k 0 (suc k) (suc k) calls calls h (omega arith) (omega arith) listing
     (slice_get program.functions f) arguments).keeps s
 
+-- calls over two bounds, by both
 pub calls_extend : ProgramsExtend
 calls_extend program listing zero d calls others le le' f arguments = none-both d
     (λ s. lower-keeps 0 calls (omega arith) (calls_keep program listing calls f arguments s))
@@ -226,10 +122,22 @@ calls_extend program listing (suc k) d (suc calls) (suc others) le le' f argumen
     (calls_extend program listing k d calls others (omega (arith, le)) (omega (arith, le')))
     (omega (arith, le)) (omega (arith, le')) listing (slice_get program.functions f) arguments
 
+-- what ends and still goes has no turn left
 pub goes_without_turns : GoesWithoutTurns
 goes_without_turns program listing bound f arguments s t lt e =
     (calls_keep program listing bound f arguments s).goes t e lt
 
+-- a call over two bounds above the turns
 pub call_bounds_agree : CallBoundsAgree
 call_bounds_agree program listing bound other f arguments s lt lt' = both-agree (suc s.turns)
     (calls_extend program listing (suc s.turns) 0 bound other (omega arith) (omega arith) f arguments) s (omega arith)
+
+-- a call over a bound, and its calls over the next lower one
+pub calls_unfold : CallsUnfold
+calls_unfold program listing zero f arguments s lt = absurd (omega (arith, lt))
+calls_unfold program listing (suc bound) f arguments s lt =
+    let k : ℕ = s.turns in
+    both-agree (suc k) (function-both k 0 (suc bound) (suc bound) (call_within bound program listing)
+    (call_within (suc bound) program listing)
+    (calls_extend program listing k 0 bound (suc bound) (omega (arith, lt)) (omega (arith, lt)))
+    (omega (arith, lt)) (omega (arith, lt)) listing (slice_get program.functions f) arguments) s (omega arith)

@@ -42,24 +42,24 @@ ends-extends d end t h = record {
 }
 
 -- a value that more turns don't change is given in a state that follows, and so it is with more turns
-pub gives-both : {A : Type 0} (k d : ℕ) (value : State → A) (change : State → State)
+pub gives-both : {A : Type 0} {k d : ℕ} (value : State → A) (change : State → State)
     → ((s : State) → Follows s (change s)) → ((s : State) → value (with_more d s) ≡ value s)
     → ((s : State) → change (with_more d s) ≡ with_more d (change s))
     → Extending k d (λ s. Gives (value s) (change s)) (λ s. Gives (value s) (change s))
-gives-both {A} k d value change follows same moves = record {
+gives-both {A} {k} {d} value change follows same moves = record {
   keeps = λ s. gives-keeps k s (change s) (value s) (follows s);
   keeps_too = λ s. gives-keeps 0 s (change s) (value s) (follows s);
   extends = λ s lt. rw (same s, moves s) (gives-extends d (value s) (change s));
 }
 
 -- a value is given in the same state
-pub same-both : {A : Type 0} (k d : ℕ) (value : A) → Extending k d (λ s. Gives value s) (λ s. Gives value s)
-same-both k d value = gives-both k d (λ s. value) (λ s. s) follows-same (λ s. refl) (λ s. refl)
+pub same-both : {A : Type 0} {k d : ℕ} {value : A} → Extending k d (λ s. Gives value s) (λ s. Gives value s)
+same-both {value = v} = gives-both (λ s. v) (λ s. s) follows-same (λ s. refl) (λ s. refl)
 
 -- the program ends in the same state
-pub ends-both : {A : Type 0} (k d : ℕ) (end : End) → (end ≡ Goes → ⊥)
+pub ends-both : {A : Type 0} {k d : ℕ} (end : End) → (end ≡ Goes → ⊥)
     → Extending {A = A} k d (λ s. Ends end s) (λ s. Ends end s)
-ends-both k d end h = record {
+ends-both {k} {d} end h = record {
   keeps = λ s. ends-keeps k s end (λ e lt. absurd (h e));
   keeps_too = λ s. ends-keeps 0 s end (λ e lt. absurd (h e));
   extends = λ s lt. ends-extends d end s h;
@@ -176,26 +176,29 @@ with_array-more d s (Static k) elements = refl
 with_array-more d s (InFrame k depth) elements = refl
 with_array-more d s Unknown elements = refl
 
+-- an element is read, or there is none
 read-extends : (d : ℕ) (s : State) (element : Option ℤ)
     → Extends d (element_read s element) (element_read (with_more d s) element)
 read-extends d s None = ends-extends d (Trapped Check) s (λ e. cc)
 read-extends d s (Some n) = gives-extends d (HoldsNumber n) s
 
 -- an element is read that more turns don't change
-read-both : (k d : ℕ) (element : State → Option ℤ) → ((s : State) → element (with_more d s) ≡ element s)
+read-both : {k d : ℕ} (element : State → Option ℤ) → ((s : State) → element (with_more d s) ≡ element s)
     → Extending k d (λ s. element_read s (element s)) (λ s. element_read s (element s))
-read-both k d element same = record {
+read-both {k} {d} element same = record {
   keeps = λ s. read-keeps k s (element s);
   keeps_too = λ s. read-keeps 0 s (element s);
   extends = λ s lt. rw (same s) (read-extends d s (element s));
 }
 
-pub load-both : (k d : ℕ) (found : Found) → Extending k d (load found) (load found)
-load-both k d (InLocal local) = gives-both k d (λ s. held s local) (λ s. s) follows-same (λ s. refl) (λ s. refl)
-load-both k d (InObject object) = read-both k d (λ s. element_at (array_named s (Static object)) (pos 0)) (λ s. refl)
-load-both k d (AtIndex array index) = read-both k d (λ s. element_at (array_named s array) index)
+-- a place is loaded
+pub load-both : {k d : ℕ} (found : Found) → Extending k d (load found) (load found)
+load-both {k} {d} (InLocal local) = gives-both (λ s. held s local) (λ s. s) follows-same (λ s. refl) (λ s. refl)
+load-both {k} {d} (InObject object) = read-both (λ s. element_at (array_named s (Static object)) (pos 0)) (λ s. refl)
+load-both {k} {d} (AtIndex array index) = read-both (λ s. element_at (array_named s array) index)
     (λ s. ap (λ (xs : List ℤ). element_at xs index) (array-more d s array))
 
+-- an element is written, or there is none
 written-extends : (d : ℕ) (array : ArrayName) (index : ℤ) (value : Held) (s : State) (old : Option ℤ)
     → Extends d (element_written array index value s old) (element_written array index value (with_more d s) old)
 written-extends d array index value s None = ends-extends d (Trapped Check) s (λ e. cc)
@@ -203,10 +206,11 @@ written-extends d array index value s (Some old) =
     let elements : List ℤ = with_element (array_named s array) index (number_in value) in
     rw (array-more d s array, with_array-more d s array elements) (gives-extends d value (with_array array elements s))
 
-element-both : (k d : ℕ) (array : ArrayName) (index : ℤ) (value : Held) → Extending k d
+-- an element of an array is written
+element-both : {k d : ℕ} (array : ArrayName) (index : ℤ) (value : Held) → Extending k d
     (λ s. element_written array index value s (element_at (array_named s array) index))
     (λ s. element_written array index value s (element_at (array_named s array) index))
-element-both k d array index value = record {
+element-both {k} {d} array index value = record {
   keeps = λ s. store-keeps k (AtIndex array index) value s;
   keeps_too = λ s. store-keeps 0 (AtIndex array index) value s;
   extends = λ s lt. subst (λ (xs : List ℤ). Extends d
@@ -215,44 +219,50 @@ element-both k d array index value = record {
       (written-extends d array index value s (element_at (array_named s array) index));
 }
 
-pub store-both : (k d : ℕ) (found : Found) (value : Held) → Extending k d (store found value) (store found value)
-store-both k d (InLocal local) value = gives-both k d (λ s. value) (with_local local value)
+-- a place is stored to
+pub store-both : {k d : ℕ} (found : Found) (value : Held) → Extending k d (store found value) (store found value)
+store-both {k} {d} (InLocal local) value = gives-both (λ s. value) (with_local local value)
     (local-follows local value) (λ s. refl) (λ s. refl)
-store-both k d (InObject object) value = element-both k d (Static object) (pos 0) value
-store-both k d (AtIndex array index) value = element-both k d array index value
+store-both {k} {d} (InObject object) value = element-both (Static object) (pos 0) value
+store-both {k} {d} (AtIndex array index) value = element-both array index value
 
-pub computed-both : (k d : ℕ) (c : Computed) → Extending k d (computed c) (computed c)
-computed-both k d (Computes value) = same-both k d value
-computed-both k d (Traps trap) = ends-both k d (Trapped trap) (λ e. cc)
+-- an operator gives a value or traps
+pub computed-both : {k d : ℕ} (c : Computed) → Extending k d (computed c) (computed c)
+computed-both {k} {d} (Computes value) = same-both
+computed-both {k} {d} (Traps trap) = ends-both (Trapped trap) (λ e. cc)
 
-pub put-both : (k d : ℕ) (value : Held) → Extending k d (put value) (put value)
-put-both k d value = gives-both k d (λ s. HoldsNumber (pos (low_byte value)))
+-- a byte is written
+pub put-both : {k d : ℕ} (value : Held) → Extending k d (put value) (put value)
+put-both {k} {d} value = gives-both (λ s. HoldsNumber (pos (low_byte value)))
     (λ s. record s { written = s.written ++ low_byte value ∷ [] }) (written-follows (low_byte value)) (λ s. refl)
     (λ s. refl)
 
+-- a byte is taken, or none is left
 get-extends : (d : ℕ) (left : List ℕ) (s : State) → Extends d (get_from left s) (get_from left (with_more d s))
 get-extends d [] s = gives-extends d _ s
 get-extends d (byte ∷ bytes) s = gives-extends d _ _
 
-pub get-both : (k d : ℕ) → Extending k d (λ s. get_from s.left s) (λ s. get_from s.left s)
-get-both k d = record {
+-- the next byte is taken
+pub get-both : {k d : ℕ} → Extending k d (λ s. get_from s.left s) (λ s. get_from s.left s)
+get-both {k} {d} = record {
   keeps = λ s. get-keeps k s.left s refl;
   keeps_too = λ s. get-keeps 0 s.left s refl;
   extends = λ s lt. get-extends d s.left s;
 }
 
-pub updated-both : (k d : ℕ) (of : ValueType) (op : BinaryOp) (found : Found) (old value : Held)
+-- an operator, and then a store
+pub updated-both : {k d : ℕ} (of : ValueType) (op : BinaryOp) (found : Found) (old value : Held)
     → Extending k d (updated of op found old value) (updated of op found old value)
-updated-both k d of op found old value = then-both (computed-both k d (binary_value op old value))
-    (λ new. store-both k d found (in_type of new))
+updated-both {k} {d} of op found old value = then-both (computed-both (binary_value op old value))
+    (λ new. store-both found (in_type of new))
 
 -- ---- statements behind one another
 
 -- a change of the state first, which more turns don't change
-pub before-both : {A : Type 0} {f g : State → Evaluated A} (k d : ℕ) (change : State → State)
+pub before-both : {A : Type 0} {f g : State → Evaluated A} {k d : ℕ} (change : State → State)
     → ((s : State) → Follows s (change s)) → ((s : State) → change (with_more d s) ≡ with_more d (change s))
     → Extending k d f g → Extending k d (λ s. f (change s)) (λ s. g (change s))
-before-both {A} {f} {g} k d change follows moves h = record {
+before-both {A} {f} {g} {k} {d} change follows moves h = record {
   keeps = λ s. follows-keeps k s (change s) (follows s) (h.keeps (change s));
   keeps_too = λ s. follows-keeps 0 s (change s) (follows s) (h.keeps_too (change s));
   extends = λ s lt. let le = (follows s).after.turns in
@@ -260,30 +270,31 @@ before-both {A} {f} {g} k d change follows moves h = record {
 }
 
 -- the next statement behind one
-pub statement-both : {next next' : Runs} (k d : ℕ) → Extending k d next next' → (left : Left)
+pub statement-both : {next next' : Runs} {k d : ℕ} → Extending k d next next' → (left : Left)
     → Extending k d (after_statement next left) (after_statement next' left)
-statement-both k d h Falls = h
-statement-both k d h Breaks = same-both k d Breaks
-statement-both k d h Continues = same-both k d Continues
-statement-both k d h (Returns value) = same-both k d (Returns value)
+statement-both {k} {d} h Falls = h
+statement-both {k} {d} h Breaks = same-both
+statement-both {k} {d} h Continues = same-both
+statement-both {k} {d} h (Returns value) = same-both
 
 -- what comes behind a loop's body
-pub body-both : {next next' : Runs} (k d : ℕ) → Extending k d next next' → (left : Left)
+pub body-both : {next next' : Runs} {k d : ℕ} → Extending k d next next' → (left : Left)
     → Extending k d (after_body next left) (after_body next' left)
-body-both k d h Falls = h
-body-both k d h Breaks = same-both k d Falls
-body-both k d h Continues = h
-body-both k d h (Returns value) = same-both k d (Returns value)
+body-both {k} {d} h Falls = h
+body-both {k} {d} h Breaks = same-both
+body-both {k} {d} h Continues = h
+body-both {k} {d} h (Returns value) = same-both
 
 -- what comes behind a switch's body
-pub switch-both : (k d : ℕ) (left : Left) → Extending k d (after_switch left) (after_switch left)
-switch-both k d Falls = same-both k d Falls
-switch-both k d Breaks = same-both k d Falls
-switch-both k d Continues = same-both k d Continues
-switch-both k d (Returns value) = same-both k d (Returns value)
+pub switch-both : {k d : ℕ} (left : Left) → Extending k d (after_switch left) (after_switch left)
+switch-both {k} {d} Falls = same-both
+switch-both {k} {d} Breaks = same-both
+switch-both {k} {d} Continues = same-both
+switch-both {k} {d} (Returns value) = same-both
 
 -- ---- loops, by their own bounds
 
+-- a loop over one bound, and over another that has the turns that are more
 pub loop-both : (bound other k d : ℕ) (test test' : State → Evaluated Bool) (body body' after after' : Runs)
     → k ≤ bound → k + d ≤ other → Extending k d test test' → Extending k d body body' → Extending k d after after'
     → Extending k d (loop bound test body after) (loop other test' body' after')
@@ -298,10 +309,11 @@ loop-both (suc bound) (suc other) (suc k) d test test' body body' after after' l
     let b' : Extending k d body body' = lower-both k (suc k) d lower b in
     let a' : Extending k d after after' = lower-both k (suc k) d lower a in
     turn-both k d (then-both h' (λ holds. either-both holds
-    (then-both b' (body-both k d (then-both a' (λ left.
+    (then-both b' (body-both (then-both a' (λ left.
     loop-both bound other k d test test' body body' after after' (omega (arith, le)) (omega (arith, le')) h' b' a'))))
-    (same-both k d Falls)))
+    same-both))
 
+-- the same of a `do`
 pub do-both : (bound other k d : ℕ) (test test' : State → Evaluated Bool) (body body' : Runs) → k ≤ bound
     → k + d ≤ other → Extending k d test test' → Extending k d body body'
     → Extending k d (do_loop bound test body) (do_loop other test' body')
@@ -314,6 +326,6 @@ do-both (suc bound) (suc other) (suc k) d test test' body body' le le' h b =
     let lower : k ≤ suc k = omega arith in
     let h' : Extending k d test test' = lower-both k (suc k) d lower h in
     let b' : Extending k d body body' = lower-both k (suc k) d lower b in
-    turn-both k d (then-both b' (body-both k d (then-both h' (λ holds. either-both holds
+    turn-both k d (then-both b' (body-both (then-both h' (λ holds. either-both holds
     (do-both bound other k d test test' body body' (omega (arith, le)) (omega (arith, le')) h' b')
-    (same-both k d Falls)))))
+    same-both))))

@@ -1,21 +1,19 @@
 -- What is kept by evaluations that are made of others.
 use Rattle.std.proofs.Common.{◌≡◌, ℕ, zero, suc, ◌<◌, ◌≤◌, ◌-◌, ℤ, pos, List, [], ◌∷◌, Bool, true, false}
 use Rattle.std.proofs.Common.{Option, Some, None, refl, sym, ap, arith, ◌∙◌}
-use Rattle.std.specs.Prelude.{if◌then◌else◌}
+use Rattle.std.proofs.lemmas.List.{length-map}
+use Rattle.std.specs.Prelude.{length, if◌then◌else◌}
 use Rattle.pcc_base.specs.Outcome.{End, Trapped, Goes, ArrayName, Static}
 use Rattle.pcc_base.specs.declared.run.Trap.TheVariants.{Check}
-use Rattle.c_tree.specs.declared.types.ValueType.{ValueType}
-use Rattle.c_tree.specs.declared.expression.BinaryOp.{BinaryOp}
-use Rattle.c_tree.specs.Evaluation.{Found, InLocal, InObject, AtIndex, load, store, element_read, element_written}
-use Rattle.c_tree.specs.Evaluation.{number_in, computed, put, get_from, low_byte, updated, Left, Falls, Breaks}
+use Rattle.c_tree.specs.Evaluation.{Found, InLocal, InObject, AtIndex, store, element_read, element_written}
+use Rattle.c_tree.specs.Evaluation.{number_in, get_from, Left, Falls, Breaks}
 use Rattle.c_tree.specs.Evaluation.{Continues}
-use Rattle.c_tree.specs.Evaluation.{Returns, Runs, after_statement, after_body, after_switch, loop, do_loop}
-use Rattle.c_tree.specs.Operators.{Computed, Computes, Traps, binary_value}
-use Rattle.c_tree.specs.Store.{Held, HoldsNumber, in_type, State, held, array_named, element_at}
+use Rattle.c_tree.specs.Evaluation.{Returns, Runs, after_body, loop, do_loop}
+use Rattle.c_tree.specs.Store.{Held, HoldsNumber, State, array_named, element_at}
 use Rattle.c_tree.specs.Store.{Evaluated, Gives, Ends, and_then, turn_with, take_turn}
-use Rattle.c_bounds.specs.Bounds.{Keeps, sizes, state_of}
+use Rattle.c_bounds.specs.Bounds.{sizes_of, Keeps, sizes, state_of}
 use Rattle.c_bounds.proofs.After.{after-same, after-then, Follows, follows-same, local-follows, array-follows}
-use Rattle.c_bounds.proofs.After.{length-with_element, written-follows, taken-follows, turn-follows}
+use Rattle.c_bounds.proofs.After.{length-with_element, taken-follows, turn-follows}
 
 -- ---- one evaluation
 
@@ -40,6 +38,7 @@ ends-keeps k s end h = record {
   goes = λ u e lt. let f : s ≡ u = cc in let g : end ≡ Goes = cc in ap (λ (w : State). w.turns) (sym f) ∙ h g lt;
 }
 
+-- an access outside traps
 pub traps-keeps : {A : Type 0} (k : ℕ) (s : State) → Keeps {A = A} k s (Ends (Trapped Check) s)
 traps-keeps k s = ends-keeps k s (Trapped Check) (λ e lt. cc)
 
@@ -58,6 +57,12 @@ follows-keeps {A} {r} k s t f h = record {
   gives = λ v u e. h.gives v u e ∙ f.same;
   goes = λ u e lt. let le = f.after.turns in h.goes u e (omega arith);
 }
+
+-- as many calls are active as before
+pub same-depth : {A : Type 0} {r : Evaluated A} (k : ℕ) (s t : State) (value : A) → Keeps k s r → r ≡ Gives value t
+    → length t.active ≡ length s.active
+same-depth k s t value h e =
+    sym (length-map t.active sizes_of) ∙ ap (λ (ns : _). length ns) (h.gives value t e) ∙ length-map s.active sizes_of
 
 -- ---- several
 
@@ -91,27 +96,26 @@ turn_with-keeps {A} j k (suc n) s go le e h =
       goes = λ u d lt. g.goes u d (omega (arith, e, le, lt));
     }
 
+-- the same, with the turns that the state has
 pub turn-keeps : {A : Type 0} (j k : ℕ) (s : State) (go : State → Evaluated A) → k ≤ suc j
     → ((t : State) → Keeps j t (go t)) → Keeps k s (take_turn s go)
 turn-keeps j k s go le h = turn_with-keeps j k s.turns s go le refl h
 
 -- ---- loads, stores and the outside
 
+-- an element is read, or there is none
 pub read-keeps : (k : ℕ) (s : State) (element : Option ℤ) → Keeps k s (element_read s element)
 read-keeps k s None = traps-keeps k s
 read-keeps k s (Some n) = same-keeps k s (HoldsNumber n)
 
-pub load-keeps : (k : ℕ) (found : Found) (s : State) → Keeps k s (load found s)
-load-keeps k (InLocal local) s = same-keeps k s (held s local)
-load-keeps k (InObject object) s = read-keeps k s (element_at (array_named s (Static object)) (pos 0))
-load-keeps k (AtIndex array index) s = read-keeps k s (element_at (array_named s array) index)
-
+-- an element is written, or there is none
 written-keeps : (k : ℕ) (array : ArrayName) (index : ℤ) (value : Held) (s : State) (old : Option ℤ)
     → Keeps k s (element_written array index value s old)
 written-keeps k array index value s None = traps-keeps k s
 written-keeps k array index value s (Some old) = gives-keeps k s _ value
     (array-follows array _ s (length-with_element (array_named s array) index (number_in value)))
 
+-- a place is stored to
 pub store-keeps : (k : ℕ) (found : Found) (value : Held) (s : State) → Keeps k s (store found value s)
 store-keeps k (InLocal local) value s = gives-keeps k s _ value (local-follows local value s)
 store-keeps k (InObject object) value s =
@@ -119,35 +123,16 @@ store-keeps k (InObject object) value s =
 store-keeps k (AtIndex array index) value s =
     written-keeps k array index value s (element_at (array_named s array) index)
 
-pub computed-keeps : (k : ℕ) (c : Computed) (s : State) → Keeps k s (computed c s)
-computed-keeps k (Computes value) s = same-keeps k s value
-computed-keeps k (Traps trap) s = ends-keeps k s (Trapped trap) (λ e lt. cc)
-
-pub put-keeps : (k : ℕ) (value : Held) (s : State) → Keeps k s (put value s)
-put-keeps k value s = gives-keeps k s _ _ (written-follows (low_byte value) s)
-
+-- the next byte is taken, or none is left
 pub get-keeps : (k : ℕ) (left : List ℕ) (s : State) → s.left ≡ left → Keeps k s (get_from left s)
 get-keeps k [] s e = same-keeps k s _
 get-keeps k (byte ∷ bytes) s e = gives-keeps k s _ _ (taken-follows byte bytes s e)
-
-pub updated-keeps : (k : ℕ) (of : ValueType) (op : BinaryOp) (found : Found) (old value : Held) (s : State)
-    → Keeps k s (updated of op found old value s)
-updated-keeps k of op found old value s = then-keeps (computed-keeps k (binary_value op old value) s)
-    (λ new t. store-keeps k found (in_type of new) t)
 
 -- ---- statements behind one another
 
 -- runs of statements that keep it from every state
 abbrev pub RunsKeep : ℕ → Runs → Type 0
 RunsKeep k runs = (s : State) → Keeps k s (runs s)
-
--- the next statement behind one
-pub statement-keeps : (k : ℕ) (next : Runs) → RunsKeep k next → (left : Left) (s : State)
-    → Keeps k s (after_statement next left s)
-statement-keeps k next h Falls s = h s
-statement-keeps k next h Breaks s = same-keeps k s Breaks
-statement-keeps k next h Continues s = same-keeps k s Continues
-statement-keeps k next h (Returns value) s = same-keeps k s (Returns value)
 
 -- what comes behind a loop's body
 pub body-keeps : (k : ℕ) (next : Runs) → RunsKeep k next → (left : Left) (s : State)
@@ -157,19 +142,13 @@ body-keeps k next h Breaks s = same-keeps k s Falls
 body-keeps k next h Continues s = h s
 body-keeps k next h (Returns value) s = same-keeps k s (Returns value)
 
--- what comes behind a switch's body
-pub switch-keeps : (k : ℕ) (left : Left) (s : State) → Keeps k s (after_switch left s)
-switch-keeps k Falls s = same-keeps k s Falls
-switch-keeps k Breaks s = same-keeps k s Falls
-switch-keeps k Continues s = same-keeps k s Continues
-switch-keeps k (Returns value) s = same-keeps k s (Returns value)
-
 -- ---- loops, by their own bound
 
 -- a loop whose bound is none keeps what is kept from fewer than no turns
 none-keeps : {A : Type 0} (k : ℕ) (s : State) → k ≤ 0 → Keeps {A = A} k s (Ends Goes s)
 none-keeps k s le = ends-keeps k s Goes (λ e lt. absurd (omega arith))
 
+-- a loop over a bound that isn't lower
 pub loop-keeps : (bound k : ℕ) (test : State → Evaluated Bool) (body after : Runs) → k ≤ bound
     → ((t : State) → Keeps k t (test t)) → RunsKeep k body → RunsKeep k after → RunsKeep k (loop bound test body after)
 loop-keeps zero k test body after le h b a s = none-keeps k s le
@@ -184,6 +163,7 @@ loop-keeps (suc bound) k test body after le h b a s =
     (body-keeps j _ (λ v. then-keeps (lower-keeps j k lower (a v)) (λ left w. again w))))
     (same-keeps j u Falls)))
 
+-- the same of a `do`
 pub do-keeps : (bound k : ℕ) (test : State → Evaluated Bool) (body : Runs) → k ≤ bound
     → ((t : State) → Keeps k t (test t)) → RunsKeep k body → RunsKeep k (do_loop bound test body)
 do-keeps zero k test body le h b s = none-keeps k s le

@@ -28,6 +28,7 @@ same-outcome : (d : ℕ) (r other : Evaluated Held) → Extends d r other → ((
 same-outcome d (Gives value t) other h ended = ap outcome_of (h.gives value t refl)
 same-outcome d (Ends end t) other h ended = ap outcome_of (h.ends end t refl (λ e. absurd (ended e)))
 
+-- a program that has ended has the same outcome with more turns
 pub ends_stay : EndsStay
 ends_stay program listing input n m le ended =
     let e : n + (m - n) ≡ m = omega (arith, le) in
@@ -57,6 +58,7 @@ end-goes-on : (d : ℕ) (end : End) (t : State) (other : Evaluated Held) → Ext
 end-goes-on d end t (Gives value u) h e = state-goes-on end (Ended (low_byte value)) (with_more d t) u (h.goes t (cc))
 end-goes-on d end t (Ends end' u) h e = state-goes-on end end' (with_more d t) u (h.goes t (cc))
 
+-- what more turns come to goes on from what fewer do
 outcome-goes-on : (d : ℕ) (r other : Evaluated Held) → Extends d r other → GoesOn (outcome_of r) (outcome_of other)
 outcome-goes-on d (Gives value t) other h = rw (h.gives value t refl) (goes-on-same (outcome_of (Gives value t)))
 outcome-goes-on d (Ends Goes t) other h = end-goes-on d Goes t other h refl
@@ -64,6 +66,7 @@ outcome-goes-on d (Ends (Ended status) t) other h = rw (h.ends _ t refl (λ e. c
 outcome-goes-on d (Ends (Trapped trap) t) other h = rw (h.ends _ t refl (λ e. cc)) (goes-on-same _)
 outcome-goes-on d (Ends (Stopped cause address) t) other h = rw (h.ends _ t refl (λ e. cc)) (goes-on-same _)
 
+-- more turns go on from fewer
 pub outcomes_go_on : OutcomesGoOn
 outcomes_go_on program listing input n m le =
     let e : n + (m - n) ≡ m = omega (arith, le) in
@@ -76,11 +79,13 @@ few : (input left bytes : List ℕ) (taken : ℕ) → input ≡ bytes ++ left �
     → taken ≤ length input
 few input left bytes taken e f = omega (arith, ap length e, f, length-append bytes left)
 
+-- an outcome has taken no more than the input has
 taken-outcome : (program : Program) (input : List ℕ) (n : ℕ) (r : Evaluated Held)
     → ComesAfter (first_state program input n) (state_of r) → (outcome_of r).taken ≤ length input
 taken-outcome program input n (Gives value t) h = few input t.left h.input.0 t.taken h.input.1 h.input.2
 taken-outcome program input n (Ends end t) h = few input t.left h.input.0 t.taken h.input.1 h.input.2
 
+-- no program takes more
 pub taken_is_there : TakenIsThere
 taken_is_there program listing input n = taken-outcome program input n (main_after program listing input n)
     (calls_keep program listing (suc n) program.main [] (first_state program input n)).after

@@ -15,6 +15,7 @@ lengths arrays = map (λ elements. length elements) arrays
 abbrev pub sizes_of : Activation → ℕ × List ℕ
 sizes_of a = (length a.values, lengths a.arrays)
 
+-- how much each active call holds
 abbrev pub sizes : List Activation → List (ℕ × List ℕ)
 sizes active = map sizes_of active
 

@@ -5,6 +5,7 @@
 mod laws;
 
 pub use laws::{
-    call_bounds_agree, calls_extend, calls_keep, ends_stay, goes_without_turns, loop_bounds_agree,
-    loops_keep, outcomes_go_on, taken_is_there, trees_agree, trees_extend, trees_keep,
+    call_bounds_agree, calls_extend, calls_keep, calls_unfold, ends_stay, goes_without_turns,
+    loop_bounds_agree, loops_keep, loops_unfold, outcomes_go_on, taken_is_there, trees_agree,
+    trees_extend, trees_keep, worked_example,
 };

@@ -1,4 +1,4 @@
-use Rattle.c_bounds.proofs.Calls.{trees_agree}
+use Rattle.c_bounds.proofs.Agreeing.{trees_agree}
 use Rattle.c_bounds.proofs.laws.trees_agree.Goals as goal
 
 pub returns : goal.returns

@@ -1,4 +1,4 @@
-use Rattle.c_bounds.proofs.Calls.{trees_extend}
+use Rattle.c_bounds.proofs.Agreeing.{trees_extend}
 use Rattle.c_bounds.proofs.laws.trees_extend.Goals as goal
 
 pub returns : goal.returns

@@ -1,4 +1,4 @@
-use Rattle.c_bounds.proofs.Calls.{trees_keep}
+use Rattle.c_bounds.proofs.Agreeing.{trees_keep}
 use Rattle.c_bounds.proofs.laws.trees_keep.Goals as goal
 
 pub returns : goal.returns
