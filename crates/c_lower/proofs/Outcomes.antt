@@ -25,7 +25,7 @@ use Rattle.c_lower.proofs.SumRuns.{Matches}
 
 -- ---- locals of type int
 
-local-int : (locals : List Local) (k : ℕ) (l : Local) → AreIntLocals locals → slice_get locals k ≡ Some l → l.of ≡ int
+pub local-int : (locals : List Local) (k : ℕ) (l : Local) → AreIntLocals locals → slice_get locals k ≡ Some l → l.of ≡ int
 local-int [] k l ints e = absurd (none-some l e)
 local-int (m ∷ locals) zero l ints e = ap (λ (x : Local). x.of) (sym (same_Some m l e)) ∙ ints.0
 local-int (m ∷ locals) (suc k) l ints e = local-int locals k l ints.1 e
@@ -35,13 +35,13 @@ local-below [] k h = absurd (omega (arith, h))
 local-below (m ∷ locals) zero h = (m, refl)
 local-below (m ∷ locals) (suc k) h = local-below locals k (omega (arith, h))
 
-local-within : (locals : List Local) (k : ℕ) (l : Local) → slice_get locals k ≡ Some l → k < length locals
+pub local-within : (locals : List Local) (k : ℕ) (l : Local) → slice_get locals k ≡ Some l → k < length locals
 local-within [] k l e = absurd (none-some l e)
 local-within (m ∷ locals) zero l e = omega arith
 local-within (m ∷ locals) (suc k) l e = let h = local-within locals k l e in omega (arith, h)
 
 -- each has one variable, that of its number
-first-same : (locals : List Local) (k : ℕ) → AreIntLocals locals → k < length locals → first_variable locals k ≡ k
+pub first-same : (locals : List Local) (k : ℕ) → AreIntLocals locals → k < length locals → first_variable locals k ≡ k
 first-same [] k ints h = absurd (omega (arith, h))
 first-same (m ∷ locals) zero ints h = refl
 first-same (m ∷ locals) (suc k) ints h =

@@ -1,3 +1,4 @@
+pub mod Along
 pub mod Cores
 pub mod Frames
 pub mod Sound

@@ -1,3 +1,4 @@
+pub mod Follows
 pub mod Paths
 pub mod Placements
 pub mod Shows

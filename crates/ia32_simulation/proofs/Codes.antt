@@ -10,13 +10,15 @@ use Rattle.flow_graph.specs.Meaning.{step}
 use Rattle.flow_graph.specs.Running.{first_state}
 use Rattle.flow_graph.specs.States as graph
 use Rattle.flow_graph.specs.States.{GraphProgram, op_at}
-use Rattle.ia32_shows.specs.Placements.{Placement, Code}
+use Rattle.flow_graph.specs.WellFormed.{IsGraphProgram}
+use Rattle.ia32_shows.specs.Placements.{Placement, Code, objects_of}
 use Rattle.ia32_shows.specs.Shows.{Shows}
 use Rattle.ia32_calls.specs.Laws.{StartGoes, PrologueGoes}
 use Rattle.ia32_rows.specs.Rows.{selected, result_in}
-use Rattle.ia32_rows.specs.Right.{IsSlotCode, ComesTo, Follows, is_nop, AreRight}
+use Rattle.ia32_shows.specs.Follows.{Starts, FollowsAll, ComesTo, Follows, is_nop}
+use Rattle.ia32_rows.specs.Right.{IsSlotCode, AreRight}
 use Rattle.ia32_rows.proofs.Laid.{no_places, places_of}
-use Rattle.ia32_runs.proofs.Along.{whole_runs}
+use Rattle.ia32_shows.proofs.Along.{whole_runs}
 use Rattle.ia32_simulation.proofs.Setup.{Setup, IsSetup, code_in, site_in}
 use Rattle.ia32_simulation.proofs.Bytes.{ready-fits}
 use Rattle.ia32_simulation.proofs.Follows.{Laws, NumberFits, setup-follows}
@@ -61,11 +63,13 @@ setup-known flow slots code h =
 -- ---- the laws
 
 -- from the first state the machine comes to one that shows the program's first
-pub code-starts : StartGoes → PrologueGoes → (flow : Flow) (slots : List ℕ) (code : Code) → IsSlotCode flow slots (selected flow slots) code → (input : List ℕ) (g : graph.State) → first_state code.program input ≡ Some g
-    → ComesTo code input (text_state code.text [] input) g
-code-starts starts enters flow slots code h input g =
-    let P : Code → Type 0 = λ (c : Code). first_state c.program input ≡ Some g → ComesTo c input (text_state c.text [] input) g in
-    subst P (sym (code-is flow slots code h)) (setup-starts starts enters (setup_of flow slots code) input g (setup-known flow slots code h))
+pub code-starts : StartGoes → PrologueGoes → (flow : Flow) (slots : List ℕ) (code : Code)
+    → IsSlotCode flow slots (selected flow slots) code → Starts code
+code-starts starts enters flow slots code h input g bytes =
+    let P : Code → Type 0 = λ (c : Code). first_state c.program input ≡ Some g
+    → ComesTo c input (text_state c.text (objects_of c.program) input) g in
+    subst P (sym (code-is flow slots code h))
+    (setup-starts starts enters (setup_of flow slots code) input g (setup-known flow slots code h))
 
 -- the machine follows the step of a state that is shown
 abbrev FollowsAt : Code → List ℕ → graph.State → machine.State → Type 0
@@ -78,14 +82,16 @@ follows-by laws flow slots code h words input g s =
     subst (λ (c : Code). FollowsAt c input g s) (sym (code-is flow slots code h)) (λ shown. setup-follows laws (setup_of flow slots code) input g s (setup-known flow slots code h) shown words)
 
 -- they fit, since the text is one of bytes
-pub code-follows : Laws → (flow : Flow) (slots : List ℕ) (code : Code) → IsSlotCode flow slots (selected flow slots) code → (input : List ℕ) (g : graph.State) (s : machine.State) → Shows code input g s
-    → Follows code input s g (is_nop (op_at code.program g)) (step code.program g)
-code-follows laws flow slots code h =
-    follows-by laws flow slots code h (λ g t d n has r. ready-fits (site_in (setup_of flow slots code)) Esi n (result_in slots d ++ r.rest) t h.bytes r.ready)
+pub code-follows : Laws → (flow : Flow) (slots : List ℕ) (code : Code)
+    → IsSlotCode flow slots (selected flow slots) code → FollowsAll code
+code-follows laws flow slots code h input g s is_state =
+    follows-by laws flow slots code h (λ g t d n has r. ready-fits (site_in (setup_of flow slots code)) Esi n
+    (result_in slots d ++ r.rest) t h.bytes r.ready) input g s
 
 -- code over slots is right
 pub slots-right : (laws : Laws) → StartGoes → PrologueGoes → (flow : Flow) (slots : List ℕ) → AreRight flow slots (selected flow slots)
 slots-right laws starts enters flow slots code h =
     let first = code-starts starts enters flow slots code h in
     let next = code-follows laws flow slots code h in
-    record { starts = first; follows = next; runs = whole_runs code first next }
+    let program : IsGraphProgram code.program = subst IsGraphProgram (sym h.program) h.is_program in
+    record { starts = first; follows = next; runs = whole_runs code program first next }

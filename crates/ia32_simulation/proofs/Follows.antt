@@ -16,7 +16,8 @@ use Rattle.flow_graph.proofs.Points.{every-in}
 use Rattle.ia32_shows.specs.Shows.{Shows, FramesFrom}
 use Rattle.ia32_calls.specs.Laws.{PutcharRow, ReturnGoes, EndingHalts}
 use Rattle.ia32_rows.specs.Rows.{IsSlotOp}
-use Rattle.ia32_rows.specs.Right.{Follows, one_graph, is_nop}
+use Rattle.ia32_shows.specs.Follows.{Follows, is_nop}
+use Rattle.ia32_rows.specs.Right.{one_graph}
 use Rattle.ia32_rows.proofs.Laid.{point-ready, no-calls}
 use Rattle.ia32_simulation.proofs.Setup.{Setup, IsSetup, code_in, main_state}
 use Rattle.ia32_simulation.proofs.Main.{AtMain, shown-main}

@@ -9,9 +9,9 @@ use Rattle.flow_graph.specs.Graphs.{points_of, following}
 use Rattle.flow_graph.specs.Meaning.{at_point}
 use Rattle.flow_graph.specs.States as graph
 use Rattle.ia32_shows.proofs.Sound.{load-same, sound-at}
-use Rattle.ia32_shows.proofs.Steps.{point-passed, nop-goes}
+use Rattle.ia32_shows.proofs.Steps.{comes-not, point-passed, nop-goes}
 use Rattle.ia32_shows.proofs.Frames.{ReadyAt}
-use Rattle.ia32_rows.specs.Right.{Follows}
+use Rattle.ia32_shows.specs.Follows.{Follows}
 use Rattle.ia32_simulation.proofs.Setup.{Setup, IsSetup, code_in, site_in, main_state}
 use Rattle.ia32_simulation.proofs.Main.{AtMain, main-shown}
 use Rattle.ia32_simulation.proofs.Slots.{following-in}
@@ -52,4 +52,5 @@ nop-follows x input g s rest (Some q) h at ready e f =
     let t : machine.State = at_address went.0 s in
     let more = f q refl in
     let there : ReadyAt site (item.Point q ∷ more.0) t = subst (λ (items : List Item). ReadyAt site items t) more.1 went.3 in
-    (t, went.1, main-shown x input (record g { point = q }) t h (passed-main x input g s went.0 q more.0 at e there))
+    let shown = main-shown x input (record g { point = q }) t h (passed-main x input g s went.0 q more.0 at e there) in
+    (t, went.1, (t, comes-not site.text t, shown))

@@ -23,7 +23,8 @@ use Rattle.flow_graph.specs.States.{number_of, with_value, fitted}
 use Rattle.ia32_shows.proofs.Frames.{ReadyAt, Went, Operates}
 use Rattle.ia32_shows.proofs.Cores.{ApartFrom, Wrote, const-row, copy-row, operation-row}
 use Rattle.ia32_rows.specs.Rows.{frame_of, operation}
-use Rattle.ia32_rows.specs.Right.{Follows, one_graph}
+use Rattle.ia32_shows.specs.Follows.{Follows}
+use Rattle.ia32_rows.specs.Right.{one_graph}
 use Rattle.ia32_rows.proofs.Laid.{RowReady}
 use Rattle.ia32_simulation.proofs.Setup.{Setup, IsSetup, code_in, site_in, main_state}
 use Rattle.ia32_simulation.proofs.Main.{AtMain, IsPlainWord, main-shown}

@@ -17,7 +17,8 @@ use Rattle.ia32_shows.specs.Shows.{IsOldArray}
 use Rattle.ia32_shows.proofs.Steps.{comes-then}
 use Rattle.ia32_calls.specs.Laws.{StartGoes, PrologueGoes, Started, Entered}
 use Rattle.ia32_rows.specs.Rows.{frame_of, block_rows}
-use Rattle.ia32_rows.specs.Right.{ComesTo, one_graph}
+use Rattle.ia32_shows.specs.Follows.{ComesTo}
+use Rattle.ia32_rows.specs.Right.{one_graph}
 use Rattle.ia32_rows.proofs.Laid.{laid, entry-ready, first-ready}
 use Rattle.ia32_simulation.proofs.Setup.{Setup, IsSetup, bounds, code_in, site_in}
 use Rattle.ia32_simulation.proofs.Main.{AtMain, IsPlainWord, main-shown}

@@ -1,6 +1,7 @@
 -- How a run comes out, of a source, a graph or an image: what was visited with which values, how much
 -- of the input was taken, what was written, and how it ended.
-use Rattle.std.specs.Prelude.{ℕ, ℤ, List, [], ◌++◌}
+use Rattle.std.specs.Prelude.{⊤, ℕ, ℤ, List, [], ◌++◌}
+use Rattle.std.specs.List.{All}
 use Rattle.pcc_base.specs.declared.run.Trap.{Trap}
 use Rattle.pcc_base.specs.declared.run.Stop.{Stop}
 
@@ -49,6 +50,17 @@ pub record Outcome : Type 0 where
   pub taken : ℕ
   pub written : List ℕ
   pub end : End
+
+-- the value is known, as each of a source's visits is
+abbrev pub IsKnown : Value → Type 0
+IsKnown (Number n) = ⊤
+IsKnown (Array Null) = ⊤
+IsKnown (Array (Static k)) = ⊤
+IsKnown (Array (InFrame k depth)) = ⊤
+IsKnown (Array Unknown) = ⊥
+
+abbrev pub AreKnown : List Visit → Type 0
+AreKnown visits = All (λ visit. All IsKnown visit.values) visits
 
 -- the outcome with these visits before its own
 abbrev pub after_visits : List Visit → Outcome → Outcome

@@ -12,6 +12,7 @@ use Rattle.flow_graph.specs.Graphs.{Flow, IsIn, IsPlaced}
 use Rattle.flow_graph.specs.States.{GraphProgram}
 use Rattle.c_lower.specs.declared.graphs.Graphs.{Graphs}
 use Rattle.c_lower.specs.Code.{lowered, slot_graphs, variables}
+use Rattle.flow_graph.specs.WellFormed.{IsGraphProgram}
 use Rattle.c_lower.specs.Lowering.{AreLowered, AreSmall, KeepsOutcome, graphs_of}
 use Rattle.c_lower.proofs.Kept.{one-graph}
 use Rattle.ia32_insn.specs.declared.item.Item.{Item}
@@ -58,6 +59,12 @@ pub keeps_graph : (program : Program) (slot : IsSlotProgram program) (graphs : G
     → KeepsOutcome program graphs → KeepsOutcome program (one_graph flow)
 keeps_graph program slot graphs flow same graph keeps =
     subst (λ (g : GraphProgram). KeepsOutcome program g) (same ∙ one-graph program slot ∙ ap one_graph (sym graph)) keeps
+
+-- and it is one
+pub graph_program : (program : Program) (slot : IsSlotProgram program) (graphs : GraphProgram) (flow : Flow)
+    → graphs ≡ slot_graphs program → flow ≡ lowered slot.function → IsGraphProgram graphs → IsGraphProgram (one_graph flow)
+graph_program program slot graphs flow same graph is =
+    subst IsGraphProgram (same ∙ one-graph program slot ∙ ap one_graph (sym graph)) is
 
 -- ---- the frame
 

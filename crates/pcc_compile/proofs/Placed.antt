@@ -22,6 +22,7 @@ use Rattle.flow_graph.specs.Graphs.{Flow, IsFlow}
 use Rattle.ia32_shows.specs.Placements.{Code, address_in, in_slots, point_address}
 use Rattle.ia32_rows.specs.Rows.{HasSlots, frame_of, selected}
 use Rattle.pcc_base.specs.Bytes.{AreBytes}
+use Rattle.flow_graph.specs.WellFormed.{IsGraphProgram}
 use Rattle.ia32_rows.specs.Right.{IsSlotCode, one_graph}
 
 -- the code of one graph over slots, with these items, where it was linked
@@ -37,11 +38,12 @@ linked_code flow slots items linked is = record {
 
 -- it is code over slots
 pub slot_code : (flow : Flow) (slots : List ℕ) (items : List Item) (linked : Linked) (is : IsLinked (items ∷ []) [] 0 linked)
-    → items ≡ selected flow slots → (homes : List ℕ) × IsFlow flow homes → HasSlots flow slots → length linked.image.text.items < 2 ^ 30 + 1024 → AreBytes linked.image.text.items
+    → items ≡ selected flow slots → IsGraphProgram (one_graph flow) → (homes : List ℕ) × IsFlow flow homes → HasSlots flow slots → length linked.image.text.items < 2 ^ 30 + 1024 → AreBytes linked.image.text.items
     → IsSlotCode flow slots (selected flow slots) (linked_code flow slots items linked is)
-slot_code flow slots items linked is same flows has fits bytes =
+slot_code flow slots items linked is same program flows has fits bytes =
     record {
       program = refl;
+      is_program = program;
       homes = flows.0;
       is_flow = flows.1;
       has_slots = has;

@@ -1,6 +1,7 @@
--- What a compiled image is worth: for every input and every number n of turns of the source there is a number of
+-- What a compiled image is worth: for every list of bytes as its input and every number n of turns of the source there is a number of
 -- machine steps, at least n, with exactly the outcome of those turns.
 use Rattle.std.specs.Prelude.{◌≡◌, ◌≤◌, ℕ, List, [], ◌∷◌}
+use Rattle.pcc_base.specs.Bytes.{AreBytes}
 use Rattle.pcc_base.specs.Outcome.{Outcome}
 use Rattle.c_tree.specs.Program.{Local, Function, Program}
 use Rattle.c_tree.specs.Evaluation.{source_outcome}
@@ -23,7 +24,7 @@ ImageOutcome image map input m outcome = (s : State) × First image input s × R
 -- places, the same input taken and bytes written, and the same end or still running
 abbrev pub DoesAs : List ℕ → List Line → Program → Type 0
 DoesAs image map program =
-    (input : List ℕ) (n : ℕ) → (m : ℕ) × (n ≤ m) × ImageOutcome image map input m (source_outcome program (listed map) input n)
+    (input : List ℕ) (n : ℕ) → AreBytes input → (m : ℕ) × (n ≤ m) × ImageOutcome image map input m (source_outcome program (listed map) input n)
 
 -- the map is that of the program's one function: it names the function and its locals, and lists at each statement
 -- exactly the locals that are declared before it

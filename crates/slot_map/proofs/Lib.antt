@@ -1,5 +1,6 @@
 pub mod Belonging
 pub mod Filling
+pub mod Known
 pub mod Marked
 pub mod Parts
 pub mod Reached

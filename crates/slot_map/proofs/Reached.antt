@@ -99,7 +99,7 @@ act-whole program flow g h _ is whole e = absurd is
 pub op-main : (flow : Flow) (g : State) → g.current.function ≡ 0 → op_at (one_graph flow) g ≡ slice_get flow.ops g.point
 op-main flow g main = ap (λ (f : ℕ). op_of (one_graph flow) f g.point) main
 
-step-whole : (flow : Flow) (g h : State) → Every IsSlotOp flow.ops → IsWhole flow g → step (one_graph flow) g ≡ Moves h → IsWhole flow h
+pub step-whole : (flow : Flow) (g h : State) → Every IsSlotOp flow.ops → IsWhole flow g → step (one_graph flow) g ≡ Moves h → IsWhole flow h
 step-whole flow g h ops whole e = go (op_at (one_graph flow) g) (op-main flow g whole.main) e
   where
     go : (o : Option Op) → o ≡ slice_get flow.ops g.point → given o (act (one_graph flow) g) ≡ Moves h → IsWhole flow h
@@ -124,7 +124,7 @@ all-zero [] = All-nil IsNumber
 all-zero (width ∷ widths) =
     All-cons IsNumber (Number (pos 0)) (map (λ (w : Width). Number (pos 0)) widths) tt (all-zero widths)
 
-first-whole : (flow : Flow) (input : List ℕ) (g : State) (entry : Option ℕ) → option_map (first_state_at (one_graph flow) input) entry ≡ Some g → IsWhole flow g
+pub first-whole : (flow : Flow) (input : List ℕ) (g : State) (entry : Option ℕ) → option_map (first_state_at (one_graph flow) input) entry ≡ Some g → IsWhole flow g
 first-whole flow input g None e = absurd (none-some g e)
 first-whole flow input g (Some point) e =
     let first : State = first_state_at (one_graph flow) input point in

@@ -208,7 +208,7 @@ elsewhere-shown f slots code s h clear =
 -- the map shows what the graph shows
 pub shows-visits : MapShowsVisits
 shows-visits program form slots code h = record {
-  marks = λ input k g s statement reached shows at. marks-shown program form slots code input k g s statement h reached shows at;
+  marks = λ input k g s statement bytes reached shows at known. marks-shown program form slots code input k g s statement h reached shows at;
   turns = λ input g s shows at. turns-shown form.function slots code input g s h shows at;
   elsewhere = λ s clear. elsewhere-shown form.function slots code s h clear;
 }

@@ -4,15 +4,17 @@ use Rattle.std.specs.Prelude.{◌≡◌, ◌<◌, ◌+◌, ◌*◌, ℕ, List, �
 use Rattle.std.specs.List.{range_with_len}
 use Rattle.pcc_base.specs.declared.run.Width.{Width}
 use Rattle.pcc_base.specs.declared.run.Width.TheVariants.{Two}
-use Rattle.pcc_base.specs.Outcome.{Scalar}
+use Rattle.pcc_base.specs.Outcome.{AreKnown, Listing, Outcome, Scalar}
 use Rattle.c_tree.specs.Program.{Local, Function, Program}
 use Rattle.c_tree.specs.SlotForm.{IsSlotProgram}
 use Rattle.flow_graph.specs.Graphs.{Every}
+use Rattle.flow_graph.specs.Running.{GraphOutcome}
 use Rattle.c_lower.specs.Code.{lowered}
 use Rattle.c_lower.specs.Shown.{ListsLocals, numbers_of, variables_shown}
 use Rattle.ia32_shows.specs.Placements.{Code, point_address}
 use Rattle.ia32_rows.specs.Rows.{selected}
-use Rattle.ia32_rows.specs.Right.{IsSlotCode, ShowsVisits}
+use Rattle.ia32_shows.specs.Follows.{ShowsVisits}
+use Rattle.ia32_rows.specs.Right.{IsSlotCode}
 use Rattle.pcc_base.specs.Names.{IsName}
 use Rattle.pcc_listing.specs.Lines.{Line, FunctionLine, IsMap, Named, NamesScalar, Temporary}
 use Rattle.pcc_listing.specs.Marks.{listed, variables_in, visits_of}
@@ -63,6 +65,13 @@ abbrev pub MapShowsVisits : Type 0
 MapShowsVisits =
     (program : Program) (form : IsSlotProgram program) (slots : List ℕ) (code : Code) → IsCodeOf form.function slots code
     → ShowsVisits code (variables_shown program (listed (lines_of form.function slots code))) (visits_of (lines_of form.function slots code))
+
+-- what a listing of locals shows of the graph at its marks is known
+abbrev pub MapShowsKnown : Type 0
+MapShowsKnown =
+    (program : Program) (form : IsSlotProgram program) (slots : List ℕ) (code : Code) → IsCodeOf form.function slots code
+    → (listing : Listing) → ListsLocals program listing → (input : List ℕ) (turns : ℕ) (outcome : Outcome)
+    → GraphOutcome code.program (variables_shown program listing) input turns outcome → AreKnown outcome.visits
 
 -- where the function and its locals have names, the lines keep the rules of a map
 abbrev pub IsLocalNamed : Local → Type 0

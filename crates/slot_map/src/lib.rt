@@ -9,6 +9,7 @@ mod laws;
 mod lines;
 
 pub use laws::{
-    lines_by_same_addresses, map_belongs, map_keeps_rules, map_lists_locals, map_shows_visits,
+    lines_by_same_addresses, map_belongs, map_keeps_rules, map_lists_locals, map_shows_known,
+    map_shows_visits,
 };
 pub use lines::map_lines;

@@ -1,11 +1,15 @@
 -- The code runs as its graph does, its image begins in its first state, and the map shows the visits.
-use Rattle.std.proofs.Common.{List, [], ◌∷◌, subst}
+use Rattle.std.proofs.Common.{List, [], ◌∷◌, subst, sym}
 use Rattle.c_tree.specs.Program.{Function}
 use Rattle.flow_graph.specs.Graphs.{Every}
 use Rattle.elf_image.specs.Layout.{image_bytes}
 use Rattle.image_start.specs.Begins.{parts_of_text}
 use Rattle.c_lower.specs.Code.{lowered}
-use Rattle.ia32_shows.specs.Placements.{point_address}
+use Rattle.flow_graph.specs.States.{GraphProgram}
+use Rattle.ia32_insn.specs.Items.{text_state}
+use Rattle.ia32_machine.specs.First.{First}
+use Rattle.pcc_listing.specs.Marks.{listed}
+use Rattle.ia32_shows.specs.Placements.{objects_of, point_address}
 use Rattle.slot_map.specs.MapLaws.{lines_of}
 use Rattle.pcc_compile.specs.Products.{IsNamedFunction}
 use Rattle.pcc_compile.proofs.Headline.{image_does, text_fits}
@@ -22,5 +26,8 @@ returns c = λ program form slots code keeps is.
       keeps_rules = c.map_keeps_rules.ensures program form.form slots code is named.0.name named.0.locals;
       is_map_of = c.map_belongs.ensures program form.form slots code is;
       does_as = image_does program code (lines_of f slots code) (image_bytes (parts_of_text code.text [])) keeps right.runs lists shows
-          (λ input. c.text_begins.ensures code.text [] input (text_fits code.text is.bytes is.fits));
+          (c.map_shows_known.ensures program form.form slots code is (listed (lines_of f slots code)) lists)
+          (λ input. subst (λ (p : GraphProgram). First (image_bytes (parts_of_text code.text [])) input
+          (text_state code.text (objects_of p) input)) (sym is.program)
+          (c.text_begins.ensures code.text [] input (text_fits code.text is.bytes is.fits)));
     }

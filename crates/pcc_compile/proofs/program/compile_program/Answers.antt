@@ -16,7 +16,7 @@ use Rattle.pcc_listing.specs.Views.{line_of}
 use Rattle.slot_map.specs.MapLaws.{IsCodeOf, lines_of}
 use Rattle.pcc_compile.specs.Products.{DoesAs}
 use Rattle.pcc_compile.proofs.Lines.{address_is, first_function, lines_are}
-use Rattle.pcc_compile.proofs.Passes.{as_many_entries, few_variables, has_entries, is_framed, is_low, keeps_graph, links, one_linked}
+use Rattle.pcc_compile.proofs.Passes.{as_many_entries, few_variables, has_entries, is_framed, is_low, graph_program, keeps_graph, links, one_linked}
 use Rattle.pcc_compile.proofs.Placed.{image_size, linked_code, same_parts, slot_code}
 use Rattle.pcc_compile.proofs.program.compile_program.Goals as goal
 
@@ -93,7 +93,8 @@ returns c =
     in
     let code = linked_code flow slots items linked one.is in
     let bytes : AreBytes linked.image.text.items = subst (λ (xs : List ℕ). AreBytes xs) c.deref-4.ensures.value c.are_bytes.ensures in
-    let over-graph = slot_code flow slots items linked one.is c.in_ok-items.ensures.items c.is_flow.ensures framed.slots one.small bytes in
+    let program = graph_program p c.requires.form (graphs_of c.in_ok-graphs.graphs) flow g.graphs low.graph g.well_formed in
+    let over-graph = slot_code flow slots items linked one.is c.in_ok-items.ensures.items program c.is_flow.ensures framed.slots one.small bytes in
     let is-code : IsCodeOf f slots code = subst (λ (fl : Flow). IsSlotCode fl slots (selected fl slots) code) low.graph over-graph in
     let has = has_entries flow slots items linked one.is c.index-points.result.now c.index-points.ensures (λ p placed. (c.in_ok-items.ensures.points p).1 placed) in
     let lines-are : lines ≡ lines_of f slots code = lines_are lines (function_of c.index.result.now) f flow slots (slots_of c.deref-2.result.now) table c.deref-3.result.now c.in_ok-lines.ensures

@@ -1,9 +1,13 @@
 -- A run of the machine along a run of a program of graphs.
-use Rattle.std.specs.Prelude.{◌≡◌, ◌≤◌, ℕ, zero, suc, true, false, List, [], ◌∷◌, Option, Some, None, option_map, refl}
+use Rattle.std.specs.Prelude.{◌≡◌, ◌≤◌, ℕ, zero, suc, true, false, List, [], ◌∷◌, ◌++◌, length, Option, Some, None, option_map, refl}
 use Rattle.std.specs.List.{AllByRecursion}
 use Rattle.std.proofs.Common.{sym, ◌∙◌, ap, subst, arith}
+use Rattle.std.specs.List.{All}
+use Rattle.std.proofs.lemmas.List.Elements.{All-drop, All-take}
+use Rattle.std.proofs.Math.Seq.{take-append_seam, drop-append_seam}
 use Rattle.std.proofs.lemmas.Option.{same_Some, none-some}
-use Rattle.pcc_base.specs.Outcome.{End, Goes, Visit, Listing, Outcome, after_visits}
+use Rattle.pcc_base.specs.Bytes.{AreBytes}
+use Rattle.pcc_base.specs.Outcome.{AreKnown, IsKnown, End, Goes, Visit, Listing, Outcome, after_visits}
 use Rattle.ia32_insn.specs.State as machine
 use Rattle.ia32_insn.specs.Items.{text_state}
 use Rattle.ia32_insn.specs.Meaning as moved
@@ -16,10 +20,11 @@ use Rattle.flow_graph.specs.Running.{GraphAt, first_state, from_state, outcome_a
 use Rattle.flow_graph.specs.States as graph
 use Rattle.flow_graph.specs.States.{op_at, point_after}
 use Rattle.ia32_shows.specs.Paths.{Path, Comes, IsClear}
-use Rattle.ia32_shows.specs.Placements.{Code}
+use Rattle.ia32_shows.specs.Placements.{Code, objects_of}
 use Rattle.ia32_shows.specs.Shows.{Shows}
-use Rattle.ia32_rows.specs.Right.{ComesToEnd, Follows, is_nop, ShowsVisits}
-use Rattle.ia32_runs.specs.Whole.{FollowsAll, WholeRuns}
+use Rattle.flow_graph.specs.WellFormed.{IsGraphProgram}
+use Rattle.ia32_shows.specs.Follows.{ComesToEnd, Follows, FollowsAll, is_nop, ShowsVisits, WholeRuns}
+use Rattle.graph_states.proofs.Keeping.{states_are_states}
 
 -- a run of at least so many steps has this outcome
 abbrev RunsFor : (machine.State → List Visit) → ℕ → machine.State → Outcome → Type 0
@@ -82,11 +87,22 @@ state-next program (suc k) s t h at next = after-step program k (step program s)
 graph-next : (program : graph.GraphProgram) (input : List ℕ) (k : ℕ) (g h : graph.State) → GraphAt program input k g → step program g ≡ Moves h → GraphAt program input (suc k) h
 graph-next program input k g h (s, first, at) next = (s, first, state-next program k s g h at next)
 
--- from each state that the program comes to and that is shown, there is a run with each outcome in so many turns and steps
+-- from each state that the program comes to and that is shown, there is a run with each known outcome in so many turns
+-- and steps
 abbrev RunsFrom : Code → Listing → (machine.State → List Visit) → List ℕ → ℕ → ℕ → Type 0
 RunsFrom code listing visits input steps turns =
     (k : ℕ) (g : graph.State) (s : machine.State) (o : Outcome) → GraphAt code.program input k g → Shows code input g s
-    → run_within code.program listing steps turns g ≡ Some o → RunsFor visits turns s o
+    → AreKnown o.visits → run_within code.program listing steps turns g ≡ Some o → RunsFor visits turns s o
+
+-- what holds of the elements of two lists behind one another holds of those of each
+all-front : {A : Type 0} (P : A → Type 0) (xs ys : List A) → All P (xs ++ ys) → All P xs
+all-front P xs ys h = subst (All P) (take-append_seam xs ys) (All-take P (length xs) (xs ++ ys) h)
+
+all-behind : {A : Type 0} (P : A → Type 0) (xs ys : List A) → All P (xs ++ ys) → All P ys
+all-behind P xs ys h = subst (All P) (drop-append_seam xs ys) (All-drop P (length xs) (xs ++ ys) h)
+
+visits-known : (vs : List Visit) (p o : Outcome) → after_visits vs p ≡ o → AreKnown o.visits → AreKnown (vs ++ p.visits)
+visits-known vs p o same known = subst (λ (q : Outcome). AreKnown q.visits) (sym same) known
 
 -- what comes of a step of the program, with these visits before it
 abbrev outcome_after : Code → Listing → ℕ → ℕ → graph.State → List Visit → Moved → Option Outcome
@@ -100,24 +116,35 @@ before-visits vs (Some p) o e = (p, refl, same_Some (after_visits vs p) o e)
 -- along a step of the program whose op is no NOP
 along-plain : (code : Code) (listing : Listing) (visits : machine.State → List Visit) (input : List ℕ) (steps turns k : ℕ) (g : graph.State) (s : machine.State) (o : Outcome) (m : Moved)
     → NothingElsewhere code.text visits → RunsFrom code listing visits input steps turns → GraphAt code.program input k g → step code.program g ≡ m → Follows code input s g false m
-    → outcome_after code listing steps turns g [] m ≡ Some o → RunsFor visits turns s o
-along-plain code listing visits input steps turns k g s o (Moves h) nothing later at next (t, comes, shows) e =
+    → AreKnown o.visits → outcome_after code listing steps turns g [] m ≡ Some o → RunsFor visits turns s o
+along-plain code listing visits input steps turns k g s o (Moves h) nothing later at next (t, comes, shows) known e =
     let (p, is, same) = before-visits [] (run_within code.program listing steps turns h) o e in
-    run-after-coming code.text visits turns o nothing s t comes (later (suc k) h t o (graph-next code.program input k g h at next) shows (is ∙ ap Some same))
-along-plain code listing visits input steps turns k g s o (Halts end) nothing later at next ends e =
+    run-after-coming code.text visits turns o nothing s t comes (later (suc k) h t o (graph-next code.program input k g h at next) shows known (is ∙ ap Some same))
+along-plain code listing visits input steps turns k g s o (Halts end) nothing later at next ends known e =
     subst (RunsFor visits turns s) (same_Some (outcome_at g end) o e) (run-to-end code visits turns s g end nothing ends)
-along-plain code listing visits input steps turns k g s o Stuck nothing later at next follows e = absurd (none-some o e)
+along-plain code listing visits input steps turns k g s o Stuck nothing later at next follows known e = absurd (none-some o e)
 
 -- along a step of the program from a point to the next, whose op is a NOP
-along-nop : (code : Code) (listing : Listing) (visits : machine.State → List Visit) (input : List ℕ) (steps turns k : ℕ) (g : graph.State) (s : machine.State) (o : Outcome)
-    (next : Option ℕ) (vs : List Visit) → visits s ≡ vs → RunsFrom code listing visits input steps turns → GraphAt code.program input k g
+along-nop : (code : Code) (listing : Listing) (visits : machine.State → List Visit) (input : List ℕ)
+    (steps turns k : ℕ) (g : graph.State) (s : machine.State) (o : Outcome) (next : Option ℕ) (vs : List Visit)
+    → NothingElsewhere code.text visits → (AreKnown vs → visits s ≡ vs)
+    → RunsFrom code listing visits input steps turns → GraphAt code.program input k g
     → step code.program g ≡ at_point g.block g next → Follows code input s g true (at_point g.block g next)
-    → outcome_after code listing steps turns g vs (at_point g.block g next) ≡ Some o → RunsFor visits (suc turns) s o
-along-nop code listing visits input steps turns k g s o None vs seen later at on follows e = absurd (none-some o e)
-along-nop code listing visits input steps turns k g s o (Some point) vs seen later at on (t, one, shows) e =
+    → AreKnown o.visits → outcome_after code listing steps turns g vs (at_point g.block g next) ≡ Some o
+    → RunsFor visits (suc turns) s o
+along-nop code listing visits input steps turns k g s o None vs nothing seen later at on follows known e =
+    absurd (none-some o e)
+along-nop code listing visits input steps turns k g s o (Some point) vs nothing seen later at on
+    (t, one, there) known e =
     let h : graph.State = record g { point = point } in
+    let (u, comes, shows) = there in
     let (p, is, same) = before-visits vs (run_within code.program listing steps turns h) o e in
-    subst (RunsFor visits (suc turns) s) same (run-after visits turns s t p vs seen one (later (suc k) h t p (graph-next code.program input k g h at on) shows is))
+    let all = visits-known vs p o same known in
+    let front = all-front (λ visit. All IsKnown visit.values) vs p.visits all in
+    let behind = all-behind (λ visit. All IsKnown visit.values) vs p.visits all in
+    let rest = later (suc k) h u p (graph-next code.program input k g h at on) shows behind is in
+    subst (RunsFor visits (suc turns) s) same
+    (run-after visits turns s t p vs (seen front) one (run-after-coming code.text visits turns p nothing t u comes rest))
 
 -- a step is what its op does
 stepped : (program : graph.GraphProgram) (g : graph.State) (about : Option Op) → op_at program g ≡ about → step program g ≡ given about (act program g)
@@ -125,37 +152,45 @@ stepped program g about is = ap (λ (o : Option Op). given o (act program g)) is
 
 -- along a step of the program, by its op
 along-op : (code : Code) (listing : Listing) (visits : machine.State → List Visit) (input : List ℕ) (steps turns k : ℕ) (g : graph.State) (s : machine.State) (o : Outcome) (about : Option Op)
-    → ShowsVisits code listing visits → ((left : ℕ) → RunsFrom code listing visits input steps left) → GraphAt code.program input k g → Shows code input g s → op_at code.program g ≡ about
+    → ShowsVisits code listing visits → ((left : ℕ) → RunsFrom code listing visits input steps left) → AreBytes input → GraphAt code.program input k g → Shows code input g s → op_at code.program g ≡ about
     → Follows code input s g (is_nop about) (given about (act code.program g))
     → with_turn (takes_turn about) turns g (λ left. outcome_after code listing steps left g (visits_at listing g about) (given about (act code.program g))) ≡ Some o
-    → RunsFor visits turns s o
-along-op code listing visits input steps turns k g s o None seen later at shows is follows e = absurd (none-some o e)
-along-op code listing visits input steps turns k g s o (Some (op.Mark statement)) seen later at shows is follows e =
+    → AreKnown o.visits → RunsFor visits turns s o
+along-op code listing visits input steps turns k g s o None seen later bytes at shows is follows e known = absurd (none-some o e)
+along-op code listing visits input steps turns k g s o (Some (op.Mark statement)) seen later bytes at shows is follows e known =
     run-fewer visits turns s o
     (along-nop code listing visits input steps turns k g s o (point_after code.program g.current.function g.block g.point) (visits_at listing g (Some (op.Mark statement)))
-    (seen.marks input k g s statement at shows is) (later turns) at (stepped code.program g (Some (op.Mark statement)) is) follows e)
-along-op code listing visits input steps zero k g s o (Some op.Turn) seen later at shows is follows e =
+    seen.elsewhere (seen.marks input k g s statement bytes at shows is) (later turns) at
+    (stepped code.program g (Some (op.Mark statement)) is) follows known e)
+along-op code listing visits input steps zero k g s o (Some op.Turn) seen later bytes at shows is follows e known =
     let stands_still : outcome_at g Goes ≡ stands [] s Goes =
     ap (λ (n : ℕ). record { visits = []; taken = n; written = g.written; end = Goes }) (sym shows.taken)
     ∙ ap (λ (bytes : List ℕ). record { visits = []; taken = s.taken; written = bytes; end = Goes }) (sym shows.written)
     in
     (0, (omega arith), sym (same_Some (outcome_at g Goes) o e) ∙ stands_still)
-along-op code listing visits input steps (suc turns) k g s o (Some op.Turn) seen later at shows is follows e =
-    along-nop code listing visits input steps turns k g s o (point_after code.program g.current.function g.block g.point) [] (seen.turns input g s shows is) (later turns) at
-    (stepped code.program g (Some op.Turn) is) follows e
-along-op code listing visits input steps turns k g s o (Some about) seen later at shows is follows e =
-    along-plain code listing visits input steps turns k g s o (act code.program g about) seen.elsewhere (later turns) at (stepped code.program g (Some about) is) follows e
+along-op code listing visits input steps (suc turns) k g s o (Some op.Turn) seen later bytes at shows is follows e known =
+    along-nop code listing visits input steps turns k g s o (point_after code.program g.current.function g.block g.point) []
+    seen.elsewhere (λ none. seen.turns input g s shows is) (later turns) at
+    (stepped code.program g (Some op.Turn) is) follows known e
+along-op code listing visits input steps turns k g s o (Some about) seen later bytes at shows is follows e known =
+    along-plain code listing visits input steps turns k g s o (act code.program g about) seen.elsewhere (later turns) at (stepped code.program g (Some about) is) follows known e
 
 -- along a run of the program
-along-run : (code : Code) (listing : Listing) (visits : machine.State → List Visit) (input : List ℕ) → FollowsAll code → ShowsVisits code listing visits
+along-run : (code : Code) (listing : Listing) (visits : machine.State → List Visit) (input : List ℕ)
+    → IsGraphProgram code.program → FollowsAll code → ShowsVisits code listing visits → AreBytes input
     → (steps turns : ℕ) → RunsFrom code listing visits input steps turns
-along-run code listing visits input follows seen zero turns k g s o at shows e = absurd (none-some o e)
-along-run code listing visits input follows seen (suc steps) turns k g s o at shows e =
-    along-op code listing visits input steps turns k g s o (op_at code.program g) seen (along-run code listing visits input follows seen steps) at shows refl (follows input g s shows) e
+along-run code listing visits input program follows seen bytes zero turns k g s o at shows known e =
+    absurd (none-some o e)
+along-run code listing visits input program follows seen bytes (suc steps) turns k g s o at shows known e =
+    let is_state = states_are_states code.program input k g program bytes at in
+    along-op code listing visits input steps turns k g s o (op_at code.program g) seen
+    (along-run code listing visits input program follows seen bytes steps) bytes at shows refl
+    (follows input g s is_state shows) e known
 
 -- code that starts as its program does, and follows it step by step, has the program's outcomes
 pub whole_runs : WholeRuns
-whole_runs code starts follows listing visits seen input turns o (g, first, steps, run) =
-    let (t, comes, shows) = starts input g first in
-    run-after-coming code.text visits turns o seen.elsewhere (text_state code.text [] input) t comes
-    (along-run code listing visits input follows seen steps turns 0 g t o (g, first, refl) shows run)
+whole_runs code program starts follows listing visits seen input turns o bytes known (g, first, steps, run) =
+    let (t, comes, shows) = starts input g bytes first in
+    run-after-coming code.text visits turns o seen.elsewhere (text_state code.text (objects_of code.program) input) t
+    comes (along-run code listing visits input program follows seen bytes steps turns 0 g t o (g, first, refl) shows
+    known run)
