@@ -1,5 +1,5 @@
 -- What the system calls lead to, case by case.
-use Rattle.std.specs.Prelude.{◌≡◌, ◌≢◌, ℕ, ◌+◌, ◌%◌, ◌&&◌, ◌==◌, Bool, true, false, List, [], ◌∷◌, ◌++◌, take, Option, Some, None, Result, Ok, Err, if◌then◌else◌, refl}
+use Rattle.std.specs.Prelude.{◌≡◌, ◌≢◌, ℕ, ◌+◌, ◌%◌, ◌&&◌, ◌==◌, Bool, true, false, List, [], ◌∷◌, ◌++◌, length, take, Option, Some, None, Result, Ok, Err, if◌then◌else◌, refl}
 use Rattle.std.proofs.Common.{sym, ◌∙◌, ap, subst, arith, append-nil}
 use Rattle.std.proofs.lemmas.Bool.Decides.{Decides-eqb, nat_tests}
 use Rattle.pcc_base.specs.Outcome as outcome
@@ -140,9 +140,14 @@ write_failed old bytes left taken taken' n bare some there took =
     (with_word Eax (word_of Edx old) (record (lent old left) { written = bytes }), sym (write_path old left (Some bytes) some there), bare, refl, n, took)
 
 -- the output found no memory
-pub write_wanted : (old : State) (left taken taken' : List ℕ) → old ≡ alone old → taken' ≡ taken → PartTold (write_moved (lent old left)) (lent old left) old left taken taken' (Err NoMemory)
+pub write_wanted : (old : State) (bytes left taken taken' : List ℕ) → old ≡ alone old → (word_of Edx old == 0) ≡ false → bytes_at (word_of Edx old) (word_of Ecx old) old.memory ≡ Some bytes → bytes ≢ [] → taken' ≡ taken → PartTold (write_moved (lent old left)) (lent old left) old left taken taken' (Err NoMemory)
 unfolding PartTold
-write_wanted old left taken taken' bare took = (bare, refl, took)
+write_wanted old bytes left taken taken' bare some there filled took =
+    (with_word Eax (word_of Edx old) (record (lent old left) { written = bytes }), sym (write_path old left (Some bytes) some there), filled, bare, refl, took)
+
+-- as many bytes as a number that isn't 0 are some
+pub some_bytes : (n : ℕ) (bytes : List ℕ) → length bytes ≡ n → n ≢ 0 → bytes ≢ []
+some_bytes n bytes long some none = some (sym long ∙ ap length none)
 
 -- ---- int 0x80
 

@@ -55,7 +55,8 @@ call_ends i after s mid left taken taken' BudgetSpent e h = elim h [ ]
 call_ends i after s mid left taken taken' ReadFault e h = h
 call_ends i after s mid left taken taken' WriteFault e h =
     (at_address after h.0, goes_on after (system_call s) h.0 h.1 ∙ ap (λ (j : Insn). perform j after s) (sym e), h.2, h.3, h.4, h.5)
-call_ends i after s mid left taken taken' NoMemory e h = h
+call_ends i after s mid left taken taken' NoMemory e h =
+    (at_address after h.0, goes_on after (system_call s) h.0 h.1 ∙ ap (λ (j : Insn). perform j after s) (sym e), h.2, h.3, h.4, h.5)
 
 -- ---- the other instructions
 
@@ -142,7 +143,7 @@ leads P Q s machine left taken taken' (step.End (Stopped cause address)) f h = (
 leads P Q s machine left taken taken' (step.End BudgetSpent) f h = h
 leads P Q s machine left taken taken' (step.End ReadFault) f h = h
 leads P Q s machine left taken taken' (step.End WriteFault) f h = (h.0, f (Moves h.0) h.1, h.2, h.3, h.4, h.5)
-leads P Q s machine left taken taken' (step.End NoMemory) f h = h
+leads P Q s machine left taken taken' (step.End NoMemory) f h = (h.0, f (Moves h.0) h.1, h.2, h.3, h.4, h.5)
 
 -- the step that performs the instruction that was fetched
 fetched-steps : (s : State) (left : List ℕ) (i : Insn) (n : ℕ) → FetchTold s (Ok (i, n)) → Steps (lent s left) (perform i (s.eip + n) (lent s left))

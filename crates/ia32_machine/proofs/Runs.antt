@@ -1,6 +1,6 @@
 -- A run of the machine, step by step: the state that was reached, and the outcome that it gives.
-use Rattle.std.specs.Prelude.{◌≡◌, ℕ, zero, suc, ◌+◌, ◌-◌, ◌<◌, List, [], ◌∷◌, ◌++◌, length, take, drop, refl}
-use Rattle.std.proofs.Common.{sym, ◌∙◌, ap, subst, arith, append-nil, append_assoc, add-zero}
+use Rattle.std.specs.Prelude.{◌≡◌, ◌≢◌, ⊤, ℕ, zero, suc, ◌+◌, ◌-◌, ◌<◌, List, [], ◌∷◌, ◌++◌, length, take, drop, refl}
+use Rattle.std.proofs.Common.{sym, ◌∙◌, ap, subst, arith, append-nil, append_assoc, add-zero, length-append}
 use Rattle.std.proofs.lemmas.List.{drop-drop}
 use Rattle.pcc_base.specs.Outcome as outcome
 use Rattle.ia32_insn.specs.State.{State}
@@ -9,7 +9,7 @@ use Rattle.ia32_insn.specs.Runs.{Steps, Runs, stands, no_visits}
 use Rattle.ia32_insn.proofs.Runs.{runs_after, runs_halts}
 use Rattle.ia32_insn.proofs.Streams.{since, steps-since, Takes, steps-takes}
 use Rattle.ia32_machine.specs.First.{lent}
-use Rattle.ia32_machine.specs.Runs.{alone, Reaches, HaltsAt, EndsTold, StepTold, Gives, GivesSoFar, GivesPart, RunTold, LeftAt, RunReaches}
+use Rattle.ia32_machine.specs.Runs.{alone, Reaches, HaltsAt, EndsTold, StepTold, GivesSoFar, GivesPart, RunEnds, WritesNext, RunTold}
 use Rattle.ia32_machine.specs.declared.ends.MachineEnd.{MachineEnd}
 use Rattle.ia32_machine.specs.declared.ends.MachineEnd.TheVariants.{Ended, Trapped, Stopped, BudgetSpent, ReadFault, WriteFault, NoMemory}
 use Rattle.ia32_machine.specs.declared.ends.StepEnd.TheVariants as step
@@ -93,23 +93,46 @@ ran_more n s machine machine' left left' left'' taken taken' taken'' r h =
     }
 
 -- an end of the definition after some steps is that of the run
-ran_ends : (n budget : ℕ) (s machine machine' : State) (left left' left'' taken taken' taken'' : List ℕ) (end : outcome.End) → n < budget → Ran n s machine left left' taken taken' → HaltsAt (Steps (lent machine left')) (lent machine left') machine' left'' taken' taken'' end → Gives budget s left left'' taken taken'' end × LeftAt budget s machine' left'' (λ t. Steps t (Halts end))
+ran_ends : (n budget : ℕ) (s machine machine' : State) (left left' left'' taken taken' taken'' : List ℕ) (end : outcome.End)
+    → n < budget → Ran n s machine left left' taken taken'
+    → HaltsAt (Steps (lent machine left')) (lent machine left') machine' left'' taken' taken'' end
+    → RunEnds budget s machine' left left'' taken taken'' end
 ran_ends n budget s machine machine' left left' left'' taken taken' taken'' end lt r h =
     let t : State = r.state in
     let halts : Steps t (Halts end) = ran_halts n s machine left left' taken taken' end r h.0 in
     let left_is : left'' ≡ t.left = h.2 ∙ r.left_is in
     let machine_is : machine' ≡ alone t = h.1 ∙ ap alone r.machine_is in (
       (stands [] t end, reaches_halts n budget s t end lt r.reaches halts, refl, left_is ∙ r.took, h.3 ∙ r.wrote),
-      (n, lt, t, r.reaches, halts, machine_is, left_is),
+      n,
+      lt,
+      (t, r.reaches, halts, machine_is, left_is),
     )
 
 -- a refusal of a lent object after some steps, of which it took the bytes
-ran_refused : (n budget : ℕ) (s machine machine' : State) (left left' left'' taken taken' taken'' : List ℕ) → n < budget → Ran n s machine left left' taken taken' → machine' ≡ alone (lent machine left') → left'' ≡ left' → taken'' ≡ taken' → GivesSoFar budget s left left'' taken taken'' × LeftAt budget s machine' left'' (λ t. Unit {0})
-ran_refused n budget s machine machine' left left' left'' taken taken' taken'' lt r m l e =
+ran_refused : (n budget : ℕ) (s machine machine' : State) (left left' left'' taken taken' taken'' : List ℕ)
+    (Holds : State → Type 0) → n < budget → (r : Ran n s machine left left' taken taken') → Holds r.state
+    → machine' ≡ alone (lent machine left') → left'' ≡ left' → taken'' ≡ taken'
+    → GivesSoFar budget s machine' left left'' taken taken'' Holds
+ran_refused n budget s machine machine' left left' left'' taken taken' taken'' Holds lt r holds m l e =
     let t : State = r.state in (
-      (n, lt, (stands [] t outcome.Goes, reaches_goes n s t r.reaches, refl, l ∙ r.left_is ∙ r.took, e ∙ r.wrote)),
-      (n, lt, t, r.reaches, tt, m ∙ ap alone r.machine_is, l ∙ r.left_is),
+      n,
+      lt,
+      (stands [] t outcome.Goes, reaches_goes n s t r.reaches, refl, l ∙ r.left_is ∙ r.took, e ∙ r.wrote),
+      (t, r.reaches, holds, m ∙ ap alone r.machine_is, l ∙ r.left_is),
     )
+
+-- something behind a list makes another list
+something-behind : (xs ys : List ℕ) → ys ≢ [] → xs ++ ys ≢ xs
+something-behind xs [] some e = some refl
+something-behind xs (y ∷ ys) some e = absurd (let n : length (xs ++ y ∷ ys) ≡ length xs = ap length e in omega (arith, n, length-append xs (y ∷ ys)))
+
+-- a step that writes, from the state that was reached
+ran_writes : (n : ℕ) (s machine next : State) (left left' taken taken' : List ℕ)
+    → (r : Ran n s machine left left' taken taken') → Steps (lent machine left') (Moves next) → next.written ≢ []
+    → WritesNext r.state
+ran_writes n s machine next left left' taken taken' r h some =
+    let t : State = r.state in
+    (since t.taken t.written next, ran_steps n s machine next left left' taken taken' r h, something-behind t.written next.written some)
 
 -- bytes, and then a part of more
 take-append-more : (xs ys : List ℕ) (k : ℕ) → xs ++ take k ys ≡ take (length xs + k) (xs ++ ys)
@@ -119,7 +142,10 @@ take-append-more (x ∷ xs) ys k =
     ap (λ (l : List ℕ). x ∷ l) (take-append-more xs ys k) ∙ ap (λ (m : ℕ). take m (x ∷ (xs ++ ys))) e
 
 -- an output that failed in a step after some steps took a part of what the step writes
-ran_failed : (n budget : ℕ) (s machine machine' : State) (left left' left'' taken taken' taken'' : List ℕ) → n < budget → Ran n s machine left left' taken taken' → EndsTold (Steps (lent machine left')) (lent machine left') machine' left'' taken' taken'' WriteFault → GivesPart budget s left left'' taken taken'' × LeftAt budget s machine' left'' (λ t. Unit {0})
+ran_failed : (n budget : ℕ) (s machine machine' : State) (left left' left'' taken taken' taken'' : List ℕ) → n < budget
+    → Ran n s machine left left' taken taken'
+    → EndsTold (Steps (lent machine left')) (lent machine left') machine' left'' taken' taken'' WriteFault
+    → GivesPart budget s machine' left left'' taken taken''
 ran_failed n budget s machine machine' left left' left'' taken taken' taken'' lt r h =
     let t : State = r.state in
     let u : State = since t.taken t.written h.0 in
@@ -127,13 +153,24 @@ ran_failed n budget s machine machine' left left' left'' taken taken' taken'' lt
     let part : taken'' ≡ taken ++ take (length t.written + h.4) (t.written ++ h.0.written) =
     h.5 ∙ ap (λ (l : List ℕ). l ++ take h.4 h.0.written) r.wrote ∙ append_assoc taken t.written (take h.4 h.0.written)
     ∙ ap (λ (w : List ℕ). taken ++ w) (take-append-more t.written h.0.written h.4) in (
-      (n, lt, stands [] t outcome.Goes, stands [] u outcome.Goes, reaches_goes n s t r.reaches, reaches_goes (suc n) s u (reaches_more n s t u r.reaches steps), h.3 ∙ r.left_is ∙ r.took, h.4, part),
-      (n, lt, t, r.reaches, tt, h.2 ∙ ap alone r.machine_is, h.3 ∙ r.left_is),
+      n,
+      lt,
+      stands [] t outcome.Goes,
+      stands [] u outcome.Goes,
+      reaches_goes n s t r.reaches,
+      reaches_goes (suc n) s u (reaches_more n s t u r.reaches steps),
+      h.3 ∙ r.left_is ∙ r.took,
+      h.4,
+      part,
+      (t, r.reaches, tt, h.2 ∙ ap alone r.machine_is, h.3 ∙ r.left_is),
     )
 
 -- a step that ends the run
-pub ran_last : (n budget : ℕ) (s machine machine' : State) (left left' left'' taken taken' taken'' : List ℕ) (end : MachineEnd) → n < budget → Ran n s machine left left' taken taken' → StepTold (lent machine left') machine' left'' taken' taken'' (step.End end) → RunTold budget s left left'' taken taken'' end × RunReaches budget s machine' left'' end
-unfolding StepTold RunTold RunReaches
+pub ran_last : (n budget : ℕ) (s machine machine' : State) (left left' left'' taken taken' taken'' : List ℕ) (end : MachineEnd)
+    → n < budget → Ran n s machine left left' taken taken'
+    → StepTold (lent machine left') machine' left'' taken' taken'' (step.End end)
+    → RunTold budget s machine' left left'' taken taken'' end
+unfolding StepTold RunTold
 ran_last n budget s machine machine' left left' left'' taken taken' taken'' (Ended status) lt r h =
     ran_ends n budget s machine machine' left left' left'' taken taken' taken'' (outcome.Ended status) lt r h
 ran_last n budget s machine machine' left left' left'' taken taken' taken'' (Trapped trap) lt r h =
@@ -142,17 +179,19 @@ ran_last n budget s machine machine' left left' left'' taken taken' taken'' (Sto
     ran_ends n budget s machine machine' left left' left'' taken taken' taken'' (outcome.Stopped cause address) lt r h
 ran_last n budget s machine machine' left left' left'' taken taken' taken'' BudgetSpent lt r h = elim h [ ]
 ran_last n budget s machine machine' left left' left'' taken taken' taken'' ReadFault lt r h =
-    ran_refused n budget s machine machine' left left' left'' taken taken' taken'' lt r h.0 h.1 h.2
+    ran_refused n budget s machine machine' left left' left'' taken taken' taken'' (λ t. ⊤) lt r tt h.0 h.1 h.2
 ran_last n budget s machine machine' left left' left'' taken taken' taken'' WriteFault lt r h =
     ran_failed n budget s machine machine' left left' left'' taken taken' taken'' lt r h
 ran_last n budget s machine machine' left left' left'' taken taken' taken'' NoMemory lt r h =
-    ran_refused n budget s machine machine' left left' left'' taken taken' taken'' lt r h.0 h.1 h.2
+    ran_refused n budget s machine machine' left left' left'' taken taken' taken'' WritesNext lt r
+    (ran_writes n s machine h.0 left left' taken taken' r h.1 h.2) h.3 h.4 h.5
 
 -- all steps were made
-pub ran_spent : (budget : ℕ) (s machine : State) (left left' taken taken' : List ℕ) → Ran budget s machine left left' taken taken' → RunTold budget s left left' taken taken' BudgetSpent × RunReaches budget s machine left' BudgetSpent
-unfolding RunTold RunReaches
+pub ran_spent : (budget : ℕ) (s machine : State) (left left' taken taken' : List ℕ)
+    → Ran budget s machine left left' taken taken' → RunTold budget s machine left left' taken taken' BudgetSpent
+unfolding RunTold
 ran_spent budget s machine left left' taken taken' r =
     let t : State = r.state in (
       (stands [] t outcome.Goes, reaches_goes budget s t r.reaches, refl, r.left_is ∙ r.took, r.wrote),
-      (t, r.reaches, r.machine_is, r.left_is),
+      (t, r.reaches, tt, r.machine_is, r.left_is),
     )

@@ -1,5 +1,5 @@
 -- What a step and a run of the machine leave, by cases over their answers.
-use Rattle.std.specs.Prelude.{◌≡◌, ℕ, zero, suc, ◌+◌, ◌<◌, List, [], ◌++◌, length, take, drop}
+use Rattle.std.specs.Prelude.{◌≡◌, ◌≢◌, ⊤, ℕ, zero, suc, ◌+◌, ◌<◌, List, [], ◌++◌, length, take, drop}
 use Rattle.pcc_base.specs.Counts.{Rose}
 use Rattle.pcc_base.specs.Outcome as outcome
 use Rattle.pcc_outside.specs.Streams.{SinkCounts}
@@ -47,7 +47,9 @@ EndsTold Leads s machine left taken taken' ReadFault = (machine ≡ alone s) × 
 -- a sink that fails has taken a part of what the step writes
 EndsTold Leads s machine left taken taken' WriteFault =
     (next : State) × Leads (Moves next) × (machine ≡ alone s) × (left ≡ s.left) × (n : ℕ) × (taken' ≡ taken ++ take n next.written)
-EndsTold Leads s machine left taken taken' NoMemory = (machine ≡ alone s) × (left ≡ s.left) × (taken' ≡ taken)
+-- one that finds no memory has taken nothing of the bytes that the step writes
+EndsTold Leads s machine left taken taken' NoMemory =
+    (next : State) × Leads (Moves next) × (next.written ≢ s.written) × (machine ≡ alone s) × (left ≡ s.left) × (taken' ≡ taken)
 
 -- the same of any answer
 abbrev pub LeadsTold : (Moved → Type 0) → State → State → List ℕ → List ℕ → List ℕ → StepEnd → Type 0
@@ -64,35 +66,42 @@ abbrev pub Gives : ℕ → State → List ℕ → List ℕ → List ℕ → List
 Gives n s left left' taken taken' end =
     (o : outcome.Outcome) × Runs no_visits n s o × (o.end ≡ end) × (left' ≡ drop o.taken left) × (taken' ≡ taken ++ o.written)
 
--- after a refusal: the input and the bytes taken are as fewer steps than the budget leave them
-abbrev pub GivesSoFar : ℕ → State → List ℕ → List ℕ → List ℕ → List ℕ → Type 0
-GivesSoFar budget s left left' taken taken' = (n : ℕ) × (n < budget) × Gives n s left left' taken taken' outcome.Goes
+-- n steps lead to a state of which this holds, and the machine and the input were left there
+abbrev pub LeftAfter : ℕ → State → State → List ℕ → (State → Type 0) → Type 0
+LeftAfter n s machine left Holds = (t : State) × Reaches n s t × Holds t × (machine ≡ alone t) × (left ≡ t.left)
 
--- after a fault of the output: the input is as those steps leave it, and of what one step more writes at least the bytes
--- that they wrote are taken, in order
-abbrev pub GivesPart : ℕ → State → List ℕ → List ℕ → List ℕ → List ℕ → Type 0
-GivesPart budget s left left' taken taken' =
+-- an end of the definition: the budget has this outcome, and the machine was left where the step that ends is made
+abbrev pub RunEnds : ℕ → State → State → List ℕ → List ℕ → List ℕ → List ℕ → outcome.End → Type 0
+RunEnds budget s machine left left' taken taken' end =
+    Gives budget s left left' taken taken' end × (n : ℕ) × (n < budget) × LeftAfter n s machine left' (λ t. Steps t (Halts end))
+
+-- after a refusal: some number of steps, fewer than the budget, were made, and the machine, the input and the bytes taken
+-- are as they leave them
+abbrev pub GivesSoFar : ℕ → State → State → List ℕ → List ℕ → List ℕ → List ℕ → (State → Type 0) → Type 0
+GivesSoFar budget s machine left left' taken taken' Holds =
+    (n : ℕ) × (n < budget) × Gives n s left left' taken taken' outcome.Goes × LeftAfter n s machine left' Holds
+
+-- after a fault of the output: the machine and the input are as those steps leave them, and of what one step more writes
+-- at least the bytes that they wrote are taken, in order
+abbrev pub GivesPart : ℕ → State → State → List ℕ → List ℕ → List ℕ → List ℕ → Type 0
+GivesPart budget s machine left left' taken taken' =
     (n : ℕ) × (n < budget) × (o next : outcome.Outcome) × Runs no_visits n s o × Runs no_visits (suc n) s next
     × (left' ≡ drop o.taken left) × (k : ℕ) × (taken' ≡ taken ++ take (length o.written + k) next.written)
+    × LeftAfter n s machine left' (λ t. ⊤)
 
--- a run of at most `budget` steps from s
-unfoldable pub RunTold : ℕ → State → List ℕ → List ℕ → List ℕ → List ℕ → MachineEnd → Type 0
-RunTold budget s left left' taken taken' (Ended status) = Gives budget s left left' taken taken' (outcome.Ended status)
-RunTold budget s left left' taken taken' (Trapped trap) = Gives budget s left left' taken taken' (outcome.Trapped trap)
-RunTold budget s left left' taken taken' (Stopped cause address) = Gives budget s left left' taken taken' (outcome.Stopped cause address)
-RunTold budget s left left' taken taken' BudgetSpent = Gives budget s left left' taken taken' outcome.Goes
-RunTold budget s left left' taken taken' ReadFault = GivesSoFar budget s left left' taken taken'
-RunTold budget s left left' taken taken' WriteFault = GivesPart budget s left left' taken taken'
-RunTold budget s left left' taken taken' NoMemory = GivesSoFar budget s left left' taken taken'
+-- the next step writes
+abbrev pub WritesNext : State → Type 0
+WritesNext t = (next : State) × Steps t (Moves next) × (next.written ≢ t.written)
 
--- the state in which a run ended, after fewer steps than the budget
-abbrev pub LeftAt : ℕ → State → State → List ℕ → (State → Type 0) → Type 0
-LeftAt budget s machine left IsEnd =
-    (n : ℕ) × (n < budget) × (t : State) × Reaches n s t × IsEnd t × (machine ≡ alone t) × (left ≡ t.left)
-
-unfoldable pub RunReaches : ℕ → State → State → List ℕ → MachineEnd → Type 0
-RunReaches budget s machine left (Ended status) = LeftAt budget s machine left (λ t. Steps t (Halts (outcome.Ended status)))
-RunReaches budget s machine left (Trapped trap) = LeftAt budget s machine left (λ t. Steps t (Halts (outcome.Trapped trap)))
-RunReaches budget s machine left (Stopped cause address) = LeftAt budget s machine left (λ t. Steps t (Halts (outcome.Stopped cause address)))
-RunReaches budget s machine left BudgetSpent = (t : State) × Reaches budget s t × (machine ≡ alone t) × (left ≡ t.left)
-RunReaches budget s machine left _ = LeftAt budget s machine left (λ t. Unit {0})
+-- A run of at most `budget` steps from s. For want of memory the steps that were made are those before the first whose
+-- bytes weren't taken.
+unfoldable pub RunTold : ℕ → State → State → List ℕ → List ℕ → List ℕ → List ℕ → MachineEnd → Type 0
+RunTold budget s machine left left' taken taken' (Ended status) = RunEnds budget s machine left left' taken taken' (outcome.Ended status)
+RunTold budget s machine left left' taken taken' (Trapped trap) = RunEnds budget s machine left left' taken taken' (outcome.Trapped trap)
+RunTold budget s machine left left' taken taken' (Stopped cause address) =
+    RunEnds budget s machine left left' taken taken' (outcome.Stopped cause address)
+RunTold budget s machine left left' taken taken' BudgetSpent =
+    Gives budget s left left' taken taken' outcome.Goes × LeftAfter budget s machine left' (λ t. ⊤)
+RunTold budget s machine left left' taken taken' ReadFault = GivesSoFar budget s machine left left' taken taken' (λ t. ⊤)
+RunTold budget s machine left left' taken taken' WriteFault = GivesPart budget s machine left left' taken taken'
+RunTold budget s machine left left' taken taken' NoMemory = GivesSoFar budget s machine left left' taken taken' WritesNext

@@ -2,7 +2,7 @@ ghost use Rattle.std.specs.Prelude.{◌≡◌, ◌≤◌, ◌↔◌, [], IfOk, I
 ghost use Rattle.elf_image.specs.Segments.{IsLoadable, segments_of};
 ghost use Rattle.ia32_machine.specs.First.{first_state, lent};
 ghost use Rattle.ia32_machine.specs.Performs.{FetchTold, PartTold, PartCounts, AdvanceTold, insn_moved};
-ghost use Rattle.ia32_machine.specs.Runs.{StepTold, StepCounts, RunReaches, RunTold, RunCounts, alone};
+ghost use Rattle.ia32_machine.specs.Runs.{StepTold, StepCounts, RunTold, RunCounts, alone};
 
 use crate::ends::{MachineEnd, StepEnd, end_at};
 use crate::system_calls::system_call;
@@ -145,13 +145,11 @@ impl Machine {
     /// Makes steps until an end, or until `budget` steps were made. `BudgetSpent` comes exactly where
     /// the machine still runs after exactly `budget` steps.
     pub fn run<I: Source, O: Sink>(&mut self, input: &mut I, out: &mut O, budget: u64) -> MachineEnd
-        // The outcome of `budget` steps, where no lent object refused.
+        // The outcome of `budget` steps, or where a lent object refused of the steps so far, and the state that the
+        // machine is left in.
         ensures told { I.tells input.old → O.tells out.old →
-            RunTold budget (lent self.old (I.left input.old)) (I.left input.old) (I.left input.new)
+            RunTold budget (lent self.old (I.left input.old)) self.new (I.left input.old) (I.left input.new)
             (O.taken out.old) (O.taken out.new) result }
-        // The state that the machine is left in.
-        ensures reached { I.tells input.old → O.tells out.old →
-            RunReaches budget (lent self.old (I.left input.old)) self.new (I.left input.new) result }
         ensures counted { RunCounts (I.faults input.old) (I.faults input.new)
             (O.counts out.old) (O.counts out.new) result }
         ensures input_tells { I.tells input.old → I.tells input.new }

@@ -1,4 +1,4 @@
-ghost use Rattle.std.specs.Prelude.{◌≡◌, [], None, Some, IfSome, IfNone};
+ghost use Rattle.std.specs.Prelude.{◌≡◌, [], None, Some, IfSome, IfNone, length};
 ghost use Rattle.ia32_regs.specs.Registers.{zero_registers};
 ghost use Rattle.ia32_insn.specs.State as state;
 ghost use Rattle.ia32_insn.specs.Meaning.{word_of, with_word, byte_of, with_byte, with_flags, load, store};
@@ -112,6 +112,7 @@ impl Processor {
     pub fn bytes_at(&self, address: u32, count: u32) -> Option<&[u8]>
         ensures found { IfSome result (λ bytes. state.bytes_at count address self.now.memory ≡ Some bytes.now) }
         ensures none { IfNone result (state.bytes_at count address self.now.memory ≡ None) }
+        ensures count { IfSome result (λ bytes. length bytes.now ≡ count) }
     {
         self.memory.bytes_at(address, count)
     }

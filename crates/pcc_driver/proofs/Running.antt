@@ -1,12 +1,12 @@
 -- Lemmas on the runs of images.
 use Rattle.std.proofs.Common.{◌≡◌, ℕ, List, [], Option, Some, ap, inl, inr, refl}
-use Rattle.std.specs.Prelude.{length, ◌≤◌}
+use Rattle.std.specs.Prelude.{⊤, length, ◌≤◌}
 use Rattle.elf_image.specs.Segments.{Segments, Loads}
 use Rattle.ia32_insn.specs.State.{State}
 use Rattle.pcc_base.specs.Outcome as outcome
 use Rattle.ia32_machine.specs.First.{First, first_state, lent}
 use Rattle.ia32_machine.specs.Runs as runs
-use Rattle.ia32_machine.specs.Runs.{Gives, GivesSoFar, GivesPart}
+use Rattle.ia32_machine.specs.Runs.{Gives, GivesSoFar, GivesPart, WritesNext}
 use Rattle.ia32_machine.specs.declared.ends.MachineEnd.{MachineEnd}
 use Rattle.ia32_machine.specs.declared.ends.MachineEnd.TheVariants as machine
 use Rattle.pcc_driver.specs.Answers.{Streams, RunTold, RunGives, RunGivesSoFar, RunGivesPart, Holds, GivesNoMachine, IsNoImage, report_of_end, run_steps}
@@ -45,21 +45,37 @@ lent_first image segments machine left loads same = (segments, loads, ap (λ (m 
 gives_told : (content : Option (List ℕ)) (image : List ℕ) (s : State) (streams streams' : Streams) (end : outcome.End) → content ≡ Some image → length image ≤ file_limit → First image streams.left s → Gives run_steps s streams.left streams'.left streams.taken streams'.taken end → Holds content (RunGives streams streams' end)
 gives_told content image s streams streams' end read small first told = (image, read, small, (s, first, told.0, told.1, told.2, told.3, told.4))
 
-so_far_told : (content : Option (List ℕ)) (image : List ℕ) (s : State) (streams streams' : Streams) → content ≡ Some image → length image ≤ file_limit → First image streams.left s → GivesSoFar run_steps s streams.left streams'.left streams.taken streams'.taken → Holds content (RunGivesSoFar streams streams')
-so_far_told content image s streams streams' read small first told =
+so_far_told : (content : Option (List ℕ)) (image : List ℕ) (s left : State) (streams streams' : Streams)
+    (IsLeft : State → Type 0) → content ≡ Some image → length image ≤ file_limit → First image streams.left s
+    → GivesSoFar run_steps s left streams.left streams'.left streams.taken streams'.taken IsLeft
+    → Holds content (RunGivesSoFar streams streams')
+so_far_told content image s left streams streams' IsLeft read small first told =
     let gives = told.2 in (image, read, small, (s, first, told.0, told.1, gives.0, gives.1, gives.2, gives.3, gives.4))
 
-part_told : (content : Option (List ℕ)) (image : List ℕ) (s : State) (streams streams' : Streams) → content ≡ Some image → length image ≤ file_limit → First image streams.left s → GivesPart run_steps s streams.left streams'.left streams.taken streams'.taken → Holds content (RunGivesPart streams streams')
-part_told content image s streams streams' read small first told =
+part_told : (content : Option (List ℕ)) (image : List ℕ) (s left : State) (streams streams' : Streams)
+    → content ≡ Some image → length image ≤ file_limit → First image streams.left s
+    → GivesPart run_steps s left streams.left streams'.left streams.taken streams'.taken
+    → Holds content (RunGivesPart streams streams')
+part_told content image s left streams streams' read small first told =
     (image, read, small, (s, first, told.0, told.1, told.2, told.3, told.4, told.5, told.6, told.7, told.8))
 
--- the report of a run of the machine tells what the machine does
-pub machine_told : (end : MachineEnd) (content : Option (List ℕ)) (image : List ℕ) (s : State) (streams streams' : Streams) → content ≡ Some image → length image ≤ file_limit → First image streams.left s → runs.RunTold run_steps s streams.left streams'.left streams.taken streams'.taken end → RunTold content streams streams' (report_of_end end)
+-- the report of a run of the machine, which was left in some state, tells what the machine does
+pub machine_told : (end : MachineEnd) (content : Option (List ℕ)) (image : List ℕ) (s left : State)
+    (streams streams' : Streams) → content ≡ Some image → length image ≤ file_limit → First image streams.left s
+    → runs.RunTold run_steps s left streams.left streams'.left streams.taken streams'.taken end
+    → RunTold content streams streams' (report_of_end end)
 unfolding runs.RunTold
-machine_told (machine.Ended status) content image s streams streams' read small first told = gives_told content image s streams streams' (outcome.Ended status) read small first told
-machine_told (machine.Trapped trap) content image s streams streams' read small first told = gives_told content image s streams streams' (outcome.Trapped trap) read small first told
-machine_told (machine.Stopped cause address) content image s streams streams' read small first told = gives_told content image s streams streams' (outcome.Stopped cause address) read small first told
-machine_told machine.BudgetSpent content image s streams streams' read small first told = (refl, gives_told content image s streams streams' outcome.Goes read small first told)
-machine_told machine.ReadFault content image s streams streams' read small first told = so_far_told content image s streams streams' read small first told
-machine_told machine.WriteFault content image s streams streams' read small first told = part_told content image s streams streams' read small first told
-machine_told machine.NoMemory content image s streams streams' read small first told = inr (so_far_told content image s streams streams' read small first told)
+machine_told (machine.Ended status) content image s left streams streams' read small first told =
+    gives_told content image s streams streams' (outcome.Ended status) read small first told.0
+machine_told (machine.Trapped trap) content image s left streams streams' read small first told =
+    gives_told content image s streams streams' (outcome.Trapped trap) read small first told.0
+machine_told (machine.Stopped cause address) content image s left streams streams' read small first told =
+    gives_told content image s streams streams' (outcome.Stopped cause address) read small first told.0
+machine_told machine.BudgetSpent content image s left streams streams' read small first told =
+    (refl, gives_told content image s streams streams' outcome.Goes read small first told.0)
+machine_told machine.ReadFault content image s left streams streams' read small first told =
+    so_far_told content image s left streams streams' (λ t. ⊤) read small first told
+machine_told machine.WriteFault content image s left streams streams' read small first told =
+    part_told content image s left streams streams' read small first told
+machine_told machine.NoMemory content image s left streams streams' read small first told =
+    inr (so_far_told content image s left streams streams' WritesNext read small first told)

@@ -2,7 +2,7 @@ use Rattle.std.proofs.Common.{Some, None, refl, sym, ◌∙◌}
 use Rattle.ia32_regs.specs.declared.names.Reg32.TheVariants.{Edx}
 use Rattle.ia32_insn.specs.State.{State}
 use Rattle.ia32_insn.specs.Meaning.{word_of}
-use Rattle.ia32_machine.proofs.Calls.{not_is, bytes_so, write_none, write_denied, write_done, write_failed, write_wanted}
+use Rattle.ia32_machine.proofs.Calls.{not_is, bytes_so, write_none, write_denied, write_done, write_failed, write_wanted, some_bytes}
 use Rattle.ia32_machine.proofs.system_calls.write_call.Goals as goal
 
 pub returns-then-count-eq0-clause-told : goal.returns-then-count-eq0-clause-told
@@ -58,8 +58,12 @@ returns-in-Err-Failed-clause-out_tells g c = c.put_all.ensures.telling
 
 pub returns-in-Err-NoMemory-clause-told : goal.returns-in-Err-NoMemory-clause-told
 returns-in-Err-NoMemory-clause-told g c = λ o left.
+    let old : State = c.args.processor.now in
+    let some = not_is (word_of Edx old) 0 (λ e. c.if-count-eq0.false (c.word-count.ensures ∙ e)) in
+    let there = bytes_so old c.word-count.result c.word-address.result (Some c.in-Some.bytes.now) c.word-count.ensures c.word-address.ensures c.in-Some.ensures.found in
     let told = rw c.in-Err-NoMemory.field-0-is at (c.in-Err-NoMemory.ensures.told o) in
-    write_wanted c.args.processor.now left (g.O.Sink.taken c.args.out.now) (g.O.Sink.taken c.put_all.new.self) c.requires told
+    let filled = some_bytes c.word-count.result c.in-Some.bytes.now c.in-Some.ensures.count c.if-count-eq0.false in
+    write_wanted old c.in-Some.bytes.now left (g.O.Sink.taken c.args.out.now) (g.O.Sink.taken c.put_all.new.self) c.requires some there filled told
 
 pub returns-in-Err-NoMemory-clause-counted : goal.returns-in-Err-NoMemory-clause-counted
 returns-in-Err-NoMemory-clause-counted g c = λ _. let counted = rw c.in-Err-NoMemory.field-0-is at c.in-Err-NoMemory.ensures.counted in (refl, counted.1, counted.0)

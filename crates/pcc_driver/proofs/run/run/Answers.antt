@@ -16,7 +16,7 @@ returns-in-Ok-machine_of-clause-told g c = λ f i o.
     let small : length c.as_slice.result.now ≤ file_limit = omega (arith, c.in-Ok.ensures.size, c.as_slice.ensures.len) in
     let loaded = c.in-Ok-machine_of.ensures in
     rw c.end_report.ensures (machine_told c.run.result (g.F.FileStore.content c.args.files.now c.args.image.now) c.as_slice.result.now
-    (lent c.in-Ok-machine_of.machine (g.I.Source.left c.args.input.now))
+    (lent c.in-Ok-machine_of.machine (g.I.Source.left c.args.input.now)) c.run.new.self
     (record { left = g.I.Source.left c.args.input.now; taken = g.O.Sink.taken c.args.out.now })
     (record { left = g.I.Source.left c.run.new.input; taken = g.O.Sink.taken c.run.new.out })
     (c.in-Ok.ensures.told f ∙ ap Some (sym c.as_slice.ensures.value)) small

@@ -35,15 +35,8 @@ pub returns-in-End-clause-told : goal.returns-in-End-clause-told
 returns-in-End-clause-told g c = λ i o.
     let before = c.steps.invariant in
     let s : State = lent c.args.self.now (g.I.Source.left c.args.input.now) in
-    (ran_last c.steps.counter c.args.budget s c.steps.self c.step.new.self (g.I.Source.left c.args.input.now) (g.I.Source.left c.steps.input) (g.I.Source.left c.step.new.input) (g.O.Sink.taken c.args.out.now) (g.O.Sink.taken c.steps.out) (g.O.Sink.taken c.step.new.out) c.in-End.end
-    c.steps-test.true (before.ran i o) (c.in-End.ensures.told (before.input_tells i) (before.out_tells o))).0
-
-pub returns-in-End-clause-reached : goal.returns-in-End-clause-reached
-returns-in-End-clause-reached g c = λ i o.
-    let before = c.steps.invariant in
-    let s : State = lent c.args.self.now (g.I.Source.left c.args.input.now) in
-    (ran_last c.steps.counter c.args.budget s c.steps.self c.step.new.self (g.I.Source.left c.args.input.now) (g.I.Source.left c.steps.input) (g.I.Source.left c.step.new.input) (g.O.Sink.taken c.args.out.now) (g.O.Sink.taken c.steps.out) (g.O.Sink.taken c.step.new.out) c.in-End.end
-    c.steps-test.true (before.ran i o) (c.in-End.ensures.told (before.input_tells i) (before.out_tells o))).1
+    ran_last c.steps.counter c.args.budget s c.steps.self c.step.new.self (g.I.Source.left c.args.input.now) (g.I.Source.left c.steps.input) (g.I.Source.left c.step.new.input) (g.O.Sink.taken c.args.out.now) (g.O.Sink.taken c.steps.out) (g.O.Sink.taken c.step.new.out) c.in-End.end
+    c.steps-test.true (before.ran i o) (c.in-End.ensures.told (before.input_tells i) (before.out_tells o))
 
 pub returns-in-End-clause-counted : goal.returns-in-End-clause-counted
 returns-in-End-clause-counted g c =
@@ -61,15 +54,8 @@ pub returns-clause-told : goal.returns-clause-told
 returns-clause-told g c = λ i o.
     let s : State = lent c.args.self.now (g.I.Source.left c.args.input.now) in
     let all : c.steps.counter ≡ c.args.budget = omega (arith, c.steps-test.false, c.steps.auto.counter-end) in
-    (ran_spent c.args.budget s c.steps.self (g.I.Source.left c.args.input.now) (g.I.Source.left c.steps.input) (g.O.Sink.taken c.args.out.now) (g.O.Sink.taken c.steps.out)
-    (subst (λ (n : ℕ). Ran n s c.steps.self (g.I.Source.left c.args.input.now) (g.I.Source.left c.steps.input) (g.O.Sink.taken c.args.out.now) (g.O.Sink.taken c.steps.out)) all (c.steps.invariant.ran i o))).0
-
-pub returns-clause-reached : goal.returns-clause-reached
-returns-clause-reached g c = λ i o.
-    let s : State = lent c.args.self.now (g.I.Source.left c.args.input.now) in
-    let all : c.steps.counter ≡ c.args.budget = omega (arith, c.steps-test.false, c.steps.auto.counter-end) in
-    (ran_spent c.args.budget s c.steps.self (g.I.Source.left c.args.input.now) (g.I.Source.left c.steps.input) (g.O.Sink.taken c.args.out.now) (g.O.Sink.taken c.steps.out)
-    (subst (λ (n : ℕ). Ran n s c.steps.self (g.I.Source.left c.args.input.now) (g.I.Source.left c.steps.input) (g.O.Sink.taken c.args.out.now) (g.O.Sink.taken c.steps.out)) all (c.steps.invariant.ran i o))).1
+    ran_spent c.args.budget s c.steps.self (g.I.Source.left c.args.input.now) (g.I.Source.left c.steps.input) (g.O.Sink.taken c.args.out.now) (g.O.Sink.taken c.steps.out)
+    (subst (λ (n : ℕ). Ran n s c.steps.self (g.I.Source.left c.args.input.now) (g.I.Source.left c.steps.input) (g.O.Sink.taken c.args.out.now) (g.O.Sink.taken c.steps.out)) all (c.steps.invariant.ran i o))
 
 pub returns-clause-counted : goal.returns-clause-counted
 returns-clause-counted g c = (c.steps.invariant.faults, c.steps.invariant.counts)
