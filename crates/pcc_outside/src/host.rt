@@ -1,5 +1,5 @@
 //! Thin adapters over the system's files and streams. They count, and tell nothing of content.
-ghost use Rattle.std.specs.Prelude.{◌≡◌, ◌≤◌, ◌∷◌, [], Some, None, IfOk, IfSome, OnErr, OnOk, vec_len};
+ghost use Rattle.std.specs.Prelude.{◌≡◌, ◌≤◌, ◌∷◌, [], Some, None, Err, IfOk, IfSome, MatchResult, OnErr, OnOk, vec_len};
 ghost use Rattle.std.specs.IoError.{error_kind};
 ghost use Rattle.std.specs.Io.KnownBytes.{Appends, Keeps};
 ghost use Rattle.pcc_outside.specs.Calls.{PutRaises, ReadRaises, WriteRaises, faults_after};
@@ -101,7 +101,21 @@ fn fetch<R: Files>(
 ) -> Result<Vec<u8>, ReadRefusal>
     ensures { IfOk result (λ bytes. vec_len bytes ≤ most) }
 {
-    match fs::open(files, name) {
+    bytes_of(fs::open(files, name), alloc, most)
+}
+
+/// The bytes of a file, or why it wasn't opened.
+fn bytes_of<R: Read + Drop>(
+    opened: io::Result<R>,
+    alloc: Global,
+    most: usize,
+) -> Result<Vec<u8>, ReadRefusal>
+    ensures size { IfOk result (λ bytes. vec_len bytes ≤ most) }
+    ensures told { MatchResult opened
+        (λ file. IfSome (R.remaining file) (λ left. ReadTold (Some left) most result))
+        (λ e. result ≡ Err (open_refusal_of (error_kind e))) }
+{
+    match opened {
         Ok(file) => read_to_most(file, alloc, most),
         Err(e) => Err(open_refusal(&e)),
     }
@@ -348,16 +362,18 @@ mod tests {
         assert_eq!(rt; files.write(name, b"longer than what comes next"), Ok(()));
         for bytes in [b"".as_slice(), b"text".as_slice(), long.as_slice()] {
             assert_eq!(rt; files.write(name, bytes), Ok(()));
-            let read = files
-                .read(alloc, name, bytes.len())
-                .expect(&rt, "exactly the length");
-            assert_eq!(rt; read.as_slice(), bytes);
+            for most in [bytes.len(), bytes.len() + 70000] {
+                let read = files.read(alloc, name, most).expect(&rt, "the whole file");
+                assert_eq!(rt; read.as_slice(), bytes);
+            }
         }
         let refusals = [
             (name, 69999, ReadRefusal::TooLong),
             (name, 0, ReadRefusal::TooLong),
             ("host_missing.tmp", 10, ReadRefusal::Missing),
             ("host_missing.tmp/below", 10, ReadRefusal::Missing),
+            // a file where a folder would have to be
+            ("host_files.tmp/below", 10, ReadRefusal::Failed),
             (".", 10, ReadRefusal::Failed),
         ];
         for (name, most, refusal) in refusals {
