@@ -1,18 +1,11 @@
 -- Where variables, frame arrays and code stand.
 use Rattle.std.specs.Prelude.{◌≡◌, ℕ, pos, neg_ℤ, List, [], length, map, slice_get, slice_index_or, Option, Some, None, option_map}
-use Rattle.ia32_regs.specs.declared.names.Reg32.{Reg32}
 use Rattle.ia32_regs.specs.declared.names.Reg32.TheVariants.{Ebp}
-use Rattle.ia32_regs.specs.declared.names.Reg8.{Reg8}
+use Rattle.ia32_places.specs.Places.{Place, InSlot}
 use Rattle.ia32_insn.specs.declared.operand.Mem.{Mem}
 use Rattle.ia32_insn.specs.declared.item.Item.{Item}
 use Rattle.ia32_insn.specs.Items.{Object, Places, Symbols, IsText}
 use Rattle.flow_graph.specs.States.{GraphProgram}
-
--- where a variable stands: a register, a byte of one, or so many bytes below EBP
-pub data Place : Type 0 where
-  InWord : (r : Reg32) → Place
-  InByte : (r : Reg8) → Place
-  InSlot : (below : ℕ) → Place
 
 -- the memory so far below EBP
 abbrev pub below : ℕ → Mem

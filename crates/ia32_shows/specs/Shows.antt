@@ -17,7 +17,8 @@ use Rattle.flow_graph.specs.declared.op.Op.TheVariants.{Call}
 use Rattle.flow_graph.specs.Graphs.{Stands}
 use Rattle.flow_graph.specs.States as graph
 use Rattle.flow_graph.specs.States.{Activation, Waiting, op_of, flow_at}
-use Rattle.ia32_shows.specs.Placements.{Place, InWord, InByte, InSlot, Code, objects_of, placement_of, point_address}
+use Rattle.ia32_shows.specs.Placements.{Code, objects_of, placement_of, point_address}
+use Rattle.ia32_places.specs.Places.{Place, InWord, InByte, InSlot}
 
 -- ---- values
 

@@ -13,7 +13,8 @@ use Rattle.ia32_insn.specs.Items.{data_start, stack_end}
 use Rattle.flow_graph.specs.Graphs.{Stands, Every}
 use Rattle.flow_graph.specs.States as graph
 use Rattle.flow_graph.specs.States.{Activation}
-use Rattle.ia32_shows.specs.Placements.{Place, InSlot, placement_of}
+use Rattle.ia32_shows.specs.Placements.{placement_of}
+use Rattle.ia32_places.specs.Places.{Place, InSlot}
 use Rattle.ia32_shows.specs.Shows.{Shows, IsWord, InSlotOf, StandsIn, HoldsOldArrays, FramesFrom, StartReturns, active_of}
 use Rattle.ia32_shows.proofs.Sound.{IsSound, load-place}
 use Rattle.ia32_shows.proofs.Frames.{Framed}

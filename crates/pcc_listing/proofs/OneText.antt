@@ -6,7 +6,8 @@ use Rattle.std.proofs.lemmas.List.Elements.{recursion_from_All}
 use Rattle.pcc_base.specs.declared.run.Width.{Width}
 use Rattle.pcc_base.specs.declared.run.Width.TheVariants.{One, Two}
 use Rattle.pcc_base.specs.Names.{IsDigit, IsNameByte}
-use Rattle.pcc_listing.specs.Lines.{Line, ObjectLine, FunctionLine, ArrayLine, VariableLine, PointLine, BeforeLine, Standing, Mark, Named, IsNumber, IsStanding, IsLine, IsMap, Place, newline, address_text, width_text, place_text, named_text, standing_text, line_text, map_text}
+use Rattle.pcc_listing.specs.Lines.{Line, ObjectLine, FunctionLine, ArrayLine, VariableLine, PointLine, BeforeLine, Standing, Mark, Named, IsNumber, IsStanding, IsLine, IsMap, newline, address_text, width_text, place_text, named_text, standing_text, line_text, map_text}
+use Rattle.ia32_places.specs.Places.{Place}
 use Rattle.pcc_listing.proofs.Fields.{field-one, number-at, address-one}
 use Rattle.pcc_listing.proofs.Named.{no-name-byte, name-bytes, named-one}
 use Rattle.pcc_listing.proofs.Places.{first-same, place-one}

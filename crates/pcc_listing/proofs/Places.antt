@@ -6,7 +6,8 @@ use Rattle.ia32_regs.specs.declared.names.Reg32.{Reg32}
 use Rattle.ia32_regs.specs.declared.names.Reg32.TheVariants.{Eax, Ecx, Edx, Ebx, Esp, Ebp, Esi, Edi}
 use Rattle.ia32_regs.specs.declared.names.Reg8.{Reg8}
 use Rattle.ia32_regs.specs.declared.names.Reg8.TheVariants.{Al, Cl, Dl, Bl, Ah, Ch, Dh, Bh}
-use Rattle.pcc_listing.specs.Lines.{Place, InRegister, InByte, InSlot, IsPlace, register_text, byte_text, place_text}
+use Rattle.pcc_listing.specs.Lines.{register_text, byte_text, place_text}
+use Rattle.ia32_places.specs.Places.{Place, InWord, InByte, InSlot, IsPlace}
 use Rattle.pcc_listing.proofs.Fields.{fixed-one, number-at}
 
 -- the register whose name ends in these two bytes
@@ -101,24 +102,24 @@ slot-one n m r s ok ok' e =
     number-at 93 n m r s (λ h. omega arith) (omega arith) (omega arith) (append_cancel_left (codes "[ebp-") _ _ e1)
 
 pub place-one : (x y : Place) (r s : List ℕ) → IsPlace x → IsPlace y → place_text x ++ r ≡ place_text y ++ s → (x ≡ y) × (r ≡ s)
-place-one (InRegister q) (InRegister q') r s ok ok' e =
+place-one (InWord q) (InWord q') r s ok ok' e =
     let parts = fixed-one (register_text q) (register_text q') r s (register-length q ∙ sym (register-length q')) e in
-    (ap InRegister (sym (register-back q) ∙ ap register_named parts.0 ∙ register-back q'), parts.1)
+    (ap InWord (sym (register-back q) ∙ ap register_named parts.0 ∙ register-back q'), parts.1)
 place-one (InByte q) (InByte q') r s ok ok' e =
     let parts = fixed-one (byte_text q) (byte_text q') r s (byte-length q ∙ sym (byte-length q')) e in
     (ap InByte (sym (byte-back q) ∙ ap byte_named parts.0 ∙ byte-back q'), parts.1)
 place-one (InSlot n) (InSlot m) r s ok ok' e =
     let parts = slot-one n m r s ok ok' e in (ap InSlot parts.0, parts.1)
-place-one (InRegister q) (InByte q') r s ok ok' e =
+place-one (InWord q) (InByte q') r s ok ok' e =
     let f = first-same (register_text q ++ r) (byte_text q' ++ s) e in
     let a = register-first q r in let b = byte-first q' s in absurd (omega arith)
-place-one (InByte q) (InRegister q') r s ok ok' e =
+place-one (InByte q) (InWord q') r s ok ok' e =
     let f = first-same (byte_text q ++ r) (register_text q' ++ s) e in
     let a = register-first q' s in let b = byte-first q r in absurd (omega arith)
-place-one (InRegister q) (InSlot m) r s ok ok' e =
+place-one (InWord q) (InSlot m) r s ok ok' e =
     let f = first-same (register_text q ++ r) (place_text (InSlot m) ++ s) e in
     let a = register-first q r in absurd (omega arith)
-place-one (InSlot n) (InRegister q') r s ok ok' e =
+place-one (InSlot n) (InWord q') r s ok ok' e =
     let f = first-same (place_text (InSlot n) ++ r) (register_text q' ++ s) e in
     let a = register-first q' s in absurd (omega arith)
 place-one (InByte q) (InSlot m) r s ok ok' e =

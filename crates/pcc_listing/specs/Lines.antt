@@ -9,12 +9,7 @@ use Rattle.ia32_regs.specs.declared.names.Reg32.{Reg32}
 use Rattle.ia32_regs.specs.declared.names.Reg32.TheVariants.{Eax, Ecx, Edx, Ebx, Esp, Ebp, Esi, Edi}
 use Rattle.ia32_regs.specs.declared.names.Reg8.{Reg8}
 use Rattle.ia32_regs.specs.declared.names.Reg8.TheVariants.{Al, Cl, Dl, Bl, Ah, Ch, Dh, Bh}
-
--- where a variable stands: a register, a byte of one, or so many bytes below EBP
-pub data Place : Type 0 where
-  InRegister : (r : Reg32) → Place
-  InByte : (r : Reg8) → Place
-  InSlot : (below : ℕ) → Place
+use Rattle.ia32_places.specs.Places.{Place, InWord, InByte, InSlot, IsPlace}
 
 -- what a variable is: a scalar local, the array or the index of a pointer local, or a temporary
 pub data Named : Type 0 where
@@ -79,7 +74,7 @@ byte_text Dh = codes "dh"
 byte_text Bh = codes "bh"
 
 abbrev pub place_text : Place → List ℕ
-place_text (InRegister r) = register_text r
+place_text (InWord r) = register_text r
 place_text (InByte r) = byte_text r
 place_text (InSlot below) = codes "[ebp-" ++ decimal below ++ codes "]"
 
@@ -121,22 +116,6 @@ map_text lines = codes "pcc map 1" ++ newline ∷ [] ++ flat_map line_text lines
 -- every number of a map
 abbrev pub IsNumber : ℕ → Type 0
 IsNumber n = n < 2 ^ 32
-
--- the registers that variables stand in
-abbrev pub IsGeneral : Reg32 → Type 0
-IsGeneral Eax = ⊤
-IsGeneral Ecx = ⊤
-IsGeneral Edx = ⊤
-IsGeneral Ebx = ⊤
-IsGeneral Esp = ⊥
-IsGeneral Ebp = ⊥
-IsGeneral Esi = ⊥
-IsGeneral Edi = ⊥
-
-abbrev pub IsPlace : Place → Type 0
-IsPlace (InRegister r) = IsGeneral r
-IsPlace (InByte r) = ⊤
-IsPlace (InSlot below) = (1 ≤ below) × (below ≤ 2 ^ 31)
 
 abbrev pub IsNamed : Named → Type 0
 IsNamed (NamesScalar name) = IsName name

@@ -8,7 +8,8 @@ use Rattle.pcc_base.specs.Outcome.{ArrayName, Null, Static, InFrame, Unknown, Va
 use Rattle.ia32_regs.specs.Registers.{register, byte_place}
 use Rattle.ia32_regs.specs.declared.names.Reg32.TheVariants.{Ebp}
 use Rattle.ia32_insn.specs.State.{State, Area, has_bytes}
-use Rattle.pcc_listing.specs.Lines.{Line, ObjectLine, FunctionLine, ArrayLine, VariableLine, PointLine, BeforeLine, Standing, Place, InRegister, InByte, InSlot, Named, NamesScalar, NamesArray, NamesIndex, Temporary, Mark}
+use Rattle.pcc_listing.specs.Lines.{Line, ObjectLine, FunctionLine, ArrayLine, VariableLine, PointLine, BeforeLine, Standing, Named, NamesScalar, NamesArray, NamesIndex, Temporary, Mark}
+use Rattle.ia32_places.specs.Places.{Place, InWord, InByte, InSlot}
 
 -- ---- what the lines say
 
@@ -190,7 +191,7 @@ slot_address s below = (register Ebp s.registers + 2 ^ 32 - below) % 2 ^ 32
 
 -- the number in a place, where it can be read
 abbrev pub number_in : Width → Place → State → Option ℕ
-number_in width (InRegister r) s = Some (register r s.registers)
+number_in width (InWord r) s = Some (register r s.registers)
 number_in width (InByte r) s = Some (slice_index s.registers (byte_place r))
 number_in width (InSlot below) s = number_at (bytes_of width) (slot_address s below) s.memory
 

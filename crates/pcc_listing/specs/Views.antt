@@ -1,6 +1,7 @@
 -- Which line each line in memory is.
 use Rattle.std.specs.Prelude.{ℕ, List, map, Option, Some, None}
-use Rattle.pcc_listing.specs.Lines.{Standing, Named, NamesScalar, Temporary, InSlot, Line, FunctionLine, VariableLine, PointLine, BeforeLine}
+use Rattle.pcc_listing.specs.Lines.{Standing, Named, NamesScalar, Temporary, Line, FunctionLine, VariableLine, PointLine, BeforeLine}
+use Rattle.ia32_places.specs.Places.{InSlot}
 use Rattle.pcc_listing.specs.Lines as lines
 use Rattle.pcc_listing.specs.declared.lines.Standing as stood
 use Rattle.pcc_listing.specs.declared.lines.Line as made

@@ -7,7 +7,8 @@ use Rattle.pcc_base.specs.Outcome.{ArrayName, Number, Array, Visit}
 use Rattle.ia32_regs.specs.declared.names.Reg32.TheVariants.{Eax, Edx, Ebx}
 use Rattle.ia32_regs.specs.declared.names.Reg8.TheVariants.{Ch}
 use Rattle.ia32_insn.specs.State.{State}
-use Rattle.pcc_listing.specs.Lines.{Line, ObjectLine, FunctionLine, ArrayLine, VariableLine, PointLine, BeforeLine, Standing, Place, InRegister, InByte, InSlot, NamesScalar, NamesArray, NamesIndex, Temporary, Mark}
+use Rattle.pcc_listing.specs.Lines.{Line, ObjectLine, FunctionLine, ArrayLine, VariableLine, PointLine, BeforeLine, Standing, NamesScalar, NamesArray, NamesIndex, Temporary, Mark}
+use Rattle.ia32_places.specs.Places.{Place, InWord, InByte, InSlot}
 
 abbrev pub stands : ℕ → Place → Standing
 stands variable place = record { variable = variable; place = place }
@@ -28,7 +29,7 @@ worked_map =
     ∷ VariableLine 3 One (NamesScalar (codes "c"))
     ∷ VariableLine 4 Two Temporary
     ∷ PointLine 0 1100 (Mark 7)
-    ∷ BeforeLine (stands 0 (InRegister Eax) ∷ stands 1 (InRegister Ebx) ∷ stands 2 (InSlot 20) ∷ stands 3 (InByte Ch) ∷ stands 4 (InRegister Edx) ∷ [])
+    ∷ BeforeLine (stands 0 (InWord Eax) ∷ stands 1 (InWord Ebx) ∷ stands 2 (InSlot 20) ∷ stands 3 (InByte Ch) ∷ stands 4 (InWord Edx) ∷ [])
     ∷ []
 
 -- at 2000 the depth word 2; the slot [ebp-20] at 2180 holds 3; the frame at 2200 holds the address of

@@ -14,7 +14,8 @@ use Rattle.c_tree.specs.Erased.{local_of, statement_of, statements_of}
 use Rattle.c_tree.specs.declared.statement.Statement as built
 use Rattle.flow_graph.specs.declared.op.Op.{Op}
 use Rattle.flow_graph.specs.declared.op.Op.TheVariants as op
-use Rattle.pcc_listing.specs.Lines.{Line, FunctionLine, VariableLine, Standing, InSlot, NamesScalar, Temporary}
+use Rattle.pcc_listing.specs.Lines.{Line, FunctionLine, VariableLine, Standing, NamesScalar, Temporary}
+use Rattle.ia32_places.specs.Places.{InSlot}
 use Rattle.pcc_listing.specs.Views.{line_of, named_by, standing_of}
 use Rattle.pcc_listing.specs.declared.lines.Line as made
 use Rattle.pcc_listing.specs.declared.lines.Line.TheVariants.{Variable}

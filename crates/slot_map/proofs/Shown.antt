@@ -24,13 +24,13 @@ use Rattle.flow_graph.specs.States.{GraphProgram, flow_at, op_at, op_of}
 use Rattle.c_lower.specs.Code.{lowered}
 use Rattle.c_lower.specs.Shown.{locals_at, variable_part, variables_shown}
 use Rattle.ia32_shows.specs.Paths.{IsAt, IsClear}
-use Rattle.ia32_shows.specs.Placements as placements
 use Rattle.ia32_shows.specs.Placements.{Code, Placement, in_slots, no_placement, placement_of, point_address}
 use Rattle.ia32_shows.specs.Shows.{Shows, InSlotOf, active_of}
 use Rattle.ia32_rows.specs.Rows.{IsSlot, frame_of, selected}
 use Rattle.ia32_rows.specs.Right.{IsSlotCode, one_graph}
 use Rattle.ia32_rows.proofs.Laid.{apart, mark-at}
-use Rattle.pcc_listing.specs.Lines.{Named, InSlot}
+use Rattle.pcc_listing.specs.Lines.{Named}
+use Rattle.ia32_places.specs.Places.{InSlot}
 use Rattle.pcc_listing.specs.Marks.{MarkAt, frames_of, listed, listed_by, marks_of, number_in, signed_value, value_of, values_of, visits_by, visits_of}
 use Rattle.pcc_listing.specs.Marks as shown
 use Rattle.slot_map.specs.SlotLines.{declared_before, standings_from}
@@ -90,13 +90,13 @@ slot-shown flow slots code input g s v slot h shows main values numbers there =
     let value : Value = get_or g.current.variables v (Number (pos 0)) in
     let at : slice_get g.current.variables v ≡ Some value = slice_get-get_or g.current.variables v (Number (pos 0)) (omega (arith, known, values)) in
     let place : placement_of code function ≡ in_slots (frame_of flow) [] slots = ap (placement_of code) main ∙ code-placement flow slots code h in
-    let before : (placement_of code function).before g.point v ≡ Some (placements.InSlot slot) =
-    ap (λ (p : Placement). p.before g.point v) place ∙ ap (option_map placements.InSlot) there in
+    let before : (placement_of code function).before g.point v ≡ Some (InSlot slot) =
+    ap (λ (p : Placement). p.before g.point v) place ∙ ap (option_map InSlot) there in
     let width : slice_get (flow_at code.program function).widths v ≡ Some Two =
     ap (λ (p : GraphProgram). slice_get (flow_at p function).widths v) h.program
     ∙ ap (λ (n : ℕ). slice_get (flow_at (one_graph flow) n).widths v) main
     ∙ two-at flow.widths v h.has_slots.widths known in
-    let stands = subst (λ (w : Option Width). InSlotOf code (active_of g) shows.frames s (word_of Ebp s - slot) w value) width (shows.variables v value (placements.InSlot slot) at before) in
+    let stands = subst (λ (w : Option Width). InSlotOf code (active_of g) shows.frames s (word_of Ebp s - slot) w value) width (shows.variables v value (InSlot slot) at before) in
     let readable = readable-by s.memory (subst (λ (l : List Shape). Every (λ shape. shape.readable ≡ true) l) (sym shows.shapes) (refl, (refl, tt))) in
     let fits = every-get (IsSlot (frame_of flow)) slots v slot h.has_slots.within there in
     let frame : (placement_of code function).frame ≡ frame_of flow = ap (λ (p : Placement). p.frame) place in

@@ -14,7 +14,8 @@ use Rattle.flow_graph.specs.Graphs.{IsIn}
 use Rattle.flow_graph.specs.Running.{part_value}
 use Rattle.flow_graph.specs.States as graph
 use Rattle.flow_graph.specs.States.{GraphProgram, op_at, op_of}
-use Rattle.pcc_listing.specs.Lines.{Line, InSlot}
+use Rattle.pcc_listing.specs.Lines.{Line}
+use Rattle.ia32_places.specs.Places.{InSlot}
 use Rattle.pcc_listing.specs.Lines.{Named}
 use Rattle.pcc_listing.specs.Marks.{Frame, MarkAt, number_in, signed_value, value_of, values_of, visits_by}
 use Rattle.slot_map.specs.SlotLines.{standings_from}

@@ -8,7 +8,8 @@ use Rattle.flow_graph.specs.declared.op.Op.{Op}
 use Rattle.flow_graph.specs.declared.op.Op.TheVariants as op
 use Rattle.flow_graph.specs.Graphs.{Flow}
 use Rattle.ia32_rows.specs.Rows.{frame_of}
-use Rattle.pcc_listing.specs.Lines.{Line, FunctionLine, VariableLine, PointLine, BeforeLine, Standing, InSlot, NamesScalar, Temporary, Mark}
+use Rattle.pcc_listing.specs.Lines.{Line, FunctionLine, VariableLine, PointLine, BeforeLine, Standing, NamesScalar, Temporary, Mark}
+use Rattle.ia32_places.specs.Places.{InSlot}
 
 -- how many locals a statement declares
 abbrev pub declared_by : Statement → ℕ
