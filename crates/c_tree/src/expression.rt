@@ -6,7 +6,7 @@ ghost use Rattle.c_tree.specs.Program as typed;
 ghost use Rattle.c_tree.specs.Program.{value_type};
 
 use crate::types::{IntegerType, ValueType};
-use pcc_base::NoMemory;
+use pcc_base::{NoMemory, boxed, boxed_both};
 use std::alloc::Global;
 
 /// The operators on one operand (C99 6.5.3.3).
@@ -135,7 +135,8 @@ impl Expression {
         ensures { IfOk result (λ e.
             expression_of e ≡ typed.Binary of op (expression_of left) (expression_of right)) }
     {
-        Ok(Expression::Binary(of, op, Box::new(alloc, left)?, Box::new(alloc, right)?))
+        let (left, right) = boxed_both(alloc, left, right)?;
+        Ok(Expression::Binary(of, op, left, right))
     }
 
     /// `left && right`.
@@ -143,7 +144,8 @@ impl Expression {
         ensures { IfOk result (λ e.
             expression_of e ≡ typed.And (expression_of left) (expression_of right)) }
     {
-        Ok(Expression::And(Box::new(alloc, left)?, Box::new(alloc, right)?))
+        let (left, right) = boxed_both(alloc, left, right)?;
+        Ok(Expression::And(left, right))
     }
 
     /// `left || right`.
@@ -151,7 +153,8 @@ impl Expression {
         ensures { IfOk result (λ e.
             expression_of e ≡ typed.Or (expression_of left) (expression_of right)) }
     {
-        Ok(Expression::Or(Box::new(alloc, left)?, Box::new(alloc, right)?))
+        let (left, right) = boxed_both(alloc, left, right)?;
+        Ok(Expression::Or(left, right))
     }
 
     /// `test ? first : second`, with the type of its value.
@@ -166,12 +169,10 @@ impl Expression {
             expression_of e
             ≡ typed.Conditional of (expression_of test) (expression_of first) (expression_of second)) }
     {
-        Ok(Expression::Conditional(
-            of,
-            Box::new(alloc, test)?,
-            Box::new(alloc, first)?,
-            Box::new(alloc, second)?,
-        ))
+        let (test, (first, second)) = boxed(alloc, test, (first, second))?;
+        let (first, (test, second)) = boxed(alloc, first, (test, second))?;
+        let (second, (test, first)) = boxed(alloc, second, (test, first))?;
+        Ok(Expression::Conditional(of, test, first, second))
     }
 
     /// A cast to a type.
@@ -191,7 +192,8 @@ impl Expression {
         ensures { IfOk result (λ e.
             expression_of e ≡ typed.Assign of (place_of place) (expression_of value)) }
     {
-        Ok(Expression::Assign(of, place, Box::new(alloc, value)?))
+        let (value, place) = boxed(alloc, value, place)?;
+        Ok(Expression::Assign(of, place, value))
     }
 
     /// An assignment with an operator, with the type of the place.
@@ -205,7 +207,8 @@ impl Expression {
         ensures { IfOk result (λ e.
             expression_of e ≡ typed.Update of op (place_of place) (expression_of value)) }
     {
-        Ok(Expression::Update(of, op, place, Box::new(alloc, value)?))
+        let (value, place) = boxed(alloc, value, place)?;
+        Ok(Expression::Update(of, op, place, value))
     }
 
     /// `left, right`.
@@ -213,7 +216,8 @@ impl Expression {
         ensures { IfOk result (λ e.
             expression_of e ≡ typed.Comma (expression_of left) (expression_of right)) }
     {
-        Ok(Expression::Comma(Box::new(alloc, left)?, Box::new(alloc, right)?))
+        let (left, right) = boxed_both(alloc, left, right)?;
+        Ok(Expression::Comma(left, right))
     }
 
     /// `putchar(operand)`.
@@ -279,6 +283,7 @@ impl Place {
         ensures { IfOk result (λ e.
             place_of e ≡ typed.Element element (expression_of array) (expression_of index)) }
     {
-        Ok(Place::Element(element, Box::new(alloc, array)?, Box::new(alloc, index)?))
+        let (array, index) = boxed_both(alloc, array, index)?;
+        Ok(Place::Element(element, array, index))
     }
 }

@@ -7,7 +7,7 @@ ghost use Rattle.c_tree.specs.Program as typed;
 
 use crate::expression::Expression;
 use crate::types::IntegerType;
-use pcc_base::NoMemory;
+use pcc_base::{NoMemory, boxed};
 use std::alloc::Global;
 
 /// What an array of a function holds at first (C99 6.7.8); the rest of it is zero.
@@ -76,12 +76,9 @@ impl Statement {
             statement_of s
             ≡ typed.If number (expression_of test) (statement_of first) (statement_of second)) }
     {
-        Ok(Statement::If(
-            number,
-            test,
-            Box::new(alloc, first)?,
-            Box::new(alloc, second)?,
-        ))
+        let (first, (test, second)) = boxed(alloc, first, (test, second))?;
+        let (second, (test, first)) = boxed(alloc, second, (test, first))?;
+        Ok(Statement::If(number, test, first, second))
     }
 
     /// `while (test) body`.
@@ -94,7 +91,8 @@ impl Statement {
         ensures { IfOk result (λ s.
             statement_of s ≡ typed.While number (expression_of test) (statement_of body)) }
     {
-        Ok(Statement::While(number, test, Box::new(alloc, body)?))
+        let (body, test) = boxed(alloc, body, test)?;
+        Ok(Statement::While(number, test, body))
     }
 
     /// `do body while (test);`.
@@ -107,7 +105,8 @@ impl Statement {
         ensures { IfOk result (λ s.
             statement_of s ≡ typed.Do number (statement_of body) (expression_of test)) }
     {
-        Ok(Statement::Do(number, Box::new(alloc, body)?, test))
+        let (body, test) = boxed(alloc, body, test)?;
+        Ok(Statement::Do(number, body, test))
     }
 
     /// `for (first; test; after) body`.
@@ -124,6 +123,7 @@ impl Statement {
             ≡ typed.For number (first_of first) (option_map expression_of test)
             (option_map expression_of after) (statement_of body)) }
     {
-        Ok(Statement::For(number, first, test, after, Box::new(alloc, body)?))
+        let (body, (first, test, after)) = boxed(alloc, body, (first, test, after))?;
+        Ok(Statement::For(number, first, test, after, body))
     }
 }

@@ -1,11 +1,12 @@
 //! What every crate of the compiler speaks of: want of memory, traps, wrapping, places in a source,
-//! faults, limits, refusals, and how a run of a program or an image comes out.
+//! faults, limits, refusals, values on the heap, and how a run of a program or an image comes out.
 //!
 //! `specs/Outcome.antt` has the outcome of a run, one type for the source, the graph and the machine,
 //! and `specs/Wrapping.antt` what a number is in 8, 16 or 32 bits.
 #![tactic(auto)]
 
 mod fault;
+mod heap;
 mod keyword;
 mod memory;
 mod name;
@@ -17,6 +18,7 @@ mod steps;
 mod wrapping;
 
 pub use fault::{Fault, FaultKind};
+pub use heap::{boxed, boxed_both};
 pub use keyword::Keyword;
 pub use memory::NoMemory;
 pub use name::Name;
