@@ -16,7 +16,8 @@ use Rattle.c_tree.specs.Sizes.{function_size, size_of, statements_size}
 use Rattle.flow_graph.specs.declared.op.Op.{Op}
 use Rattle.flow_graph.specs.declared.op.Op.TheVariants as op
 use Rattle.flow_graph.specs.Graphs.{Every, Flow, IsDistinct, IsEnded, IsFlow, LastIsEnd, is_end}
-use Rattle.flow_graph.specs.Liveness.{IsLiveBefore}
+use Rattle.flow_graph.specs.Liveness.{FixedDies, IsLiveBefore}
+use Rattle.flow_graph.specs.Sizes.{most_words, words_of}
 use Rattle.flow_graph.specs.Running.{IsNeverStuck}
 use Rattle.flow_graph.specs.States.{GraphProgram}
 use Rattle.flow_graph.specs.WellFormed.{IsGraph, IsGraphProgram, NamesWithin}
@@ -24,7 +25,7 @@ use Rattle.flow_graph.proofs.OneRun.{never_stuck}
 use Rattle.c_lower.specs.Code.{AllFit, EndsLast, body_ops, function_ops, lowered, slot_graphs, temporaries, variables}
 use Rattle.c_tree.specs.SlotForm.{AreSlotStatements, AreIntLocals, IsSlotFunction, IsSlotProgram}
 use Rattle.c_tree.specs.Objects.{data_object}
-use Rattle.c_lower.specs.Lowering.{AreLowered, AreSmall, FixedDies, HasObjects, IsLowered, KeepsOutcome, MarksOnce, array_of, marks_in, most_words, points_in, words_in, arrays_in, words_of}
+use Rattle.c_lower.specs.Lowering.{AreLowered, AreSmall, HasObjects, IsLowered, KeepsOutcome, MarksOnce, array_of, marks_in, points_in, words_in, arrays_in}
 use Rattle.c_lower.specs.Shown.{local_widths, type_widths, variables_shown}
 use Rattle.c_lower.proofs.Elements.{has_all}
 use Rattle.c_lower.proofs.Fitting.{IsSlotOp, body-marks, body-sizes, ends-body, fit-body, slot-body, slots-body}

@@ -1,5 +1,5 @@
 -- What lowering promises of the graphs of a program.
-use Rattle.std.specs.Prelude.{◌≡◌, ◌≢◌, ◌<◌, ◌≤◌, ℕ, ◌+◌, ◌*◌, ◌/◌, max, List, [], ◌∷◌, ◌++◌, length, map, slice_get, Some, sum_by}
+use Rattle.std.specs.Prelude.{◌≡◌, ◌<◌, ◌≤◌, ℕ, ◌+◌, ◌*◌, List, [], ◌∷◌, ◌++◌, length, map, slice_get, Some, sum_by}
 pub use Rattle.pcc_base.specs.Objects.{object_of}
 use Rattle.pcc_base.specs.declared.run.Width.{Width}
 use Rattle.pcc_base.specs.Outcome.{Listing}
@@ -8,10 +8,11 @@ use Rattle.c_tree.specs.Objects.{data_objects}
 use Rattle.c_tree.specs.Program.{LocalArray, Function, Program}
 use Rattle.c_tree.specs.Sizes.{bytes_of, frame_bound, size_of}
 use Rattle.flow_graph.specs.declared.op.Op.{Op}
-use Rattle.flow_graph.specs.declared.op.Op.TheVariants.{Call, Div, Mark, Rem, Sar, Shl}
+use Rattle.flow_graph.specs.declared.op.Op.TheVariants.{Mark}
 use Rattle.flow_graph.specs.Graphs.{Flow, IsDistinct, IsEnded}
-use Rattle.flow_graph.specs.Liveness.{BeginsWith, IsLiveAfter, IsLiveBefore}
+use Rattle.flow_graph.specs.Liveness.{BeginsWith, FixedDies, IsLiveBefore}
 use Rattle.flow_graph.specs.Running.{GraphOutcome}
+use Rattle.flow_graph.specs.Sizes.{array_bytes, most_words, words_of}
 use Rattle.flow_graph.specs.States.{GraphProgram}
 use Rattle.c_lower.specs.declared.graphs.Graphs.{Graphs}
 use Rattle.c_lower.specs.Shown.{ListsLocals, local_widths, variables_shown}
@@ -31,27 +32,6 @@ KeepsOutcome program graphs =
     → GraphOutcome graphs (variables_shown program listing) input turns (source_outcome program listing input turns)
 
 -- ---- each function
-
--- The dividend of a division and the count of a shift are not live after their op, and no other operand.
-abbrev pub FixedDies : Flow → ℕ → Op → Type 0
-FixedDies flow point (Div d a b) = (IsLiveAfter flow a point → ⊥) × (a ≢ b)
-FixedDies flow point (Rem d a b) = (IsLiveAfter flow a point → ⊥) × (a ≢ b)
-FixedDies flow point (Shl d a c) = (IsLiveAfter flow c point → ⊥) × (c ≢ a)
-FixedDies flow point (Sar d a c) = (IsLiveAfter flow c point → ⊥) × (c ≢ a)
-FixedDies flow point _ = Unit {0}
-
--- the argument words of an op that is a call
-abbrev pub words_of : Op → ℕ
-words_of (Call d f arguments) = length arguments
-words_of _ = 0
-
-abbrev pub most_words : List Op → ℕ
-most_words [] = 0
-most_words (i ∷ is) = max (words_of i) (most_words is)
-
--- an array has a word with its element count, and its elements, padded to words
-abbrev pub array_bytes : ℕ × ℕ → ℕ
-array_bytes array = 4 + (array.1 * array.0 + 3) / 4 * 4
 
 abbrev pub array_of : LocalArray → ℕ × ℕ
 array_of a = (bytes_of a.element, a.count)

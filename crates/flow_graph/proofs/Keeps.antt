@@ -1,5 +1,5 @@
 -- What every graph keeps stays after each change, and where a point is at home.
-use Rattle.std.proofs.Common.{ℕ, zero, suc, ◌≡◌, ◌≢◌, ◌<◌, ◌+◌, inl, inr, false, List, [], ◌∷◌, ◌++◌, length, get_or}
+use Rattle.std.proofs.Common.{ℕ, zero, suc, ◌≡◌, ◌≢◌, ◌<◌, ◌≤◌, ◌+◌, inl, inr, false, List, [], ◌∷◌, ◌++◌, length, get_or}
 use Rattle.std.proofs.Common.{Some, refl, sym, subst, arith, length-append, get_or-set_same, get_or-set_other}
 use Rattle.std.proofs.Math.ListN.{set, length-set}
 use Rattle.std.specs.List.{slice_get}
@@ -7,9 +7,9 @@ use Rattle.std.proofs.lemmas.Bool.{cases_eq}
 use Rattle.std.proofs.lemmas.Option.{slice_get_within, get_or_from_slice_get}
 use Rattle.pcc_base.specs.declared.run.Width.{Width}
 use Rattle.flow_graph.specs.declared.op.Op.{Op}
-use Rattle.flow_graph.specs.Graphs.{Flow, Every, IsIn, FitsOp, HasFittingOp, HasWord, IsPlainAt, IsEnded, IsArray, IsBlock}
+use Rattle.flow_graph.specs.Graphs.{Flow, Every, IsIn, FitsOp, HasFittingOp, NumbersFit, IsPlainAt, IsEnded, IsArray, IsBlock}
 use Rattle.flow_graph.specs.Graphs.{IsFlow, IsPlaced, Stands, points_of, insert_after, is_end, with_variable}
-use Rattle.flow_graph.specs.Graphs.{with_array, with_block, with_points, with_op, with_op_after, without, without_point}
+use Rattle.flow_graph.specs.Graphs.{with_array, with_block, with_points, with_op, with_op_after, without, without_point_of}
 use Rattle.flow_graph.proofs.Points.{every-map, every-push, every-insert, every-without, every-in, distinct-push}
 use Rattle.flow_graph.proofs.Points.{distinct-insert, distinct-without, all_plain, ends-push, ends-insert, ends-without}
 use Rattle.flow_graph.proofs.Growth.{Grows, keeps-append, keeps-same, slice_get-last, fits_op-grows, plain-grows}
@@ -51,7 +51,8 @@ flow-variable f homes w i h =
       each_block = λ b. block-grows f (with_variable f w) homes homes grows (keeps-same homes) b
           (points_of f b) (i.each_block b);
       arrays_fit = i.arrays_fit;
-      words = i.words;
+      few_elements = i.few_elements;
+      numbers = i.numbers;
       few_variables = omega (arith, length-push f.widths w);
       few_arrays = i.few_arrays;
       few_blocks = i.few_blocks;
@@ -59,9 +60,9 @@ flow-variable f homes w i h =
     }
 
 -- with one more frame array
-pub flow-array : (f : Flow) (homes : List ℕ) (w n : ℕ) → IsFlow f homes → IsArray (w, n) → length f.arrays < 4294967295
+pub flow-array : (f : Flow) (homes : List ℕ) (w n : ℕ) → IsFlow f homes → IsArray (w, n) → n ≤ 4294967295 → length f.arrays < 4294967295
     → IsFlow (with_array f w n) homes
-flow-array f homes w n i fit h =
+flow-array f homes w n i fit few h =
     let more = length-push f.arrays (w, n) in
     let grows : Grows f (with_array f w n) = record { widths = keeps-same f.widths; arrays = omega (arith, more); blocks = omega arith; ops = keeps-same f.ops } in
     record {
@@ -69,7 +70,8 @@ flow-array f homes w n i fit h =
       each_block = λ b. block-grows f (with_array f w n) homes homes grows (keeps-same homes) b
           (points_of f b) (i.each_block b);
       arrays_fit = every-push IsArray f.arrays (w, n) i.arrays_fit fit;
-      words = i.words;
+      few_elements = every-push (λ (array : ℕ × ℕ). array.1 ≤ 4294967295) f.arrays (w, n) i.few_elements few;
+      numbers = i.numbers;
       few_variables = i.few_variables;
       few_arrays = omega (arith, more);
       few_blocks = i.few_blocks;
@@ -86,7 +88,8 @@ flow-block f homes i h =
       one_home = i.one_home;
       each_block = λ b. subst (λ (ps : List ℕ). IsBlock (with_block f) homes b ps) (get_or-empty f.blocks b) (block-grows f (with_block f) homes homes grows (keeps-same homes) b (points_of f b) (i.each_block b));
       arrays_fit = i.arrays_fit;
-      words = i.words;
+      few_elements = i.few_elements;
+      numbers = i.numbers;
       few_variables = i.few_variables;
       few_arrays = i.few_arrays;
       few_blocks = omega (arith, more);
@@ -104,7 +107,7 @@ points-grow f b ps op = record {
 
 -- with one more point, where the block that it comes into keeps what it has to
 flow-points : (f : Flow) (homes : List ℕ) (b : ℕ) (ps : List ℕ) (op : Op) → IsFlow f homes → b < length f.blocks
-    → length f.ops < 4294967295 → HasWord op → IsBlock (with_points f b ps op) (homes ++ b ∷ []) b ps
+    → length f.ops < 4294967295 → NumbersFit op → IsBlock (with_points f b ps op) (homes ++ b ∷ []) b ps
     → IsFlow (with_points f b ps op) (homes ++ b ∷ [])
 flow-points f homes b ps op i h room word w =
     let all_homes = length-push homes b in
@@ -116,7 +119,8 @@ flow-points f homes b ps op i h room word w =
           (λ k. block-grows f (with_points f b ps op) homes (homes ++ b ∷ []) (points-grow f b ps op)
           (keeps-append homes (b ∷ [])) k (points_of f k) (i.each_block k));
       arrays_fit = i.arrays_fit;
-      words = every-push HasWord f.ops op i.words word;
+      few_elements = i.few_elements;
+      numbers = every-push NumbersFit f.ops op i.numbers word;
       few_variables = i.few_variables;
       few_arrays = i.few_arrays;
       few_blocks = omega (arith, all_blocks, i.few_blocks);
@@ -134,7 +138,7 @@ new_home f homes b i = subst (λ (n : ℕ). slice_get (homes ++ b ∷ []) n ≡ 
 
 -- with a new point at the end of a block
 pub flow-append : (f : Flow) (homes : List ℕ) (b : ℕ) (op : Op) → IsFlow f homes → b < length f.blocks
-    → length f.ops < 4294967295 → (IsEnded f b → ⊥) → FitsOp f op → HasWord op → IsFlow (with_op f b op) (homes ++ b ∷ [])
+    → length f.ops < 4294967295 → (IsEnded f b → ⊥) → FitsOp f op → NumbersFit op → IsFlow (with_op f b op) (homes ++ b ∷ [])
 flow-append f homes b op i h room open_block fit word =
     let ps : List ℕ = points_of f b in
     let x : ℕ = length f.ops in
@@ -155,7 +159,7 @@ flow-append f homes b op i h room open_block fit word =
 
 -- with a new point right after a point
 pub flow-insert : (f : Flow) (homes : List ℕ) (b point : ℕ) (op : Op) → IsFlow f homes → b < length f.blocks
-    → length f.ops < 4294967295 → IsPlainAt f.ops point → is_end op ≡ false → FitsOp f op → HasWord op
+    → length f.ops < 4294967295 → IsPlainAt f.ops point → is_end op ≡ false → FitsOp f op → NumbersFit op
     → IsFlow (with_op_after f b point op) (homes ++ b ∷ [])
 flow-insert f homes b point op i h room plain no_end fit word =
     let ps : List ℕ = points_of f b in
@@ -183,11 +187,11 @@ flow-insert f homes b point op i h room plain no_end fit word =
 
 -- without a point
 pub flow-remove : (f : Flow) (homes : List ℕ) (b point : ℕ) → IsFlow f homes → b < length f.blocks
-    → IsFlow (without_point f b point) homes
+    → IsFlow (without_point_of f b point) homes
 flow-remove f homes b point i h =
     let ps : List ℕ = points_of f b in
     let qs : List ℕ = without point ps in
-    let g : Flow = without_point f b point in
+    let g : Flow = without_point_of f b point in
     let grows : Grows f g = record { widths = keeps-same f.widths; arrays = omega arith; blocks = omega (arith, length-set f.blocks b qs); ops = keeps-same f.ops } in
     let grown : IsBlock g homes b ps = block-grows f g homes homes grows (keeps-same homes) b ps (i.each_block b) in
     let left : IsBlock g homes b qs = record {
@@ -201,7 +205,8 @@ flow-remove f homes b point i h =
       each_block = set_cases (λ k rs. IsBlock g homes k rs) f.blocks b qs h left
           (λ k. block-grows f g homes homes grows (keeps-same homes) k (points_of f k) (i.each_block k));
       arrays_fit = i.arrays_fit;
-      words = i.words;
+      few_elements = i.few_elements;
+      numbers = i.numbers;
       few_variables = i.few_variables;
       few_arrays = i.few_arrays;
       few_blocks = omega (arith, length-set f.blocks b qs, i.few_blocks);
@@ -209,7 +214,7 @@ flow-remove f homes b point i h =
     }
 
 -- the home of a point of a block is that block
-home : (f : Flow) (homes : List ℕ) (p b : ℕ) → IsFlow f homes → Stands f p b → slice_get homes p ≡ Some b
+pub home : (f : Flow) (homes : List ℕ) (p b : ℕ) → IsFlow f homes → Stands f p b → slice_get homes p ≡ Some b
 home f homes p b i s = every-in (λ q. slice_get homes q ≡ Some b) p (points_of f b) (i.each_block b).at_home s
 
 -- a point of a block has a home

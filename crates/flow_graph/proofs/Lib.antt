@@ -1,5 +1,7 @@
 pub mod Ascending
+pub mod Blocks
 pub mod Growth
 pub mod Keeps
+pub mod LivePaths
 pub mod OneRun
 pub mod Points

@@ -2,6 +2,7 @@
 use Rattle.std.specs.Prelude.{ℕ, ◌≡◌, ◌≢◌, ◌<◌, ◌≤◌, ◌⊎◌, Bool, true, false, cond, eqb, List, [], ◌∷◌, ◌++◌, length}
 use Rattle.std.specs.Prelude.{map, Option, Some, None, slice_get, slice_set, slice_index_or, FitsSigned}
 use Rattle.std.specs.Int.{w32}
+use Rattle.std.specs.List.{position_or_len}
 use Rattle.pcc_base.specs.declared.run.Width.{Width}
 use Rattle.pcc_base.specs.declared.run.Width.TheVariants.{One, Two}
 use Rattle.flow_graph.specs.declared.op.Op.{Op}
@@ -96,11 +97,42 @@ needs (Return a) = two_if_any a
 
 -- the ops that end a block
 abbrev pub is_end : Op → Bool
+is_end (Const d n) = false
+is_end (Copy d s) = false
+is_end (Wide d s) = false
+is_end (Low d s) = false
+is_end (Low16 d s) = false
+is_end (Neg d a) = false
+is_end (Not d a) = false
+is_end (Add d a b) = false
+is_end (Sub d a b) = false
+is_end (Mul d a b) = false
+is_end (And d a b) = false
+is_end (Or d a b) = false
+is_end (Xor d a b) = false
+is_end (Shl d a c) = false
+is_end (Sar d a c) = false
+is_end (Div d a b) = false
+is_end (Rem d a b) = false
+is_end (Set how d a b) = false
+is_end (Frame d k) = false
+is_end (Static d k) = false
+is_end (Load bits d p i) = false
+is_end (Store bits p i s) = false
+is_end (Get bits d k) = false
+is_end (Put bits k s) = false
+is_end (Clear k) = false
+is_end (Param d k) = false
+is_end (Call d f arguments) = false
+is_end (Putchar d s) = false
+is_end (Getchar d) = false
 is_end (Exit s) = true
+is_end (Same a b) = false
+is_end (Mark s) = false
+is_end Turn = false
 is_end (Jump x) = true
 is_end (Branch how a b x y) = true
 is_end (Return a) = true
-is_end _ = false
 
 -- the variable is there, with this width
 abbrev pub HasWidth : Flow → ℕ → Width → Type 0
@@ -114,10 +146,44 @@ IsMet flow (SameWidth d s) = (width : Width) × HasWidth flow d width × HasWidt
 IsMet flow (FrameArray k) = k < length flow.arrays
 IsMet flow (Target x) = x < length flow.blocks
 
--- the number of a `const` is one of 32 bits
-abbrev pub HasWord : Op → Type 0
-HasWord (Const d n) = FitsSigned w32 n
-HasWord _ = Unit {0}
+-- the number of a `const`, and those of objects, functions, argument words and statements, are of 32 bits
+abbrev pub NumbersFit : Op → Type 0
+NumbersFit (Const d n) = FitsSigned w32 n
+NumbersFit (Copy d s) = Unit {0}
+NumbersFit (Wide d s) = Unit {0}
+NumbersFit (Low d s) = Unit {0}
+NumbersFit (Low16 d s) = Unit {0}
+NumbersFit (Neg d a) = Unit {0}
+NumbersFit (Not d a) = Unit {0}
+NumbersFit (Add d a b) = Unit {0}
+NumbersFit (Sub d a b) = Unit {0}
+NumbersFit (Mul d a b) = Unit {0}
+NumbersFit (And d a b) = Unit {0}
+NumbersFit (Or d a b) = Unit {0}
+NumbersFit (Xor d a b) = Unit {0}
+NumbersFit (Shl d a c) = Unit {0}
+NumbersFit (Sar d a c) = Unit {0}
+NumbersFit (Div d a b) = Unit {0}
+NumbersFit (Rem d a b) = Unit {0}
+NumbersFit (Set how d a b) = Unit {0}
+NumbersFit (Frame d k) = Unit {0}
+NumbersFit (Static d k) = k < 4294967296
+NumbersFit (Load bits d p i) = Unit {0}
+NumbersFit (Store bits p i s) = Unit {0}
+NumbersFit (Get bits d k) = k < 4294967296
+NumbersFit (Put bits k s) = k < 4294967296
+NumbersFit (Clear k) = Unit {0}
+NumbersFit (Param d k) = k < 4294967296
+NumbersFit (Call d f arguments) = f < 4294967296
+NumbersFit (Putchar d s) = Unit {0}
+NumbersFit (Getchar d) = Unit {0}
+NumbersFit (Exit s) = Unit {0}
+NumbersFit (Same a b) = Unit {0}
+NumbersFit (Mark s) = s < 4294967296
+NumbersFit Turn = Unit {0}
+NumbersFit (Jump x) = Unit {0}
+NumbersFit (Branch how a b x y) = Unit {0}
+NumbersFit (Return a) = Unit {0}
 
 -- the variables, arrays and blocks that the op names are there, with the widths that it asks for
 abbrev pub FitsOp : Flow → Op → Type 0
@@ -174,6 +240,19 @@ abbrev pub following : ℕ → List ℕ → Option ℕ
 following point [] = None
 following point (p ∷ ps) = cond (eqb p point) (slice_get ps 0) (following point ps)
 
+-- the point is among the points
+abbrev pub has_point : ℕ → List ℕ → Bool
+has_point point [] = false
+has_point point (p ∷ ps) = cond (eqb p point) true (has_point point ps)
+
+-- the first block that has the point, or how many blocks there are
+abbrev pub block_of : Flow → ℕ → ℕ
+block_of flow point = position_or_len (has_point point) flow.blocks
+
+-- the point right after a point, in the block that has it
+abbrev pub next_in : Flow → ℕ → Option ℕ
+next_in flow point = following point (points_of flow (block_of flow point))
+
 -- the graph with one more variable
 abbrev pub with_variable : Flow → Width → Flow
 with_variable flow width = record {
@@ -214,14 +293,22 @@ abbrev pub with_op_after : Flow → ℕ → ℕ → Op → Flow
 with_op_after flow block point op = with_points flow block
     (insert_after point (length flow.ops) (points_of flow block)) op
 
+-- the graph with a new point right after a point, in the block that has it
+abbrev pub with_op_behind : Flow → ℕ → Op → Flow
+with_op_behind flow point op = with_op_after flow (block_of flow point) point op
+
 -- the graph with a point removed from a block; its op stays, and its number is not used again
-abbrev pub without_point : Flow → ℕ → ℕ → Flow
-without_point flow block point = record {
+abbrev pub without_point_of : Flow → ℕ → ℕ → Flow
+without_point_of flow block point = record {
   widths = flow.widths;
   arrays = flow.arrays;
   blocks = slice_set flow.blocks block (without point (points_of flow block));
   ops = flow.ops;
 }
+
+-- the graph with a point removed from the block that has it
+abbrev pub without_point : Flow → ℕ → Flow
+without_point flow point = without_point_of flow (block_of flow point) point
 
 -- the point has an op, and it fits
 abbrev pub HasFittingOp : Flow → ℕ → Type 0
@@ -240,14 +327,29 @@ pub record IsBlock (flow : Flow) (homes : List ℕ) (block : ℕ) (points : List
   pub ends : EndsOnlyLast flow.ops points
 
 -- What every graph keeps, where `homes` has the block of each point, so that no point is in two blocks: each
--- block keeps the above, each frame array is one, the number of each `const` has 32 bits, and the variables, arrays,
--- blocks and points are at most 4294967295.
+-- block keeps the above, each frame array is one, the numbers of each op fit, and the variables, arrays, elements of an
+-- array, blocks and points are at most 4294967295.
 pub record IsFlow (flow : Flow) (homes : List ℕ) : Type 0 where
   pub one_home : length homes ≡ length flow.ops
   pub each_block : (block : ℕ) → IsBlock flow homes block (points_of flow block)
   pub arrays_fit : Every IsArray flow.arrays
-  pub words : Every HasWord flow.ops
+  pub few_elements : Every (λ array. array.1 ≤ 4294967295) flow.arrays
+  pub numbers : Every NumbersFit flow.ops
   pub few_variables : length flow.widths ≤ 4294967295
   pub few_arrays : length flow.arrays ≤ 4294967295
   pub few_blocks : length flow.blocks ≤ 4294967295
   pub few_points : length flow.ops ≤ 4294967295
+
+-- ---- laws
+
+-- a point stands in one block, which is the one that has it
+abbrev pub OneBlock : Type 0
+OneBlock =
+    (flow : Flow) (homes : List ℕ) → IsFlow flow homes → (point block : ℕ) → Stands flow point block
+    → block_of flow point ≡ block
+
+-- the next point is the one behind it, in whichever block it stands
+abbrev pub NextInBlock : Type 0
+NextInBlock =
+    (flow : Flow) (homes : List ℕ) → IsFlow flow homes → (point block : ℕ) → Stands flow point block
+    → next_in flow point ≡ following point (points_of flow block)

@@ -3,6 +3,7 @@ pub mod Liveness
 pub mod Lives
 pub mod Meaning
 pub mod Running
+pub mod Sizes
 pub mod States
 pub mod WellFormed
 pub mod Worked

@@ -1,5 +1,5 @@
 -- How a program of graphs runs, and its outcome in a number of turns.
-use Rattle.std.specs.Prelude.{◌≡◌, ◌≢◌, ℕ, zero, suc, Bool, true, false, ℤ, pos, List, [], ◌∷◌, map, Option, Some, None}
+use Rattle.std.specs.Prelude.{◌≡◌, ◌≢◌, ℕ, zero, suc, Bool, true, false, ℤ, List, [], ◌∷◌, map, Option, Some, None}
 use Rattle.std.specs.Prelude.{option_map}
 use Rattle.pcc_base.specs.Outcome.{End, Goes, ArrayName, Unknown, Value, Number, Array, Part, Scalar, ArrayOf, IndexOf}
 use Rattle.pcc_base.specs.Outcome.{Visit, Listing, Outcome, after_visits}

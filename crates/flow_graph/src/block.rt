@@ -1,4 +1,4 @@
-ghost use Rattle.std.specs.Prelude.{◌≡◌, ◌==◌, ◌++◌, ◌∷◌, [], position, slice_get, MatchResult};
+ghost use Rattle.std.specs.Prelude.{◌≡◌, ◌==◌, ◌++◌, ◌∷◌, [], position, slice_get, IfOk, MatchResult};
 ghost use Rattle.flow_graph.specs.Graphs.{following, insert_after, without};
 
 use pcc_base::NoMemory;
@@ -68,11 +68,19 @@ impl Block {
         self.points.first().copied()
     }
 
-    /// The points, in order.
-    pub fn as_slice(&self) -> &[u32]
-        ensures { result.now ≡ self.now }
+    /// The points, in order, as a list of their own.
+    pub fn list(&self, alloc: Global) -> Result<Vec<u32>, NoMemory>
+        ensures { IfOk result (λ points. points.items ≡ self.now) }
     {
-        self.points.as_slice()
+        Ok(self.points.to_vec(alloc)?)
+    }
+
+    /// The same points once more.
+    pub fn copy(&self, alloc: Global) -> Result<Block, NoMemory>
+        ensures { IfOk result (λ block. block ≡ self.now) }
+    {
+        let points = self.list(alloc)?;
+        Ok(Block { points })
     }
 
     /// The point right after another.

@@ -1,7 +1,7 @@
-ghost use Rattle.std.specs.Prelude.{ℕ, ◌≡◌, ◌<◌, ◌≤◌, ◌⊎◌, List, length, slice_get, Some, false, MatchResult, ⊤};
-ghost use Rattle.flow_graph.specs.Graphs.{empty_flow, with_variable, with_array, with_block, with_op, with_op_after};
-ghost use Rattle.flow_graph.specs.Graphs.{without_point, FitsOp, IsEnded, IsPlaced, IsPlainAt, IsFlow, Stands, is_end};
-ghost use Rattle.flow_graph.specs.Graphs.{points_of, following};
+ghost use Rattle.std.specs.Prelude.{ℕ, ◌≡◌, ◌<◌, ◌≤◌, ◌⊎◌, List, length, slice_get, Some, false, IfOk, MatchResult, ⊤};
+ghost use Rattle.flow_graph.specs.Graphs.{empty_flow, with_variable, with_array, with_block, with_op, with_op_behind};
+ghost use Rattle.flow_graph.specs.Graphs.{without_point, FitsOp, IsEnded, IsPlaced, IsPlainAt, IsFlow, is_end};
+ghost use Rattle.flow_graph.specs.Graphs.{next_in, points_of};
 
 use crate::block::Block;
 use crate::op::Op;
@@ -40,6 +40,28 @@ impl Model for Graph {
           ops = g.ops.items;
         })
         g.homes.items };
+}
+
+/// The blocks once more.
+fn copy_blocks(alloc: Global, blocks: &[Block]) -> Result<Vec<Block>, NoMemory>
+    ensures { IfOk result (λ copies. copies.items ≡ blocks.now) }
+{
+    let mut copies = Vec::new(alloc);
+    for block in blocks {
+        copies.push(block.copy(alloc)?)?;
+    }
+    Ok(copies)
+}
+
+/// The ops once more.
+fn copy_ops(alloc: Global, ops: &[Op]) -> Result<Vec<Op>, NoMemory>
+    ensures { IfOk result (λ copies. copies.items ≡ ops.now) }
+{
+    let mut copies = Vec::new(alloc);
+    for op in ops {
+        copies.push(op.copy(alloc)?)?;
+    }
+    Ok(copies)
 }
 
 impl Graph {
@@ -107,7 +129,7 @@ impl Graph {
             (λ point. (point ≡ length self.old.ops) × (self.new ≡ with_op self.old block op))
             (λ _. self.new ≡ self.old) }
     {
-        op.has_word();
+        op.numbers_fit();
         self.ops.reserve(1)?;
         self.homes.reserve(1)?;
         let point = self.ops.len() as u32;
@@ -126,11 +148,10 @@ impl Graph {
         requires no_end { is_end op ≡ false }
         requires fits { FitsOp self.old op }
         ensures { MatchResult result
-            (λ new. (new ≡ length self.old.ops)
-            × ((block : ℕ) → Stands self.old point block → self.new ≡ with_op_after self.old block point op))
+            (λ new. (new ≡ length self.old.ops) × (self.new ≡ with_op_behind self.old point op))
             (λ _. self.new ≡ self.old) }
     {
-        op.has_word();
+        op.numbers_fit();
         self.ops.reserve(1)?;
         self.homes.reserve(1)?;
         let new = self.ops.len() as u32;
@@ -146,7 +167,7 @@ impl Graph {
     pub fn remove(&mut self, point: u32)
         requires placed { IsPlaced self.old point }
         requires plain { IsPlainAt self.old.ops point }
-        ensures { (block : ℕ) → Stands self.old point block → self.new ≡ without_point self.old block point }
+        ensures { self.new ≡ without_point self.old point }
     {
         let block = self.homes[point as usize];
         let points = &mut self.blocks[block as usize];
@@ -171,18 +192,18 @@ impl Graph {
     }
 
     /// The points of a block, in order.
-    pub fn points_in(&self, block: u32) -> &[u32]
+    pub fn points_in(&self, alloc: Global, block: u32) -> Result<Vec<u32>, NoMemory>
         requires { block < length self.now.blocks }
-        ensures { result.now ≡ points_of self.now block }
+        ensures { IfOk result (λ points. points.items ≡ points_of self.now block) }
     {
         let points = &self.blocks[block as usize];
-        points.as_slice()
+        points.list(alloc)
     }
 
     /// The point right after a point of a block, if that isn't the last.
     pub fn next(&self, point: u32) -> Option<u32>
         requires { IsPlaced self.now point }
-        ensures { (block : ℕ) → Stands self.now point block → result ≡ following point (points_of self.now block) }
+        ensures { result ≡ next_in self.now point }
     {
         let block = self.homes[point as usize];
         let points = &self.blocks[block as usize];
@@ -238,5 +259,19 @@ impl Graph {
         ensures { (homes : List ℕ) × IsFlow self.now homes }
     {
         let _ = &self.homes;
+    }
+
+    /// The same graph once more.
+    pub fn copy(&self, alloc: Global) -> Result<Graph, NoMemory>
+        ensures { IfOk result (λ copy. copy ≡ self.now) }
+    {
+        Ok(Graph {
+            alloc,
+            widths: self.widths.to_vec(alloc)?,
+            arrays: self.arrays.to_vec(alloc)?,
+            blocks: copy_blocks(alloc, self.blocks.as_slice())?,
+            ops: copy_ops(alloc, self.ops.as_slice())?,
+            homes: self.homes.to_vec(alloc)?,
+        })
     }
 }

@@ -2,11 +2,12 @@
 
 ghost use Rattle.std.specs.Prelude.{ℕ, ◌≡◌, []};
 ghost use Rattle.pcc_base.specs.Outcome.{Array, Scalar, Unknown};
-ghost use Rattle.flow_graph.specs.Liveness.{IsLiveBefore};
+ghost use Rattle.flow_graph.specs.Graphs.{NextInBlock, OneBlock};
+ghost use Rattle.flow_graph.specs.Liveness.{IsDistance, IsLiveBefore, LiveStep, LiveWithin};
 ghost use Rattle.flow_graph.specs.Meaning.{Stuck, step};
 ghost use Rattle.flow_graph.specs.Running.{GraphOutcome, NeverStuckWithOutcomes, OneOutcome, OneState, part_value};
 ghost use Rattle.flow_graph.specs.Worked.{low_byte_program, nothing_yet, variable_listed, written_and_ended};
-ghost use Rattle.flow_graph.specs.Worked.{before_reading, empty_object_program, holding_array, one_removed};
+ghost use Rattle.flow_graph.specs.Worked.{before_reading, empty_object_program, five_points, holding_array, one_removed};
 
 /// A program of graphs has one outcome over an input in so many turns.
 pub fn one_outcome()
@@ -23,13 +24,32 @@ pub fn never_stuck()
     ensures { NeverStuckWithOutcomes }
 {}
 
+/// A point of a graph stands in one block, which is the one that has it; the next point is the one behind it there.
+pub fn one_block()
+    ensures block { OneBlock }
+    ensures next { NextInBlock }
+{}
+
+/// What is live before a point is used there, or is not defined there and live after it.
+pub fn live_step()
+    ensures { LiveStep }
+{}
+
+/// Sets that contain the uses, and what each successor's set has and the point doesn't define, contain all that is
+/// live.
+pub fn live_within()
+    ensures { LiveWithin }
+{}
+
 /// The definitions say of small graphs (`specs/Worked.antt`) what a reader expects: their outcome before a turn and after
-/// it; nothing is live at a point that was removed; a static object without elements can't be read; and a scalar whose
-/// variable holds an array has no number to show.
+/// it; nothing is live at a point that was removed; a static object without elements can't be read; a scalar whose
+/// variable holds an array has no number to show; and from the point that defines a variable the next use of it is one
+/// step away.
 pub fn worked_example()
     ensures before { GraphOutcome low_byte_program variable_listed [] 0 nothing_yet }
     ensures after { GraphOutcome low_byte_program variable_listed [] 1 written_and_ended }
     ensures removed { (v : ℕ) → IsLiveBefore one_removed v 0 → ⊥ }
     ensures no_scalar { step empty_object_program before_reading ≡ Stuck }
     ensures unknown { part_value holding_array (Scalar 0) ≡ Array Unknown }
+    ensures distance { IsDistance five_points 0 2 1 }
 {}

@@ -18,7 +18,9 @@ mod op;
 mod words;
 
 pub use graph::Graph;
-pub use laws::{never_stuck, one_outcome, one_state, worked_example};
+pub use laws::{
+    live_step, live_within, never_stuck, one_block, one_outcome, one_state, worked_example,
+};
 pub use live_sets::LiveSets;
 pub use op::{Bits, Comparison, Op};
 pub use words::Words;

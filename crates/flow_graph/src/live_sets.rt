@@ -1,12 +1,12 @@
-ghost use Rattle.std.specs.Prelude.{◌≡◌, ◌<◌, ◌++◌, ◌∷◌, [], length, MatchResult, ⊤};
+ghost use Rattle.std.specs.Prelude.{◌≡◌, ◌<◌, ◌++◌, ◌∷◌, [], length, IfOk, MatchResult, ⊤};
 ghost use Rattle.flow_graph.specs.Graphs.{Every};
-ghost use Rattle.flow_graph.specs.Lives.{IsAscending, at_point, nothing_live, with_live};
+ghost use Rattle.flow_graph.specs.Lives.{IsAscending, IsLives, at_point, nothing_live, with_live};
 
 use pcc_base::NoMemory;
 use std::alloc::Global;
 use std::marker::Model;
 
-/// Variables in ascending order. A contract sees a list of numbers.
+/// The variables of one point. A contract sees a list of numbers.
 #[derive(Debug, Drop)]
 struct Variables {
     list: Vec<u32>,
@@ -14,13 +14,10 @@ struct Variables {
 
 impl Model for Variables {
     ghost use Rattle.std.specs.Prelude.{List, ℕ};
-    ghost use Rattle.flow_graph.specs.Lives.{IsAscending};
 
     ghost Value = { List ℕ };
 
     ghost view = { λ v. v.list.items };
-
-    ghost invariant = { λ v. IsAscending v.list.items };
 }
 
 impl Variables {
@@ -33,9 +30,8 @@ impl Variables {
         }
     }
 
-    // Puts a variable last that is greater than all.
+    // Puts a variable last.
     fn push(&mut self, var: u32) -> Result<(), NoMemory>
-        requires { Every (λ v. v < var) self.old }
         ensures { MatchResult result
             (λ _. self.new ≡ self.old ++ var ∷ [])
             (λ _. self.new ≡ self.old) }
@@ -46,11 +42,30 @@ impl Variables {
 
     // The variables.
     fn as_slice(&self) -> &[u32]
-        ensures value { result.now ≡ self.now }
-        ensures ascending { IsAscending result.now }
+        ensures { result.now ≡ self.now }
     {
         self.list.as_slice()
     }
+
+    // The same variables once more.
+    fn copy(&self, alloc: Global) -> Result<Variables, NoMemory>
+        ensures { IfOk result (λ copy. copy ≡ self.now) }
+    {
+        Ok(Variables {
+            list: self.list.to_vec(alloc)?,
+        })
+    }
+}
+
+/// The lists of all points once more.
+fn copy_lists(alloc: Global, lists: &[Variables]) -> Result<Vec<Variables>, NoMemory>
+    ensures { IfOk result (λ copies. copies.items ≡ lists.now) }
+{
+    let mut copies = Vec::new(alloc);
+    for list in lists {
+        copies.push(list.copy(alloc)?)?;
+    }
+    Ok(copies)
 }
 
 /// The variables that are live before and after each point. A contract sees `Lives`.
@@ -61,11 +76,13 @@ pub struct LiveSets {
 }
 
 impl Model for LiveSets {
-    ghost use Rattle.flow_graph.specs.Lives.{Lives};
+    ghost use Rattle.flow_graph.specs.Lives.{IsLives, Lives};
 
     ghost Value = { Lives };
 
     ghost view = { λ s. record { before = s.before.items; after = s.after.items } };
+
+    ghost invariant = { λ s. IsLives (record { before = s.before.items; after = s.after.items }) };
 }
 
 impl LiveSets {
@@ -124,5 +141,21 @@ impl LiveSets {
     {
         let list = &self.after[point as usize];
         list.as_slice()
+    }
+
+    /// What live sets always keep, as a fact for callers.
+    pub fn is_lives(&self)
+        ensures { IsLives self.now }
+    {
+        let _ = &self.before;
+    }
+
+    /// The same live sets once more.
+    pub fn copy(&self, alloc: Global) -> Result<LiveSets, NoMemory>
+        ensures { IfOk result (λ copy. copy ≡ self.now) }
+    {
+        let before = copy_lists(alloc, self.before.as_slice())?;
+        let after = copy_lists(alloc, self.after.as_slice())?;
+        Ok(LiveSets { before, after })
     }
 }

@@ -1,7 +1,9 @@
 //! The argument words of a call.
 
-ghost use Rattle.std.specs.Prelude.{◌≡◌};
+ghost use Rattle.std.specs.Prelude.{◌≡◌, IfOk, slice_get};
 
+use pcc_base::NoMemory;
+use std::alloc::Global;
 use std::marker::Model;
 
 /// The variables whose values a call passes, in order. A contract sees a list of numbers, so that two calls that pass the
@@ -32,5 +34,21 @@ impl Words {
         ensures { result.now ≡ self.now }
     {
         self.list.as_slice()
+    }
+
+    /// The variable at a place, if there are so many.
+    pub fn at(&self, place: usize) -> Option<u32>
+        ensures { result ≡ slice_get self.now place }
+    {
+        self.list.get(place).copied()
+    }
+
+    /// The same variables once more.
+    pub fn copy(&self, alloc: Global) -> Result<Words, NoMemory>
+        ensures { IfOk result (λ words. words ≡ self.now) }
+    {
+        Ok(Words {
+            list: self.list.to_vec(alloc)?,
+        })
     }
 }

@@ -18,7 +18,7 @@ use Rattle.flow_graph.specs.declared.op.Bits.{Bits}
 use Rattle.flow_graph.specs.declared.op.Comparison.TheVariants.{Eq}
 use Rattle.flow_graph.specs.declared.op.Op.{Op}
 use Rattle.flow_graph.specs.declared.op.Op.TheVariants as op
-use Rattle.flow_graph.specs.Graphs.{FitsOp, HasWidth, HasWord}
+use Rattle.flow_graph.specs.Graphs.{FitsOp, HasWidth, NumbersFit}
 use Rattle.flow_graph.specs.Meaning.{Moved, Halts, Stuck, accessed, act, bytes_of, checked, clears, comparison, divided}
 use Rattle.flow_graph.specs.Meaning.{given, gets, into_block, loads, low_byte, no_quotient, of_width, one_number}
 use Rattle.flow_graph.specs.Meaning.{onward, puts, sets}
@@ -251,7 +251,7 @@ same-kept program s false i = tt
 
 act-kept : (program : GraphProgram) (s : State) (o : Op) → IsGraphProgram program → IsState program s
     → op_at program s ≡ Some o → FitsOp (flow_at program s.current.function) o
-    → NamesWithin (length program.functions) (length program.objects) o → HasWord o → Kept program (act program s o)
+    → NamesWithin (length program.functions) (length program.objects) o → NumbersFit o → Kept program (act program s o)
 act-kept program s (op.Const d n) h i at met names word = const-kept program s d n met.0.0 i word met.0.1
 act-kept program s (op.Copy d a) h i at met names word =
     given-kept program (value_at s a) _

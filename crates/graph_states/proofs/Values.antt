@@ -10,7 +10,7 @@ use Rattle.pcc_base.specs.Outcome.{Null, Static, InFrame, Unknown, Value, Number
 use Rattle.pcc_base.specs.declared.run.Width.{Width}
 use Rattle.pcc_base.specs.declared.run.Width.TheVariants.{One, Two}
 use Rattle.flow_graph.specs.declared.op.Op.{Op}
-use Rattle.flow_graph.specs.Graphs.{Every, FitsOp, HasWord, empty_flow, HasFittingOp, HasWidth, IsIn, IsMet, Stands}
+use Rattle.flow_graph.specs.Graphs.{Every, FitsOp, NumbersFit, empty_flow, HasFittingOp, HasWidth, IsIn, IsMet, Stands}
 use Rattle.flow_graph.specs.Graphs.{points_of}
 use Rattle.flow_graph.specs.Graphs.{two}
 use Rattle.flow_graph.specs.Meaning.{one_more, values_at}
@@ -36,7 +36,7 @@ pub record IsOpAt (program : GraphProgram) (f point : ℕ) : Type 0 where
   pub there : op_of program f point ≡ Some op
   pub fits : FitsOp (flow_at program f) op
   pub names : NamesWithin (length program.functions) (length program.objects) op
-  pub word : HasWord op
+  pub word : NumbersFit op
 
 pub op-at : (program : GraphProgram) (f point block : ℕ) → IsGraphProgram program → f < length program.functions
     → Stands (flow_at program f) point block → IsOpAt program f point
@@ -50,7 +50,7 @@ op-at program f point block h lt stands =
       there = m.1;
       fits = m.2;
       names = all-at (NamesWithin (length program.functions) (length program.objects)) flow.ops point m.0 g.names m.1;
-      word = every-at HasWord flow.ops point m.0 g.keeps.1.words m.1;
+      word = every-at NumbersFit flow.ops point m.0 g.keeps.1.numbers m.1;
     }
 
 -- ---- variables

@@ -1,6 +1,6 @@
 //! A small graph, built, read back and changed: the order of its points is that of the calls, by hand.
 
-use flow_graph::{Graph, LiveSets, Op};
+use flow_graph::{Graph, LiveSets, Op, Words};
 use pcc_base::Width;
 use std::test::Fail;
 
@@ -13,7 +13,8 @@ fn two_points(rt: HostRuntime) -> Result<(), Fail> {
     let end = graph.append(0, Op::Return(Some(number)))?;
     assert_eq!(rt; graph.first(0), Some(start));
     assert_eq!(rt; graph.next(start), Some(end));
-    assert_eq!(rt; graph.points_in(0), [start, end].as_slice());
+    let points = graph.points_in(rt.alloc(), 0)?;
+    assert_eq!(rt; points.as_slice(), [start, end].as_slice());
     Ok(())
 }
 
@@ -38,7 +39,22 @@ fn point_removed(rt: HostRuntime) -> Result<(), Fail> {
     Ok(())
 }
 
-/// What is live at two points.
+/// A graph with a call, copied: the call passes the same word.
+#[test]
+fn copied_graph(rt: HostRuntime) -> Result<(), Fail> {
+    let mut graph = Graph::new(rt.alloc())?;
+    let argument = graph.add_var(Width::Two)?;
+    let words = Words::new([argument].to_vec(rt.alloc())?);
+    let call = graph.append(0, Op::Call(None, 3, words))?;
+    let copy = graph.copy(rt.alloc())?;
+    assert_eq!(rt; copy.first(0), Some(call));
+    assert_eq!(rt; copy.op(call).use_at(0), Some(argument));
+    assert_eq!(rt; copy.op(call).use_at(1), None);
+    assert_eq!(rt; copy.op(call).defined(), None);
+    Ok(())
+}
+
+/// What is live at two points, and the same of a copy.
 #[test]
 fn live_at_two_points(rt: HostRuntime) -> Result<(), Fail> {
     let mut sets = LiveSets::new(rt.alloc(), 2)?;
@@ -48,5 +64,7 @@ fn live_at_two_points(rt: HostRuntime) -> Result<(), Fail> {
     assert_eq!(rt; *sets.before(1), *[3, 5].as_slice());
     assert_eq!(rt; *sets.after(0), *[4].as_slice());
     assert_eq!(rt; sets.before(0).len(), 0);
+    let copy = sets.copy(rt.alloc())?;
+    assert_eq!(rt; *copy.before(1), *[3, 5].as_slice());
     Ok(())
 }

@@ -20,7 +20,7 @@ const INT: ValueType = ValueType::Integer(IntegerType::Int);
 /// The ops of the one block of a graph, in order and in their Debug form, are these.
 fn expect_ops(rt: &impl Abort, alloc: Global, graph: &Graph, ops: &[&str]) -> Result<(), Fail> {
     assert_eq!(rt; graph.blocks(), 1);
-    let points = graph.points_in(0);
+    let points = graph.points_in(alloc, 0)?;
     assert_eq!(rt; points.len(), ops.len());
     for place in 0..points.len() {
         let shown = format!(in alloc; "{:?}", graph.op(points[place]))?;

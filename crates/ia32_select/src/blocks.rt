@@ -10,6 +10,7 @@ use crate::ops::emit_op;
 use flow_graph::Graph;
 use ia32_insn::Item;
 use pcc_base::NoMemory;
+use std::alloc::Global;
 
 /// A point, and the items of its op.
 fn emit_point(
@@ -30,6 +31,7 @@ fn emit_point(
 
 /// The label of a block, and its points.
 fn emit_block(
+    alloc: Global,
     items: &mut Vec<Item>,
     graph: &Graph,
     offsets: &[i32],
@@ -41,20 +43,26 @@ fn emit_block(
         ++ item.Label block ∷ point_rows graph.now.ops (slots_of offsets.now) (points_of graph.now block)) }
 {
     items.push(Item::Label(block))?;
-    for point in graph.points_in(block) {
+    let points = graph.points_in(alloc, block)?;
+    for point in points.as_slice() {
         emit_point(items, graph, offsets, *point)?;
     }
     Ok(())
 }
 
 /// All blocks, in order.
-pub fn emit_blocks(items: &mut Vec<Item>, graph: &Graph, offsets: &[i32]) -> Result<(), NoMemory>
+pub fn emit_blocks(
+    alloc: Global,
+    items: &mut Vec<Item>,
+    graph: &Graph,
+    offsets: &[i32],
+) -> Result<(), NoMemory>
     requires { HasSlots graph.now (slots_of offsets.now) }
     ensures { OnOk result (items.new.items
         ≡ items.old.items ++ block_rows graph.now.ops (slots_of offsets.now) 0 graph.now.blocks) }
 {
     for block in 0..graph.blocks() {
-        emit_block(items, graph, offsets, block)?;
+        emit_block(alloc, items, graph, offsets, block)?;
     }
     Ok(())
 }

@@ -53,7 +53,7 @@ fn select_items(alloc: Global, graph: &Graph, offsets: &[i32]) -> Result<Vec<Ite
     let frame = -16 - 4 * graph.vars() as i32;
     let mut items = Vec::new(alloc);
     emit_prologue(&mut items, frame, offsets)?;
-    emit_blocks(&mut items, graph, offsets)?;
+    emit_blocks(alloc, &mut items, graph, offsets)?;
     Ok(items)
 }
 

@@ -18,4 +18,4 @@ invariant_of-self-2 c =
     (subst (λ (f : Flow). length f.ops < 4294967295) (sym c.self.view_is) c.requires.room)
     (subst (λ (f : Flow). IsEnded f c.args.block → ⊥) (sym c.self.view_is) c.requires.not_ended)
     (subst (λ (f : Flow). FitsOp f c.args.op) (sym c.self.view_is) c.requires.fits)
-    c.has_word.ensures)
+    c.numbers_fit.ensures)

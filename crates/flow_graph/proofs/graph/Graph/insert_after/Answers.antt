@@ -1,6 +1,7 @@
 use Rattle.std.proofs.Common.{◌<◌, ◌≡◌, length, rules, sym, subst, ◌∙◌, [], ◌∷◌, ◌++◌, get_or, refl}
 use Rattle.std.proofs.lemmas.List.{get_or_default}
-use Rattle.flow_graph.specs.Graphs.{Flow, FitsOp, IsPlainAt, Stands, insert_after}
+use Rattle.flow_graph.specs.Graphs.{Flow, FitsOp, IsPlainAt, Stands, block_of, insert_after}
+use Rattle.flow_graph.proofs.Blocks.{block-has}
 use Rattle.flow_graph.proofs.Keeps.{home-block, home-is, flow-insert}
 use Rattle.flow_graph.proofs.graph.Graph.insert_after.Goals as goal
 
@@ -27,7 +28,7 @@ invariant_of-self-2 c =
     (subst (λ (f : Flow). IsPlainAt f.ops c.args.point) (sym c.self.view_is) c.requires.plain)
     c.requires.no_end
     (subst (λ (f : Flow). FitsOp f c.args.op) (sym c.self.view_is) c.requires.fits)
-    c.has_word.ensures)
+    c.numbers_fit.ensures)
 
 pub returns : goal.returns
 returns c =
@@ -38,10 +39,6 @@ returns c =
     let count : c.len-new.result ≡ length c.self.inside.ops.items = search rules in
     let put : c.insert_after.new.self ≡ insert_after c.args.point c.len-new.result c.index_mut-points.result.now = c.in_ok-insert_after.ensures in
     let points_are : c.insert_after.new.self ≡ insert_after c.args.point (length c.self.inside.ops.items) (get_or c.self.inside.blocks.items c.index-block.result.now []) = put ∙ rw (element, count) refl in
-    rw (← c.self.view_is) (
-      count,
-      λ block s.
-          (let stands : Stands c.args.self.now c.args.point block = subst (λ (f : Flow). Stands f c.args.point block) c.self.view_is s in
-          let same : c.index-block.result.now ≡ block = home-is _ c.args.self.now _ c.args.point block _ c.self.view_is c.self.invariant stands read in
-          rw (← same) (rw (ops_are, points_are) refl)),
-    )
+    let stands : Stands c.args.self.now c.args.point (block_of c.args.self.now c.args.point) = block-has c.args.self.now c.args.point c.requires.placed in
+    let same : c.index-block.result.now ≡ block_of c.args.self.now c.args.point = home-is _ c.args.self.now _ c.args.point _ _ c.self.view_is c.self.invariant stands read in
+    rw (← same) (rw (← c.self.view_is) (count, rw (ops_are, points_are) refl))

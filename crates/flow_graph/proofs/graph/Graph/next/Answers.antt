@@ -1,6 +1,7 @@
 use Rattle.std.proofs.Common.{◌<◌, ◌≡◌, length, rules, ap, ◌∙◌, []}
 use Rattle.std.proofs.lemmas.List.{get_or_default}
-use Rattle.flow_graph.specs.Graphs.{following}
+use Rattle.flow_graph.specs.Graphs.{Stands, block_of, following}
+use Rattle.flow_graph.proofs.Blocks.{block-has}
 use Rattle.flow_graph.proofs.Keeps.{home-within, home-block, home-is}
 use Rattle.flow_graph.proofs.graph.Graph.next.Goals as goal
 
@@ -15,8 +16,9 @@ index-points-requires c =
     search rules
 
 pub returns : goal.returns
-returns c = λ block s.
-    let same : c.index-block.result.now ≡ block = home-is _ c.args.self.now _ c.args.point block _ c.self.view_is c.self.invariant s c.index-block.ensures in
+returns c =
+    let stands : Stands c.args.self.now c.args.point (block_of c.args.self.now c.args.point) = block-has c.args.self.now c.args.point c.requires in
+    let same : c.index-block.result.now ≡ block_of c.args.self.now c.args.point = home-is _ c.args.self.now _ c.args.point _ _ c.self.view_is c.self.invariant stands c.index-block.ensures in
     let h : c.index-block.result.now < length c.self.inside.blocks.items = home-block _ c.args.self.now _ c.args.point _ c.self.view_is c.self.invariant c.requires c.index-block.ensures in
     rw (← same) (rw (← c.self.view_is) (c.next.ensures
     ∙ ap (following c.args.point) (c.index-points.ensures
