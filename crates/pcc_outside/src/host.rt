@@ -362,7 +362,7 @@ mod tests {
         assert_eq!(rt; files.write(name, b"longer than what comes next"), Ok(()));
         for bytes in [b"".as_slice(), b"text".as_slice(), long.as_slice()] {
             assert_eq!(rt; files.write(name, bytes), Ok(()));
-            for most in [bytes.len(), bytes.len() + 70000] {
+            for most in [bytes.len(), 100_000] {
                 let read = files.read(alloc, name, most).expect(&rt, "the whole file");
                 assert_eq!(rt; read.as_slice(), bytes);
             }
