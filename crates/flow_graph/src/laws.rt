@@ -41,8 +41,8 @@ pub fn live_within()
     ensures { LiveWithin }
 {}
 
-/// The definitions say of small graphs (`specs/Worked.antt`) what a reader expects: their outcome before a turn and after
-/// it; nothing is live at a point that was removed; a static object without elements can't be read; a scalar whose
+/// The definitions say of small graphs (`specs/Worked.antt`) what a reader expects: their outcome before a turn and
+/// after it; nothing is live at a point that was removed; a static object without elements can't be read; a scalar whose
 /// variable holds an array has no number to show; and from the point that defines a variable the next use of it is one
 /// step away.
 pub fn worked_example()

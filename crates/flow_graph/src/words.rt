@@ -6,8 +6,8 @@ use pcc_base::NoMemory;
 use std::alloc::Global;
 use std::marker::Model;
 
-/// The variables whose values a call passes, in order. A contract sees a list of numbers, so that two calls that pass the
-/// same words are the same op.
+/// The variables whose values a call passes, in order. A contract sees a list of numbers, so that two calls that pass
+/// the same words are the same op.
 #[derive(Debug, Drop)]
 pub struct Words {
     list: Vec<u32>,
