@@ -372,15 +372,21 @@ apart flow slots code p b q c h one two e =
     let same : (places_of code).points p ≡ (places_of code).points q = sym (address-of flow slots code p l) ∙ e ∙ address-of flow slots code q l in
     one-address code.symbols (places_of code) l.address (selected flow slots) l.stands.bytes i.0 j.0 p q (selected-items flow slots) (selected-room flow slots h.homes h.is_flow h.has_slots) l.stands.stand i.1 j.1 same
 
+-- a point and the items up to a call, with the call at the end of them or at the head of what follows
+call-grouped : (front middle one back : List Item) (p : Item) → (front ++ p ∷ middle ++ one) ++ back ≡ (front ++ p ∷ middle) ++ (one ++ back)
+call-grouped front middle one back p = simp append_assoc refl
+
 -- no call waits: none of the items calls a function
-pub no-calls : (flow : Flow) (slots : List ℕ) (code : Code) (w : Waiting) (r : ℕ) → IsSlotCode flow slots (selected flow slots) code → ReturnsTo code w r → ⊥
-no-calls flow slots code w r h (items, places, address, has, placed, named, returns) =
+pub no-calls : (flow : Flow) (slots : List ℕ) (code : Code) (w : Waiting) (f r : ℕ)
+    → IsSlotCode flow slots (selected flow slots) code → ReturnsTo code w f r → ⊥
+no-calls flow slots code w f r h (items, places, address, has, placed, named, returns) =
     let front : List Item = returns.0 in
     let middle : List Item = returns.1 in
     let back : List Item = returns.2 in
-    let f : ℕ = returns.3 in
-    let is : items ≡ front ++ item.Point w.point ∷ middle ++ item.CallFunction f ∷ back = returns.6 in
+    let is : items ≡ (front ++ item.Point w.point ∷ middle ++ item.CallFunction f ∷ []) ++ back = returns.5 in
     let of-one : slice_get (selected flow slots ∷ []) w.activation.function ≡ Some items = subst (λ (fs : List (List Item)). slice_get fs w.activation.function ≡ Some items) h.items_are has in
     let mine : Every IsRowItem items = every-get (Every IsRowItem) (selected flow slots ∷ []) w.activation.function items (selected-items flow slots, tt) of-one in
-    let split : Every IsRowItem (front ++ item.Point w.point ∷ middle ++ item.CallFunction f ∷ back) = subst (Every IsRowItem) is mine in
-    (every-back IsRowItem (front ++ item.Point w.point ∷ middle) (item.CallFunction f ∷ back) split).0
+    let one : List Item = item.CallFunction f ∷ [] in
+    let e = call-grouped front middle one back (item.Point w.point) in
+    let split : Every IsRowItem ((front ++ item.Point w.point ∷ middle) ++ (one ++ back)) = subst (Every IsRowItem) (is ∙ e) mine in
+    (every-back IsRowItem (front ++ item.Point w.point ∷ middle) (one ++ back) split).0

@@ -1,7 +1,6 @@
 -- The items of a graph whose variables stand in slots of its frame: for each op the operands are read into ESI and
 -- EDI, the core works on them, and the result is written to its slot.
-use Rattle.std.specs.Prelude.{◌≡◌, ◌≢◌, ◌<◌, ◌≤◌, ◌⊎◌, ◌+◌, ◌*◌, ⊤, ℕ, suc, ℤ, pos, List, [], ◌∷◌, ◌++◌, length, map, flat_map, slice_get, slice_index_or, Option, Some, None}
-use Rattle.pcc_base.specs.declared.run.Width.{Width}
+use Rattle.std.specs.Prelude.{◌≡◌, ◌<◌, ◌≤◌, ◌⊎◌, ◌+◌, ◌*◌, ⊤, ℕ, suc, pos, List, [], ◌∷◌, ◌++◌, length, slice_index_or, Some}
 use Rattle.pcc_base.specs.declared.run.Width.TheVariants.{Two}
 use Rattle.ia32_regs.specs.declared.names.Reg32.TheVariants.{Eax, Ebx, Esp, Ebp, Esi, Edi}
 use Rattle.ia32_insn.specs.declared.operand.Mem.{Mem}
@@ -15,7 +14,7 @@ use Rattle.ia32_insn.specs.declared.item.Stub.TheVariants as stub
 use Rattle.ia32_insn.specs.Items.{plain}
 use Rattle.flow_graph.specs.declared.op.Op.{Op}
 use Rattle.flow_graph.specs.declared.op.Op.TheVariants as op
-use Rattle.flow_graph.specs.Graphs.{Flow, Every, IsIn, IsEnded, IsFlow, points_of}
+use Rattle.flow_graph.specs.Graphs.{Flow, Every, IsEnded}
 use Rattle.ia32_shows.specs.Placements.{below}
 
 -- ---- the graphs that have code so far

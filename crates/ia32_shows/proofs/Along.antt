@@ -16,7 +16,7 @@ use Rattle.ia32_insn.proofs.Runs.{runs_after, runs_halts}
 use Rattle.flow_graph.specs.declared.op.Op.{Op}
 use Rattle.flow_graph.specs.declared.op.Op.TheVariants as op
 use Rattle.flow_graph.specs.Meaning.{Moved, Moves, Halts, Stuck, act, at_point, given, step}
-use Rattle.flow_graph.specs.Running.{GraphAt, first_state, from_state, outcome_at, outcome_from, run_within, state_after, takes_turn, visits_at, with_turn}
+use Rattle.flow_graph.specs.Running.{GraphAt, from_state, outcome_at, outcome_from, run_within, state_after, takes_turn, visits_at, with_turn}
 use Rattle.flow_graph.specs.States as graph
 use Rattle.flow_graph.specs.States.{op_at, point_after}
 use Rattle.ia32_shows.specs.Paths.{Path, Comes, IsClear}

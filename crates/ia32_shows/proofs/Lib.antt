@@ -4,3 +4,4 @@ pub mod Frames
 pub mod Sound
 pub mod Spelled
 pub mod Steps
+pub mod Worked

@@ -1,6 +1,6 @@
 -- What it means that code does what its program of graphs does: from every state of the machine that shows a state of
 -- the program the machine comes to one that shows the next, or has its end; so a whole run has the program's outcome.
-use Rattle.std.specs.Prelude.{◌≡◌, ◌≤◌, ⊤, ℕ, Bool, true, false, List, [], ◌∷◌, Option, Some}
+use Rattle.std.specs.Prelude.{◌≡◌, ◌≤◌, ⊤, ℕ, Bool, true, false, List, [], Option, Some, None}
 use Rattle.pcc_base.specs.Bytes.{AreBytes}
 use Rattle.pcc_base.specs.Outcome.{AreKnown, End, Visit, Listing, Outcome}
 use Rattle.ia32_insn.specs.State as machine
@@ -36,9 +36,43 @@ ComesToEnd code s g end =
 
 -- a mark and a turn are a NOP of their own
 abbrev pub is_nop : Option Op → Bool
-is_nop (Some (op.Mark statement)) = true
+is_nop None = false
+is_nop (Some (op.Const d n)) = false
+is_nop (Some (op.Copy d s)) = false
+is_nop (Some (op.Wide d s)) = false
+is_nop (Some (op.Low d s)) = false
+is_nop (Some (op.Low16 d s)) = false
+is_nop (Some (op.Neg d a)) = false
+is_nop (Some (op.Not d a)) = false
+is_nop (Some (op.Add d a b)) = false
+is_nop (Some (op.Sub d a b)) = false
+is_nop (Some (op.Mul d a b)) = false
+is_nop (Some (op.And d a b)) = false
+is_nop (Some (op.Or d a b)) = false
+is_nop (Some (op.Xor d a b)) = false
+is_nop (Some (op.Shl d a c)) = false
+is_nop (Some (op.Sar d a c)) = false
+is_nop (Some (op.Div d a b)) = false
+is_nop (Some (op.Rem d a b)) = false
+is_nop (Some (op.Set how d a b)) = false
+is_nop (Some (op.Frame d k)) = false
+is_nop (Some (op.Static d k)) = false
+is_nop (Some (op.Load bits d p i)) = false
+is_nop (Some (op.Store bits p i s)) = false
+is_nop (Some (op.Get bits d k)) = false
+is_nop (Some (op.Put bits k s)) = false
+is_nop (Some (op.Clear k)) = false
+is_nop (Some (op.Param d k)) = false
+is_nop (Some (op.Call d f arguments)) = false
+is_nop (Some (op.Putchar d s)) = false
+is_nop (Some (op.Getchar d)) = false
+is_nop (Some (op.Exit s)) = false
+is_nop (Some (op.Same a b)) = false
+is_nop (Some (op.Mark s)) = true
 is_nop (Some op.Turn) = true
-is_nop _ = false
+is_nop (Some (op.Jump x)) = false
+is_nop (Some (op.Branch how a b x y)) = false
+is_nop (Some (op.Return a)) = false
 
 -- The machine follows a step of the program: by one step at a NOP and then by steps at none, or else by steps of which
 -- none is at one.

@@ -2,3 +2,4 @@ pub mod Follows
 pub mod Paths
 pub mod Placements
 pub mod Shows
+pub mod Worked

@@ -11,9 +11,9 @@ use Rattle.flow_graph.specs.declared.op.Op.TheVariants as op
 use Rattle.flow_graph.specs.Graphs.{points_of, following, FitsOp, HasFittingOp}
 use Rattle.flow_graph.specs.Meaning.{given, act, step}
 use Rattle.flow_graph.specs.States as graph
-use Rattle.flow_graph.specs.States.{Waiting, op_of, op_at}
+use Rattle.flow_graph.specs.States.{Activation, Waiting, active_of, op_of, op_at}
 use Rattle.flow_graph.proofs.Points.{every-in}
-use Rattle.ia32_shows.specs.Shows.{Shows, FramesFrom}
+use Rattle.ia32_shows.specs.Shows.{Shows, WaitFrom}
 use Rattle.ia32_calls.specs.Laws.{PutcharRow, ReturnGoes, EndingHalts}
 use Rattle.ia32_rows.specs.Rows.{IsSlotOp}
 use Rattle.ia32_shows.specs.Follows.{Follows, is_nop}
@@ -64,10 +64,14 @@ main-follows laws x input g s h at words =
 -- ---- every state that is shown
 
 -- no call waits
-none-waits : (x : Setup) (s : machine.State) (frame : ℕ) (waiting : List Waiting) (older : List ℕ) → IsSetup x → FramesFrom (code_in x) s frame waiting older → waiting ≡ []
-none-waits x s frame [] older h chain = refl
-none-waits x s frame (w ∷ waiting) [] h chain = absurd chain
-none-waits x s frame (w ∷ waiting) (k ∷ older) h (there, is, r, loaded, returns, more) = absurd (no-calls x.flow x.slots (code_in x) w r h.is_code returns)
+none-waits : (x : Setup) (active : List Activation) (frames : List ℕ) (s : machine.State) (a : Activation) (frame : ℕ)
+    (waiting : List Waiting) (older : List ℕ) → IsSetup x
+    → WaitFrom (code_in x) active frames s a frame waiting older → waiting ≡ []
+none-waits x active frames s a frame [] older h chain = refl
+none-waits x active frames s a frame (w ∷ waiting) [] h chain = absurd chain
+none-waits x active frames s a frame (w ∷ waiting) (k ∷ older) h chain =
+    let one = chain.0 in
+    absurd (no-calls x.flow x.slots (code_in x) w a.function one.return_address h.is_code one.returns_to)
 
 -- so the state is one of main
 state-is : (g : graph.State) → g.current.function ≡ 0 → g.waiting ≡ [] → g ≡ main_state g
@@ -86,7 +90,7 @@ function-follows : Laws → (x : Setup) (input : List ℕ) (g : graph.State) (s 
     → Follows (code_in x) input s g (is_nop (op_at (one_graph x.flow) g)) (step (one_graph x.flow) g)
 function-follows laws x input g s (suc f) h shown words e = other-follows x input g s f e
 function-follows laws x input g s zero h shown words e =
-    let is : g ≡ main_state g = state-is g e (none-waits x s (word_of Ebp s) g.waiting shown.older h shown.chain) in
+    let is : g ≡ main_state g = state-is g e (none-waits x (active_of g) shown.frames s g.current (word_of Ebp s) g.waiting shown.older h shown.chain) in
     let P : graph.State → Type 0 = λ (k : graph.State). Follows (code_in x) input s k (is_nop (op_at (one_graph x.flow) k)) (step (one_graph x.flow) k) in
     let at : AtMain x input g s = shown-main x input g s h (subst (λ (k : graph.State). Shows (code_in x) input k s) is shown) in
     subst P (sym is) (main-follows laws x input g s h at (words g s))

@@ -1,6 +1,6 @@
 -- What a state of the machine shows of a state of a program of one graph over slots, in short.
-use Rattle.std.proofs.Common.{◌≡◌, ℕ, zero, suc, ◌+◌, ◌-◌, ◌*◌, ◌≤◌, List, [], ◌∷◌, length, Option, Some, None, Ok, refl, sym, ap, subst, ◌∙◌, arith}
-use Rattle.std.specs.Prelude.{drop, slice_get, option_map, FitsSigned}
+use Rattle.std.proofs.Common.{◌≡◌, ℕ, zero, suc, ◌+◌, ◌-◌, ◌≤◌, List, [], ◌∷◌, length, Option, Some, None, Ok, refl, sym, ap, subst, ◌∙◌, arith}
+use Rattle.std.specs.Prelude.{ℤ, drop, slice_get, option_map, FitsSigned}
 use Rattle.std.specs.Int.{w32, cast_unsigned}
 use Rattle.std.proofs.lemmas.Option.{same_Some}
 use Rattle.pcc_base.specs.Outcome.{Null, Static, InFrame, Unknown, Value, Number, Array}
@@ -12,10 +12,11 @@ use Rattle.ia32_insn.specs.Meaning.{load, word_of}
 use Rattle.ia32_insn.specs.Items.{data_start, stack_end}
 use Rattle.flow_graph.specs.Graphs.{Stands, Every}
 use Rattle.flow_graph.specs.States as graph
-use Rattle.flow_graph.specs.States.{Activation}
+use Rattle.flow_graph.specs.States.{Activation, active_of}
 use Rattle.ia32_shows.specs.Placements.{placement_of}
 use Rattle.ia32_places.specs.Places.{Place, InSlot}
-use Rattle.ia32_shows.specs.Shows.{Shows, IsWord, InSlotOf, StandsIn, HoldsOldArrays, FramesFrom, StartReturns, active_of}
+use Rattle.ia32_shows.specs.Shows.{Shows, IsWord, InSlotOf, StandsIn, HoldsOldArrays, ObjectsStand, FrameArraysStand}
+use Rattle.ia32_shows.specs.Shows.{WaitFrom, StartReturns}
 use Rattle.ia32_shows.proofs.Sound.{IsSound, load-place}
 use Rattle.ia32_shows.proofs.Frames.{Framed}
 use Rattle.ia32_rows.specs.Rows.{frame_of}
@@ -32,13 +33,9 @@ IsPlainWord (Array a) word = ⊥
 abbrev pub Holds : machine.State → ℕ → Value → Type 0
 Holds s address value = (word : ℕ) × (load 4 address s ≡ Ok word) × IsPlainWord value word
 
--- what is shown of variables, of which each has a slot, and of arguments
+-- what is shown of variables, of which each has a slot
 abbrev pub AllHeld : Setup → machine.State → ℕ → List Value → Type 0
 AllHeld x s frame variables = (v : ℕ) (value : Value) (slot : ℕ) → slice_get variables v ≡ Some value → slice_get x.slots v ≡ Some slot → Holds s (frame - slot) value
-
--- each argument stands above the frame
-abbrev pub AllPassed : machine.State → ℕ → List Value → Type 0
-AllPassed s frame arguments = (k : ℕ) (value : Value) → slice_get arguments k ≡ Some value → Holds s (frame + 8 + 4 * k) value
 
 -- The state of the machine shows one of main: its frame, its return address behind the start, and its variables.
 pub record AtMain (x : Setup) (input : List ℕ) (g : graph.State) (s : machine.State) : Type 0 where
@@ -51,7 +48,9 @@ pub record AtMain (x : Setup) (input : List ℕ) (g : graph.State) (s : machine.
   pub returns : load 4 (word_of Ebp s + 4) s ≡ Ok return_address
   pub returns_to : StartReturns (code_in x) return_address
   pub variables : AllHeld x s (word_of Ebp s) g.current.variables
-  pub arguments : AllPassed s (word_of Ebp s) g.current.arguments
+  pub no_arguments : g.current.arguments ≡ []
+  pub no_arrays : g.current.arrays ≡ []
+  pub no_objects : g.objects ≡ []
   pub old_arrays : HoldsOldArrays 1 g.current
   pub left : s.left ≡ g.left
   pub taken : s.taken ≡ g.taken
@@ -78,8 +77,8 @@ no-arrays x (suc f) = refl
 plain-word : (x : Setup) (a : Activation) (frames : List ℕ) (value : Value) (word : ℕ) → IsSetup x → IsWord (code_in x) (a ∷ []) frames value word → IsPlainWord value word
 plain-word x a frames (Number n) word h k = k
 plain-word x a frames (Array Null) word h k = k
-plain-word x a frames (Array (Static n)) word h k = absurd (none-some word (sym (ap (λ (l : List ℕ). slice_get l n) h.no_objects) ∙ k))
-plain-word x a frames (Array (InFrame n depth)) word h (b, frame, distance, at, there, array, is) = absurd (none-some distance (sym (ap (λ (l : List ℕ). slice_get l n) (no-arrays x b.function)) ∙ array))
+plain-word x a frames (Array (Static n)) word h k = absurd (none-some word (sym (ap (λ (l : List ℕ). slice_get l n) h.no_objects) ∙ k.1))
+plain-word x a frames (Array (InFrame n depth)) word h k = absurd (none-some k.below (sym (ap (λ (l : List ℕ). slice_get l n) (no-arrays x k.activation.function)) ∙ k.placed))
 plain-word x a frames (Array Unknown) word h k = absurd k
 
 -- and such a word is one of the value
@@ -108,9 +107,24 @@ slot-placed (Some slot) place e = (slot, refl, same_Some (InSlot slot) place e)
 -- ---- from the one to the other
 
 -- main is the oldest call
-no-older : (x : Setup) (s : machine.State) (frame : ℕ) (older : List ℕ) → FramesFrom (code_in x) s frame [] older → (r : ℕ) × (load 4 (frame + 4) s ≡ Ok r) × StartReturns (code_in x) r
-no-older x s frame [] h = h
-no-older x s frame (k ∷ ks) h = absurd h
+no-older : (x : Setup) (active : List Activation) (frames : List ℕ) (s : machine.State) (a : Activation) (frame : ℕ)
+    (older : List ℕ) → WaitFrom (code_in x) active frames s a frame [] older
+    → (a.arguments ≡ []) × (r : ℕ) × (load 4 (frame + 4) s ≡ Ok r) × StartReturns (code_in x) r
+no-older x active frames s a frame [] (main, none, r, loaded, returns) = (none, r, loaded, returns)
+no-older x active frames s a frame (k ∷ ks) h = absurd h
+
+-- a program without objects has none at any time
+no-objects : (x : Setup) (s : machine.State) (objects : List (List ℤ)) → ObjectsStand (code_in x) s objects → objects ≡ []
+no-objects x s [] h = refl
+no-objects x s (elements ∷ more) h = let one = h 0 elements refl in absurd (none-some one.0 one.2)
+
+-- and a function without arrays has none
+arrays-none : (x : Setup) (s : machine.State) (frame : ℕ) (a : Activation) (arrays : List (List ℤ)) → a.arrays ≡ arrays
+    → FrameArraysStand (code_in x) s frame a → arrays ≡ []
+arrays-none x s frame a [] is h = refl
+arrays-none x s frame a (elements ∷ more) is h =
+    let one = h 0 elements (ap (λ (l : List (List ℤ)). slice_get l 0) is) in
+    absurd (none-some one.1 (sym (ap (λ (l : List ℕ). slice_get l 0) (no-arrays x a.function)) ∙ one.4))
 
 -- what is shown of a state of main, in short
 pub shown-main : (x : Setup) (input : List ℕ) (g : graph.State) (s : machine.State) → IsSetup x → Shows (code_in x) input (main_state g) s → AtMain x input g s
@@ -123,26 +137,30 @@ shown-main x input g s h shown =
     let esp = shown.esp in
     let room = shown.room in
     let sound : IsSound x.text (data_start x.text) (stack_end x.text []) s = record { bytes = areas.0; memory = areas.1; size = areas.2; above = above; below = b.below; registers = shown.registers } in
-    let back = no-older x s (word_of Ebp s) shown.older shown.chain in
-    let top : word_of Ebp s + 4 + 4 ≤ stack_end x.text [] = load-place x.text (data_start x.text) (stack_end x.text []) 4 (word_of Ebp s + 4) back.0 s sound (omega arith) back.1 (omega arith) in
     let frames : shown.frames ≡ word_of Ebp s ∷ shown.older = shown.youngest in
+    let chain = no-older x (active_of (main_state g)) shown.frames s (main_state g).current (word_of Ebp s) shown.older shown.chain in
+    let (no_arguments, return_address, loaded, returns_to) = chain in
+    let few : length g.current.arguments ≡ 0 = ap length no_arguments in
+    let top : word_of Ebp s + 4 + 4 ≤ stack_end x.text [] = load-place x.text (data_start x.text) (stack_end x.text []) 4 (word_of Ebp s + 4) return_address s sound (omega arith) loaded (omega arith) in
+    let frame : slice_get shown.frames 0 ≡ Some (word_of Ebp s) = ap (λ (l : List ℕ). slice_get l 0) frames in
+    let stand = shown.frame_arrays 0 (main_state g).current (word_of Ebp s) refl frame in
     record {
       framed = record { sound = sound; esp = esp; room = omega arith; top = omega arith };
       ebp = omega arith;
       placed = shown.placed;
       eip = shown.eip;
       depth = shown.depth;
-      return_address = back.0;
-      returns = back.1;
-      returns_to = back.2;
+      return_address = return_address;
+      returns = loaded;
+      returns_to = returns_to;
       variables = λ v value slot e f.
           let width = width-two x.flow.widths x.slots v slot h.has_slots.widths h.has_slots.as_many f in
           let In : Option Width → Type 0 = λ (w : Option Width). InSlotOf (code_in x) (active_of (main_state g)) shown.frames s (word_of Ebp s - slot) w value in
           let held : In (Some Two) = subst In width (shown.variables v value (InSlot slot) e (ap (λ (o : Option ℕ). option_map InSlot o) f)) in
           (held.0, held.1, plain-word x (main_state g).current shown.frames value held.0 h held.2);
-      arguments = λ k value e.
-          let held = shown.arguments 0 (main_state g).current (word_of Ebp s) refl (ap (λ (l : List ℕ). slice_get l 0) frames) k value e in
-          (held.0, held.1, plain-word x (main_state g).current shown.frames value held.0 h held.2);
+      no_arguments = no_arguments;
+      no_arrays = arrays-none x s (word_of Ebp s) (main_state g).current g.current.arrays refl stand;
+      no_objects = no-objects x s g.objects shown.objects;
       old_arrays = shown.old_arrays 0 (main_state g).current refl;
       left = shown.left;
       taken = shown.taken;
@@ -169,7 +187,7 @@ main-shown x input g s h at =
       room = omega arith;
       few = omega arith;
       depth = at.depth;
-      chain = (at.return_address, at.returns, at.returns_to);
+      chain = (refl, at.no_arguments, at.return_address, at.returns, at.returns_to);
       variables = λ v value place e f.
           let slot = slot-placed (slice_get x.slots v) place f in
           let width = width-two x.flow.widths x.slots v slot.0 h.has_slots.widths h.has_slots.as_many slot.1 in
@@ -177,20 +195,16 @@ main-shown x input g s h at =
           let In : Option Width → Type 0 = λ (w : Option Width). InSlotOf (code_in x) (active_of (main_state g)) one s (word_of Ebp s - slot.0) w value in
           let there : In (Some Two) = (held.0, held.1, word-plain x (main_state g).current one value held.0 held.2) in
           subst (λ (p : Place). StandsIn (code_in x) (active_of (main_state g)) one s (word_of Ebp s) (slice_get x.flow.widths v) value p) slot.2 (subst In (sym width) there);
-      waiting = tt;
-      arguments = λ i a frame e f k value.
+      arguments = λ i a frame e f k value l.
           let first = only-one (main_state g).current a i e in
-          let second = only-one (word_of Ebp s) frame i f in
-          subst (λ (b : Activation). slice_get b.arguments k ≡ Some value → (word : ℕ) × (load 4 (frame + 8 + 4 * k) s ≡ Ok word) × IsWord (code_in x) (active_of (main_state g)) one value word) first.1
-          (λ l.
-          let held = at.arguments k value l in
-          (held.0, subst (λ (base : ℕ). load 4 (base + 8 + 4 * k) s ≡ Ok held.0) second.1 held.1, word-plain x (main_state g).current one value held.0 held.2));
+          absurd (none-some value (sym (ap (λ (values : List Value). slice_get values k) (ap (λ (b : Activation). b.arguments) (sym first.1) ∙ at.no_arguments)) ∙ l));
       old_arrays = λ i a e.
           let first = only-one (main_state g).current a i e in
           subst (λ (b : Activation). HoldsOldArrays (1 - i) b) first.1 (subst (λ (j : ℕ). HoldsOldArrays (1 - j) (main_state g).current) (sym first.0) at.old_arrays);
-      objects = λ k elements object address e f l. absurd (none-some object f);
-      frame_arrays = λ i a frame e f k elements array distance l m n.
-          absurd (none-some distance (sym (ap (λ (arrays : List ℕ). slice_get arrays k) (no-arrays x a.function)) ∙ n));
+      objects = λ k elements e. absurd (none-some elements (sym (ap (λ (l : List (List ℤ)). slice_get l k) at.no_objects) ∙ e));
+      frame_arrays = λ i a frame e f k elements l.
+          let first = only-one (main_state g).current a i e in
+          absurd (none-some elements (sym (ap (λ (arrays : List (List ℤ)). slice_get arrays k) (ap (λ (b : Activation). b.arrays) (sym first.1) ∙ at.no_arrays)) ∙ l));
       left = at.left;
       taken = at.taken;
       written = at.written;

@@ -33,7 +33,9 @@ passed-main x input g s address q back at next ready =
       returns = load-same 4 _ at.return_address s t refl at.returns;
       returns_to = at.returns_to;
       variables = λ v value slot e f. let held = at.variables v value slot e f in (held.0, load-same 4 _ held.0 s t refl held.1, held.2);
-      arguments = λ k value e. let held = at.arguments k value e in (held.0, load-same 4 _ held.0 s t refl held.1, held.2);
+      no_arguments = at.no_arguments;
+      no_arrays = at.no_arrays;
+      no_objects = at.no_objects;
       old_arrays = at.old_arrays;
       left = at.left;
       taken = at.taken;

@@ -12,7 +12,7 @@ use Rattle.ia32_insn.specs.Items.{data_start, stack_end, text_state}
 use Rattle.flow_graph.specs.Graphs.{points_of}
 use Rattle.flow_graph.specs.Running.{first_state}
 use Rattle.flow_graph.specs.States as graph
-use Rattle.flow_graph.specs.States.{first_state_at}
+use Rattle.flow_graph.specs.States.{first_array, first_state_at}
 use Rattle.ia32_shows.specs.Shows.{IsOldArray}
 use Rattle.ia32_shows.proofs.Steps.{comes-then}
 use Rattle.ia32_calls.specs.Laws.{StartGoes, PrologueGoes, Started, Entered}
@@ -65,7 +65,9 @@ entered-main x input p l t u h first start enter =
       variables = λ v value slot e f.
           let is : Number (pos 0) ≡ value = mapped x.flow.widths (Number (pos 0)) value v e in
           (0, every-at (λ (k : ℕ). load 4 (word_of Ebp u - k) u ≡ Ok 0) x.slots v slot enter.zeros f, subst (λ (z : Value). IsPlainWord z 0) is (zero_fits, refl));
-      arguments = λ k value e. absurd (none-some value e);
+      no_arguments = refl;
+      no_arrays = ap (map first_array) h.has_slots.no_arrays;
+      no_objects = refl;
       old_arrays = (λ v value e. subst (λ (z : Value). IsOldArray 1 z) (mapped x.flow.widths (Number (pos 0)) value v e) tt, λ k value e. absurd (none-some value e));
       left = enter.left ∙ start.left;
       taken = taken;

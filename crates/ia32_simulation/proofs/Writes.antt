@@ -1,5 +1,5 @@
 -- A write to the slot of a variable sets the variable, and leaves all else of main as it was.
-use Rattle.std.proofs.Common.{◌≡◌, ℕ, ◌+◌, ◌-◌, ◌*◌, ◌≤◌, List, ◌∷◌, Some, Ok, sym, ap, subst, ◌∙◌, inl, inr, arith}
+use Rattle.std.proofs.Common.{◌≡◌, ℕ, ◌+◌, ◌-◌, ◌≤◌, List, ◌∷◌, Some, Ok, sym, ap, subst, ◌∙◌, inl, inr, arith}
 use Rattle.std.specs.Prelude.{◌⊎◌, drop, slice_get}
 use Rattle.std.proofs.lemmas.Option.{same_Some}
 use Rattle.pcc_base.specs.Outcome.{Null, Static, InFrame, Unknown, Value, Number, Array}
@@ -80,9 +80,9 @@ wrote-main x input g s u K back d q new word out slot h at next keeps went same 
             let apart = slots-apart x.slots d v (slot_at x.slots d) other h.has_slots.apart p.0 slot.there f in
             (held.0, moved other held.0 (kept (base - other) held.0 (apart-below base (slot_at x.slots d) other (omega arith) (omega arith) apart) (inl (omega arith)) held.1), held.2)
       ];
-      arguments = λ k value e.
-          let held = at.arguments k value e in
-          (held.0, subst (λ (j : ℕ). load 4 (j + 8 + 4 * k) u ≡ Ok held.0) (sym went.ebp) (kept (base + 8 + 4 * k) held.0 (inl (omega arith)) (inl (omega arith)) held.1), held.2);
+      no_arguments = at.no_arguments;
+      no_arrays = at.no_arrays;
+      no_objects = at.no_objects;
       old_arrays = (
         λ v value e. elim (after-set g.current.variables d v new value e) [
           | inl p ↦ subst (λ (z : Value). IsOldArray 1 z) p.1 (plain-old new word plain)

@@ -20,12 +20,12 @@ use Rattle.flow_graph.specs.declared.op.Op.TheVariants as op
 use Rattle.flow_graph.specs.Graphs.{Flow, Every, IsIn, Stands}
 use Rattle.flow_graph.specs.Running.{GraphAt, part_value, visits_at}
 use Rattle.flow_graph.specs.States as graph
-use Rattle.flow_graph.specs.States.{GraphProgram, flow_at, op_at, op_of}
+use Rattle.flow_graph.specs.States.{GraphProgram, active_of, flow_at, op_at, op_of}
 use Rattle.c_lower.specs.Code.{lowered}
 use Rattle.c_lower.specs.Shown.{locals_at, variable_part, variables_shown}
 use Rattle.ia32_shows.specs.Paths.{IsAt, IsClear}
 use Rattle.ia32_shows.specs.Placements.{Code, Placement, in_slots, no_placement, placement_of, point_address}
-use Rattle.ia32_shows.specs.Shows.{Shows, InSlotOf, active_of}
+use Rattle.ia32_shows.specs.Shows.{Shows, InSlotOf}
 use Rattle.ia32_rows.specs.Rows.{IsSlot, frame_of, selected}
 use Rattle.ia32_rows.specs.Right.{IsSlotCode, one_graph}
 use Rattle.ia32_rows.proofs.Laid.{apart, mark-at}
