@@ -7,13 +7,13 @@ use Rattle.ia32_insn.specs.State.{State}
 use Rattle.ia32_insn.specs.Meaning.{word_of}
 use Rattle.ia32_insn.specs.Items.{Symbols, Places, IsText, data_start, data_memory, stack_end}
 use Rattle.flow_graph.specs.Graphs.{Every}
-use Rattle.ia32_shows.proofs.Frames.{Site, ReadyAt}
 use Rattle.ia32_rows.specs.Rows.{IsSlot, AllApart, prologue}
 use Rattle.ia32_calls.specs.Laws.{Started, Entered}
 use Rattle.ia32_calls.proofs.Pushes.{ready-from}
 use Rattle.ia32_calls.proofs.First.{length-memory, function-placed}
 use Rattle.ia32_calls.proofs.Start.{start-goes}
 use Rattle.ia32_calls.proofs.Prologue.{prologue-goes}
+use Rattle.ia32_shows.specs.Sites.{Site, ReadyAt}
 
 -- where the text and the data stand, with the labels and points of one function
 abbrev pub text_site : Symbols → Places → List ℕ → Site

@@ -9,10 +9,8 @@ use Rattle.ia32_insn.specs.Meaning.{load, word_of}
 use Rattle.ia32_insn.specs.Items.{Object, Symbols, ItemsAt, plain, text_start}
 use Rattle.ia32_shows.specs.Placements.{Code, objects_of}
 use Rattle.ia32_shows.specs.Shows.{StartReturns}
-use Rattle.ia32_shows.proofs.Sound.{IsSound, word-below}
+use Rattle.ia32_shows.proofs.Sound.{word-below}
 use Rattle.ia32_shows.proofs.Steps.{IsAt, at-front, at-back, after-fits, comes-then}
-use Rattle.ia32_shows.proofs.Frames.{Site, SoundAt, ReadyAt, Framed}
-use Rattle.ia32_shows.proofs.Cores.{IsInFrame}
 use Rattle.flow_graph.specs.Graphs.{Flow}
 use Rattle.flow_graph.specs.States.{GraphProgram}
 use Rattle.ia32_rows.specs.Right.{one_graph}
@@ -20,6 +18,7 @@ use Rattle.ia32_calls.specs.Laws.{return_before, ReturnsToStart, Ending, EndingH
 use Rattle.ia32_calls.proofs.Pushes.{unlike, one_fits, set-goes}
 use Rattle.ia32_calls.proofs.Interrupts.{exit-halts}
 use Rattle.ia32_calls.proofs.Return.{return-goes}
+use Rattle.ia32_shows.specs.Sites.{IsSound, Site, SoundAt, ReadyAt, Framed, IsInFrame}
 
 -- the return address of the start's call, as a state that shows a program has it
 pub start-returns : (code : Code) (address : ℕ) → ReturnsToStart code.symbols code.text (objects_of code.program) code.program.main address → StartReturns code address

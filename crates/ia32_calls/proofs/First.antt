@@ -9,10 +9,9 @@ use Rattle.pcc_base.specs.Bytes.{zeros}
 use Rattle.ia32_insn.specs.Items.{Object, Symbols, Places, IsText, ItemsAt, FunctionsAt, round_up, text_start, text_state, data_bytes, data_start, data_memory, stack_end, putchar_items}
 use Rattle.ia32_insn.specs.declared.item.Item.{Item}
 use Rattle.ia32_shows.specs.Paths.{IsAt}
-use Rattle.ia32_shows.proofs.Sound.{IsSound}
 use Rattle.ia32_shows.proofs.Steps.{at-front, at-back}
-use Rattle.ia32_shows.proofs.Frames.{Site}
 use Rattle.ia32_calls.specs.Laws.{StandsFrom}
+use Rattle.ia32_shows.specs.Sites.{IsSound, Site}
 
 -- ---- the registers
 

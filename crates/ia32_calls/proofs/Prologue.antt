@@ -15,11 +15,12 @@ use Rattle.flow_graph.specs.Graphs.{Every}
 use Rattle.ia32_shows.specs.Placements.{below}
 use Rattle.ia32_shows.proofs.Sound.{load-same, word-below}
 use Rattle.ia32_shows.proofs.Steps.{Comes, comes-not, comes-then}
-use Rattle.ia32_shows.proofs.Frames.{Site, SoundAt, ReadyAt, below-address}
+use Rattle.ia32_shows.proofs.Frames.{below-address}
 use Rattle.ia32_rows.specs.Rows.{IsSlot, AreApart, AllApart, clears}
 use Rattle.ia32_calls.specs.Laws.{Entered, PrologueGoes}
 use Rattle.ia32_calls.proofs.Pushes.{disjoint-part, unlike, Sets, set-goes, Pushed, push-goes}
 use Rattle.ia32_calls.proofs.Stores.{Stores, store-goes}
+use Rattle.ia32_shows.specs.Sites.{Site, SoundAt, ReadyAt}
 
 -- ---- the slots
 

@@ -22,8 +22,9 @@ use Rattle.ia32_insn.specs.Items.{ItemsAt, LeadsTo}
 use Rattle.ia32_shows.proofs.Sound.{store-in, load-same, sound-with_word, sound-at, sound-with_flags, word-same, word-other, word-below}
 use Rattle.ia32_shows.proofs.Spelled.{IsCommon}
 use Rattle.ia32_shows.proofs.Steps.{IsAt, Comes, at-front, at-back, after-fits, step-goes, plain-goes}
-use Rattle.ia32_shows.proofs.Frames.{Site, SoundAt, ReadyAt, with_result}
+use Rattle.ia32_shows.proofs.Frames.{with_result}
 use Rattle.ia32_calls.specs.Laws.{StandsFrom}
+use Rattle.ia32_shows.specs.Sites.{Site, SoundAt, ReadyAt}
 
 -- a place apart from a piece is apart from each part of it
 pub disjoint-part : (a n c m b k : ℕ) → a ≤ c → c + m ≤ a + n → AreDisjoint a n b k → AreDisjoint c m b k

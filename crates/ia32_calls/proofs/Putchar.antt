@@ -16,12 +16,12 @@ use Rattle.ia32_insn.specs.Items.{near, plain, putchar_items}
 use Rattle.ia32_shows.specs.Placements.{below}
 use Rattle.ia32_shows.proofs.Sound.{load-same, word-below}
 use Rattle.ia32_shows.proofs.Steps.{IsAt, Comes, comes-then}
-use Rattle.ia32_shows.proofs.Frames.{Site, SoundAt, ReadyAt, Framed, Went, went-then, went-stricter, load-went, store-went}
-use Rattle.ia32_shows.proofs.Cores.{IsInFrame, Anywhere}
+use Rattle.ia32_shows.proofs.Frames.{went-then, went-stricter, load-went, store-went}
 use Rattle.ia32_rows.specs.Rows.{putchar_row}
 use Rattle.ia32_calls.specs.Laws.{putchar_between, StandsFrom, OutsideCall, WroteByCall, PutcharRow}
 use Rattle.ia32_calls.proofs.Pushes.{ready-from, disjoint-part, unlike, one_fits, Sets, set-goes, Pushed, push-goes, call-goes, pop-goes, ret-goes}
 use Rattle.ia32_calls.proofs.Interrupts.{write-goes}
+use Rattle.ia32_shows.specs.Sites.{Site, SoundAt, ReadyAt, Framed, Went, IsInFrame, Anywhere}
 
 -- ---- numbers
 

@@ -11,7 +11,7 @@ use Rattle.ia32_insn.specs.Keeps.{AreDisjoint}
 use Rattle.ia32_shows.proofs.Sound.{Stored, store-in, load-same, sound-at}
 use Rattle.ia32_shows.proofs.Spelled.{IsCommon}
 use Rattle.ia32_shows.proofs.Steps.{Comes, plain-goes}
-use Rattle.ia32_shows.proofs.Frames.{Site, SoundAt, ReadyAt}
+use Rattle.ia32_shows.specs.Sites.{Site, SoundAt, ReadyAt}
 
 -- the word stands at the address; other places, the registers, the input and the output are as before
 pub record Stores (site : Site) (a v : ℕ) (s u : State) : Type 0 where

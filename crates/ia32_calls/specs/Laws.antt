@@ -16,10 +16,8 @@ use Rattle.ia32_insn.specs.Items.{Object, Symbols, Places, ItemsAt, IsText, plai
 use Rattle.flow_graph.specs.Graphs.{Every}
 use Rattle.ia32_shows.specs.Paths.{IsAt, IsClear, Comes}
 use Rattle.ia32_shows.specs.Placements.{below}
-use Rattle.ia32_shows.proofs.Sound.{IsSound}
-use Rattle.ia32_shows.proofs.Frames.{Site, SoundAt, ReadyAt, Framed, Went}
-use Rattle.ia32_shows.proofs.Cores.{IsInFrame, ApartFrom}
 use Rattle.ia32_rows.specs.Rows.{IsSlot, AllApart, prologue}
+use Rattle.ia32_shows.specs.Sites.{IsSound, Site, SoundAt, ReadyAt, Framed, Went, IsInFrame, ApartFrom}
 
 -- items stand in the site's text from an address on
 pub record StandsFrom (site : Site) (items : List Item) (address : ℕ) : Type 0 where

@@ -16,11 +16,11 @@ use Rattle.flow_graph.specs.States.{GraphProgram, Waiting}
 use Rattle.flow_graph.proofs.Points.{choose}
 use Rattle.ia32_shows.specs.Placements.{Code, objects_of, address_in, point_address}
 use Rattle.ia32_shows.specs.Shows.{ReturnsTo, StartReturns, startup, ending}
-use Rattle.ia32_shows.proofs.Steps.{IsAt, at-front, at-back, items-split, Ready, point-passed, label-passed}
-use Rattle.ia32_shows.proofs.Frames.{Site, ReadyAt}
+use Rattle.ia32_shows.proofs.Steps.{IsAt, at-front, at-back, items-split, point-passed, label-passed}
 use Rattle.ia32_rows.specs.Rows.{frame_of, row, prologue, point_row, point_rows, block_rows, selected}
 use Rattle.ia32_rows.proofs.ItemKinds.{every-get, every-back, IsRowItem, selected-items, selected-room, one-address}
 use Rattle.ia32_rows.specs.Right.{IsSlotCode}
+use Rattle.ia32_shows.specs.Sites.{Ready, Site, ReadyAt}
 
 -- ---- items that stand at an address
 

@@ -1,5 +1,5 @@
 -- Rows over slots: a number, a copy, and an operation on two words.
-use Rattle.std.proofs.Common.{◌≡◌, ℕ, ◌-◌, ◌^◌, ◌<◌, ◌≤◌, ℤ, List, ◌∷◌, Ok, sym, ap, subst, ◌∙◌, arith}
+use Rattle.std.proofs.Common.{◌≡◌, ℕ, ◌-◌, ◌^◌, ◌<◌, ℤ, List, ◌∷◌, Ok, sym, ap, subst, ◌∙◌, arith}
 use Rattle.std.specs.Int.{w32, cast_unsigned}
 use Rattle.ia32_regs.specs.declared.names.Reg32.{Reg32}
 use Rattle.ia32_regs.specs.declared.names.Reg32.TheVariants.{Ebp, Esi, Edi}
@@ -13,20 +13,8 @@ use Rattle.ia32_insn.specs.Arithmetic.{alu_value}
 use Rattle.ia32_insn.specs.Meaning.{load, word_of}
 use Rattle.ia32_insn.specs.Keeps.{AreDisjoint}
 use Rattle.ia32_shows.specs.Placements.{below}
-use Rattle.ia32_shows.proofs.Frames.{Site, ReadyAt, Framed, Went, went-then, went-stricter, load-went, number-went, store-went, operation-went, Operates}
-
--- a slot's distance in a frame
-pub record IsInFrame (frame distance : ℕ) : Type 0 where
-  pub low : 20 ≤ distance
-  pub high : distance ≤ frame
-
--- every place is kept
-abbrev pub Anywhere : ℕ → ℕ → Type 0
-Anywhere b n = Unit {0}
-
--- places apart from the slot so far below an address
-abbrev pub ApartFrom : ℕ → ℕ → ℕ → Type 0
-ApartFrom slot b n = AreDisjoint slot 4 b n
+use Rattle.ia32_shows.proofs.Frames.{went-then, went-stricter, load-went, number-went, store-went, operation-went, Operates}
+use Rattle.ia32_shows.specs.Sites.{Site, ReadyAt, Framed, Went, IsInFrame, Anywhere, ApartFrom}
 
 -- a row that wrote a word to a slot
 pub record Wrote (site : Site) (frame : ℕ) (items : List Item) (slot word : ℕ) (out : List ℕ) (s u : State) : Type 0 where

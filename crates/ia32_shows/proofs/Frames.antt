@@ -17,45 +17,11 @@ use Rattle.ia32_insn.specs.State.{State, at_address}
 use Rattle.ia32_insn.specs.Arithmetic.{alu_value, alu_flags}
 use Rattle.ia32_insn.specs.Meaning.{and_then, address_of, load, store, word_of, with_word, with_flags, effect, target}
 use Rattle.ia32_insn.specs.Keeps.{AreDisjoint}
-use Rattle.ia32_insn.specs.Items.{Symbols, Places}
 use Rattle.ia32_shows.specs.Placements.{below}
-use Rattle.ia32_shows.proofs.Sound.{IsSound, store-in, load-same, sound-with_word, sound-at, sound-with_flags, word-same, word-other, word-below}
+use Rattle.ia32_shows.proofs.Sound.{store-in, load-same, sound-with_word, sound-at, sound-with_flags, word-same, word-other, word-below}
 use Rattle.ia32_shows.proofs.Spelled.{IsCommon}
-use Rattle.ia32_shows.proofs.Steps.{Comes, comes-then, Ready, plain-goes}
-
--- where code and data of a function stand
-pub record Site : Type 0 where
-  pub symbols : Symbols
-  pub places : Places
-  pub text : List ℕ
-  pub low : ℕ
-  pub high : ℕ
-
-abbrev pub SoundAt : Site → State → Type 0
-SoundAt site s = IsSound site.text site.low site.high s
-
-abbrev pub ReadyAt : Site → List Item → State → Type 0
-ReadyAt site items s = Ready site.symbols site.places site.text items s
-
--- a state within a function: ESP is the frame's bytes below EBP, with room for a word more
-pub record Framed (site : Site) (frame : ℕ) (s : State) : Type 0 where
-  pub sound : SoundAt site s
-  pub esp : word_of Esp s + frame ≡ word_of Ebp s
-  pub room : site.low + 4 ≤ word_of Esp s
-  pub top : word_of Ebp s + 8 ≤ site.high
-
--- The machine came to items, with this output: EBP, ESP and the input are as before, and so are the places in memory
--- that pass the test.
-pub record Went (site : Site) (frame : ℕ) (items : List Item) (K : ℕ → ℕ → Type 0) (out : List ℕ) (s u : State) : Type 0 where
-  pub comes : Comes site.text s u
-  pub ready : ReadyAt site items u
-  pub framed : Framed site frame u
-  pub ebp : word_of Ebp u ≡ word_of Ebp s
-  pub esp : word_of Esp u ≡ word_of Esp s
-  pub left : u.left ≡ s.left
-  pub taken : u.taken ≡ s.taken
-  pub written : u.written ≡ out
-  pub kept : (n b w : ℕ) → K b n → load n b s ≡ Ok w → load n b u ≡ Ok w
+use Rattle.ia32_shows.proofs.Steps.{comes-then, plain-goes}
+use Rattle.ia32_shows.specs.Sites.{Site, ReadyAt, Framed, Went}
 
 pub went-then : (site : Site) (frame : ℕ) (one two : List Item) (K : ℕ → ℕ → Type 0) (first out : List ℕ) (s t u : State) → Went site frame one K first s t → Went site frame two K out t u → Went site frame two K out s u
 went-then site frame one two K first out s t u a b =

@@ -7,7 +7,7 @@ use Rattle.byteorder.specs.Endian.{little_bytes, little_from}
 use Rattle.byteorder.specs.Numbers.{length-bytes_low_first, little_from-lt}
 use Rattle.pcc_base.specs.Outcome.{End}
 use Rattle.ia32_regs.specs.declared.names.Reg32.{Reg32}
-use Rattle.ia32_regs.specs.Registers.{AreRegisters, number32, word_place}
+use Rattle.ia32_regs.specs.Registers.{number32, word_place}
 use Rattle.ia32_regs.proofs.Registers.{register-with_same, register-with_other, AreRegisters-with_register}
 use Rattle.ia32_insn.specs.declared.flags.Flags.{Flags}
 use Rattle.ia32_insn.specs.State.{State, Area, IsApart, AreApart, has_bytes, bytes_at, stored, with_bytes, at_address}
@@ -17,19 +17,7 @@ use Rattle.ia32_insn.specs.Items.{text_start, text_area}
 use Rattle.ia32_insn.proofs.Access.{load-elsewhere, load-stored, store-keeps_rest, and_then-ok, or_end-ok, ok-once}
 use Rattle.ia32_insn.proofs.Memory.{inside, load-store_same}
 use Rattle.ia32_insn.proofs.Splices.{length-replaced}
-
--- data from an address on
-abbrev pub data_from : ℕ → List ℕ → Area
-data_from low bytes = record { address = low; bytes = bytes; readable = true; writable = true; runnable = false }
-
--- memory is the text and the data between two addresses, and the registers are registers
-pub record IsSound (text : List ℕ) (low high : ℕ) (s : State) : Type 0 where
-  pub bytes : List ℕ
-  pub memory : s.memory ≡ text_area text ∷ data_from low bytes ∷ []
-  pub size : low + length bytes ≡ high
-  pub above : text_start + length text ≤ low
-  pub below : high < 4294967296
-  pub registers : AreRegisters s.registers
+use Rattle.ia32_shows.specs.Sites.{data_from, IsSound}
 
 -- ---- loads
 

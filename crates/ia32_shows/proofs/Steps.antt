@@ -16,8 +16,8 @@ use Rattle.ia32_insn.specs.Meaning.{Moves, Halts, and_then, moved_of, effect, ta
 use Rattle.ia32_insn.specs.Runs.{Steps, StepsAt}
 use Rattle.ia32_insn.specs.Items.{Symbols, Places, ItemsAt, text_start}
 pub use Rattle.ia32_shows.specs.Paths.{Path, IsAt, IsClear, Comes}
-use Rattle.ia32_shows.proofs.Sound.{IsSound}
 use Rattle.ia32_shows.proofs.Spelled.{BeginsOther, IsCommon, common-begins}
+use Rattle.ia32_shows.specs.Sites.{IsSound, Ready}
 
 pub at-front : (text : List ℕ) (address : ℕ) (xs ys : List ℕ) → IsAt text address (xs ++ ys) → IsAt text address xs
 at-front text address xs ys h = record { done = h.done; rest = ys ++ h.rest; whole = h.whole ∙ ap (λ (l : List ℕ). h.done ++ l) (append_assoc xs ys h.rest); place = h.place }
@@ -80,11 +80,6 @@ pub comes-then : (text : List ℕ) (s t u : State) → Comes text s t → Comes 
 comes-then text s t u a b = record { addresses = a.addresses ++ b.addresses; path = path-join a.addresses b.addresses s t u a.path b.path; clear = clear-join text a.addresses b.addresses a.clear b.clear }
 
 -- ---- items at EIP
-
-pub record Ready (symbols : Symbols) (places : Places) (text : List ℕ) (items : List Item) (s : State) : Type 0 where
-  pub bytes : List ℕ
-  pub here : IsAt text s.eip bytes
-  pub stand : ItemsAt symbols places s.eip items bytes
 
 -- two bytes at one place are the same
 same-front : (done other x y : List ℕ) → length done ≡ length other → done ++ x ≡ other ++ y → x ≡ y

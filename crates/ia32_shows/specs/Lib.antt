@@ -3,3 +3,4 @@ pub mod Paths
 pub mod Placements
 pub mod Shows
 pub mod Worked
+pub mod Sites

@@ -6,8 +6,8 @@ use Rattle.std.proofs.lemmas.List.{length-replicate}
 use Rattle.ia32_insn.specs.State.{Area, Shape, shape_of}
 use Rattle.pcc_base.specs.Bytes.{zeros}
 use Rattle.ia32_insn.specs.Items.{text_area, data_area, data_bytes, data_memory, data_start, stack_end}
-use Rattle.ia32_shows.proofs.Sound.{data_from}
 use Rattle.ia32_simulation.proofs.Setup.{Setup, length-data, data-size}
+use Rattle.ia32_shows.specs.Sites.{data_from}
 
 -- n zeros are n
 length-zeros : (n : ℕ) → length (zeros n) ≡ n

@@ -14,7 +14,7 @@ use Rattle.ia32_insn.specs.declared.item.Item.TheVariants as item
 use Rattle.ia32_insn.specs.State as machine
 use Rattle.ia32_insn.specs.Spelling.{Spells, ReadsSigned}
 use Rattle.pcc_base.specs.Bytes.{AreBytes}
-use Rattle.ia32_shows.proofs.Frames.{Site, ReadyAt}
+use Rattle.ia32_shows.specs.Sites.{Site, ReadyAt}
 
 -- what is read at each place is a byte, also past the end
 abbrev EachByte : List ℕ → Type 0

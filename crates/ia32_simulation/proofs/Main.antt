@@ -17,11 +17,11 @@ use Rattle.ia32_shows.specs.Placements.{placement_of}
 use Rattle.ia32_places.specs.Places.{Place, InSlot}
 use Rattle.ia32_shows.specs.Shows.{Shows, IsWord, InSlotOf, StandsIn, HoldsOldArrays, ObjectsStand, FrameArraysStand}
 use Rattle.ia32_shows.specs.Shows.{WaitFrom, StartReturns}
-use Rattle.ia32_shows.proofs.Sound.{IsSound, load-place}
-use Rattle.ia32_shows.proofs.Frames.{Framed}
+use Rattle.ia32_shows.proofs.Sound.{load-place}
 use Rattle.ia32_rows.specs.Rows.{frame_of}
 use Rattle.ia32_simulation.proofs.Setup.{Setup, IsSetup, bounds, code_in, site_in, main_state}
 use Rattle.ia32_simulation.proofs.Areas.{areas-are, shapes-are}
+use Rattle.ia32_shows.specs.Sites.{IsSound, Framed}
 
 -- the word of a value that a variable without arrays may hold
 abbrev pub IsPlainWord : Value → ℕ → Type 0

@@ -10,11 +10,11 @@ use Rattle.flow_graph.specs.Meaning.{at_point}
 use Rattle.flow_graph.specs.States as graph
 use Rattle.ia32_shows.proofs.Sound.{load-same, sound-at}
 use Rattle.ia32_shows.proofs.Steps.{comes-not, point-passed, nop-goes}
-use Rattle.ia32_shows.proofs.Frames.{ReadyAt}
 use Rattle.ia32_shows.specs.Follows.{Follows}
 use Rattle.ia32_simulation.proofs.Setup.{Setup, IsSetup, code_in, site_in, main_state}
 use Rattle.ia32_simulation.proofs.Main.{AtMain, main-shown}
 use Rattle.ia32_simulation.proofs.Slots.{following-in}
+use Rattle.ia32_shows.specs.Sites.{ReadyAt}
 
 -- the state is at the next point
 pub passed-main : (x : Setup) (input : List ℕ) (g : graph.State) (s : machine.State) (address q : ℕ) (back : List Item) → AtMain x input g s → following g.point (points_of x.flow g.block) ≡ Some q

@@ -20,8 +20,8 @@ use Rattle.flow_graph.specs.Graphs.{HasWidth, points_of, following, FitsOp}
 use Rattle.flow_graph.specs.Meaning.{Moved, Stuck, given, at_point, sets, act}
 use Rattle.flow_graph.specs.States as graph
 use Rattle.flow_graph.specs.States.{number_of, with_value, fitted}
-use Rattle.ia32_shows.proofs.Frames.{ReadyAt, Went, Operates}
-use Rattle.ia32_shows.proofs.Cores.{ApartFrom, Wrote, const-row, copy-row, operation-row}
+use Rattle.ia32_shows.proofs.Frames.{Operates}
+use Rattle.ia32_shows.proofs.Cores.{Wrote, const-row, copy-row, operation-row}
 use Rattle.ia32_rows.specs.Rows.{frame_of, operation}
 use Rattle.ia32_shows.specs.Follows.{Follows}
 use Rattle.ia32_rows.specs.Right.{one_graph}
@@ -31,6 +31,7 @@ use Rattle.ia32_simulation.proofs.Main.{AtMain, IsPlainWord, main-shown}
 use Rattle.ia32_simulation.proofs.Slots.{slot_at, HasSlot, slot-there, every-at}
 use Rattle.ia32_simulation.proofs.Words.{word-fits, word-sum, word-difference}
 use Rattle.ia32_simulation.proofs.Writes.{KeepsWords, set_at, wrote-main}
+use Rattle.ia32_shows.specs.Sites.{ReadyAt, Went, ApartFrom}
 
 -- the machine follows a step that is made by no NOP
 abbrev pub FollowsMain : Setup → List ℕ → machine.State → graph.State → Moved → Type 0

@@ -5,9 +5,9 @@ use Rattle.ia32_insn.specs.Items.{Symbols, Places, text_start, round_up, data_by
 use Rattle.flow_graph.specs.Graphs.{Flow}
 use Rattle.flow_graph.specs.States as graph
 use Rattle.ia32_shows.specs.Placements.{Code, in_slots}
-use Rattle.ia32_shows.proofs.Frames.{Site}
 use Rattle.ia32_rows.specs.Rows.{HasSlots, frame_of, selected}
 use Rattle.ia32_rows.specs.Right.{one_graph, IsSlotCode}
+use Rattle.ia32_shows.specs.Sites.{Site}
 
 -- the parts: one graph with its slots, where its items stand, and the text
 pub record Setup : Type 0 where

@@ -2,10 +2,10 @@
 use Rattle.std.proofs.Common.{◌≡◌, ◌≢◌, ℕ, zero, suc, ◌+◌, ◌≤◌, List, [], ◌∷◌, length, Option, Some, None, refl, ap, subst, inl, inr, arith}
 use Rattle.std.specs.Prelude.{◌⊎◌, slice_get, slice_set, slice_index_or}
 use Rattle.std.proofs.lemmas.Option.{same_Some}
-use Rattle.ia32_shows.proofs.Cores.{IsInFrame}
 use Rattle.flow_graph.specs.Graphs.{Every, IsIn, following}
 use Rattle.flow_graph.proofs.Points.{choose}
 use Rattle.ia32_rows.specs.Rows.{IsSlot, AreApart, AllApart}
+use Rattle.ia32_shows.specs.Sites.{IsInFrame}
 
 -- what there is none of isn't there
 none-some : {X : Type 0} → (a : X) → None ≡ Some a → ⊥

@@ -14,11 +14,11 @@ use Rattle.flow_graph.specs.States as graph
 use Rattle.flow_graph.specs.States.{with_value}
 use Rattle.ia32_shows.specs.Shows.{IsOldArray}
 use Rattle.ia32_shows.proofs.Steps.{point-passed}
-use Rattle.ia32_shows.proofs.Frames.{Went}
 use Rattle.ia32_rows.specs.Rows.{IsSlot, AreApart, frame_of}
 use Rattle.ia32_simulation.proofs.Setup.{Setup, IsSetup, bounds, site_in}
 use Rattle.ia32_simulation.proofs.Main.{AtMain, IsPlainWord}
 use Rattle.ia32_simulation.proofs.Slots.{slot_at, HasSlot, every-at, slots-apart, after-set, following-in}
+use Rattle.ia32_shows.specs.Sites.{Went}
 
 -- words apart from the slot are kept, but for those right below ESP
 abbrev pub KeepsWords : (ℕ → ℕ → Type 0) → ℕ → ℕ → Type 0
