@@ -1,26 +1,27 @@
 -- Every tree of a rule is read, whatever follows that goes on with no tree of that rule.
-use Rattle.std.proofs.Common.{◌≡◌, ℕ, zero, suc, ◌+◌, ◌≤◌, ◌<◌, max, Bool, true, false, List, [], ◌∷◌, ◌++◌, length, length-append, Option, Some, None, eqb, ltb, leb, refl, ap, sym, ◌∙◌, subst, inl, inr, arith, append_assoc, ◌⊎◌}
+use Rattle.std.proofs.Common.{◌≡◌, ℕ, zero, suc, ◌+◌, ◌≤◌, ◌<◌, max, true, List, [], ◌∷◌, ◌++◌, length, length-append, Option, Some, None, ltb, leb, refl, ap, sym, ◌∙◌, subst, inl, inr, arith, append_assoc, ◌⊎◌}
 use Rattle.std.proofs.lemmas.Bool.{lt-ltb, le-leb}
 use Rattle.pcc_base.specs.declared.span.Span.{Span}
-use Rattle.pcc_base.specs.declared.keyword.Keyword.TheVariants as words
 use Rattle.c_lexer.specs.declared.token.Token.{Token}
 use Rattle.c_lexer.specs.declared.token.TokenKind.{TokenKind}
 use Rattle.c_lexer.specs.declared.token.TokenKind.TheVariants as kinds
 use Rattle.c_lexer.specs.declared.token.Punct.{Punct}
 use Rattle.c_lexer.specs.declared.token.Punct.TheVariants as marks
-use Rattle.c_raw.specs.declared.operator.BinaryOp.{BinaryOp}
-use Rattle.c_raw.specs.declared.operator.BinaryOp.TheVariants as binary
-use Rattle.c_raw.specs.declared.operator.SpecifierWord.{SpecifierWord}
-use Rattle.c_raw.specs.declared.operator.SpecifierWord.TheVariants as specifier
-use Rattle.c_raw.specs.declared.expression.Specifier.{Specifier}
-use Rattle.c_grammar.specs.Marks.{mark, word, binary_mark, unary_mark, step_mark, assign_mark, specifier_word}
+use Rattle.c_syntax.specs.declared.operator.BinaryOp.{BinaryOp}
+use Rattle.c_syntax.specs.declared.operator.BinaryOp.TheVariants as binary
+use Rattle.c_syntax.specs.declared.operator.SpecifierWord.{SpecifierWord}
+use Rattle.c_syntax.specs.declared.operator.SpecifierWord.TheVariants as specifier
+use Rattle.c_syntax.specs.declared.expression.Specifier.{Specifier}
+use Rattle.c_grammar.specs.Marks.{mark, binary_mark, step_mark, assign_mark, specifier_word}
 use Rattle.c_grammar.specs.Expressions.{Star, Expr, Exprs, exprs_of, Identifier, Number, Text, Parenthesised, Call, Index, Postfix, Prefix, Unary, Cast, Binary, Conditional, Assignment, NoExpr, OneExpr}
-use Rattle.c_grammar.specs.ExpressionTokens.{expr_tokens, exprs_tokens, more_tokens, specifiers_tokens, consts_tokens, pointer_tokens, expr_height, exprs_height, looseness, IsExpr, AreValues, Separate, Follow, IsSpecifiers, binary_level}
-use Rattle.c_grammar.proofs.Chains.{Step, Done, Goes, Reads, chained, Continues, continues_start, continues_from, continues_goes, continues_done}
-use Rattle.c_grammar.proofs.Taking.{specifier_of, specifier_of_word, take_mark, take_specifiers, take_consts, take_pointer}
-use Rattle.c_grammar.proofs.Reading.{cast_reads, Reader, Readers, Values, readers, readers_over, no_readers, readers-suc, value_step, suffix_step, infix_step, read_arguments, read_primary, read_postfix, read_unary, read_cast, read_infix, read_binary, read_conditional, read_assignment, read_expression}
+use Rattle.c_grammar.specs.ExpressionTokens.{expr_tokens, exprs_tokens, more_tokens, specifiers_tokens, consts_tokens, pointer_tokens, expr_height, exprs_height, looseness, IsExpr, AreValues, Separate, Follow, binary_level}
+use Rattle.c_grammar.specs.Chains.{Goes, Reads, chained}
+use Rattle.c_grammar.proofs.Chains.{Continues, continues_start, continues_from, continues_goes, continues_done}
+use Rattle.c_grammar.specs.Taking.{specifier_of_word, take_mark, take_specifiers, take_consts, take_pointer}
+use Rattle.c_grammar.specs.Reading.{Reader, Readers, Values, readers, readers_over, value_step, suffix_step, infix_step, read_arguments, read_primary, read_postfix, read_unary, read_cast, read_infix, read_binary, read_conditional, read_assignment, read_expression}
+use Rattle.c_grammar.proofs.Reading.{cast_reads, readers-suc}
 use Rattle.c_grammar.proofs.Stops.{mark_joins, joins, Stops, stops_tighter, stops_mark, stops_step, stops_assign, stops_binary, takes_step, takes_unary, takes_assign, takes_binary, takes_texts, unary_no_step, binary_joins, assign_joins, step_joins, step_no_bracket}
-use Rattle.c_grammar.proofs.Heads.{head_of, expression_no_mark, postfix_no_step, postfix_no_unary, no_cast}
+use Rattle.c_grammar.proofs.Heads.{expression_no_mark, postfix_no_step, postfix_no_unary, no_cast}
 
 -- a reader finds the trees that are at most so loose and so high
 abbrev pub Finds : ℕ → ℕ → Reader → Type 0

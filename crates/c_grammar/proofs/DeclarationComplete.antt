@@ -1,25 +1,27 @@
 -- Every declaration is read, and each of its parts, whatever follows that does not go on with it.
-use Rattle.std.proofs.Common.{◌≡◌, ℕ, zero, suc, ◌+◌, ◌≤◌, ◌<◌, max, Bool, true, false, List, [], ◌∷◌, ◌++◌, length, length-append, Option, Some, None, refl, ap, sym, ◌∙◌, subst, inl, inr, arith, append_assoc, ◌⊎◌}
+use Rattle.std.proofs.Common.{◌≡◌, ℕ, suc, ◌≤◌, ◌<◌, false, List, [], ◌∷◌, ◌++◌, length, length-append, Option, Some, None, refl, ap, sym, ◌∙◌, subst, arith, append_assoc}
 use denote.Enum.Bare.{true_same}
 use Rattle.pcc_base.specs.declared.span.Span.{Span}
 use Rattle.c_lexer.specs.declared.token.Token.{Token}
 use Rattle.c_lexer.specs.declared.token.Punct.{Punct}
 use Rattle.c_lexer.specs.declared.token.Punct.TheVariants as marks
 use Rattle.c_lexer.specs.contracts.token.Punct.{the_type as the_marks}
-use Rattle.c_raw.specs.declared.expression.Identifier.{Identifier}
-use Rattle.c_raw.specs.declared.expression.Specifier.{Specifier}
+use Rattle.c_syntax.specs.declared.expression.Identifier.{Identifier}
+use Rattle.c_syntax.specs.declared.expression.Specifier.{Specifier}
 use Rattle.c_grammar.specs.Marks.{mark, ident}
 use Rattle.c_grammar.specs.Expressions.{Star, Expr, Exprs, exprs_of, NoExpr, OneExpr}
-use Rattle.c_grammar.specs.ExpressionTokens.{expr_tokens, exprs_tokens, more_tokens, specifiers_tokens, pointer_tokens, expr_height, exprs_height, looseness, IsExpr, AreValues, Separate, Follow, IsSpecifiers}
-use Rattle.c_grammar.specs.Declarations.{ArrayTree, ParameterTree, ParametersTree, PartTree, Plain, Array, Function, DeclaratorTree, InitialiserTree, Single, Braces, ValueTree, ItemTree, DeclarationTree}
-use Rattle.c_grammar.specs.DeclarationTokens.{followed, separated, AreApart, AllAre, greatest, maybe_expr_tokens, array_tokens, maybe_array_tokens, maybe_name_tokens, parameter_tokens, parameters_tokens, part_tokens, declarator_tokens, maybe_comma_tokens, initialiser_tokens, value_tokens, item_tokens, declaration_tokens, maybe_expr_height, maybe_array_height, parameter_height, part_height, initialiser_height, value_height, item_height, declaration_height, IsMaybeConditional, IsMaybeArray, IsParameter, IsParameters, IsPart, IsInitialiser, IsMaybeValue, IsItem, AreItems, IsDeclaration}
-use Rattle.c_grammar.proofs.Chains.{Step, Done, Goes, Reads, chained, Continues, continues_start, continues_goes, continues_done}
-use Rattle.c_grammar.proofs.Taking.{take_mark, take_specifiers, take_consts, take_pointer}
-use Rattle.c_grammar.proofs.Reading.{Reader, Readers, Values}
+use Rattle.c_grammar.specs.ExpressionTokens.{expr_tokens, more_tokens, specifiers_tokens, pointer_tokens, expr_height, exprs_height, looseness, IsExpr, AreValues, Follow, IsSpecifiers}
+use Rattle.c_grammar.specs.Declarations.{ArrayTree, ParameterTree, PartTree, Plain, Array, Function, DeclaratorTree, InitialiserTree, Single, Braces, ValueTree, ItemTree, DeclarationTree}
+use Rattle.c_grammar.specs.DeclarationTokens.{followed, separated, AreApart, AllAre, greatest, maybe_expr_tokens, maybe_array_tokens, maybe_name_tokens, parameter_tokens, part_tokens, declarator_tokens, maybe_comma_tokens, initialiser_tokens, value_tokens, item_tokens, declaration_tokens, maybe_expr_height, maybe_array_height, parameter_height, part_height, initialiser_height, value_height, item_height, declaration_height, IsMaybeConditional, IsMaybeArray, IsParameter, IsPart, IsInitialiser, IsMaybeValue, IsItem, AreItems, IsDeclaration}
+use Rattle.c_grammar.specs.Chains.{Done, Goes, Reads, chained}
+use Rattle.c_grammar.proofs.Chains.{Continues, continues_start, continues_goes, continues_done}
+use Rattle.c_grammar.specs.Taking.{take_mark, take_specifiers, take_pointer}
+use Rattle.c_grammar.specs.Reading.{Reader, Readers, Values}
 use Rattle.c_grammar.proofs.Stops.{Stops}
-use Rattle.c_grammar.proofs.Heads.{mark_begins, expression_no_mark}
-use Rattle.c_grammar.proofs.Complete.{Finds, Complete, append_nil, loosest, list_of, exprs_of_list, takes_specifiers, takes_pointer, pointer_no_specifier, NoSpecifier, NoConst}
-use Rattle.c_grammar.proofs.DeclarationReading.{Listed, list_step, read_more, take_name, maybe_before, array_behind, read_maybe_array, read_parameter, read_parameters, parameters_behind, read_part, read_declarator, brace_step, take_comma, braces_behind, read_initialiser, value_from, item_behind, read_item, declaration_behind, read_declaration}
+use Rattle.c_grammar.specs.Heads.{mark_begins}
+use Rattle.c_grammar.proofs.Heads.{expression_no_mark}
+use Rattle.c_grammar.proofs.Complete.{Finds, Complete, append_nil, list_of, exprs_of_list, takes_specifiers, takes_pointer, pointer_no_specifier, NoSpecifier, NoConst}
+use Rattle.c_grammar.specs.DeclarationReading.{Listed, list_step, read_more, take_name, maybe_before, array_behind, read_maybe_array, read_parameter, read_parameters, read_part, read_declarator, brace_step, take_comma, braces_behind, read_initialiser, value_from, read_item, declaration_behind, read_declaration}
 
 -- a mark is taken
 pub takes_mark : (m : Punct) (at : Span) (ts : List Token) → take_mark m (mark m at ∷ ts) ≡ Some (at, ts)

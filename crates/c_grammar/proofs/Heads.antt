@@ -1,5 +1,5 @@
 -- With which tokens an expression begins.
-use Rattle.std.proofs.Common.{◌≡◌, ℕ, suc, ◌+◌, ◌≤◌, ◌<◌, Bool, true, false, List, [], ◌∷◌, ◌++◌, Option, Some, None, eqb, refl, ap, sym, ◌∙◌, subst, arith, append_assoc}
+use Rattle.std.proofs.Common.{◌≡◌, ℕ, ◌≤◌, true, false, List, [], ◌∷◌, ◌++◌, None, refl, ap, sym, ◌∙◌, subst, arith, append_assoc}
 use Rattle.pcc_base.specs.declared.span.Span.{Span}
 use Rattle.pcc_base.specs.declared.keyword.Keyword.{Keyword}
 use Rattle.c_lexer.specs.declared.token.Token.{Token}
@@ -7,50 +7,18 @@ use Rattle.c_lexer.specs.declared.token.TokenKind.{TokenKind}
 use Rattle.c_lexer.specs.declared.token.TokenKind.TheVariants as kinds
 use Rattle.c_lexer.specs.declared.token.Punct.{Punct}
 use Rattle.c_lexer.specs.declared.token.Punct.TheVariants as marks
-use Rattle.c_raw.specs.declared.operator.UnaryOp.{UnaryOp}
-use Rattle.c_raw.specs.declared.operator.UnaryOp.TheVariants as unary
-use Rattle.c_raw.specs.declared.operator.StepOp.{StepOp}
-use Rattle.c_raw.specs.declared.operator.StepOp.TheVariants as step
-use Rattle.c_grammar.specs.Marks.{mark, binary_mark, unary_mark, step_mark, assign_mark}
-use Rattle.c_grammar.specs.Expressions.{Star, Expr, Exprs, Identifier, Number, Text, Parenthesised, Call, Index, Postfix, Prefix, Unary, Cast, Binary, Conditional, Assignment, NoExpr, OneExpr}
-use Rattle.c_grammar.specs.ExpressionTokens.{expr_tokens, looseness, IsExpr, binary_level}
+use Rattle.c_syntax.specs.declared.operator.UnaryOp.{UnaryOp}
+use Rattle.c_syntax.specs.declared.operator.UnaryOp.TheVariants as unary
+use Rattle.c_syntax.specs.declared.operator.StepOp.{StepOp}
+use Rattle.c_syntax.specs.declared.operator.StepOp.TheVariants as step
+use Rattle.c_grammar.specs.Marks.{mark, unary_mark, step_mark}
+use Rattle.c_grammar.specs.Expressions.{Expr, Identifier, Number, Text, Parenthesised, Call, Index, Postfix, Prefix, Unary, Cast, Binary, Conditional, Assignment}
+use Rattle.c_grammar.specs.ExpressionTokens.{expr_tokens, looseness, IsExpr}
 use denote.Enum.Bare.{false_same}
 use Rattle.c_lexer.specs.contracts.token.Punct.{the_type as the_marks}
-use Rattle.c_grammar.proofs.Taking.{is_mark, is_word, take_word, of_mark, unary_of_mark, step_of_mark, specifier_of, take_mark, take_step, take_unary, take_specifiers}
-use Rattle.c_grammar.proofs.Reading.{Readers, read_cast, read_unary}
-use Rattle.c_grammar.proofs.Stops.{takes_step}
-
-abbrev pub mark_begins : Punct → Bool
-mark_begins marks.LeftParen = true
-mark_begins marks.PlusPlus = true
-mark_begins marks.MinusMinus = true
-mark_begins marks.And = true
-mark_begins marks.Star = true
-mark_begins marks.Plus = true
-mark_begins marks.Minus = true
-mark_begins marks.Tilde = true
-mark_begins marks.Bang = true
-mark_begins _ = false
-
--- whether an expression may begin with a token
-abbrev pub begins : TokenKind → Bool
-begins (kinds.Ident name) = true
-begins (kinds.Number value) = true
-begins (kinds.Text bytes) = true
-begins (kinds.Mark m) = mark_begins m
-begins (kinds.Word w) = false
-
-abbrev pub mark_begins_primary : Punct → Bool
-mark_begins_primary marks.LeftParen = true
-mark_begins_primary _ = false
-
--- whether a primary expression may begin with a token
-abbrev pub begins_primary : TokenKind → Bool
-begins_primary (kinds.Ident name) = true
-begins_primary (kinds.Number value) = true
-begins_primary (kinds.Text bytes) = true
-begins_primary (kinds.Mark m) = mark_begins_primary m
-begins_primary (kinds.Word w) = false
+use Rattle.c_grammar.specs.Taking.{is_mark, is_word, take_word, of_mark, unary_of_mark, step_of_mark, specifier_of, take_mark, take_step, take_unary, take_specifiers}
+use Rattle.c_grammar.specs.Reading.{Readers, read_cast, read_unary}
+use Rattle.c_grammar.specs.Heads.{begins, begins_primary, mark_begins, mark_begins_primary}
 
 -- the first token of an expression
 pub record Head (t : Expr) : Type 0 where

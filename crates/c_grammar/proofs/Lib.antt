@@ -1,12 +1,10 @@
 pub mod Chains
-pub mod Taking
 pub mod Rows
 pub mod Reading
 pub mod Stops
 pub mod Heads
 pub mod Complete
 pub mod Values
-pub mod DeclarationReading
 pub mod DeclarationComplete
 pub mod StatementReading
 pub mod StatementComplete

@@ -1,7 +1,7 @@
 -- One more token of a row.
-use Rattle.std.proofs.Common.{◌≡◌, ℕ, List, [], ◌∷◌, ◌++◌, refl, ap, sym, ◌∙◌, append_assoc}
+use Rattle.std.proofs.Common.{◌≡◌, List, [], ◌∷◌, ◌++◌, refl, ap, sym, ◌∙◌, append_assoc}
 use Rattle.c_lexer.specs.declared.token.Token.{Token}
-use Rattle.c_grammar.proofs.Taking.{with_front, prefixed}
+use Rattle.c_grammar.specs.Taking.{with_front, prefixed}
 
 -- a row that goes on with one more
 pub prefixed_more : {A : Type 0} (xs : List A) (x : A) (r s out : List A × List Token) → prefixed xs r ≡ out → r ≡ with_front x s → prefixed (xs ++ x ∷ []) s ≡ out

@@ -1,5 +1,5 @@
 -- What is read of an expression is a tree of the rule, of exactly the tokens taken.
-use Rattle.std.proofs.Common.{◌≡◌, ℕ, zero, suc, ◌+◌, ◌≤◌, ◌<◌, max, Bool, true, false, ◌&&◌, List, [], ◌∷◌, ◌++◌, length, Option, Some, None, eqb, ltb, leb, if◌then◌else◌, refl, ap, sym, ◌∙◌, subst, arith, append_assoc}
+use Rattle.std.proofs.Common.{◌≡◌, ℕ, zero, suc, ◌+◌, ◌≤◌, Bool, true, false, ◌&&◌, List, [], ◌∷◌, ◌++◌, length, Option, Some, None, eqb, ltb, leb, if◌then◌else◌, refl, ap, sym, ◌∙◌, subst, arith, append_assoc}
 use Rattle.std.proofs.lemmas.Bool.{ltb-true, leb-true, eqb-true}
 use denote.Enum.Bare.{same_true}
 use Rattle.pcc_base.specs.declared.span.Span.{Span}
@@ -12,27 +12,22 @@ use Rattle.c_lexer.specs.declared.token.TokenKind.TheVariants as kinds
 use Rattle.c_lexer.specs.declared.token.Punct.{Punct}
 use Rattle.c_lexer.specs.declared.token.Punct.TheVariants as marks
 use Rattle.c_lexer.specs.contracts.token.Punct.{the_type as the_marks}
-use Rattle.c_raw.specs.declared.operator.BinaryOp.{BinaryOp}
-use Rattle.c_raw.specs.declared.operator.BinaryOp.TheVariants as binary
-use Rattle.c_raw.specs.declared.operator.UnaryOp.{UnaryOp}
-use Rattle.c_raw.specs.declared.operator.UnaryOp.TheVariants as unary
-use Rattle.c_raw.specs.declared.operator.StepOp.{StepOp}
-use Rattle.c_raw.specs.declared.operator.StepOp.TheVariants as step
-use Rattle.c_raw.specs.declared.operator.AssignOp.{AssignOp}
-use Rattle.c_raw.specs.declared.operator.AssignOp.TheVariants as assign
-use Rattle.c_raw.specs.declared.operator.SpecifierWord.{SpecifierWord}
-use Rattle.c_raw.specs.declared.operator.SpecifierWord.TheVariants as specifier
-use Rattle.c_raw.specs.declared.expression.Identifier.{Identifier as Ident}
-use Rattle.c_raw.specs.declared.expression.Specifier.{Specifier}
-use Rattle.c_raw.specs.declared.expression.TextPiece.{TextPiece}
+use Rattle.c_syntax.specs.declared.operator.BinaryOp.{BinaryOp}
+use Rattle.c_syntax.specs.declared.operator.UnaryOp.{UnaryOp}
+use Rattle.c_syntax.specs.declared.operator.StepOp.{StepOp}
+use Rattle.c_syntax.specs.declared.operator.AssignOp.{AssignOp}
+use Rattle.c_syntax.specs.declared.operator.SpecifierWord.{SpecifierWord}
+use Rattle.c_syntax.specs.declared.expression.Identifier.{Identifier as Ident}
+use Rattle.c_syntax.specs.declared.expression.Specifier.{Specifier}
 use Rattle.c_grammar.specs.Marks.{ident, mark, word, binary_mark, unary_mark, step_mark, assign_mark, specifier_word}
-use Rattle.c_grammar.specs.Expressions.{Star, Expr, Exprs, exprs_of, Identifier, Number, Text, Parenthesised, Call, Index, Postfix, Prefix, Unary, Cast, Binary, Conditional, Assignment, NoExpr, OneExpr}
-use Rattle.c_grammar.specs.ExpressionTokens.{expr_tokens, exprs_tokens, more_tokens, text_tokens, specifiers_tokens, consts_tokens, pointer_tokens, expr_height, exprs_height, looseness, IsExpr, AreValues, Separate, Follow, IsSpecifiers, binary_level}
+use Rattle.c_grammar.specs.Expressions.{Expr, exprs_of, Postfix}
+use Rattle.c_grammar.specs.ExpressionTokens.{expr_tokens, exprs_tokens, more_tokens, text_tokens, specifiers_tokens, consts_tokens, pointer_tokens, expr_height, exprs_height, looseness, IsExpr, AreValues, Separate, Follow, binary_level}
 use Rattle.c_grammar.proofs.Values.{exprs_height-push}
 use Rattle.c_grammar.proofs.Complete.{append_nil}
-use Rattle.c_grammar.proofs.Chains.{Step, Done, Fails, Goes, Reads, then_read, then_step, chain, chain_on, chained}
-use Rattle.c_grammar.proofs.Taking.{is_mark, is_word, of_mark, binary_of_mark, unary_of_mark, step_of_mark, assign_of_mark, specifier_of, specifier_of_word, at_level, taken, take_by, take_mark, take_word, take_unary, take_step, take_assign, take_binary, take_texts, texts_from, take_specifiers, specifiers_from, take_consts, take_pointer, pointer_from, with_front}
-use Rattle.c_grammar.proofs.Reading.{Reader, Readers, Values, readers, readers_over, no_readers, readers-none, readers-suc, value_at, value_step, arguments_from, read_arguments, call_from, parenthesised_from, text_from, primary_at, read_primary, index_from, postfix_from, suffix_from, suffix_step, read_postfix, unary_from, prefix_from, read_unary, cast_behind, cast_with, cast_from, read_cast, infix_from, infix_step, read_infix, read_binary, conditional_from, read_conditional, assignment_from, read_assignment, read_expression}
+use Rattle.c_grammar.specs.Chains.{Step, Done, Fails, Goes, Reads, then_read, then_step, chain, chain_on, chained}
+use Rattle.c_grammar.specs.Taking.{is_mark, is_word, of_mark, binary_of_mark, unary_of_mark, step_of_mark, assign_of_mark, specifier_of, specifier_of_word, at_level, taken, take_by, take_mark, take_word, take_unary, take_step, take_assign, take_binary, take_texts, texts_from, take_specifiers, specifiers_from, take_consts, take_pointer, pointer_from, with_front}
+use Rattle.c_grammar.specs.Reading.{Reader, Readers, Values, readers, readers_over, value_at, value_step, arguments_from, read_arguments, call_from, parenthesised_from, primary_at, read_primary, postfix_from, suffix_from, suffix_step, read_postfix, unary_from, prefix_from, read_unary, cast_with, cast_from, read_cast, infix_from, infix_step, read_infix, read_binary, conditional_from, read_conditional, assignment_from, read_assignment, read_expression}
+use Rattle.c_grammar.proofs.Reading.{readers-none, readers-suc}
 
 -- ---- what holds of what is read
 

@@ -1,24 +1,24 @@
 -- What is read of a declaration is a tree of the rule, of exactly the tokens taken.
-use Rattle.std.proofs.Common.{◌≡◌, ℕ, zero, suc, ◌+◌, ◌≤◌, ◌<◌, max, Bool, true, false, List, [], ◌∷◌, ◌++◌, length, length-append, Option, Some, None, refl, ap, sym, ◌∙◌, subst, arith, append_assoc}
+use Rattle.std.proofs.Common.{◌≡◌, ℕ, suc, ◌≤◌, List, [], ◌∷◌, ◌++◌, length, length-append, Option, Some, None, refl, ap, sym, ◌∙◌, arith, append_assoc}
 use Rattle.pcc_base.specs.declared.span.Span.{Span}
 use Rattle.c_lexer.specs.declared.token.Token.{Token}
 use Rattle.c_lexer.specs.declared.token.TokenKind.{TokenKind}
 use Rattle.c_lexer.specs.declared.token.TokenKind.TheVariants as kinds
 use Rattle.c_lexer.specs.declared.token.Punct.{Punct}
 use Rattle.c_lexer.specs.declared.token.Punct.TheVariants as marks
-use Rattle.c_raw.specs.declared.expression.Identifier.{Identifier}
-use Rattle.c_raw.specs.declared.expression.Specifier.{Specifier}
+use Rattle.c_syntax.specs.declared.expression.Identifier.{Identifier}
+use Rattle.c_syntax.specs.declared.expression.Specifier.{Specifier}
 use Rattle.c_grammar.specs.Marks.{mark, ident}
-use Rattle.c_grammar.specs.Expressions.{Star, Expr, Exprs, exprs_of, NoExpr, OneExpr}
-use Rattle.c_grammar.specs.ExpressionTokens.{expr_tokens, exprs_tokens, specifiers_tokens, pointer_tokens, expr_height, exprs_height, looseness, IsExpr, AreValues, Separate, IsSpecifiers}
-use Rattle.c_grammar.specs.Declarations.{ArrayTree, ParameterTree, ParametersTree, PartTree, Plain, Array, Function, DeclaratorTree, InitialiserTree, Single, Braces, ValueTree, ItemTree, DeclarationTree}
+use Rattle.c_grammar.specs.Expressions.{Star, Expr, exprs_of}
+use Rattle.c_grammar.specs.ExpressionTokens.{exprs_tokens, specifiers_tokens, pointer_tokens, exprs_height, looseness, IsExpr, AreValues, Separate, IsSpecifiers}
+use Rattle.c_grammar.specs.Declarations.{ArrayTree, ParameterTree, PartTree, Function, DeclaratorTree, InitialiserTree, Braces, ValueTree, ItemTree, DeclarationTree}
 use Rattle.c_grammar.specs.DeclarationTokens.{followed, separated, AreApart, AllAre, greatest, maybe_expr_tokens, array_tokens, maybe_array_tokens, maybe_name_tokens, parameter_tokens, parameters_tokens, part_tokens, declarator_tokens, maybe_comma_tokens, initialiser_tokens, value_tokens, item_tokens, declaration_tokens, maybe_expr_height, maybe_array_height, parameter_height, part_height, initialiser_height, value_height, item_height, declaration_height, IsMaybeConditional, IsMaybeArray, IsParameter, IsPart, IsInitialiser, IsMaybeValue, IsItem, AreItems, IsDeclaration}
-use Rattle.c_grammar.proofs.Chains.{Step, Done, Fails, Goes, Reads, then_read, then_step, chained}
-use Rattle.c_grammar.proofs.Taking.{take_mark, take_specifiers, take_pointer}
-use Rattle.c_grammar.proofs.Reading.{Reader, Readers, Values}
+use Rattle.c_grammar.specs.Chains.{Reads, chained}
+use Rattle.c_grammar.specs.Taking.{take_mark, take_specifiers, take_pointer}
+use Rattle.c_grammar.specs.Reading.{Reader, Readers, Values}
 use Rattle.c_grammar.proofs.Complete.{append_nil}
 use Rattle.c_grammar.proofs.Sound.{Holds, HoldsStep, holds_then, step_then, holds_chain, mark_taken, specifiers_taken, pointer_taken, Sound, SoundReader, SoundReaders, SoundValues, values_push, first_value}
-use Rattle.c_grammar.proofs.DeclarationReading.{Listed, list_at, list_step, read_more, name_from, take_name, maybe_from, maybe_before, array_behind, maybe_array_from, read_maybe_array, parameter_with, read_parameter, parameters_from, read_parameters, parameters_behind, part_in_parens, part_from, read_part, declarator_named, read_declarator, brace_close, brace_at, brace_step, comma_from, take_comma, braces_end, braces_behind, initialiser_from, read_initialiser, value_from, item_behind, read_item, declaration_behind, declaration_with, read_declaration}
+use Rattle.c_grammar.specs.DeclarationReading.{Listed, list_at, list_step, read_more, name_from, take_name, maybe_from, maybe_before, array_behind, maybe_array_from, read_maybe_array, parameter_with, read_parameter, parameters_from, read_parameters, parameters_behind, part_in_parens, part_from, read_part, declarator_named, read_declarator, brace_close, brace_at, brace_step, comma_from, take_comma, initialiser_from, read_initialiser, value_from, item_behind, read_item, declaration_behind, declaration_with, read_declaration}
 
 -- ---- lists with commas
 

@@ -1,28 +1,29 @@
 -- What is read of statements and of a unit is a tree of the rule, of exactly the tokens taken.
-use Rattle.std.proofs.Common.{◌≡◌, ℕ, zero, suc, ◌+◌, ◌≤◌, ◌<◌, max, Bool, true, false, List, [], ◌∷◌, ◌++◌, length, Option, Some, None, refl, ap, sym, ◌∙◌, subst, arith, append_assoc}
+use Rattle.std.proofs.Common.{◌≡◌, ℕ, zero, suc, ◌≤◌, max, Bool, true, false, List, [], ◌∷◌, ◌++◌, length, Option, Some, None, refl, ap, sym, ◌∙◌, subst, arith, append_assoc}
 use Rattle.pcc_base.specs.declared.span.Span.{Span}
 use Rattle.pcc_base.specs.declared.keyword.Keyword.TheVariants as words
 use Rattle.c_lexer.specs.declared.token.Token.{Token}
-use Rattle.c_lexer.specs.declared.token.Punct.{Punct}
 use Rattle.c_lexer.specs.declared.token.Punct.TheVariants as marks
-use Rattle.c_raw.specs.declared.expression.Specifier.{Specifier}
+use Rattle.c_syntax.specs.declared.expression.Specifier.{Specifier}
 use Rattle.c_grammar.specs.Marks.{mark, word}
 use Rattle.c_grammar.specs.Expressions.{Expr}
-use Rattle.c_grammar.specs.ExpressionTokens.{expr_tokens, expr_height, looseness, IsExpr, IsSpecifiers, specifiers_tokens}
-use Rattle.c_grammar.specs.Declarations.{DeclarationTree, DeclaratorTree, PartTree, Plain, Array, Function}
-use Rattle.c_grammar.specs.DeclarationTokens.{maybe_expr_tokens, maybe_expr_height, declaration_tokens, declaration_height, declarator_tokens, part_height, IsDeclaration, IsPart, AllAre, greatest}
-use Rattle.c_grammar.specs.Statements.{LabelTree, Case, Default, Stmt, Declared, Labelled, Block, Simple, If, IfElse, Switch, While, Do, For, ForDeclaration, Break, Continue, Return, Stmts, NoStmt, OneStmt, stmts_of, ExternalTree, FunctionTree, DeclaredTree}
+use Rattle.c_grammar.specs.ExpressionTokens.{expr_tokens, expr_height, IsExpr, IsSpecifiers, specifiers_tokens}
+use Rattle.c_grammar.specs.Declarations.{DeclaratorTree, PartTree, Plain, Array, Function}
+use Rattle.c_grammar.specs.DeclarationTokens.{maybe_expr_tokens, maybe_expr_height, declaration_tokens, declarator_tokens, AllAre, greatest}
+use Rattle.c_grammar.specs.Statements.{LabelTree, Case, Default, Stmt, Declared, Labelled, Block, Simple, If, IfElse, Switch, While, Do, For, ForDeclaration, Break, Continue, Return, stmts_of, ExternalTree, DeclaredTree}
 use Rattle.c_grammar.specs.StatementTokens.{label_tokens, labels_tokens, in_parens, stmt_tokens, stmts_tokens, label_height, stmt_height, stmts_height, ends_open, IsMaybeExpr, IsLabel, IsPlain, IsBlockItem, IsCase, IsStmt, AreItems, AreCases}
 use Rattle.c_grammar.specs.Grammar.{external_tokens, unit_tokens, external_height, HasParameters, IsBlock, IsExternal, Tree}
-use Rattle.c_grammar.proofs.Chains.{Step, Done, Fails, Goes, Reads, then_read, then_step, chained}
-use Rattle.c_grammar.proofs.Taking.{take_mark, take_word, take_specifiers}
-use Rattle.c_grammar.proofs.Reading.{Reader, Readers, readers, readers-none}
+use Rattle.c_grammar.specs.Chains.{Reads, then_read}
+use Rattle.c_grammar.specs.Taking.{take_mark, take_word, take_specifiers}
+use Rattle.c_grammar.specs.Reading.{Reader, Readers, readers}
+use Rattle.c_grammar.proofs.Reading.{readers-none}
 use Rattle.c_grammar.proofs.Complete.{append_nil}
 use Rattle.c_grammar.proofs.Heads.{expression_no_mark}
 use Rattle.c_grammar.proofs.Sound.{Holds, HoldsStep, holds_then, step_then, holds_chain, mark_taken, word_taken, specifiers_taken, Sound, SoundReader, SoundReaders, sound}
 use Rattle.c_grammar.proofs.SoundDeclarations.{One, MaybeIs, SoundMaybe, sound_maybe, IsLowDeclarator, sound_declarator, IsLowDeclaration, sound_declaration_behind, sound_declaration}
-use Rattle.c_grammar.proofs.DeclarationReading.{maybe_before, read_declarator, declaration_behind, read_declaration}
-use Rattle.c_grammar.proofs.StatementReading.{StmtReader, Below, below_of, below_over, below_of-suc, below_of-none, Condition, read_condition, until_at, until_step, read_until, default_at, label_at, label_step, read_labels, read_labelled, item_with, read_block_item, block_behind, else_from, if_behind, while_behind, do_behind, ForRest, read_for_rest, for_with, for_behind, switch_behind, break_behind, continue_behind, return_behind, read_simple, or_return, or_continue, or_break, or_switch, or_for, or_do, or_while, or_if, or_block, read_statement, has_parameters, external_from, external_behind, external_with, read_external, unit_step, read_unit}
+use Rattle.c_grammar.specs.DeclarationReading.{maybe_before, read_declarator, declaration_behind, read_declaration}
+use Rattle.c_grammar.specs.StatementReading.{StmtReader, Below, below_of, below_over, Condition, read_condition, until_at, until_step, read_until, default_at, label_at, label_step, read_labels, read_labelled, item_with, read_block_item, block_behind, else_from, if_behind, while_behind, do_behind, ForRest, read_for_rest, for_with, for_behind, switch_behind, or_return, or_continue, or_break, or_switch, or_for, or_do, or_while, or_if, or_block, read_statement, has_parameters, external_from, external_with, read_external, unit_step, read_unit}
+use Rattle.c_grammar.proofs.StatementReading.{below_of-suc, below_of-none}
 
 -- a statement of a kind, so high at most; where it ends in an open `if`, no `else` comes next
 pub record SoundStmt (K : Stmt → Type 0) (h : ℕ) (ts : List Token) (s : Stmt) (us : List Token) : Type 0 where

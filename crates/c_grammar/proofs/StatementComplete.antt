@@ -1,30 +1,31 @@
 -- Every statement and every unit is read.
-use Rattle.std.proofs.Common.{◌≡◌, ℕ, zero, suc, ◌+◌, ◌≤◌, ◌<◌, max, Bool, true, false, List, [], ◌∷◌, ◌++◌, length, length-append, Option, Some, None, refl, ap, sym, ◌∙◌, subst, arith, append_assoc}
+use Rattle.std.proofs.Common.{◌≡◌, ℕ, zero, suc, ◌+◌, ◌≤◌, ◌<◌, Bool, true, false, List, [], ◌∷◌, ◌++◌, length, length-append, Option, Some, None, refl, ap, sym, ◌∙◌, subst, arith, append_assoc}
 use Rattle.pcc_base.specs.declared.span.Span.{Span}
 use Rattle.pcc_base.specs.declared.keyword.Keyword.TheVariants as words
 use Rattle.c_lexer.specs.declared.token.Token.{Token}
-use Rattle.c_lexer.specs.declared.token.Punct.{Punct}
 use Rattle.c_lexer.specs.declared.token.Punct.TheVariants as marks
-use Rattle.c_raw.specs.declared.operator.SpecifierWord.{SpecifierWord}
-use Rattle.c_raw.specs.declared.operator.SpecifierWord.TheVariants as specifier
-use Rattle.c_raw.specs.declared.expression.Specifier.{Specifier}
+use Rattle.c_syntax.specs.declared.operator.SpecifierWord.{SpecifierWord}
+use Rattle.c_syntax.specs.declared.operator.SpecifierWord.TheVariants as specifier
+use Rattle.c_syntax.specs.declared.expression.Specifier.{Specifier}
 use Rattle.c_grammar.specs.Marks.{mark, word, specifier_word}
 use Rattle.c_grammar.specs.Expressions.{Expr}
-use Rattle.c_grammar.specs.ExpressionTokens.{expr_tokens, expr_height, looseness, IsExpr, IsSpecifiers, specifiers_tokens}
+use Rattle.c_grammar.specs.ExpressionTokens.{expr_tokens, expr_height, IsExpr, IsSpecifiers, specifiers_tokens}
 use Rattle.c_grammar.specs.Declarations.{DeclarationTree, DeclaratorTree, PartTree, Plain, Array, Function}
-use Rattle.c_grammar.specs.DeclarationTokens.{maybe_expr_tokens, maybe_expr_height, declaration_tokens, declaration_height, declarator_tokens, part_height, IsDeclaration, IsPart, AllAre, greatest, separated, item_tokens}
+use Rattle.c_grammar.specs.DeclarationTokens.{maybe_expr_tokens, maybe_expr_height, declaration_tokens, declaration_height, declarator_tokens, IsDeclaration, AllAre, greatest, separated, item_tokens}
 use Rattle.c_grammar.specs.Statements.{LabelTree, Case, Default, Stmt, Declared, Labelled, Block, Simple, If, IfElse, Switch, While, Do, For, ForDeclaration, Break, Continue, Return, Stmts, NoStmt, OneStmt, stmts_of, ExternalTree, FunctionTree, DeclaredTree}
-use Rattle.c_grammar.specs.StatementTokens.{label_tokens, labels_tokens, in_parens, stmt_tokens, stmts_tokens, label_height, stmt_height, stmts_height, ends_open, IsMaybeExpr, IsLabel, IsPlain, IsBlockItem, IsCase, IsStmt, AreItems, AreCases}
+use Rattle.c_grammar.specs.StatementTokens.{labels_tokens, in_parens, stmt_tokens, stmts_tokens, label_height, stmt_height, stmts_height, ends_open, IsMaybeExpr, IsLabel, IsPlain, IsBlockItem, IsCase, IsStmt, AreItems, AreCases}
 use Rattle.c_grammar.specs.Grammar.{external_tokens, unit_tokens, external_height, HasParameters, IsBlock, IsExternal, Tree}
-use Rattle.c_grammar.proofs.Chains.{Step, Done, Goes, Reads, then_read, chained, Continues, continues_start, continues_goes, continues_done}
-use Rattle.c_grammar.proofs.Taking.{take_mark, take_word, take_specifiers}
-use Rattle.c_grammar.proofs.Reading.{Readers, readers, readers-none}
-use Rattle.c_grammar.proofs.Stops.{Stops}
+use Rattle.c_grammar.specs.Chains.{Done, Goes, Reads, then_read}
+use Rattle.c_grammar.proofs.Chains.{Continues, continues_start, continues_goes, continues_done}
+use Rattle.c_grammar.specs.Taking.{take_mark, take_word, take_specifiers}
+use Rattle.c_grammar.specs.Reading.{Readers, readers}
+use Rattle.c_grammar.proofs.Reading.{readers-none}
 use Rattle.c_grammar.proofs.Heads.{expression_no_mark, expression_no_word, expression_no_specifiers}
-use Rattle.c_grammar.proofs.Complete.{Complete, complete, loosest, append_nil, NoSpecifier, takes_specifiers, pointer_no_specifier}
-use Rattle.c_grammar.proofs.DeclarationReading.{maybe_before, read_declarator, declaration_behind, read_declaration}
-use Rattle.c_grammar.proofs.DeclarationComplete.{MaybeFits, maybe_read, declaration_read, DeclarationRead, declarator_read, declarator_no_specifier}
-use Rattle.c_grammar.proofs.StatementReading.{StmtReader, Below, below_of, below_over, below_of-suc, below_of-none, nothing_below, read_condition, until_step, read_until, label_step, read_labels, read_labelled, item_with, read_block_item, read_for_rest, for_with, for_behind, read_statement, external_behind, external_from, read_external, unit_step, read_unit, has_parameters}
+use Rattle.c_grammar.proofs.Complete.{Complete, complete, loosest, append_nil, takes_specifiers}
+use Rattle.c_grammar.specs.DeclarationReading.{maybe_before, read_declarator, declaration_behind, read_declaration}
+use Rattle.c_grammar.proofs.DeclarationComplete.{MaybeFits, maybe_read, declaration_read, declarator_read, declarator_no_specifier}
+use Rattle.c_grammar.specs.StatementReading.{StmtReader, Below, below_of, below_over, read_condition, until_step, read_until, label_step, read_labels, read_labelled, read_block_item, read_for_rest, for_behind, read_statement, external_from, read_external, unit_step, read_unit, has_parameters}
+use Rattle.c_grammar.proofs.StatementReading.{below_of-suc, below_of-none}
 
 -- a reader finds the statements that are at most so high
 abbrev pub FindsStmt : ℕ → StmtReader → Type 0

@@ -1,30 +1,26 @@
 -- Where the reading of a rule ends: the next token goes on with no tree of that rule.
-use Rattle.std.proofs.Common.{◌≡◌, ℕ, suc, ◌+◌, ◌≤◌, ◌<◌, Bool, true, false, List, [], ◌∷◌, ◌++◌, Option, Some, None, MatchOption, eqb, refl, ap, sym, ◌∙◌, subst, arith}
+use Rattle.std.proofs.Common.{◌≡◌, ℕ, ◌+◌, ◌≤◌, ◌<◌, false, List, [], ◌∷◌, ◌++◌, Option, Some, None, MatchOption, eqb, refl, subst, arith}
 use Rattle.std.proofs.lemmas.Bool.Decides.{nat_tests}
-use denote.Enum.Bare.{sameb, false_same}
+use denote.Enum.Bare.{false_same}
 use Rattle.pcc_base.specs.declared.span.Span.{Span}
-use Rattle.pcc_base.specs.declared.keyword.Keyword.{Keyword}
-use Rattle.pcc_base.specs.declared.keyword.Keyword.TheVariants as words
 use Rattle.c_lexer.specs.declared.token.Token.{Token}
 use Rattle.c_lexer.specs.declared.token.TokenKind.{TokenKind}
 use Rattle.c_lexer.specs.declared.token.TokenKind.TheVariants as kinds
 use Rattle.c_lexer.specs.declared.token.Punct.{Punct}
 use Rattle.c_lexer.specs.declared.token.Punct.TheVariants as marks
 use Rattle.c_lexer.specs.contracts.token.Punct.{the_type as the_marks}
-use Rattle.c_raw.specs.declared.operator.BinaryOp.{BinaryOp}
-use Rattle.c_raw.specs.declared.operator.BinaryOp.TheVariants as binary
-use Rattle.c_raw.specs.declared.operator.UnaryOp.{UnaryOp}
-use Rattle.c_raw.specs.declared.operator.UnaryOp.TheVariants as unary
-use Rattle.c_raw.specs.declared.operator.StepOp.{StepOp}
-use Rattle.c_raw.specs.declared.operator.StepOp.TheVariants as step
-use Rattle.c_raw.specs.declared.operator.AssignOp.{AssignOp}
-use Rattle.c_raw.specs.declared.operator.AssignOp.TheVariants as assign
-use Rattle.c_raw.specs.declared.operator.SpecifierWord.{SpecifierWord}
-use Rattle.c_raw.specs.declared.operator.SpecifierWord.TheVariants as specifier
-use Rattle.c_raw.specs.declared.expression.TextPiece.{TextPiece}
-use Rattle.c_grammar.specs.Marks.{mark, binary_mark, unary_mark, step_mark, assign_mark, specifier_word}
+use Rattle.c_syntax.specs.declared.operator.BinaryOp.{BinaryOp}
+use Rattle.c_syntax.specs.declared.operator.BinaryOp.TheVariants as binary
+use Rattle.c_syntax.specs.declared.operator.UnaryOp.{UnaryOp}
+use Rattle.c_syntax.specs.declared.operator.UnaryOp.TheVariants as unary
+use Rattle.c_syntax.specs.declared.operator.StepOp.{StepOp}
+use Rattle.c_syntax.specs.declared.operator.StepOp.TheVariants as step
+use Rattle.c_syntax.specs.declared.operator.AssignOp.{AssignOp}
+use Rattle.c_syntax.specs.declared.operator.AssignOp.TheVariants as assign
+use Rattle.c_syntax.specs.declared.expression.TextPiece.{TextPiece}
+use Rattle.c_grammar.specs.Marks.{mark, binary_mark, unary_mark, step_mark, assign_mark}
 use Rattle.c_grammar.specs.ExpressionTokens.{binary_level, text_tokens}
-use Rattle.c_grammar.proofs.Taking.{is_mark, of_mark, binary_of_mark, unary_of_mark, step_of_mark, assign_of_mark, specifier_of_word, at_level, take_mark, take_step, take_unary, take_assign, take_binary, take_texts, texts_from}
+use Rattle.c_grammar.specs.Taking.{is_mark, of_mark, binary_of_mark, step_of_mark, assign_of_mark, at_level, take_mark, take_step, take_unary, take_assign, take_binary, take_texts, texts_from}
 
 -- how loose a rule is that goes on with a mark behind its first part; 17 where none does
 abbrev pub mark_joins : Punct → ℕ

@@ -1,6 +1,6 @@
 -- Several values: their heights, and one more at the end.
-use Rattle.std.proofs.Common.{◌≡◌, ℕ, ◌≤◌, max, List, [], ◌∷◌, ◌++◌, refl, ap, arith}
-use Rattle.c_grammar.specs.Expressions.{Expr, Exprs, exprs_of, NoExpr, OneExpr}
+use Rattle.std.proofs.Common.{◌≡◌, max, List, [], ◌∷◌, ◌++◌, arith}
+use Rattle.c_grammar.specs.Expressions.{Expr, exprs_of}
 use Rattle.c_grammar.specs.ExpressionTokens.{expr_height, exprs_height}
 
 pub exprs_height-push : (es : List Expr) (e : Expr) → exprs_height (exprs_of (es ++ e ∷ [])) ≡ max (exprs_height (exprs_of es)) (expr_height e)

@@ -3,9 +3,9 @@ use Rattle.std.specs.Prelude.{◌≡◌, ℕ, suc, ◌≤◌, max, List, [], ◌
 use Rattle.pcc_base.specs.declared.span.Span.{Span}
 use Rattle.c_lexer.specs.declared.token.Token.{Token}
 use Rattle.c_lexer.specs.declared.token.Punct.TheVariants as marks
-use Rattle.c_raw.specs.declared.expression.Identifier.{Identifier}
+use Rattle.c_syntax.specs.declared.expression.Identifier.{Identifier}
 use Rattle.c_grammar.specs.Marks.{ident, mark}
-use Rattle.c_grammar.specs.Expressions.{Expr, Exprs, NoExpr, OneExpr}
+use Rattle.c_grammar.specs.Expressions.{Expr, NoExpr, OneExpr}
 use Rattle.c_grammar.specs.ExpressionTokens.{specifiers_tokens, pointer_tokens, expr_tokens, exprs_tokens, expr_height, exprs_height, looseness, IsExpr, AreValues, Separate, IsSpecifiers}
 use Rattle.c_grammar.specs.Declarations.{ArrayTree, ParameterTree, ParametersTree, PartTree, Plain, Array, Function, DeclaratorTree, InitialiserTree, Single, Braces, ValueTree, ItemTree, DeclarationTree}
 

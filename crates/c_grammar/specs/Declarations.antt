@@ -1,20 +1,20 @@
 -- Declarations as definitions see them: without the boxes and vectors that hold their parts.
-use Rattle.std.specs.Prelude.{ℕ, List, [], ◌∷◌, map, Option, Some, None}
+use Rattle.std.specs.Prelude.{List, map, Option, Some, None}
 use Rattle.pcc_base.specs.declared.span.Span.{Span}
-use Rattle.c_raw.specs.declared.expression.Identifier.{Identifier}
-use Rattle.c_raw.specs.declared.expression.Specifier.{Specifier}
-use Rattle.c_raw.specs.declared.expression.Expression.{Expression}
-use Rattle.c_raw.specs.declared.declaration.ArrayPart.{ArrayPart}
-use Rattle.c_raw.specs.declared.declaration.Parameter.{Parameter}
-use Rattle.c_raw.specs.declared.declaration.ParametersPart.{ParametersPart}
-use Rattle.c_raw.specs.declared.declaration.DeclaratorPart.{DeclaratorPart}
-use Rattle.c_raw.specs.declared.declaration.DeclaratorPart.TheVariants as parts
-use Rattle.c_raw.specs.declared.declaration.Declarator.{Declarator}
-use Rattle.c_raw.specs.declared.declaration.Initialiser.{Initialiser}
-use Rattle.c_raw.specs.declared.declaration.Initialiser.TheVariants as initialisers
-use Rattle.c_raw.specs.declared.declaration.InitialiserPart.{InitialiserPart}
-use Rattle.c_raw.specs.declared.declaration.Item.{Item}
-use Rattle.c_raw.specs.declared.declaration.Declaration.{Declaration}
+use Rattle.c_syntax.specs.declared.expression.Identifier.{Identifier}
+use Rattle.c_syntax.specs.declared.expression.Specifier.{Specifier}
+use Rattle.c_syntax.specs.declared.expression.Expression.{Expression}
+use Rattle.c_syntax.specs.declared.declaration.ArrayPart.{ArrayPart}
+use Rattle.c_syntax.specs.declared.declaration.Parameter.{Parameter}
+use Rattle.c_syntax.specs.declared.declaration.ParametersPart.{ParametersPart}
+use Rattle.c_syntax.specs.declared.declaration.DeclaratorPart.{DeclaratorPart}
+use Rattle.c_syntax.specs.declared.declaration.DeclaratorPart.TheVariants as parts
+use Rattle.c_syntax.specs.declared.declaration.Declarator.{Declarator}
+use Rattle.c_syntax.specs.declared.declaration.Initialiser.{Initialiser}
+use Rattle.c_syntax.specs.declared.declaration.Initialiser.TheVariants as initialisers
+use Rattle.c_syntax.specs.declared.declaration.InitialiserPart.{InitialiserPart}
+use Rattle.c_syntax.specs.declared.declaration.Item.{Item}
+use Rattle.c_syntax.specs.declared.declaration.Declaration.{Declaration}
 use Rattle.c_grammar.specs.Expressions.{Star, star_of, Expr, Exprs, exprs_of, expr_of}
 
 -- '[' conditional? ']'

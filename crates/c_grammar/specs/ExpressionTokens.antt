@@ -1,13 +1,13 @@
 -- The grammar of expressions: the tokens of a tree, its height, and which trees the rules make.
-use Rattle.std.specs.Prelude.{◌≡◌, ℕ, suc, ◌+◌, ◌≤◌, ◌<◌, max, List, [], ◌∷◌, ◌++◌, length, Option, Some, None}
+use Rattle.std.specs.Prelude.{◌≡◌, ℕ, suc, ◌+◌, ◌≤◌, ◌<◌, max, List, [], ◌∷◌, ◌++◌, Option, Some, None}
 use Rattle.pcc_base.specs.declared.span.Span.{Span}
 use Rattle.pcc_base.specs.declared.keyword.Keyword.TheVariants as words
 use Rattle.c_lexer.specs.declared.token.Token.{Token}
 use Rattle.c_lexer.specs.declared.token.Punct.TheVariants as marks
-use Rattle.c_raw.specs.declared.operator.BinaryOp.{BinaryOp}
-use Rattle.c_raw.specs.declared.operator.BinaryOp.TheVariants as binary
-use Rattle.c_raw.specs.declared.expression.Specifier.{Specifier}
-use Rattle.c_raw.specs.declared.expression.TextPiece.{TextPiece}
+use Rattle.c_syntax.specs.declared.operator.BinaryOp.{BinaryOp}
+use Rattle.c_syntax.specs.declared.operator.BinaryOp.TheVariants as binary
+use Rattle.c_syntax.specs.declared.expression.Specifier.{Specifier}
+use Rattle.c_syntax.specs.declared.expression.TextPiece.{TextPiece}
 use Rattle.c_grammar.specs.Marks.{ident, number, text, mark, word, binary_mark, unary_mark, step_mark, assign_mark, specifier_word}
 use Rattle.c_grammar.specs.Expressions.{Star, Expr, Exprs, Identifier, Number, Text, Parenthesised, Call, Index, Postfix, Prefix, Unary, Cast, Binary, Conditional, Assignment, NoExpr, OneExpr}
 

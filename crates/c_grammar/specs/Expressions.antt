@@ -1,18 +1,18 @@
 -- Expressions as definitions see them: without the boxes and vectors that hold their parts.
-use Rattle.std.specs.Prelude.{ℕ, ℤ, List, [], ◌∷◌, ◌++◌, Option, Some, None}
+use Rattle.std.specs.Prelude.{ℤ, List, [], ◌∷◌, Option, Some, None}
 use Rattle.pcc_base.specs.declared.span.Span.{Span}
-use Rattle.c_raw.specs.declared.operator.BinaryOp.{BinaryOp}
-use Rattle.c_raw.specs.declared.operator.UnaryOp.{UnaryOp}
-use Rattle.c_raw.specs.declared.operator.StepOp.{StepOp}
-use Rattle.c_raw.specs.declared.operator.AssignOp.{AssignOp}
-use Rattle.c_raw.specs.declared.expression.Identifier.{Identifier as Ident}
-use Rattle.c_raw.specs.declared.expression.Specifier.{Specifier}
-use Rattle.c_raw.specs.declared.expression.TextPiece.{TextPiece}
-use Rattle.c_raw.specs.declared.expression.Pointer.{Pointer}
-use Rattle.c_raw.specs.declared.expression.Expression.{Expression}
-use Rattle.c_raw.specs.declared.expression.Expression.TheOpen.{Expression-F}
-use Rattle.c_raw.specs.declared.expression.Expression.TheOpen as layers
-use Rattle.c_raw.specs.declared.expression.Expression.TheFolds.{fold-Expression}
+use Rattle.c_syntax.specs.declared.operator.BinaryOp.{BinaryOp}
+use Rattle.c_syntax.specs.declared.operator.UnaryOp.{UnaryOp}
+use Rattle.c_syntax.specs.declared.operator.StepOp.{StepOp}
+use Rattle.c_syntax.specs.declared.operator.AssignOp.{AssignOp}
+use Rattle.c_syntax.specs.declared.expression.Identifier.{Identifier as Ident}
+use Rattle.c_syntax.specs.declared.expression.Specifier.{Specifier}
+use Rattle.c_syntax.specs.declared.expression.TextPiece.{TextPiece}
+use Rattle.c_syntax.specs.declared.expression.Pointer.{Pointer}
+use Rattle.c_syntax.specs.declared.expression.Expression.{Expression}
+use Rattle.c_syntax.specs.declared.expression.Expression.TheOpen.{Expression-F}
+use Rattle.c_syntax.specs.declared.expression.Expression.TheOpen as layers
+use Rattle.c_syntax.specs.declared.expression.Expression.TheFolds.{fold-Expression}
 
 -- `*`, and the words `const` behind it
 pub record Star : Type 0 where

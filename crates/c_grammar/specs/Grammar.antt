@@ -2,7 +2,7 @@
 use Rattle.std.specs.Prelude.{◌≡◌, ℕ, suc, max, List, [], ◌∷◌, ◌++◌}
 use Rattle.c_lexer.specs.declared.token.Token.{Token}
 use Rattle.c_grammar.specs.ExpressionTokens.{specifiers_tokens, IsSpecifiers}
-use Rattle.c_grammar.specs.Declarations.{PartTree, Plain, Array, Function}
+use Rattle.c_grammar.specs.Declarations.{PartTree, Function}
 use Rattle.c_grammar.specs.DeclarationTokens.{declarator_tokens, declaration_tokens, part_height, declaration_height, IsPart, IsDeclaration, AllAre, greatest}
 use Rattle.c_grammar.specs.Statements.{Stmt, Block, ExternalTree, FunctionTree, DeclaredTree}
 use Rattle.c_grammar.specs.StatementTokens.{stmt_tokens, stmt_height, IsStmt}

@@ -1,5 +1,5 @@
 -- Which token each operator and specifier is (C99 6.4.1, 6.4.6).
-use Rattle.std.specs.Prelude.{ℕ, ℤ, List, [], ◌∷◌}
+use Rattle.std.specs.Prelude.{ℕ, ℤ, List}
 use Rattle.pcc_base.specs.declared.span.Span.{Span}
 use Rattle.pcc_base.specs.declared.keyword.Keyword.{Keyword}
 use Rattle.pcc_base.specs.declared.keyword.Keyword.TheVariants as words
@@ -7,16 +7,16 @@ use Rattle.c_lexer.specs.declared.token.Token.{Token}
 use Rattle.c_lexer.specs.declared.token.TokenKind.TheVariants as kinds
 use Rattle.c_lexer.specs.declared.token.Punct.{Punct}
 use Rattle.c_lexer.specs.declared.token.Punct.TheVariants as marks
-use Rattle.c_raw.specs.declared.operator.BinaryOp.{BinaryOp}
-use Rattle.c_raw.specs.declared.operator.BinaryOp.TheVariants as binary
-use Rattle.c_raw.specs.declared.operator.UnaryOp.{UnaryOp}
-use Rattle.c_raw.specs.declared.operator.UnaryOp.TheVariants as unary
-use Rattle.c_raw.specs.declared.operator.StepOp.{StepOp}
-use Rattle.c_raw.specs.declared.operator.StepOp.TheVariants as step
-use Rattle.c_raw.specs.declared.operator.AssignOp.{AssignOp}
-use Rattle.c_raw.specs.declared.operator.AssignOp.TheVariants as assign
-use Rattle.c_raw.specs.declared.operator.SpecifierWord.{SpecifierWord}
-use Rattle.c_raw.specs.declared.operator.SpecifierWord.TheVariants as specifier
+use Rattle.c_syntax.specs.declared.operator.BinaryOp.{BinaryOp}
+use Rattle.c_syntax.specs.declared.operator.BinaryOp.TheVariants as binary
+use Rattle.c_syntax.specs.declared.operator.UnaryOp.{UnaryOp}
+use Rattle.c_syntax.specs.declared.operator.UnaryOp.TheVariants as unary
+use Rattle.c_syntax.specs.declared.operator.StepOp.{StepOp}
+use Rattle.c_syntax.specs.declared.operator.StepOp.TheVariants as step
+use Rattle.c_syntax.specs.declared.operator.AssignOp.{AssignOp}
+use Rattle.c_syntax.specs.declared.operator.AssignOp.TheVariants as assign
+use Rattle.c_syntax.specs.declared.operator.SpecifierWord.{SpecifierWord}
+use Rattle.c_syntax.specs.declared.operator.SpecifierWord.TheVariants as specifier
 
 -- ---- tokens at a place
 

@@ -1,16 +1,16 @@
 -- Statements and units as definitions see them: without the boxes and vectors that hold their parts.
-use Rattle.std.specs.Prelude.{ℕ, List, [], ◌∷◌, map, Option, Some, None}
+use Rattle.std.specs.Prelude.{List, [], ◌∷◌, map, Option}
 use Rattle.pcc_base.specs.declared.span.Span.{Span}
-use Rattle.c_raw.specs.declared.expression.Specifier.{Specifier}
-use Rattle.c_raw.specs.declared.statement.Label.{Label}
-use Rattle.c_raw.specs.declared.statement.Label.TheVariants as labels
-use Rattle.c_raw.specs.declared.statement.Statement.{Statement}
-use Rattle.c_raw.specs.declared.statement.Statement.TheOpen.{Statement-F}
-use Rattle.c_raw.specs.declared.statement.Statement.TheOpen as layers
-use Rattle.c_raw.specs.declared.statement.Statement.TheFolds.{fold-Statement}
-use Rattle.c_raw.specs.declared.unit.External.{External}
-use Rattle.c_raw.specs.declared.unit.External.TheVariants as externals
-use Rattle.c_raw.specs.declared.unit.RawUnit.{RawUnit}
+use Rattle.c_syntax.specs.declared.expression.Specifier.{Specifier}
+use Rattle.c_syntax.specs.declared.statement.Label.{Label}
+use Rattle.c_syntax.specs.declared.statement.Label.TheVariants as labels
+use Rattle.c_syntax.specs.declared.statement.Statement.{Statement}
+use Rattle.c_syntax.specs.declared.statement.Statement.TheOpen.{Statement-F}
+use Rattle.c_syntax.specs.declared.statement.Statement.TheOpen as layers
+use Rattle.c_syntax.specs.declared.statement.Statement.TheFolds.{fold-Statement}
+use Rattle.c_syntax.specs.declared.unit.External.{External}
+use Rattle.c_syntax.specs.declared.unit.External.TheVariants as externals
+use Rattle.c_syntax.specs.declared.unit.RawUnit.{RawUnit}
 use Rattle.c_grammar.specs.Expressions.{Expr, expr_of}
 use Rattle.c_grammar.specs.Declarations.{DeclarationTree, DeclaratorTree, maybe_expr_of, declaration_of, declarator_of}
 

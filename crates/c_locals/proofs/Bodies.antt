@@ -3,7 +3,7 @@ use Rattle.std.proofs.Common.{◌≡◌, ◌<◌, ◌≤◌, ◌+◌, ℕ, suc, 
 use Rattle.std.proofs.Common.{None, refl, ap, sym, ◌∙◌, arith, add-one, length-drop}
 use Rattle.std.proofs.Math.Seq.{drop-cons}
 use Rattle.std.proofs.lemmas.List.{drop_all}
-use Rattle.c_raw.specs.declared.statement.Statement.{Statement as Raw}
+use Rattle.c_syntax.specs.declared.statement.Statement.{Statement as Raw}
 use Rattle.c_grammar.specs.Expressions.{Expr}
 use Rattle.c_grammar.specs.Statements.{Stmts, NoStmt, OneStmt, stmts_of, stmt_of}
 use Rattle.c_tree.specs.declared.statement.Statement.{Statement as Built}

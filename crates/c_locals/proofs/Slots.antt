@@ -2,8 +2,8 @@
 use Rattle.std.proofs.Common.{◌≡◌, ◌≤◌, ◌<◌, ◌⊎◌, ℕ, suc, List, [], ◌∷◌, map, length, Some}
 use Rattle.std.proofs.Common.{refl, ap, sym, subst, inl, inr, arith, length-append}
 use Rattle.std.proofs.lemmas.List.Quantifiers.{position-Some}
-use Rattle.c_raw.specs.declared.operator.BinaryOp as raw
-use Rattle.c_raw.specs.declared.operator.BinaryOp.TheVariants as raw_ops
+use Rattle.c_syntax.specs.declared.operator.BinaryOp as raw
+use Rattle.c_syntax.specs.declared.operator.BinaryOp.TheVariants as raw_ops
 use Rattle.c_grammar.specs.Expressions as trees
 use Rattle.c_grammar.specs.Expressions.{Expr}
 use Rattle.c_grammar.specs.Statements.{ExternalTree, Stmts, NoStmt, OneStmt}

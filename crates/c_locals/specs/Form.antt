@@ -9,8 +9,8 @@
 -- together from 0, in the order of the text.
 use Rattle.std.specs.Prelude.{◌≡◌, ◌⊎◌, ℕ, suc, List, [], ◌∷◌, ◌++◌, length, map, position, Bool, true}
 use Rattle.std.specs.Prelude.{◌&&◌, not, is_some, nat_lt, Option, Some, None, codes}
-use Rattle.c_raw.specs.declared.operator.BinaryOp as raw
-use Rattle.c_raw.specs.declared.operator.BinaryOp.TheVariants as raw_ops
+use Rattle.c_syntax.specs.declared.operator.BinaryOp as raw
+use Rattle.c_syntax.specs.declared.operator.BinaryOp.TheVariants as raw_ops
 use Rattle.c_grammar.specs.Expressions as trees
 use Rattle.c_grammar.specs.Expressions.{Expr}
 use Rattle.c_grammar.specs.Statements.{ExternalTree, Stmts, NoStmt, OneStmt}

@@ -2,11 +2,11 @@
 use Rattle.std.specs.Prelude.{ℕ, List, [], ◌∷◌, Bool, true, false, ◌&&◌, ◌||◌, if◌then◌else◌, Option, Some, None}
 use Rattle.std.specs.Prelude.{nat_eq, codes, is_some, not}
 use Rattle.std.specs.Cmp.Lexicographic.{pointwise}
-use Rattle.c_raw.specs.declared.operator.SpecifierWord.{SpecifierWord}
-use Rattle.c_raw.specs.declared.operator.SpecifierWord.TheVariants as words
-use Rattle.c_raw.specs.declared.operator.AssignOp.{AssignOp}
-use Rattle.c_raw.specs.declared.operator.AssignOp.TheVariants as assign
-use Rattle.c_raw.specs.declared.expression.Specifier.{Specifier}
+use Rattle.c_syntax.specs.declared.operator.SpecifierWord.{SpecifierWord}
+use Rattle.c_syntax.specs.declared.operator.SpecifierWord.TheVariants as words
+use Rattle.c_syntax.specs.declared.operator.AssignOp.{AssignOp}
+use Rattle.c_syntax.specs.declared.operator.AssignOp.TheVariants as assign
+use Rattle.c_syntax.specs.declared.expression.Specifier.{Specifier}
 use Rattle.c_grammar.specs.Expressions.{Expr, Exprs, Identifier, Call, Assignment, NoExpr, OneExpr}
 use Rattle.c_grammar.specs.Declarations.{PartTree, Plain, Array, Function, ParameterTree, DeclaratorTree}
 use Rattle.c_grammar.specs.Declarations.{InitialiserTree, Single, Braces, ValueTree, ItemTree, DeclarationTree}

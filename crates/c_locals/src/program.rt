@@ -15,7 +15,7 @@ ghost use Rattle.c_locals.specs.Views.{body_view};
 use crate::shapes::main_items;
 use crate::statements::{Body, main_body};
 use crate::sums::INT;
-use c_raw::{RawUnit, Statement};
+use c_syntax::{RawUnit, Statement};
 use c_tree::{Function, Program};
 use pcc_base::{Name, NoMemory};
 use std::alloc::Global;

@@ -8,7 +8,7 @@ ghost use Rattle.c_grammar.specs.Statements.{stmt_of, stmts_of, unit_of, externa
 ghost use Rattle.c_locals.specs.Shapes as shapes;
 ghost use Rattle.c_locals.specs.Views.{rule_view};
 
-use c_raw::{
+use c_syntax::{
     AssignOp, Declaration, Declarator, DeclaratorPart, Expression, External, Initialiser, Item,
     Parameter, RawUnit, Specifier, SpecifierWord, Statement,
 };

@@ -12,7 +12,7 @@ ghost use Rattle.c_locals.specs.Views.{rule_view, item_view, body_view, returned
 use crate::names::Names;
 use crate::shapes::{Rule, is_reserved, rule_of};
 use crate::sums::{INT, short_sum};
-use c_raw::{Expression as RawExpression, Statement as RawStatement};
+use c_syntax::{Expression as RawExpression, Statement as RawStatement};
 use c_tree::{Expression, Item, Place, Statement};
 use pcc_base::{Name, NoMemory};
 use std::alloc::Global;

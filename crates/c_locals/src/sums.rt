@@ -7,7 +7,7 @@ ghost use Rattle.c_locals.specs.Form.{sign_of, atoms};
 ghost use Rattle.c_locals.specs.Reading.{read_atom, read_sum, read_short};
 
 use crate::names::Names;
-use c_raw::{BinaryOp as RawOp, Expression as RawExpression};
+use c_syntax::{BinaryOp as RawOp, Expression as RawExpression};
 use c_tree::{BinaryOp, Expression, IntegerType, Place, ValueType};
 use pcc_base::NoMemory;
 use std::alloc::Global;

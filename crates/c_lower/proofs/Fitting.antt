@@ -9,6 +9,7 @@ use Rattle.c_tree.specs.Sizes.{expression_size, height, statements_height, state
 use Rattle.flow_graph.specs.declared.op.Op.{Op}
 use Rattle.flow_graph.specs.declared.op.Op.TheVariants as op
 use Rattle.flow_graph.specs.Graphs.{Every, FitsOp, IsDistinct, is_end}
+pub use Rattle.flow_graph.specs.SlotGraphs.{IsSlotOp}
 use Rattle.c_lower.specs.Code.{AllFit, EndsLast, body_ops, straight, sum_ops, temporaries}
 use Rattle.c_tree.specs.SlotForm.{AreSlotStatements, IsBody, IsSum}
 use Rattle.c_lower.specs.Lowering.{mark_of, marks_in}
@@ -24,20 +25,6 @@ every-append P (x ∷ xs) ys all more = (all.0, every-append P xs ys all.1 more)
 pub marks-append : (xs ys : List Op) → marks_in (xs ++ ys) ≡ marks_in xs ++ marks_in ys
 marks-append [] ys = refl
 marks-append (i ∷ xs) ys = ap (λ (ms : List ℕ). mark_of i ++ ms) (marks-append xs ys) ∙ sym (append_assoc (mark_of i) (marks_in xs) (marks_in ys))
-
--- ---- kinds
-
--- the ops that are emitted so far
-abbrev pub IsSlotOp : Op → Type 0
-IsSlotOp (op.Const d n) = Unit {0}
-IsSlotOp (op.Copy d s) = Unit {0}
-IsSlotOp (op.Add d a b) = Unit {0}
-IsSlotOp (op.Sub d a b) = Unit {0}
-IsSlotOp (op.Putchar d s) = Unit {0}
-IsSlotOp (op.Mark s) = Unit {0}
-IsSlotOp op.Turn = Unit {0}
-IsSlotOp (op.Return (Some a)) = Unit {0}
-IsSlotOp _ = ⊥
 
 height-some : (e : Expression) (locals : ℕ) → IsSum locals e → 0 < height e
 height-some e locals is = height-positive e locals is

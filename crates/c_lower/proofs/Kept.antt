@@ -25,7 +25,10 @@ use Rattle.flow_graph.proofs.OneRun.{never_stuck}
 use Rattle.c_lower.specs.Code.{AllFit, EndsLast, body_ops, function_ops, lowered, slot_graphs, temporaries, variables}
 use Rattle.c_tree.specs.SlotForm.{AreSlotStatements, AreIntLocals, IsSlotFunction, IsSlotProgram}
 use Rattle.c_tree.specs.Objects.{data_object}
-use Rattle.c_lower.specs.Lowering.{AreLowered, AreSmall, HasObjects, IsLowered, KeepsOutcome, MarksOnce, array_of, marks_in, points_in, words_in, arrays_in}
+use Rattle.flow_graph.specs.SlotGraphs.{IsSlotFlow}
+use Rattle.c_lower.proofs.Marking.{function-marked}
+use Rattle.c_lower.specs.Lowering.{AreLowered, AreSlotGraphs, AreSmall, HasObjects, HaveMarks, MarksStatements, first_statement}
+use Rattle.c_lower.specs.Lowering.{IsLowered, KeepsOutcome, MarksOnce, array_of, marks_in, points_in, words_in, arrays_in}
 use Rattle.c_lower.specs.Shown.{local_widths, type_widths, variables_shown}
 use Rattle.c_lower.proofs.Elements.{has_all}
 use Rattle.c_lower.proofs.Fitting.{IsSlotOp, body-marks, body-sizes, ends-body, fit-body, slot-body, slots-body}
@@ -74,7 +77,7 @@ int-widths (l ∷ locals) more ints =
     ∙ ap (λ (ws : List Width). Two ∷ ws) (int-widths locals more ints.1)
     ∙ sym (ap (λ (t : ValueType). (type_widths t ++ local_widths locals) ++ replicate more Two) ints.0)
 
-length-widths : (locals : List Local) → AreIntLocals locals → length (local_widths locals) ≡ length locals
+pub length-widths : (locals : List Local) → AreIntLocals locals → length (local_widths locals) ≡ length locals
 length-widths [] ints = refl
 length-widths (l ∷ locals) ints = ap (λ (t : ValueType). length (type_widths t ++ local_widths locals)) ints.0 ∙ ap suc (length-widths locals ints.1)
 
@@ -232,6 +235,28 @@ marks-once program slot =
     let marks = body-marks (length f.locals) 0 0 f.body slot.accepted.body in
     subst (λ (g : GraphProgram). MarksOnce g) (sym (one-graph program slot))
     (subst IsDistinct (sym (append-nil (marks_in (body_ops (length f.locals) f.body)))) marks.1)
+
+-- the one function's statements are numbered from 0 on
+pub marks-kept : (program : Program) → IsSlotProgram program → HaveMarks program (slot_graphs program)
+marks-kept program slot k f flow e h =
+    subst (λ (fs : List Function). MarksStatements (first_statement fs k) f flow) (sym slot.one_function)
+    (each-marked slot.function slot.accepted k f flow (ap (λ (fs : List Function). slice_get fs k) (sym slot.one_function) ∙ e)
+    (ap (λ (fs : List Function). slice_get (map lowered fs) k) (sym slot.one_function) ∙ h))
+  where
+    each-marked : (f : Function) (slot : IsSlotFunction f) (k : ℕ) (g : Function) (flow : Flow) → slice_get (f ∷ []) k ≡ Some g → slice_get (lowered f ∷ []) k ≡ Some flow → MarksStatements (first_statement (f ∷ []) k) g flow
+    each-marked f slot zero g flow e h =
+        subst (λ (fl : Flow). MarksStatements 0 g fl) (same_Some (lowered f) flow h) (subst (λ (x : Function). MarksStatements 0 x (lowered f)) (same_Some f g e) (function-marked f slot))
+    each-marked f slot (suc k) g flow e h = absurd (none-some g e)
+
+all-two : (n : ℕ) → Every (λ width. width ≡ Two) (replicate n Two)
+all-two zero = tt
+all-two (suc n) = (refl, all-two n)
+
+pub slots-kept : (program : Program) → IsSlotProgram program → AreSlotGraphs (slot_graphs program)
+slots-kept program slot =
+    let f = slot.function in
+    subst (λ (fs : List Function). Every IsSlotFlow (map lowered fs)) (sym slot.one_function)
+    (record { widths = all-two (variables f); ops = slot-ops f slot.accepted }, tt)
 
 pub graphs-small : (program : Program) → IsSlotProgram program → AreSmall program (slot_graphs program)
 graphs-small program slot =

@@ -6,6 +6,7 @@ pub mod GraphSteps
 pub mod Kept
 pub mod Listed
 pub mod Live
+pub mod Marking
 pub mod Outcomes
 pub mod Straight
 pub mod SumRuns

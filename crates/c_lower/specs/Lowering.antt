@@ -1,5 +1,6 @@
 -- What lowering promises of the graphs of a program.
-use Rattle.std.specs.Prelude.{◌≡◌, ◌<◌, ◌≤◌, ℕ, ◌+◌, ◌*◌, List, [], ◌∷◌, ◌++◌, length, map, slice_get, Some, sum_by}
+use Rattle.std.specs.Prelude.{◌≡◌, ◌≢◌, ◌<◌, ◌≤◌, ℕ, ◌+◌, ◌*◌, List, [], ◌∷◌, ◌++◌, length, map, slice_get, Some}
+use Rattle.std.specs.Prelude.{sum_by, take}
 pub use Rattle.pcc_base.specs.Objects.{object_of}
 use Rattle.pcc_base.specs.declared.run.Width.{Width}
 use Rattle.pcc_base.specs.Outcome.{Listing}
@@ -9,13 +10,15 @@ use Rattle.c_tree.specs.Program.{LocalArray, Function, Program}
 use Rattle.c_tree.specs.Sizes.{bytes_of, frame_bound, size_of}
 use Rattle.flow_graph.specs.declared.op.Op.{Op}
 use Rattle.flow_graph.specs.declared.op.Op.TheVariants.{Mark}
-use Rattle.flow_graph.specs.Graphs.{Flow, IsDistinct, IsEnded}
-use Rattle.flow_graph.specs.Liveness.{BeginsWith, FixedDies, IsLiveBefore}
+use Rattle.flow_graph.specs.Graphs.{Every, Flow, IsDistinct, IsEnded, IsPlaced}
+use Rattle.flow_graph.specs.Kinds.{marked}
+use Rattle.flow_graph.specs.Liveness.{BeginsWith, FixedDies, IsLiveBefore, if_any}
 use Rattle.flow_graph.specs.Running.{GraphOutcome}
 use Rattle.flow_graph.specs.Sizes.{array_bytes, most_words, words_of}
 use Rattle.flow_graph.specs.States.{GraphProgram}
+use Rattle.flow_graph.specs.SlotGraphs.{IsSlotFlow}
 use Rattle.c_lower.specs.declared.graphs.Graphs.{Graphs}
-use Rattle.c_lower.specs.Shown.{ListsLocals, local_widths, variables_shown}
+use Rattle.c_lower.specs.Shown.{ListsLocals, local_widths, numbers_of, variables_shown}
 
 -- ---- the program of graphs
 
@@ -79,8 +82,7 @@ pub record AreSmall (program : Program) (graphs : GraphProgram) : Type 0 where
 
 -- the statements that ops mark
 abbrev pub mark_of : Op → List ℕ
-mark_of (Mark statement) = statement ∷ []
-mark_of _ = []
+mark_of i = if_any (marked i)
 
 abbrev pub marks_in : List Op → List ℕ
 marks_in [] = []
@@ -93,6 +95,28 @@ marks_of (flow ∷ flows) = marks_in flow.ops ++ marks_of flows
 -- each statement has at most one mark in all graphs together
 abbrev pub MarksOnce : GraphProgram → Type 0
 MarksOnce graphs = IsDistinct (marks_of graphs.functions)
+
+-- The marks of a function's graph are its statements, which are numbered from one on: each has a mark at a point of a
+-- block, and each mark is of one.
+pub record MarksStatements (first : ℕ) (f : Function) (flow : Flow) : Type 0 where
+  pub marked : (n : ℕ) → first ≤ n → n < first + numbers_of f.body
+      → (point : ℕ) × IsPlaced flow point × (slice_get flow.ops point ≡ Some (Mark n))
+  pub only : (point n : ℕ) → slice_get flow.ops point ≡ Some (Mark n) → (first ≤ n) × (n < first + numbers_of f.body)
+
+-- the number of the first statement of a function: statements are numbered over all functions
+abbrev pub first_statement : List Function → ℕ → ℕ
+first_statement functions k = sum_by (λ f. numbers_of f.body) (take k functions)
+
+-- the marks are those of the program's statements, in the graphs of their functions
+abbrev pub HaveMarks : Program → GraphProgram → Type 0
+HaveMarks program graphs =
+    (k : ℕ) (f : Function) (flow : Flow) → slice_get program.functions k ≡ Some f → slice_get graphs.functions k ≡ Some flow
+    → MarksStatements (first_statement program.functions k) f flow
+
+-- ---- the ops that are made so far
+
+abbrev pub AreSlotGraphs : GraphProgram → Type 0
+AreSlotGraphs graphs = Every IsSlotFlow graphs.functions
 
 -- ---- static objects
 

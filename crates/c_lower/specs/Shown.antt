@@ -1,12 +1,13 @@
 -- Which variables of a graph hold what a visit of a statement shows.
-use Rattle.std.specs.Prelude.{◌≡◌, ℕ, zero, suc, ◌+◌, ◌-◌, List, [], ◌∷◌, ◌++◌, length, map, slice_get, Some, nat_lt, if◌then◌else◌}
+use Rattle.std.specs.Prelude.{◌≡◌, ℕ, zero, suc, ◌+◌, ◌-◌, List, [], ◌∷◌, ◌++◌, count_by, flat_map, length, map, slice_get, Some, nat_lt, if◌then◌else◌}
 use Rattle.pcc_base.specs.declared.run.Width.{Width}
 use Rattle.pcc_base.specs.declared.run.Width.TheVariants.{One, Two}
 use Rattle.pcc_base.specs.Outcome.{Part, Scalar, ArrayOf, IndexOf, Listing}
 use Rattle.c_tree.specs.declared.types.IntegerType.TheVariants.{Char, Short, Int}
 use Rattle.c_tree.specs.declared.types.ValueType.{ValueType}
 use Rattle.c_tree.specs.declared.types.ValueType.TheVariants.{Void, Integer, Pointer}
-use Rattle.c_tree.specs.Program.{First, Nothing, Evaluated, Declared, Statement, Declare, Empty, Evaluate, Block, If, While, Do, For, Switch, Break, Continue, Return, Statements, Done, Next, Local, Function, Program}
+use Rattle.c_tree.specs.Program as items
+use Rattle.c_tree.specs.Program.{Item, First, Nothing, Evaluated, Declared, Statement, Declare, Empty, Evaluate, Block, If, While, Do, For, Switch, Break, Continue, Return, Statements, Done, Next, Local, Function, Program}
 use Rattle.flow_graph.specs.Graphs.{Every}
 
 -- ---- the function of a statement
@@ -42,6 +43,42 @@ locals_at [] statement = []
 locals_at (f ∷ []) statement = f.locals
 locals_at (f ∷ g ∷ fs) statement =
     if nat_lt statement (numbers_of f.body) then f.locals else locals_at (g ∷ fs) (statement - numbers_of f.body)
+
+-- ---- the locals that are declared before a statement
+
+-- the number of an item that declares a local that is no array
+abbrev pub declaring : Item → List ℕ
+declaring (items.Scalar n v value) = n ∷ []
+declaring (items.Array n k element value) = []
+
+abbrev pub declared_first : First → List ℕ
+declared_first Nothing = []
+declared_first (Evaluated e) = []
+declared_first (Declared items) = flat_map declaring items
+
+-- the numbers of the items of a body that declare locals, in the order of the text
+abbrev mutual
+  pub declarations_in : Statement → List ℕ
+  declarations_in (Declare item) = declaring item
+  declarations_in (Empty n) = []
+  declarations_in (Evaluate n e) = []
+  declarations_in (Block body) = declarations_of body
+  declarations_in (If n e a b) = declarations_in a ++ declarations_in b
+  declarations_in (While n e s) = declarations_in s
+  declarations_in (Do n s e) = declarations_in s
+  declarations_in (For n first test after s) = declared_first first ++ declarations_in s
+  declarations_in (Switch n e labels body) = declarations_of body
+  declarations_in (Break n) = []
+  declarations_in (Continue n) = []
+  declarations_in (Return n value) = []
+
+  pub declarations_of : Statements → List ℕ
+  declarations_of Done = []
+  declarations_of (Next s others) = declarations_in s ++ declarations_of others
+
+-- how many locals of a function are declared before a statement, its parameters first: these are its first locals
+abbrev pub declared_before : Function → ℕ → ℕ
+declared_before f n = f.parameters + count_by (λ m. nat_lt m n) (declarations_of f.body)
 
 -- ---- the variables of a local: one for an integer, and two for a pointer, its array and then its index
 

@@ -7,7 +7,8 @@ ghost use Rattle.flow_graph.specs.Running.{IsNeverStuck};
 ghost use Rattle.flow_graph.specs.WellFormed.{IsGraphProgram};
 ghost use Rattle.c_lower.specs.Code.{lowered, slot_graphs};
 ghost use Rattle.c_tree.specs.SlotForm.{IsSlotFunction, IsSlotProgram};
-ghost use Rattle.c_lower.specs.Lowering.{AreLowered, AreSmall, HasObjects, KeepsOutcome, MarksOnce, graphs_of};
+ghost use Rattle.c_lower.specs.Lowering.{AreLowered, AreSlotGraphs, AreSmall, HasObjects, HaveMarks};
+ghost use Rattle.c_lower.specs.Lowering.{KeepsOutcome, MarksOnce, graphs_of};
 
 use crate::blocks::graph_of;
 use crate::graphs::Graphs;
@@ -70,8 +71,11 @@ pub fn lower(alloc: Global, program: &Program) -> Result<Graphs, NoMemory>
     ensures has_objects { IfOk result (λ graphs. HasObjects (program_of program.now) (graphs_of graphs)) }
     ensures marks { IfOk result (λ graphs. MarksOnce (graphs_of graphs)) }
 
-    // The graphs are those of the ops of each statement.
-    ensures graphs { IfOk result (λ graphs. graphs_of graphs ≡ slot_graphs (program_of program.now)) }
+    // Each statement has a mark, in the graph of its function.
+    ensures statements { IfOk result (λ graphs. HaveMarks (program_of program.now) (graphs_of graphs)) }
+
+    // The ops are of the kinds that are lowered so far.
+    ensures slots { IfOk result (λ graphs. AreSlotGraphs (graphs_of graphs)) }
 
     // The graphs grow no faster than the program.
     ensures small { IfOk result (λ graphs. AreSmall (program_of program.now) (graphs_of graphs)) }

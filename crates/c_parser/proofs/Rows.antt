@@ -4,12 +4,13 @@ use Rattle.std.proofs.lemmas.Bool.{eqb-true}
 use Rattle.pcc_base.specs.declared.refusal.Refusal.{Refusal}
 use Rattle.pcc_base.specs.declared.refusal.Refusal.TheVariants.{Fault, Limit, NoMemory}
 use Rattle.c_lexer.specs.declared.token.Token.{Token}
-use Rattle.c_raw.specs.declared.unit.External.{External}
+use Rattle.c_syntax.specs.declared.unit.External.{External}
 use Rattle.c_grammar.specs.Statements.{ExternalTree, external_of}
-use Rattle.c_grammar.proofs.Chains.{Done, Fails, Goes, Reads, Continues, continues_goes, continues_done, continues_fails}
-use Rattle.c_grammar.proofs.StatementReading.{Below, read_external, unit_step}
-use Rattle.c_expressions.specs.Readings.{Refused}
-use Rattle.c_declarations.proofs.Listing.{map_push}
+use Rattle.c_grammar.specs.Chains.{Done, Fails, Goes, Reads}
+use Rattle.c_grammar.proofs.Chains.{Continues, continues_goes, continues_done, continues_fails}
+use Rattle.c_grammar.specs.StatementReading.{Below, read_external, unit_step}
+use Rattle.c_parse_expressions.specs.Readings.{Refused}
+use Rattle.c_parse_declarations.proofs.Listing.{map_push}
 
 goes_at : (b : Below) (a : List ExternalTree) (ts : List Token) (e : ExternalTree) (us : List Token) → (length ts == 0) ≡ false → read_external b ts ≡ Some (e, us) → unit_step b a ts ≡ Goes (a ++ e ∷ []) us
 goes_at b a [] e us some r = absurd (let wrong : true ≡ false = some in cc)

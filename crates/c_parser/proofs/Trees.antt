@@ -3,11 +3,11 @@ use Rattle.std.proofs.Common.{◌≡◌, ℕ, ◌+◌, ◌≤◌, List, [], Some
 use Rattle.c_lexer.specs.declared.token.Token.{Token}
 use Rattle.c_grammar.specs.Statements.{ExternalTree}
 use Rattle.c_grammar.specs.Grammar.{Tree}
-use Rattle.c_grammar.proofs.StatementReading.{Below, below_of, read_unit}
+use Rattle.c_grammar.specs.StatementReading.{Below, below_of, read_unit}
 use Rattle.c_grammar.proofs.SoundStatements.{unit_sound}
 use Rattle.c_grammar.proofs.StatementComplete.{tree_read}
-use Rattle.c_statements.specs.Parts.{fields_of, below_node}
-use Rattle.c_statements.proofs.Below.{fields_are}
+use Rattle.c_parse_statements.specs.Parts.{fields_of, below_node}
+use Rattle.c_parse_statements.proofs.Below.{fields_are}
 use Rattle.c_parser.specs.Refusals.{NoTree}
 
 same_reads : (n : ℕ) (ts : List Token) → read_unit (below_of n) ts ≡ read_unit (fields_of n) ts

@@ -3,15 +3,15 @@
 ghost use Rattle.std.specs.Prelude.{◌≡◌, ◌<◌, ◌≤◌, length, [], IfOk};
 ghost use Rattle.c_grammar.specs.Declarations.{part_of};
 ghost use Rattle.c_grammar.specs.Statements.{external_of, unit_of};
-ghost use Rattle.c_grammar.proofs.StatementReading.{has_parameters, read_external, read_unit};
-ghost use Rattle.c_declarations.specs.Parts.{IsRead};
-ghost use Rattle.c_statements.specs.Parts.{below_node};
+ghost use Rattle.c_grammar.specs.StatementReading.{has_parameters, read_external, read_unit};
+ghost use Rattle.c_parse_declarations.specs.Parts.{IsRead};
+ghost use Rattle.c_parse_statements.specs.Parts.{below_node};
 
-use c_declarations::{declaration_behind, declarator, some_specifiers};
-use c_expressions::{Parser, push};
+use c_parse_declarations::{declaration_behind, declarator, some_specifiers};
+use c_parse_expressions::{Parser, push};
 use c_lexer::Punct;
-use c_raw::{DeclaratorPart, External, RawUnit};
-use c_statements::statement_below;
+use c_syntax::{DeclaratorPart, External, RawUnit};
+use c_parse_statements::statement_below;
 use pcc_base::Refusal;
 
 /// Whether a declarator with this part is a function's.

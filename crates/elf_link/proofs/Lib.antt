@@ -1,5 +1,6 @@
 pub mod Lists
 pub mod Holding
+pub mod Numbered
 pub mod RoutineItems
 pub mod Placing
 pub mod Finishing

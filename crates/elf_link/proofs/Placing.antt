@@ -3,14 +3,14 @@ use Rattle.std.specs.Prelude.{◌≡◌, ◌<◌, ◌≤◌, ℕ, zero, suc, ◌
 use Rattle.std.specs.List.{filter_map}
 use Rattle.std.specs.Int.{w32, cast_unsigned, cast_signed}
 use Rattle.std.proofs.Common.{refl, sym, ap, ◌∙◌, subst, arith, get_or}
-use Rattle.std.proofs.lemmas.List.{append_assoc, length-append, take_more, take_all, drop_more}
+use Rattle.std.proofs.lemmas.List.{append_assoc, length-append, length-map, take_more, take_all, drop_more}
 use Rattle.std.proofs.lemmas.Int.{to_z-of_z}
-use Rattle.std.proofs.lemmas.Option.{same_Some, slice_get-map, slice_get-get_or}
+use Rattle.std.proofs.lemmas.Option.{same_Some, slice_get-map, slice_get-get_or, slice_get_within}
 use Rattle.byteorder.specs.Endian.{little_bytes}
 use Rattle.byteorder.proofs.Bytes.{take-bytes_low_first}
 use Rattle.ia32_insn.specs.declared.item.Item.{Item}
 use Rattle.pcc_base.specs.Bytes.{zeros}
-use Rattle.ia32_insn.specs.Items.{Symbols, Object, element_bytes, elements_size, object_bytes, text_start, start_items}
+use Rattle.ia32_insn.specs.Items.{Symbols, Object, IsOrder, element_bytes, elements_size, object_bytes, text_start, start_items}
 use Rattle.ia32_asm.specs.declared.section.Section.{Section}
 use Rattle.ia32_asm.specs.declared.section.Relocation.{Relocation}
 use Rattle.ia32_asm.specs.declared.section.Target.{Target}
@@ -18,7 +18,7 @@ use Rattle.ia32_asm.specs.declared.section.Target.TheVariants as target
 use Rattle.ia32_asm.specs.Sections.{target_of, word_for, with_word, resolved, HasAddress, FollowFrom, IsSection, CanAssemble, items_size}
 use Rattle.ia32_asm.proofs.Resolved.{length-resolved, with_word-behind, resolved-push}
 use Rattle.elf_link.specs.declared.addresses.Addresses.{Addresses}
-use Rattle.elf_link.specs.Linking.{IsThere, FitsIn, sections_size}
+use Rattle.elf_link.specs.Linking.{IsThere, FitsIn, function_of, order_of, sections_size}
 use Rattle.elf_link.specs.Laid.{addresses_from, symbols_of, AreInText, AreNamed, HasItems}
 use Rattle.elf_link.proofs.Lists.{moved_parts}
 use Rattle.elf_link.proofs.RoutineItems.{plainly_can, start_plainly}
@@ -85,6 +85,7 @@ named_target f items s is j r e =
 pub fits_routine : (a : Addresses) (f : ℕ) (items : List Item) (s : Section) → IsSection f items s → AreNamed a items → FitsIn (length a.functions.items) (length a.objects.items) s
 fits_routine a f items s is named =
     record {
+      named = omega (arith, ap length is.one_symbol);
       targets = λ j r e. (named j r.target (named_target f items s is j r e)).0;
       inside = follow_inside 0 (length s.bytes.items) s.relocations.items is.apart;
       points = is.points_within;
@@ -115,6 +116,25 @@ pub addresses_bound : (a : ℕ) (sections : List Section) (k x : ℕ) → slice_
 addresses_bound a [] k x e = absurd (cc)
 addresses_bound a (s ∷ sections) zero x e = omega (arith, same_Some a x e)
 addresses_bound a (s ∷ sections) (suc k) x e = omega (arith, addresses_bound (a + length s.bytes.items) sections k x e)
+
+-- and each section ends within the end of all
+pub address_room : (a : ℕ) (sections : List Section) (k x : ℕ) (s : Section) → slice_get (addresses_from a sections) k ≡ Some x → slice_get sections k ≡ Some s
+    → x + length s.bytes.items ≤ a + sections_size sections
+address_room a [] k x s e f = absurd (cc)
+address_room a (t ∷ sections) zero x s e f = let same = same_Some t s f in omega (arith, same_Some a x e, ap (λ (u : Section). length u.bytes.items) same)
+address_room a (t ∷ sections) (suc k) x s e f = omega (arith, address_room (a + length t.bytes.items) sections k x s e f)
+
+-- each function has an address
+pub function_found : (sections : List Section) (a : Addresses) (k : ℕ) → IsOrder (length sections) (order_of sections) → AreInText sections a → k < length sections
+    → (x : ℕ) × (slice_get a.functions.items k ≡ Some x) × (x ≤ text_start + 29 + sections_size sections)
+function_found sections a k order laid h =
+    let i = order.each k h in
+    let inside : i.0 < length (addresses_from (text_start + 29) sections) =
+    omega (arith, slice_get_within (order_of sections) i.0 k i.1, length-map sections function_of, length-addresses (text_start + 29) sections)
+    in
+    let x : ℕ = get_or (addresses_from (text_start + 29) sections) i.0 0 in
+    let found : slice_get (addresses_from (text_start + 29) sections) i.0 ≡ Some x = slice_get-get_or (addresses_from (text_start + 29) sections) i.0 0 inside in
+    (x, laid.functions i.0 k i.1 ∙ found, addresses_bound (text_start + 29) sections i.0 x found)
 
 -- ---- numbers
 
@@ -168,16 +188,11 @@ depth_put old new n o z e =
 -- ---- the start
 
 -- the start names a function that has an address
-pub start_named : (a : Addresses) (sections : List Section) (stack depth main : ℕ) (items : List Item) → items ≡ start_items stack depth main → AreInText sections a
+pub start_named : (a : Addresses) (sections : List Section) (stack depth main : ℕ) (items : List Item) → items ≡ start_items stack depth main → IsOrder (length sections) (order_of sections) → AreInText sections a
     → main < length sections → text_start + 29 + sections_size sections < 2 ^ 32 → AreNamed a items
-start_named a sections stack depth main items e laid there room =
-    let many : length a.functions.items ≡ length sections = ap length laid.functions ∙ length-addresses (text_start + 29) sections in
-    let main_in : main < length a.functions.items = omega (arith, many, there) in
-    let x : ℕ = get_or a.functions.items main 0 in
-    let found : slice_get a.functions.items main ≡ Some x = slice_get-get_or a.functions.items main 0 main_in in
-    let bound : x ≤ text_start + 29 + sections_size sections =
-    addresses_bound (text_start + 29) sections main x (sym (ap (λ (xs : List ℕ). slice_get xs main) laid.functions) ∙ found)
-    in
+start_named a sections stack depth main items e order laid there room =
+    let main_in : main < length a.functions.items = omega (arith, laid.many, there) in
+    let (x, found, bound) = function_found sections a main order laid there in
     subst (λ (ys : List Item). AreNamed a ys) (sym e) (only_main a main x main_in found (omega (arith, bound, room)) stack depth)
   where
     only_main : (a : Addresses) (main x : ℕ) → main < length a.functions.items → slice_get a.functions.items main ≡ Some x → x < 2 ^ 32 → (stack depth : ℕ) → AreNamed a (start_items stack depth main)

@@ -7,7 +7,7 @@ use Rattle.ia32_asm.specs.declared.section.Section.{Section}
 use Rattle.ia32_asm.specs.declared.section.Target.{Target}
 use Rattle.ia32_asm.specs.Sections.{target_of, resolved, items_size, HasAddress}
 use Rattle.elf_link.specs.declared.addresses.Addresses.{Addresses}
-use Rattle.elf_link.specs.Linking.{IsThere, sections_size, objects_size}
+use Rattle.elf_link.specs.Linking.{IsThere, order_of, sections_size, objects_size}
 
 -- where each section is, one behind the other from an address on
 abbrev pub addresses_from : ℕ → List Section → List ℕ
@@ -25,6 +25,10 @@ abbrev pub points_from : ℕ → List Section → List (List ℕ)
 points_from address [] = []
 points_from address (s ∷ sections) = map (λ p. address + p) s.points.items ∷ points_from (address + length s.bytes.items) sections
 
+-- a list by the numbers of functions has what stands at the places of these numbers in their order
+abbrev pub AreNumbered : {A : Type 0} → List ℕ → List A → List A → Type 0
+AreNumbered order placed numbered = (i k : ℕ) → slice_get order i ≡ Some k → slice_get numbered k ≡ slice_get placed i
+
 abbrev pub symbols_of : Addresses → Symbols
 symbols_of a =
     record {
@@ -39,7 +43,8 @@ symbols_of a =
 
 -- the functions have addresses behind a start of 29 bytes, and behind them come the routines of 29, 33, 11 and 2 bytes
 pub record AreInText (sections : List Section) (a : Addresses) : Type 0 where
-  pub functions : a.functions.items ≡ addresses_from (text_start + 29) sections
+  pub many : length a.functions.items ≡ length sections
+  pub functions : AreNumbered (order_of sections) (addresses_from (text_start + 29) sections) a.functions.items
   pub putchar : a.putchar ≡ text_start + 29 + sections_size sections
   pub getchar : a.getchar ≡ a.putchar + 29
   pub exit : a.exit ≡ a.getchar + 33

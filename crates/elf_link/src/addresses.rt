@@ -1,8 +1,9 @@
-ghost use Rattle.std.specs.Prelude.{◌≡◌, ◌<◌, ◌≤◌, ◌+◌, ◌^◌, IfOk, Some, length, map, vec_len};
-ghost use Rattle.ia32_insn.specs.Items.{elements_size, object_addresses};
+ghost use Rattle.std.specs.Prelude.{◌≡◌, ◌<◌, ◌≤◌, ◌+◌, ◌^◌, ℕ, IfOk, Some, length, map, slice_get, vec_len};
+ghost use Rattle.ia32_insn.specs.Items.{IsOrder, elements_size, object_addresses};
 ghost use Rattle.ia32_asm.specs.Sections.{target_address, word_for};
-ghost use Rattle.elf_link.specs.Linking.{CanHold, IsThere, object_of, objects_size, sections_size};
-ghost use Rattle.elf_link.specs.Laid.{AreAddresses, addresses_from, symbols_of};
+ghost use Rattle.elf_link.specs.Linking.{CanHold, IsThere, function_of, object_of, objects_size, order_of, sections_size};
+ghost use Rattle.ia32_asm.specs.declared.section.Section.{Section};
+ghost use Rattle.elf_link.specs.Laid.{AreAddresses, AreNumbered, addresses_from, symbols_of};
 
 use elf_image::{STACK_BYTES, TEXT_ADDRESS};
 use ia32_asm::{Relocation, Section, Target};
@@ -91,20 +92,34 @@ pub(crate) fn elements_size(object: &DataObject) -> u32
     (object.width as u32 * object.elements.len() as u32).next_multiple_of(WORD_BYTES)
 }
 
-/// The addresses of sections that stand one behind the other from an address on, and where they end.
+/// The number of the function that a section's symbol names.
+pub(crate) fn function_of(section: &Section) -> usize
+    requires { 0 < length section.now.symbols.items }
+    ensures { result ≡ function_of section.now }
+{
+    section.symbols[0].function as usize
+}
+
+/// The addresses of sections that stand one behind the other from an address on, by the numbers of their functions, and
+/// where they end.
 fn functions_from(
     alloc: Global,
     sections: &Vec<Section>,
     start: u32,
 ) -> Result<(Vec<u32>, u32), NoMemory>
-    requires { start + sections_size sections.now.items < 2 ^ 32 }
-    ensures addresses { IfOk result (λ r. r.0.items ≡ addresses_from start sections.now.items) }
+    requires named { (i : ℕ) (s : Section) → slice_get sections.now.items i ≡ Some s → 0 < length s.symbols.items }
+    requires order { IsOrder (length sections.now.items) (order_of sections.now.items) }
+    requires room { start + sections_size sections.now.items < 2 ^ 32 }
+    ensures many { IfOk result (λ r. length r.0.items ≡ length sections.now.items) }
+    ensures addresses { IfOk result (λ r. AreNumbered (order_of sections.now.items)
+        (addresses_from start sections.now.items) r.0.items) }
     ensures end { IfOk result (λ r. r.1 ≡ start + sections_size sections.now.items) }
 {
-    let mut addresses = Vec::with_capacity(alloc, sections.len())?;
+    let mut addresses = Vec::new(alloc);
+    addresses.resize(sections.len(), 0)?;
     let mut address = start;
     for section in sections {
-        addresses.push(address)?;
+        addresses[function_of(section)] = address;
         address += section.bytes.len() as u32;
     }
     Ok((addresses, address))
@@ -137,6 +152,8 @@ pub(crate) fn addresses_of(
     sections: &Vec<Section>,
     objects: &Vec<DataObject>,
 ) -> Result<Addresses, NoMemory>
+    requires named { (i : ℕ) (s : Section) → slice_get sections.now.items i ≡ Some s → 0 < length s.symbols.items }
+    requires order { IsOrder (length sections.now.items) (order_of sections.now.items) }
     requires code { sections_size sections.now.items < 2 ^ 30 }
     requires held { CanHold (map object_of objects.now.items) }
     ensures { IfOk result (AreAddresses sections.now.items (map object_of objects.now.items)) }

@@ -1,6 +1,6 @@
 ghost use Rattle.std.specs.Prelude.{◌≡◌, ◌+◌, IfOk, List, map, vec_len};
 ghost use Rattle.ia32_insn.specs.declared.item.Item.{Item};
-ghost use Rattle.elf_link.specs.Linking.{AreSections, CanLink, IsLinked, object_of, sections_size};
+ghost use Rattle.elf_link.specs.Linking.{AreSections, CanLink, IsLinked, object_of, order_of, sections_size};
 
 use crate::addresses::{START_BYTES, addresses_of};
 use crate::data::data_of;
@@ -12,9 +12,9 @@ use ia32_asm::Section;
 use pcc_base::{DataObject, NoMemory};
 use std::alloc::Global;
 
-/// The program of these sections and static objects. The section at a place is that of the function with the
-/// number of the place, and `main` is the number of the function that the start calls. The only refusal is want of
-/// memory.
+/// The program of these sections and static objects. The sections are those of the functions from 0 on, each once, in
+/// the order in which they come to stand in the text, and `main` is the number of the function that the start calls.
+/// The only refusal is want of memory.
 pub fn link(
     alloc: Global,
     sections: &Vec<Section>,
@@ -22,8 +22,8 @@ pub fn link(
     main: u32,
 ) -> Result<Linked, NoMemory>
     requires { CanLink sections.now.items (map object_of objects.now.items) main }
-    ensures program { IfOk result (λ linked. (functions : List (List Item)) → AreSections 0 functions sections.now.items
-        → IsLinked functions (map object_of objects.now.items) main linked) }
+    ensures program { IfOk result (λ linked. (functions : List (List Item)) → AreSections functions sections.now.items
+        → IsLinked functions (order_of sections.now.items) (map object_of objects.now.items) main linked) }
 
     // The start and the routines have 104 bytes.
     ensures size { IfOk result (λ linked. vec_len linked.image.text ≡ sections_size sections.now.items + 104) }

@@ -1,6 +1,7 @@
 ghost use Rattle.std.specs.Prelude.{◌≡◌, ◌<◌, ◌≤◌, ◌+◌, ◌^◌, ◌++◌, ℕ, IfOk, OnOk, Some, length, slice_get, vec_len};
+ghost use Rattle.ia32_insn.specs.Items.{IsOrder};
 ghost use Rattle.ia32_asm.specs.Sections.{CanAssemble, items_size, resolved, with_word};
-ghost use Rattle.elf_link.specs.Linking.{FitsIn, sections_size};
+ghost use Rattle.elf_link.specs.Linking.{FitsIn, order_of, sections_size};
 ghost use Rattle.elf_link.specs.Laid.{AreInText, AreNamed, HasCode, HasItems, code_from, symbols_of};
 ghost use Rattle.ia32_asm.specs.declared.section.Section.{Section};
 
@@ -92,6 +93,7 @@ pub(crate) fn text_of(
     requires each { (k : ℕ) (s : Section) → slice_get sections.now.items k ≡ Some s
         → FitsIn (length addresses.now.functions.items) (length addresses.now.objects.items) s }
     requires main_there { main < length sections.now.items }
+    requires order { IsOrder (length sections.now.items) (order_of sections.now.items) }
     requires size { sections_size sections.now.items < 2 ^ 30 }
     requires laid { AreInText sections.now.items addresses.now }
     ensures { IfOk result (λ text. HasCode sections.now.items main addresses.now text.items) }

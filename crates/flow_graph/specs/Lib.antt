@@ -1,9 +1,11 @@
 pub mod Graphs
+pub mod Kinds
 pub mod Liveness
 pub mod Lives
 pub mod Meaning
 pub mod Running
 pub mod Sizes
+pub mod SlotGraphs
 pub mod States
 pub mod WellFormed
 pub mod Worked

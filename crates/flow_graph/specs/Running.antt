@@ -4,7 +4,7 @@ use Rattle.std.specs.Prelude.{option_map}
 use Rattle.pcc_base.specs.Outcome.{End, Goes, ArrayName, Unknown, Value, Number, Array, Part, Scalar, ArrayOf, IndexOf}
 use Rattle.pcc_base.specs.Outcome.{Visit, Listing, Outcome, after_visits}
 use Rattle.flow_graph.specs.declared.op.Op.{Op}
-use Rattle.flow_graph.specs.declared.op.Op.TheVariants as op
+use Rattle.flow_graph.specs.Kinds.{is_turn, marked}
 use Rattle.flow_graph.specs.Meaning.{Moved, Moves, Halts, Stuck, step}
 use Rattle.flow_graph.specs.States.{GraphProgram, State, op_at, entry_of, first_state_at, number_at, array_at}
 
@@ -49,19 +49,24 @@ part_value s (Scalar v) = number_or_unknown (number_at s v)
 part_value s (ArrayOf v) = Array (array_or_unknown (array_at s v))
 part_value s (IndexOf v) = number_or_unknown (number_at s v)
 
--- the visit of a mark, with the values before it
-abbrev pub visits_at : Listing → State → Option Op → List Visit
-visits_at listing s (Some (op.Mark statement)) = record {
+-- a visit of the statement, where there is one, with the values before it
+abbrev pub visits_of : Listing → State → Option ℕ → List Visit
+visits_of listing s None = []
+visits_of listing s (Some statement) = record {
   statement = statement;
   values = map (part_value s) (listing statement);
 } ∷ []
-visits_at listing s _ = []
+
+-- the visit of a mark
+abbrev pub visits_at : Listing → State → Option Op → List Visit
+visits_at listing s None = []
+visits_at listing s (Some op) = visits_of listing s (marked op)
 
 -- ---- the outcome
 
 abbrev pub takes_turn : Option Op → Bool
-takes_turn (Some op.Turn) = true
-takes_turn _ = false
+takes_turn None = false
+takes_turn (Some op) = is_turn op
 
 abbrev pub outcome_at : State → End → Outcome
 outcome_at s end = record { visits = []; taken = s.taken; written = s.written; end = end }

@@ -4,7 +4,7 @@
 use crate::tree_texts::push_unit;
 use c_lexer::lex;
 use c_parser::parse;
-use c_raw::RawUnit;
+use c_syntax::RawUnit;
 use pcc_base::{FaultKind, Keyword, Refusal, Span};
 use std::alloc::{AllocError, Global};
 use std::process::Abort;

@@ -36,11 +36,11 @@ stack-top : (e h : ℕ) → e + 4 ≡ h → e + 4 ≤ h
 stack-top e h p = omega arith
 
 -- the start and the prologue, one after the other
-pub start-enters : (functions : List (List Item)) (main : ℕ) (places : List Places) (symbols : Symbols) (text : List ℕ) (frame : ℕ) (slots : List ℕ) (back : List Item) (input : List ℕ) → IsText functions [] main places symbols text → length text < 2 ^ 30 + 1024
+pub start-enters : (functions : List (List Item)) (order : List ℕ) (main : ℕ) (places : List Places) (symbols : Symbols) (text : List ℕ) (frame : ℕ) (slots : List ℕ) (back : List Item) (input : List ℕ) → IsText functions order [] main places symbols text → length text < 2 ^ 30 + 1024
     → slice_get functions main ≡ Some (prologue frame slots ++ back) → 16 ≤ frame → frame ≤ 16384 → Every (IsSlot frame) slots → AllApart slots → (u : State) × Begun symbols places text main frame slots back input u
-start-enters functions main places symbols text frame slots back input h fits items some small each apart =
-    let at = function-placed functions [] main places symbols text main (prologue frame slots ++ back) h items in
-    let begun = start-goes functions main places symbols text at.address input h fits at.named in
+start-enters functions order main places symbols text frame slots back input h fits items some small each apart =
+    let at = function-placed functions order [] main places symbols text main (prologue frame slots ++ back) h items in
+    let begun = start-goes functions order main places symbols text at.address input h fits at.named in
     let t : State = begun.0 in
     let site : Site = text_site symbols at.place text in
     let ready : ReadyAt site (prologue frame slots ++ back) t = ready-from site (prologue frame slots ++ back) at.address t (at.stands (data_start text) (stack_end text [])) begun.1.eip in

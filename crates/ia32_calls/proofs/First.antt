@@ -1,12 +1,12 @@
 -- The first state of a text without static objects, whose memory is sound, and where the parts of a text stand.
 use Rattle.std.proofs.Common.{◌≡◌, ℕ, zero, suc, ◌+◌, ◌-◌, ◌*◌, ◌/◌, ◌^◌, ◌<◌, ◌≤◌, List, [], ◌∷◌, ◌++◌, length, replicate, get_or, refl, sym, ap, subst, ◌∙◌, inl, inr, arith, length-append, append_assoc}
 use Rattle.std.specs.Prelude.{slice_get, Some, None}
-use Rattle.std.proofs.lemmas.Option.{same_Some}
+use Rattle.std.proofs.lemmas.Option.{same_Some, slice_get_within}
 use Rattle.std.proofs.lemmas.Bool.{cases_lt}
 use Rattle.std.proofs.lemmas.List.{length-replicate, get_or-replicate, get_or_past}
 use Rattle.ia32_regs.specs.Registers.{AreRegisters, zero_registers}
 use Rattle.pcc_base.specs.Bytes.{zeros}
-use Rattle.ia32_insn.specs.Items.{Object, Symbols, Places, IsText, ItemsAt, FunctionsAt, round_up, text_start, text_state, data_bytes, data_start, data_memory, stack_end, putchar_items}
+use Rattle.ia32_insn.specs.Items.{Object, Symbols, Places, IsText, ItemsAt, FunctionAt, FunctionsAt, round_up, text_start, text_state, data_bytes, data_start, data_memory, stack_end, putchar_items}
 use Rattle.ia32_insn.specs.declared.item.Item.{Item}
 use Rattle.ia32_shows.specs.Paths.{IsAt}
 use Rattle.ia32_shows.proofs.Steps.{at-front, at-back}
@@ -82,18 +82,18 @@ none-before : (n : ℕ) → n ≡ n + length {A = ℕ} []
 none-before n = omega arith
 
 -- the start stands at the text's beginning
-pub start-here : (functions : List (List Item)) (objects : List Object) (main : ℕ) (places : List Places) (symbols : Symbols) (text : List ℕ) → (h : IsText functions objects main places symbols text) → IsAt text text_start h.start
-start-here functions objects main places symbols text h =
+pub start-here : (functions : List (List Item)) (order : List ℕ) (objects : List Object) (main : ℕ) (places : List Places) (symbols : Symbols) (text : List ℕ) → (h : IsText functions order objects main places symbols text) → IsAt text text_start h.start
+start-here functions order objects main places symbols text h =
     record { done = []; rest = h.code ++ h.putchar ++ h.getchar ++ h.exit ++ h.check; whole = h.whole ∙ front-part h.start h.code h.putchar h.getchar h.exit h.check; place = none-before text_start }
 
 -- the functions stand behind the start
-pub code-here : (functions : List (List Item)) (objects : List Object) (main : ℕ) (places : List Places) (symbols : Symbols) (text : List ℕ) → (h : IsText functions objects main places symbols text) → IsAt text (text_start + length h.start) h.code
-code-here functions objects main places symbols text h =
+pub code-here : (functions : List (List Item)) (order : List ℕ) (objects : List Object) (main : ℕ) (places : List Places) (symbols : Symbols) (text : List ℕ) → (h : IsText functions order objects main places symbols text) → IsAt text (text_start + length h.start) h.code
+code-here functions order objects main places symbols text h =
     record { done = h.start; rest = h.putchar ++ h.getchar ++ h.exit ++ h.check; whole = h.whole ∙ second-part h.start h.code h.putchar h.getchar h.exit h.check; place = refl }
 
 -- `putchar` stands where calls of it lead, whatever the places
-pub putchar-stands : (functions : List (List Item)) (objects : List Object) (main : ℕ) (places : List Places) (site : Site) → IsText functions objects main places site.symbols site.text → StandsFrom site putchar_items site.symbols.putchar
-putchar-stands functions objects main places site h =
+pub putchar-stands : (functions : List (List Item)) (order : List ℕ) (objects : List Object) (main : ℕ) (places : List Places) (site : Site) → IsText functions order objects main places site.symbols site.text → StandsFrom site putchar_items site.symbols.putchar
+putchar-stands functions order objects main places site h =
     record {
       bytes = h.putchar;
       here = record { done = h.start ++ h.code; rest = h.getchar ++ h.exit ++ h.check; whole = h.whole ∙ third-part h.start h.code h.putchar h.getchar h.exit h.check; place = h.putchar_is };
@@ -103,53 +103,42 @@ putchar-stands functions objects main places site h =
 -- ---- the functions
 
 -- a function among those that stand one behind the other
-pub record FunctionAt (symbols : Symbols) (places : List Places) (addresses : List ℕ) (address f : ℕ) (items : List Item) (bytes : List ℕ) : Type 0 where
-  pub place : Places
+pub record FunctionIn (symbols : Symbols) (functions : List (List Item)) (places : List Places) (address f : ℕ) (bytes : List ℕ) : Type 0 where
   pub at : ℕ
-  pub placed : slice_get places f ≡ Some place
-  pub named : slice_get addresses f ≡ Some at
   pub done : List ℕ
   pub first : List ℕ
   pub rest : List ℕ
   pub whole : bytes ≡ done ++ (first ++ rest)
   pub where_is : at ≡ address + length done
-  pub stand : ItemsAt symbols place at items first
+  pub stands : FunctionAt symbols functions places f at first
 
 past-more : (address : ℕ) (a d : List ℕ) → address + length a + length d ≡ address + length (a ++ d)
 past-more address a d = let l = length-append a d in omega arith
 
--- each function stands somewhere
-pub function-stands : (symbols : Symbols) (address f : ℕ) (functions : List (List Item)) (places : List Places) (addresses : List ℕ) (bytes : List ℕ) (items : List Item) → FunctionsAt symbols address functions places addresses bytes → slice_get functions f ≡ Some items
-    → FunctionAt symbols places addresses address f items bytes
-function-stands symbols address f [] places addresses bytes items h e = absurd (let no : None ≡ Some items = e in cc)
-function-stands symbols address f (g ∷ functions) [] addresses bytes items h e = absurd h
-function-stands symbols address f (g ∷ functions) (p ∷ places) [] bytes items h e = absurd h
-function-stands symbols address zero (g ∷ functions) (p ∷ places) (a ∷ addresses) bytes items (first, rest, whole, is, stand, more) e =
+-- each function of the order stands somewhere
+pub function-stands : (symbols : Symbols) (functions : List (List Item)) (places : List Places) (order : List ℕ) (address i f : ℕ) (bytes : List ℕ) → FunctionsAt symbols functions places order address bytes → slice_get order i ≡ Some f
+    → FunctionIn symbols functions places address f bytes
+function-stands symbols functions places [] address i f bytes h e = absurd (let no : None ≡ Some f = e in cc)
+function-stands symbols functions places (k ∷ order) address zero f bytes (first, rest, whole, at, more) e =
     record {
-      place = p;
       at = address;
-      placed = refl;
-      named = ap Some is;
       done = [];
       first = first;
       rest = rest;
       whole = whole;
       where_is = none-before address;
-      stand = subst (λ (l : List Item). ItemsAt symbols p address l first) (same_Some g items e) stand;
+      stands = subst (λ (n : ℕ). FunctionAt symbols functions places n address first) (same_Some k f e) at;
     }
-function-stands symbols address (suc f) (g ∷ functions) (p ∷ places) (a ∷ addresses) bytes items (first, rest, whole, is, stand, more) e =
-    let h = function-stands symbols (address + length first) f functions places addresses rest items more e in
+function-stands symbols functions places (k ∷ order) address (suc i) f bytes (first, rest, whole, at, more) e =
+    let h = function-stands symbols functions places order (address + length first) i f rest more e in
     record {
-      place = h.place;
       at = h.at;
-      placed = h.placed;
-      named = h.named;
       done = first ++ h.done;
       first = h.first;
       rest = h.rest;
       whole = whole ∙ ap (λ (l : List ℕ). first ++ l) h.whole ∙ sym (append_assoc first h.done (h.first ++ h.rest));
       where_is = h.where_is ∙ past-more address first h.done;
-      stand = h.stand;
+      stands = h.stands;
     }
 
 -- a function of a text, with its places and its address, stands in the text
@@ -160,16 +149,19 @@ pub record Placed (symbols : Symbols) (places : List Places) (text : List ℕ) (
   pub named : slice_get symbols.functions f ≡ Some address
   pub stands : (low high : ℕ) → StandsFrom (record { symbols = symbols; places = place; text = text; low = low; high = high }) items address
 
-pub function-placed : (functions : List (List Item)) (objects : List Object) (main : ℕ) (places : List Places) (symbols : Symbols) (text : List ℕ) (f : ℕ) (items : List Item) → IsText functions objects main places symbols text → slice_get functions f ≡ Some items → Placed symbols places text f items
-function-placed functions objects main places symbols text f items h e =
-    let at = function-stands symbols (text_start + length h.start) f functions places symbols.functions h.code items h.code_at e in
-    let here = code-here functions objects main places symbols text h in
+pub function-placed : (functions : List (List Item)) (order : List ℕ) (objects : List Object) (main : ℕ) (places : List Places) (symbols : Symbols) (text : List ℕ) (f : ℕ) (items : List Item) → IsText functions order objects main places symbols text → slice_get functions f ≡ Some items → Placed symbols places text f items
+function-placed functions order objects main places symbols text f items h e =
+    let i = h.order_is.each f (slice_get_within functions f items e) in
+    let at = function-stands symbols functions places order (text_start + length h.start) i.0 f h.code h.code_at i.1 in
+    let here = code-here functions order objects main places symbols text h in
     let split : IsAt text (text_start + length h.start) (at.done ++ (at.first ++ at.rest)) = subst (IsAt text (text_start + length h.start)) at.whole here in
     let back = at-front text (text_start + length h.start + length at.done) at.first at.rest (at-back text (text_start + length h.start) at.done (at.first ++ at.rest) split) in
+    let same : at.stands.items ≡ items = same_Some at.stands.items items (sym at.stands.is ∙ e) in
+    let stand : ItemsAt symbols at.stands.place at.at items at.first = subst (λ (is : List Item). ItemsAt symbols at.stands.place at.at is at.first) same at.stands.stands in
     record {
-      place = at.place;
+      place = at.stands.place;
       address = at.at;
-      placed = at.placed;
-      named = at.named;
-      stands = λ low high. record { bytes = at.first; here = subst (λ (k : ℕ). IsAt text k at.first) (sym at.where_is) back; stand = at.stand };
+      placed = at.stands.placed;
+      named = at.stands.named;
+      stands = λ low high. record { bytes = at.first; here = subst (λ (k : ℕ). IsAt text k at.first) (sym at.where_is) back; stand = stand };
     }

@@ -150,7 +150,7 @@ starts-behind symbols text main address last input depth fits returns named (a, 
 
 -- the start comes to the first function's address, with one call active
 pub start-goes : StartGoes
-start-goes functions main places symbols text address input h fits named =
+start-goes functions order main places symbols text address input h fits named =
     let s : State = text_state text [] input in
     let site : Site = start_site symbols text in
     let sound = first-sound text input fits in
@@ -159,7 +159,7 @@ start-goes functions main places symbols text address input h fits named =
     let before : List ℕ = parts.0 in
     let after : List ℕ = parts.1 in
     let last : ℕ = text_start + length before in
-    let both : IsAt text text_start (before ++ after) = subst (IsAt text text_start) parts.2 (start-here functions [] main places symbols text h) in
+    let both : IsAt text text_start (before ++ after) = subst (IsAt text text_start) parts.2 (start-here functions order [] main places symbols text h) in
     let returns : ReturnsToStart symbols text [] main last = (before, after, no_places, parts.3, parts.4, (both.done, both.rest, both.whole, both.place), refl) in
     let ready : ReadyAt site xs s = record { bytes = before; here = at-front text text_start before after both; stand = parts.3 } in
     let items : List Item = plain (insn.MovImm (rm.Mem (absolute symbols.depth)) (pos 1)) ∷ item.CallFunction main ∷ [] in

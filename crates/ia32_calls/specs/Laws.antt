@@ -80,8 +80,8 @@ pub record Started (symbols : Symbols) (text : List ℕ) (main address : ℕ) (i
 -- the start comes to the first function's address, with one call active
 abbrev pub StartGoes : Type 0
 StartGoes =
-    (functions : List (List Item)) (main : ℕ) (places : List Places) (symbols : Symbols) (text : List ℕ) (address : ℕ) (input : List ℕ)
-    → IsText functions [] main places symbols text → length text < 2 ^ 30 + 1024 → slice_get symbols.functions main ≡ Some address
+    (functions : List (List Item)) (order : List ℕ) (main : ℕ) (places : List Places) (symbols : Symbols) (text : List ℕ) (address : ℕ) (input : List ℕ)
+    → IsText functions order [] main places symbols text → length text < 2 ^ 30 + 1024 → slice_get symbols.functions main ≡ Some address
     → (t : State) × Started symbols text main address input t
 
 -- ---- a function's first items

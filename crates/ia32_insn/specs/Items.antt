@@ -1,6 +1,6 @@
 -- Texts of items: how the code of a program stands in memory, function by function, with the routines that it
 -- calls, and the state in which its image starts.
-use Rattle.std.specs.Prelude.{◌≡◌, ◌⊎◌, ℕ, ◌+◌, ◌-◌, ◌*◌, ◌/◌, ◌%◌, ◌^◌, ℤ, pos, true, false, List, [], ◌∷◌, ◌++◌, flat_map, length, slice_get, Option, Some, None}
+use Rattle.std.specs.Prelude.{◌≡◌, ◌⊎◌, ◌<◌, ℕ, ◌+◌, ◌-◌, ◌*◌, ◌/◌, ◌%◌, ◌^◌, ℤ, pos, true, false, List, [], ◌∷◌, ◌++◌, flat_map, length, slice_get, Option, Some, None}
 use Rattle.std.specs.Int.{w32, cast_unsigned, cast_signed}
 use Rattle.byteorder.specs.Endian.{little_bytes}
 use Rattle.pcc_base.specs.Bytes.{zeros}
@@ -78,13 +78,27 @@ ItemsAt symbols places address [] bytes = bytes ≡ []
 ItemsAt symbols places address (i ∷ items) bytes =
     (first : List ℕ) × (rest : List ℕ) × (bytes ≡ first ++ rest) × ItemAt symbols places address i first × ItemsAt symbols places (address + length first) items rest
 
--- the functions stand one after the other from the address on, at these addresses, and have these bytes
-abbrev pub FunctionsAt : Symbols → ℕ → List (List Item) → List Places → List ℕ → List ℕ → Type 0
-FunctionsAt symbols address [] [] [] bytes = bytes ≡ []
-FunctionsAt symbols address (f ∷ functions) (p ∷ places) (a ∷ addresses) bytes =
-    (first : List ℕ) × (rest : List ℕ) × (bytes ≡ first ++ rest) × (a ≡ address) × ItemsAt symbols p address f first
-    × FunctionsAt symbols (address + length first) functions places addresses rest
-FunctionsAt symbols address _ _ _ bytes = ⊥
+-- the numbers below n in some order: each stands at one place
+pub record IsOrder (n : ℕ) (order : List ℕ) : Type 0 where
+  pub below : (i k : ℕ) → slice_get order i ≡ Some k → k < n
+  pub each : (k : ℕ) → k < n → (i : ℕ) × (slice_get order i ≡ Some k)
+  pub once : (i j k : ℕ) → slice_get order i ≡ Some k → slice_get order j ≡ Some k → i ≡ j
+
+-- the function with this number stands at the address, with these bytes
+pub record FunctionAt (symbols : Symbols) (functions : List (List Item)) (places : List Places) (f address : ℕ) (bytes : List ℕ) : Type 0 where
+  pub items : List Item
+  pub place : Places
+  pub is : slice_get functions f ≡ Some items
+  pub placed : slice_get places f ≡ Some place
+  pub named : slice_get symbols.functions f ≡ Some address
+  pub stands : ItemsAt symbols place address items bytes
+
+-- the functions with these numbers stand one after the other from the address on, and have these bytes
+abbrev pub FunctionsAt : Symbols → List (List Item) → List Places → List ℕ → ℕ → List ℕ → Type 0
+FunctionsAt symbols functions places [] address bytes = bytes ≡ []
+FunctionsAt symbols functions places (f ∷ order) address bytes =
+    (first : List ℕ) × (rest : List ℕ) × (bytes ≡ first ++ rest) × FunctionAt symbols functions places f address first
+    × FunctionsAt symbols functions places order (address + length first) rest
 
 -- ---- the routines
 
@@ -195,8 +209,9 @@ data_memory objects = round_up 4 (length (data_bytes objects)) + 67112960
 abbrev pub stack_end : List ℕ → List Object → ℕ
 stack_end text objects = data_start text + data_memory objects
 
--- The text: the start, the functions in order, and the other routines, one after the other.
-pub record IsText (functions : List (List Item)) (objects : List Object) (main : ℕ) (places : List Places) (symbols : Symbols) (text : List ℕ) : Type 0 where
+-- The text: the start, the functions in this order of their numbers, and the other routines, one after the other. The
+-- functions, their places and their addresses are listed by their numbers.
+pub record IsText (functions : List (List Item)) (order : List ℕ) (objects : List Object) (main : ℕ) (places : List Places) (symbols : Symbols) (text : List ℕ) : Type 0 where
   pub start : List ℕ
   pub code : List ℕ
   pub putchar : List ℕ
@@ -205,7 +220,10 @@ pub record IsText (functions : List (List Item)) (objects : List Object) (main :
   pub check : List ℕ
   pub whole : text ≡ start ++ code ++ putchar ++ getchar ++ exit ++ check
   pub start_at : (none : Places) → ItemsAt symbols none text_start (start_items (stack_end text objects) symbols.depth main) start
-  pub code_at : FunctionsAt symbols (text_start + length start) functions places symbols.functions code
+  pub order_is : IsOrder (length functions) order
+  pub places_are : length places ≡ length functions
+  pub addresses_are : length symbols.functions ≡ length functions
+  pub code_at : FunctionsAt symbols functions places order (text_start + length start) code
   pub putchar_is : symbols.putchar ≡ text_start + length (start ++ code)
   pub putchar_at : (none : Places) → ItemsAt symbols none symbols.putchar putchar_items putchar
   pub getchar_is : symbols.getchar ≡ symbols.putchar + length putchar

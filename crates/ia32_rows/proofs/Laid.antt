@@ -1,5 +1,5 @@
 -- Where the items of a graph over slots stand in a text.
-use Rattle.std.proofs.Common.{◌≡◌, ℕ, zero, suc, ◌+◌, Bool, cond, List, [], ◌∷◌, ◌++◌, length, Some, Option, refl, sym, ap, subst, ◌∙◌, inl, inr, arith, append_assoc}
+use Rattle.std.proofs.Common.{◌≡◌, ℕ, zero, suc, ◌+◌, Bool, cond, List, [], ◌∷◌, ◌++◌, length, Some, None, Option, refl, sym, ap, subst, ◌∙◌, inl, inr, arith, append_assoc}
 use Rattle.std.specs.Prelude.{slice_get, slice_index_or}
 use Rattle.std.proofs.lemmas.Option.{same_Some, get_or_from_slice_get}
 use Rattle.std.proofs.lemmas.Bool.{eq-eqb}
@@ -8,7 +8,7 @@ use Rattle.ia32_insn.specs.State.{State}
 use Rattle.ia32_insn.specs.declared.insn.Insn.TheVariants as insn
 use Rattle.ia32_insn.specs.declared.item.Item.{Item}
 use Rattle.ia32_insn.specs.declared.item.Item.TheVariants as item
-use Rattle.ia32_insn.specs.Items.{Symbols, Places, ItemsAt, FunctionsAt, IsText, text_start, stack_end, start_items, putchar_items, plain}
+use Rattle.ia32_insn.specs.Items.{Symbols, Places, ItemsAt, FunctionAt, FunctionsAt, IsOrder, IsText, text_start, stack_end, start_items, putchar_items, plain}
 use Rattle.flow_graph.specs.declared.op.Op.{Op}
 use Rattle.flow_graph.specs.declared.op.Op.TheVariants as op
 use Rattle.flow_graph.specs.Graphs.{Flow, Every, IsIn, Stands, points_of, following}
@@ -83,17 +83,26 @@ site_of code low high = record { symbols = code.symbols; places = places_of code
 abbrev pub StandsIn : Code → List Item → ℕ → Type 0
 StandsIn code items address = StandsThere code.symbols (places_of code) code.text items address
 
+-- the only function's number is the whole order
+pub order-one : (order : List ℕ) → IsOrder 1 order → order ≡ 0 ∷ []
+order-one [] h = absurd (let e : None ≡ Some 0 = (h.each 0 (omega arith)).1 in cc)
+order-one (k ∷ []) h = let b = h.below 0 k refl in ap (λ (n : ℕ). n ∷ []) (omega arith)
+order-one (k ∷ l ∷ order) h =
+    let b = h.below 0 k refl in
+    let c = h.below 1 l refl in
+    let same : k ≡ l = omega arith in
+    zero-is-one (h.once 0 1 l (ap Some same) refl)
+  where
+    zero-is-one : zero ≡ suc zero → k ∷ l ∷ order ≡ 0 ∷ []
+    zero-is-one e = absurd (omega (arith, e))
+
 -- what stands for the only function
-functions-one : (symbols : Symbols) (address : ℕ) (items : List Item) (places : List Places) (addresses : List ℕ) (bytes : List ℕ) → FunctionsAt symbols address (items ∷ []) places addresses bytes
-    → (p : Places) × (places ≡ p ∷ []) × (addresses ≡ address ∷ []) × ItemsAt symbols p address items bytes
-functions-one symbols address items [] addresses bytes h = absurd h
-functions-one symbols address items (p ∷ ps) [] bytes h = absurd h
-functions-one symbols address items (p ∷ []) (a ∷ []) bytes (first, rest, whole, at, stand, none) =
+function-one : (symbols : Symbols) (functions : List (List Item)) (places : List Places) (order : List ℕ) (address : ℕ) (bytes : List ℕ) → order ≡ 0 ∷ [] → FunctionsAt symbols functions places order address bytes
+    → FunctionAt symbols functions places 0 address bytes
+function-one symbols functions places order address bytes e h =
+    let (first, rest, whole, at, none) = subst (λ (ks : List ℕ). FunctionsAt symbols functions places ks address bytes) e h in
     let same : bytes ≡ first = whole ∙ ap (λ (l : List ℕ). first ++ l) none ∙ append-nil first in
-    (p, refl, ap (λ (x : ℕ). x ∷ []) at, subst (ItemsAt symbols p address items) (sym same) stand)
-functions-one symbols address items (p ∷ []) (a ∷ b ∷ more) bytes (first, rest, whole, at, stand, none) = absurd none
-functions-one symbols address items (p ∷ q ∷ ps) (a ∷ []) bytes (first, rest, whole, at, stand, none) = absurd none
-functions-one symbols address items (p ∷ q ∷ ps) (a ∷ b ∷ more) bytes (first, rest, whole, at, stand, none) = absurd none
+    subst (FunctionAt symbols functions places 0 address) (sym same) at
 
 grouped : (a b c d e f : List ℕ) → a ++ b ++ c ++ d ++ e ++ f ≡ a ++ (b ++ (c ++ d ++ e ++ f))
 grouped a b c d e f = simp append_assoc refl
@@ -109,21 +118,23 @@ pub record IsLaid (flow : Flow) (slots : List ℕ) (code : Code) : Type 0 where
 
 pub laid : (flow : Flow) (slots : List ℕ) (code : Code) → IsSlotCode flow slots (selected flow slots) code → IsLaid flow slots code
 laid flow slots code h =
-    let t : IsText code.items [] 0 code.places code.symbols code.text = h.text in
+    let t : IsText code.items code.order [] 0 code.places code.symbols code.text = h.text in
     let address : ℕ = text_start + length t.start in
-    let one = functions-one code.symbols address (selected flow slots) code.places code.symbols.functions t.code
-    (subst (λ (fs : List (List Item)). FunctionsAt code.symbols address fs code.places code.symbols.functions t.code) h.items_are t.code_at) in
-    let same : one.0 ≡ places_of code = sym (ap (λ (ps : List Places). slice_index_or ps 0 no_places) one.1) in
+    let order : code.order ≡ 0 ∷ [] = order-one code.order (subst (λ (fs : List (List Item)). IsOrder (length fs) code.order) h.items_are t.order_is) in
+    let one = function-one code.symbols code.items code.places code.order address t.code order t.code_at in
+    let same : one.place ≡ places_of code = sym (get_or_from_slice_get code.places 0 one.place no_places one.placed) in
+    let items : one.items ≡ selected flow slots = same_Some one.items (selected flow slots) (sym one.is ∙ ap (λ (fs : List (List Item)). slice_get fs 0) h.items_are) in
     record {
       address = address;
       start = t.start;
       behind = refl;
-      placed = ap (λ (ps : List Places). slice_get ps 0) one.1 ∙ ap Some same;
-      named = ap (λ (fs : List ℕ). slice_get fs 0) one.2;
+      placed = one.placed ∙ ap Some same;
+      named = one.named;
       stands = record {
         bytes = t.code;
         here = record { done = t.start; rest = t.putchar ++ t.getchar ++ t.exit ++ t.check; whole = t.whole ∙ grouped t.start t.code t.putchar t.getchar t.exit t.check; place = refl };
-        stand = subst (λ (p : Places). ItemsAt code.symbols p address (selected flow slots) t.code) same one.3;
+        stand = subst (λ (p : Places). ItemsAt code.symbols p address (selected flow slots) t.code) same
+            (subst (λ (is : List Item). ItemsAt code.symbols one.place address is t.code) items one.stands);
       };
     }
 
@@ -304,7 +315,7 @@ turn-at flow slots code p b h stands has =
 -- the items of putchar are ready at their address, whatever the places
 pub stub-at : (flow : Flow) (slots : List ℕ) (items : List Item) (code : Code) (places : Places) (s : State) → IsSlotCode flow slots items code → s.eip ≡ code.symbols.putchar → Ready code.symbols places code.text putchar_items s
 stub-at flow slots items code places s h e =
-    let t : IsText code.items [] 0 code.places code.symbols code.text = h.text in
+    let t : IsText code.items code.order [] 0 code.places code.symbols code.text = h.text in
     ready-there code.symbols places code.text putchar_items code.symbols.putchar s e (record {
       bytes = t.putchar;
       here = record { done = t.start ++ t.code; rest = t.getchar ++ t.exit ++ t.check; whole = t.whole ∙ apart (t.start ++ t.code) t.putchar t.getchar t.exit t.check; place = t.putchar_is };
@@ -324,7 +335,7 @@ pub record IsStarted (code : Code) (places : Places) : Type 0 where
 
 pub started : (flow : Flow) (slots : List ℕ) (items : List Item) (code : Code) (places : Places) → IsSlotCode flow slots items code → IsStarted code places
 started flow slots items code places h =
-    let t : IsText code.items [] 0 code.places code.symbols code.text = h.text in
+    let t : IsText code.items code.order [] 0 code.places code.symbols code.text = h.text in
     let P : GraphProgram → Type 0 = λ program. ItemsAt code.symbols places text_start (start_items (stack_end code.text (objects_of program)) code.symbols.depth program.main) t.start in
     let at : P code.program = subst P (sym h.program) (t.start_at places) in
     let m = items-split code.symbols places text_start (startup code) (ending code) t.start at in

@@ -24,7 +24,7 @@ pub record IsSlotCode (flow : Flow) (slots : List ℕ) (items : List Item) (code
   pub has_slots : HasSlots flow slots
   pub items_are : code.items ≡ items ∷ []
   pub placements : code.placements ≡ in_slots (frame_of flow) [] slots ∷ []
-  pub text : IsText code.items [] 0 code.places code.symbols code.text
+  pub text : IsText code.items code.order [] 0 code.places code.symbols code.text
   pub fits : length code.text < 2 ^ 30 + 1024
   pub bytes : AreBytes code.text
 

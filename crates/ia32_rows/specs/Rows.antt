@@ -14,22 +14,11 @@ use Rattle.ia32_insn.specs.declared.item.Stub.TheVariants as stub
 use Rattle.ia32_insn.specs.Items.{plain}
 use Rattle.flow_graph.specs.declared.op.Op.{Op}
 use Rattle.flow_graph.specs.declared.op.Op.TheVariants as op
+pub use Rattle.flow_graph.specs.SlotGraphs.{IsSlotOp}
 use Rattle.flow_graph.specs.Graphs.{Flow, Every, IsEnded}
 use Rattle.ia32_shows.specs.Placements.{below}
 
 -- ---- the graphs that have code so far
-
--- numbers, copies, sums, differences, `putchar`, marks, turns, and a return with a value
-abbrev pub IsSlotOp : Op → Type 0
-IsSlotOp (op.Const d n) = ⊤
-IsSlotOp (op.Copy d s) = ⊤
-IsSlotOp (op.Add d a b) = ⊤
-IsSlotOp (op.Sub d a b) = ⊤
-IsSlotOp (op.Putchar d s) = ⊤
-IsSlotOp (op.Mark s) = ⊤
-IsSlotOp op.Turn = ⊤
-IsSlotOp (op.Return (Some a)) = ⊤
-IsSlotOp _ = ⊥
 
 -- the bytes of the frame: the four words of the caller's registers and of scratch, and a slot for each variable
 abbrev pub frame_of : Flow → ℕ

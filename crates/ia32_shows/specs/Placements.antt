@@ -32,11 +32,13 @@ in_slots frame arrays slots =
 abbrev pub no_placement : Placement
 no_placement = record { frame = 0; arrays = []; before = λ point variable. None; after = λ point variable. None }
 
--- The code of a program of graphs: for each function its placement, its items, and where these stand in the text.
+-- The code of a program of graphs: for each function its placement, its items, and where these stand in the text, and
+-- the functions' numbers in the order of the text.
 pub record Code : Type 0 where
   pub program : GraphProgram
   pub placements : List Placement
   pub items : List (List Item)
+  pub order : List ℕ
   pub places : List Places
   pub symbols : Symbols
   pub text : List ℕ
@@ -58,6 +60,6 @@ point_address code function point = address_in (slice_get code.places function) 
 
 -- the items are laid out in the text, function by function
 pub record IsCode (code : Code) : Type 0 where
-  pub text : IsText code.items (objects_of code.program) code.program.main code.places code.symbols code.text
+  pub text : IsText code.items code.order (objects_of code.program) code.program.main code.places code.symbols code.text
   pub functions : length code.items ≡ length code.program.functions
   pub placements : length code.placements ≡ length code.program.functions

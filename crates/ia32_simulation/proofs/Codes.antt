@@ -1,10 +1,10 @@
 -- A code over slots by its parts, and the laws for every such code.
-use Rattle.std.proofs.Common.{◌≡◌, ℕ, ◌+◌, List, [], ◌∷◌, ◌++◌, length, Some, refl, sym, subst}
+use Rattle.std.proofs.Common.{◌≡◌, ℕ, ◌+◌, List, [], ◌∷◌, ◌++◌, length, Some, refl, sym, ap, ◌∙◌, subst, arith}
 use Rattle.std.specs.Prelude.{slice_index_or}
 use Rattle.ia32_regs.specs.declared.names.Reg32.TheVariants.{Esi}
 use Rattle.ia32_insn.specs.declared.item.Item.{Item}
 use Rattle.ia32_insn.specs.State as machine
-use Rattle.ia32_insn.specs.Items.{Symbols, Places, FunctionsAt, IsText, text_start, text_state}
+use Rattle.ia32_insn.specs.Items.{Symbols, Places, IsOrder, IsText, text_state}
 use Rattle.flow_graph.specs.Graphs.{Flow}
 use Rattle.flow_graph.specs.Meaning.{step}
 use Rattle.flow_graph.specs.Running.{first_state}
@@ -17,7 +17,7 @@ use Rattle.ia32_calls.specs.Laws.{StartGoes, PrologueGoes}
 use Rattle.ia32_rows.specs.Rows.{selected, result_in}
 use Rattle.ia32_shows.specs.Follows.{Starts, FollowsAll, ComesTo, Follows, is_nop}
 use Rattle.ia32_rows.specs.Right.{IsSlotCode, AreRight}
-use Rattle.ia32_rows.proofs.Laid.{no_places, places_of}
+use Rattle.ia32_rows.proofs.Laid.{no_places, order-one, places_of}
 use Rattle.ia32_shows.proofs.Along.{whole_runs}
 use Rattle.ia32_simulation.proofs.Setup.{Setup, IsSetup, code_in, site_in}
 use Rattle.ia32_simulation.proofs.Bytes.{ready-fits}
@@ -29,26 +29,24 @@ abbrev setup_of : Flow → List ℕ → Code → Setup
 setup_of flow slots code = record { flow = flow; slots = slots; places = places_of code; symbols = code.symbols; text = code.text }
 
 -- one function has one list of places
-one-place : (symbols : Symbols) (address : ℕ) (items : List Item) (places : List Places) (addresses : List ℕ) (bytes : List ℕ) → FunctionsAt symbols address (items ∷ []) places addresses bytes → places ≡ slice_index_or places 0 no_places ∷ []
-one-place symbols address items [] addresses bytes h = absurd h
-one-place symbols address items (p ∷ []) addresses bytes h = refl
-one-place symbols address items (p ∷ q ∷ ps) [] bytes h = absurd h
-one-place symbols address items (p ∷ q ∷ ps) (a ∷ []) bytes (first, rest, whole, at, stand, none) = absurd none
-one-place symbols address items (p ∷ q ∷ ps) (a ∷ b ∷ more) bytes (first, rest, whole, at, stand, none) = absurd none
+one-place : (places : List Places) → length places ≡ 1 → places ≡ slice_index_or places 0 no_places ∷ []
+one-place [] e = absurd (omega (arith, e))
+one-place (p ∷ []) e = refl
+one-place (p ∷ q ∷ ps) e = absurd (omega (arith, e))
 
 -- codes with the same parts are the same
-code-equal : (p q : GraphProgram) (ps qs : List Placement) (i j : List (List Item)) (a b : List Places) (symbols : Symbols) (text : List ℕ) → p ≡ q → ps ≡ qs → i ≡ j → a ≡ b
-    → (let one : Code = record { program = p; placements = ps; items = i; places = a; symbols = symbols; text = text } in one) ≡ record { program = q; placements = qs; items = j; places = b; symbols = symbols; text = text }
-code-equal p q ps qs i j a b symbols text e f g h = cc
+code-equal : (p q : GraphProgram) (ps qs : List Placement) (i j : List (List Item)) (o u : List ℕ) (a b : List Places) (symbols : Symbols) (text : List ℕ) → p ≡ q → ps ≡ qs → i ≡ j → o ≡ u → a ≡ b
+    → (let one : Code = record { program = p; placements = ps; items = i; order = o; places = a; symbols = symbols; text = text } in one) ≡ record { program = q; placements = qs; items = j; order = u; places = b; symbols = symbols; text = text }
+code-equal p q ps qs i j o u a b symbols text e f g h k = cc
 
 -- a code over slots is the one of its parts
 code-is : (flow : Flow) (slots : List ℕ) (code : Code) → IsSlotCode flow slots (selected flow slots) code → code ≡ code_in (setup_of flow slots code)
 code-is flow slots code h =
     let made : Code = code_in (setup_of flow slots code) in
-    let t : IsText code.items [] 0 code.places code.symbols code.text = h.text in
-    let places = one-place code.symbols (text_start + length t.start) (selected flow slots) code.places code.symbols.functions t.code
-    (subst (λ (fs : List (List Item)). FunctionsAt code.symbols (text_start + length t.start) fs code.places code.symbols.functions t.code) h.items_are t.code_at) in
-    code-equal code.program made.program code.placements made.placements code.items made.items code.places made.places code.symbols code.text h.program h.placements h.items_are places
+    let t : IsText code.items code.order [] 0 code.places code.symbols code.text = h.text in
+    let order : code.order ≡ 0 ∷ [] = order-one code.order (subst (λ (fs : List (List Item)). IsOrder (length fs) code.order) h.items_are t.order_is) in
+    let places = one-place code.places (t.places_are ∙ ap (λ (fs : List (List Item)). length fs) h.items_are) in
+    code-equal code.program made.program code.placements made.placements code.items made.items code.order made.order code.places made.places code.symbols code.text h.program h.placements h.items_are order places
 
 -- what is known of its parts
 setup-known : (flow : Flow) (slots : List ℕ) (code : Code) → IsSlotCode flow slots (selected flow slots) code → IsSetup (setup_of flow slots code)

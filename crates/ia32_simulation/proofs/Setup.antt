@@ -24,6 +24,7 @@ code_in x =
       program = one_graph x.flow;
       placements = in_slots (frame_of x.flow) [] x.slots ∷ [];
       items = selected x.flow x.slots ∷ [];
+      order = 0 ∷ [];
       places = x.places ∷ [];
       symbols = x.symbols;
       text = x.text;

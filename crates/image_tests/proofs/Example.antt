@@ -1,7 +1,7 @@
 -- The sections and objects of the example of the tests can be linked.
-use Rattle.std.specs.Prelude.{◌≡◌, ◌⊎◌, ℕ, zero, suc, ◌*◌, pos, negsuc, List, [], ◌∷◌, length, map, slice_get, Some}
+use Rattle.std.specs.Prelude.{◌≡◌, ◌⊎◌, ◌<◌, ◌+◌, ℕ, zero, suc, ◌*◌, pos, negsuc, List, [], ◌∷◌, length, map, slice_get, slice_index_or, Some}
 use Rattle.std.specs.List.{filter_map}
-use Rattle.std.proofs.Common.{sym, ap, ◌∙◌, subst, arith, inl}
+use Rattle.std.proofs.Common.{refl, sym, ap, ◌∙◌, subst, arith, inl}
 use Rattle.std.proofs.lemmas.Option.{same_Some}
 use Rattle.pcc_base.specs.declared.object.DataObject.{DataObject}
 use Rattle.ia32_regs.specs.declared.names.Reg32.TheVariants.{Eax}
@@ -9,15 +9,24 @@ use Rattle.ia32_insn.specs.declared.operand.Rm32.TheVariants as rm
 use Rattle.ia32_insn.specs.declared.insn.Insn.TheVariants as insn
 use Rattle.ia32_insn.specs.declared.item.Item.{Item}
 use Rattle.ia32_insn.specs.declared.item.Item.TheVariants as item
-use Rattle.ia32_insn.specs.Items.{Object, round_up, elements_size}
+use Rattle.ia32_insn.specs.Items.{IsOrder, Object, round_up, elements_size}
 use Rattle.ia32_asm.specs.declared.section.Section.{Section}
+use Rattle.ia32_asm.specs.declared.section.Symbol.{Symbol}
 use Rattle.ia32_asm.specs.Sections.{CanAssemble, IsSection, items_size, target_of}
-use Rattle.elf_link.specs.Linking.{FitsIn, CanHold, CanLink, object_of}
+use Rattle.elf_link.specs.Linking.{FitsIn, CanHold, CanLink, function_of, object_of, order_of}
 use Rattle.elf_link.proofs.RoutineItems.{plainly_can, word_to, returned}
+use Rattle.elf_link.proofs.Numbered.{number-alone, order-alone}
 use Rattle.elf_link.proofs.Placing.{named_target, follow_inside}
 
 abbrev pub example_items : List Item
 example_items = item.Plain (insn.MovImm (rm.Reg Eax) (pos 3)) ∷ item.Plain insn.Ret ∷ []
+
+-- and a second function, of 5
+abbrev pub other_items : List Item
+other_items = item.Plain (insn.MovImm (rm.Reg Eax) (pos 5)) ∷ item.Plain insn.Ret ∷ []
+
+pub other_can : (items : List Item) → items ≡ other_items → CanAssemble items
+other_can items e = subst CanAssemble (sym e) (plainly_can other_items (word_to Eax 5 (omega arith), (returned, tt)) (omega arith))
 
 pub example_can : (items : List Item) → items ≡ example_items → CanAssemble items
 example_can items e = subst CanAssemble (sym e) (plainly_can example_items (word_to Eax 3 (omega arith), (returned, tt)) (omega arith))
@@ -26,6 +35,7 @@ example_can items e = subst CanAssemble (sym e) (plainly_can example_items (word
 fits_alone : (functions objects f : ℕ) (items : List Item) (s : Section) → IsSection f items s → filter_map target_of items ≡ [] → FitsIn functions objects s
 fits_alone functions objects f items s is e =
     record {
+      named = omega (arith, ap length is.one_symbol);
       targets = λ j r h. let named = named_target f items s is j r h in let none = ap (λ ts. slice_get ts j) e in absurd (cc);
       inside = follow_inside 0 (length s.bytes.items) s.relocations.items is.apart;
       points = is.points_within;
@@ -51,6 +61,7 @@ example_link items section sections object objects e is size s o w z =
     (subst (λ (os : List DataObject). CanLink (section ∷ []) (map object_of os) 0) (sym o)
     (record {
       main_there = omega arith;
+      order = subst (IsOrder 1) (sym (number-alone items section is)) order-alone;
       each = alone section (fits_alone 1 1 0 items section is (ap (filter_map target_of) e));
       code = omega (arith, few);
       held = held_alone object w z;
@@ -59,3 +70,45 @@ example_link items section sections object objects e is size s o w z =
     alone : (section : Section) → FitsIn 1 1 section → (k : ℕ) (s : Section) → slice_get (section ∷ []) k ≡ Some s → FitsIn 1 1 s
     alone section fits zero s e = subst (λ (x : Section). FitsIn 1 1 x) (same_Some section s e) fits
     alone section fits (suc k) s e = absurd (cc)
+
+-- the sections of two functions, the second one's first
+pub two_link : (items others : List Item) (section other : Section) (sections : List Section) (objects : List DataObject) → items ≡ example_items → others ≡ other_items
+    → IsSection 0 items section → IsSection 1 others other → length section.bytes.items ≡ items_size items → length other.bytes.items ≡ items_size others
+    → sections ≡ other ∷ section ∷ [] → objects ≡ [] → CanLink sections (map object_of objects) 0
+two_link items others section other sections objects e f is are size long s o =
+    let few : length section.bytes.items ≡ 6 = size ∙ ap items_size e in
+    let short : length other.bytes.items ≡ 6 = long ∙ ap items_size f in
+    let number : function_of section ≡ 0 = ap (λ (symbols : List Symbol). (slice_index_or symbols 0 (record { function = 0; offset = 0 })).function) is.one_symbol in
+    let higher : function_of other ≡ 1 = ap (λ (symbols : List Symbol). (slice_index_or symbols 0 (record { function = 0; offset = 0 })).function) are.one_symbol in
+    let order : order_of (other ∷ section ∷ []) ≡ 1 ∷ 0 ∷ [] = ap (λ (n : ℕ). n ∷ function_of section ∷ []) higher ∙ ap (λ (n : ℕ). 1 ∷ n ∷ []) number in
+    subst (λ (ss : List Section). CanLink ss (map object_of objects) 0) (sym s)
+    (subst (λ (os : List DataObject). CanLink (other ∷ section ∷ []) (map object_of os) 0) (sym o)
+    (record {
+      main_there = omega arith;
+      order = subst (IsOrder 2) (sym order) two_order;
+      each = both (fits_alone 2 0 0 items section is (ap (filter_map target_of) e)) (fits_alone 2 0 1 others other are (ap (filter_map target_of) f));
+      code = omega (arith, few, short);
+      held = record { widths = λ k o e. absurd (cc); size = omega arith };
+    }))
+  where
+    both : FitsIn 2 0 section → FitsIn 2 0 other → (k : ℕ) (s : Section) → slice_get (other ∷ section ∷ []) k ≡ Some s → FitsIn 2 0 s
+    both one two zero s e = subst (FitsIn 2 0) (same_Some other s e) two
+    both one two (suc zero) s e = subst (FitsIn 2 0) (same_Some section s e) one
+    both one two (suc (suc k)) s e = absurd (cc)
+
+    below : (i k : ℕ) → slice_get (1 ∷ 0 ∷ []) i ≡ Some k → k < 2
+    below zero k e = omega (arith, same_Some 1 k e)
+    below (suc zero) k e = omega (arith, same_Some 0 k e)
+    below (suc (suc i)) k e = absurd (cc)
+
+    each : (k : ℕ) → k < 2 → (i : ℕ) × (slice_get (1 ∷ 0 ∷ []) i ≡ Some k)
+    each zero h = (1, refl)
+    each (suc k) h = (0, ap Some (omega (arith, h)))
+
+    place : (i k : ℕ) → slice_get (1 ∷ 0 ∷ []) i ≡ Some k → i + k ≡ 1
+    place zero k e = omega (arith, same_Some 1 k e)
+    place (suc zero) k e = omega (arith, same_Some 0 k e)
+    place (suc (suc i)) k e = absurd (cc)
+
+    two_order : IsOrder 2 (1 ∷ 0 ∷ [])
+    two_order = record { below = below; each = each; once = λ i j k e f. omega (arith, place i k e, place j k f) }

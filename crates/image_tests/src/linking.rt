@@ -37,3 +37,33 @@ fn one_function(rt: HostRuntime) -> Result<(), Fail> {
     assert_eq!(rt; linked.points.len(), 1);
     Ok(())
 }
+
+/// The sections of two functions, that of function 1 first: the start calls function 0 behind it, and each has its
+/// points under its own number.
+#[test]
+fn two_functions(rt: HostRuntime) -> Result<(), Fail> {
+    let items = vec![in rt.alloc();
+        Item::Plain(Insn::MovImm(Rm32::Reg(Reg32::Eax), 3)),
+        Item::Plain(Insn::Ret),
+    ]?;
+    let others = vec![in rt.alloc();
+        Item::Plain(Insn::MovImm(Rm32::Reg(Reg32::Eax), 5)),
+        Item::Plain(Insn::Ret),
+    ]?;
+    let section = assemble(rt.alloc(), 0, &items)?;
+    let other = assemble(rt.alloc(), 1, &others)?;
+    let sections = vec![in rt.alloc(); other, section]?;
+    let objects: Vec<DataObject> = Vec::new(rt.alloc());
+    let linked = link(rt.alloc(), &sections, &objects, 0)?;
+    // the call of the start has its distance from byte 20 on: 9 bytes are left of the start, and 6 of function 1
+    assert_eq!(rt;
+        &linked.image.text[15..20],
+        [0xe8u8, 15, 0, 0, 0].as_slice()
+    );
+    assert_eq!(rt;
+        &linked.image.text[29..41],
+        [0xb8u8, 5, 0, 0, 0, 0xc3, 0xb8, 3, 0, 0, 0, 0xc3].as_slice()
+    );
+    assert_eq!(rt; linked.points.len(), 2);
+    Ok(())
+}

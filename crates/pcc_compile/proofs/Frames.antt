@@ -1,18 +1,16 @@
 -- The frame of a function: a slot for each variable of its graph.
-use Rattle.std.proofs.Common.{◌≡◌, ℕ, zero, suc, pos, neg_ℤ, ◌+◌, ◌*◌, ◌≤◌, List, [], ◌∷◌, length, map, replicate, Some, refl, sym, ap, ◌∙◌, subst, arith, inl}
-use Rattle.std.specs.Prelude.{slice_get, sum_by}
+use Rattle.std.proofs.Common.{◌≡◌, ℕ, zero, suc, pos, neg_ℤ, ◌+◌, ◌*◌, ◌≤◌, List, [], ◌∷◌, length, map, refl, ap, ◌∙◌, subst, arith, inl}
+use Rattle.std.specs.Prelude.{sum_by}
 use Rattle.std.specs.List.{range_with_len}
-use Rattle.std.proofs.lemmas.List.{length-replicate}
 use Rattle.std.proofs.lemmas.List.Sums.{sum_by-cons}
-use Rattle.pcc_base.specs.declared.run.Width.TheVariants.{Two}
 use Rattle.c_tree.specs.Program.{Function, Program}
 use Rattle.c_tree.specs.Sizes.{frame_bound}
 use Rattle.c_tree.specs.SlotForm.{IsSlotFunction, IsSlotProgram}
-use Rattle.flow_graph.specs.Graphs.{Every}
-use Rattle.c_lower.specs.Code.{function_ops, lowered, slot_graphs, temporaries, variables}
-use Rattle.c_lower.specs.Lowering.{AreLowered, AreSmall, IsLowered, points_in}
-use Rattle.c_lower.proofs.Fitting.{every-body}
-use Rattle.ia32_rows.specs.Rows.{AllApart, AreApart, HasSlots, IsSlot, IsSlotOp}
+use Rattle.flow_graph.specs.Graphs.{Every, Flow}
+use Rattle.flow_graph.specs.SlotGraphs.{IsSlotFlow}
+use Rattle.c_lower.specs.Lowering.{AreSmall, IsLowered, array_of, points_in}
+use Rattle.ia32_rows.specs.Right.{one_graph}
+use Rattle.ia32_rows.specs.Rows.{AllApart, AreApart, HasSlots, IsSlot}
 use Rattle.pcc_compile.specs.Products.{IsSmallFrame}
 use Rattle.ia32_select.specs.Offsets.{distance}
 use Rattle.pcc_compile.specs.Slots.{offset_at, slot_at, slots_for}
@@ -39,61 +37,40 @@ length-slots : (a n : ℕ) → length (map slot_at (range_with_len a n)) ≡ n
 length-slots a zero = refl
 length-slots a (suc n) = ap suc (length-slots (a + 1) n)
 
--- ---- widths and ops
-
--- every variable is of width Two
-all_two : (n : ℕ) → Every (λ width. width ≡ Two) (replicate n Two)
-all_two zero = tt
-all_two (suc n) = (refl, all_two n)
-
--- every op of a function has a row
-row_ops : (f : Function) → IsSlotFunction f → Every IsSlotOp (function_ops f)
-row_ops f slot = (
-  tt,
-  every-body IsSlotOp (length f.locals) (length f.locals + temporaries f.body) 0 0 f.body slot.body (omega arith) (omega arith)
-      (record { constant = λ k n h. tt; copy = λ k v h l. tt; add = λ k h. tt; sub = λ k h. tt; mark = λ n. tt; putchar = λ h. tt; ret = λ h. tt }),
-)
-
 -- ---- the one function of a program
 
--- what the back end takes of a function
-pub record HasFrame (f : Function) : Type 0 where
-  pub slots : HasSlots (lowered f) (slots_for (variables f))
-  pub points : length (lowered f).ops ≤ 1310720
-  pub few : variables f ≤ 4096
+-- what the back end takes of a graph
+pub record HasFrame (flow : Flow) : Type 0 where
+  pub slots : HasSlots flow (slots_for (length flow.widths))
+  pub points : length flow.ops ≤ 1310720
+  pub few : length flow.widths ≤ 4096
 
 -- the graph of a function within the frame's limit has a slot for each variable
-function_slots : (f : Function) → IsSlotFunction f → IsLowered f (lowered f) → frame_bound f ≤ 16384 → HasSlots (lowered f) (slots_for (variables f))
-function_slots f slot low frame =
-    let many : length (replicate (variables f) Two) ≡ variables f = length-replicate (variables f) Two in
+function_slots : (f : Function) (flow : Flow) → IsSlotFunction f → IsLowered f flow → IsSlotFlow flow → frame_bound f ≤ 16384 → HasSlots flow (slots_for (length flow.widths))
+function_slots f flow form low slot frame =
+    let n = length flow.widths in
     record {
-      widths = all_two (variables f);
-      no_arrays = refl;
-      ops = row_ops f slot;
+      widths = slot.widths;
+      no_arrays = low.arrays ∙ ap (map array_of) form.no_arrays;
+      ops = slot.ops;
       ended = low.ended;
-      as_many = length-slots 0 (variables f) ∙ sym many;
-      within = slots_within (16 + 4 * length (replicate (variables f) Two)) 0 (variables f) (omega (arith, many));
-      apart = slots_apart 0 (variables f);
+      as_many = length-slots 0 n;
+      within = slots_within (16 + 4 * n) 0 n (omega arith);
+      apart = slots_apart 0 n;
       small = omega (arith, low.frame, frame);
     }
 
 -- the graph of the function of a program that is compiled has a frame
-pub has_frame : (program : Program) (slot : IsSlotProgram program) → AreLowered program (slot_graphs program) → AreSmall program (slot_graphs program) → Every IsSmallFrame program.functions
-    → HasFrame slot.function
-has_frame program slot low small frames =
+pub has_frame : (program : Program) (slot : IsSlotProgram program) (flow : Flow) → IsLowered slot.function flow → IsSlotFlow flow → AreSmall program (one_graph flow) → Every IsSmallFrame program.functions
+    → HasFrame flow
+has_frame program slot flow low slots small frames =
     let f = slot.function in
-    let first : slice_get program.functions 0 ≡ Some f = ap (λ (fs : List Function). slice_get fs 0) slot.one_function in
-    let graph : slice_get (map lowered program.functions) 0 ≡ Some (lowered f) = ap (λ (fs : List Function). slice_get (map lowered fs) 0) slot.one_function in
     let frame : Every IsSmallFrame (f ∷ []) = subst (λ (fs : List Function). Every IsSmallFrame fs) slot.one_function frames in
-    let one = low.each 0 f (lowered f) first graph in
-    let many : length (replicate (variables f) Two) ≡ variables f = length-replicate (variables f) Two in
-    let points : sum_by points_in (slot_graphs program).functions ≡ points_in (lowered f) + 0 =
-    ap (λ (fs : List Function). sum_by points_in (map lowered fs)) slot.one_function ∙ sum_by-cons points_in (lowered f) []
-    in
+    let points : sum_by points_in (flow ∷ []) ≡ points_in flow + 0 = sum_by-cons points_in flow [] in
     record {
-      slots = function_slots f slot.accepted one frame.0;
+      slots = function_slots f flow slot.accepted low slots frame.0;
       points = omega (arith, points, small.points, slot.small);
-      few = omega (arith, many, one.frame, frame.0);
+      few = omega (arith, low.frame, frame.0);
     }
 
 -- ---- offsets

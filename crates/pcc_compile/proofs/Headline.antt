@@ -15,13 +15,13 @@ use Rattle.pcc_base.specs.Bytes.{AreBytes}
 use Rattle.pcc_base.specs.Outcome.{AreKnown, Outcome}
 use Rattle.flow_graph.specs.Running.{GraphOutcome}
 use Rattle.ia32_shows.specs.Follows.{RunsAs, ShowsVisits}
-use Rattle.pcc_listing.specs.Lines.{Line}
+use Rattle.pcc_listing.specs.Maps.{Map}
 use Rattle.pcc_listing.specs.Marks.{listed, visits_of}
 use Rattle.pcc_compile.specs.Products.{DoesAs}
 
 -- Lowering keeps the program's outcome, the code runs as the graphs do, the map lists locals and shows the visits of
 -- the graphs, which are known, and the image begins in the text's first state: so the image does what the program does.
-pub image_does : (program : Program) (code : Code) (map : List Line) (image : List ℕ)
+pub image_does : (program : Program) (code : Code) (map : Map) (image : List ℕ)
     → KeepsOutcome program code.program
     → RunsAs code
     → ListsLocals program (listed map)

@@ -15,7 +15,7 @@ use ia32_asm::assemble;
 use ia32_select::select_slots;
 use pcc_base::NoMemory;
 use pcc_listing::print_lines;
-use slot_map::{lines_by_same_addresses, map_lines};
+use slot_map::{map_by_same_addresses, map_lines};
 use std::alloc::Global;
 
 /// What is made of a program: the text of its map, and the bytes of its image.
@@ -37,14 +37,14 @@ pub fn compile_program(alloc: Global, program: &Program) -> Result<Products, NoM
     let section = assemble(alloc, 0, &items)?;
     let sections = vec![in alloc; section]?;
     let linked = link(alloc, &sections, &graphs.objects, graphs.main)?;
-    let points = &linked.points[0];
-    let lines = map_lines(alloc, &program.functions[0], graph, &offsets, points)?;
+    let addresses = &linked.points[0];
+    let lines = map_lines(alloc, &program.functions[0], graph, &offsets, addresses)?;
     let map = print_lines(alloc, &lines)?;
     let image = write_image(alloc, &linked.image)?;
     // What the promise rests on.
     graph.is_flow();
     are_bytes(&linked.image.text);
-    lines_by_same_addresses();
+    map_by_same_addresses();
     compiled_does_as();
     Ok(Products { map, image })
 }

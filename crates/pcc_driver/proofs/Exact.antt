@@ -147,7 +147,7 @@ report_status : (command : Command) (report : Report) (files_tell streams_tell :
 report_status (commands.Compile name source) report files_tell streams_tell old new streams streams' before after err err' cause told f s quiet =
     compile_status name source old new report before after err err' cause (told.0 f) quiet
 report_status (commands.Run image) report files_tell streams_tell old new streams streams' before after err err' cause told f s quiet =
-    run_status (old image) report streams streams' before after err err' cause (told.2 f s) quiet
+    run_status (old image) report streams streams' before after err err' cause (told.3 f s) quiet
 report_status commands.Usage report files_tell streams_tell old new streams streams' before after err err' cause told f s quiet =
     inr (ap status_of told.0)
 

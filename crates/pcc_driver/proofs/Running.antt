@@ -9,7 +9,8 @@ use Rattle.ia32_machine.specs.Runs as runs
 use Rattle.ia32_machine.specs.Runs.{Gives, GivesSoFar, GivesPart, WritesNext}
 use Rattle.ia32_machine.specs.declared.ends.MachineEnd.{MachineEnd}
 use Rattle.ia32_machine.specs.declared.ends.MachineEnd.TheVariants as machine
-use Rattle.pcc_driver.specs.Answers.{Streams, RunTold, RunGives, RunGivesSoFar, RunGivesPart, Holds, GivesNoMachine, IsNoImage, report_of_end, run_steps}
+use Rattle.pcc_driver.specs.declared.report.Named.TheVariants.{Source, Map, Image}
+use Rattle.pcc_driver.specs.Answers.{Streams, ImageTold, RunTold, RunGives, RunGivesSoFar, RunGivesPart, Holds, GivesNoMachine, IsNoImage, report_of_end, run_steps}
 use Rattle.pcc_driver.specs.Headline.{file_limit}
 use Rattle.pcc_driver.specs.declared.report.Report.{Report}
 use Rattle.pcc_driver.specs.declared.report.Report.TheVariants as reports
@@ -36,6 +37,27 @@ no_machine_told (reports.NoFile file) content image streams read small none = ab
 no_machine_told (reports.Trapped trap) content image streams read small none = absurd none
 no_machine_told (reports.Stopped cause address) content image streams read small none = absurd none
 no_machine_told (reports.BudgetSpent steps) content image streams read small none = absurd none
+
+-- such a report says what the file holds
+pub no_machine_file : (report : Report) (content : Option (List ℕ)) (image : List ℕ) → content ≡ Some image → length image ≤ file_limit → GivesNoMachine image report → ImageTold content report
+no_machine_file reports.NotImage content image read small none = (image, read, small, none)
+no_machine_file (reports.NoFile Image) content image read small none = absurd none
+no_machine_file (reports.NoFile Source) content image read small none = tt
+no_machine_file (reports.NoFile Map) content image read small none = tt
+no_machine_file (reports.TooLong Image) content image read small none = absurd none
+no_machine_file (reports.TooLong Source) content image read small none = tt
+no_machine_file (reports.TooLong Map) content image read small none = tt
+no_machine_file _ content image read small none = tt
+
+-- and so does that of a run
+pub machine_file : (end : MachineEnd) (content : Option (List ℕ)) → ImageTold content (report_of_end end)
+machine_file (machine.Ended status) content = tt
+machine_file (machine.Trapped trap) content = tt
+machine_file (machine.Stopped cause address) content = tt
+machine_file machine.BudgetSpent content = tt
+machine_file machine.ReadFault content = tt
+machine_file machine.WriteFault content = tt
+machine_file machine.NoMemory content = tt
 
 -- a loaded machine that is lent an input is in the first state
 pub lent_first : (image : List ℕ) (segments : Segments) (machine : State) (left : List ℕ) → Loads image segments → machine ≡ first_state segments [] → First image left (lent machine left)

@@ -15,11 +15,12 @@ use Rattle.elf_image.specs.Segments.{Segments, Loads}
 use Rattle.ia32_machine.specs.First.{First}
 use Rattle.ia32_machine.specs.declared.ends.MachineEnd.{MachineEnd}
 use Rattle.ia32_machine.specs.declared.ends.MachineEnd.TheVariants as machine
-use Rattle.pcc_listing.specs.Lines.{Line, IsMap, map_text}
+use Rattle.pcc_listing.specs.Lines.{map_text}
+use Rattle.pcc_listing.specs.Maps as maps
 use Rattle.c_tree.specs.Program.{Program}
 use Rattle.c_front.specs.Accepted.{IsProgram}
 use Rattle.c_front.specs.Refusals.{HasManyTokens, IsSourceFault}
-use Rattle.pcc_compile.specs.Products.{BelongsTo}
+use Rattle.pcc_compile.specs.Products.{IsImageOf}
 use Rattle.pcc_driver.specs.Commands.{Command, Compile, Run, Usage, map_name}
 use Rattle.pcc_driver.specs.Headline.{Files, file_limit, IsCompiled}
 use Rattle.pcc_driver.specs.Reports.{status_of, report_line}
@@ -73,11 +74,13 @@ SameFiles old new = (other : List ℕ) → new other ≡ old other
 abbrev pub OnlyFile : List ℕ → Files → Files → Type 0
 OnlyFile name old new = (other : List ℕ) → other ≢ name → new other ≡ old other
 
--- NAME.map holds the text of the map of the source's program; NAME, and no other file, may have changed
+-- NAME.map holds the text of the map of an image that does what the source's program does; NAME, and no other file, may
+-- have changed
 abbrev pub MapStands : List ℕ → List ℕ → Files → Files → Type 0
 MapStands name source old new =
-    ((text : List ℕ) × (program : Program) × (map : List Line) × (old source ≡ Some text) × IsProgram text program
-    × IsMap map × BelongsTo program map × (new (map_name name) ≡ Some (map_text map)))
+    ((text : List ℕ) × (program : Program) × (map : maps.Map) × (image : List ℕ) × (old source ≡ Some text)
+    × (length text ≤ file_limit) × IsProgram text program × IsImageOf program map image
+    × (new (map_name name) ≡ Some (map_text map)))
     × ((other : List ℕ) → other ≢ name → other ≢ map_name name → new other ≡ old other)
 
 -- the file holds a text that may be read, and of which this holds
@@ -181,6 +184,13 @@ abbrev pub IsOfRun : Report → Type 0
 IsOfRun (reports.TooManyTokens tokens) = ⊥
 IsOfRun _ = ⊤
 
+-- what the report of `run` says of the image's file, where files tell
+abbrev pub ImageTold : Option (List ℕ) → Report → Type 0
+ImageTold content (reports.NoFile Image) = content ≡ None
+ImageTold content (reports.TooLong Image) = IsTooLong content
+ImageTold content reports.NotImage = Holds content (λ image. (segments : Segments) → Loads image segments → ⊥)
+ImageTold content _ = ⊤
+
 -- the report of `run` on files and streams that are told; no file has changed
 abbrev pub RunTold : Option (List ℕ) → Streams → Streams → Report → Type 0
 RunTold content old new (reports.Exited status) = Holds content (RunGives old new (outcome.Ended status))
@@ -224,6 +234,7 @@ abbrev pub CommandTold : Command → Type 0 → Type 0 → Files → Files → S
 CommandTold (Compile name source) files_tell streams_tell old new before after report =
     (files_tell → CompileTold name source old new report) × (after ≡ before)
 CommandTold (Run image) files_tell streams_tell old new before after report =
-    IsOfRun report × (files_tell → SameFiles old new) × (files_tell → streams_tell → RunTold (old image) before after report)
+    IsOfRun report × (files_tell → SameFiles old new) × (files_tell → ImageTold (old image) report)
+    × (files_tell → streams_tell → RunTold (old image) before after report)
 CommandTold Usage files_tell streams_tell old new before after report =
     (report ≡ reports.Usage) × (files_tell → SameFiles old new) × (after ≡ before)

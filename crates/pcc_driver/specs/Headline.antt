@@ -2,8 +2,9 @@
 use Rattle.std.specs.Prelude.{◌≡◌, ◌≢◌, ◌≤◌, ℕ, List, length, Option, Some}
 use Rattle.c_tree.specs.Program.{Program}
 use Rattle.c_front.specs.Accepted.{IsProgram}
-use Rattle.pcc_compile.specs.Products.{BelongsTo, DoesAs}
-use Rattle.pcc_listing.specs.Lines.{Line, IsMap, map_text}
+use Rattle.pcc_compile.specs.Products.{IsImageOf}
+use Rattle.pcc_listing.specs.Lines.{map_text}
+use Rattle.pcc_listing.specs.Maps.{Map}
 use Rattle.pcc_driver.specs.Commands.{map_name}
 
 -- the most bytes of one file that is read
@@ -14,20 +15,18 @@ file_limit = 1342177280
 abbrev pub Files : Type 0
 Files = List ℕ → Option (List ℕ)
 
--- What a compilation leaves: the source is a program, NAME.map holds the text of the program's map (and a text is the
--- text of one map at most), NAME holds an image that does what the program does, and no other file has
+-- What a compilation leaves: the source is a program, NAME.map holds the text of the map of the image (and a text is the
+-- text of one map at most), NAME holds an image that does what the program does by that map, and no other file has
 -- changed.
 pub record IsCompiled (old new : Files) (name source : List ℕ) : Type 0 where
   pub text : List ℕ
   pub program : Program
-  pub map : List Line
+  pub map : Map
   pub image : List ℕ
   pub source_read : old source ≡ Some text
   pub small : length text ≤ file_limit
   pub accepted : IsProgram text program
-  pub rules : IsMap map
-  pub belongs : BelongsTo program map
   pub map_written : new (map_name name) ≡ Some (map_text map)
   pub image_written : new name ≡ Some image
   pub others : (other : List ℕ) → other ≢ name → other ≢ map_name name → new other ≡ old other
-  pub correct : DoesAs image map program
+  pub correct : IsImageOf program map image

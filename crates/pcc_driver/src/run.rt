@@ -5,6 +5,7 @@ ghost use Rattle.pcc_driver.specs.Answers.{
   FilesCause,
   StreamsCause,
   SameFiles,
+  ImageTold,
   IsOfRun,
   RunTold,
   GivesNoMachine,
@@ -69,6 +70,7 @@ pub fn run<F: FileStore, I: Source, O: Sink>(
     ensures input_tells { I.tells input.old → I.tells input.new }
     ensures out_tells { O.tells out.old → O.tells out.new }
     ensures same { F.tells files.old → SameFiles (F.content files.old) (F.content files.new) }
+    ensures file { F.tells files.old → ImageTold (F.content files.old image.now) result }
     ensures told { F.tells files.old → I.tells input.old → O.tells out.old →
         RunTold (F.content files.old image.now)
         (streams_of (I.left input.old) (O.taken out.old))

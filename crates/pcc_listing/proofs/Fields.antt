@@ -5,8 +5,9 @@ use Rattle.std.proofs.lemmas.Bool.Decides.{nat_tests}
 use Rattle.std.specs.Prelude.{⊤}
 use Rattle.std.specs.List.{AllByRecursion}
 use Rattle.std.proofs.lemmas.Fmt.{decimal_injective, decimal_by_steps}
+use Rattle.pcc_listing.specs.Lines.{hexadecimal, hexadecimal_digit, address_text}
 use Rattle.pcc_base.specs.Names.{IsDigit}
-use Rattle.pcc_listing.specs.Lines.{IsNumber, hexadecimal, hexadecimal_digit, address_text}
+use Rattle.pcc_listing.specs.Maps.{IsNumber}
 
 -- a text goes on with a byte that isn't of the field
 abbrev pub Stops : (ℕ → Type 0) → List ℕ → Type 0

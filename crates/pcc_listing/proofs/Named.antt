@@ -2,8 +2,9 @@
 use Rattle.std.proofs.Common.{◌≡◌, ◌<◌, ℕ, List, [], ◌∷◌, ◌++◌, codes, get_or, ap, sym, refl, ◌∙◌, arith, append_assoc}
 use Rattle.std.specs.List.{AllByRecursion}
 use Rattle.std.proofs.lemmas.List.Elements.{recursion_from_All}
+use Rattle.pcc_listing.specs.Lines.{named_text}
+use Rattle.pcc_listing.specs.Maps.{Named, NamesScalar, NamesArray, NamesIndex, Temporary, IsNamed}
 use Rattle.pcc_base.specs.Names.{IsName, IsNameByte}
-use Rattle.pcc_listing.specs.Lines.{Named, NamesScalar, NamesArray, NamesIndex, Temporary, IsNamed, named_text}
 use Rattle.pcc_listing.proofs.Fields.{Stops, field-one}
 
 -- a name's text is a name, and then what tells its kind

@@ -1,13 +1,17 @@
--- A map's text determines its lines.
+-- The text of lines determines them.
 use Rattle.std.proofs.Common.{◌≡◌, ℕ, List, [], ◌∷◌, ◌++◌, codes, decimal, flat_map, get_or, ap, sym, refl, ◌∙◌, arith, append_assoc}
 use Rattle.std.specs.List.{AllByRecursion}
 use Rattle.std.proofs.lemmas.List.{append_cancel_left}
 use Rattle.std.proofs.lemmas.List.Elements.{recursion_from_All}
 use Rattle.pcc_base.specs.declared.run.Width.{Width}
 use Rattle.pcc_base.specs.declared.run.Width.TheVariants.{One, Two}
-use Rattle.pcc_base.specs.Names.{IsDigit, IsNameByte}
-use Rattle.pcc_listing.specs.Lines.{Line, ObjectLine, FunctionLine, ArrayLine, VariableLine, PointLine, BeforeLine, Standing, Mark, Named, IsNumber, IsStanding, IsLine, IsMap, newline, address_text, width_text, place_text, named_text, standing_text, line_text, map_text}
+use Rattle.flow_graph.specs.declared.op.Op.{Op}
+use Rattle.flow_graph.specs.declared.op.Op.TheVariants as op
 use Rattle.ia32_places.specs.Places.{Place}
+use Rattle.pcc_listing.specs.Maps.{Standing, Named, IsNumber}
+use Rattle.pcc_base.specs.Names.{IsDigit, IsNameByte}
+use Rattle.pcc_listing.specs.Lines.{Line, ObjectLine, FunctionLine, ArrayLine, VariableLine, PointLine, BeforeLine, newline, address_text, width_text, place_text, named_text, standing_text, op_text, line_text, lines_text}
+use Rattle.pcc_listing.proofs.LineRules.{IsLine, IsOpText, IsStandingText, AreLines}
 use Rattle.pcc_listing.proofs.Fields.{field-one, number-at, address-one}
 use Rattle.pcc_listing.proofs.Named.{no-name-byte, name-bytes, named-one}
 use Rattle.pcc_listing.proofs.Places.{first-same, place-one}
@@ -31,14 +35,14 @@ standing-parts x r = simp append_assoc
 standing-same : (v w : ℕ) (p q : Place) → v ≡ w → p ≡ q → ◌≡◌ {A = Standing} (record { variable = v; place = p }) (record { variable = w; place = q })
 standing-same v w p q e f = cc
 
-standing-one : (x y : Standing) (r s : List ℕ) → IsStanding x → IsStanding y → standing_text x ++ r ≡ standing_text y ++ s → (x ≡ y) × (r ≡ s)
+standing-one : (x y : Standing) (r s : List ℕ) → IsStandingText x → IsStandingText y → standing_text x ++ r ≡ standing_text y ++ s → (x ≡ y) × (r ≡ s)
 standing-one x y r s ok ok' e =
     let e1 : 32 ∷ (decimal x.variable ++ (61 ∷ (place_text x.place ++ r))) ≡ 32 ∷ (decimal y.variable ++ (61 ∷ (place_text y.place ++ s))) = sym (standing-parts x r) ∙ e ∙ standing-parts y s in
     let number = number-at 61 x.variable y.variable _ _ (λ h. omega arith) ok.variable ok'.variable (cc e1) in
     let place = place-one x.place y.place r s ok.place ok'.place number.1 in
     (standing-same x.variable y.variable x.place y.place number.0 place.0, place.1)
 
-standings-one : (xs ys : List Standing) (r s : List ℕ) → AllByRecursion IsStanding xs → AllByRecursion IsStanding ys → flat_map standing_text xs ++ (10 ∷ r) ≡ flat_map standing_text ys ++ (10 ∷ s) → (xs ≡ ys) × (r ≡ s)
+standings-one : (xs ys : List Standing) (r s : List ℕ) → AllByRecursion IsStandingText xs → AllByRecursion IsStandingText ys → flat_map standing_text xs ++ (10 ∷ r) ≡ flat_map standing_text ys ++ (10 ∷ s) → (xs ≡ ys) × (r ≡ s)
 standings-one [] [] r s ok ok' e = (refl, cc)
 standings-one [] (y ∷ ys) r s ok ok' e = let h = first-same _ _ e in absurd (omega arith)
 standings-one (x ∷ xs) [] r s ok ok' e = let h = first-same _ _ e in absurd (omega arith)
@@ -121,22 +125,31 @@ variable-one n w x n' w' x' r s ok ok' e =
     let p3 = named-one x x' r s ok.1 ok'.1 p2.1 in
     (cc (p1.0, p2.0, p3.0), p3.1)
 
-abbrev point_parts : ℕ → ℕ → ℕ → List ℕ → List ℕ
-point_parts n a m r = decimal n ++ (32 ∷ (address_text a ++ (32 ∷ (codes "mark " ++ (decimal m ++ (10 ∷ r))))))
+-- the text of an op that has a line determines the op
+mark-one : (m m' : ℕ) (r s : List ℕ) → IsNumber m → IsNumber m' → op_text (op.Mark m) ++ (10 ∷ r) ≡ op_text (op.Mark m') ++ (10 ∷ s) → (m ≡ m') × (r ≡ s)
+mark-one m m' r s ok ok' e = number-at 10 m m' r s line_end ok ok' (append_cancel_left (codes "mark ") _ _ e)
+
+op-one : (o o' : Op) (r s : List ℕ) → IsOpText o → IsOpText o' → op_text o ++ (10 ∷ r) ≡ op_text o' ++ (10 ∷ s) → (o ≡ o') × (r ≡ s)
+op-one (op.Mark m) (op.Mark m') r s ok ok' e = let parts = mark-one m m' r s ok ok' e in (ap op.Mark parts.0, parts.1)
+op-one (op.Mark m) _ r s ok ok' e = absurd ok'
+op-one _ o' r s ok ok' e = absurd ok
+
+abbrev point_parts : ℕ → ℕ → Op → List ℕ → List ℕ
+point_parts n a o r = decimal n ++ (32 ∷ (address_text a ++ (32 ∷ (op_text o ++ (10 ∷ r)))))
 
 point-joined : (n : ℕ) (t w r : List ℕ)
     → (codes "point " ++ decimal n ++ codes " " ++ t ++ codes " " ++ w ++ newline ∷ []) ++ r ≡ codes "point " ++ (decimal n ++ (32 ∷ (t ++ (32 ∷ (w ++ (10 ∷ r))))))
 point-joined n t w r = simp append_assoc
 
-point-text : (n a m : ℕ) (r : List ℕ) → line_text (PointLine n a (Mark m)) ++ r ≡ codes "point " ++ point_parts n a m r
-point-text n a m r = point-joined n (address_text a) (codes "mark " ++ decimal m) r
+point-text : (n a : ℕ) (o : Op) (r : List ℕ) → line_text (PointLine n a o) ++ r ≡ codes "point " ++ point_parts n a o r
+point-text n a o r = point-joined n (address_text a) (op_text o) r
 
-point-one : (n a m n' a' m' : ℕ) (r s : List ℕ) → IsLine (PointLine n a (Mark m)) → IsLine (PointLine n' a' (Mark m')) → line_text (PointLine n a (Mark m)) ++ r ≡ line_text (PointLine n' a' (Mark m')) ++ s → (PointLine n a (Mark m) ≡ PointLine n' a' (Mark m')) × (r ≡ s)
-point-one n a m n' a' m' r s ok ok' e =
-    let e1 : point_parts n a m r ≡ point_parts n' a' m' s = append_cancel_left (codes "point ") _ _ (sym (point-text n a m r) ∙ e ∙ point-text n' a' m' s) in
+point-one : (n a : ℕ) (o : Op) (n' a' : ℕ) (o' : Op) (r s : List ℕ) → IsLine (PointLine n a o) → IsLine (PointLine n' a' o') → line_text (PointLine n a o) ++ r ≡ line_text (PointLine n' a' o') ++ s → (PointLine n a o ≡ PointLine n' a' o') × (r ≡ s)
+point-one n a o n' a' o' r s ok ok' e =
+    let e1 : point_parts n a o r ≡ point_parts n' a' o' s = append_cancel_left (codes "point ") _ _ (sym (point-text n a o r) ∙ e ∙ point-text n' a' o' s) in
     let p1 = number-at 32 n n' _ _ space ok.0 ok'.0 e1 in
     let p2 = address-at a a' _ _ ok.1 ok'.1 p1.1 in
-    let p3 = number-at 10 m m' r s line_end ok.2 ok'.2 (append_cancel_left (codes "mark ") _ _ p2.1) in
+    let p3 = op-one o o' r s ok.2 ok'.2 p2.1 in
     (cc (p1.0, p2.0, p3.0), p3.1)
 
 before-text : (xs : List Standing) (r : List ℕ) → line_text (BeforeLine xs) ++ r ≡ codes "before" ++ (flat_map standing_text xs ++ (10 ∷ r))
@@ -144,7 +157,7 @@ before-text xs r = simp append_assoc
 
 before-one : (xs ys : List Standing) (r s : List ℕ) → IsLine (BeforeLine xs) → IsLine (BeforeLine ys) → line_text (BeforeLine xs) ++ r ≡ line_text (BeforeLine ys) ++ s → (BeforeLine xs ≡ BeforeLine ys) × (r ≡ s)
 before-one xs ys r s ok ok' e =
-    let parts = standings-one xs ys r s (recursion_from_All IsStanding xs ok) (recursion_from_All IsStanding ys ok')
+    let parts = standings-one xs ys r s (recursion_from_All IsStandingText xs ok) (recursion_from_All IsStandingText ys ok')
     (append_cancel_left (codes "before") _ _ (sym (before-text xs r) ∙ e ∙ before-text ys s)) in
     (ap BeforeLine parts.0, parts.1)
 
@@ -154,7 +167,7 @@ line-one (ObjectLine n a c b) (ObjectLine n' a' c' b') r s ok ok' e = object-one
 line-one (FunctionLine n name f) (FunctionLine n' name' f') r s ok ok' e = function-one n name f n' name' f' r s ok ok' e
 line-one (ArrayLine n a c b) (ArrayLine n' a' c' b') r s ok ok' e = array-one n a c b n' a' c' b' r s ok ok' e
 line-one (VariableLine n w x) (VariableLine n' w' x') r s ok ok' e = variable-one n w x n' w' x' r s ok ok' e
-line-one (PointLine n a (Mark m)) (PointLine n' a' (Mark m')) r s ok ok' e = point-one n a m n' a' m' r s ok ok' e
+line-one (PointLine n a o) (PointLine n' a' o') r s ok ok' e = point-one n a o n' a' o' r s ok ok' e
 line-one (BeforeLine xs) (BeforeLine ys) r s ok ok' e = before-one xs ys r s ok ok' e
 line-one x y r s ok ok' e = let h = first-same (line_text x ++ r) (line_text y ++ s) e in absurd (omega arith)
 
@@ -179,11 +192,11 @@ lines-one (x ∷ xs) (y ∷ ys) ok ok' e =
     let more : xs ≡ ys = lines-one xs ys ok.1 ok'.1 one.1 in
     cc (one.0, more)
 
-map-parts : (a : List Line) → map_text a ≡ codes "pcc map 1\n" ++ (flat_map line_text a ++ codes "end\n")
-map-parts a = simp append_assoc
+text-parts : (a : List Line) → lines_text a ≡ codes "pcc map 1\n" ++ (flat_map line_text a ++ codes "end\n")
+text-parts a = simp append_assoc
 
--- maps with one text are the same
-pub map-one : (a b : List Line) → IsMap a → IsMap b → map_text a ≡ map_text b → a ≡ b
-map-one a b ok ok' e =
+-- lines with one text are the same
+pub text-one : (a b : List Line) → AreLines a → AreLines b → lines_text a ≡ lines_text b → a ≡ b
+text-one a b ok ok' e =
     lines-one a b (recursion_from_All IsLine a ok) (recursion_from_All IsLine b ok')
-    (append_cancel_left (codes "pcc map 1\n") _ _ (sym (map-parts a) ∙ e ∙ map-parts b))
+    (append_cancel_left (codes "pcc map 1\n") _ _ (sym (text-parts a) ∙ e ∙ text-parts b))

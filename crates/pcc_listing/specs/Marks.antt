@@ -1,6 +1,6 @@
 -- What a map shows of a state of the machine: at the address of a mark, the statement is visited, with
 -- the values that the places named before it hold.
-use Rattle.std.specs.Prelude.{ℕ, zero, suc, ◌+◌, ◌-◌, ◌%◌, ◌^◌, Bool, true, false, ◌&&◌, List, [], ◌∷◌, take, drop, filter_map, count_by, slice_get, slice_index, Option, Some, None, option_map, nat_lt, nat_le, ◌==◌, if◌then◌else◌}
+use Rattle.std.specs.Prelude.{ℕ, zero, suc, ◌+◌, ◌-◌, ◌%◌, ◌^◌, Bool, true, false, ◌&&◌, List, [], ◌∷◌, ◌++◌, take, drop, map, filter_map, count_by, slice_get, slice_index, Option, Some, None, option_map, nat_lt, nat_le, ◌==◌, if◌then◌else◌}
 use Rattle.byteorder.specs.Endian.{little_number, twos_complement}
 use Rattle.pcc_base.specs.declared.run.Width.{Width}
 use Rattle.pcc_base.specs.declared.run.Width.TheVariants.{One, Two}
@@ -8,10 +8,12 @@ use Rattle.pcc_base.specs.Outcome.{ArrayName, Null, Static, InFrame, Unknown, Va
 use Rattle.ia32_regs.specs.Registers.{register, byte_place}
 use Rattle.ia32_regs.specs.declared.names.Reg32.TheVariants.{Ebp}
 use Rattle.ia32_insn.specs.State.{State, Area, has_bytes}
-use Rattle.pcc_listing.specs.Lines.{Line, ObjectLine, FunctionLine, ArrayLine, VariableLine, PointLine, BeforeLine, Standing, Named, NamesScalar, NamesArray, NamesIndex, Temporary, Mark}
+use Rattle.flow_graph.specs.declared.op.Op.{Op}
+use Rattle.flow_graph.specs.declared.op.Op.TheVariants.{Mark}
 use Rattle.ia32_places.specs.Places.{Place, InWord, InByte, InSlot}
+use Rattle.pcc_listing.specs.Maps.{Map, MapFunction, MapVariable, MapPoint, Standing, Named, NamesScalar, NamesArray, NamesIndex, Temporary, points_of}
 
--- ---- what the lines say
+-- ---- what the map says
 
 -- a mark: its address, the statement, the number of its function, and where variables stand before it
 pub record MarkAt : Type 0 where
@@ -20,85 +22,88 @@ pub record MarkAt : Type 0 where
   pub function : ℕ
   pub standings : List Standing
 
--- the standings of the point whose lines go on so
-abbrev pub standings_after : List Line → List Standing
-standings_after [] = []
-standings_after (BeforeLine standings ∷ lines) = standings
-standings_after (PointLine number address what ∷ lines) = []
-standings_after (FunctionLine number name frame ∷ lines) = []
-standings_after (line ∷ lines) = standings_after lines
+-- the statement that an op marks
+abbrev pub marked : Op → Option ℕ
+marked (Mark statement) = Some statement
+marked _ = None
 
--- the marks of lines that stand in a function
-abbrev pub marks_in : ℕ → List Line → List MarkAt
-marks_in f [] = []
-marks_in f (FunctionLine number name frame ∷ lines) = marks_in number lines
-marks_in f (PointLine number address (Mark statement) ∷ lines) =
-    record { address = address; statement = statement; function = f; standings = standings_after lines } ∷ marks_in f lines
-marks_in f (line ∷ lines) = marks_in f lines
+-- the mark that a point of a function is, if it is one
+abbrev pub mark_at : ℕ → MapPoint → Option MarkAt
+mark_at f p =
+    option_map (λ statement. record { address = p.address; statement = statement; function = f; standings = p.before })
+    (marked p.op)
 
-abbrev pub marks_of : List Line → List MarkAt
-marks_of lines = marks_in 0 lines
+-- the marks of functions that are numbered from k on
+abbrev pub marks_from : ℕ → List MapFunction → List MarkAt
+marks_from k [] = []
+marks_from k (f ∷ fs) = filter_map (mark_at k) (points_of f) ++ marks_from (suc k) fs
+
+abbrev pub marks_of : Map → List MarkAt
+marks_of m = marks_from 0 m.functions
 
 -- the address of each point, and its function
-abbrev pub points_in : ℕ → List Line → List (ℕ × ℕ)
-points_in f [] = []
-points_in f (FunctionLine number name frame ∷ lines) = points_in number lines
-points_in f (PointLine number address what ∷ lines) = (address, f) ∷ points_in f lines
-points_in f (line ∷ lines) = points_in f lines
+abbrev pub points_from : ℕ → List MapFunction → List (ℕ × ℕ)
+points_from k [] = []
+points_from k (f ∷ fs) = map (λ p. (p.address, k)) (points_of f) ++ points_from (suc k) fs
 
--- the variables of a function in order, with their widths, where the lines stand in the function `now`
-abbrev pub variables_in : ℕ → ℕ → List Line → List (Width × Named)
-variables_in f now [] = []
-variables_in f now (FunctionLine number name frame ∷ lines) = variables_in f number lines
-variables_in f now (VariableLine number width name ∷ lines) =
-    if now == f then (width, name) ∷ variables_in f now lines else variables_in f now lines
-variables_in f now (line ∷ lines) = variables_in f now lines
+abbrev pub points_in : Map → List (ℕ × ℕ)
+points_in m = points_from 0 m.functions
+
+-- the variables of a function
+abbrev pub variables_of : Option MapFunction → List MapVariable
+variables_of None = []
+variables_of (Some f) = f.variables
+
+abbrev pub variables_in : Map → ℕ → List MapVariable
+variables_in m f = variables_of (slice_get m.functions f)
 
 -- how far below its frame each frame array of a function is, in order
-abbrev pub arrays_in : ℕ → ℕ → List Line → List ℕ
-arrays_in f now [] = []
-arrays_in f now (FunctionLine number name frame ∷ lines) = arrays_in f number lines
-arrays_in f now (ArrayLine number below count bytes ∷ lines) =
-    if now == f then below ∷ arrays_in f now lines else arrays_in f now lines
-arrays_in f now (line ∷ lines) = arrays_in f now lines
+abbrev pub arrays_below : Option MapFunction → List ℕ
+arrays_below None = []
+arrays_below (Some f) = map (λ a. a.below) f.arrays
+
+abbrev pub arrays_in : Map → ℕ → List ℕ
+arrays_in m f = arrays_below (slice_get m.functions f)
 
 -- the address of each static object, in order
-abbrev pub objects_of : List Line → List ℕ
-objects_of [] = []
-objects_of (ObjectLine number address count bytes ∷ lines) = address ∷ objects_of lines
-objects_of (line ∷ lines) = objects_of lines
+abbrev pub objects_of : Map → List ℕ
+objects_of m = map (λ o. o.address) m.objects
 
 -- a variable that is the first of a local
-abbrev pub begins_local : Width × Named → Bool
-begins_local (width, NamesScalar name) = true
-begins_local (width, NamesArray name) = true
-begins_local (width, NamesIndex name) = false
-begins_local (width, Temporary) = false
+abbrev pub begins_local : Named → Bool
+begins_local (NamesScalar name) = true
+begins_local (NamesArray name) = true
+begins_local (NamesIndex name) = false
+begins_local Temporary = false
 
 -- how many locals begin before a variable
-abbrev pub locals_before : List (Width × Named) → ℕ → ℕ
-locals_before variables v = count_by begins_local (take v variables)
+abbrev pub locals_before : List MapVariable → ℕ → ℕ
+locals_before variables v = count_by (λ x. begins_local x.named) (take v variables)
 
--- the part of a local that a variable is
-abbrev pub part_named : List (Width × Named) → ℕ → Option (Width × Named) → Option Part
-part_named variables v None = None
-part_named variables v (Some (width, NamesScalar name)) = Some (Scalar (locals_before variables v))
-part_named variables v (Some (width, NamesArray name)) = Some (ArrayOf (locals_before variables v))
-part_named variables v (Some (width, NamesIndex name)) = Some (IndexOf (locals_before variables v - 1))
-part_named variables v (Some (width, Temporary)) = None
+-- the part of a local that a variable is, before which so many locals begin
+abbrev pub part_named : ℕ → Option Named → Option Part
+part_named before None = None
+part_named before (Some (NamesScalar name)) = Some (Scalar before)
+part_named before (Some (NamesArray name)) = Some (ArrayOf before)
+part_named before (Some (NamesIndex name)) = Some (IndexOf (before - 1))
+part_named before (Some Temporary) = None
 
-abbrev pub part_of : List (Width × Named) → Standing → Option Part
-part_of variables s = part_named variables s.variable (slice_get variables s.variable)
+abbrev pub name_in : List MapVariable → ℕ → Option Named
+name_in variables v = option_map (λ x. x.named) (slice_get variables v)
+
+abbrev pub part_of : List MapVariable → Standing → Option Part
+part_of variables s = part_named (locals_before variables s.variable) (name_in variables s.variable)
 
 -- the parts that the first mark of a statement shows
-abbrev pub listed_by : List Line → List MarkAt → ℕ → List Part
-listed_by lines [] statement = []
-listed_by lines (m ∷ ms) statement =
-    if m.statement == statement then filter_map (part_of (variables_in m.function 0 lines)) m.standings else listed_by lines ms statement
+abbrev pub listed_by : Map → List MarkAt → ℕ → List Part
+listed_by m [] statement = []
+listed_by m (mark ∷ marks) statement =
+    if mark.statement == statement then filter_map (part_of (variables_in m mark.function)) mark.standings
+    else listed_by m marks statement
 
 -- the listing of the parts whose places the map's marks name
-abbrev pub listed : List Line → Listing
-listed lines statement = listed_by lines (marks_of lines) statement
+abbrev pub listed : Map → Listing
+listed m statement = listed_by m (marks_of m) statement
 
 -- ---- what a state holds
 
@@ -125,9 +130,9 @@ function_below address (point ∷ points) None =
 function_below address (point ∷ points) (Some best) =
     function_below address points (if nat_lt point.0 address && nat_le best.0 point.0 then Some point else Some best)
 
-abbrev pub caller_of : List Line → Option ℕ → Option ℕ
-caller_of lines None = None
-caller_of lines (Some address) = option_map (λ point. point.1) (function_below address (points_in 0 lines) None)
+abbrev pub caller_of : Map → Option ℕ → Option ℕ
+caller_of m None = None
+caller_of m (Some address) = option_map (λ point. point.1) (function_below address (points_in m) None)
 
 -- a frame: its address, its function where that is known, and its depth, 1 for the oldest
 pub record Frame : Type 0 where
@@ -136,16 +141,16 @@ pub record Frame : Type 0 where
   pub depth : ℕ
 
 -- the frames from an address on, as many as are left; the return address is four bytes above a frame
-abbrev pub frames_from : List Line → List Area → ℕ → Option ℕ → Option ℕ → List Frame
-frames_from lines memory zero address function = []
-frames_from lines memory (suc n) None function = []
-frames_from lines memory (suc n) (Some address) function =
+abbrev pub frames_from : Map → List Area → ℕ → Option ℕ → Option ℕ → List Frame
+frames_from m memory zero address function = []
+frames_from m memory (suc n) None function = []
+frames_from m memory (suc n) (Some address) function =
     record { address = address; function = function; depth = suc n }
-    ∷ frames_from lines memory n (word_at address memory) (caller_of lines (word_at (address + 4) memory))
+    ∷ frames_from m memory n (word_at address memory) (caller_of m (word_at (address + 4) memory))
 
 -- the frames of a state at a mark, the youngest first
-abbrev pub frames_of : List Line → MarkAt → State → List Frame
-frames_of lines mark s = frames_from lines s.memory (depth_of s.memory) (Some (register Ebp s.registers)) (Some mark.function)
+abbrev pub frames_of : Map → MarkAt → State → List Frame
+frames_of m mark s = frames_from m s.memory (depth_of s.memory) (Some (register Ebp s.registers)) (Some mark.function)
 
 -- the place in a list of addresses, from a number on
 abbrev pub place_of : ℕ → ℕ → List ℕ → Option ℕ
@@ -153,9 +158,9 @@ place_of k address [] = None
 place_of k address (first ∷ others) = if first == address then Some k else place_of (suc k) address others
 
 -- the arrays of a function; a frame whose function isn't known has none
-abbrev pub arrays_of : List Line → Option ℕ → List ℕ
-arrays_of lines None = []
-arrays_of lines (Some f) = arrays_in f 0 lines
+abbrev pub arrays_of : Map → Option ℕ → List ℕ
+arrays_of m None = []
+arrays_of m (Some f) = arrays_in m f
 
 -- the array that is at this address, by how far each is below its frame
 abbrev pub array_in : ℕ → ℕ → ℕ → List ℕ → Option ℕ
@@ -167,19 +172,19 @@ in_frame depth otherwise None = otherwise
 in_frame depth otherwise (Some k) = InFrame k depth
 
 -- the frame array at an address
-abbrev pub named_in_frames : List Line → ℕ → List Frame → ArrayName
-named_in_frames lines address [] = Unknown
-named_in_frames lines address (frame ∷ frames) =
-    in_frame frame.depth (named_in_frames lines address frames) (array_in 0 address frame.address (arrays_of lines frame.function))
+abbrev pub named_in_frames : Map → ℕ → List Frame → ArrayName
+named_in_frames m address [] = Unknown
+named_in_frames m address (frame ∷ frames) =
+    in_frame frame.depth (named_in_frames m address frames) (array_in 0 address frame.address (arrays_of m frame.function))
 
 abbrev pub static_or : ArrayName → Option ℕ → ArrayName
 static_or otherwise None = otherwise
 static_or otherwise (Some k) = Static k
 
 -- the array that a word is the address of: none at 0, a static object, or a frame array
-abbrev pub array_named : List Line → List Frame → ℕ → ArrayName
-array_named lines frames zero = Null
-array_named lines frames (suc n) = static_or (named_in_frames lines (suc n) frames) (place_of 0 (suc n) (objects_of lines))
+abbrev pub array_named : Map → List Frame → ℕ → ArrayName
+array_named m frames zero = Null
+array_named m frames (suc n) = static_or (named_in_frames m (suc n) frames) (place_of 0 (suc n) (objects_of m))
 
 abbrev pub bytes_of : Width → ℕ
 bytes_of One = 1
@@ -200,27 +205,36 @@ abbrev pub signed_value : Width → Option ℕ → Value
 signed_value width None = Array Unknown
 signed_value width (Some n) = Number (twos_complement (bytes_of width) n)
 
-abbrev pub array_value : List Line → List Frame → Option ℕ → Value
-array_value lines frames None = Array Unknown
-array_value lines frames (Some n) = Array (array_named lines frames n)
+abbrev pub array_value : Map → List Frame → Option ℕ → Value
+array_value m frames None = Array Unknown
+array_value m frames (Some n) = Array (array_named m frames n)
 
--- the value that a standing shows, where its variable carries a local's name
-abbrev pub value_of : List Line → List Frame → State → Place → Option (Width × Named) → Option Value
-value_of lines frames s place None = None
-value_of lines frames s place (Some (width, NamesScalar name)) = Some (signed_value width (number_in width place s))
-value_of lines frames s place (Some (width, NamesArray name)) = Some (array_value lines frames (number_in width place s))
-value_of lines frames s place (Some (width, NamesIndex name)) = Some (signed_value width (number_in width place s))
-value_of lines frames s place (Some (width, Temporary)) = None
+-- the value that a variable of a width shows in its place, where it carries a local's name
+abbrev pub value_named : Map → List Frame → State → Place → Width → Named → Option Value
+value_named m frames s place width (NamesScalar name) = Some (signed_value width (number_in width place s))
+value_named m frames s place width (NamesArray name) = Some (array_value m frames (number_in width place s))
+value_named m frames s place width (NamesIndex name) = Some (signed_value width (number_in width place s))
+value_named m frames s place width Temporary = None
 
-abbrev pub values_of : List Line → MarkAt → State → List Value
-values_of lines mark s =
-    filter_map (λ standing. value_of lines (frames_of lines mark s) s standing.place (slice_get (variables_in mark.function 0 lines) standing.variable)) mark.standings
+abbrev pub value_of : Map → List Frame → State → Place → Option MapVariable → Option Value
+value_of m frames s place None = None
+value_of m frames s place (Some v) = value_named m frames s place v.width v.named
+
+abbrev pub values_of : Map → MarkAt → State → List Value
+values_of m mark s =
+    filter_map
+    (λ standing.
+    value_of m (frames_of m mark s) s standing.place (slice_get (variables_in m mark.function) standing.variable))
+    mark.standings
+
+-- the visit of a mark
+abbrev pub visit_at : Map → State → MarkAt → Visit
+visit_at m s mark = record { statement = mark.statement; values = values_of m mark s }
 
 -- the visit of a step from a state: that of the first mark whose address is EIP
-abbrev pub visits_by : List Line → State → List MarkAt → List Visit
-visits_by lines s [] = []
-visits_by lines s (mark ∷ marks) =
-    if mark.address == s.eip then record { statement = mark.statement; values = values_of lines mark s } ∷ [] else visits_by lines s marks
+abbrev pub visits_by : Map → State → List MarkAt → List Visit
+visits_by m s [] = []
+visits_by m s (mark ∷ marks) = if mark.address == s.eip then visit_at m s mark ∷ [] else visits_by m s marks
 
-abbrev pub visits_of : List Line → State → List Visit
-visits_of lines s = visits_by lines s (marks_of lines)
+abbrev pub visits_of : Map → State → List Visit
+visits_of m s = visits_by m s (marks_of m)

@@ -1,8 +1,9 @@
 -- Which line each line in memory is.
 use Rattle.std.specs.Prelude.{ℕ, List, map, Option, Some, None}
-use Rattle.pcc_listing.specs.Lines.{Standing, Named, NamesScalar, Temporary, Line, FunctionLine, VariableLine, PointLine, BeforeLine}
+use Rattle.flow_graph.specs.declared.op.Op.TheVariants as op
 use Rattle.ia32_places.specs.Places.{InSlot}
-use Rattle.pcc_listing.specs.Lines as lines
+use Rattle.pcc_listing.specs.Maps.{Standing, Named, NamesScalar, Temporary}
+use Rattle.pcc_listing.specs.Lines.{Line, FunctionLine, VariableLine, PointLine, BeforeLine}
 use Rattle.pcc_listing.specs.declared.lines.Standing as stood
 use Rattle.pcc_listing.specs.declared.lines.Line as made
 use Rattle.pcc_listing.specs.declared.lines.Line.TheVariants.{Function, Variable, Mark, Before}
@@ -19,5 +20,5 @@ named_by (Some name) = NamesScalar name
 abbrev pub line_of : made.Line → Line
 line_of (Function number name frame) = FunctionLine number name frame
 line_of (Variable number width name) = VariableLine number width (named_by name)
-line_of (Mark point address statement) = PointLine point address (lines.Mark statement)
+line_of (Mark point address statement) = PointLine point address (op.Mark statement)
 line_of (Before standings) = BeforeLine (map standing_of standings.items)

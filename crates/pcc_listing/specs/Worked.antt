@@ -7,30 +7,60 @@ use Rattle.pcc_base.specs.Outcome.{ArrayName, Number, Array, Visit}
 use Rattle.ia32_regs.specs.declared.names.Reg32.TheVariants.{Eax, Edx, Ebx}
 use Rattle.ia32_regs.specs.declared.names.Reg8.TheVariants.{Ch}
 use Rattle.ia32_insn.specs.State.{State}
-use Rattle.pcc_listing.specs.Lines.{Line, ObjectLine, FunctionLine, ArrayLine, VariableLine, PointLine, BeforeLine, Standing, NamesScalar, NamesArray, NamesIndex, Temporary, Mark}
+use Rattle.flow_graph.specs.declared.op.Op.TheVariants.{Mark}
+use Rattle.pcc_base.specs.declared.run.Width.{Width}
 use Rattle.ia32_places.specs.Places.{Place, InWord, InByte, InSlot}
+use Rattle.pcc_listing.specs.Maps.{Map, MapPoint, MapVariable, Standing, Named, NamesScalar, NamesArray, NamesIndex, Temporary}
 
 abbrev pub stands : ℕ → Place → Standing
 stands variable place = record { variable = variable; place = place }
 
+abbrev pub variable : Width → Named → MapVariable
+variable width named = record { width = width; named = named }
+
+-- a mark at an address
+abbrev pub point : ℕ → ℕ → List Standing → MapPoint
+point address statement before =
+    record { number = 0; address = address; op = Mark statement; before = before; after = []; spilled = [] }
+
+abbrev pub worked_standings : List Standing
+worked_standings =
+    stands 0 (InWord Eax)
+    ∷ stands 1 (InWord Ebx)
+    ∷ stands 2 (InSlot 20)
+    ∷ stands 3 (InByte Ch)
+    ∷ stands 4 (InWord Edx)
+    ∷ []
+
 -- one static object; `main` with an array 44 bytes below its frame, and `f` with one 60 below; before
 -- statement 7 stand a scalar, a pointer's two variables, a byte and a temporary
-abbrev pub worked_map : List Line
+abbrev pub worked_map : Map
 worked_map =
-    ObjectLine 0 2008 3 4
-    ∷ FunctionLine 0 (codes "main") 80
-    ∷ ArrayLine 0 44 2 4
-    ∷ PointLine 0 1015 (Mark 3)
-    ∷ FunctionLine 1 (codes "f") 80
-    ∷ ArrayLine 0 60 5 1
-    ∷ VariableLine 0 Two (NamesScalar (codes "x"))
-    ∷ VariableLine 1 Two (NamesArray (codes "p"))
-    ∷ VariableLine 2 Two (NamesIndex (codes "p"))
-    ∷ VariableLine 3 One (NamesScalar (codes "c"))
-    ∷ VariableLine 4 Two Temporary
-    ∷ PointLine 0 1100 (Mark 7)
-    ∷ BeforeLine (stands 0 (InWord Eax) ∷ stands 1 (InWord Ebx) ∷ stands 2 (InSlot 20) ∷ stands 3 (InByte Ch) ∷ stands 4 (InWord Edx) ∷ [])
-    ∷ []
+    record {
+      objects = record { address = 2008; count = 3; bytes = 4 } ∷ [];
+      functions =
+          record {
+            name = codes "main";
+            frame = 80;
+            arrays = record { below = 44; count = 2; bytes = 4 } ∷ [];
+            variables = [];
+            blocks = (point 1015 3 [] ∷ []) ∷ [];
+          }
+          ∷ record {
+            name = codes "f";
+            frame = 80;
+            arrays = record { below = 60; count = 5; bytes = 1 } ∷ [];
+            variables =
+                variable Two (NamesScalar (codes "x"))
+                ∷ variable Two (NamesArray (codes "p"))
+                ∷ variable Two (NamesIndex (codes "p"))
+                ∷ variable One (NamesScalar (codes "c"))
+                ∷ variable Two Temporary
+                ∷ [];
+            blocks = (point 1100 7 worked_standings ∷ []) ∷ [];
+          }
+          ∷ [];
+    }
 
 -- at 2000 the depth word 2; the slot [ebp-20] at 2180 holds 3; the frame at 2200 holds the address of
 -- main's frame, 2400, and above it the return address 1020

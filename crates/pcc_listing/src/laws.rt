@@ -1,14 +1,15 @@
 //! Laws of the definitions: each function's contract is one, and the function does nothing.
 
-ghost use Rattle.std.specs.Prelude.{◌≡◌, ◌∷◌, [], List};
+ghost use Rattle.std.specs.Prelude.{◌≡◌, ◌∷◌, []};
 ghost use Rattle.pcc_base.specs.Outcome.{InFrame, Static, Null, Unknown, Scalar, ArrayOf, IndexOf};
 ghost use Rattle.pcc_listing.specs.Marks.{visits_of, listed};
 ghost use Rattle.pcc_listing.specs.Worked.{worked_map, worked_state, worked_visit};
-ghost use Rattle.pcc_listing.specs.Lines.{IsMap, Line, map_text};
+ghost use Rattle.pcc_listing.specs.Lines.{map_text};
+ghost use Rattle.pcc_listing.specs.Maps.{IsMap, Map};
 
 /// A text is that of one map at most.
 pub fn one_map()
-    ensures { (a b : List Line) → IsMap a → IsMap b → map_text a ≡ map_text b → a ≡ b }
+    ensures { (a b : Map) → IsMap a → IsMap b → map_text a ≡ map_text b → a ≡ b }
 {}
 
 /// The definitions read a small state as a person would: a static object, an array of the frame at EIP,

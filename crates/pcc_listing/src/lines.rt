@@ -1,7 +1,7 @@
 //! The lines of a map, and its text.
 
 ghost use Rattle.std.specs.Prelude.{◌≡◌, ◌++◌, IfOk, OnOk, flat_map, map};
-ghost use Rattle.pcc_listing.specs.Lines.{line_text, map_text, named_text, standing_text, width_text};
+ghost use Rattle.pcc_listing.specs.Lines.{line_text, lines_text, named_text, standing_text, width_text};
 ghost use Rattle.pcc_listing.specs.Views.{line_of, named_by, standing_of};
 
 use crate::digits::{push_address, push_number};
@@ -136,7 +136,7 @@ fn push_line(alloc: Global, out: &mut Vec<u8>, line: &Line) -> Result<(), NoMemo
 
 /// The text of a map with these lines. The only refusal is want of memory.
 pub fn print_lines(alloc: Global, lines: &Vec<Line>) -> Result<Vec<u8>, NoMemory>
-    ensures { IfOk result (λ text. text.items ≡ map_text (map line_of lines.now.items)) }
+    ensures { IfOk result (λ text. text.items ≡ lines_text (map line_of lines.now.items)) }
 {
     let mut out = Vec::new(alloc);
     out.extend_from_slice(b"pcc map 1\n")?;

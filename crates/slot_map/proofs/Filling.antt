@@ -1,31 +1,34 @@
 -- The lines of a map, filled in one after the other.
-use Rattle.std.proofs.Common.{◌≡◌, ℕ, zero, suc, ◌+◌, ◌<◌, ℤ, pos, negsuc, List, [], ◌∷◌, ◌++◌, length, map, replicate, take, get_or, Option, Some, None, refl, sym, ap, ◌∙◌, arith, append_assoc, length-take-le}
+use Rattle.std.proofs.Common.{◌≡◌, ℕ, zero, suc, ◌+◌, ◌<◌, ℤ, pos, negsuc, List, [], ◌∷◌, ◌++◌, length, map, replicate, take, get_or, Option, Some, None, refl, sym, ap, ◌∙◌, arith, append_assoc, length-take-le, inl, inr}
 use Rattle.std.specs.Prelude.{slice_get, option_map}
 use Rattle.std.specs.List.{range_with_len, flat_map}
 use Rattle.std.specs.Int.RustNames.{unsigned_abs}
 use Rattle.ia32_select.specs.Offsets.{AreBelow, distance, slots_of}
+use Rattle.std.proofs.Math.Seq.{take-suc}
 use Rattle.std.proofs.lemmas.List.{map-append, map_more, append-nil}
 use Rattle.std.proofs.lemmas.List.Concat.{flat_map-append}
 use Rattle.std.proofs.lemmas.List.FromFn.{get_or-map-range_with_len}
-use Rattle.std.proofs.lemmas.Option.{slice_get-map, slice_get_within}
+use Rattle.std.proofs.lemmas.Option.{slice_get-map}
 use Rattle.pcc_base.specs.declared.run.Width.TheVariants.{Two}
-use Rattle.c_tree.specs.Program.{Statements, Done, Next, Local}
-use Rattle.c_tree.specs.Erased.{local_of, statement_of, statements_of}
-use Rattle.c_tree.specs.declared.statement.Statement as built
+use Rattle.c_tree.specs.Program.{Local, Function}
+use Rattle.c_tree.specs.Erased.{local_of}
+use Rattle.c_tree.specs.declared.program.Local as tree
 use Rattle.flow_graph.specs.declared.op.Op.{Op}
 use Rattle.flow_graph.specs.declared.op.Op.TheVariants as op
-use Rattle.pcc_listing.specs.Lines.{Line, FunctionLine, VariableLine, Standing, NamesScalar, Temporary}
+use Rattle.flow_graph.specs.Graphs.{Flow, IsIn, IsPlaced}
 use Rattle.ia32_places.specs.Places.{InSlot}
+use Rattle.pcc_listing.specs.Maps.{MapFunction, MapPoint, MapVariable, Map, Standing, NamesScalar, Temporary}
+use Rattle.pcc_listing.specs.Lines.{Line, FunctionLine, VariableLine, function_lines, lines_of, numbered, point_lines, variable_lines}
 use Rattle.pcc_listing.specs.Views.{line_of, named_by, standing_of}
 use Rattle.pcc_listing.specs.declared.lines.Line as made
 use Rattle.pcc_listing.specs.declared.lines.Line.TheVariants.{Variable}
-use Rattle.c_tree.specs.declared.program.Local as tree
 use Rattle.pcc_listing.specs.declared.lines.Standing as stood
-use Rattle.c_lower.specs.Code.{lowered}
-use Rattle.c_lower.proofs.Straight.{range-more}
-use Rattle.slot_map.specs.MapLaws.{LinesBySameAddresses}
 use Rattle.ia32_rows.specs.Rows.{frame_of}
-use Rattle.slot_map.specs.SlotLines.{declared_by, declared_before, op_lines, point_lines, block_lines, marked_lines, standings_from, variable_lines}
+use Rattle.c_lower.specs.Shown.{declared_before}
+use Rattle.slot_map.specs.MapLaws.{MapBySameAddresses}
+use Rattle.slot_map.specs.SlotMap.{all_points, marked_point, op_points, points_over, slot_function, slot_map, standings_from, variables_over}
+use Rattle.slot_map.proofs.Blocks.{placed-in}
+use Rattle.slot_map.proofs.Reading.{points-are}
 
 -- ---- slots
 
@@ -68,28 +71,28 @@ standings-put old offsets i below d h is e =
 -- ---- variables
 
 -- one variable more comes last
-pub variables-more : (k : ℕ) (locals : List Local) (n : ℕ)
-    → variable_lines k locals (replicate (suc n) Two)
-    ≡ variable_lines k locals (replicate n Two) ++ VariableLine (k + n) Two (named_by (option_map (λ l. l.name) (slice_get locals n))) ∷ []
+variables-more : (k : ℕ) (locals : List Local) (n : ℕ)
+    → numbered variable_lines k (variables_over locals (replicate (suc n) Two))
+    ≡ numbered variable_lines k (variables_over locals (replicate n Two)) ++ VariableLine (k + n) Two (named_by (option_map (λ l. l.name) (slice_get locals n))) ∷ []
 variables-more k [] zero = let e : k ≡ k + 0 = omega arith in ap (λ (m : ℕ). VariableLine m Two Temporary ∷ []) e
 variables-more k (l ∷ locals) zero = let e : k ≡ k + 0 = omega arith in ap (λ (m : ℕ). VariableLine m Two (NamesScalar l.name) ∷ []) e
 variables-more k [] (suc n) =
     let e : suc k + n ≡ k + suc n = omega arith in
     ap (λ (ls : List Line). VariableLine k Two Temporary ∷ ls)
-    (variables-more (suc k) [] n ∙ ap (λ (m : ℕ). variable_lines (suc k) [] (replicate n Two) ++ VariableLine m Two Temporary ∷ []) e)
+    (variables-more (suc k) [] n ∙ ap (λ (m : ℕ). numbered variable_lines (suc k) (variables_over [] (replicate n Two)) ++ VariableLine m Two Temporary ∷ []) e)
 variables-more k (l ∷ locals) (suc n) =
     let e : suc k + n ≡ k + suc n = omega arith in
     let name = named_by (option_map (λ l. l.name) (slice_get locals n)) in
     ap (λ (ls : List Line). VariableLine k Two (NamesScalar l.name) ∷ ls)
-    (variables-more (suc k) locals n ∙ ap (λ (m : ℕ). variable_lines (suc k) locals (replicate n Two) ++ VariableLine m Two name ∷ []) e)
+    (variables-more (suc k) locals n ∙ ap (λ (m : ℕ). numbered variable_lines (suc k) (variables_over locals (replicate n Two)) ++ VariableLine m Two name ∷ []) e)
 
 -- the lines of the first variables and of the next one
 pub variable-put : (start old : List made.Line) (locals : List tree.Local) (n : ℕ) (name : Option (List ℕ)) → name ≡ option_map (λ l. l.name) (slice_get locals n)
-    → map line_of old ≡ map line_of start ++ variable_lines 0 (map local_of locals) (replicate n Two)
-    → map line_of (old ++ Variable n Two name ∷ []) ≡ map line_of start ++ variable_lines 0 (map local_of locals) (replicate (n + 1) Two)
+    → map line_of old ≡ map line_of start ++ numbered variable_lines 0 (variables_over (map local_of locals) (replicate n Two))
+    → map line_of (old ++ Variable n Two name ∷ []) ≡ map line_of start ++ numbered variable_lines 0 (variables_over (map local_of locals) (replicate (n + 1) Two))
 variable-put start old locals n name is e =
     let ls : List Local = map local_of locals in
-    let front : List Line = variable_lines 0 ls (replicate n Two) in
+    let front : List Line = numbered variable_lines 0 (variables_over ls (replicate n Two)) in
     let long : n ≡ 0 + n = omega arith in
     let more : suc n ≡ n + 1 = omega arith in
     let same : name ≡ option_map (λ (l : Local). l.name) (slice_get ls n) = is ∙ names-kept (slice_get locals n) ∙ ap (option_map (λ (l : Local). l.name)) (sym (slice_get-map local_of locals n)) in
@@ -99,7 +102,7 @@ variable-put start old locals n name is e =
     ∙ ap (λ (m : ℕ). map line_of start ++ (front ++ VariableLine m Two (named_by name) ∷ [])) long
     ∙ ap (λ (o : Option (List ℕ)). map line_of start ++ (front ++ VariableLine (0 + n) Two (named_by o) ∷ [])) same
     ∙ ap (λ (ys : List Line). map line_of start ++ ys) (sym (variables-more 0 ls n))
-    ∙ ap (λ (m : ℕ). map line_of start ++ variable_lines 0 ls (replicate m Two)) more
+    ∙ ap (λ (m : ℕ). map line_of start ++ numbered variable_lines 0 (variables_over ls (replicate m Two))) more
   where
     names-kept : (o : Option tree.Local) → option_map (λ (l : tree.Local). l.name) o ≡ option_map (λ (l : Local). l.name) (option_map local_of o)
     names-kept None = refl
@@ -108,74 +111,71 @@ variable-put start old locals n name is e =
 -- ---- points
 
 -- one point more comes last
-pub points-more : (body : Statements) (slots : List ℕ) (address : ℕ → ℕ) (ops : List Op) (n : ℕ)
-    → block_lines body slots address ops (range_with_len 0 (n + 1)) ≡ block_lines body slots address ops (range_with_len 0 n) ++ point_lines body slots address ops n
-points-more body slots address ops n =
-    let e : n + 1 ≡ suc n = omega arith in
-    let f : 0 + n ≡ n = omega arith in
-    let lines = point_lines body slots address ops in
-    ap (λ (m : ℕ). flat_map lines (range_with_len 0 m)) e
-    ∙ ap (flat_map lines) (sym (range-more 0 n))
-    ∙ flat_map-append lines (range_with_len 0 n) ((0 + n) ∷ [])
-    ∙ ap (λ (m : ℕ). flat_map lines (range_with_len 0 n) ++ flat_map lines (m ∷ [])) f
-    ∙ ap (λ (ls : List Line). flat_map lines (range_with_len 0 n) ++ ls) (append-nil (lines n))
+points-more : (f : Function) (slots : List ℕ) (address : ℕ → ℕ) (ops : List Op) (placed : List ℕ) (i d p : ℕ) → i < length placed → get_or placed i d ≡ p
+    → points_over f slots address ops (take (i + 1) placed) ≡ points_over f slots address ops (take i placed) ++ op_points f slots address p (slice_get ops p)
+points-more f slots address ops placed i d p h is =
+    let e : i + 1 ≡ suc i = omega arith in
+    let each : ℕ → List MapPoint = λ q. op_points f slots address q (slice_get ops q) in
+    ap (λ (n : ℕ). flat_map each (take n placed)) e
+    ∙ ap (flat_map each) (take-suc placed i d h)
+    ∙ ap (λ (q : ℕ). flat_map each (take i placed ++ q ∷ [])) is
+    ∙ flat_map-append each (take i placed) (p ∷ [])
+    ∙ ap (λ (ps : List MapPoint). flat_map each (take i placed) ++ ps) (append-nil (each p))
 
--- an op that is no mark has no lines
-pub other-lines : (body : Statements) (slots : List ℕ) (address : ℕ → ℕ) (point : ℕ) (o : Op) → ((n : ℕ) → o ≡ op.Mark n → ⊥) → op_lines body slots address point (Some o) ≡ []
-other-lines body slots address point (op.Mark n) other = absurd (other n refl)
-other-lines body slots address point _ other = refl
+-- an op that is no mark has no point in the map
+pub other-points : (f : Function) (slots : List ℕ) (address : ℕ → ℕ) (point : ℕ) (o : Op) → ((n : ℕ) → o ≡ op.Mark n → ⊥) → op_points f slots address point (Some o) ≡ []
+other-points f slots address point (op.Mark n) other = absurd (other n refl)
+other-points f slots address point _ other = refl
 
 -- the lines of the first points and of the next one
-pub point-put : (start old new : List Line) (body : Statements) (slots : List ℕ) (address : ℕ → ℕ) (ops : List Op) (n : ℕ) (o : Op) → slice_get ops n ≡ Some o
-    → old ≡ start ++ block_lines body slots address ops (range_with_len 0 n) → new ≡ old ++ op_lines body slots address n (Some o)
-    → new ≡ start ++ block_lines body slots address ops (range_with_len 0 (n + 1))
-point-put start old new body slots address ops n o at e put =
-    let front : List Line = block_lines body slots address ops (range_with_len 0 n) in
-    let here : List Line = op_lines body slots address n (Some o) in
+pub point-put : (start old new : List Line) (f : Function) (slots : List ℕ) (address : ℕ → ℕ) (ops : List Op) (placed : List ℕ) (i d p : ℕ) (o : Op) → i < length placed → get_or placed i d ≡ p → slice_get ops p ≡ Some o
+    → old ≡ start ++ flat_map point_lines (points_over f slots address ops (take i placed)) → new ≡ old ++ flat_map point_lines (op_points f slots address p (Some o))
+    → new ≡ start ++ flat_map point_lines (points_over f slots address ops (take (i + 1) placed))
+point-put start old new f slots address ops placed i d p o h is at e put =
+    let front : List MapPoint = points_over f slots address ops (take i placed) in
+    let here : List MapPoint = op_points f slots address p (Some o) in
+    let all : points_over f slots address ops (take (i + 1) placed) ≡ front ++ here =
+    points-more f slots address ops placed i d p h is ∙ ap (λ (x : Option Op). front ++ op_points f slots address p x) at in
     put
-    ∙ ap (λ (ls : List Line). ls ++ here) e
-    ∙ append_assoc start front here
-    ∙ ap (λ (x : Option Op). start ++ (front ++ op_lines body slots address n x)) (sym at)
-    ∙ ap (λ (ls : List Line). start ++ ls) (sym (points-more body slots address ops n))
+    ∙ ap (λ (ls : List Line). ls ++ flat_map point_lines here) e
+    ∙ append_assoc start (flat_map point_lines front) (flat_map point_lines here)
+    ∙ ap (λ (ls : List Line). start ++ ls) (sym (flat_map-append point_lines front here) ∙ ap (flat_map point_lines) (sym all))
+
+-- ---- the whole
+
+-- the lines of the map are those of its function
+pub lines-whole : (f : Function) (flow : Flow) (slots : List ℕ) (address : ℕ → ℕ) → lines_of (slot_map f flow slots address)
+    ≡ FunctionLine 0 f.name (frame_of flow) ∷ (numbered variable_lines 0 (variables_over f.locals flow.widths) ++ flat_map point_lines (points_over f slots address flow.ops (all_points flow)))
+lines-whole f flow slots address =
+    append-nil (function_lines 0 (slot_function f flow slots address))
+    ∙ ap (λ (ps : List MapPoint). FunctionLine 0 f.name (frame_of flow) ∷ (numbered variable_lines 0 (variables_over f.locals flow.widths) ++ flat_map point_lines ps)) (points-are f flow slots address)
 
 -- ---- declarations
 
-pub declared-none : (ss : Statements) → declared_before ss 0 ≡ 0
-declared-none Done = refl
-declared-none (Next s others) = refl
-
--- a statement's declarations count for the next one
-pub declared-more : (body : List built.Statement) (i : ℕ) (s : built.Statement) → i < length body → get_or body i s ≡ s
-    → declared_before (statements_of body) (suc i) ≡ declared_before (statements_of body) i + declared_by (statement_of s)
-declared-more [] i s h is = absurd (omega (arith, h))
-declared-more (t ∷ body) zero s h is = ap (λ (u : built.Statement). declared_by (statement_of u) + declared_before (statements_of body) 0) is ∙ omega (arith, declared-none (statements_of body), declared-none (statements_of (s ∷ body)))
-declared-more (t ∷ body) (suc i) s h is =
-    let more = declared-more body i s (omega (arith, h)) is in omega (arith, more)
-
 -- what is read of the counts
-pub declared-read : (counts : List ℕ) (body : List built.Statement) (n r : ℕ) → counts ≡ map (declared_before (statements_of body)) (range_with_len 0 (length body)) → n < length body → r ≡ get_or counts n r
-    → r ≡ declared_before (statements_of body) n
-declared-read counts body n r are h is =
+pub declared-read : (counts : List ℕ) (f : Function) (many n r : ℕ) → counts ≡ map (declared_before f) (range_with_len 0 many) → n < many → r ≡ get_or counts n r → r ≡ declared_before f n
+declared-read counts f many n r are h is =
     let from : 0 + n ≡ n = omega arith in
-    is ∙ ap (λ (ns : List ℕ). get_or ns n r) are ∙ get_or-map-range_with_len (declared_before (statements_of body)) 0 (length body) n n r h from
+    is ∙ ap (λ (ns : List ℕ). get_or ns n r) are ∙ get_or-map-range_with_len (declared_before f) 0 many n n r h from
 
 -- ---- addresses
 
-op-same : (body : Statements) (slots : List ℕ) (one other : ℕ → ℕ) (p : ℕ) (o : Option Op) → ((n : ℕ) → o ≡ Some (op.Mark n) → one p ≡ other p)
-    → op_lines body slots one p o ≡ op_lines body slots other p o
-op-same body slots one other p (Some (op.Mark n)) same = ap (λ (a : ℕ). marked_lines p a n (take (declared_before body n) slots)) (same n refl)
-op-same body slots one other p _ same = refl
+op-same : (f : Function) (slots : List ℕ) (one other : ℕ → ℕ) (p : ℕ) (o : Option Op) → one p ≡ other p → op_points f slots one p o ≡ op_points f slots other p o
+op-same f slots one other p (Some (op.Mark n)) same = ap (λ (a : ℕ). marked_point p a n (take (declared_before f n) slots) ∷ []) same
+op-same f slots one other p _ same = refl
 
-block-same : (body : Statements) (slots : List ℕ) (one other : ℕ → ℕ) (ops : List Op) (points : List ℕ) → ((p : ℕ) → p < length ops → one p ≡ other p)
-    → block_lines body slots one ops points ≡ block_lines body slots other ops points
-block-same body slots one other ops [] same = refl
-block-same body slots one other ops (p ∷ points) same =
-    let here = op-same body slots one other p (slice_get ops p) (λ n at. same p (slice_get_within ops p (op.Mark n) at)) in
-    ap (λ (ls : List Line). ls ++ block_lines body slots one ops points) here
-    ∙ ap (λ (ls : List Line). point_lines body slots other ops p ++ ls) (block-same body slots one other ops points same)
+points-same : (f : Function) (slots : List ℕ) (one other : ℕ → ℕ) (ops : List Op) (points : List ℕ) → ((p : ℕ) → IsIn p points → one p ≡ other p)
+    → points_over f slots one ops points ≡ points_over f slots other ops points
+points-same f slots one other ops [] same = refl
+points-same f slots one other ops (p ∷ points) same =
+    ap (λ (ps : List MapPoint). ps ++ points_over f slots one ops points) (op-same f slots one other p (slice_get ops p) (same p (inl refl)))
+    ∙ ap (λ (ps : List MapPoint). op_points f slots other p (slice_get ops p) ++ ps) (points-same f slots one other ops points (λ q within. same q (inr within)))
 
--- the lines are the same where the points have the same addresses
-pub lines-same : LinesBySameAddresses
-lines-same f slots one other same =
-    ap (λ (ls : List Line). (FunctionLine 0 f.name (frame_of (lowered f)) ∷ variable_lines 0 f.locals (lowered f).widths) ++ (ls ++ []))
-    (block-same f.body slots one other (lowered f).ops (range_with_len 0 (length (lowered f).ops)) same)
+-- the map is the same where the points have the same addresses
+pub map-same : MapBySameAddresses
+map-same f flow slots one other same =
+    ap (λ (ps : List MapPoint).
+    let g : MapFunction = record { name = f.name; frame = frame_of flow; arrays = []; variables = variables_over f.locals flow.widths; blocks = ps ∷ [] } in
+    let m : Map = record { objects = []; functions = g ∷ [] } in
+    m)
+    (points-same f slots one other flow.ops (all_points flow) (λ p within. same p (placed-in flow p within)))

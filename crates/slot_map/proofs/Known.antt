@@ -18,15 +18,13 @@ use Rattle.flow_graph.specs.States.{GraphProgram, State, entry_of, number_of, op
 use Rattle.c_tree.specs.Program.{Local, Function}
 use Rattle.c_tree.specs.SlotForm.{AreIntLocals}
 use Rattle.c_tree.specs.declared.types.ValueType.{ValueType}
-use Rattle.c_lower.specs.Code.{lowered, variables}
 use Rattle.c_lower.specs.Shown.{IsPartOf, IsPointer, locals_at, variable_part, variables_shown}
 use Rattle.c_lower.proofs.Outcomes.{first-same, local-int, local-within}
-use Rattle.std.proofs.lemmas.List.{length-replicate}
-use Rattle.pcc_base.specs.declared.run.Width.TheVariants.{Two}
 use Rattle.slot_map.specs.MapLaws.{MapShowsKnown}
 use Rattle.graph_states.proofs.Lists.{all-at}
 use Rattle.ia32_rows.specs.Right.{one_graph}
 use Rattle.ia32_rows.specs.Rows.{IsSlotOp}
+use Rattle.slot_map.proofs.Parts.{locals-fit}
 use Rattle.slot_map.proofs.Reached.{IsNumber, IsWhole, first-whole, step-whole}
 
 -- a part that is shown is a variable of the graph
@@ -134,15 +132,13 @@ parts-listed flow locals (part ∷ parts) ints enough all =
 
 -- what a listing of locals shows of the graph of a program is known
 pub shows-known : MapShowsKnown
-shows-known program form slots code h listing lists input turns o run =
+shows-known program form flow slots code is listing lists input turns o run =
     let f = form.function in
-    let flow = lowered f in
-    let many : length flow.widths ≡ variables f = length-replicate (variables f) Two in
-    let enough : length f.locals ≤ length flow.widths = omega (arith, many) in
-    outcome-known flow (variables_shown program listing) input turns o h.has_slots.ops
+    let enough = locals-fit f flow form.accepted is.lowered in
+    outcome-known flow (variables_shown program listing) input turns o is.laid.has_slots.ops
     (λ statement. subst (λ (fs : List Function). Every (IsShown flow)
     (map (variable_part (locals_at fs statement)) (listing statement))) (sym form.one_function)
     (parts-listed flow f.locals (listing statement) form.accepted.locals enough
     (subst (λ (fs : List Function). Every (IsPartOf (locals_at fs statement)) (listing statement)) form.one_function
     (lists statement))))
-    (subst (λ (p : GraphProgram). GraphOutcome p (variables_shown program listing) input turns o) h.program run)
+    (subst (λ (p : GraphProgram). GraphOutcome p (variables_shown program listing) input turns o) is.laid.program run)

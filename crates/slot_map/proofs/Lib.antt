@@ -1,4 +1,5 @@
 pub mod Belonging
+pub mod Blocks
 pub mod Filling
 pub mod Known
 pub mod Marked

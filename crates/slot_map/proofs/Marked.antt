@@ -1,24 +1,21 @@
--- The marks of a function: which statements they are of, and how many locals are declared before these.
-use Rattle.std.proofs.Common.{◌≡◌, ℕ, zero, suc, ◌+◌, ◌<◌, ◌≤◌, List, [], ◌∷◌, ◌++◌, length, take, Some, refl, sym, ap, subst, arith, inl, inr}
-use Rattle.std.specs.Prelude.{slice_get}
-use Rattle.std.specs.List.{range_with_len}
-use Rattle.std.proofs.lemmas.Bool.{cases_lt}
-use Rattle.std.proofs.lemmas.List.{length-replicate}
-use Rattle.pcc_base.specs.declared.run.Width.TheVariants.{Two}
+-- The statements of a function's body: how many there are, and how many locals are declared before each.
+use Rattle.std.proofs.Common.{◌≡◌, ℕ, zero, suc, ◌+◌, ◌<◌, ◌≤◌, Bool, true, false, cond, List, [], ◌∷◌, ◌++◌, length, take, get_or, Some, refl, sym, ap, ◌∙◌, subst, arith}
+use Rattle.std.specs.Prelude.{nat_lt, slice_get}
+use Rattle.std.specs.List.{count_by}
+use Rattle.std.proofs.lemmas.Bool.Decides.{nat_tests}
+use Rattle.std.proofs.lemmas.List.Sums.{sum_by-cons}
 use Rattle.c_tree.specs.declared.types.IntegerType.TheVariants.{Int}
 use Rattle.c_tree.specs.declared.types.ValueType.TheVariants.{Integer}
 use Rattle.c_tree.specs.declared.statement.Statement as built
-use Rattle.c_tree.specs.Erased.{statements_of}
-use Rattle.c_tree.specs.Program.{Assign, Putchar, LocalPlace, Scalar, Declare, Evaluate, Return, Expression, Statements, Done, Next, Function}
-use Rattle.c_tree.specs.SlotForm.{IsBody, IsSlotFunction, IsSum}
-use Rattle.c_tree.specs.Sizes.{height}
-use Rattle.flow_graph.specs.declared.op.Op.{Op}
+use Rattle.c_tree.specs.Erased.{statement_of, statements_of}
+use Rattle.c_tree.specs.Program.{Assign, Putchar, LocalPlace, Scalar, Declare, Evaluate, Return, Statements, Done, Next, Function}
+use Rattle.c_tree.specs.SlotForm.{IsBody, IsSlotFunction}
+use Rattle.c_tree.specs.Sizes.{statements_size}
 use Rattle.flow_graph.specs.declared.op.Op.TheVariants as op
-use Rattle.flow_graph.specs.Graphs.{Every, Flow, IsIn, IsPlaced}
-use Rattle.c_lower.specs.Code.{body_ops, lowered, sum_ops, temporaries}
-use Rattle.ia32_rows.proofs.ItemKinds.{every-get}
-use Rattle.c_lower.proofs.Fitting.{every-append, every-sum}
-use Rattle.slot_map.specs.SlotLines.{declared_before}
+use Rattle.flow_graph.specs.Graphs.{Every, Flow}
+use Rattle.c_lower.specs.Lowering.{MarksStatements}
+use Rattle.c_lower.specs.Shown.{declarations_of, declared_before, numbers_of}
+use Rattle.slot_map.specs.SlotMap.{declared_by}
 
 -- ---- lists
 
@@ -39,8 +36,37 @@ pub count-length : (body : List built.Statement) → count (statements_of body) 
 count-length [] = refl
 count-length (s ∷ body) = ap suc (count-length body)
 
+-- each statement of such a body has one number
+pub count-numbers : (locals declared number : ℕ) (ss : Statements) → IsBody locals declared number ss → numbers_of ss ≡ count ss
+count-numbers locals declared number (Next (Declare (Scalar n v (Some e))) others) is = let more = count-numbers locals (suc declared) (suc number) others is.4 in omega (arith, more)
+count-numbers locals declared number (Next (Evaluate n (Assign (Integer Int) (LocalPlace v) e)) others) is = let more = count-numbers locals declared (suc number) others is.3 in omega (arith, more)
+count-numbers locals declared number (Next (Evaluate n (Putchar e)) others) is = let more = count-numbers locals declared (suc number) others is.2 in omega (arith, more)
+count-numbers locals declared number (Next (Return n (Some e)) Done) is = refl
+count-numbers locals declared number _ is = absurd is
+
+-- there are no more statements than the body has words
+count-size : (locals declared number : ℕ) (ss : Statements) → IsBody locals declared number ss → count ss ≤ statements_size ss
+count-size locals declared number (Next (Declare (Scalar n v (Some e))) others) is = let more = count-size locals (suc declared) (suc number) others is.4 in omega (arith, more)
+count-size locals declared number (Next (Evaluate n (Assign (Integer Int) (LocalPlace v) e)) others) is = let more = count-size locals declared (suc number) others is.3 in omega (arith, more)
+count-size locals declared number (Next (Evaluate n (Putchar e)) others) is = let more = count-size locals declared (suc number) others is.2 in omega (arith, more)
+count-size locals declared number (Next (Return n (Some e)) Done) is = omega arith
+count-size locals declared number _ is = absurd is
+
+pub numbers-size : (f : Function) → IsSlotFunction f → numbers_of f.body ≤ statements_size f.body
+numbers-size f form =
+    let few = count-size (length f.locals) 0 0 f.body form.body in
+    omega (arith, few, count-numbers (length f.locals) 0 0 f.body form.body)
+
+-- ---- declarations
+
+-- how many of the statements before one declare a local
+abbrev pub among : Statements → ℕ → ℕ
+among Done k = 0
+among (Next s others) zero = 0
+among (Next s others) (suc k) = declared_by s + among others k
+
 -- no more locals are declared than there are
-pub declared-few : (locals declared number : ℕ) (ss : Statements) (k : ℕ) → IsBody locals declared number ss → declared ≤ locals → declared + declared_before ss k ≤ locals
+declared-few : (locals declared number : ℕ) (ss : Statements) (k : ℕ) → IsBody locals declared number ss → declared ≤ locals → declared + among ss k ≤ locals
 declared-few locals declared number (Next (Declare (Scalar n v (Some e))) others) zero is few = omega (arith, few)
 declared-few locals declared number (Next (Declare (Scalar n v (Some e))) others) (suc k) is few =
     let more = declared-few locals (suc declared) (suc number) others k is.4 (omega (arith, is.2)) in omega (arith, more)
@@ -54,73 +80,81 @@ declared-few locals declared number (Next (Return n (Some e)) Done) zero is few 
 declared-few locals declared number (Next (Return n (Some e)) Done) (suc k) is few = omega (arith, few)
 declared-few locals declared number _ k is few = absurd is
 
--- ---- marks
+abbrev before : ℕ → ℕ → Bool
+before t m = nat_lt m t
 
--- a mark is of a statement before that number
-abbrev pub IsBelow : ℕ → Op → Type 0
-IsBelow top (op.Mark n) = n < top
-IsBelow top _ = Unit {0}
+-- no item of the statements from a number on is before that number
+none-before : (locals declared number t : ℕ) (ss : Statements) → IsBody locals declared number ss → t ≤ number → count_by (before t) (declarations_of ss) ≡ 0
+none-before locals declared number t (Next (Declare (Scalar n v (Some e))) others) is low =
+    let later = none-before locals (suc declared) (suc number) t others is.4 (omega (arith, low)) in
+    let not : nat_lt n t ≡ false = grind (arith, nat_tests, is.0, low) in
+    sum_by-cons (λ m. cond (before t m) 1 0) n (declarations_of others)
+    ∙ ap (λ (b : Bool). cond b 1 0 + count_by (before t) (declarations_of others)) not
+    ∙ omega (arith, later)
+none-before locals declared number t (Next (Evaluate n (Assign (Integer Int) (LocalPlace v) e)) others) is low = none-before locals declared (suc number) t others is.3 (omega (arith, low))
+none-before locals declared number t (Next (Evaluate n (Putchar e)) others) is low = none-before locals declared (suc number) t others is.2 (omega (arith, low))
+none-before locals declared number t (Next (Return n (Some e)) Done) is low = refl
+none-before locals declared number t _ is low = absurd is
 
-below-sum : (top locals d : ℕ) (e : Expression) → IsSum locals e → Every (IsBelow top) (sum_ops d e)
-below-sum top locals d e is = every-sum (IsBelow top) e locals d (d + height e) is (omega arith) (λ k n h. tt) (λ k v h g. tt) (λ k h. tt) (λ k h. tt)
+-- the items before a statement are those of the statements before it
+count-before : (locals declared number k t : ℕ) (ss : Statements) → IsBody locals declared number ss → t ≡ number + k → count_by (before t) (declarations_of ss) ≡ among ss k
+count-before locals declared number zero t ss is e = none-before locals declared number t ss is (omega (arith, e)) ∙ sym (among-none ss)
+  where
+    among-none : (ss : Statements) → among ss 0 ≡ 0
+    among-none Done = refl
+    among-none (Next s others) = refl
+count-before locals declared number (suc k) t (Next (Declare (Scalar n v (Some e))) others) is same =
+    let later = count-before locals (suc declared) (suc number) k t others is.4 (omega (arith, same)) in
+    let less : nat_lt n t ≡ true = grind (arith, nat_tests, is.0, same) in
+    sum_by-cons (λ m. cond (before t m) 1 0) n (declarations_of others)
+    ∙ ap (λ (b : Bool). cond b 1 0 + count_by (before t) (declarations_of others)) less
+    ∙ omega (arith, later)
+count-before locals declared number (suc k) t (Next (Evaluate n (Assign (Integer Int) (LocalPlace v) e)) others) is same =
+    omega (arith, count-before locals declared (suc number) k t others is.3 (omega (arith, same)))
+count-before locals declared number (suc k) t (Next (Evaluate n (Putchar e)) others) is same =
+    omega (arith, count-before locals declared (suc number) k t others is.2 (omega (arith, same)))
+count-before locals declared number (suc k) t (Next (Return n (Some e)) Done) is same = refl
+count-before locals declared number (suc k) t _ is same = absurd is
 
--- the marks of a body are of its statements
-pub below-body : (top locals declared number : ℕ) (ss : Statements) → IsBody locals declared number ss → number + count ss ≤ top → Every (IsBelow top) (body_ops locals ss)
-below-body top locals declared number (Next (Declare (Scalar n v (Some e))) others) is room = (
-  omega (arith, is.0, room),
-  (
-    tt,
-    every-append (IsBelow top) (sum_ops locals e ++ op.Copy v locals ∷ []) _
-        (every-append (IsBelow top) (sum_ops locals e) _ (below-sum top declared locals e is.3) (tt, tt))
-        (below-body top locals (suc declared) (suc number) others is.4 (omega (arith, room))),
-  ),
-)
-below-body top locals declared number (Next (Evaluate n (Assign (Integer Int) (LocalPlace v) e)) others) is room = (
-  omega (arith, is.0, room),
-  every-append (IsBelow top) (sum_ops locals e ++ op.Copy v locals ∷ []) _
-      (every-append (IsBelow top) (sum_ops locals e) _ (below-sum top declared locals e is.2) (tt, tt))
-      (below-body top locals declared (suc number) others is.3 (omega (arith, room))),
-)
-below-body top locals declared number (Next (Evaluate n (Putchar e)) others) is room = (
-  omega (arith, is.0, room),
-  every-append (IsBelow top) (sum_ops locals e ++ op.Putchar locals locals ∷ []) _
-      (every-append (IsBelow top) (sum_ops locals e) _ (below-sum top declared locals e is.1) (tt, tt))
-      (below-body top locals declared (suc number) others is.2 (omega (arith, room))),
-)
-below-body top locals declared number (Next (Return n (Some e)) Done) is room = (
-  omega (arith, is.0, room),
-  every-append (IsBelow top) (sum_ops locals e ++ op.Return (Some locals) ∷ []) _
-      (every-append (IsBelow top) (sum_ops locals e) _ (below-sum top declared locals e is.2) (tt, tt))
-      tt,
-)
-below-body top locals declared number _ is room = absurd is
+-- as many locals are declared before a statement as by the statements before it
+pub declared-among : (f : Function) (n : ℕ) → IsSlotFunction f → declared_before f n ≡ among f.body n
+declared-among f n form =
+    let counted = count-before (length f.locals) 0 0 n n f.body form.body (omega arith) in
+    omega (arith, form.no_parameters, counted)
 
--- the mark of a function is of one of its statements, and no more locals than it has are declared before it
-pub marked-below : (f : Function) (flow : Flow) (p n : ℕ) → IsSlotFunction f → flow ≡ lowered f → slice_get flow.ops p ≡ Some (op.Mark n) → n < count f.body
-marked-below f flow p n form is at =
-    let below : Every (IsBelow (count f.body)) (lowered f).ops = (tt, below-body (count f.body) (length f.locals) 0 0 f.body form.body (omega arith)) in
-    every-get (IsBelow (count f.body)) (lowered f).ops p (op.Mark n) below (subst (λ (g : Flow). slice_get g.ops p ≡ Some (op.Mark n)) is at)
+pub function-declares : (f : Function) (k : ℕ) → IsSlotFunction f → declared_before f k ≤ length f.locals
+function-declares f k form = let few = declared-few (length f.locals) 0 0 f.body k form.body (omega arith) in omega (arith, few, declared-among f k form)
 
-pub function-declares : (f : Function) (k : ℕ) → IsSlotFunction f → declared_before f.body k ≤ length f.locals
-function-declares f k form = let few = declared-few (length f.locals) 0 0 f.body k form.body (omega arith) in omega (arith, few)
+pub declared-none : (f : Function) → IsSlotFunction f → declared_before f 0 ≡ 0
+declared-none f form = declared-among f 0 form ∙ first f.body
+  where
+    first : (ss : Statements) → among ss 0 ≡ 0
+    first Done = refl
+    first (Next s others) = refl
 
--- ---- points
+-- a statement's declarations count for the next one
+among-more : (body : List built.Statement) (i : ℕ) (s : built.Statement) → i < length body → get_or body i s ≡ s
+    → among (statements_of body) (suc i) ≡ among (statements_of body) i + declared_by (statement_of s)
+among-more [] i s h is = absurd (omega (arith, h))
+among-more (t ∷ body) zero s h is =
+    ap (λ (u : built.Statement). declared_by (statement_of u) + among (statements_of body) 0) is ∙ omega (arith, first (statements_of body))
+  where
+    first : (ss : Statements) → among ss 0 ≡ 0
+    first Done = refl
+    first (Next s others) = refl
+among-more (t ∷ body) (suc i) s h is = let more = among-more body i s (omega (arith, h)) is in omega (arith, more)
 
-pub in-range : (a n p : ℕ) → a ≤ p → p < a + n → IsIn p (range_with_len a n)
-in-range a zero p low high = absurd (omega (arith, low, high))
-in-range a (suc n) p low high =
-    elim (cases_lt a p) as (λ c. IsIn p (range_with_len a (suc n))) [
-      | inl less ↦ inr (in-range (a + 1) n p (omega (arith, less)) (omega (arith, high)))
-      | inr more ↦ inl (omega (arith, low, more))
-    ]
+pub declared-more : (f : Function) (body : List built.Statement) (i : ℕ) (s : built.Statement) → IsSlotFunction f → f.body ≡ statements_of body → i < length body → get_or body i s ≡ s
+    → declared_before f (suc i) ≡ declared_before f i + declared_by (statement_of s)
+declared-more f body i s form same h is =
+    let more = among-more body i s h is in
+    let A : ℕ → ℕ = λ k. among f.body k in
+    let one : among f.body (suc i) ≡ among (statements_of body) (suc i) = ap (λ (ss : Statements). among ss (suc i)) same in
+    let two : among f.body i ≡ among (statements_of body) i = ap (λ (ss : Statements). among ss i) same in
+    omega (arith, declared-among f (suc i) form, declared-among f i form, one, two, more)
 
--- each of its points is in the block
-pub point-placed : (f : Function) (flow : Flow) (p : ℕ) → flow ≡ lowered f → p < length flow.ops → IsPlaced flow p
-point-placed f flow p is h =
-    subst (λ (g : Flow). IsPlaced g p) (sym is) (0, in-range 0 (length (lowered f).ops) p (omega arith) (omega (arith, subst (λ (g : Flow). p < length g.ops) is h)))
-
--- ---- variables
-
--- every local has a variable
-pub locals-fit : (f : Function) (flow : Flow) → flow ≡ lowered f → length f.locals ≤ length flow.widths
-locals-fit f flow is = subst (λ (g : Flow). length f.locals ≤ length g.widths) (sym is) (omega (arith, length-replicate (length f.locals + temporaries f.body) Two))
+-- the mark of a function's graph is of one of the statements of its body
+pub marked-below : (f : Function) (flow : Flow) (body : List built.Statement) (p n : ℕ) → IsSlotFunction f → MarksStatements 0 f flow → f.body ≡ statements_of body → slice_get flow.ops p ≡ Some (op.Mark n) → n < length body
+marked-below f flow body p n form marks same at =
+    let within = marks.only p n at in
+    omega (arith, within.1, count-numbers (length f.locals) 0 0 f.body form.body, ap count same, count-length body)

@@ -1,24 +1,27 @@
 -- The parts that the marks of a function over slots show: the locals that are declared before each statement.
 use Rattle.std.proofs.Common.{◌≡◌, ℕ, zero, suc, ◌+◌, ◌<◌, ◌≤◌, Bool, true, false, List, [], ◌∷◌, ◌++◌, length, map, take, eqb, Option, Some, refl, sym, ap, ◌∙◌, subst, arith, inl, inr}
 use Rattle.std.proofs.lemmas.List.{length-take}
-use Rattle.std.specs.Prelude.{◌⊎◌, filter_map, slice_get, if◌then◌else◌}
+use Rattle.std.proofs.Common.{length-append}
+use Rattle.std.specs.Prelude.{◌⊎◌, filter_map, option_map, slice_get, if◌then◌else◌}
 use Rattle.std.proofs.lemmas.Bool.Decides.{eqb_tells}
-use Rattle.pcc_base.specs.declared.run.Width.{Width}
 use Rattle.pcc_base.specs.Outcome.{Part, Scalar}
 use Rattle.c_tree.specs.declared.types.ValueType.{ValueType}
-use Rattle.c_tree.specs.Program.{Statements, Local, Function}
+use Rattle.c_tree.specs.Program.{Local, Function}
 use Rattle.c_tree.specs.SlotForm.{AreIntLocals, IsSlotFunction}
 use Rattle.flow_graph.specs.declared.op.Op.{Op}
 use Rattle.flow_graph.specs.declared.op.Op.TheVariants as op
-use Rattle.flow_graph.specs.Graphs.{Every, IsIn}
-use Rattle.c_lower.specs.Code.{lowered}
-use Rattle.c_lower.specs.Shown.{IsInteger, IsPartOf, first_variable, locals_at, type_widths, variable_part}
-use Rattle.pcc_listing.specs.Lines.{Line, Named}
-use Rattle.pcc_listing.specs.Marks.{MarkAt, listed, listed_by, part_named, part_of, variables_in}
-use Rattle.slot_map.specs.SlotLines.{declared_before, slot_lines, standings_from}
+use Rattle.flow_graph.specs.Graphs.{Every, Flow, IsIn}
+use Rattle.c_lower.specs.Lowering.{IsLowered}
+use Rattle.c_lower.specs.Shown.{IsInteger, IsPartOf, declared_before, first_variable, local_widths, locals_at, type_widths, variable_part}
+use Rattle.c_lower.proofs.Kept.{length-widths}
+use Rattle.ia32_rows.specs.Rows.{HasSlots}
+use Rattle.pcc_listing.specs.Maps.{Map, MapVariable}
+use Rattle.pcc_listing.specs.Marks.{MarkAt, listed, listed_by, locals_before, name_in, part_named, part_of, variables_in}
+use Rattle.ia32_shows.specs.Placements.{point_address}
+use Rattle.slot_map.specs.SlotMap.{all_points, slot_map, standings_from, variables_over}
 use Rattle.slot_map.specs.MapLaws.{MapListsLocals}
-use Rattle.slot_map.proofs.Marked.{function-declares, locals-fit}
-use Rattle.slot_map.proofs.Reading.{IsLocalAt, local-at, marks-are, op_marks, points_all, points_marks, variables-are, variables_over}
+use Rattle.slot_map.proofs.Marked.{function-declares}
+use Rattle.slot_map.proofs.Reading.{IsLocalAt, local-at, marks-are, op_marks, points_marks}
 
 -- ---- scalars
 
@@ -28,11 +31,13 @@ scalars k [] = []
 scalars k (slot ∷ slots) = Scalar k ∷ scalars (suc k) slots
 
 -- a variable shows its local
-part-at : (variables : List (Width × Named)) (v slot : ℕ) → IsLocalAt variables v → part_named variables v (slice_get variables v) ≡ Some (Scalar v)
-part-at variables v slot local = ap (part_named variables v) local.at ∙ ap (λ (n : ℕ). Some (Scalar n)) local.before
+part-at : (variables : List MapVariable) (v slot : ℕ) → IsLocalAt variables v → part_named (locals_before variables v) (name_in variables v) ≡ Some (Scalar v)
+part-at variables v slot local =
+    ap (λ (o : Option MapVariable). part_named (locals_before variables v) (option_map (λ x. x.named) o)) local.at
+    ∙ ap (λ (n : ℕ). Some (Scalar n)) local.before
 
 -- variables in slots show their locals
-pub standings-parts : (variables : List (Width × Named)) (k : ℕ) (slots : List ℕ) → ((v : ℕ) → k ≤ v → v < k + length slots → IsLocalAt variables v)
+pub standings-parts : (variables : List MapVariable) (k : ℕ) (slots : List ℕ) → ((v : ℕ) → k ≤ v → v < k + length slots → IsLocalAt variables v)
     → filter_map (part_of variables) (standings_from k slots) ≡ scalars k slots
 standings-parts variables k [] locals = refl
 standings-parts variables k (slot ∷ slots) locals =
@@ -69,24 +74,31 @@ scalars-kept locals k (slot ∷ slots) ints room =
 
 -- the slots of the locals that are declared before a statement
 abbrev pub slots_before : Function → List ℕ → ℕ → List ℕ
-slots_before f slots n = take (declared_before f.body n) slots
+slots_before f slots n = take (declared_before f n) slots
 
 pub slots-few : (f : Function) (slots : List ℕ) (n : ℕ) → IsSlotFunction f → length (slots_before f slots n) ≤ length f.locals
 slots-few f slots n form = let few = function-declares f n form in omega (arith, few, length-take {A = ℕ})
 
--- what the lines show of a mark
-abbrev pub parts_at : List Line → Statements → List ℕ → ℕ → List Part
-parts_at lines body slots n = filter_map (part_of (variables_in 0 0 lines)) (standings_from 0 (take (declared_before body n) slots))
+-- what the map shows of a mark
+abbrev pub parts_at : Map → Function → List ℕ → ℕ → List Part
+parts_at m f slots n = filter_map (part_of (variables_in m 0)) (standings_from 0 (slots_before f slots n))
 
-pub local-all : (f : Function) (v : ℕ) → v < length f.locals → IsLocalAt (variables_over f.locals (lowered f).widths) v
-local-all f v h = local-at f.locals (lowered f).widths v h (locals-fit f (lowered f) refl)
+-- every local has a variable
+pub locals-fit : (f : Function) (flow : Flow) → IsSlotFunction f → IsLowered f flow → length f.locals ≤ length flow.widths
+locals-fit f flow form low =
+    let (temporaries, are) = low.first_variables in
+    let many = ap length are ∙ length-append (local_widths f.locals) temporaries in
+    omega (arith, many, length-widths f.locals form.locals)
 
-pub parts-are : (f : Function) (slots : List ℕ) (address : ℕ → ℕ) (n : ℕ) → IsSlotFunction f → parts_at (slot_lines f (lowered f) slots address) f.body slots n ≡ scalars 0 (slots_before f slots n)
-parts-are f slots address n form =
+pub local-all : (f : Function) (flow : Flow) (slots : List ℕ) (v : ℕ) → IsSlotFunction f → IsLowered f flow → HasSlots flow slots → v < length f.locals → IsLocalAt (variables_over f.locals flow.widths) v
+local-all f flow slots v form low has h = local-at f.locals flow.widths v has.widths h (locals-fit f flow form low)
+
+pub parts-are : (f : Function) (flow : Flow) (slots : List ℕ) (address : ℕ → ℕ) (n : ℕ) → IsSlotFunction f → IsLowered f flow → HasSlots flow slots
+    → parts_at (slot_map f flow slots address) f slots n ≡ scalars 0 (slots_before f slots n)
+parts-are f flow slots address n form low has =
     let mine = slots_before f slots n in
     let few = slots-few f slots n form in
-    ap (λ (vs : List (Width × Named)). filter_map (part_of vs) (standings_from 0 mine)) (variables-are f slots address)
-    ∙ standings-parts (variables_over f.locals (lowered f).widths) 0 mine (λ v low high. local-all f v (omega (arith, high, few)))
+    standings-parts (variables_over f.locals flow.widths) 0 mine (λ v low' high. local-all f flow slots v form low has (omega (arith, high, few)))
 
 -- ---- listings
 
@@ -94,31 +106,33 @@ each-if : (P : Part → Type 0) (b : Bool) (xs ys : List Part) → Every P xs �
 each-if P true xs ys one other = one
 each-if P false xs ys one other = other
 
-each-op : (P : Part → Type 0) (lines : List Line) (body : Statements) (slots : List ℕ) (address : ℕ → ℕ) (statement p : ℕ) (o : Option Op) (rest : List MarkAt)
-    → ((n : ℕ) → Every P (parts_at lines body slots n)) → Every P (listed_by lines rest statement) → Every P (listed_by lines (op_marks body slots address p o ++ rest) statement)
-each-op P lines body slots address statement p (Some (op.Mark n)) rest all more = each-if P (eqb n statement) (parts_at lines body slots n) (listed_by lines rest statement) (all n) more
-each-op P lines body slots address statement p _ rest all more = more
+each-op : (P : Part → Type 0) (m : Map) (f : Function) (slots : List ℕ) (address : ℕ → ℕ) (statement p : ℕ) (o : Option Op) (rest : List MarkAt)
+    → ((n : ℕ) → Every P (parts_at m f slots n)) → Every P (listed_by m rest statement) → Every P (listed_by m (op_marks f slots address p o ++ rest) statement)
+each-op P m f slots address statement p (Some (op.Mark n)) rest all more = each-if P (eqb n statement) (parts_at m f slots n) (listed_by m rest statement) (all n) more
+each-op P m f slots address statement p _ rest all more = more
 
 -- what holds of the parts at each mark holds of those listed
-each-listed : (P : Part → Type 0) (lines : List Line) (body : Statements) (slots : List ℕ) (address : ℕ → ℕ) (ops : List Op) (statement : ℕ) (points : List ℕ)
-    → ((n : ℕ) → Every P (parts_at lines body slots n)) → Every P (listed_by lines (points_marks body slots address ops points) statement)
-each-listed P lines body slots address ops statement [] all = tt
-each-listed P lines body slots address ops statement (p ∷ points) all =
-    each-op P lines body slots address statement p (slice_get ops p) (points_marks body slots address ops points) all (each-listed P lines body slots address ops statement points all)
+each-listed : (P : Part → Type 0) (m : Map) (f : Function) (slots : List ℕ) (address : ℕ → ℕ) (ops : List Op) (statement : ℕ) (points : List ℕ)
+    → ((n : ℕ) → Every P (parts_at m f slots n)) → Every P (listed_by m (points_marks f slots address ops points) statement)
+each-listed P m f slots address ops statement [] all = tt
+each-listed P m f slots address ops statement (p ∷ points) all =
+    each-op P m f slots address statement p (slice_get ops p) (points_marks f slots address ops points) all (each-listed P m f slots address ops statement points all)
 
-pub function-lists : (f : Function) (slots : List ℕ) (address : ℕ → ℕ) (statement : ℕ) → IsSlotFunction f → Every (IsPartOf f.locals) (listed (slot_lines f (lowered f) slots address) statement)
-function-lists f slots address statement form =
-    let lines = slot_lines f (lowered f) slots address in
+pub function-lists : (f : Function) (flow : Flow) (slots : List ℕ) (address : ℕ → ℕ) (statement : ℕ) → IsSlotFunction f → IsLowered f flow → HasSlots flow slots
+    → Every (IsPartOf f.locals) (listed (slot_map f flow slots address) statement)
+function-lists f flow slots address statement form low has =
+    let m = slot_map f flow slots address in
     let P = IsPartOf f.locals in
-    let each : (n : ℕ) → Every P (parts_at lines f.body slots n) =
-    λ n. subst (Every P) (sym (parts-are f slots address n form)) (scalars-listed f.locals 0 (slots_before f slots n) form.locals (omega (arith, slots-few f slots n form))) in
-    subst (λ (ms : List MarkAt). Every P (listed_by lines ms statement)) (sym (marks-are f slots address)) (each-listed P lines f.body slots address (lowered f).ops statement (points_all f) each)
+    let each : (n : ℕ) → Every P (parts_at m f slots n) =
+    λ n. subst (Every P) (sym (parts-are f flow slots address n form low has)) (scalars-listed f.locals 0 (slots_before f slots n) form.locals (omega (arith, slots-few f slots n form))) in
+    subst (λ (ms : List MarkAt). Every P (listed_by m ms statement)) (sym (marks-are f flow slots address)) (each-listed P m f slots address flow.ops statement (all_points flow) each)
 
 -- the map lists locals of the program
 pub lists-locals : MapListsLocals
-lists-locals program form slots address statement =
-    let lines = slot_lines form.function (lowered form.function) slots address in
-    subst (λ (fs : List Function). Every (IsPartOf (locals_at fs statement)) (listed lines statement)) (sym form.one_function) (function-lists form.function slots address statement form.accepted)
+lists-locals program form flow slots code is statement =
+    let m = slot_map form.function flow slots (point_address code 0) in
+    subst (λ (fs : List Function). Every (IsPartOf (locals_at fs statement)) (listed m statement)) (sym form.one_function)
+    (function-lists form.function flow slots (point_address code 0) statement form.accepted is.lowered is.laid.has_slots)
 
 -- ---- the parts at a mark
 
@@ -126,26 +140,26 @@ lists-locals program form slots address statement =
 pub mark-number : (n m : ℕ) → Some (op.Mark n) ≡ Some (op.Mark m) → n ≡ m
 mark-number n m e = cc
 
-listed-op : (lines : List Line) (body : Statements) (slots : List ℕ) (address : ℕ → ℕ) (statement p : ℕ) (o : Option Op) (rest : List MarkAt)
-    → (o ≡ Some (op.Mark statement)) ⊎ (listed_by lines rest statement ≡ parts_at lines body slots statement)
-    → listed_by lines (op_marks body slots address p o ++ rest) statement ≡ parts_at lines body slots statement
-listed-op lines body slots address statement p (Some (op.Mark n)) rest or =
+listed-op : (m : Map) (f : Function) (slots : List ℕ) (address : ℕ → ℕ) (statement p : ℕ) (o : Option Op) (rest : List MarkAt)
+    → (o ≡ Some (op.Mark statement)) ⊎ (listed_by m rest statement ≡ parts_at m f slots statement)
+    → listed_by m (op_marks f slots address p o ++ rest) statement ≡ parts_at m f slots statement
+listed-op m f slots address statement p (Some (op.Mark n)) rest or =
     elim (eqb_tells n statement) [
       | inl same ↦
-          ap (λ (b : Bool). if b then parts_at lines body slots n else listed_by lines rest statement) same.0 ∙ ap (parts_at lines body slots) same.1
+          ap (λ (b : Bool). if b then parts_at m f slots n else listed_by m rest statement) same.0 ∙ ap (parts_at m f slots) same.1
       | inr other ↦
-          ap (λ (b : Bool). if b then parts_at lines body slots n else listed_by lines rest statement) other.0
+          ap (λ (b : Bool). if b then parts_at m f slots n else listed_by m rest statement) other.0
           ∙ (elim or [ inl here ↦ absurd (other.1 (mark-number n statement here)) | inr later ↦ later ])
     ]
-listed-op lines body slots address statement p _ rest (inl here) = absurd (cc)
-listed-op lines body slots address statement p _ rest (inr later) = later
+listed-op m f slots address statement p _ rest (inl here) = absurd (cc)
+listed-op m f slots address statement p _ rest (inr later) = later
 
 -- at a mark of a statement the listing has the parts of that mark
-pub listed-mark : (lines : List Line) (body : Statements) (slots : List ℕ) (address : ℕ → ℕ) (ops : List Op) (statement here : ℕ) (points : List ℕ) → IsIn here points
-    → slice_get ops here ≡ Some (op.Mark statement) → listed_by lines (points_marks body slots address ops points) statement ≡ parts_at lines body slots statement
-listed-mark lines body slots address ops statement here [] within at = absurd within
-listed-mark lines body slots address ops statement here (p ∷ points) (inl same) at =
-    listed-op lines body slots address statement p (slice_get ops p) (points_marks body slots address ops points) (inl (ap (slice_get ops) same ∙ at))
-listed-mark lines body slots address ops statement here (p ∷ points) (inr within) at =
-    listed-op lines body slots address statement p (slice_get ops p) (points_marks body slots address ops points)
-    (inr (listed-mark lines body slots address ops statement here points within at))
+pub listed-mark : (m : Map) (f : Function) (slots : List ℕ) (address : ℕ → ℕ) (ops : List Op) (statement here : ℕ) (points : List ℕ) → IsIn here points
+    → slice_get ops here ≡ Some (op.Mark statement) → listed_by m (points_marks f slots address ops points) statement ≡ parts_at m f slots statement
+listed-mark m f slots address ops statement here [] within at = absurd within
+listed-mark m f slots address ops statement here (p ∷ points) (inl same) at =
+    listed-op m f slots address statement p (slice_get ops p) (points_marks f slots address ops points) (inl (ap (slice_get ops) same ∙ at))
+listed-mark m f slots address ops statement here (p ∷ points) (inr within) at =
+    listed-op m f slots address statement p (slice_get ops p) (points_marks f slots address ops points)
+    (inr (listed-mark m f slots address ops statement here points within at))

@@ -8,7 +8,7 @@ use Rattle.pcc_base.specs.declared.run.Width.{Width}
 use Rattle.pcc_base.specs.declared.run.Width.TheVariants.{Two}
 use Rattle.pcc_base.specs.Outcome.{Value, Number, Visit}
 use Rattle.c_tree.specs.Program.{Function, Program}
-use Rattle.c_tree.specs.SlotForm.{IsSlotProgram}
+use Rattle.c_tree.specs.SlotForm.{IsSlotFunction, IsSlotProgram}
 use Rattle.ia32_regs.specs.Registers.{AreRegisters, register, word_place}
 use Rattle.ia32_regs.specs.declared.names.Reg32.{Reg32}
 use Rattle.ia32_regs.specs.declared.names.Reg32.TheVariants.{Ebp}
@@ -21,29 +21,28 @@ use Rattle.flow_graph.specs.Graphs.{Flow, Every, IsIn, Stands}
 use Rattle.flow_graph.specs.Running.{GraphAt, part_value, visits_at}
 use Rattle.flow_graph.specs.States as graph
 use Rattle.flow_graph.specs.States.{GraphProgram, active_of, flow_at, op_at, op_of}
-use Rattle.c_lower.specs.Code.{lowered}
-use Rattle.c_lower.specs.Shown.{locals_at, variable_part, variables_shown}
+use Rattle.c_lower.specs.Shown.{declared_before, locals_at, variable_part, variables_shown}
 use Rattle.ia32_shows.specs.Paths.{IsAt, IsClear}
 use Rattle.ia32_shows.specs.Placements.{Code, Placement, in_slots, no_placement, placement_of, point_address}
 use Rattle.ia32_shows.specs.Shows.{Shows, InSlotOf}
 use Rattle.ia32_rows.specs.Rows.{IsSlot, frame_of, selected}
 use Rattle.ia32_rows.specs.Right.{IsSlotCode, one_graph}
 use Rattle.ia32_rows.proofs.Laid.{apart, mark-at}
-use Rattle.pcc_listing.specs.Lines.{Named}
 use Rattle.ia32_places.specs.Places.{InSlot}
-use Rattle.pcc_listing.specs.Marks.{MarkAt, frames_of, listed, listed_by, marks_of, number_in, signed_value, value_of, values_of, visits_by, visits_of}
+use Rattle.pcc_listing.specs.Marks.{MarkAt, frames_of, listed, listed_by, number_in, signed_value, values_of, visit_at, visits_by, visits_of}
 use Rattle.pcc_listing.specs.Marks as shown
-use Rattle.slot_map.specs.SlotLines.{declared_before, standings_from}
-use Rattle.slot_map.specs.MapLaws.{MapShowsVisits, lines_of}
+use Rattle.slot_map.specs.SlotMap.{all_points, variables_over}
+use Rattle.slot_map.specs.MapLaws.{IsCodeOf, MapShowsVisits, map_in}
 use Rattle.ia32_rows.proofs.ItemKinds.{every-get}
+use Rattle.slot_map.proofs.Blocks.{in-placed, placed-in}
 use Rattle.slot_map.proofs.Marked.{function-declares}
-use Rattle.slot_map.proofs.Reading.{IsLocalAt, mark_at, marks-are, points_all, variables-are, variables_over}
+use Rattle.slot_map.proofs.Reading.{IsLocalAt, mark_at, marks-are}
 use Rattle.slot_map.proofs.Parts.{listed-mark, local-all, parts-are, scalars, scalars-kept, slots-few, slots_before}
 use Rattle.slot_map.proofs.Reached.{IsNumber, op-main, reached-whole}
 use Rattle.graph_states.proofs.Lists.{all-at}
 use Rattle.std.specs.List.{All}
 use Rattle.slot_map.proofs.Words.{load-number, readable-by, shown_number, slot-address, word-shown}
-use Rattle.slot_map.proofs.Visits.{ShowsSlot, slot-before, slots-show, visit_at, visits-here, visits-none}
+use Rattle.slot_map.proofs.Visits.{ShowsSlot, slot-before, slots-show, visits-here, visits-none}
 
 -- ---- the code
 
@@ -53,7 +52,7 @@ register-small r bytes h =
     let each : (k : ℕ) → get_or (drop (word_place r) bytes) k 0 < 256 = λ k. let below = h.below (word_place r + k) in rw (get_or-drop (word_place r) bytes k 0) below in
     little_from-lt 0 4 (drop (word_place r) bytes) each
 
-code-placement : (flow : Flow) (slots : List ℕ) (code : Code) → IsSlotCode flow slots (selected flow slots) code → placement_of code 0 ≡ in_slots (frame_of flow) [] slots
+pub code-placement : (flow : Flow) (slots : List ℕ) (code : Code) → IsSlotCode flow slots (selected flow slots) code → placement_of code 0 ≡ in_slots (frame_of flow) [] slots
 code-placement flow slots code h = ap (λ (ps : List Placement). slice_index_or ps 0 no_placement) h.placements
 
 code-arrays : (flow : Flow) (slots : List ℕ) (code : Code) → IsSlotCode flow slots (selected flow slots) code → (function : ℕ) → (placement_of code function).arrays ≡ []
@@ -72,11 +71,6 @@ two-at (width ∷ widths) (suc v) all h = two-at widths v all.1 (omega (arith, h
 function-main : (flow : Flow) (function point : ℕ) (o : Op) → op_of (one_graph flow) function point ≡ Some o → function ≡ 0
 function-main flow zero point o e = refl
 function-main flow (suc k) point o e = absurd (none-some o e)
-
--- each point of the graph is in its block
-stands-only : (f : Function) (p b : ℕ) → Stands (lowered f) p b → IsIn p (points_all f)
-stands-only f p zero h = h
-stands-only f p (suc b) h = absurd h
 
 -- ---- slots
 
@@ -109,16 +103,15 @@ slot-shown flow slots code input g s v slot h shows main values numbers there =
 
 -- ---- marks
 
--- where a state shows one at a point, EIP is the point's address, and the point is in the block
-record AtPoint (f : Function) (code : Code) (g : graph.State) (s : machine.State) (o : Op) : Type 0 where
-  has : slice_get (lowered f).ops g.point ≡ Some o
+-- where a state shows one at a point, EIP is the point's address, and the point is in its block
+record AtPoint (flow : Flow) (code : Code) (g : graph.State) (s : machine.State) (o : Op) : Type 0 where
+  has : slice_get flow.ops g.point ≡ Some o
   eip : s.eip ≡ point_address code 0 g.point
-  within : IsIn g.point (points_all f)
+  stands : Stands flow g.point g.block
 
-at-point : (f : Function) (slots : List ℕ) (code : Code) (input : List ℕ) (g : graph.State) (s : machine.State) (o : Op) → IsSlotCode (lowered f) slots (selected (lowered f) slots) code → Shows code input g s
-    → op_at code.program g ≡ Some o → (g.current.function ≡ 0) × AtPoint f code g s o
-at-point f slots code input g s o h shows at =
-    let flow = lowered f in
+at-point : (flow : Flow) (slots : List ℕ) (code : Code) (input : List ℕ) (g : graph.State) (s : machine.State) (o : Op) → IsSlotCode flow slots (selected flow slots) code → Shows code input g s
+    → op_at code.program g ≡ Some o → (g.current.function ≡ 0) × AtPoint flow code g s o
+at-point flow slots code input g s o h shows at =
     let here : op_at (one_graph flow) g ≡ Some o = ap (λ (p : GraphProgram). op_at p g) (sym h.program) ∙ at in
     let main : g.current.function ≡ 0 = function-main flow g.current.function g.point o here in
     let is : flow_at code.program g.current.function ≡ flow = ap (λ (p : GraphProgram). flow_at p g.current.function) h.program ∙ ap (flow_at (one_graph flow)) main in (
@@ -126,89 +119,101 @@ at-point f slots code input g s o h shows at =
       record {
         has = sym (op-main flow g main) ∙ here;
         eip = shows.eip ∙ ap (λ (n : ℕ). point_address code n g.point) main;
-        within = stands-only f g.point g.block (subst (λ (fl : Flow). Stands fl g.point g.block) is shows.placed);
+        stands = subst (λ (fl : Flow). Stands fl g.point g.block) is shows.placed;
       },
     )
 
+-- two points of blocks with one address are one
+same-point : (flow : Flow) (slots : List ℕ) (code : Code) (p q b : ℕ) → IsSlotCode flow slots (selected flow slots) code → IsIn p (all_points flow) → Stands flow q b
+    → point_address code 0 p ≡ point_address code 0 q → p ≡ q
+same-point flow slots code p q b h within stands e =
+    let (c, there) = placed-in flow p within in apart flow slots code p c q b h there stands e
+
 -- the values of the locals that are declared
-mark-values : (f : Function) (slots : List ℕ) (code : Code) (input : List ℕ) (k : ℕ) (g : graph.State) (s : machine.State) (statement p : ℕ) → IsSlotCode (lowered f) slots (selected (lowered f) slots) code
-    → GraphAt code.program input k g → Shows code input g s → declared_before f.body statement ≤ length f.locals
-    → values_of (lines_of f slots code) (mark_at f.body slots (point_address code 0) p statement) s ≡ map (part_value g) (scalars 0 (slots_before f slots statement))
-mark-values f slots code input k g s statement p h reached shows few =
-    let flow = lowered f in
-    let lines = lines_of f slots code in
+mark-values : (f : Function) (flow : Flow) (slots : List ℕ) (code : Code) (input : List ℕ) (k : ℕ) (g : graph.State) (s : machine.State) (statement p : ℕ) → IsSlotFunction f → IsCodeOf f flow slots code
+    → GraphAt code.program input k g → Shows code input g s
+    → values_of (map_in f flow slots code) (mark_at f slots (point_address code 0) p statement) s ≡ map (part_value g) (scalars 0 (slots_before f slots statement))
+mark-values f flow slots code input k g s statement p form is reached shows =
+    let h = is.laid in
+    let m = map_in f flow slots code in
     let mine = slots_before f slots statement in
     let vs = variables_over f.locals flow.widths in
-    let frames = frames_of lines (mark_at f.body slots (point_address code 0) p statement) s in
+    let frames = frames_of m (mark_at f slots (point_address code 0) p statement) s in
     let whole = reached-whole flow input k g h.has_slots.ops (subst (λ (q : GraphProgram). GraphAt q input k g) h.program reached) in
-    ap (λ (ws : List (Width × Named)). filter_map (λ standing. value_of lines frames s standing.place (slice_get ws standing.variable)) (standings_from 0 mine)) (variables-are f slots (point_address code 0))
-    ∙ slots-show vs lines frames s g 0 mine
+    let few = function-declares f statement form in
+    slots-show vs m frames s g 0 mine
     (λ j slot e.
-    let there = slot-before slots (declared_before f.body statement) j slot e in
+    let there = slot-before slots (declared_before f statement) j slot e in
     let same : j ≡ 0 + j = omega arith in
     subst (λ (v : ℕ). IsLocalAt vs v × ShowsSlot s g v slot) same
-    (local-all f j (omega (arith, there.0, few)), slot-shown flow slots code input g s j slot h shows whole.main whole.values whole.numbers there.1))
+    (local-all f flow slots j form is.lowered h.has_slots (omega (arith, there.0, few)), slot-shown flow slots code input g s j slot h shows whole.main whole.values whole.numbers there.1))
 
 -- what the listing of the map shows of the graph
-listed-shown : (program : Program) (form : IsSlotProgram program) (slots : List ℕ) (code : Code) (p statement : ℕ) → IsIn p (points_all form.function) → slice_get (lowered form.function).ops p ≡ Some (op.Mark statement)
-    → variables_shown program (listed (lines_of form.function slots code)) statement ≡ scalars 0 (slots_before form.function slots statement)
-listed-shown program form slots code p statement within at =
+listed-shown : (program : Program) (form : IsSlotProgram program) (flow : Flow) (slots : List ℕ) (code : Code) (p statement : ℕ) → IsCodeOf form.function flow slots code → IsIn p (all_points flow)
+    → slice_get flow.ops p ≡ Some (op.Mark statement)
+    → variables_shown program (listed (map_in form.function flow slots code)) statement ≡ scalars 0 (slots_before form.function slots statement)
+listed-shown program form flow slots code p statement is within at =
     let f = form.function in
-    let lines = lines_of f slots code in
+    let m = map_in f flow slots code in
     let address = point_address code 0 in
-    let list : listed lines statement ≡ scalars 0 (slots_before f slots statement) =
-    ap (λ (ms : List MarkAt). listed_by lines ms statement) (marks-are f slots address)
-    ∙ listed-mark lines f.body slots address (lowered f).ops statement p (points_all f) within at
-    ∙ parts-are f slots address statement form.accepted in
-    ap (λ (fs : List Function). map (variable_part (locals_at fs statement)) (listed lines statement)) form.one_function
+    let list : listed m statement ≡ scalars 0 (slots_before f slots statement) =
+    ap (λ (ms : List MarkAt). listed_by m ms statement) (marks-are f flow slots address)
+    ∙ listed-mark m f slots address flow.ops statement p (all_points flow) within at
+    ∙ parts-are f flow slots address statement form.accepted is.lowered is.laid.has_slots in
+    ap (λ (fs : List Function). map (variable_part (locals_at fs statement)) (listed m statement)) form.one_function
     ∙ ap (map (variable_part f.locals)) list
     ∙ scalars-kept f.locals 0 (slots_before f slots statement) form.accepted.locals (omega (arith, slots-few f slots statement form.accepted))
 
 -- ---- visits
 
-marks-shown : (program : Program) (form : IsSlotProgram program) (slots : List ℕ) (code : Code) (input : List ℕ) (k : ℕ) (g : graph.State) (s : machine.State) (statement : ℕ)
-    → IsSlotCode (lowered form.function) slots (selected (lowered form.function) slots) code → GraphAt code.program input k g → Shows code input g s → op_at code.program g ≡ Some (op.Mark statement)
-    → visits_of (lines_of form.function slots code) s ≡ visits_at (variables_shown program (listed (lines_of form.function slots code))) g (Some (op.Mark statement))
-marks-shown program form slots code input k g s statement h reached shows at =
+marks-shown : (program : Program) (form : IsSlotProgram program) (flow : Flow) (slots : List ℕ) (code : Code) (input : List ℕ) (k : ℕ) (g : graph.State) (s : machine.State) (statement : ℕ)
+    → IsCodeOf form.function flow slots code → GraphAt code.program input k g → Shows code input g s → op_at code.program g ≡ Some (op.Mark statement)
+    → visits_of (map_in form.function flow slots code) s ≡ visits_at (variables_shown program (listed (map_in form.function flow slots code))) g (Some (op.Mark statement))
+marks-shown program form flow slots code input k g s statement is reached shows at =
+    let h = is.laid in
     let f = form.function in
-    let flow = lowered f in
-    let lines = lines_of f slots code in
+    let m = map_in f flow slots code in
     let address = point_address code 0 in
-    let (main, here) = at-point f slots code input g s (op.Mark statement) h shows at in
-    let seen : visits_of lines s ≡ visit_at lines s (mark_at f.body slots address g.point statement) ∷ [] =
-    ap (visits_by lines s) (marks-are f slots address)
-    ∙ visits-here lines s f.body slots address flow.ops g.point statement (points_all f) here.within here.has here.eip (λ p i e. apart flow slots code p 0 g.point 0 h i here.within e) in
-    let values = mark-values f slots code input k g s statement g.point h reached shows (function-declares f statement form.accepted) in
-    let list = listed-shown program form slots code g.point statement here.within here.has in
+    let (main, here) = at-point flow slots code input g s (op.Mark statement) h shows at in
+    let within = in-placed flow g.point g.block here.stands in
+    let seen : visits_of m s ≡ visit_at m s (mark_at f slots address g.point statement) ∷ [] =
+    ap (visits_by m s) (marks-are f flow slots address)
+    ∙ visits-here m s f slots address flow.ops g.point statement (all_points flow) within here.has here.eip
+    (λ p i e. same-point flow slots code p g.point g.block h i here.stands e) in
+    let values = mark-values f flow slots code input k g s statement g.point form.accepted is reached shows in
+    let list = listed-shown program form flow slots code g.point statement is within here.has in
     seen ∙ ap (λ (vs : List Value). let one : Visit = record { statement = statement; values = vs } in one ∷ []) (values ∙ ap (map (part_value g)) (sym list))
 
-turns-shown : (f : Function) (slots : List ℕ) (code : Code) (input : List ℕ) (g : graph.State) (s : machine.State) → IsSlotCode (lowered f) slots (selected (lowered f) slots) code → Shows code input g s
-    → op_at code.program g ≡ Some op.Turn → visits_of (lines_of f slots code) s ≡ []
-turns-shown f slots code input g s h shows at =
-    let flow = lowered f in
-    let lines = lines_of f slots code in
+turns-shown : (f : Function) (flow : Flow) (slots : List ℕ) (code : Code) (input : List ℕ) (g : graph.State) (s : machine.State) → IsCodeOf f flow slots code → Shows code input g s
+    → op_at code.program g ≡ Some op.Turn → visits_of (map_in f flow slots code) s ≡ []
+turns-shown f flow slots code input g s is shows at =
+    let h = is.laid in
+    let m = map_in f flow slots code in
     let address = point_address code 0 in
-    let here = (at-point f slots code input g s op.Turn h shows at).1 in
-    let away : (p n : ℕ) → IsIn p (points_all f) → slice_get flow.ops p ≡ Some (op.Mark n) → address p ≡ s.eip → ⊥ =
+    let here = (at-point flow slots code input g s op.Turn h shows at).1 in
+    let away : (p n : ℕ) → IsIn p (all_points flow) → slice_get flow.ops p ≡ Some (op.Mark n) → address p ≡ s.eip → ⊥ =
     λ p n i has e.
-    let same : p ≡ g.point = apart flow slots code p 0 g.point 0 h i here.within (e ∙ here.eip) in
+    let same : p ≡ g.point = same-point flow slots code p g.point g.block h i here.stands (e ∙ here.eip) in
     let both : Some (op.Mark n) ≡ Some op.Turn = sym has ∙ ap (slice_get flow.ops) same ∙ here.has in
     cc
     in
-    ap (visits_by lines s) (marks-are f slots address) ∙ visits-none lines s f.body slots address flow.ops (points_all f) away
+    ap (visits_by m s) (marks-are f flow slots address) ∙ visits-none m s f slots address flow.ops (all_points flow) away
 
-elsewhere-shown : (f : Function) (slots : List ℕ) (code : Code) (s : machine.State) → IsSlotCode (lowered f) slots (selected (lowered f) slots) code → IsClear code.text s.eip → visits_of (lines_of f slots code) s ≡ []
-elsewhere-shown f slots code s h clear =
-    let flow = lowered f in
-    let lines = lines_of f slots code in
+elsewhere-shown : (f : Function) (flow : Flow) (slots : List ℕ) (code : Code) (s : machine.State) → IsCodeOf f flow slots code → IsClear code.text s.eip → visits_of (map_in f flow slots code) s ≡ []
+elsewhere-shown f flow slots code s is clear =
+    let h = is.laid in
+    let m = map_in f flow slots code in
     let address = point_address code 0 in
-    ap (visits_by lines s) (marks-are f slots address)
-    ∙ visits-none lines s f.body slots address flow.ops (points_all f) (λ p n i has e. clear (subst (λ (a : ℕ). IsAt code.text a (144 ∷ [])) e (mark-at flow slots code p 0 n h i has)))
+    ap (visits_by m s) (marks-are f flow slots address)
+    ∙ visits-none m s f slots address flow.ops (all_points flow)
+    (λ p n i has e.
+    let (b, there) = placed-in flow p i in
+    clear (subst (λ (a : ℕ). IsAt code.text a (144 ∷ [])) e (mark-at flow slots code p b n h there has)))
 
 -- the map shows what the graph shows
 pub shows-visits : MapShowsVisits
-shows-visits program form slots code h = record {
-  marks = λ input k g s statement bytes reached shows at known. marks-shown program form slots code input k g s statement h reached shows at;
-  turns = λ input g s shows at. turns-shown form.function slots code input g s h shows at;
-  elsewhere = λ s clear. elsewhere-shown form.function slots code s h clear;
+shows-visits program form flow slots code is = record {
+  marks = λ input k g s statement bytes reached shows at known. marks-shown program form flow slots code input k g s statement is reached shows at;
+  turns = λ input g s shows at. turns-shown form.function flow slots code input g s is shows at;
+  elsewhere = λ s clear. elsewhere-shown form.function flow slots code s is clear;
 }

@@ -3,10 +3,9 @@ use Rattle.std.proofs.Common.{◌≡◌, ℕ, zero, suc, ◌+◌, ◌<◌, Bool,
 use Rattle.std.specs.Prelude.{◌⊎◌, filter_map, slice_get, if◌then◌else◌}
 use Rattle.std.proofs.lemmas.Bool.Decides.{eqb_tells}
 use Rattle.std.proofs.lemmas.Option.{none-some}
-use Rattle.pcc_base.specs.declared.run.Width.{Width}
 use Rattle.pcc_base.specs.declared.run.Width.TheVariants.{Two}
 use Rattle.pcc_base.specs.Outcome.{Value, Visit}
-use Rattle.c_tree.specs.Program.{Statements}
+use Rattle.c_tree.specs.Program.{Function}
 use Rattle.ia32_insn.specs.State.{State}
 use Rattle.flow_graph.specs.declared.op.Op.{Op}
 use Rattle.flow_graph.specs.declared.op.Op.TheVariants as op
@@ -14,11 +13,10 @@ use Rattle.flow_graph.specs.Graphs.{IsIn}
 use Rattle.flow_graph.specs.Running.{part_value}
 use Rattle.flow_graph.specs.States as graph
 use Rattle.flow_graph.specs.States.{GraphProgram, op_at, op_of}
-use Rattle.pcc_listing.specs.Lines.{Line}
 use Rattle.ia32_places.specs.Places.{InSlot}
-use Rattle.pcc_listing.specs.Lines.{Named}
-use Rattle.pcc_listing.specs.Marks.{Frame, MarkAt, number_in, signed_value, value_of, values_of, visits_by}
-use Rattle.slot_map.specs.SlotLines.{standings_from}
+use Rattle.pcc_listing.specs.Maps.{Map, MapVariable}
+use Rattle.pcc_listing.specs.Marks.{Frame, MarkAt, number_in, signed_value, value_of, visit_at, visits_by}
+use Rattle.slot_map.specs.SlotMap.{standings_from}
 use Rattle.slot_map.proofs.Reading.{IsLocalAt, mark_at, op_marks, points_marks}
 use Rattle.slot_map.proofs.Parts.{mark-number, scalars}
 use Rattle.slot_map.proofs.Words.{shown_number}
@@ -30,17 +28,17 @@ abbrev pub ShowsSlot : State → graph.State → ℕ → ℕ → Type 0
 ShowsSlot s g v slot = signed_value Two (number_in Two (InSlot slot) s) ≡ shown_number (slice_get g.current.variables v)
 
 -- the locals in slots show what the variables hold
-pub slots-show : (variables : List (Width × Named)) (lines : List Line) (frames : List Frame) (s : State) (g : graph.State) (k : ℕ) (slots : List ℕ)
+pub slots-show : (variables : List MapVariable) (m : Map) (frames : List Frame) (s : State) (g : graph.State) (k : ℕ) (slots : List ℕ)
     → ((j slot : ℕ) → slice_get slots j ≡ Some slot → IsLocalAt variables (k + j) × ShowsSlot s g (k + j) slot)
-    → filter_map (λ standing. value_of lines frames s standing.place (slice_get variables standing.variable)) (standings_from k slots) ≡ map (part_value g) (scalars k slots)
-slots-show variables lines frames s g k [] each = refl
-slots-show variables lines frames s g k (slot ∷ slots) each =
+    → filter_map (λ standing. value_of m frames s standing.place (slice_get variables standing.variable)) (standings_from k slots) ≡ map (part_value g) (scalars k slots)
+slots-show variables m frames s g k [] each = refl
+slots-show variables m frames s g k (slot ∷ slots) each =
     let from : k + 0 ≡ k = omega arith in
     let here = subst (λ (v : ℕ). IsLocalAt variables v × ShowsSlot s g v slot) from (each 0 slot refl) in
-    let later = slots-show variables lines frames s g (suc k) slots
+    let later = slots-show variables m frames s g (suc k) slots
     (λ j other at. let next : k + suc j ≡ suc k + j = omega arith in subst (λ (v : ℕ). IsLocalAt variables v × ShowsSlot s g v other) next (each (suc j) other at)) in
-    let one : value_of lines frames s (InSlot slot) (slice_get variables k) ≡ Some (shown_number (slice_get g.current.variables k)) =
-    ap (value_of lines frames s (InSlot slot)) here.0.at ∙ ap Some here.1 in
+    let one : value_of m frames s (InSlot slot) (slice_get variables k) ≡ Some (shown_number (slice_get g.current.variables k)) =
+    ap (value_of m frames s (InSlot slot)) here.0.at ∙ ap Some here.1 in
     rw one (ap (λ (vs : List Value). shown_number (slice_get g.current.variables k) ∷ vs) later)
 
 -- a slot before a statement is that of its variable
@@ -52,51 +50,47 @@ slot-before (x ∷ slots) (suc n) (suc j) slot e = let later = slot-before slots
 
 -- ---- visits
 
--- the visit of a mark
-abbrev pub visit_at : List Line → State → MarkAt → Visit
-visit_at lines s mark = record { statement = mark.statement; values = values_of lines mark s }
-
-here-op : (lines : List Line) (s : State) (body : Statements) (slots : List ℕ) (address : ℕ → ℕ) (ops : List Op) (here statement p : ℕ) (o : Option Op) (rest : List MarkAt)
+here-op : (m : Map) (s : State) (f : Function) (slots : List ℕ) (address : ℕ → ℕ) (ops : List Op) (here statement p : ℕ) (o : Option Op) (rest : List MarkAt)
     → slice_get ops here ≡ Some (op.Mark statement) → s.eip ≡ address here → slice_get ops p ≡ o → (address p ≡ address here → p ≡ here)
-    → (p ≡ here) ⊎ (visits_by lines s rest ≡ visit_at lines s (mark_at body slots address here statement) ∷ [])
-    → visits_by lines s (op_marks body slots address p o ++ rest) ≡ visit_at lines s (mark_at body slots address here statement) ∷ []
-here-op lines s body slots address ops here statement p (Some (op.Mark n)) rest at eip is apart or =
-    let V : ℕ → ℕ → List Visit = λ q m. visit_at lines s (mark_at body slots address q m) ∷ [] in
+    → (p ≡ here) ⊎ (visits_by m s rest ≡ visit_at m s (mark_at f slots address here statement) ∷ [])
+    → visits_by m s (op_marks f slots address p o ++ rest) ≡ visit_at m s (mark_at f slots address here statement) ∷ []
+here-op m s f slots address ops here statement p (Some (op.Mark n)) rest at eip is apart or =
+    let V : ℕ → ℕ → List Visit = λ q x. visit_at m s (mark_at f slots address q x) ∷ [] in
     elim (eqb_tells (address p) s.eip) [
       | inl same ↦
           let q : p ≡ here = apart (same.1 ∙ eip) in
-          let m : n ≡ statement = mark-number n statement (sym is ∙ ap (slice_get ops) q ∙ at) in
-          ap (λ (b : Bool). if b then V p n else visits_by lines s rest) same.0 ∙ ap (λ (x : ℕ). V x n) q ∙ ap (V here) m
+          let number : n ≡ statement = mark-number n statement (sym is ∙ ap (slice_get ops) q ∙ at) in
+          ap (λ (b : Bool). if b then V p n else visits_by m s rest) same.0 ∙ ap (λ (x : ℕ). V x n) q ∙ ap (V here) number
       | inr other ↦
-          ap (λ (b : Bool). if b then V p n else visits_by lines s rest) other.0
+          ap (λ (b : Bool). if b then V p n else visits_by m s rest) other.0
           ∙ (elim or [ inl q ↦ absurd (other.1 (ap address q ∙ sym eip)) | inr later ↦ later ])
     ]
-here-op lines s body slots address ops here statement p _ rest at eip is apart (inl q) = absurd (let both = sym is ∙ ap (slice_get ops) q ∙ at in cc)
-here-op lines s body slots address ops here statement p _ rest at eip is apart (inr later) = later
+here-op m s f slots address ops here statement p _ rest at eip is apart (inl q) = absurd (let both = sym is ∙ ap (slice_get ops) q ∙ at in cc)
+here-op m s f slots address ops here statement p _ rest at eip is apart (inr later) = later
 
 -- at the address of a mark its visit is seen, where no other point is there
-pub visits-here : (lines : List Line) (s : State) (body : Statements) (slots : List ℕ) (address : ℕ → ℕ) (ops : List Op) (here statement : ℕ) (points : List ℕ) → IsIn here points
+pub visits-here : (m : Map) (s : State) (f : Function) (slots : List ℕ) (address : ℕ → ℕ) (ops : List Op) (here statement : ℕ) (points : List ℕ) → IsIn here points
     → slice_get ops here ≡ Some (op.Mark statement) → s.eip ≡ address here → ((p : ℕ) → IsIn p points → address p ≡ address here → p ≡ here)
-    → visits_by lines s (points_marks body slots address ops points) ≡ visit_at lines s (mark_at body slots address here statement) ∷ []
-visits-here lines s body slots address ops here statement [] within at eip apart = absurd within
-visits-here lines s body slots address ops here statement (p ∷ points) (inl same) at eip apart =
-    here-op lines s body slots address ops here statement p (slice_get ops p) (points_marks body slots address ops points) at eip refl (apart p (inl refl)) (inl same)
-visits-here lines s body slots address ops here statement (p ∷ points) (inr within) at eip apart =
-    here-op lines s body slots address ops here statement p (slice_get ops p) (points_marks body slots address ops points) at eip refl (apart p (inl refl))
-    (inr (visits-here lines s body slots address ops here statement points within at eip (λ q i. apart q (inr i))))
+    → visits_by m s (points_marks f slots address ops points) ≡ visit_at m s (mark_at f slots address here statement) ∷ []
+visits-here m s f slots address ops here statement [] within at eip apart = absurd within
+visits-here m s f slots address ops here statement (p ∷ points) (inl same) at eip apart =
+    here-op m s f slots address ops here statement p (slice_get ops p) (points_marks f slots address ops points) at eip refl (apart p (inl refl)) (inl same)
+visits-here m s f slots address ops here statement (p ∷ points) (inr within) at eip apart =
+    here-op m s f slots address ops here statement p (slice_get ops p) (points_marks f slots address ops points) at eip refl (apart p (inl refl))
+    (inr (visits-here m s f slots address ops here statement points within at eip (λ q i. apart q (inr i))))
 
-none-op : (lines : List Line) (s : State) (body : Statements) (slots : List ℕ) (address : ℕ → ℕ) (p : ℕ) (o : Option Op) (rest : List MarkAt) → ((n : ℕ) → o ≡ Some (op.Mark n) → address p ≡ s.eip → ⊥)
-    → visits_by lines s rest ≡ [] → visits_by lines s (op_marks body slots address p o ++ rest) ≡ []
-none-op lines s body slots address p (Some (op.Mark n)) rest away later =
+none-op : (m : Map) (s : State) (f : Function) (slots : List ℕ) (address : ℕ → ℕ) (p : ℕ) (o : Option Op) (rest : List MarkAt) → ((n : ℕ) → o ≡ Some (op.Mark n) → address p ≡ s.eip → ⊥)
+    → visits_by m s rest ≡ [] → visits_by m s (op_marks f slots address p o ++ rest) ≡ []
+none-op m s f slots address p (Some (op.Mark n)) rest away later =
     elim (eqb_tells (address p) s.eip) [
       | inl same ↦ absurd (away n refl same.1)
-      | inr other ↦ ap (λ (b : Bool). if b then visit_at lines s (mark_at body slots address p n) ∷ [] else visits_by lines s rest) other.0 ∙ later
+      | inr other ↦ ap (λ (b : Bool). if b then visit_at m s (mark_at f slots address p n) ∷ [] else visits_by m s rest) other.0 ∙ later
     ]
-none-op lines s body slots address p _ rest away later = later
+none-op m s f slots address p _ rest away later = later
 
 -- where no mark is, nothing is seen
-pub visits-none : (lines : List Line) (s : State) (body : Statements) (slots : List ℕ) (address : ℕ → ℕ) (ops : List Op) (points : List ℕ)
-    → ((p n : ℕ) → IsIn p points → slice_get ops p ≡ Some (op.Mark n) → address p ≡ s.eip → ⊥) → visits_by lines s (points_marks body slots address ops points) ≡ []
-visits-none lines s body slots address ops [] away = refl
-visits-none lines s body slots address ops (p ∷ points) away =
-    none-op lines s body slots address p (slice_get ops p) (points_marks body slots address ops points) (λ n. away p n (inl refl)) (visits-none lines s body slots address ops points (λ q n i. away q n (inr i)))
+pub visits-none : (m : Map) (s : State) (f : Function) (slots : List ℕ) (address : ℕ → ℕ) (ops : List Op) (points : List ℕ)
+    → ((p n : ℕ) → IsIn p points → slice_get ops p ≡ Some (op.Mark n) → address p ≡ s.eip → ⊥) → visits_by m s (points_marks f slots address ops points) ≡ []
+visits-none m s f slots address ops [] away = refl
+visits-none m s f slots address ops (p ∷ points) away =
+    none-op m s f slots address p (slice_get ops p) (points_marks f slots address ops points) (λ n. away p n (inl refl)) (visits-none m s f slots address ops points (λ q n i. away q n (inr i)))

@@ -1,2 +1,3 @@
+pub mod Belongs
 pub mod MapLaws
-pub mod SlotLines
+pub mod SlotMap

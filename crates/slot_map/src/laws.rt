@@ -1,9 +1,9 @@
-//! Laws of the lines of a function over slots: each function's contract is one, and the function does nothing.
+//! Laws of the map of a function over slots: each function's contract is one, and the function does nothing.
 
-ghost use Rattle.slot_map.specs.MapLaws.{LinesBySameAddresses, MapBelongs, MapKeepsRules, MapListsLocals, MapShowsKnown, MapShowsVisits};
+ghost use Rattle.slot_map.specs.MapLaws.{MapBelongs, MapBySameAddresses, MapKeepsRules, MapListsLocals, MapShowsKnown, MapShowsVisits};
 
-/// The map is that of the function: it names the function and its locals, and lists at each statement exactly the
-/// locals that are declared before it.
+/// The map is that of the program: it names its function and its locals, marks each statement once, at its address, and
+/// lists there exactly the locals that are declared before it.
 pub fn map_belongs()
     ensures { MapBelongs }
 {}
@@ -24,12 +24,12 @@ pub fn map_shows_known()
     ensures { MapShowsKnown }
 {}
 
-/// Where the function and its locals have names, the lines keep the rules of a map.
+/// Where the function and its locals have names, the rules of a map are kept.
 pub fn map_keeps_rules()
     ensures { MapKeepsRules }
 {}
 
-/// The lines are the same where the points have the same addresses.
-pub fn lines_by_same_addresses()
-    ensures { LinesBySameAddresses }
+/// The map is the same where the points have the same addresses.
+pub fn map_by_same_addresses()
+    ensures { MapBySameAddresses }
 {}

@@ -1,11 +1,14 @@
 //! The lines of a function over slots.
 
 ghost use Rattle.std.specs.Prelude.{
+  ℕ,
   ◌≡◌,
+  ◌<◌,
   ◌≤◌,
   ◌++◌,
   IfOk,
   OnOk,
+  flat_map,
   length,
   map,
   option_map,
@@ -15,23 +18,26 @@ ghost use Rattle.std.specs.Prelude.{
 };
 ghost use Rattle.std.specs.List.{range_with_len};
 ghost use Rattle.pcc_base.specs.declared.run.Width.TheVariants.{Two};
-ghost use Rattle.c_tree.specs.Erased.{function_of, local_of, statement_of, statements_of};
+ghost use Rattle.c_tree.specs.Erased.{function_of, local_of, statement_of};
 ghost use Rattle.c_tree.specs.SlotForm.{IsSlotFunction};
-ghost use Rattle.c_lower.specs.Code.{lowered};
+ghost use Rattle.flow_graph.specs.Graphs.{IsPlaced};
+ghost use Rattle.c_lower.specs.Lowering.{IsLowered, MarksStatements};
+ghost use Rattle.c_lower.specs.Shown.{declared_before};
 ghost use Rattle.ia32_rows.specs.Rows.{HasSlots};
 ghost use Rattle.ia32_select.specs.Offsets.{AreBelow, slots_of};
+ghost use Rattle.pcc_listing.specs.Lines.{lines_of, numbered, point_lines, variable_lines};
 ghost use Rattle.pcc_listing.specs.Views.{line_of, standing_of};
-ghost use Rattle.slot_map.specs.SlotLines as slot_specs;
-ghost use Rattle.slot_map.specs.SlotLines.{
-  declared_before,
-  block_lines,
-  marked_lines,
-  slot_lines,
+ghost use Rattle.slot_map.specs.SlotMap as slot_specs;
+ghost use Rattle.slot_map.specs.SlotMap.{
+  all_points,
+  marked_point,
+  points_over,
+  slot_map,
   standings_from,
-  variable_lines,
+  variables_over,
 };
 
-use c_tree::{Function, Local, Statement};
+use c_tree::{Function, Item, Local, Statement};
 use flow_graph::{Graph, Op};
 use pcc_base::{Name, NoMemory, Width};
 use pcc_listing::{Line, Standing};
@@ -72,7 +78,7 @@ fn push_mark(
     requires below { AreBelow offsets.now }
     ensures { OnOk result (
         map line_of lines.new.items
-        ≡ map line_of lines.old.items ++ marked_lines mark.point mark.address mark.statement (slots_of offsets.now)) }
+        ≡ map line_of lines.old.items ++ point_lines (marked_point mark.point mark.address mark.statement (slots_of offsets.now))) }
 {
     let standings = standings(alloc, offsets)?;
     lines.push(Line::Mark {
@@ -89,7 +95,7 @@ fn declared_by(statement: &Statement) -> u32
     ensures { result ≡ slot_specs.declared_by (statement_of statement.now) }
 {
     match statement {
-        Statement::Declare(_) => 1,
+        Statement::Declare(Item::Scalar(_, _, _)) => 1,
         _ => 0,
     }
 }
@@ -100,7 +106,7 @@ fn declared_counts(alloc: Global, function: &Function) -> Result<Vec<u32>, NoMem
     requires few { length function.now.locals.items ≤ 16384 }
     ensures { IfOk result (λ counts.
         counts.items
-        ≡ map (declared_before (statements_of function.now.body.items)) (range_with_len 0 (length function.now.body.items))) }
+        ≡ map (declared_before (function_of function.now)) (range_with_len 0 (length function.now.body.items))) }
 {
     let mut counts = Vec::new(alloc);
     let mut declared = 0;
@@ -137,7 +143,8 @@ fn push_variables(
 ) -> Result<(), NoMemory>
     ensures { OnOk result (
         map line_of lines.new.items
-        ≡ map line_of lines.old.items ++ variable_lines 0 (map local_of locals.now) (replicate variables Two)) }
+        ≡ map line_of lines.old.items
+        ++ numbered variable_lines 0 (variables_over (map local_of locals.now) (replicate variables Two))) }
 {
     for number in 0..variables {
         let name = name_of(alloc, locals, number)?;
@@ -150,6 +157,17 @@ fn push_variables(
     Ok(())
 }
 
+/// The points of all blocks, in order.
+fn placed_points(alloc: Global, graph: &Graph) -> Result<Vec<u32>, NoMemory>
+    ensures { IfOk result (λ points. points.items ≡ all_points graph.now) }
+{
+    let mut points = Vec::new(alloc);
+    for block in 0..graph.blocks() {
+        points.extend_from_slice(graph.points_in(alloc, block)?.as_slice())?;
+    }
+    Ok(points)
+}
+
 /// Puts the lines of the marked points at the end.
 fn push_points(
     alloc: Global,
@@ -157,23 +175,25 @@ fn push_points(
     function: &Function,
     graph: &Graph,
     offsets: &[i32],
-    points: &[u32],
+    addresses: &[u32],
 ) -> Result<(), NoMemory>
     requires form { IsSlotFunction (function_of function.now) }
-    requires lowered { graph.now ≡ lowered (function_of function.now) }
+    requires lowered { IsLowered (function_of function.now) graph.now }
+    requires marks { MarksStatements 0 (function_of function.now) graph.now }
     requires slots { HasSlots graph.now (slots_of offsets.now) }
-    requires addresses { length graph.now.ops ≤ length points.now }
+    requires addresses { (point : ℕ) → IsPlaced graph.now point → point < length addresses.now }
     ensures { OnOk result (
         map line_of lines.new.items
         ≡ map line_of lines.old.items
-        ++ block_lines (statements_of function.now.body.items) (slots_of offsets.now) (λ point. slice_index points.now point) graph.now.ops (range_with_len 0 (length graph.now.ops))) }
+        ++ flat_map point_lines (points_over (function_of function.now) (slots_of offsets.now) (λ point. slice_index addresses.now point) graph.now.ops (all_points graph.now))) }
 {
     let counts = declared_counts(alloc, function)?;
-    for point in 0..graph.points() {
-        if let Op::Mark(statement) = graph.op(point) {
+    let placed = placed_points(alloc, graph)?;
+    for point in &placed {
+        if let Op::Mark(statement) = graph.op(*point) {
             let mark = MarkedPoint {
-                point,
-                address: points[point as usize],
+                point: *point,
+                address: addresses[*point as usize],
                 statement: *statement,
             };
             let declared = counts[*statement as usize] as usize;
@@ -190,15 +210,16 @@ pub fn map_lines(
     function: &Function,
     graph: &Graph,
     offsets: &[i32],
-    points: &[u32],
+    addresses: &[u32],
 ) -> Result<Vec<Line>, NoMemory>
     requires form { IsSlotFunction (function_of function.now) }
-    requires lowered { graph.now ≡ lowered (function_of function.now) }
+    requires lowered { IsLowered (function_of function.now) graph.now }
+    requires marks { MarksStatements 0 (function_of function.now) graph.now }
     requires slots { HasSlots graph.now (slots_of offsets.now) }
-    requires addresses { length graph.now.ops ≤ length points.now }
+    requires addresses { (point : ℕ) → IsPlaced graph.now point → point < length addresses.now }
     ensures { IfOk result (λ lines.
         map line_of lines.items
-        ≡ slot_lines (function_of function.now) graph.now (slots_of offsets.now) (λ point. slice_index points.now point)) }
+        ≡ lines_of (slot_map (function_of function.now) graph.now (slots_of offsets.now) (λ point. slice_index addresses.now point))) }
 {
     let variables = graph.vars();
     let mut lines = Vec::new(alloc);
@@ -208,6 +229,6 @@ pub fn map_lines(
         frame: 16 + 4 * variables,
     })?;
     push_variables(alloc, &mut lines, &function.locals, variables)?;
-    push_points(alloc, &mut lines, function, graph, offsets, points)?;
+    push_points(alloc, &mut lines, function, graph, offsets, addresses)?;
     Ok(lines)
 }

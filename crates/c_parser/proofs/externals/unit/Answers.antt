@@ -1,6 +1,6 @@
 use Rattle.std.proofs.Common.{sym, ◌∙◌}
 use Rattle.std.proofs.lemmas.Result.{err_from_is_err_and}
-use Rattle.c_statements.specs.Parts.{below_node}
+use Rattle.c_parse_statements.specs.Parts.{below_node}
 use Rattle.c_parser.proofs.Rows.{unit_more, unit_refused, unit_last}
 use Rattle.c_parser.proofs.externals.unit.Goals as goal
 

@@ -2,8 +2,8 @@
 use Rattle.std.proofs.Common.{length, map}
 use Rattle.c_grammar.specs.Statements.{external_of}
 use Rattle.c_grammar.proofs.Chains.{Continues}
-use Rattle.c_grammar.proofs.StatementReading.{unit_step, read_unit}
-use Rattle.c_statements.specs.Parts.{below_node}
+use Rattle.c_grammar.specs.StatementReading.{unit_step, read_unit}
+use Rattle.c_parse_statements.specs.Parts.{below_node}
 use Rattle.c_parser.proofs.externals.unit.Given as goal
 
 abbrev pub invariant-externals : goal.invariant-externals

@@ -11,10 +11,16 @@ text_of-requires-clause-each c =
 pub points_of-requires-clause-within : goal.points_of-requires-clause-within
 points_of-requires-clause-within c = λ k s e. (c.requires.each k s e).points
 
+pub addresses_of-requires-clause-named : goal.addresses_of-requires-clause-named
+addresses_of-requires-clause-named c = λ i s e. (c.requires.each i s e).named
+
+pub points_of-requires-clause-named : goal.points_of-requires-clause-named
+points_of-requires-clause-named c = λ i s e. (c.requires.each i s e).named
+
 pub returns-clause-program : goal.returns-clause-program
 returns-clause-program c = λ functions are.
     linked_is c.args.sections.now.items (map object_of c.args.objects.now.items) c.args.main c.in_ok-addresses.addresses _ c.requires c.in_ok-addresses.ensures
-    c.in_ok-text.ensures c.in_ok-data_bytes.ensures refl c.in_ok-points.ensures refl functions are
+    c.in_ok-text.ensures c.in_ok-data_bytes.ensures refl c.in_ok-points.ensures.many c.in_ok-points.ensures.points refl functions are
 
 pub returns-clause-size : goal.returns-clause-size
 returns-clause-size c =

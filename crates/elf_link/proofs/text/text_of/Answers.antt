@@ -25,7 +25,7 @@ put_routine-requires-5-clause-can c = subst CanAssemble (sym c.in_ok-check.ensur
 pub put_routine-requires-clause-named : goal.put_routine-requires-clause-named
 put_routine-requires-clause-named c =
     start_named c.args.addresses.now c.args.sections.now.items c.args.addresses.now.stack c.args.addresses.now.depth c.args.main c.in_ok-start.start.items
-    c.in_ok-start.ensures c.requires.laid c.requires.main_there (omega arith)
+    c.in_ok-start.ensures c.requires.order c.requires.laid c.requires.main_there (omega arith)
 
 pub returns : goal.returns
 returns c =

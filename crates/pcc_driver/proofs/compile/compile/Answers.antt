@@ -18,3 +18,6 @@ returns-in-Ok-format-clause-told g c = λ f.
     (g.F.FileStore.content c.args.files.now) (g.F.FileStore.content c.read.new.self) (g.F.FileStore.content c.write_products.new.files)
     (c.in-Ok.ensures.kept f) (c.in-Ok.ensures.told f ∙ ap Some (sym c.as_slice.ensures.value)) small c.in-Ok-products_of.ensures.made
     (subst (λ (n : List ℕ). WritesTold n c.args.name.now c.in-Ok-products_of.products.map.items c.in-Ok-products_of.products.image.items (g.F.FileStore.content c.read.new.self) (g.F.FileStore.content c.write_products.new.files) c.write_products.result) named (c.write_products.ensures.told (c.in-Ok.ensures.telling f)))
+
+pub returns-in-Ok-format-clause-telling : goal.returns-in-Ok-format-clause-telling
+returns-in-Ok-format-clause-telling g c = λ f. c.write_products.ensures.telling (c.in-Ok.ensures.telling f)

@@ -1,7 +1,7 @@
 use Rattle.std.proofs.Common.{◌≤◌, length, Some, ap, sym, ◌∙◌, arith}
 use Rattle.ia32_machine.specs.First.{lent}
 use Rattle.pcc_driver.specs.Headline.{file_limit}
-use Rattle.pcc_driver.proofs.Running.{no_machine_told, lent_first, machine_told}
+use Rattle.pcc_driver.proofs.Running.{lent_first, machine_file, machine_told, no_machine_file, no_machine_told}
 use Rattle.pcc_driver.proofs.run.run.Goals as goal
 
 pub returns-clause-told : goal.returns-clause-told
@@ -22,3 +22,13 @@ returns-in-Ok-machine_of-clause-told g c = λ f i o.
     (c.in-Ok.ensures.told f ∙ ap Some (sym c.as_slice.ensures.value)) small
     (lent_first c.as_slice.result.now loaded.0 c.in-Ok-machine_of.machine (g.I.Source.left c.args.input.now) loaded.1 loaded.2)
     (c.run.ensures.told i o))
+
+pub returns-clause-file : goal.returns-clause-file
+returns-clause-file g c = λ f.
+    let small : length c.as_slice.result.now ≤ file_limit = omega (arith, c.in-Ok.ensures.size, c.as_slice.ensures.len) in
+    no_machine_file c.in-Err-machine_of.report (g.F.FileStore.content c.args.files.now c.args.image.now) c.as_slice.result.now
+    (c.in-Ok.ensures.told f ∙ ap Some (sym c.as_slice.ensures.value)) small c.in-Err-machine_of.ensures
+
+pub returns-in-Ok-machine_of-clause-file : goal.returns-in-Ok-machine_of-clause-file
+returns-in-Ok-machine_of-clause-file g c = λ f.
+    rw c.end_report.ensures (machine_file c.run.result (g.F.FileStore.content c.args.files.now c.args.image.now))

@@ -1,7 +1,7 @@
 use Rattle.std.proofs.Common.{◌≡◌, map, take}
 use Rattle.pcc_listing.specs.Views.{standing_of}
 use Rattle.ia32_select.specs.Offsets.{slots_of}
-use Rattle.slot_map.specs.SlotLines.{standings_from}
+use Rattle.slot_map.specs.SlotMap.{standings_from}
 use Rattle.slot_map.proofs.lines.standings.Given as goal
 
 -- the variables so far stand in their slots

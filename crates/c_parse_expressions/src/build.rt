@@ -1,0 +1,275 @@
+//! Nodes of expressions: each puts parts that were read into one tree, and adds one to the greatest of
+//! their heights.
+
+ghost use Rattle.std.specs.Prelude.{◌≡◌, ◌≤◌, ◌∷◌, ◌++◌, [], max, map, suc, IfOk, IfErr};
+ghost use Rattle.pcc_base.specs.declared.refusal.Refusal.TheVariants.{NoMemory};
+ghost use Rattle.c_grammar.specs.Expressions as trees;
+ghost use Rattle.c_grammar.specs.Expressions.{expr_of, exprs_of, star_of};
+ghost use Rattle.c_grammar.specs.ExpressionTokens.{expr_height};
+ghost use Rattle.c_parse_expressions.specs.Readings.{values_of, height_of_values};
+
+use crate::found::{Found, Values};
+use crate::rows::push;
+use c_syntax::{AssignOp, BinaryOp, Expression, Identifier, Pointer, Specifier, StepOp, UnaryOp};
+use pcc_base::{Refusal, Span};
+use std::alloc::Global;
+
+/// A tree in a box, with its height; the refusal is want of memory.
+pub(crate) fn found_of(alloc: Global, tree: Expression, height: u32) -> Result<Found, Refusal>
+    ensures tree { IfOk result (λ f. f.tree.value ≡ tree) }
+    ensures height { IfOk result (λ f. f.height ≡ height) }
+    ensures err { IfErr result (λ e. e ≡ NoMemory) }
+{
+    match Box::new(alloc, tree) {
+        Ok(tree) => Ok(Found { tree, height }),
+        Err(_) => Err(Refusal::NoMemory),
+    }
+}
+
+pub(crate) fn parenthesised_node(
+    alloc: Global,
+    opening: Span,
+    inner: Found,
+    close: Span,
+) -> Result<Found, Refusal>
+    requires { inner.height ≤ 256 }
+    ensures tree { IfOk result (λ f. expr_of f.tree.value
+        ≡ trees.Parenthesised opening (expr_of inner.tree.value) close) }
+    ensures height { IfOk result (λ f. f.height ≡ suc inner.height) }
+    ensures err { IfErr result (λ e. e ≡ NoMemory) }
+{
+    let height = inner.height + 1;
+    found_of(
+        alloc,
+        Expression::Parenthesised(opening, inner.tree, close),
+        height,
+    )
+}
+
+pub(crate) fn index_node(
+    alloc: Global,
+    base: Found,
+    opening: Span,
+    index: Found,
+    close: Span,
+) -> Result<Found, Refusal>
+    requires base { base.height ≤ 256 }
+    requires index { index.height ≤ 256 }
+    ensures tree { IfOk result (λ f. expr_of f.tree.value
+        ≡ trees.Index (expr_of base.tree.value) opening (expr_of index.tree.value) close) }
+    ensures height { IfOk result (λ f. f.height ≡ suc (max base.height index.height)) }
+    ensures err { IfErr result (λ e. e ≡ NoMemory) }
+{
+    let height = base.height.max(index.height) + 1;
+    found_of(
+        alloc,
+        Expression::Index(base.tree, opening, index.tree, close),
+        height,
+    )
+}
+
+pub(crate) fn postfix_node(
+    alloc: Global,
+    base: Found,
+    op: StepOp,
+    at: Span,
+) -> Result<Found, Refusal>
+    requires { base.height ≤ 256 }
+    ensures tree { IfOk result (λ f. expr_of f.tree.value ≡ trees.Postfix (expr_of base.tree.value) op at) }
+    ensures height { IfOk result (λ f. f.height ≡ suc base.height) }
+    ensures err { IfErr result (λ e. e ≡ NoMemory) }
+{
+    let height = base.height + 1;
+    found_of(alloc, Expression::Postfix(base.tree, op, at), height)
+}
+
+pub(crate) fn prefix_node(
+    alloc: Global,
+    op: StepOp,
+    at: Span,
+    operand: Found,
+) -> Result<Found, Refusal>
+    requires { operand.height ≤ 256 }
+    ensures tree { IfOk result (λ f. expr_of f.tree.value ≡ trees.Prefix op at (expr_of operand.tree.value)) }
+    ensures height { IfOk result (λ f. f.height ≡ suc operand.height) }
+    ensures err { IfErr result (λ e. e ≡ NoMemory) }
+{
+    let height = operand.height + 1;
+    found_of(alloc, Expression::Prefix(op, at, operand.tree), height)
+}
+
+pub(crate) fn unary_node(
+    alloc: Global,
+    op: UnaryOp,
+    at: Span,
+    operand: Found,
+) -> Result<Found, Refusal>
+    requires { operand.height ≤ 256 }
+    ensures tree { IfOk result (λ f. expr_of f.tree.value ≡ trees.Unary op at (expr_of operand.tree.value)) }
+    ensures height { IfOk result (λ f. f.height ≡ suc operand.height) }
+    ensures err { IfErr result (λ e. e ≡ NoMemory) }
+{
+    let height = operand.height + 1;
+    found_of(alloc, Expression::Unary(op, at, operand.tree), height)
+}
+
+pub(crate) fn cast_node(
+    alloc: Global,
+    opening: Span,
+    specifiers: Vec<Specifier>,
+    pointer: Option<Pointer>,
+    close: Span,
+    operand: Found,
+) -> Result<Found, Refusal>
+    requires { operand.height ≤ 256 }
+    ensures tree { IfOk result (λ f. expr_of f.tree.value
+        ≡ trees.Cast opening specifiers.items (star_of pointer) close (expr_of operand.tree.value)) }
+    ensures height { IfOk result (λ f. f.height ≡ suc operand.height) }
+    ensures err { IfErr result (λ e. e ≡ NoMemory) }
+{
+    let height = operand.height + 1;
+    let operand = operand.tree;
+    let tree = Expression::Cast {
+        opening,
+        specifiers,
+        pointer,
+        close,
+        operand,
+    };
+    found_of(alloc, tree, height)
+}
+
+pub(crate) fn binary_node(
+    alloc: Global,
+    op: BinaryOp,
+    left: Found,
+    at: Span,
+    right: Found,
+) -> Result<Found, Refusal>
+    requires left { left.height ≤ 256 }
+    requires right { right.height ≤ 256 }
+    ensures tree { IfOk result (λ f. expr_of f.tree.value
+        ≡ trees.Binary op (expr_of left.tree.value) at (expr_of right.tree.value)) }
+    ensures height { IfOk result (λ f. f.height ≡ suc (max left.height right.height)) }
+    ensures err { IfErr result (λ e. e ≡ NoMemory) }
+{
+    let height = left.height.max(right.height) + 1;
+    found_of(
+        alloc,
+        Expression::Binary(op, left.tree, at, right.tree),
+        height,
+    )
+}
+
+pub(crate) fn assignment_node(
+    alloc: Global,
+    op: AssignOp,
+    left: Found,
+    at: Span,
+    right: Found,
+) -> Result<Found, Refusal>
+    requires left { left.height ≤ 256 }
+    requires right { right.height ≤ 256 }
+    ensures tree { IfOk result (λ f. expr_of f.tree.value
+        ≡ trees.Assignment op (expr_of left.tree.value) at (expr_of right.tree.value)) }
+    ensures height { IfOk result (λ f. f.height ≡ suc (max left.height right.height)) }
+    ensures err { IfErr result (λ e. e ≡ NoMemory) }
+{
+    let height = left.height.max(right.height) + 1;
+    found_of(
+        alloc,
+        Expression::Assignment(op, left.tree, at, right.tree),
+        height,
+    )
+}
+
+pub(crate) fn conditional_node(
+    alloc: Global,
+    condition: Found,
+    question: Span,
+    first: Found,
+    colon: Span,
+    second: Found,
+) -> Result<Found, Refusal>
+    requires condition { condition.height ≤ 256 }
+    requires first { first.height ≤ 256 }
+    requires second { second.height ≤ 256 }
+    ensures tree { IfOk result (λ f. expr_of f.tree.value
+        ≡ trees.Conditional (expr_of condition.tree.value) question (expr_of first.tree.value) colon
+        (expr_of second.tree.value)) }
+    ensures height { IfOk result (λ f. f.height ≡ suc (max condition.height (max first.height second.height))) }
+    ensures err { IfErr result (λ e. e ≡ NoMemory) }
+{
+    let height = condition.height.max(first.height.max(second.height)) + 1;
+    let tree = Expression::Conditional {
+        condition: condition.tree,
+        question,
+        first: first.tree,
+        colon,
+        second: second.tree,
+    };
+    found_of(alloc, tree, height)
+}
+
+pub(crate) fn call_node(
+    alloc: Global,
+    function: Identifier,
+    opening: Span,
+    arguments: Values,
+    close: Span,
+) -> Result<Found, Refusal>
+    requires { arguments.height ≤ 256 }
+    ensures tree { IfOk result (λ f. expr_of f.tree.value
+        ≡ trees.Call function opening (exprs_of (map expr_of arguments.values.items)) arguments.commas.items close) }
+    ensures height { IfOk result (λ f. f.height ≡ suc arguments.height) }
+    ensures err { IfErr result (λ e. e ≡ NoMemory) }
+{
+    let height = arguments.height + 1;
+    let tree = Expression::Call {
+        function,
+        opening,
+        arguments: arguments.values,
+        commas: arguments.commas,
+        close,
+    };
+    found_of(alloc, tree, height)
+}
+
+/// One value; the refusal is want of memory.
+pub fn one_value(alloc: Global, first: Found) -> Result<Values, Refusal>
+    requires { first.height ≡ expr_height (expr_of first.tree.value) }
+    ensures values { IfOk result (λ v. values_of v ≡ (expr_of first.tree.value ∷ [], [])) }
+    ensures height { IfOk result (λ v. v.height ≡ height_of_values v) }
+    ensures same { IfOk result (λ v. v.height ≡ first.height) }
+    ensures err { IfErr result (λ e. e ≡ NoMemory) }
+{
+    let mut values = Vec::new(alloc);
+    push(&mut values, Box::into_inner(first.tree))?;
+    Ok(Values {
+        values,
+        commas: Vec::new(alloc),
+        height: first.height,
+    })
+}
+
+/// Values with one more behind a comma; the refusal is want of memory.
+pub fn one_more(before: Values, comma: Span, next: Found) -> Result<Values, Refusal>
+    requires before { before.height ≡ height_of_values before }
+    requires next { next.height ≡ expr_height (expr_of next.tree.value) }
+    ensures values { IfOk result (λ v. values_of v
+        ≡ ((values_of before).0 ++ expr_of next.tree.value ∷ [], (values_of before).1 ++ comma ∷ [])) }
+    ensures height { IfOk result (λ v. v.height ≡ height_of_values v) }
+    ensures same { IfOk result (λ v. v.height ≡ max before.height next.height) }
+    ensures err { IfErr result (λ e. e ≡ NoMemory) }
+{
+    let mut values = before.values;
+    let mut commas = before.commas;
+    let height = before.height.max(next.height);
+    push(&mut values, Box::into_inner(next.tree))?;
+    push(&mut commas, comma)?;
+    Ok(Values {
+        values,
+        commas,
+        height,
+    })
+}

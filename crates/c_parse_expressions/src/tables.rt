@@ -1,0 +1,224 @@
+//! Which operator or specifier a token is.
+
+ghost use Rattle.std.specs.Prelude.{◌≡◌, nat_le};
+ghost use Rattle.c_grammar.specs.Expressions.{expr_of};
+ghost use Rattle.c_grammar.specs.ExpressionTokens.{binary_level, looseness};
+ghost use Rattle.c_grammar.specs.Taking.{is_mark, is_word, of_mark, unary_of_mark, step_of_mark, assign_of_mark};
+ghost use Rattle.c_grammar.specs.Taking.{binary_of_mark, specifier_of, at_level};
+ghost use Rattle.c_grammar.specs.Heads.{begins};
+
+use c_lexer::{Punct, TokenKind};
+use c_syntax::{AssignOp, BinaryOp, Expression, SpecifierWord, StepOp, UnaryOp};
+use pcc_base::Keyword;
+
+/// Whether a token is this mark.
+pub fn is_mark(kind: &TokenKind, mark: Punct) -> bool
+    ensures { result ≡ is_mark mark kind.now }
+{
+    match kind {
+        TokenKind::Mark(found) => mark == *found,
+        TokenKind::Word(_) | TokenKind::Ident(_) | TokenKind::Number(_) | TokenKind::Text(_) =>
+            false,
+    }
+}
+
+/// Whether a token is this word.
+pub fn is_word(kind: &TokenKind, word: Keyword) -> bool
+    ensures { result ≡ is_word word kind.now }
+{
+    match kind {
+        TokenKind::Word(found) => word == *found,
+        TokenKind::Mark(_) | TokenKind::Ident(_) | TokenKind::Number(_) | TokenKind::Text(_) =>
+            false,
+    }
+}
+
+/// The mark that a token is.
+fn mark_of(kind: &TokenKind) -> Option<Punct>
+    ensures { result ≡ of_mark Some kind.now }
+{
+    match kind {
+        TokenKind::Mark(mark) => Some(*mark),
+        TokenKind::Word(_) | TokenKind::Ident(_) | TokenKind::Number(_) | TokenKind::Text(_) =>
+            None,
+    }
+}
+
+/// The operator before an operand that a mark is (C99 6.5.3).
+fn unary_of_mark(mark: Punct) -> Option<UnaryOp>
+    ensures { result ≡ unary_of_mark mark }
+{
+    match mark {
+        Punct::And => Some(UnaryOp::AddressOf),
+        Punct::Star => Some(UnaryOp::Dereference),
+        Punct::Plus => Some(UnaryOp::Plus),
+        Punct::Minus => Some(UnaryOp::Minus),
+        Punct::Tilde => Some(UnaryOp::Complement),
+        Punct::Bang => Some(UnaryOp::Not),
+        _ => None,
+    }
+}
+
+/// `++` or `--`, where a mark is one of them.
+fn step_of_mark(mark: Punct) -> Option<StepOp>
+    ensures { result ≡ step_of_mark mark }
+{
+    match mark {
+        Punct::PlusPlus => Some(StepOp::Increment),
+        Punct::MinusMinus => Some(StepOp::Decrement),
+        _ => None,
+    }
+}
+
+/// The assignment operator that a mark is (C99 6.5.16).
+fn assign_of_mark(mark: Punct) -> Option<AssignOp>
+    ensures { result ≡ assign_of_mark mark }
+{
+    match mark {
+        Punct::Equal => Some(AssignOp::Assign),
+        Punct::StarEqual => Some(AssignOp::Multiply),
+        Punct::SlashEqual => Some(AssignOp::Divide),
+        Punct::PercentEqual => Some(AssignOp::Remainder),
+        Punct::PlusEqual => Some(AssignOp::Add),
+        Punct::MinusEqual => Some(AssignOp::Subtract),
+        Punct::ShiftLeftEqual => Some(AssignOp::ShiftLeft),
+        Punct::ShiftRightEqual => Some(AssignOp::ShiftRight),
+        Punct::AndEqual => Some(AssignOp::BitAnd),
+        Punct::CaretEqual => Some(AssignOp::BitXor),
+        Punct::OrEqual => Some(AssignOp::BitOr),
+        _ => None,
+    }
+}
+
+/// The operator between operands that a mark is (C99 6.5.5 to 6.5.14, 6.5.17).
+fn binary_of_mark(mark: Punct) -> Option<BinaryOp>
+    ensures { result ≡ binary_of_mark mark }
+{
+    match mark {
+        Punct::Star => Some(BinaryOp::Multiply),
+        Punct::Slash => Some(BinaryOp::Divide),
+        Punct::Percent => Some(BinaryOp::Remainder),
+        Punct::Plus => Some(BinaryOp::Add),
+        Punct::Minus => Some(BinaryOp::Subtract),
+        Punct::ShiftLeft => Some(BinaryOp::ShiftLeft),
+        Punct::ShiftRight => Some(BinaryOp::ShiftRight),
+        Punct::Less => Some(BinaryOp::Less),
+        Punct::Greater => Some(BinaryOp::Greater),
+        Punct::LessEqual => Some(BinaryOp::LessEqual),
+        Punct::GreaterEqual => Some(BinaryOp::GreaterEqual),
+        Punct::EqualEqual => Some(BinaryOp::Equal),
+        Punct::BangEqual => Some(BinaryOp::NotEqual),
+        Punct::And => Some(BinaryOp::BitAnd),
+        Punct::Caret => Some(BinaryOp::BitXor),
+        Punct::Or => Some(BinaryOp::BitOr),
+        Punct::AndAnd => Some(BinaryOp::LogicalAnd),
+        Punct::OrOr => Some(BinaryOp::LogicalOr),
+        Punct::Comma => Some(BinaryOp::Comma),
+        _ => None,
+    }
+}
+
+/// The level of an operator, from the tightest.
+fn binary_level(op: BinaryOp) -> usize
+    ensures { result ≡ binary_level op }
+{
+    match op {
+        BinaryOp::Multiply | BinaryOp::Divide | BinaryOp::Remainder => 1,
+        BinaryOp::Add | BinaryOp::Subtract => 2,
+        BinaryOp::ShiftLeft | BinaryOp::ShiftRight => 3,
+        BinaryOp::Less | BinaryOp::Greater | BinaryOp::LessEqual | BinaryOp::GreaterEqual => 4,
+        BinaryOp::Equal | BinaryOp::NotEqual => 5,
+        BinaryOp::BitAnd => 6,
+        BinaryOp::BitXor => 7,
+        BinaryOp::BitOr => 8,
+        BinaryOp::LogicalAnd => 9,
+        BinaryOp::LogicalOr => 10,
+        BinaryOp::Comma => 13,
+    }
+}
+
+/// The operator before an operand that a token is.
+pub(crate) fn unary_of(kind: &TokenKind) -> Option<UnaryOp>
+    ensures { result ≡ of_mark unary_of_mark kind.now }
+{
+    unary_of_mark(mark_of(kind)?)
+}
+
+/// `++` or `--`, where a token is one of them.
+pub(crate) fn step_of(kind: &TokenKind) -> Option<StepOp>
+    ensures { result ≡ of_mark step_of_mark kind.now }
+{
+    step_of_mark(mark_of(kind)?)
+}
+
+/// The assignment operator that a token is.
+pub(crate) fn assign_of(kind: &TokenKind) -> Option<AssignOp>
+    ensures { result ≡ of_mark assign_of_mark kind.now }
+{
+    assign_of_mark(mark_of(kind)?)
+}
+
+/// The operator of this level that a token is.
+pub(crate) fn binary_of(kind: &TokenKind, level: usize) -> Option<BinaryOp>
+    ensures { result ≡ at_level level (of_mark binary_of_mark kind.now) }
+{
+    let op = binary_of_mark(mark_of(kind)?)?;
+    if binary_level(op) == level {
+        Some(op)
+    } else {
+        None
+    }
+}
+
+/// The specifier that a token is (C99 6.7).
+pub(crate) fn specifier_of(kind: &TokenKind) -> Option<SpecifierWord>
+    ensures { result ≡ specifier_of kind.now }
+{
+    match kind {
+        TokenKind::Word(Keyword::Auto) => Some(SpecifierWord::Auto),
+        TokenKind::Word(Keyword::Register) => Some(SpecifierWord::Register),
+        TokenKind::Word(Keyword::Static) => Some(SpecifierWord::Static),
+        TokenKind::Word(Keyword::Extern) => Some(SpecifierWord::Extern),
+        TokenKind::Word(Keyword::Const) => Some(SpecifierWord::Const),
+        TokenKind::Word(Keyword::Void) => Some(SpecifierWord::Void),
+        TokenKind::Word(Keyword::Char) => Some(SpecifierWord::Char),
+        TokenKind::Word(Keyword::Short) => Some(SpecifierWord::Short),
+        TokenKind::Word(Keyword::Int) => Some(SpecifierWord::Int),
+        TokenKind::Word(Keyword::Signed) => Some(SpecifierWord::Signed),
+        _ => None,
+    }
+}
+
+/// Whether an expression is one of the rule `unary`.
+pub(crate) fn is_unary(e: &Expression) -> bool
+    ensures { result ≡ nat_le (looseness (expr_of e.now)) 2 }
+{
+    match e {
+        Expression::Identifier(_)
+        | Expression::Number(_, _)
+        | Expression::Text(_)
+        | Expression::Parenthesised(_, _, _)
+        | Expression::Call { .. }
+        | Expression::Index(_, _, _, _)
+        | Expression::Postfix(_, _, _)
+        | Expression::Prefix(_, _, _)
+        | Expression::Unary(_, _, _) => true,
+        Expression::Cast { .. }
+        | Expression::Binary(_, _, _, _)
+        | Expression::Conditional { .. }
+        | Expression::Assignment(_, _, _, _) => false,
+    }
+}
+
+/// Whether an expression may begin with this token.
+pub fn begins_expression(kind: &TokenKind) -> bool
+    ensures { result ≡ begins kind.now }
+{
+    match kind {
+        TokenKind::Ident(_) | TokenKind::Number(_) | TokenKind::Text(_) => true,
+        TokenKind::Mark(mark) => *mark == Punct::LeftParen
+            || unary_of_mark(*mark).is_some()
+            || step_of_mark(*mark).is_some(),
+        TokenKind::Word(_) => false,
+    }
+}

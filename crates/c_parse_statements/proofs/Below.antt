@@ -1,0 +1,125 @@
+-- The readers of what stands below a node, by its height.
+use Rattle.std.proofs.Common.{◌≡◌, ℕ, zero, suc, ◌-◌, ◌<◌, List, [], ◌∷◌, Some, None, refl, ap, sym, ◌∙◌, arith}
+use Rattle.pcc_base.specs.declared.span.Span.{Span}
+use Rattle.c_lexer.specs.declared.token.Token.{Token}
+use Rattle.c_lexer.specs.declared.token.Punct.TheVariants as marks
+use Rattle.c_syntax.specs.declared.expression.Specifier.{Specifier}
+use Rattle.c_grammar.specs.Statements.{LabelTree, Declared, Labelled}
+use Rattle.c_grammar.specs.Chains.{Reads, then_read}
+use Rattle.c_grammar.specs.Taking.{take_mark, take_specifiers}
+use Rattle.c_grammar.specs.Reading.{readers}
+use Rattle.c_grammar.proofs.Reading.{readers-none}
+use Rattle.c_grammar.specs.DeclarationReading.{read_declaration, maybe_before}
+use Rattle.c_grammar.specs.StatementReading.{Below, below_of, read_statement, read_block_item, read_labels, read_labelled, read_condition, read_for_rest, for_with, if_behind, while_behind, do_behind, for_behind, switch_behind}
+use Rattle.c_grammar.proofs.StatementReading.{below_of-none, below_of-suc, below_above}
+use Rattle.c_parse_expressions.specs.Rows.{BeginsWithSpecifier}
+use Rattle.c_parse_statements.specs.Parts.{fields_of, below_node}
+
+-- the readers are their fields
+pub fields_are : (n : ℕ) → fields_of n ≡ below_of n
+fields_are zero = rw (readers-none, below_of-none) refl
+fields_are (suc n) = rw (below_of-suc n) refl
+
+-- ---- where there is a height
+
+statement_at : (n : ℕ) (ts : List Token) → 0 < n → (below_of n).statement ts ≡ read_statement (fields_of (n - 1)) ts
+statement_at n ts h =
+    ap (λ (b : Below). b.statement ts) (below_above n h) ∙ ap (λ (b : Below). read_statement b ts) (sym (fields_are (n - 1)))
+
+declaration_at : (n : ℕ) (ts : List Token) → 0 < n → (below_of n).declaration ts ≡ read_declaration (readers (n - 1)) ts
+declaration_at n ts h =
+    ap (λ (b : Below). b.declaration ts) (below_above n h) ∙ ap (λ (b : Below). read_declaration b.exprs ts) (sym (fields_are (n - 1)))
+
+item_at : (n : ℕ) (ts : List Token) → 0 < n → (below_of n).item ts ≡ read_block_item (below_of n).declaration (below_of n).statement ts
+item_at n ts h = rw (below_above n h) refl
+
+labelled_at : (n : ℕ) (ts : List Token) → 0 < n → (below_of n).labelled ts ≡ read_labelled (readers n).conditional (below_of n).statement ts
+labelled_at n ts h = rw (below_above n h) refl
+
+-- a statement below a node
+pub statement_is : (height : ℕ) (ts : List Token) → 1 < height → (below_node height).statement ts ≡ read_statement (below_node (height - 1)) ts
+statement_is height ts h = statement_at (height - 1) ts (omega arith)
+
+-- a declaration below a node
+pub declaration_is : (height : ℕ) (ts : List Token) → 1 < height → (below_node height).declaration ts ≡ read_declaration (readers (height - 1 - 1)) ts
+declaration_is height ts h = declaration_at (height - 1) ts (omega arith)
+
+-- a declaration or a statement in a block
+pub item_is : (height : ℕ) (ts : List Token) → 1 < height → (below_node height).item ts ≡ read_block_item (below_node height).declaration (below_node height).statement ts
+item_is height ts h = item_at (height - 1) ts (omega arith)
+
+-- a declaration in a block
+pub item_declared : (height : ℕ) (ts : List Token) → 1 < height → BeginsWithSpecifier ts → (below_node height).item ts ≡ then_read ((below_node height).declaration ts) (λ d us. Some (Declared d, us))
+item_declared height ts h b = item_is height ts h ∙ (rw b.3 refl)
+
+-- a statement in a block
+pub item_stated : (height : ℕ) (ts : List Token) → 1 < height → take_specifiers ts ≡ ([], ts) → (below_node height).item ts ≡ (below_node height).statement ts
+item_stated height ts h e = item_is height ts h ∙ (rw e refl)
+
+-- a statement with its labels in a switch
+pub labelled_is : (height : ℕ) (ts : List Token) → 1 < height → (below_node height).labelled ts ≡ read_labelled (readers (height - 1)).conditional (below_node height).statement ts
+labelled_is height ts h = labelled_at (height - 1) ts (omega arith)
+
+-- a statement behind its labels
+pub labelled_reads : (height : ℕ) (ts : List Token) (ls : List LabelTree) (us : List Token) → 1 < height → read_labels (readers (height - 1)).conditional ts ≡ Some (ls, us) → (below_node height).labelled ts ≡ then_read ((below_node height).statement us) (λ s vs. Some (Labelled ls s, vs))
+labelled_reads height ts ls us h e = labelled_is height ts h ∙ (rw e refl)
+
+-- ---- where no height is left
+
+none_then : {A B : Type 0} (r : Reads A) (f : A → List Token → Reads B) → ((a : A) (us : List Token) → f a us ≡ None) → then_read r f ≡ None
+none_then None f n = refl
+none_then (Some (a, us)) f n = n a us
+
+first_none : {A B : Type 0} (r : Reads A) (f : A → List Token → Reads B) → r ≡ None → then_read r f ≡ None
+first_none r f e = rw e refl
+
+no_expression : (height : ℕ) (us : List Token) → height ≡ 1 → (below_node height).exprs.expression us ≡ None
+no_expression height us e = (let z : height - 1 ≡ 0 = omega arith in rw (z, readers-none) refl)
+
+no_statement : (height : ℕ) (us : List Token) → height ≡ 1 → (below_node height).statement us ≡ None
+no_statement height us e = (let z : height - 1 ≡ 0 = omega arith in rw (z, below_of-none) refl)
+
+no_declaration : (height : ℕ) (us : List Token) → height ≡ 1 → (below_node height).declaration us ≡ None
+no_declaration height us e = (let z : height - 1 ≡ 0 = omega arith in rw (z, below_of-none) refl)
+
+-- a block of height 1 has no items
+pub no_item : (height : ℕ) (us : List Token) → height ≡ 1 → (below_node height).item us ≡ None
+no_item height us e = (let z : height - 1 ≡ 0 = omega arith in rw (z, below_of-none) refl)
+
+no_condition : (height : ℕ) (ts : List Token) → height ≡ 1 → read_condition (below_node height) ts ≡ None
+no_condition height ts e =
+    none_then (take_mark marks.LeftParen ts) _ (λ o us. first_none _ _ (no_expression height us e))
+
+-- an `if` has a height above 1
+pub no_if : (height : ℕ) (at : Span) (ts : List Token) → height ≡ 1 → if_behind (below_node height) at ts ≡ None
+no_if height at ts e = first_none _ _ (no_condition height ts e)
+
+-- so has a `while`
+pub no_while : (height : ℕ) (at : Span) (ts : List Token) → height ≡ 1 → while_behind (below_node height) at ts ≡ None
+no_while height at ts e = first_none _ _ (no_condition height ts e)
+
+-- so has a `switch`
+pub no_switch : (height : ℕ) (at : Span) (ts : List Token) → height ≡ 1 → switch_behind (below_node height) at ts ≡ None
+no_switch height at ts e = first_none _ _ (no_condition height ts e)
+
+-- so has a `do`
+pub no_do : (height : ℕ) (at : Span) (ts : List Token) → height ≡ 1 → do_behind (below_node height) at ts ≡ None
+no_do height at ts e = first_none _ _ (no_statement height ts e)
+
+no_rest : (height : ℕ) (ts : List Token) → height ≡ 1 → read_for_rest (below_node height) ts ≡ None
+no_rest height ts e =
+    none_then (maybe_before (below_node height).exprs.expression marks.Semicolon ts) _ (λ k us.
+    none_then (take_mark marks.Semicolon us) _ (λ second vs.
+    none_then (maybe_before (below_node height).exprs.expression marks.RightParen vs) _ (λ step ws.
+    none_then (take_mark marks.RightParen ws) _ (λ c xs. first_none _ _ (no_statement height xs e)))))
+
+no_for_with : (height : ℕ) (at o : Span) (ss : List Specifier) (ts : List Token) → height ≡ 1 → for_with (below_node height) at o ss ts ≡ None
+no_for_with height at o [] ts e =
+    none_then (maybe_before (below_node height).exprs.expression marks.Semicolon ts) _ (λ start us.
+    none_then (take_mark marks.Semicolon us) _ (λ first vs. first_none _ _ (no_rest height vs e)))
+no_for_with height at o (s ∷ ss) ts e = first_none _ _ (no_declaration height ts e)
+
+-- so has a `for`
+pub no_for : (height : ℕ) (at : Span) (ts : List Token) → height ≡ 1 → for_behind (below_node height) at ts ≡ None
+no_for height at ts e =
+    none_then (take_mark marks.LeftParen ts) _ (λ o us. no_for_with height at o (take_specifiers us).0 us e)
