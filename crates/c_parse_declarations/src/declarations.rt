@@ -11,8 +11,8 @@ use crate::declarators::declarator;
 use crate::initialisers::maybe_value;
 use crate::lists::ItemList;
 use crate::parts::some_specifiers;
-use c_parse_expressions::{Parser, push};
 use c_lexer::Punct;
+use c_parse_expressions::{Parser, push};
 use c_syntax::{Declaration, Declarator, Item, Specifier};
 use pcc_base::{FaultKind, Refusal};
 

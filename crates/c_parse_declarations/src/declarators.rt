@@ -9,8 +9,8 @@ ghost use Rattle.c_parse_declarations.specs.Parts.{IsRead, parameters_listed};
 
 use crate::lists::ParameterList;
 use crate::parts::{array_behind, maybe_array, some_specifiers, take_name};
-use c_parse_expressions::{Parser, push};
 use c_lexer::Punct;
+use c_parse_expressions::{Parser, push};
 use c_syntax::{Declarator, DeclaratorPart, Parameter, ParametersPart};
 use pcc_base::{FaultKind, Refusal, Span};
 

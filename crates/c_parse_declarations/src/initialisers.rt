@@ -11,8 +11,8 @@ ghost use Rattle.c_parse_expressions.specs.Readings.{IsValuesTurn, AreValues, va
 ghost use Rattle.c_parse_declarations.specs.Parts.{IsRead};
 ghost use Rattle.c_parse_declarations.specs.Braces.{read_values};
 
-use c_parse_expressions::{Parser, Rule, Values, ValuesTurn, one_more, one_value};
 use c_lexer::Punct;
+use c_parse_expressions::{Parser, Rule, Values, ValuesTurn, one_more, one_value};
 use c_syntax::{Initialiser, InitialiserPart};
 use pcc_base::{FaultKind, Refusal, Span};
 

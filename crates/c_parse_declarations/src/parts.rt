@@ -7,8 +7,8 @@ ghost use Rattle.c_grammar.specs.DeclarationReading.{take_name, maybe_before, ar
 ghost use Rattle.c_parse_expressions.specs.Readings.{IsRule, below, reader_of};
 ghost use Rattle.c_parse_declarations.specs.Parts.{IsRead, AreSpecifiers, NoSpecifiers};
 
-use c_parse_expressions::{Parser, Rule, copy_of};
 use c_lexer::{Punct, TokenKind};
+use c_parse_expressions::{Parser, Rule, copy_of};
 use c_syntax::{ArrayPart, Expression, Identifier, Specifier};
 use pcc_base::{FaultKind, Refusal, Span};
 

@@ -9,8 +9,8 @@ ghost use Rattle.c_parse_statements.specs.Parts.{below_node};
 
 use crate::nodes::{return_node, simple_node};
 use crate::parts::take_clause;
-use c_parse_expressions::Parser;
 use c_lexer::Punct;
+use c_parse_expressions::Parser;
 use c_syntax::Statement;
 use pcc_base::{FaultKind, Keyword, Refusal, Span};
 

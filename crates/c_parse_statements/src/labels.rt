@@ -7,8 +7,8 @@ ghost use Rattle.c_parse_declarations.specs.Parts.{IsRead};
 ghost use Rattle.c_parse_statements.specs.Parts.{IsLabelTurn, labels_of};
 
 use crate::parts::LabelList;
-use c_parse_expressions::{Parser, Rule, push};
 use c_lexer::Punct;
+use c_parse_expressions::{Parser, Rule, push};
 use c_syntax::Label;
 use pcc_base::{FaultKind, Keyword, Refusal};
 

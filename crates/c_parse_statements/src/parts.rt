@@ -11,9 +11,9 @@ ghost use Rattle.c_grammar.specs.StatementReading.{read_condition};
 ghost use Rattle.c_parse_declarations.specs.Parts.{IsRead};
 ghost use Rattle.c_parse_statements.specs.Parts.{below_node, clause_of, condition_of, for_head_of, read_clause, read_do_tail, read_for_head, read_for_start, read_for_tests, read_switch_head, start_of, switch_head_of, tail_of, tests_of};
 
+use c_lexer::{Punct, TokenKind};
 use c_parse_declarations::{declaration, maybe};
 use c_parse_expressions::{Parser, Rule, begins_expression, fault_at};
-use c_lexer::{Punct, TokenKind};
 use c_syntax::{Declaration, Expression, Label, Statement};
 use pcc_base::{FaultKind, Keyword, Refusal, Span};
 

@@ -17,8 +17,8 @@ use crate::parts::{
     Condition, StatementList, declaration_below, do_tail, for_head, no_item_height, parenthesised,
     switch_head,
 };
-use c_parse_expressions::{Parser, height_below, push};
 use c_lexer::Punct;
+use c_parse_expressions::{Parser, height_below, push};
 use c_syntax::Statement;
 use pcc_base::{FaultKind, Keyword, Refusal, Span};
 

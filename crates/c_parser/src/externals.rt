@@ -7,11 +7,11 @@ ghost use Rattle.c_grammar.specs.StatementReading.{has_parameters, read_external
 ghost use Rattle.c_parse_declarations.specs.Parts.{IsRead};
 ghost use Rattle.c_parse_statements.specs.Parts.{below_node};
 
+use c_lexer::Punct;
 use c_parse_declarations::{declaration_behind, declarator, some_specifiers};
 use c_parse_expressions::{Parser, push};
-use c_lexer::Punct;
-use c_syntax::{DeclaratorPart, External, RawUnit};
 use c_parse_statements::statement_below;
+use c_syntax::{DeclaratorPart, External, RawUnit};
 use pcc_base::Refusal;
 
 /// Whether a declarator with this part is a function's.

@@ -6,8 +6,8 @@ ghost use Rattle.c_parser.specs.Refusals.{IsRefused, NoneUnsupported, NoTree};
 
 use crate::externals::unit;
 use crate::keywords::first_outside;
-use c_parse_expressions::Parser;
 use c_lexer::Token;
+use c_parse_expressions::Parser;
 use c_syntax::RawUnit;
 use pcc_base::{Fault, FaultKind, Refusal, Span};
 use std::alloc::Global;
