@@ -1,7 +1,7 @@
 -- The names of a program's locals are identifiers.
 use Rattle.std.proofs.Common.{◌≡◌, ℕ, zero, suc, List, [], ◌∷◌, ◌++◌, map, Bool, true, false, Option, Some, None}
 use Rattle.std.proofs.Common.{IsTrue, codes, if◌then◌else◌, is_some, refl, sym, subst, inl, inr, arith}
-use Rattle.std.specs.List.{All}
+use Rattle.std.specs.List.{All, AllByRecursion}
 use Rattle.std.proofs.lemmas.Bool.Decides.{nat_tests}
 use Rattle.std.proofs.lemmas.List.Elements.{All-cons, All-nil}
 use Rattle.pcc_base.specs.declared.span.Span.{Span}
@@ -17,7 +17,7 @@ use Rattle.c_grammar.specs.Expressions.{Expr, Exprs, NoExpr, OneExpr}
 use Rattle.c_grammar.specs.ExpressionTokens.{specifiers_tokens, pointer_tokens}
 use Rattle.c_grammar.specs.Declarations.{PartTree, Plain, Array, Function, InitialiserTree, Single, Braces, ValueTree}
 use Rattle.c_grammar.specs.Declarations.{ItemTree, DeclarationTree}
-use Rattle.c_grammar.specs.DeclarationTokens.{AllAre, separated, item_tokens, declarator_tokens}
+use Rattle.c_grammar.specs.DeclarationTokens.{separated, item_tokens, declarator_tokens}
 use Rattle.c_grammar.specs.Statements.{Stmt, Declared, Block, Simple, Return, Stmts, NoStmt, OneStmt, ExternalTree}
 use Rattle.c_grammar.specs.Statements.{FunctionTree, DeclaredTree}
 use Rattle.c_grammar.specs.StatementTokens.{stmt_tokens, stmts_tokens}
@@ -77,7 +77,7 @@ IsSpelled t = SpelledKind t.kind
 
 -- the token of a piece is spelled so
 piece_spelled : (fresh : Bool) (rest : List ℕ) (n : ℕ) (piece : Piece) (at : Span) → IsPiece fresh rest n piece
-    → AllAre IsSpelled (tokens_of piece at)
+    → AllByRecursion IsSpelled (tokens_of piece at)
 piece_spelled fresh rest n Space at h = tt
 piece_spelled fresh rest n Comment at h = tt
 piece_spelled fresh rest n Skipped at h = tt
@@ -88,28 +88,28 @@ piece_spelled fresh rest n (Spelled (kinds.Text bytes)) at h = (tt, tt)
 piece_spelled fresh rest n (Spelled (kinds.Mark m)) at h = (tt, tt)
 
 -- two lists of such tokens are one
-joined : (a b : List Token) → AllAre IsSpelled a → AllAre IsSpelled b → AllAre IsSpelled (a ++ b)
+joined : (a b : List Token) → AllByRecursion IsSpelled a → AllByRecursion IsSpelled b → AllByRecursion IsSpelled (a ++ b)
 joined [] b h g = g
 joined (t ∷ ts) b h g = (h.0, joined ts b h.1 g)
 
 -- all tokens of a text are spelled so
 leads_spelled : (k : ℕ) (from : Reached) (tokens : List Token) (to : Reached) → Leads k from tokens to
-    → AllAre IsSpelled tokens
-leads_spelled zero from tokens to h = subst (AllAre IsSpelled) (sym h.1) tt
+    → AllByRecursion IsSpelled tokens
+leads_spelled zero from tokens to h = subst (AllByRecursion IsSpelled) (sym h.1) tt
 leads_spelled (suc k) from tokens to h =
-    subst (AllAre IsSpelled) (sym h.4)
+    subst (AllByRecursion IsSpelled) (sym h.4)
     (joined (tokens_of h.1 from.at) h.3 (piece_spelled from.fresh from.rest h.0 h.1 from.at h.2.is)
     (leads_spelled k (behind from h.0 h.1) h.3 to h.5))
 
 -- ---- the names of a unit
 
 -- the front of such tokens is of such tokens
-front : (a b : List Token) → AllAre IsSpelled (a ++ b) → AllAre IsSpelled a
+front : (a b : List Token) → AllByRecursion IsSpelled (a ++ b) → AllByRecursion IsSpelled a
 front [] b h = tt
 front (t ∷ ts) b h = (h.0, front ts b h.1)
 
 -- and so is the rest
-back : (a b : List Token) → AllAre IsSpelled (a ++ b) → AllAre IsSpelled b
+back : (a b : List Token) → AllByRecursion IsSpelled (a ++ b) → AllByRecursion IsSpelled b
 back [] b h = h
 back (t ∷ ts) b h = back ts b h.1
 
@@ -145,23 +145,23 @@ part_named name (Array a) value h = tt
 part_named name (Function p) value h = tt
 
 -- the name of a declared item is one of its tokens
-item_named : (i : ItemTree) (others : List Token) → AllAre IsSpelled (item_tokens i ++ others)
+item_named : (i : ItemTree) (others : List Token) → AllByRecursion IsSpelled (item_tokens i ++ others)
     → IsNamedRule (item_rule (Some i))
 item_named i others h =
-    let declarator : AllAre IsSpelled (declarator_tokens i.declarator) = front (declarator_tokens i.declarator) _ (front (item_tokens i) others h) in
+    let declarator : AllByRecursion IsSpelled (declarator_tokens i.declarator) = front (declarator_tokens i.declarator) _ (front (item_tokens i) others h) in
     let name : IsName i.declarator.name.name = (back (pointer_tokens i.declarator.pointer) _ declarator).0 in
     where_false (is_some i.declarator.pointer) (part_rule i.declarator.name.name i.declarator.part i.initialiser)
     (part_named i.declarator.name.name i.declarator.part i.initialiser name)
 
 -- the same of the only item of a declaration
-items_named : (is : List ItemTree) (commas : List Span) → AllAre IsSpelled (separated item_tokens is commas)
+items_named : (is : List ItemTree) (commas : List Span) → AllByRecursion IsSpelled (separated item_tokens is commas)
     → IsNamedRule (item_rule (only is))
 items_named [] commas h = tt
 items_named (i ∷ []) commas h = item_named i _ h
 items_named (i ∷ (j ∷ js)) commas h = tt
 
 -- a declaration of the form declares a name
-declaration_named : (d : DeclarationTree) → AllAre IsSpelled (stmt_tokens (Declared d))
+declaration_named : (d : DeclarationTree) → AllByRecursion IsSpelled (stmt_tokens (Declared d))
     → IsNamedRule (rule_of (Declared d))
 declaration_named d h =
     where_true (is_int d.specifiers) (item_rule (only d.items))
@@ -188,7 +188,7 @@ expression_named (trees.Call f o arguments commas c) = where_true _ (puts (one_a
 expression_named e = tt
 
 -- what a statement declares is a name
-statement_named : (s : Stmt) → AllAre IsSpelled (stmt_tokens s) → IsNamedRule (rule_of s)
+statement_named : (s : Stmt) → AllByRecursion IsSpelled (stmt_tokens s) → IsNamedRule (rule_of s)
 statement_named (Declared d) h = declaration_named d h
 statement_named (Simple None semicolon) h = tt
 statement_named (Simple (Some e) semicolon) h = expression_named e
@@ -197,36 +197,36 @@ statement_named (Return at (Some e) semicolon) h = tt
 statement_named s h = tt
 
 -- a name behind names
-named_more : (names : List (List ℕ)) (name : List ℕ) → AllAre IsName names → IsName name
-    → AllAre IsName (names ++ name ∷ [])
+named_more : (names : List (List ℕ)) (name : List ℕ) → AllByRecursion IsName names → IsName name
+    → AllByRecursion IsName (names ++ name ∷ [])
 named_more [] name h g = (g, tt)
 named_more (n ∷ ns) name h g = (h.0, named_more ns name h.1 g)
 
 -- the names behind a statement of the form are names
 item_names : (names : List (List ℕ)) (n : ℕ) (rule : Rule) (after : List (List ℕ)) (t : Statement)
-    → IsItem names n rule after t → IsNamedRule rule → AllAre IsName names → AllAre IsName after
-item_names names n (Declares name value) after t h named all = subst (AllAre IsName) (sym h.3) (named_more names name all named)
-item_names names n (Assigns name value) after t h named all = subst (AllAre IsName) (sym h.4) all
-item_names names n (Puts value) after t h named all = subst (AllAre IsName) (sym h.2) all
+    → IsItem names n rule after t → IsNamedRule rule → AllByRecursion IsName names → AllByRecursion IsName after
+item_names names n (Declares name value) after t h named all = subst (AllByRecursion IsName) (sym h.3) (named_more names name all named)
+item_names names n (Assigns name value) after t h named all = subst (AllByRecursion IsName) (sym h.4) all
+item_names names n (Puts value) after t h named all = subst (AllByRecursion IsName) (sym h.2) all
 item_names names n (Returns value) after t h named all = absurd h
 item_names names n Other after t h named all = absurd h
 
 -- all that a body declares are names
 body_names : (ss : Stmts) (names : List (List ℕ)) (n : ℕ) (all : List (List ℕ)) (body : Statements)
-    → IsBody names n ss all body → AllAre IsSpelled (stmts_tokens ss) → AllAre IsName names → AllAre IsName all
+    → IsBody names n ss all body → AllByRecursion IsSpelled (stmts_tokens ss) → AllByRecursion IsName names → AllByRecursion IsName all
 body_names NoStmt names n all body h spelled named = absurd h
-body_names (OneStmt s ss) names n all body (inl h) spelled named = subst (AllAre IsName) (sym h.3) named
+body_names (OneStmt s ss) names n all body (inl h) spelled named = subst (AllByRecursion IsName) (sym h.3) named
 body_names (OneStmt s ss) names n all body (inr h) spelled named =
     body_names ss h.0 (suc n) all h.2 h.4 (back (stmt_tokens s) (stmts_tokens ss) spelled)
     (item_names names n (rule_of s) h.0 h.1 h.3
     (statement_named s (front (stmt_tokens s) (stmts_tokens ss) spelled)) named)
 
 -- the statements in a block are of tokens that the block has
-block_spelled : (s : Stmt) (items : Stmts) → block_items s ≡ Some items → AllAre IsSpelled (stmt_tokens s)
-    → AllAre IsSpelled (stmts_tokens items)
+block_spelled : (s : Stmt) (items : Stmts) → block_items s ≡ Some items → AllByRecursion IsSpelled (stmt_tokens s)
+    → AllByRecursion IsSpelled (stmts_tokens items)
 block_spelled (Block o body c) items e h =
     let same_items : body ≡ items = cc in
-    subst (λ (ss : Stmts). AllAre IsSpelled (stmts_tokens ss)) same_items (front (stmts_tokens body) _ h.1)
+    subst (λ (ss : Stmts). AllByRecursion IsSpelled (stmts_tokens ss)) same_items (front (stmts_tokens body) _ h.1)
 block_spelled s items e h = absurd (cc)
 
 -- where a test gives something it gives that
@@ -236,7 +236,7 @@ if_some false o x e = absurd (cc)
 
 -- the statements of `main` are of tokens that the unit has
 unit_spelled : (unit : List ExternalTree) (items : Stmts) → main_items unit ≡ Some items
-    → AllAre IsSpelled (unit_tokens unit) → AllAre IsSpelled (stmts_tokens items)
+    → AllByRecursion IsSpelled (unit_tokens unit) → AllByRecursion IsSpelled (stmts_tokens items)
 unit_spelled [] items e h = absurd (cc)
 unit_spelled (FunctionTree specifiers d body ∷ []) items e h =
     block_spelled body items (if_some _ (block_items body) items e)
@@ -247,8 +247,8 @@ unit_spelled (DeclaredTree d ∷ []) items e h = absurd (cc)
 unit_spelled (x ∷ (y ∷ ys)) items e h = absurd (cc)
 
 -- locals have the names that they are declared with
-local_names : (names : List (List ℕ)) → AllAre IsName names
-    → AllAre (λ (l : Local). IsName l.name) (map int_local names)
+local_names : (names : List (List ℕ)) → AllByRecursion IsName names
+    → AllByRecursion (λ (l : Local). IsName l.name) (map int_local names)
 local_names [] h = tt
 local_names (name ∷ names) h = (h.0, local_names names h.1)
 
@@ -257,13 +257,13 @@ main_name : IsName (codes "main")
 main_name = name_of_word 109 (97 ∷ 105 ∷ 110 ∷ []) refl (refl, (refl, (refl, tt)))
 
 -- the names of a program of the form are those of its tokens
-unit_names : (unit : List ExternalTree) (p : Program) → IsLocalsProgram unit p → AllAre IsSpelled (unit_tokens unit)
-    → AllAre IsNamed p.functions
+unit_names : (unit : List ExternalTree) (p : Program) → IsLocalsProgram unit p → AllByRecursion IsSpelled (unit_tokens unit)
+    → AllByRecursion IsNamed p.functions
 unit_names unit p h spelled =
-    let named : AllAre IsName h.1 = body_names h.0 [] 0 h.1 h.2 h.5 (unit_spelled unit h.0 h.3 spelled) tt in
-    subst (λ (q : Program). AllAre IsNamed q.functions) (sym h.6) ((main_name, local_names h.1 named), tt)
+    let named : AllByRecursion IsName h.1 = body_names h.0 [] 0 h.1 h.2 h.5 (unit_spelled unit h.0 h.3 spelled) tt in
+    subst (λ (q : Program). AllByRecursion IsNamed q.functions) (sym h.6) ((main_name, local_names h.1 named), tt)
 
 -- the names of a program's functions and locals are identifiers
-pub program_names : (text : List ℕ) (p : Program) → IsProgram text p → AllAre IsNamed p.functions
+pub program_names : (text : List ℕ) (p : Program) → IsProgram text p → AllByRecursion IsNamed p.functions
 program_names text p (tokens, lexed, has) =
-    unit_names has.unit p has.form (subst (AllAre IsSpelled) has.tree.tokens_are (leads_spelled lexed.0 (start_of 0 text) tokens lexed.1 lexed.2))
+    unit_names has.unit p has.form (subst (AllByRecursion IsSpelled) has.tree.tokens_are (leads_spelled lexed.0 (start_of 0 text) tokens lexed.1 lexed.2))

@@ -1,8 +1,8 @@
 -- The source files that are accepted so far, and the programs that they are.
 use Rattle.std.specs.Prelude.{◌≤◌, ℕ, List, length}
+use Rattle.std.specs.List.{AllByRecursion}
 use Rattle.c_lexer.specs.declared.token.Token.{Token}
 use Rattle.c_lexer.specs.Tokens.{HasTokens}
-use Rattle.c_grammar.specs.DeclarationTokens.{AllAre}
 use Rattle.c_grammar.specs.Statements.{ExternalTree}
 use Rattle.c_grammar.specs.Grammar.{Tree}
 use Rattle.c_tree.specs.Program.{Local, Function, Program}
@@ -25,4 +25,4 @@ IsProgram text program = (tokens : List Token) × HasTokens 0 text tokens × Has
 
 -- the names of a function and of its locals are identifiers (C99 6.4.2.1)
 abbrev pub IsNamed : Function → Type 0
-IsNamed f = IsName f.name × AllAre (λ (l : Local). IsName l.name) f.locals
+IsNamed f = IsName f.name × AllByRecursion (λ (l : Local). IsName l.name) f.locals

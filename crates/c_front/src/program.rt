@@ -1,7 +1,7 @@
 //! The program of a source.
 
 ghost use Rattle.std.specs.Prelude.{◌≡◌, ◌≤◌, ◌<◌, ◌+◌, ◌^◌, length, IfOk, IfErr};
-ghost use Rattle.c_grammar.specs.DeclarationTokens.{AllAre};
+ghost use Rattle.std.specs.List.{AllByRecursion};
 ghost use Rattle.c_tree.specs.Erased.{program_of};
 ghost use Rattle.c_tree.specs.Sizes.{frame_bound};
 ghost use Rattle.c_tree.specs.SlotForm.{IsSlotProgram};
@@ -38,7 +38,7 @@ const NOT_YET: Refusal = Refusal::Fault(Fault {
 fn program_of_tokens(alloc: Global, tokens: &Vec<Token>, end: Span) -> Result<Program, Refusal>
     ensures accepted { IfOk result (λ p. HasProgram tokens.now.items (program_of p)) }
     ensures form { IfOk result (λ p. IsSlotProgram (program_of p)) }
-    ensures frames { IfOk result (λ p. AllAre (λ f. frame_bound f ≤ 16384) (program_of p).functions) }
+    ensures frames { IfOk result (λ p. AllByRecursion (λ f. frame_bound f ≤ 16384) (program_of p).functions) }
     ensures refused { IfErr result (AreRefused tokens.now.items) }
 {
     let unit = parse(alloc, tokens, end)?;
@@ -58,8 +58,8 @@ pub fn program_of_source(alloc: Global, text: &[u8]) -> Result<Program, Refusal>
     requires { length text.now + 1 < 2 ^ 32 }
     ensures accepted { IfOk result (λ p. IsProgram text.now (program_of p)) }
     ensures form { IfOk result (λ p. IsSlotProgram (program_of p)) }
-    ensures names { IfOk result (λ p. AllAre IsNamed (program_of p).functions) }
-    ensures frames { IfOk result (λ p. AllAre (λ f. frame_bound f ≤ 16384) (program_of p).functions) }
+    ensures names { IfOk result (λ p. AllByRecursion IsNamed (program_of p).functions) }
+    ensures frames { IfOk result (λ p. AllByRecursion (λ f. frame_bound f ≤ 16384) (program_of p).functions) }
     ensures refused { IfErr result (IsSourceRefused text.now) }
 {
     let tokens = lex(alloc, 0, text, MOST_TOKENS)?;

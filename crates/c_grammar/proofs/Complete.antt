@@ -1,4 +1,5 @@
--- Every tree of a rule is read, whatever follows that goes on with no tree of that rule.
+-- AllByRecursion tree of a rule is read, whatever follows that goes on with no tree of that rule.
+use Rattle.std.specs.List.{AllByRecursion}
 use Rattle.std.proofs.Common.{◌≡◌, ℕ, zero, suc, ◌+◌, ◌≤◌, ◌<◌, max, true, List, [], ◌∷◌, ◌++◌, length, length-append, Option, Some, None, ltb, leb, refl, ap, sym, ◌∙◌, subst, inl, inr, arith, append_assoc, ◌⊎◌}
 use Rattle.std.proofs.lemmas.Bool.{lt-ltb, le-leb}
 use Rattle.pcc_base.specs.declared.span.Span.{Span}

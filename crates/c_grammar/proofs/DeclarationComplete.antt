@@ -1,4 +1,5 @@
--- Every declaration is read, and each of its parts, whatever follows that does not go on with it.
+-- AllByRecursion declaration is read, and each of its parts, whatever follows that does not go on with it.
+use Rattle.std.specs.List.{AllByRecursion}
 use Rattle.std.proofs.Common.{◌≡◌, ℕ, suc, ◌≤◌, ◌<◌, false, List, [], ◌∷◌, ◌++◌, length, length-append, Option, Some, None, refl, ap, sym, ◌∙◌, subst, arith, append_assoc}
 use denote.Enum.Bare.{true_same}
 use Rattle.pcc_base.specs.declared.span.Span.{Span}
@@ -12,7 +13,7 @@ use Rattle.c_grammar.specs.Marks.{mark, ident}
 use Rattle.c_grammar.specs.Expressions.{Star, Expr, Exprs, exprs_of, NoExpr, OneExpr}
 use Rattle.c_grammar.specs.ExpressionTokens.{expr_tokens, more_tokens, specifiers_tokens, pointer_tokens, expr_height, exprs_height, looseness, IsExpr, AreValues, Follow, IsSpecifiers}
 use Rattle.c_grammar.specs.Declarations.{ArrayTree, ParameterTree, PartTree, Plain, Array, Function, DeclaratorTree, InitialiserTree, Single, Braces, ValueTree, ItemTree, DeclarationTree}
-use Rattle.c_grammar.specs.DeclarationTokens.{followed, separated, AreApart, AllAre, greatest, maybe_expr_tokens, maybe_array_tokens, maybe_name_tokens, parameter_tokens, part_tokens, declarator_tokens, maybe_comma_tokens, initialiser_tokens, value_tokens, item_tokens, declaration_tokens, maybe_expr_height, maybe_array_height, parameter_height, part_height, initialiser_height, value_height, item_height, declaration_height, IsMaybeConditional, IsMaybeArray, IsParameter, IsPart, IsInitialiser, IsMaybeValue, IsItem, AreItems, IsDeclaration}
+use Rattle.c_grammar.specs.DeclarationTokens.{followed, separated, AreApart, greatest, maybe_expr_tokens, maybe_array_tokens, maybe_name_tokens, parameter_tokens, part_tokens, declarator_tokens, maybe_comma_tokens, initialiser_tokens, value_tokens, item_tokens, declaration_tokens, maybe_expr_height, maybe_array_height, parameter_height, part_height, initialiser_height, value_height, item_height, declaration_height, IsMaybeConditional, IsMaybeArray, IsParameter, IsPart, IsInitialiser, IsMaybeValue, IsItem, AreItems, IsDeclaration}
 use Rattle.c_grammar.specs.Chains.{Done, Goes, Reads, chained}
 use Rattle.c_grammar.proofs.Chains.{Continues, continues_start, continues_goes, continues_done}
 use Rattle.c_grammar.specs.Taking.{take_mark, take_specifiers, take_pointer}
@@ -39,7 +40,7 @@ more_ends tokens E comma (x ∷ xs) [] rest end = end
 more_ends tokens E comma (x ∷ xs) (at ∷ commas) rest end = comma at ((tokens x ++ followed tokens xs commas) ++ rest)
 
 pub list_continue : {A : Type 0} (tokens : A → List Token) (read : List Token → Reads A) (E : List Token → Type 0) → ((at : Span) (ts : List Token) → E (mark marks.Comma at ∷ ts)) →
-    (xs : List A) (commas : List Span) (a : Listed A) (rest : List Token) (out : Reads (Listed A)) → length commas ≡ length xs → E rest → AllAre (Found tokens read E) xs →
+    (xs : List A) (commas : List Span) (a : Listed A) (rest : List Token) (out : Reads (Listed A)) → length commas ≡ length xs → E rest → AllByRecursion (Found tokens read E) xs →
     Continues (list_step read) a (followed tokens xs commas ++ rest) out → Continues (list_step read) (a.0 ++ xs, a.1 ++ commas) rest out
 list_continue tokens read E comma [] [] a rest out apart end found c =
     (let e : (a.0 ++ [], a.1 ++ []) ≡ a = ap (λ xs. (xs, a.1 ++ [])) (append_nil a.0) ∙ ap (λ cs. (a.0, cs)) (append_nil a.1) in
@@ -59,7 +60,7 @@ list_continue tokens read E comma (x ∷ xs) (at ∷ commas) a rest out apart en
 
 -- a list, behind whose last element no comma comes
 pub list_read : {A : Type 0} (tokens : A → List Token) (read : List Token → Reads A) (E : List Token → Type 0) → ((at : Span) (ts : List Token) → E (mark marks.Comma at ∷ ts)) →
-    (x : A) (xs : List A) (commas : List Span) (rest : List Token) → length commas ≡ length xs → E rest → take_mark marks.Comma rest ≡ None → AllAre (Found tokens read E) xs →
+    (x : A) (xs : List A) (commas : List Span) (rest : List Token) → length commas ≡ length xs → E rest → take_mark marks.Comma rest ≡ None → AllByRecursion (Found tokens read E) xs →
     read_more read x (followed tokens xs commas ++ rest) ≡ Some ((x ∷ xs, commas), rest)
 list_read tokens read E comma x xs commas rest apart end none found =
     (let all = list_continue tokens read E comma xs commas (x ∷ [], []) rest _ apart end found (continues_start (list_step read) (x ∷ [], []) (followed tokens xs commas ++ rest)) in
@@ -73,7 +74,7 @@ first_found tokens read E comma x xs commas rest end found =
     rw (append_assoc (tokens x) (followed tokens xs commas) rest) (found (followed tokens xs commas ++ rest) (more_ends tokens E comma xs commas rest end))
 
 -- what holds of each element that is low enough
-pub all_found : {A : Type 0} (P Q : A → Type 0) (height : A → ℕ) (n : ℕ) → ((x : A) → P x → height x ≤ n → Q x) → (xs : List A) → AllAre P xs → greatest height xs ≤ n → AllAre Q xs
+pub all_found : {A : Type 0} (P Q : A → Type 0) (height : A → ℕ) (n : ℕ) → ((x : A) → P x → height x ≤ n → Q x) → (xs : List A) → AllByRecursion P xs → greatest height xs ≤ n → AllByRecursion Q xs
 all_found P Q height n one [] are low = tt
 all_found P Q height n one (x ∷ xs) are low = (one x are.0 (omega arith), all_found P Q height n one xs are.1 (omega arith))
 
@@ -191,7 +192,7 @@ parameter_no_close (s ∷ ss) ts is = refl
 parameters_begin : (b : Readers) (ts : List Token) (p : ParameterTree) (us : List Token) (out : Reads (Listed ParameterTree)) → take_mark marks.RightParen ts ≡ None → read_parameter b ts ≡ Some (p, us) → read_more (read_parameter b) p us ≡ out → read_parameters b ts ≡ out
 parameters_begin b ts p us out none first others = rw (none, first) others
 
-parameters_read : (n : ℕ) (b : Readers) → Complete n b → (ps : List ParameterTree) (commas : List Span) (c : Span) (rest : List Token) → AllAre IsParameter ps → AreApart ps commas → greatest parameter_height ps ≤ n →
+parameters_read : (n : ℕ) (b : Readers) → Complete n b → (ps : List ParameterTree) (commas : List Span) (c : Span) (rest : List Token) → AllByRecursion IsParameter ps → AreApart ps commas → greatest parameter_height ps ≤ n →
     read_parameters b (separated parameter_tokens ps commas ++ mark marks.RightParen c ∷ rest) ≡ Some ((ps, commas), mark marks.RightParen c ∷ rest)
 parameters_read n b cb [] commas c rest are apart low = rw apart refl
 parameters_read n b cb (p ∷ ps) commas c rest are apart low =

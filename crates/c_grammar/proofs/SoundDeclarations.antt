@@ -1,4 +1,5 @@
 -- What is read of a declaration is a tree of the rule, of exactly the tokens taken.
+use Rattle.std.specs.List.{AllByRecursion}
 use Rattle.std.proofs.Common.{◌≡◌, ℕ, suc, ◌≤◌, List, [], ◌∷◌, ◌++◌, length, length-append, Option, Some, None, refl, ap, sym, ◌∙◌, arith, append_assoc}
 use Rattle.pcc_base.specs.declared.span.Span.{Span}
 use Rattle.c_lexer.specs.declared.token.Token.{Token}
@@ -12,7 +13,7 @@ use Rattle.c_grammar.specs.Marks.{mark, ident}
 use Rattle.c_grammar.specs.Expressions.{Star, Expr, exprs_of}
 use Rattle.c_grammar.specs.ExpressionTokens.{exprs_tokens, specifiers_tokens, pointer_tokens, exprs_height, looseness, IsExpr, AreValues, Separate, IsSpecifiers}
 use Rattle.c_grammar.specs.Declarations.{ArrayTree, ParameterTree, PartTree, Function, DeclaratorTree, InitialiserTree, Braces, ValueTree, ItemTree, DeclarationTree}
-use Rattle.c_grammar.specs.DeclarationTokens.{followed, separated, AreApart, AllAre, greatest, maybe_expr_tokens, array_tokens, maybe_array_tokens, maybe_name_tokens, parameter_tokens, parameters_tokens, part_tokens, declarator_tokens, maybe_comma_tokens, initialiser_tokens, value_tokens, item_tokens, declaration_tokens, maybe_expr_height, maybe_array_height, parameter_height, part_height, initialiser_height, value_height, item_height, declaration_height, IsMaybeConditional, IsMaybeArray, IsParameter, IsPart, IsInitialiser, IsMaybeValue, IsItem, AreItems, IsDeclaration}
+use Rattle.c_grammar.specs.DeclarationTokens.{followed, separated, AreApart, greatest, maybe_expr_tokens, array_tokens, maybe_array_tokens, maybe_name_tokens, parameter_tokens, parameters_tokens, part_tokens, declarator_tokens, maybe_comma_tokens, initialiser_tokens, value_tokens, item_tokens, declaration_tokens, maybe_expr_height, maybe_array_height, parameter_height, part_height, initialiser_height, value_height, item_height, declaration_height, IsMaybeConditional, IsMaybeArray, IsParameter, IsPart, IsInitialiser, IsMaybeValue, IsItem, AreItems, IsDeclaration}
 use Rattle.c_grammar.specs.Chains.{Reads, chained}
 use Rattle.c_grammar.specs.Taking.{take_mark, take_specifiers, take_pointer}
 use Rattle.c_grammar.specs.Reading.{Reader, Readers, Values}
@@ -24,7 +25,7 @@ use Rattle.c_grammar.specs.DeclarationReading.{Listed, list_at, list_step, read_
 
 pub record SoundList {A : Type 0} (tokens : A → List Token) (P : A → Type 0) (ts : List Token) (l : Listed A) (us : List Token) : Type 0 where
   pub tokens_are : ts ≡ separated tokens l.0 l.1 ++ us
-  pub all : AllAre P l.0
+  pub all : AllByRecursion P l.0
   pub apart : AreApart l.0 l.1
   pub some : 1 ≤ length l.0
 
@@ -35,7 +36,7 @@ followed_push tokens (y ∷ ys) [] x at e = absurd (omega arith)
 followed_push tokens (y ∷ ys) (c ∷ cs) x at e =
     ap (λ ts. mark marks.Comma c ∷ (tokens y ++ ts)) (followed_push tokens ys cs x at (omega arith)) ∙ ap (λ ts. mark marks.Comma c ∷ ts) (sym (append_assoc (tokens y) (followed tokens ys cs) (mark marks.Comma at ∷ tokens x)))
 
-all_push : {A : Type 0} (P : A → Type 0) (xs : List A) (x : A) → AllAre P xs → P x → AllAre P (xs ++ x ∷ [])
+all_push : {A : Type 0} (P : A → Type 0) (xs : List A) (x : A) → AllByRecursion P xs → P x → AllByRecursion P (xs ++ x ∷ [])
 all_push P [] x all p = (p, tt)
 all_push P (y ∷ ys) x all p = (all.0, all_push P ys x all.1 p)
 
@@ -138,7 +139,7 @@ sound_parameter n b sb ts = under (take_specifiers ts).0 (take_specifiers ts).1 
         )))
 
 -- elements that are so high at most
-all_low : {A : Type 0} (P : A → Type 0) (height : A → ℕ) (h : ℕ) (xs : List A) → AllAre (λ x. P x × (height x ≤ h)) xs → AllAre P xs × (greatest height xs ≤ h)
+all_low : {A : Type 0} (P : A → Type 0) (height : A → ℕ) (h : ℕ) (xs : List A) → AllByRecursion (λ x. P x × (height x ≤ h)) xs → AllByRecursion P xs × (greatest height xs ≤ h)
 all_low P height h [] all = (tt, omega arith)
 all_low P height h (x ∷ xs) all = (let r = all_low P height h xs all.1 in ((all.0.0, r.0), omega (arith, all.0.1, r.1)))
 
@@ -148,7 +149,7 @@ IsLowPart h part = IsPart part × (part_height part ≤ h)
 -- the parameters of a function
 record SoundParameters (h : ℕ) (ts : List Token) (l : Listed ParameterTree) (us : List Token) : Type 0 where
   tokens_are : ts ≡ separated parameter_tokens l.0 l.1 ++ us
-  all : AllAre IsParameter l.0
+  all : AllByRecursion IsParameter l.0
   low : greatest parameter_height l.0 ≤ h
   apart : AreApart l.0 l.1
 
@@ -263,7 +264,7 @@ sound_item n b sb ts = holds_then (One declarator_tokens (IsLowDeclarator n) ts)
 abbrev pub IsLowDeclaration : ℕ → DeclarationTree → Type 0
 IsLowDeclaration h d = IsDeclaration d × (declaration_height d ≤ h)
 
-items_are : (is : List ItemTree) → 1 ≤ length is → AllAre IsItem is → AreItems is
+items_are : (is : List ItemTree) → 1 ≤ length is → AllByRecursion IsItem is → AreItems is
 items_are [] some all = absurd (omega arith)
 items_are (i ∷ is) some all = all
 

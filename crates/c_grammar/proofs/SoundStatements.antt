@@ -1,4 +1,5 @@
 -- What is read of statements and of a unit is a tree of the rule, of exactly the tokens taken.
+use Rattle.std.specs.List.{AllByRecursion}
 use Rattle.std.proofs.Common.{◌≡◌, ℕ, zero, suc, ◌≤◌, max, Bool, true, false, List, [], ◌∷◌, ◌++◌, length, Option, Some, None, refl, ap, sym, ◌∙◌, subst, arith, append_assoc}
 use Rattle.pcc_base.specs.declared.span.Span.{Span}
 use Rattle.pcc_base.specs.declared.keyword.Keyword.TheVariants as words
@@ -9,7 +10,7 @@ use Rattle.c_grammar.specs.Marks.{mark, word}
 use Rattle.c_grammar.specs.Expressions.{Expr}
 use Rattle.c_grammar.specs.ExpressionTokens.{expr_tokens, expr_height, IsExpr, IsSpecifiers, specifiers_tokens}
 use Rattle.c_grammar.specs.Declarations.{DeclaratorTree, PartTree, Plain, Array, Function}
-use Rattle.c_grammar.specs.DeclarationTokens.{maybe_expr_tokens, maybe_expr_height, declaration_tokens, declarator_tokens, AllAre, greatest}
+use Rattle.c_grammar.specs.DeclarationTokens.{maybe_expr_tokens, maybe_expr_height, declaration_tokens, declarator_tokens, greatest}
 use Rattle.c_grammar.specs.Statements.{LabelTree, Case, Default, Stmt, Declared, Labelled, Block, Simple, If, IfElse, Switch, While, Do, For, ForDeclaration, Break, Continue, Return, stmts_of, ExternalTree, DeclaredTree}
 use Rattle.c_grammar.specs.StatementTokens.{label_tokens, labels_tokens, in_parens, stmt_tokens, stmts_tokens, label_height, stmt_height, stmts_height, ends_open, IsMaybeExpr, IsLabel, IsPlain, IsBlockItem, IsCase, IsStmt, AreItems, AreCases}
 use Rattle.c_grammar.specs.Grammar.{external_tokens, unit_tokens, external_height, HasParameters, IsBlock, IsExternal, Tree}
@@ -337,14 +338,14 @@ sound_item n b sb ts = under (take_specifiers ts).0
 
 record SoundLabels (h : ℕ) (ts : List Token) (ls : List LabelTree) (us : List Token) : Type 0 where
   tokens : ts ≡ labels_tokens ls ++ us
-  all : AllAre IsLabel ls
+  all : AllByRecursion IsLabel ls
   low : greatest label_height ls ≤ h
 
 labels_push : (ls : List LabelTree) (l : LabelTree) → labels_tokens (ls ++ l ∷ []) ≡ labels_tokens ls ++ label_tokens l
 labels_push [] l = append_nil (label_tokens l)
 labels_push (x ∷ xs) l = ap (λ zs. label_tokens x ++ zs) (labels_push xs l) ∙ sym (append_assoc (label_tokens x) (labels_tokens xs) (label_tokens l))
 
-labels_all : (ls : List LabelTree) (l : LabelTree) → AllAre IsLabel ls → IsLabel l → AllAre IsLabel (ls ++ l ∷ [])
+labels_all : (ls : List LabelTree) (l : LabelTree) → AllByRecursion IsLabel ls → IsLabel l → AllByRecursion IsLabel (ls ++ l ∷ [])
 labels_all [] l all is = (is, tt)
 labels_all (x ∷ xs) l all is = (all.0, labels_all xs l all.1 is)
 
@@ -468,14 +469,14 @@ sound_external n b sb ts = under (take_specifiers ts).0 (take_specifiers ts).1 (
 
 record SoundUnit (h : ℕ) (ts : List Token) (es : List ExternalTree) (us : List Token) : Type 0 where
   tokens : ts ≡ unit_tokens es ++ us
-  all : AllAre IsExternal es
+  all : AllByRecursion IsExternal es
   low : greatest external_height es ≤ h
 
 unit_push : (es : List ExternalTree) (e : ExternalTree) → unit_tokens (es ++ e ∷ []) ≡ unit_tokens es ++ external_tokens e
 unit_push [] e = append_nil (external_tokens e)
 unit_push (x ∷ xs) e = ap (λ zs. external_tokens x ++ zs) (unit_push xs e) ∙ sym (append_assoc (external_tokens x) (unit_tokens xs) (external_tokens e))
 
-unit_all : (es : List ExternalTree) (e : ExternalTree) → AllAre IsExternal es → IsExternal e → AllAre IsExternal (es ++ e ∷ [])
+unit_all : (es : List ExternalTree) (e : ExternalTree) → AllByRecursion IsExternal es → IsExternal e → AllByRecursion IsExternal (es ++ e ∷ [])
 unit_all [] e all is = (is, tt)
 unit_all (x ∷ xs) e all is = (all.0, unit_all xs e all.1 is)
 

@@ -1,4 +1,5 @@
--- Every statement and every unit is read.
+-- AllByRecursion statement and every unit is read.
+use Rattle.std.specs.List.{AllByRecursion}
 use Rattle.std.proofs.Common.{◌≡◌, ℕ, zero, suc, ◌+◌, ◌≤◌, ◌<◌, Bool, true, false, List, [], ◌∷◌, ◌++◌, length, length-append, Option, Some, None, refl, ap, sym, ◌∙◌, subst, arith, append_assoc}
 use Rattle.pcc_base.specs.declared.span.Span.{Span}
 use Rattle.pcc_base.specs.declared.keyword.Keyword.TheVariants as words
@@ -11,7 +12,7 @@ use Rattle.c_grammar.specs.Marks.{mark, word, specifier_word}
 use Rattle.c_grammar.specs.Expressions.{Expr}
 use Rattle.c_grammar.specs.ExpressionTokens.{expr_tokens, expr_height, IsExpr, IsSpecifiers, specifiers_tokens}
 use Rattle.c_grammar.specs.Declarations.{DeclarationTree, DeclaratorTree, PartTree, Plain, Array, Function}
-use Rattle.c_grammar.specs.DeclarationTokens.{maybe_expr_tokens, maybe_expr_height, declaration_tokens, declaration_height, declarator_tokens, IsDeclaration, AllAre, greatest, separated, item_tokens}
+use Rattle.c_grammar.specs.DeclarationTokens.{maybe_expr_tokens, maybe_expr_height, declaration_tokens, declaration_height, declarator_tokens, IsDeclaration, greatest, separated, item_tokens}
 use Rattle.c_grammar.specs.Statements.{LabelTree, Case, Default, Stmt, Declared, Labelled, Block, Simple, If, IfElse, Switch, While, Do, For, ForDeclaration, Break, Continue, Return, Stmts, NoStmt, OneStmt, stmts_of, ExternalTree, FunctionTree, DeclaredTree}
 use Rattle.c_grammar.specs.StatementTokens.{labels_tokens, in_parens, stmt_tokens, stmts_tokens, label_height, stmt_height, stmts_height, ends_open, IsMaybeExpr, IsLabel, IsPlain, IsBlockItem, IsCase, IsStmt, AreItems, AreCases}
 use Rattle.c_grammar.specs.Grammar.{external_tokens, unit_tokens, external_height, HasParameters, IsBlock, IsExternal, Tree}
@@ -374,7 +375,7 @@ finds_item n b cb (Break at semicolon) rest is item low no_else = plain_item n b
 finds_item n b cb (Continue at semicolon) rest is item low no_else = plain_item n b cb (read_declaration b.exprs) (Continue at semicolon) rest is tt low no_else
 finds_item n b cb (Return at e semicolon) rest is item low no_else = plain_item n b cb (read_declaration b.exprs) (Return at e semicolon) rest is tt low no_else
 
-labels_continue : (h : ℕ) (b : Readers) → Complete h b → (ls : List LabelTree) (a : List LabelTree) (ts : List Token) (out : Reads (List LabelTree)) → AllAre IsLabel ls → greatest label_height ls ≤ h →
+labels_continue : (h : ℕ) (b : Readers) → Complete h b → (ls : List LabelTree) (a : List LabelTree) (ts : List Token) (out : Reads (List LabelTree)) → AllByRecursion IsLabel ls → greatest label_height ls ≤ h →
     Continues (label_step b.conditional) a (labels_tokens ls ++ ts) out → Continues (label_step b.conditional) (a ++ ls) ts out
 labels_continue h b cb [] a ts out are low before = (let Q : List LabelTree → Type 0 = λ x. Continues (label_step b.conditional) x ts out in subst Q (sym (append_nil a)) before)
 labels_continue h b cb (Case at e colon ∷ ls) a ts out are low before =
@@ -492,7 +493,7 @@ pub unit_goes : (b : Below) (a : List ExternalTree) (ts : List Token) (e : Exter
 unit_goes b a [] e us some read = absurd (omega arith)
 unit_goes b a (t ∷ ts) e us some read = rw read refl
 
-unit_continue : (n : ℕ) (b : Below) → CompleteBelow n b → (es a : List ExternalTree) (out : Reads (List ExternalTree)) → AllAre IsExternal es → greatest external_height es ≤ suc n →
+unit_continue : (n : ℕ) (b : Below) → CompleteBelow n b → (es a : List ExternalTree) (out : Reads (List ExternalTree)) → AllByRecursion IsExternal es → greatest external_height es ≤ suc n →
     Continues (unit_step b) a (unit_tokens es) out → Continues (unit_step b) (a ++ es) [] out
 unit_continue n b cb [] a out are low before = (let Q : List ExternalTree → Type 0 = λ x. Continues (unit_step b) x [] out in subst Q (sym (append_nil a)) before)
 unit_continue n b cb (e ∷ es) a out are low before =
@@ -504,7 +505,7 @@ unit_continue n b cb (e ∷ es) a out are low before =
     subst Q (append_assoc a (e ∷ []) es) all)
 
 -- a unit is read whole
-pub unit_read : (n : ℕ) (es : List ExternalTree) → AllAre IsExternal es → greatest external_height es ≤ suc n → read_unit (below_of n) (unit_tokens es) ≡ Some (es, [])
+pub unit_read : (n : ℕ) (es : List ExternalTree) → AllByRecursion IsExternal es → greatest external_height es ≤ suc n → read_unit (below_of n) (unit_tokens es) ≡ Some (es, [])
 unit_read n es are low =
     continues_done _ _ _ _ (unit_continue n (below_of n) (complete_below n) es [] _ are low (continues_start (unit_step (below_of n)) [] (unit_tokens es))) refl
 

@@ -1,5 +1,6 @@
 -- The grammar of declarations (C99 6.7): the tokens of a tree, its height, and which trees the rules make.
 use Rattle.std.specs.Prelude.{◌≡◌, ℕ, suc, ◌≤◌, max, List, [], ◌∷◌, ◌++◌, length, Option, Some, None}
+use Rattle.std.specs.List.{AllByRecursion}
 use Rattle.pcc_base.specs.declared.span.Span.{Span}
 use Rattle.c_lexer.specs.declared.token.Token.{Token}
 use Rattle.c_lexer.specs.declared.token.Punct.TheVariants as marks
@@ -23,10 +24,6 @@ separated tokens (x ∷ xs) commas = tokens x ++ followed tokens xs commas
 abbrev pub AreApart : {A : Type 0} → List A → List Span → Type 0
 AreApart [] commas = commas ≡ []
 AreApart (x ∷ xs) commas = length commas ≡ length xs
-
-abbrev pub AllAre : {A : Type 0} → (A → Type 0) → List A → Type 0
-AllAre P [] = Unit {0}
-AllAre P (x ∷ xs) = P x × AllAre P xs
 
 abbrev pub greatest : {A : Type 0} → (A → ℕ) → List A → ℕ
 greatest height [] = 0
@@ -131,7 +128,7 @@ IsParameter p = IsSpecifiers p.specifiers × IsMaybeArray p.array
 
 -- parameters : parameter (',' parameter)*
 abbrev pub IsParameters : ParametersTree → Type 0
-IsParameters p = AllAre IsParameter p.parameters × AreApart p.parameters p.commas
+IsParameters p = AllByRecursion IsParameter p.parameters × AreApart p.parameters p.commas
 
 -- declarator : pointer? ident ('[' conditional? ']' | '(' parameters? ')')?  (C99 6.7.5)
 abbrev pub IsPart : PartTree → Type 0
@@ -155,7 +152,7 @@ IsItem i = IsPart i.declarator.part × IsMaybeValue i.initialiser
 
 abbrev pub AreItems : List ItemTree → Type 0
 AreItems [] = ⊥
-AreItems (i ∷ is) = AllAre IsItem (i ∷ is)
+AreItems (i ∷ is) = AllByRecursion IsItem (i ∷ is)
 
 -- declaration : specifiers item (',' item)* ';'  (C99 6.7)
 abbrev pub IsDeclaration : DeclarationTree → Type 0

@@ -1,9 +1,10 @@
 -- The raw tree of a list of tokens (C99 6.5 to 6.9).
 use Rattle.std.specs.Prelude.{◌≡◌, ℕ, suc, max, List, [], ◌∷◌, ◌++◌}
+use Rattle.std.specs.List.{AllByRecursion}
 use Rattle.c_lexer.specs.declared.token.Token.{Token}
 use Rattle.c_grammar.specs.ExpressionTokens.{specifiers_tokens, IsSpecifiers}
 use Rattle.c_grammar.specs.Declarations.{PartTree, Function}
-use Rattle.c_grammar.specs.DeclarationTokens.{declarator_tokens, declaration_tokens, part_height, declaration_height, IsPart, IsDeclaration, AllAre, greatest}
+use Rattle.c_grammar.specs.DeclarationTokens.{declarator_tokens, declaration_tokens, part_height, declaration_height, IsPart, IsDeclaration, greatest}
 use Rattle.c_grammar.specs.Statements.{Stmt, Block, ExternalTree, FunctionTree, DeclaredTree}
 use Rattle.c_grammar.specs.StatementTokens.{stmt_tokens, stmt_height, IsStmt}
 
@@ -36,7 +37,7 @@ IsExternal (DeclaredTree d) = IsDeclaration d
 -- t is a raw tree of height h whose tokens are exactly these
 pub record Tree (tokens : List Token) (h : ℕ) (t : List ExternalTree) : Type 0 where
   -- unit : external*
-  pub is : AllAre IsExternal t
+  pub is : AllByRecursion IsExternal t
   pub tokens_are : tokens ≡ unit_tokens t
   -- the unit is no node: its height is that of its highest node, and 0 where there is none
   pub height_is : h ≡ greatest external_height t

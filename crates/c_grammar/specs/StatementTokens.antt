@@ -1,5 +1,6 @@
 -- The grammar of statements (C99 6.8): the tokens of a tree, its height, and which trees the rules make.
 use Rattle.std.specs.Prelude.{◌≡◌, ℕ, suc, ◌≤◌, max, Bool, true, false, List, [], ◌∷◌, ◌++◌, Option, Some, None}
+use Rattle.std.specs.List.{AllByRecursion}
 use Rattle.pcc_base.specs.declared.span.Span.{Span}
 use Rattle.pcc_base.specs.declared.keyword.Keyword.TheVariants as words
 use Rattle.c_lexer.specs.declared.token.Token.{Token}
@@ -7,7 +8,7 @@ use Rattle.c_lexer.specs.declared.token.Punct.TheVariants as marks
 use Rattle.c_grammar.specs.Marks.{mark, word}
 use Rattle.c_grammar.specs.Expressions.{Expr}
 use Rattle.c_grammar.specs.ExpressionTokens.{expr_tokens, expr_height, looseness, IsExpr}
-use Rattle.c_grammar.specs.DeclarationTokens.{maybe_expr_tokens, maybe_expr_height, declaration_tokens, declaration_height, IsDeclaration, AllAre, greatest}
+use Rattle.c_grammar.specs.DeclarationTokens.{maybe_expr_tokens, maybe_expr_height, declaration_tokens, declaration_height, IsDeclaration, greatest}
 use Rattle.c_grammar.specs.Statements.{LabelTree, Case, Default, Stmt, Declared, Labelled, Block, Simple, If, IfElse, Switch, While, Do, For, ForDeclaration, Break, Continue, Return, Stmts, NoStmt, OneStmt}
 
 -- ---- tokens
@@ -119,7 +120,7 @@ abbrev mutual
   pub IsStmt : Stmt → Type 0
   IsStmt (Declared d) = IsDeclaration d
   -- label* statement
-  IsStmt (Labelled before s) = AllAre IsLabel before × IsStmt s × IsPlain s
+  IsStmt (Labelled before s) = AllByRecursion IsLabel before × IsStmt s × IsPlain s
   -- block : '{' (declaration | statement)* '}'  (C99 6.8.2)
   IsStmt (Block o items c) = AreItems items
   -- expression? ';'  (C99 6.8.3)

@@ -1,9 +1,9 @@
 -- What the answer says of the unit.
+use Rattle.std.specs.List.{AllByRecursion}
 use Rattle.std.proofs.Common.{◌≡◌, ◌≤◌, ℕ, List, length, Option, Some, None, Result, Ok, Err, IfOk, IfSome, IfNone}
 use Rattle.std.proofs.Common.{option_map, sym}
 use Rattle.pcc_base.specs.declared.memory.NoMemory.{NoMemory}
 use Rattle.c_grammar.specs.Statements.{ExternalTree}
-use Rattle.c_grammar.specs.DeclarationTokens.{AllAre}
 use Rattle.c_grammar.specs.Grammar.{unit_tokens}
 use Rattle.c_tree.specs.declared.program.Program.{Program as Built}
 use Rattle.c_tree.specs.Program.{Function, Program}
@@ -54,7 +54,7 @@ accepted_program (Err e) unit h = tt
 
 pub framed_program : (r : Result (Option Built) NoMemory) (unit : List ExternalTree)
     → IfOk r (λ o. option_map program_of o ≡ read_unit unit)
-    → IfOk r (λ o. IfSome o (λ p. AllAre (λ (f : Function). frame_bound f ≤ 16384) (program_of p).functions))
+    → IfOk r (λ o. IfSome o (λ p. AllByRecursion (λ (f : Function). frame_bound f ≤ 16384) (program_of p).functions))
 framed_program (Ok (Some p)) unit e = small_frames unit (program_of p) (unit_reads unit (program_of p) (sym e))
 framed_program (Ok None) unit e = tt
 framed_program (Err e) unit h = tt

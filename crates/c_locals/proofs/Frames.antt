@@ -1,11 +1,11 @@
 -- The frame of a program of the form is within its limit.
+use Rattle.std.specs.List.{AllByRecursion}
 use Rattle.std.proofs.Common.{◌≡◌, ◌≤◌, ◌<◌, ℕ, suc, List, [], ◌∷◌, length, Bool, true, false, ◌&&◌}
 use Rattle.std.proofs.Common.{not, is_some, nat_lt, ap, sym, subst, inl, inr, arith}
 use Rattle.std.proofs.Common.{length-append}
 use Rattle.std.proofs.lemmas.Bool.{ltb-true}
 use Rattle.c_grammar.specs.Expressions as trees
 use Rattle.c_grammar.specs.Expressions.{Expr}
-use Rattle.c_grammar.specs.DeclarationTokens.{AllAre}
 use Rattle.c_grammar.specs.Statements.{ExternalTree, Stmts, NoStmt, OneStmt}
 use Rattle.c_tree.specs.Program.{Expression, Statement, Statements, Function, Program}
 use Rattle.c_tree.specs.Sizes.{height, statement_height, statements_height, frame_bound}
@@ -104,8 +104,8 @@ body_names (OneStmt s ss) names n all body (inr h) few = body_names ss h.0 (suc 
 
 -- the frame of the program's function is within its limit
 pub small_frames : (unit : List ExternalTree) (p : Program) → IsLocalsProgram unit p
-    → AllAre (λ (f : Function). frame_bound f ≤ 16384) p.functions
+    → AllByRecursion (λ (f : Function). frame_bound f ≤ 16384) p.functions
 small_frames unit p h =
     let few : length h.1 ≤ 1000 = body_names h.0 [] 0 h.1 h.2 h.5 (omega arith) in
     let low : statements_height h.2 ≤ 4 = body_height h.0 [] 0 h.1 h.2 h.5 in
-    subst (λ (q : Program). AllAre (λ (f : Function). frame_bound f ≤ 16384) q.functions) (sym h.6) (omega (arith, length-locals h.1), tt)
+    subst (λ (q : Program). AllByRecursion (λ (f : Function). frame_bound f ≤ 16384) q.functions) (sym h.6) (omega (arith, length-locals h.1), tt)

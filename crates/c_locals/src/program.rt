@@ -1,8 +1,8 @@
 //! The program of a unit.
 
 ghost use Rattle.std.specs.Prelude.{◌≡◌, ◌≤◌, Some, length, map, option_map, IfOk, IfSome, IfNone};
+ghost use Rattle.std.specs.List.{AllByRecursion};
 ghost use Rattle.c_grammar.specs.Statements.{stmt_of, stmts_of, unit_of};
-ghost use Rattle.c_grammar.specs.DeclarationTokens.{AllAre};
 ghost use Rattle.c_grammar.specs.Grammar.{unit_tokens};
 ghost use Rattle.c_tree.specs.Erased.{program_of};
 ghost use Rattle.c_tree.specs.Sizes.{frame_bound, size_of};
@@ -76,7 +76,7 @@ pub fn locals_program(alloc: Global, unit: &RawUnit) -> Result<Option<Program>, 
     ensures none { IfOk result (λ o. IfNone o ((p : Typed) → ¬ IsLocalsProgram (unit_of unit.now) p)) }
     ensures sized { IfOk result (λ o. IfSome o
         (λ p. size_of (program_of p) ≤ length (unit_tokens (unit_of unit.now)))) }
-    ensures frames { IfOk result (λ o. IfSome o (λ p. AllAre (λ f. frame_bound f ≤ 16384) (program_of p).functions)) }
+    ensures frames { IfOk result (λ o. IfSome o (λ p. AllByRecursion (λ f. frame_bound f ≤ 16384) (program_of p).functions)) }
     ensures accepted { IfOk result (λ o.
         IfSome o (λ p. length (unit_tokens (unit_of unit.now)) ≤ 65536 → IsSlotProgram (program_of p))) }
 {

@@ -1,4 +1,5 @@
 -- The ops of a body: of which kinds they are, that they fit, where they end, and which statements they mark.
+use Rattle.std.specs.List.{AllByRecursion}
 use Rattle.std.proofs.Common.{◌≡◌, ◌≢◌, ℕ, suc, ◌+◌, ◌<◌, ◌≤◌, ◌*◌, false, ℤ, pos, List, [], ◌∷◌, ◌++◌, length, Some, refl, sym, ap, ◌∙◌, subst, arith, append_assoc, length-append}
 use Rattle.pcc_base.specs.declared.run.Width.TheVariants.{Two}
 use Rattle.c_tree.specs.declared.expression.BinaryOp.TheVariants as binary
@@ -8,7 +9,7 @@ use Rattle.c_tree.specs.Program.{Expression, Constant, Read, Binary, Assign, Put
 use Rattle.c_tree.specs.Sizes.{expression_size, height, statements_height, statements_size}
 use Rattle.flow_graph.specs.declared.op.Op.{Op}
 use Rattle.flow_graph.specs.declared.op.Op.TheVariants as op
-use Rattle.flow_graph.specs.Graphs.{Every, FitsOp, IsDistinct, is_end}
+use Rattle.flow_graph.specs.Graphs.{FitsOp, IsDistinct, is_end}
 pub use Rattle.flow_graph.specs.SlotGraphs.{IsSlotOp}
 use Rattle.c_lower.specs.Code.{AllFit, EndsLast, body_ops, straight, sum_ops, temporaries}
 use Rattle.c_tree.specs.SlotForm.{AreSlotStatements, IsBody, IsSum}
@@ -18,7 +19,7 @@ use Rattle.c_lower.proofs.SumRuns.{height-positive, sum-more}
 
 -- ---- lists
 
-pub every-append : {X : Type 0} (P : X → Type 0) (xs ys : List X) → Every P xs → Every P ys → Every P (xs ++ ys)
+pub every-append : {X : Type 0} (P : X → Type 0) (xs ys : List X) → AllByRecursion P xs → AllByRecursion P ys → AllByRecursion P (xs ++ ys)
 every-append P [] ys all more = more
 every-append P (x ∷ xs) ys all more = (all.0, every-append P xs ys all.1 more)
 
@@ -30,7 +31,7 @@ height-some : (e : Expression) (locals : ℕ) → IsSum locals e → 0 < height 
 height-some e locals is = height-positive e locals is
 
 -- what holds of each op of a sum, if it holds of these
-pub every-sum : (P : Op → Type 0) (e : Expression) (locals d top : ℕ) → IsSum locals e → d + height e ≤ top → ((k : ℕ) (n : ℤ) → k < top → P (op.Const k n)) → ((k v : ℕ) → k < top → v < locals → P (op.Copy k v)) → ((k : ℕ) → suc k < top → P (op.Add k k (suc k))) → ((k : ℕ) → suc k < top → P (op.Sub k k (suc k))) → Every P (sum_ops d e)
+pub every-sum : (P : Op → Type 0) (e : Expression) (locals d top : ℕ) → IsSum locals e → d + height e ≤ top → ((k : ℕ) (n : ℤ) → k < top → P (op.Const k n)) → ((k v : ℕ) → k < top → v < locals → P (op.Copy k v)) → ((k : ℕ) → suc k < top → P (op.Add k k (suc k))) → ((k : ℕ) → suc k < top → P (op.Sub k k (suc k))) → AllByRecursion P (sum_ops d e)
 every-sum P (Constant Int n) locals d top is room c r a s = (c d n (omega (arith, room)), tt)
 every-sum P (Read of (LocalPlace v)) locals d top is room c r a s = (r d v (omega (arith, room)) is.0, tt)
 every-sum P (Binary of binary.Add x y) locals d top is room c r a s =
@@ -51,7 +52,7 @@ pub record OfEach (P : Op → Type 0) (locals top : ℕ) : Type 0 where
   pub putchar : locals < top → P (op.Putchar locals locals)
   pub ret : locals < top → P (op.Return (Some locals))
 
-pub every-body : (P : Op → Type 0) (locals top declared number : ℕ) (ss : Statements) → IsBody locals declared number ss → declared ≤ locals → locals + temporaries ss ≤ top → OfEach P locals top → Every P (body_ops locals ss)
+pub every-body : (P : Op → Type 0) (locals top declared number : ℕ) (ss : Statements) → IsBody locals declared number ss → declared ≤ locals → locals + temporaries ss ≤ top → OfEach P locals top → AllByRecursion P (body_ops locals ss)
 every-body P locals top declared number (Next (Declare (Scalar n v (Some e))) others) is fewer room each =
     let some = height-some e declared is.3 in (
       each.mark n,
@@ -86,7 +87,7 @@ every-body P locals top declared number (Next (Return n (Some e)) Done) is fewer
 every-body P locals top declared number _ is fewer room each = absurd is
 
 -- they are of the kinds that are emitted so far
-pub slot-body : (locals declared number : ℕ) (ss : Statements) → IsBody locals declared number ss → declared ≤ locals → Every IsSlotOp (body_ops locals ss)
+pub slot-body : (locals declared number : ℕ) (ss : Statements) → IsBody locals declared number ss → declared ≤ locals → AllByRecursion IsSlotOp (body_ops locals ss)
 slot-body locals declared number ss is fewer =
     every-body IsSlotOp locals (locals + temporaries ss) declared number ss is fewer (omega arith) (record { constant = λ k n h. tt; copy = λ k v h g. tt; add = λ k h. tt; sub = λ k h. tt; mark = λ n. tt; putchar = λ h. tt; ret = λ h. tt })
 
@@ -105,13 +106,13 @@ fit-body locals top declared number ss is fewer room =
 
 -- ---- ends
 
-ends-after : (xs ys : List Op) → Every (λ i. is_end i ≡ false) xs → EndsLast ys → EndsLast (xs ++ ys)
+ends-after : (xs ys : List Op) → AllByRecursion (λ i. is_end i ≡ false) xs → EndsLast ys → EndsLast (xs ++ ys)
 ends-after [] ys plain ends = ends
 ends-after (i ∷ []) [] plain ends = absurd ends
 ends-after (i ∷ []) (j ∷ ys) plain ends = (plain.0, ends)
 ends-after (i ∷ j ∷ xs) ys plain ends = (plain.0, ends-after (j ∷ xs) ys plain.1 ends)
 
-plain-sum : (locals d : ℕ) (e : Expression) → IsSum locals e → Every (λ i. is_end i ≡ false) (sum_ops d e)
+plain-sum : (locals d : ℕ) (e : Expression) → IsSum locals e → AllByRecursion (λ i. is_end i ≡ false) (sum_ops d e)
 plain-sum locals d e is = every-sum (λ i. is_end i ≡ false) e locals d (d + height e) is (omega arith) (λ k n h. refl) (λ k v h g. refl) (λ k h. refl) (λ k h. refl)
 
 -- a body ends in its return
@@ -224,9 +225,9 @@ sum-then locals d e i rest is none =
 
 -- the marks of a body differ, and none is less than the number of its first statement
 abbrev Numbered : ℕ → List ℕ → Type 0
-Numbered number ms = Every (λ m. number ≤ m) ms × IsDistinct ms
+Numbered number ms = AllByRecursion (λ m. number ≤ m) ms × IsDistinct ms
 
-raise : (number : ℕ) (ms : List ℕ) → Every (λ m. suc number ≤ m) ms → Every (λ m. number ≤ m) ms × Every (λ m. m ≢ number) ms
+raise : (number : ℕ) (ms : List ℕ) → AllByRecursion (λ m. suc number ≤ m) ms → AllByRecursion (λ m. number ≤ m) ms × AllByRecursion (λ m. m ≢ number) ms
 raise number [] all = (tt, tt)
 raise number (m ∷ ms) all =
     let rest = raise number ms all.1 in
@@ -238,7 +239,7 @@ one-more n number ms ns e same h =
     subst (λ (ks : List ℕ). Numbered number (n ∷ ks)) (sym same)
     (subst (λ (k : ℕ). Numbered number (k ∷ ns)) (sym e) ((omega arith, r.0), (r.1, h.1)))
 
-pub body-marks : (locals declared number : ℕ) (ss : Statements) → IsBody locals declared number ss → Every (λ m. number ≤ m) (marks_in (body_ops locals ss)) × IsDistinct (marks_in (body_ops locals ss))
+pub body-marks : (locals declared number : ℕ) (ss : Statements) → IsBody locals declared number ss → AllByRecursion (λ m. number ≤ m) (marks_in (body_ops locals ss)) × IsDistinct (marks_in (body_ops locals ss))
 body-marks locals declared number (Next (Declare (Scalar n v (Some e))) others) is =
     one-more n number _ _ is.0 (sum-then declared locals e (op.Copy v locals) (body_ops locals others) is.3 refl) (body-marks locals (suc declared) (suc number) others is.4)
 body-marks locals declared number (Next (Evaluate n (Assign (Integer Int) (LocalPlace v) e)) others) is =

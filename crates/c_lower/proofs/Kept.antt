@@ -1,7 +1,7 @@
 -- What lowering promises beside the outcome.
 use Rattle.std.proofs.Common.{◌≡◌, ℕ, zero, suc, ◌+◌, ◌*◌, ◌<◌, ◌≤◌, true, List, [], ◌∷◌, ◌++◌, length, map, replicate, Some, refl, sym, ap, ◌∙◌, subst, arith}
 use Rattle.std.specs.Prelude.{slice_get, sum_by}
-use Rattle.std.specs.List.{All, range_with_len}
+use Rattle.std.specs.List.{All, AllByRecursion, range_with_len}
 use Rattle.std.proofs.lemmas.List.Elements.{All-cons, All-nil}
 use Rattle.pcc_base.specs.Objects.{IsObject}
 use Rattle.std.proofs.lemmas.List.{append-nil}
@@ -15,7 +15,7 @@ use Rattle.c_tree.specs.Program.{Local, Function, Program}
 use Rattle.c_tree.specs.Sizes.{function_size, size_of, statements_size}
 use Rattle.flow_graph.specs.declared.op.Op.{Op}
 use Rattle.flow_graph.specs.declared.op.Op.TheVariants as op
-use Rattle.flow_graph.specs.Graphs.{Every, Flow, IsDistinct, IsEnded, IsFlow, LastIsEnd, is_end}
+use Rattle.flow_graph.specs.Graphs.{Flow, IsDistinct, IsEnded, IsFlow, LastIsEnd, is_end}
 use Rattle.flow_graph.specs.Liveness.{FixedDies, IsLiveBefore}
 use Rattle.flow_graph.specs.Sizes.{most_words, words_of}
 use Rattle.flow_graph.specs.Running.{IsNeverStuck}
@@ -64,7 +64,7 @@ function-facts f slot =
       ends = ends-turn (body_ops L f.body) (ends-body L 0 0 f.body slot.body);
     }
 
-slot-ops : (f : Function) → IsSlotFunction f → Every IsSlotOp (function_ops f)
+slot-ops : (f : Function) → IsSlotFunction f → AllByRecursion IsSlotOp (function_ops f)
 slot-ops f slot = (tt, slot-body (length f.locals) 0 0 f.body slot.body (omega arith))
 
 -- ---- variables
@@ -131,17 +131,17 @@ names-own functions objects (op.Get bits d k) slot = absurd slot
 names-own functions objects (op.Put bits k s) slot = absurd slot
 names-own functions objects _ slot = tt
 
-all-names : (functions objects : ℕ) (ops : List Op) → Every IsSlotOp ops → All (NamesWithin functions objects) ops
+all-names : (functions objects : ℕ) (ops : List Op) → AllByRecursion IsSlotOp ops → All (NamesWithin functions objects) ops
 all-names functions objects [] slot = All-nil (NamesWithin functions objects)
 all-names functions objects (i ∷ ops) slot =
     All-cons (NamesWithin functions objects) i ops (names-own functions objects i slot.0)
     (all-names functions objects ops slot.1)
 
-most-none : (ops : List Op) → Every IsSlotOp ops → most_words ops ≡ 0
+most-none : (ops : List Op) → AllByRecursion IsSlotOp ops → most_words ops ≡ 0
 most-none [] slot = refl
 most-none (i ∷ ops) slot = omega (arith, no-words i slot.0, most-none ops slot.1)
 
-sum-none : (ops : List Op) → Every IsSlotOp ops → sum_by words_of ops ≡ 0
+sum-none : (ops : List Op) → AllByRecursion IsSlotOp ops → sum_by words_of ops ≡ 0
 sum-none [] slot = refl
 sum-none (i ∷ ops) slot = sum_by-cons words_of i ops ∙ omega (arith, no-words i slot.0, sum-none ops slot.1)
 
@@ -210,12 +210,12 @@ objects-kept program slot = sym (ap (map data_object) slot.no_objects)
 
 -- graphs that are graphs are those of a program of graphs
 pub program-kept : (program : Program) (graphs : GraphProgram) → IsSlotProgram program → graphs ≡ slot_graphs program
-    → Every (λ flow. (homes : List ℕ) × IsFlow flow homes) graphs.functions → IsGraphProgram graphs
+    → AllByRecursion (λ flow. (homes : List ℕ) × IsFlow flow homes) graphs.functions → IsGraphProgram graphs
 program-kept program graphs slot same flows =
     let f = slot.function in
     let one = one_block (variables f) (function_ops f) in
     let is : graphs ≡ one = same ∙ one-graph program slot in
-    let kept : Every (λ flow. (homes : List ℕ) × IsFlow flow homes) one.functions = subst (λ (g : GraphProgram). Every (λ flow. (homes : List ℕ) × IsFlow flow homes) g.functions) is flows in
+    let kept : AllByRecursion (λ flow. (homes : List ℕ) × IsFlow flow homes) one.functions = subst (λ (g : GraphProgram). AllByRecursion (λ flow. (homes : List ℕ) × IsFlow flow homes) g.functions) is flows in
     let ended = straight-ended (function_ops f) (function-facts f slot.accepted).ends in
     let graph : IsGraph 1 0 (lowered f) = record {
       keeps = kept.0;
@@ -248,14 +248,14 @@ marks-kept program slot k f flow e h =
         subst (λ (fl : Flow). MarksStatements 0 g fl) (same_Some (lowered f) flow h) (subst (λ (x : Function). MarksStatements 0 x (lowered f)) (same_Some f g e) (function-marked f slot))
     each-marked f slot (suc k) g flow e h = absurd (none-some g e)
 
-all-two : (n : ℕ) → Every (λ width. width ≡ Two) (replicate n Two)
+all-two : (n : ℕ) → AllByRecursion (λ width. width ≡ Two) (replicate n Two)
 all-two zero = tt
 all-two (suc n) = (refl, all-two n)
 
 pub slots-kept : (program : Program) → IsSlotProgram program → AreSlotGraphs (slot_graphs program)
 slots-kept program slot =
     let f = slot.function in
-    subst (λ (fs : List Function). Every IsSlotFlow (map lowered fs)) (sym slot.one_function)
+    subst (λ (fs : List Function). AllByRecursion IsSlotFlow (map lowered fs)) (sym slot.one_function)
     (record { widths = all-two (variables f); ops = slot-ops f slot.accepted }, tt)
 
 pub graphs-small : (program : Program) → IsSlotProgram program → AreSmall program (slot_graphs program)

@@ -1,7 +1,7 @@
 -- Nothing is live at the first point of a body's graph, and no temporary at a mark.
 use Rattle.std.proofs.Common.{◌≡◌, ◌≢◌, ℕ, zero, suc, ◌+◌, ◌<◌, ◌≤◌, Bool, cond, pos, List, [], ◌∷◌, ◌++◌, length, Option, Some, None, refl, sym, ap, ◌∙◌, subst, arith, inl, inr, append_assoc, length-append}
 use Rattle.std.specs.Prelude.{slice_get}
-use Rattle.std.specs.List.{range_with_len}
+use Rattle.std.specs.List.{AllByRecursion, range_with_len}
 use Rattle.std.proofs.lemmas.Bool.{cases_eq, cases_lt}
 use Rattle.std.proofs.lemmas.Bool.Decides.{eqb_tells}
 use Rattle.std.proofs.lemmas.Option.{none-some, same_Some}
@@ -12,7 +12,7 @@ use Rattle.c_tree.specs.Program.{Expression, Constant, Read, Binary, Assign, Put
 use Rattle.c_tree.specs.Sizes.{height}
 use Rattle.flow_graph.specs.declared.op.Op.{Op}
 use Rattle.flow_graph.specs.declared.op.Op.TheVariants as op
-use Rattle.flow_graph.specs.Graphs.{Every, IsIn, following, points_of}
+use Rattle.flow_graph.specs.Graphs.{IsIn, following, points_of}
 use Rattle.flow_graph.specs.Liveness.{BeginsWith, IsLiveBefore, IsSuccessor, LeadsTo, ReachesUse, defined, if_any, uses}
 use Rattle.flow_graph.proofs.Points.{every-in}
 use Rattle.c_lower.specs.Code.{body_ops, straight, sum_ops}
@@ -54,19 +54,19 @@ leads-next variables ops p q op.Turn slot leads = following-straight variables o
 leads-next variables ops p q (op.Return (Some a)) slot leads = absurd leads
 leads-next variables ops p q _ slot leads = absurd slot
 
-pub slot-at : (ops : List Op) (p : ℕ) (i : Op) → Every IsSlotOp ops → slice_get ops p ≡ Some i → IsSlotOp i
+pub slot-at : (ops : List Op) (p : ℕ) (i : Op) → AllByRecursion IsSlotOp ops → slice_get ops p ≡ Some i → IsSlotOp i
 slot-at [] p i slot e = absurd (none-some i e)
 slot-at (j ∷ ops) zero i slot e = subst IsSlotOp (same_Some j i e) slot.0
 slot-at (j ∷ ops) (suc p) i slot e = slot-at ops p i slot.1 e
 
-next-only : (variables : ℕ) (ops : List Op) (p q : ℕ) → Every IsSlotOp ops → IsSuccessor (straight variables ops) p q → q ≡ suc p
+next-only : (variables : ℕ) (ops : List Op) (p q : ℕ) → AllByRecursion IsSlotOp ops → IsSuccessor (straight variables ops) p q → q ≡ suc p
 next-only variables ops p q slot (placed, i, at, leads) = leads-next variables ops p q i (slot-at ops p i slot at) leads
 
 -- ---- every use has a definition before it, or is known from before
 
 abbrev Closed : List ℕ → List Op → Type 0
 Closed known [] = Unit {0}
-Closed known (i ∷ is) = Every (λ v. IsIn v known) (uses i) × Closed (if_any (defined i) ++ known) is
+Closed known (i ∷ is) = AllByRecursion (λ v. IsIn v known) (uses i) × Closed (if_any (defined i) ++ known) is
 
 past-end : (ops : List Op) (p : ℕ) (i : Op) → p + 0 ≡ length ops → slice_get ops p ≡ Some i → ⊥
 past-end [] p i e at = none-some i at
@@ -79,7 +79,7 @@ beyond (j ∷ ops) zero i h at = absurd (omega (arith, h))
 beyond (j ∷ ops) (suc q) i h at = beyond ops q i (omega (arith, h)) at
 
 -- what is live there is known from before
-live-known : (variables : ℕ) (ops is : List Op) (n p v : ℕ) (known : List ℕ) → Every IsSlotOp ops → HasAt ops p is → p + length is ≡ length ops → Closed known is → ReachesUse (straight variables ops) v n p → IsIn v known
+live-known : (variables : ℕ) (ops is : List Op) (n p v : ℕ) (known : List ℕ) → AllByRecursion IsSlotOp ops → HasAt ops p is → p + length is ≡ length ops → Closed known is → ReachesUse (straight variables ops) v n p → IsIn v known
 live-known variables ops [] zero p v known slot has end closed (placed, i, at, used) = absurd (past-end ops p i end at)
 live-known variables ops (i ∷ is) zero p v known slot has end closed (placed, j, at, used) =
     let same : j ≡ i = same_Some j i (sym at ∙ has.0) in
@@ -196,7 +196,7 @@ body-closed locals declared number _ known is knows = absurd is
 -- ---- the first point
 
 -- nothing is live where a turn starts and then the body
-pub start-closed : (variables locals : ℕ) (ss : Statements) (point v : ℕ) → IsBody locals 0 0 ss → Every IsSlotOp (op.Turn ∷ body_ops locals ss) → HasAt (op.Turn ∷ body_ops locals ss) 0 (op.Turn ∷ body_ops locals ss) → BeginsWith (straight variables (op.Turn ∷ body_ops locals ss)) 0 point → IsLiveBefore (straight variables (op.Turn ∷ body_ops locals ss)) v point → ⊥
+pub start-closed : (variables locals : ℕ) (ss : Statements) (point v : ℕ) → IsBody locals 0 0 ss → AllByRecursion IsSlotOp (op.Turn ∷ body_ops locals ss) → HasAt (op.Turn ∷ body_ops locals ss) 0 (op.Turn ∷ body_ops locals ss) → BeginsWith (straight variables (op.Turn ∷ body_ops locals ss)) 0 point → IsLiveBefore (straight variables (op.Turn ∷ body_ops locals ss)) v point → ⊥
 start-closed variables locals ss point v is slot has begins (n, reach) =
     let ops = op.Turn ∷ body_ops locals ss in
     let first : 0 ≡ point = same_Some 0 point begins in
@@ -218,7 +218,7 @@ range-has a (suc n) v low high = elim (cases_eq a v) [
 ]
 
 -- the op at a place among those that stand there
-op-among : (P : Op → Type 0) (ops is : List Op) (p q : ℕ) (i : Op) → HasAt ops p is → Every P is → p ≤ q → q < p + length is → slice_get ops q ≡ Some i → P i
+op-among : (P : Op → Type 0) (ops is : List Op) (p q : ℕ) (i : Op) → HasAt ops p is → AllByRecursion P is → p ≤ q → q < p + length is → slice_get ops q ≡ Some i → P i
 op-among P ops [] p q i has all low high at = absurd (omega (arith, low, high))
 op-among P ops (j ∷ is) p q i has all low high at = elim (cases_eq p q) [
   | inl same ↦ (
@@ -228,16 +228,16 @@ op-among P ops (j ∷ is) p q i has all low high at = elim (cases_eq p q) [
   | inr other ↦ op-among P ops is (suc p) q i has.1 all.1 (omega (arith, low, other)) (omega (arith, high)) at
 ]
 
-not-mark : (ops is : List Op) (p q statement : ℕ) → HasAt ops p is → Every (λ i. mark_of i ≡ []) is → p ≤ q → q < p + length is → slice_get ops q ≡ Some (op.Mark statement) → ⊥
+not-mark : (ops is : List Op) (p q statement : ℕ) → HasAt ops p is → AllByRecursion (λ i. mark_of i ≡ []) is → p ≤ q → q < p + length is → slice_get ops q ≡ Some (op.Mark statement) → ⊥
 not-mark ops is p q statement has none low high at =
     let marked : statement ∷ [] ≡ [] = op-among (λ i. mark_of i ≡ []) ops is p q (op.Mark statement) has none low high at in
     absurd (cc)
 
-sum-no_mark : (declared d : ℕ) (e : Expression) → IsSum declared e → Every (λ i. mark_of i ≡ []) (sum_ops d e)
+sum-no_mark : (declared d : ℕ) (e : Expression) → IsSum declared e → AllByRecursion (λ i. mark_of i ≡ []) (sum_ops d e)
 sum-no_mark declared d e is = every-sum (λ i. mark_of i ≡ []) e declared d (d + height e) is (omega arith) (λ k n h. refl) (λ k v h g. refl) (λ k h. refl) (λ k h. refl)
 
 -- at a mark only locals are live
-module _ (variables locals : ℕ) (ops : List Op) (slot : Every IsSlotOp ops) where
+module _ (variables locals : ℕ) (ops : List Op) (slot : AllByRecursion IsSlotOp ops) where
   -- at the first point of the ops of these statements
   live-here : (declared number p v n : ℕ) (ss : Statements) → IsBody locals declared number ss → declared ≤ locals → HasAt ops p (body_ops locals ss) → p + length (body_ops locals ss) ≡ length ops → ReachesUse (straight variables ops) v n p → v < locals
   live-here declared number p v n ss is fewer has end reach =
@@ -246,7 +246,7 @@ module _ (variables locals : ℕ) (ops : List Op) (slot : Every IsSlotOp ops) wh
       omega (arith, in-range 0 locals v live)
 
   -- a statement that begins with its mark and has no other, and then others
-  at-or-after : (mine rest : List Op) (p q v n statement : ℕ) → HasAt ops p mine → Every (λ i. mark_of i ≡ []) rest → length mine ≡ suc (length rest) → HasAt ops (suc p) rest → p ≤ q → slice_get ops q ≡ Some (op.Mark statement) → ReachesUse (straight variables ops) v n q → (ReachesUse (straight variables ops) v n p → v < locals) → (p + length mine ≤ q → v < locals) → v < locals
+  at-or-after : (mine rest : List Op) (p q v n statement : ℕ) → HasAt ops p mine → AllByRecursion (λ i. mark_of i ≡ []) rest → length mine ≡ suc (length rest) → HasAt ops (suc p) rest → p ≤ q → slice_get ops q ≡ Some (op.Mark statement) → ReachesUse (straight variables ops) v n q → (ReachesUse (straight variables ops) v n p → v < locals) → (p + length mine ≤ q → v < locals) → v < locals
   at-or-after mine rest p q v n statement has none len has_rest low at reach here later = elim (cases_eq p q) [
     | inl same ↦ here (subst (λ (k : ℕ). ReachesUse (straight variables ops) v n k) (sym same) reach)
     | inr other ↦ elim (cases_lt q (p + length mine)) [

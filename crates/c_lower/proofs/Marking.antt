@@ -1,7 +1,7 @@
 -- The statements of a body have marks, and no others.
 use Rattle.std.proofs.Common.{◌≡◌, ℕ, zero, suc, ◌+◌, ◌<◌, ◌≤◌, List, [], ◌∷◌, ◌++◌, length, Some, sym, ap, ◌∙◌, subst, arith, inl, inr}
 use Rattle.std.specs.Prelude.{slice_get, sum_by, take}
-use Rattle.std.specs.List.{range_with_len}
+use Rattle.std.specs.List.{AllByRecursion, range_with_len}
 use Rattle.std.proofs.lemmas.Bool.{cases_lt}
 use Rattle.std.proofs.lemmas.Option.{none-some, same_Some, slice_get_within}
 use Rattle.c_tree.specs.declared.types.IntegerType.TheVariants.{Int}
@@ -11,7 +11,7 @@ use Rattle.c_tree.specs.SlotForm.{IsBody, IsSlotFunction, IsSlotProgram, IsSum}
 use Rattle.c_tree.specs.Sizes.{height}
 use Rattle.flow_graph.specs.declared.op.Op.{Op}
 use Rattle.flow_graph.specs.declared.op.Op.TheVariants as op
-use Rattle.flow_graph.specs.Graphs.{Every, Flow, IsIn, IsPlaced}
+use Rattle.flow_graph.specs.Graphs.{Flow, IsIn, IsPlaced}
 use Rattle.c_lower.specs.Code.{body_ops, lowered, statement_ops, sum_ops}
 use Rattle.c_lower.specs.Lowering.{MarksStatements, first_statement}
 use Rattle.c_lower.specs.Shown.{numbers_of}
@@ -24,11 +24,11 @@ abbrev IsBelow : ℕ → Op → Type 0
 IsBelow top (op.Mark n) = n < top
 IsBelow top _ = Unit {0}
 
-below-sum : (top locals d : ℕ) (e : Expression) → IsSum locals e → Every (IsBelow top) (sum_ops d e)
+below-sum : (top locals d : ℕ) (e : Expression) → IsSum locals e → AllByRecursion (IsBelow top) (sum_ops d e)
 below-sum top locals d e is = every-sum (IsBelow top) e locals d (d + height e) is (omega arith) (λ k n h. tt) (λ k v h g. tt) (λ k h. tt) (λ k h. tt)
 
 -- the marks of a body are of its statements
-below-body : (top locals declared number : ℕ) (ss : Statements) → IsBody locals declared number ss → number + numbers_of ss ≤ top → Every (IsBelow top) (body_ops locals ss)
+below-body : (top locals declared number : ℕ) (ss : Statements) → IsBody locals declared number ss → number + numbers_of ss ≤ top → AllByRecursion (IsBelow top) (body_ops locals ss)
 below-body top locals declared number (Next (Declare (Scalar n v (Some e))) others) is room = (
   omega (arith, is.0, room),
   (
@@ -105,7 +105,7 @@ within-range a (suc n) p low high =
     ]
 
 -- what holds of each op holds of one
-every-at : (P : Op → Type 0) (ops : List Op) (p : ℕ) (i : Op) → Every P ops → slice_get ops p ≡ Some i → P i
+every-at : (P : Op → Type 0) (ops : List Op) (p : ℕ) (i : Op) → AllByRecursion P ops → slice_get ops p ≡ Some i → P i
 every-at P [] p i all at = absurd (none-some i at)
 every-at P (o ∷ ops) zero i all at = subst P (same_Some o i at) all.0
 every-at P (o ∷ ops) (suc p) i all at = every-at P ops p i all.1 at
@@ -121,6 +121,6 @@ function-marked f form =
           let (p, at) : HasMark n ops = behind n (op.Turn ∷ []) (body_ops L f.body) (statements-marked L L 0 0 n f.body form.body (omega arith) (omega (arith, high))) in
           (p, (0, within-range 0 (length ops) p (omega arith) (omega (arith, slice_get_within ops p (op.Mark n) at))), at);
       only = λ p n at.
-          let below : Every (IsBelow N) ops = (tt, below-body N L 0 0 f.body form.body (omega arith)) in
+          let below : AllByRecursion (IsBelow N) ops = (tt, below-body N L 0 0 f.body form.body (omega arith)) in
           (omega arith, omega (arith, every-at (IsBelow N) ops p (op.Mark n) below at));
     }

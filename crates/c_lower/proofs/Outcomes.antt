@@ -1,4 +1,5 @@
 -- Lowering keeps the outcome.
+use Rattle.std.specs.List.{AllByRecursion}
 use Rattle.std.proofs.Common.{◌≡◌, ℕ, zero, suc, ◌+◌, ◌<◌, ℤ, pos, List, [], ◌∷◌, length, map, replicate, Option, Some, refl, sym, ap, ◌∙◌, subst, arith}
 use Rattle.std.specs.Prelude.{slice_get}
 use Rattle.std.proofs.lemmas.Option.{none-some, same_Some}
@@ -11,7 +12,6 @@ use Rattle.c_tree.specs.Program.{int, Local, Function, Program}
 use Rattle.c_tree.specs.Store as source
 use Rattle.c_tree.specs.Store.{Held, HoldsNumber, first_array, first_values, number_held, zero_of}
 use Rattle.flow_graph.specs.declared.op.Op.TheVariants as op
-use Rattle.flow_graph.specs.Graphs.{Every}
 use Rattle.flow_graph.specs.Running.{GraphOutcome, number_or_unknown, part_value}
 use Rattle.flow_graph.specs.States.{GraphProgram, number_of}
 use Rattle.c_lower.specs.Code.{body_ops, function_ops, variables}
@@ -76,7 +76,7 @@ part-shown locals (Scalar k) p values before left taken written ints (l, e, is) 
 part-shown locals (ArrayOf k) p values before left taken written ints (l, e, is) matches = absurd (subst (λ (t : ValueType). IsPointer t) (local-int locals k l ints e) is)
 part-shown locals (IndexOf k) p values before left taken written ints (l, e, is) matches = absurd (subst (λ (t : ValueType). IsPointer t) (local-int locals k l ints e) is)
 
-parts-shown : (locals : List Local) (parts : List Part) (p : ℕ) (values : List Held) (before : List Value) (left : List ℕ) (taken : ℕ) (written : List ℕ) → AreIntLocals locals → Every (IsPartOf locals) parts → Matches (length locals) values before → map (part_value (at p before left taken written)) (map (variable_part locals) parts) ≡ map (source.part_value values) parts
+parts-shown : (locals : List Local) (parts : List Part) (p : ℕ) (values : List Held) (before : List Value) (left : List ℕ) (taken : ℕ) (written : List ℕ) → AreIntLocals locals → AllByRecursion (IsPartOf locals) parts → Matches (length locals) values before → map (part_value (at p before left taken written)) (map (variable_part locals) parts) ≡ map (source.part_value values) parts
 parts-shown locals [] p values before left taken written ints all matches = refl
 parts-shown locals (part ∷ parts) p values before left taken written ints all matches =
     ap (λ (v : Value). v ∷ map (part_value (at p before left taken written)) (map (variable_part locals) parts)) (part-shown locals part p values before left taken written ints all.0 matches)
@@ -85,7 +85,7 @@ parts-shown locals (part ∷ parts) p values before left taken written ints all 
 -- ---- the program
 
 -- the graph of a function with its outcome
-function-keeps : (f : Function) (program : Program) (listing shown : Listing) (input : List ℕ) (turns : ℕ) → IsSlotFunction f → ((statement : ℕ) → Every (IsPartOf f.locals) (listing statement)) → ((statement : ℕ) → shown statement ≡ map (variable_part f.locals) (listing statement)) → (o : Outcome) × Comes (variables f) (function_ops f) shown turns (at 0 (map (λ (w : Width). Number (pos 0)) (replicate (variables f) Two)) input 0 []) o × (o ≡ outcome_of (run_function (call_within turns program listing) (suc turns) listing (Some f) [] (first_state program input turns)))
+function-keeps : (f : Function) (program : Program) (listing shown : Listing) (input : List ℕ) (turns : ℕ) → IsSlotFunction f → ((statement : ℕ) → AllByRecursion (IsPartOf f.locals) (listing statement)) → ((statement : ℕ) → shown statement ≡ map (variable_part f.locals) (listing statement)) → (o : Outcome) × Comes (variables f) (function_ops f) shown turns (at 0 (map (λ (w : Width). Number (pos 0)) (replicate (variables f) Two)) input 0 []) o × (o ≡ outcome_of (run_function (call_within turns program listing) (suc turns) listing (Some f) [] (first_state program input turns)))
 function-keeps f program listing shown input zero slot lists shows =
     (_, no_turn (variables f) (function_ops f) shown 0 (map (λ (w : Width). Number (pos 0)) (replicate (variables f) Two)) input 0 [] refl, refl)
 function-keeps f program listing shown input (suc turns) slot lists shows =
@@ -107,7 +107,7 @@ keeps-outcome program graphs slot is listing lists input turns =
     let main : slice_get program.functions program.main ≡ Some f =
     ap (λ (fs : List Function). slice_get fs program.main) slot.one_function ∙ ap (λ (k : ℕ). slice_get (f ∷ []) k) slot.main in
     let kept = function-keeps f program listing (variables_shown program listing) input turns slot.accepted
-    (λ statement. subst (λ (ls : List Local). Every (IsPartOf ls) (listing statement)) (locals statement) (lists statement))
+    (λ statement. subst (λ (ls : List Local). AllByRecursion (IsPartOf ls) (listing statement)) (locals statement) (lists statement))
     (λ statement. ap (λ (ls : List Local). map (variable_part ls) (listing statement)) (locals statement)) in
     let outcome : kept.0 ≡ source_outcome program listing input turns =
     kept.2 ∙ sym (ap (λ (x : Option Function). outcome_of (run_function (call_within turns program listing) (suc turns) listing x [] (first_state program input turns))) main) in

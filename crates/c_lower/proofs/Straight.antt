@@ -1,12 +1,12 @@
 -- Graphs of one block: what one more op leaves, what fits, and where a block ends.
 use Rattle.std.proofs.Common.{◌≡◌, ◌≢◌, ℕ, zero, suc, ◌+◌, ◌<◌, Bool, false, cond, List, [], ◌∷◌, ◌++◌, length, take, get_or, Some, refl, sym, ap, ◌∙◌, subst, arith, length-append, eq-eqb, inl, inr}
 use Rattle.std.specs.Prelude.{slice_get}
-use Rattle.std.specs.List.{range_with_len}
+use Rattle.std.specs.List.{AllByRecursion, range_with_len}
 use Rattle.std.proofs.lemmas.Bool.{true≢false}
 use Rattle.std.proofs.lemmas.Bool.Decides.{eqb_tells}
 use Rattle.std.proofs.lemmas.Option.{none-some}
 use Rattle.flow_graph.specs.declared.op.Op.{Op}
-use Rattle.flow_graph.specs.Graphs.{Flow, Every, FitsOp, IsEnded, LastIsEnd, following, is_end, with_op}
+use Rattle.flow_graph.specs.Graphs.{Flow, FitsOp, IsEnded, LastIsEnd, following, is_end, with_op}
 use Rattle.flow_graph.proofs.Growth.{Grows, fits_op-grows, keeps-same}
 use Rattle.c_lower.specs.Code.{AllFit, EndsLast, straight}
 
@@ -58,22 +58,22 @@ straight-more variables ops i =
 
 -- ---- ends
 
-plain-at : (ops : List Op) (p : ℕ) (i : Op) → Every (λ i. is_end i ≡ false) ops → slice_get ops p ≡ Some i → is_end i ≡ false
+plain-at : (ops : List Op) (p : ℕ) (i : Op) → AllByRecursion (λ i. is_end i ≡ false) ops → slice_get ops p ≡ Some i → is_end i ≡ false
 plain-at [] p i plain e = absurd (none-some i e)
 plain-at (j ∷ ops) zero i plain e = let same : j ≡ i = cc in subst (λ (k : Op). is_end k ≡ false) same plain.0
 plain-at (j ∷ ops) (suc p) i plain e = plain-at ops p i plain.1 e
 
 -- a block of plain ops is not ended
-pub not_ended : (ops : List Op) (ps : List ℕ) → Every (λ i. is_end i ≡ false) ops → LastIsEnd ops ps → ⊥
+pub not_ended : (ops : List Op) (ps : List ℕ) → AllByRecursion (λ i. is_end i ≡ false) ops → LastIsEnd ops ps → ⊥
 not_ended ops [] plain h = h
 not_ended ops (p ∷ []) plain (i, at, end) = true≢false (sym end ∙ plain-at ops p i plain at)
 not_ended ops (p ∷ q ∷ ps) plain h = not_ended ops (q ∷ ps) plain h
 
-pub open_block : (variables : ℕ) (ops : List Op) → Every (λ i. is_end i ≡ false) ops → IsEnded (straight variables ops) 0 → ⊥
+pub open_block : (variables : ℕ) (ops : List Op) → AllByRecursion (λ i. is_end i ≡ false) ops → IsEnded (straight variables ops) 0 → ⊥
 open_block variables ops plain ended = not_ended ops (range_with_len 0 (length ops)) plain ended
 
 -- before the last op there are plain ones
-pub plain-take : (ops : List Op) (k : ℕ) → EndsLast ops → k < length ops → Every (λ i. is_end i ≡ false) (take k ops)
+pub plain-take : (ops : List Op) (k : ℕ) → EndsLast ops → k < length ops → AllByRecursion (λ i. is_end i ≡ false) (take k ops)
 plain-take [] k ends h = absurd (omega (arith, h))
 plain-take (i ∷ ops) zero ends h = tt
 plain-take (i ∷ []) (suc k) ends h = absurd (omega (arith, h))
@@ -81,7 +81,7 @@ plain-take (i ∷ j ∷ ops) (suc k) ends h = (ends.0, plain-take (j ∷ ops) k 
 
 -- ---- what fits
 
-every-at : {X : Type 0} (P : X → Type 0) (xs : List X) (k : ℕ) (d : X) → k < length xs → Every P xs → P (get_or xs k d)
+every-at : {X : Type 0} (P : X → Type 0) (xs : List X) (k : ℕ) (d : X) → k < length xs → AllByRecursion P xs → P (get_or xs k d)
 every-at P [] k d h all = absurd (omega (arith, h))
 every-at P (x ∷ xs) zero d h all = all.0
 every-at P (x ∷ xs) (suc k) d h all = every-at P xs k d (omega (arith, h)) all.1

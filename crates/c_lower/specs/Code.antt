@@ -1,6 +1,6 @@
 -- The ops of a program that is lowered.
 use Rattle.std.specs.Prelude.{ℕ, suc, ◌≡◌, ◌+◌, true, false, pos, List, [], ◌∷◌, ◌++◌, length, max, map, replicate, Some}
-use Rattle.std.specs.List.{range_with_len}
+use Rattle.std.specs.List.{AllByRecursion, range_with_len}
 use Rattle.pcc_base.specs.declared.run.Width.TheVariants.{Two}
 use Rattle.c_tree.specs.declared.expression.BinaryOp.TheVariants as binary
 use Rattle.c_tree.specs.declared.types.IntegerType.TheVariants.{Int}
@@ -9,7 +9,7 @@ use Rattle.c_tree.specs.Program.{Expression, Constant, Read, Binary, Assign, Put
 use Rattle.c_tree.specs.Sizes.{height}
 use Rattle.flow_graph.specs.declared.op.Op.{Op}
 use Rattle.flow_graph.specs.declared.op.Op.TheVariants as op
-use Rattle.flow_graph.specs.Graphs.{Flow, Every, FitsOp, is_end}
+use Rattle.flow_graph.specs.Graphs.{Flow, FitsOp, is_end}
 use Rattle.flow_graph.specs.States.{GraphProgram}
 
 -- The value of a sum into a variable, by temporaries from that variable on: the left operand into the
@@ -70,7 +70,7 @@ EndsLast (i ∷ j ∷ ops) = (is_end i ≡ false) × EndsLast (j ∷ ops)
 
 -- each op fits a graph of one block over so many variables
 abbrev pub AllFit : ℕ → List Op → Type 0
-AllFit variables ops = Every (FitsOp (straight variables [])) ops
+AllFit variables ops = AllByRecursion (FitsOp (straight variables [])) ops
 
 -- the graphs of a program that is lowered
 abbrev pub slot_graphs : Program → GraphProgram

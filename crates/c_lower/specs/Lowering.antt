@@ -1,5 +1,6 @@
 -- What lowering promises of the graphs of a program.
 use Rattle.std.specs.Prelude.{◌≡◌, ◌≢◌, ◌<◌, ◌≤◌, ℕ, ◌+◌, ◌*◌, List, [], ◌∷◌, ◌++◌, length, map, slice_get, Some}
+use Rattle.std.specs.List.{AllByRecursion}
 use Rattle.std.specs.Prelude.{sum_by, take}
 pub use Rattle.pcc_base.specs.Objects.{object_of}
 use Rattle.pcc_base.specs.declared.run.Width.{Width}
@@ -10,7 +11,7 @@ use Rattle.c_tree.specs.Program.{LocalArray, Function, Program}
 use Rattle.c_tree.specs.Sizes.{bytes_of, frame_bound, size_of}
 use Rattle.flow_graph.specs.declared.op.Op.{Op}
 use Rattle.flow_graph.specs.declared.op.Op.TheVariants.{Mark}
-use Rattle.flow_graph.specs.Graphs.{Every, Flow, IsDistinct, IsEnded, IsPlaced}
+use Rattle.flow_graph.specs.Graphs.{Flow, IsDistinct, IsEnded, IsPlaced}
 use Rattle.flow_graph.specs.Kinds.{marked}
 use Rattle.flow_graph.specs.Liveness.{BeginsWith, FixedDies, IsLiveBefore, if_any}
 use Rattle.flow_graph.specs.Running.{GraphOutcome}
@@ -116,7 +117,7 @@ HaveMarks program graphs =
 -- ---- the ops that are made so far
 
 abbrev pub AreSlotGraphs : GraphProgram → Type 0
-AreSlotGraphs graphs = Every IsSlotFlow graphs.functions
+AreSlotGraphs graphs = AllByRecursion IsSlotFlow graphs.functions
 
 -- ---- static objects
 

@@ -1,6 +1,7 @@
 //! The graphs of a program.
 
 ghost use Rattle.std.specs.Prelude.{◌≡◌, ◌≤◌, IfOk};
+ghost use Rattle.std.specs.List.{AllByRecursion};
 ghost use Rattle.c_tree.specs.Erased.{function_of, program_of};
 ghost use Rattle.c_tree.specs.Sizes.{function_size};
 ghost use Rattle.flow_graph.specs.Running.{IsNeverStuck};
@@ -59,7 +60,7 @@ pub fn lower(alloc: Global, program: &Program) -> Result<Graphs, NoMemory>
     // For every input and number of turns the graphs do what the program does.
     ensures outcome { IfOk result (λ graphs. KeepsOutcome (program_of program.now) (graphs_of graphs)) }
 
-    // Every state that comes has its next one or an end.
+    // AllByRecursion state that comes has its next one or an end.
     ensures never_stuck { IfOk result (λ graphs. IsNeverStuck (graphs_of graphs)) }
 
     // Each graph is one, and each of its blocks is ended; ops name functions and objects of the graphs alone; each

@@ -2,12 +2,12 @@
 use Rattle.std.proofs.Common.{ℕ, zero, suc, ◌≡◌, ◌≢◌, ◌<◌, ◌≤◌, ◌+◌, inl, inr, false, List, [], ◌∷◌, ◌++◌, length, get_or}
 use Rattle.std.proofs.Common.{Some, refl, sym, subst, arith, length-append, get_or-set_same, get_or-set_other}
 use Rattle.std.proofs.Math.ListN.{set, length-set}
-use Rattle.std.specs.List.{slice_get}
+use Rattle.std.specs.List.{AllByRecursion, slice_get}
 use Rattle.std.proofs.lemmas.Bool.{cases_eq}
 use Rattle.std.proofs.lemmas.Option.{slice_get_within, get_or_from_slice_get}
 use Rattle.pcc_base.specs.declared.run.Width.{Width}
 use Rattle.flow_graph.specs.declared.op.Op.{Op}
-use Rattle.flow_graph.specs.Graphs.{Flow, Every, IsIn, FitsOp, HasFittingOp, NumbersFit, IsPlainAt, IsEnded, IsArray, IsBlock}
+use Rattle.flow_graph.specs.Graphs.{Flow, IsIn, FitsOp, HasFittingOp, NumbersFit, IsPlainAt, IsEnded, IsArray, IsBlock}
 use Rattle.flow_graph.specs.Graphs.{IsFlow, IsPlaced, Stands, points_of, insert_after, is_end, with_variable}
 use Rattle.flow_graph.specs.Graphs.{with_array, with_block, with_points, with_op, with_op_after, without, without_point_of}
 use Rattle.flow_graph.proofs.Points.{every-map, every-push, every-insert, every-without, every-in, distinct-push}
@@ -128,7 +128,7 @@ flow-points f homes b ps op i h room word w =
     }
 
 -- the number of the new point stands nowhere yet
-fresh : (f : Flow) (ps : List ℕ) → Every (HasFittingOp f) ps → Every (λ q. q ≢ length f.ops) ps
+fresh : (f : Flow) (ps : List ℕ) → AllByRecursion (HasFittingOp f) ps → AllByRecursion (λ q. q ≢ length f.ops) ps
 fresh f ps h =
     every-map (HasFittingOp f) (λ q. q ≢ length f.ops) (λ q m e. let below = slice_get_within f.ops q m.0 m.1 in absurd (omega (arith, below, e))) ps h
 

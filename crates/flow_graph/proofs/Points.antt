@@ -1,11 +1,11 @@
 -- Lists of points: where a point is, what holds of each, and what an insertion and a removal leave.
 use Rattle.std.proofs.Common.{ℕ, suc, ◌≡◌, ◌≢◌, ◌<◌, ◌≤◌, ◌+◌, ◌==◌, inl, inr, true, false, cond, eqb, not, List, []}
 use Rattle.std.proofs.Common.{◌∷◌, ◌++◌, length, Some, None, refl, sym, ap, subst, arith, eqb-true}
-use Rattle.std.specs.List.{slice_get, position, position_or_len, insert, remove}
+use Rattle.std.specs.List.{AllByRecursion, insert, position, position_or_len, remove, slice_get}
 use Rattle.std.proofs.lemmas.Option.{slice_get_past}
 use Rattle.std.proofs.lemmas.Bool.Decides.{nat_tests}
 use Rattle.flow_graph.specs.declared.op.Op.{Op}
-use Rattle.flow_graph.specs.Graphs.{Every, IsIn, IsDistinct, insert_after, without, following, IsEndAt, IsPlainAt}
+use Rattle.flow_graph.specs.Graphs.{IsIn, IsDistinct, insert_after, without, following, IsEndAt, IsPlainAt}
 use Rattle.flow_graph.specs.Graphs.{LastIsEnd, EndsOnlyLast, is_end}
 
 -- what holds of each of two choices holds of the choice
@@ -107,42 +107,42 @@ pub without-none : (x : ℕ) (ps : List ℕ) → position (λ p. p == x) ps ≡ 
 without-none x ps e = without-absent x ps (place-none x ps e)
 
 -- what holds of each implies another
-pub every-map : {X : Type 0} (P Q : X → Type 0) → ((x : X) → P x → Q x) → (xs : List X) → Every P xs → Every Q xs
+pub every-map : {X : Type 0} (P Q : X → Type 0) → ((x : X) → P x → Q x) → (xs : List X) → AllByRecursion P xs → AllByRecursion Q xs
 every-map P Q f [] h = tt
 every-map P Q f (x ∷ xs) h = (f x h.0, every-map P Q f xs h.1)
 
 -- what holds of each and of one more
-pub every-push : {X : Type 0} (P : X → Type 0) (xs : List X) (x : X) → Every P xs → P x → Every P (xs ++ x ∷ [])
+pub every-push : {X : Type 0} (P : X → Type 0) (xs : List X) (x : X) → AllByRecursion P xs → P x → AllByRecursion P (xs ++ x ∷ [])
 every-push P [] x h w = (w, tt)
 every-push P (y ∷ ys) x h w = (h.0, every-push P ys x h.1 w)
 
 -- what holds of each, and of a point that comes in
-pub every-insert : (P : ℕ → Type 0) (x y : ℕ) (ps : List ℕ) → Every P ps → P y → Every P (insert_after x y ps)
+pub every-insert : (P : ℕ → Type 0) (x y : ℕ) (ps : List ℕ) → AllByRecursion P ps → P y → AllByRecursion P (insert_after x y ps)
 every-insert P x y [] h w = tt
 every-insert P x y (p ∷ ps) h w =
-    choose p x (Every P) (p ∷ y ∷ ps) (p ∷ insert_after x y ps) (λ e. (h.0, (w, h.1))) (
+    choose p x (AllByRecursion P) (p ∷ y ∷ ps) (p ∷ insert_after x y ps) (λ e. (h.0, (w, h.1))) (
       h.0,
       every-insert P x y ps h.1 w,
     )
 
 -- what holds of each holds of each that is left
-pub every-without : (P : ℕ → Type 0) (x : ℕ) (ps : List ℕ) → Every P ps → Every P (without x ps)
+pub every-without : (P : ℕ → Type 0) (x : ℕ) (ps : List ℕ) → AllByRecursion P ps → AllByRecursion P (without x ps)
 every-without P x [] h = tt
-every-without P x (p ∷ ps) h = choose p x (Every P) ps (p ∷ without x ps) (λ e. h.1) (h.0, every-without P x ps h.1)
+every-without P x (p ∷ ps) h = choose p x (AllByRecursion P) ps (p ∷ without x ps) (λ e. h.1) (h.0, every-without P x ps h.1)
 
 -- what holds of each holds of a point among them
-pub every-in : (P : ℕ → Type 0) (x : ℕ) (ps : List ℕ) → Every P ps → IsIn x ps → P x
+pub every-in : (P : ℕ → Type 0) (x : ℕ) (ps : List ℕ) → AllByRecursion P ps → IsIn x ps → P x
 every-in P x [] h i = absurd i
 every-in P x (p ∷ ps) h (inl e) = subst P e h.0
 every-in P x (p ∷ ps) h (inr i) = every-in P x ps h.1 i
 
 -- a new point at the end leaves the points distinct
-pub distinct-push : (ps : List ℕ) (y : ℕ) → IsDistinct ps → Every (λ q. q ≢ y) ps → IsDistinct (ps ++ y ∷ [])
+pub distinct-push : (ps : List ℕ) (y : ℕ) → IsDistinct ps → AllByRecursion (λ q. q ≢ y) ps → IsDistinct (ps ++ y ∷ [])
 distinct-push [] y d f = (tt, tt)
 distinct-push (p ∷ ps) y d f = (every-push (λ q. q ≢ p) ps y d.0 (λ e. f.0 (sym e)), distinct-push ps y d.1 f.1)
 
 -- a new point leaves the points distinct
-pub distinct-insert : (x y : ℕ) (ps : List ℕ) → IsDistinct ps → Every (λ q. q ≢ y) ps → IsDistinct (insert_after x y ps)
+pub distinct-insert : (x y : ℕ) (ps : List ℕ) → IsDistinct ps → AllByRecursion (λ q. q ≢ y) ps → IsDistinct (insert_after x y ps)
 distinct-insert x y [] d f = tt
 distinct-insert x y (p ∷ ps) d f =
     choose p x IsDistinct (p ∷ y ∷ ps) (p ∷ insert_after x y ps)
@@ -169,14 +169,14 @@ end_or_plain ops p op e n =
     (elim (is_end op) as (λ b. is_end op ≡ b → IsPlainAt ops p) [ true ↦ λ t. absurd (n (op, e, t)) | false ↦ λ f. (op, e, f) ]) refl
 
 -- where the last is no end, none is
-pub all_plain : (ops : List Op) (ps : List ℕ) → Every (λ p. (op : Op) × (slice_get ops p ≡ Some op)) ps
-    → EndsOnlyLast ops ps → (LastIsEnd ops ps → ⊥) → Every (IsPlainAt ops) ps
+pub all_plain : (ops : List Op) (ps : List ℕ) → AllByRecursion (λ p. (op : Op) × (slice_get ops p ≡ Some op)) ps
+    → EndsOnlyLast ops ps → (LastIsEnd ops ps → ⊥) → AllByRecursion (IsPlainAt ops) ps
 all_plain ops [] h e n = tt
 all_plain ops (p ∷ []) h e n = (end_or_plain ops p h.0.0 h.0.1 n, tt)
 all_plain ops (p ∷ q ∷ ps) h e n = (e.0, all_plain ops (q ∷ ps) h.1 e.1 n)
 
 -- after points that are no ends, any may come
-pub ends-push : (ops : List Op) (ps : List ℕ) (y : ℕ) → Every (IsPlainAt ops) ps → EndsOnlyLast ops (ps ++ y ∷ [])
+pub ends-push : (ops : List Op) (ps : List ℕ) (y : ℕ) → AllByRecursion (IsPlainAt ops) ps → EndsOnlyLast ops (ps ++ y ∷ [])
 ends-push ops [] y h = tt
 ends-push ops (p ∷ ps) y h = ends-cons ops p (ps ++ y ∷ []) h.0 (ends-push ops ps y h.1)
 

@@ -2,7 +2,7 @@
 use Rattle.std.specs.Prelude.{ℕ, ◌≡◌, ◌≢◌, ◌<◌, ◌≤◌, ◌⊎◌, Bool, true, false, cond, eqb, List, [], ◌∷◌, ◌++◌, length}
 use Rattle.std.specs.Prelude.{map, Option, Some, None, slice_get, slice_set, slice_index_or, FitsSigned}
 use Rattle.std.specs.Int.{w32}
-use Rattle.std.specs.List.{position_or_len}
+use Rattle.std.specs.List.{AllByRecursion, position_or_len}
 use Rattle.pcc_base.specs.declared.run.Width.{Width}
 use Rattle.pcc_base.specs.declared.run.Width.TheVariants.{One, Two}
 use Rattle.flow_graph.specs.declared.op.Op.{Op}
@@ -23,11 +23,6 @@ pub record Flow : Type 0 where
 abbrev pub empty_flow : Flow
 empty_flow = record { widths = []; arrays = []; blocks = [] ∷ []; ops = [] }
 
--- P holds of each element
-abbrev pub Every : {X : Type 0} → (X → Type 0) → List X → Type 0
-Every P [] = Unit {0}
-Every P (x ∷ xs) = P x × Every P xs
-
 -- the point is among the points
 abbrev pub IsIn : ℕ → List ℕ → Type 0
 IsIn point [] = ⊥
@@ -36,7 +31,7 @@ IsIn point (p ∷ ps) = (p ≡ point) ⊎ IsIn point ps
 -- no point stands twice
 abbrev pub IsDistinct : List ℕ → Type 0
 IsDistinct [] = Unit {0}
-IsDistinct (p ∷ ps) = Every (λ q. q ≢ p) ps × IsDistinct ps
+IsDistinct (p ∷ ps) = AllByRecursion (λ q. q ≢ p) ps × IsDistinct ps
 
 -- What an op asks of the graph that it stands in: a variable of a width, a variable of either width, two
 -- variables of one width, a frame array, or a block.
@@ -187,7 +182,7 @@ NumbersFit (Return a) = Unit {0}
 
 -- the variables, arrays and blocks that the op names are there, with the widths that it asks for
 abbrev pub FitsOp : Flow → Op → Type 0
-FitsOp flow op = Every (IsMet flow) (needs op)
+FitsOp flow op = AllByRecursion (IsMet flow) (needs op)
 
 -- the points of a block in order
 abbrev pub points_of : Flow → ℕ → List ℕ
@@ -321,8 +316,8 @@ IsArray array = ((array.0 ≡ 1) ⊎ (array.0 ≡ 2) ⊎ (array.0 ≡ 4)) × (1 
 -- What a block keeps, where `homes` has the block of each point: its points are at home here, each has an
 -- op that fits, none stands twice, and an end stands only last.
 pub record IsBlock (flow : Flow) (homes : List ℕ) (block : ℕ) (points : List ℕ) : Type 0 where
-  pub at_home : Every (λ p. slice_get homes p ≡ Some block) points
-  pub fits : Every (HasFittingOp flow) points
+  pub at_home : AllByRecursion (λ p. slice_get homes p ≡ Some block) points
+  pub fits : AllByRecursion (HasFittingOp flow) points
   pub once : IsDistinct points
   pub ends : EndsOnlyLast flow.ops points
 
@@ -332,9 +327,9 @@ pub record IsBlock (flow : Flow) (homes : List ℕ) (block : ℕ) (points : List
 pub record IsFlow (flow : Flow) (homes : List ℕ) : Type 0 where
   pub one_home : length homes ≡ length flow.ops
   pub each_block : (block : ℕ) → IsBlock flow homes block (points_of flow block)
-  pub arrays_fit : Every IsArray flow.arrays
-  pub few_elements : Every (λ array. array.1 ≤ 4294967295) flow.arrays
-  pub numbers : Every NumbersFit flow.ops
+  pub arrays_fit : AllByRecursion IsArray flow.arrays
+  pub few_elements : AllByRecursion (λ array. array.1 ≤ 4294967295) flow.arrays
+  pub numbers : AllByRecursion NumbersFit flow.ops
   pub few_variables : length flow.widths ≤ 4294967295
   pub few_arrays : length flow.arrays ≤ 4294967295
   pub few_blocks : length flow.blocks ≤ 4294967295

@@ -1,6 +1,7 @@
 -- What a contract sees of live sets: two lists of variables for each point.
 use Rattle.std.specs.Prelude.{ℕ, ◌≡◌, ◌<◌, ◌↔◌, List, [], ◌∷◌, ◌++◌, length, replicate, slice_set, slice_index_or}
-use Rattle.flow_graph.specs.Graphs.{Every, Flow, IsIn}
+use Rattle.std.specs.List.{AllByRecursion}
+use Rattle.flow_graph.specs.Graphs.{Flow, IsIn}
 use Rattle.flow_graph.specs.Liveness.{IsLiveAfter, IsLiveBefore}
 
 -- for each point the variables that are live before it, and those that are live after it
@@ -11,13 +12,13 @@ pub record Lives : Type 0 where
 -- each variable is greater than those before it
 abbrev pub IsAscending : List ℕ → Type 0
 IsAscending [] = Unit {0}
-IsAscending (v ∷ vs) = Every (λ w. v < w) vs × IsAscending vs
+IsAscending (v ∷ vs) = AllByRecursion (λ w. v < w) vs × IsAscending vs
 
 -- what live sets always keep: both are of the same points, and each list is in ascending order
 pub record IsLives (lives : Lives) : Type 0 where
   pub same_points : length lives.after ≡ length lives.before
-  pub before : Every IsAscending lives.before
-  pub after : Every IsAscending lives.after
+  pub before : AllByRecursion IsAscending lives.before
+  pub after : AllByRecursion IsAscending lives.after
 
 -- nothing is live at any of so many points
 abbrev pub nothing_live : ℕ → Lives

@@ -1,9 +1,10 @@
 -- The graphs that are made and compiled so far.
 use Rattle.std.specs.Prelude.{◌≡◌, ⊤, Some}
+use Rattle.std.specs.List.{AllByRecursion}
 use Rattle.pcc_base.specs.declared.run.Width.TheVariants.{Two}
 use Rattle.flow_graph.specs.declared.op.Op.{Op}
 use Rattle.flow_graph.specs.declared.op.Op.TheVariants as op
-use Rattle.flow_graph.specs.Graphs.{Every, Flow}
+use Rattle.flow_graph.specs.Graphs.{Flow}
 
 -- numbers, copies, sums, differences, `putchar`, marks, turns, and a return with a value
 abbrev pub IsSlotOp : Op → Type 0
@@ -19,5 +20,5 @@ IsSlotOp _ = ⊥
 
 -- a graph of such ops, whose variables are all of width Two
 pub record IsSlotFlow (flow : Flow) : Type 0 where
-  pub widths : Every (λ width. width ≡ Two) flow.widths
-  pub ops : Every IsSlotOp flow.ops
+  pub widths : AllByRecursion (λ width. width ≡ Two) flow.widths
+  pub ops : AllByRecursion IsSlotOp flow.ops

@@ -1,5 +1,5 @@
 ghost use Rattle.std.specs.Prelude.{◌≡◌, ◌<◌, ◌++◌, ◌∷◌, [], length, IfOk, MatchResult, ⊤};
-ghost use Rattle.flow_graph.specs.Graphs.{Every};
+ghost use Rattle.std.specs.List.{AllByRecursion};
 ghost use Rattle.flow_graph.specs.Lives.{IsAscending, IsLives, at_point, nothing_live, with_live};
 
 use pcc_base::NoMemory;
@@ -102,7 +102,7 @@ impl LiveSets {
     /// Puts a variable last in the list before a point; it is greater than all that are there.
     pub fn add_before(&mut self, point: u32, var: u32) -> Result<(), NoMemory>
         requires in_range { point < length self.old.before }
-        requires greatest { Every (λ v. v < var) (at_point self.old.before point) }
+        requires greatest { AllByRecursion (λ v. v < var) (at_point self.old.before point) }
         ensures { MatchResult result
             (λ _. self.new ≡ record self.old { before = with_live self.old.before point var })
             (λ _. self.new ≡ self.old) }
@@ -114,7 +114,7 @@ impl LiveSets {
     /// Puts a variable last in the list after a point; it is greater than all that are there.
     pub fn add_after(&mut self, point: u32, var: u32) -> Result<(), NoMemory>
         requires in_range { point < length self.old.after }
-        requires greatest { Every (λ v. v < var) (at_point self.old.after point) }
+        requires greatest { AllByRecursion (λ v. v < var) (at_point self.old.after point) }
         ensures { MatchResult result
             (λ _. self.new ≡ record self.old { after = with_live self.old.after point var })
             (λ _. self.new ≡ self.old) }

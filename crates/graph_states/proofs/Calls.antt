@@ -3,7 +3,7 @@ use Rattle.std.proofs.Common.{◌≡◌, ℕ, suc, ◌<◌, ◌≤◌, Bool, tru
 use Rattle.std.proofs.Common.{Some, None, refl, sym, subst, ◌∙◌, arith, rules}
 use Rattle.std.specs.Prelude.{FitsSigned, if◌then◌else◌, nat_le, ⊤}
 use Rattle.std.specs.Int.{w32}
-use Rattle.std.specs.List.{All}
+use Rattle.std.specs.List.{All, AllByRecursion}
 use Rattle.std.proofs.Math.ListN.{length-replicate}
 use Rattle.std.proofs.lemmas.List.Elements.{All-replicate, All-weaker}
 use Rattle.std.proofs.lemmas.Option.{same_Some}
@@ -14,7 +14,7 @@ use Rattle.pcc_base.specs.declared.run.Width.{Width}
 use Rattle.pcc_base.specs.declared.run.Width.TheVariants.{One, Two}
 use Rattle.flow_graph.specs.declared.op.Op.{Op}
 use Rattle.flow_graph.specs.declared.op.Op.TheVariants.{Call}
-use Rattle.flow_graph.specs.Graphs.{Every, FitsOp, Flow, IsMet, two}
+use Rattle.flow_graph.specs.Graphs.{FitsOp, Flow, IsMet, two}
 use Rattle.flow_graph.specs.Meaning.{Halts, back_to, calls, enters, most_active, result_to, returns_to, values_at}
 use Rattle.flow_graph.specs.States.{GraphProgram, State, Waiting, active_of, depth_of, first_activation, first_array}
 use Rattle.flow_graph.specs.States.{flow_at, op_of}
@@ -56,7 +56,7 @@ first-kept program f arguments older lt fit = record {
 enters-kept : (program : GraphProgram) (s : State) (result : Option ℕ) (f : ℕ) (words : List ℕ) (values : List Value)
     → IsState program s → f < length program.functions
     → op_of program s.current.function s.point ≡ Some (Call result f words)
-    → Every (IsMet (flow_at program s.current.function)) (map two words) → values_at s words ≡ Some values
+    → AllByRecursion (IsMet (flow_at program s.current.function)) (map two words) → values_at s words ≡ Some values
     → depth_of s < most_active → Kept program (enters program s f values)
 enters-kept program s result f words values i lt op met e few =
     let active = functions_of (active_of s) in
@@ -90,7 +90,7 @@ enters-kept program s result f words values i lt op met e few =
 
 -- the words that a call passes are variables of width Two
 words-met : (flow : Flow) (result : Option ℕ) (f : ℕ) (words : List ℕ) → FitsOp flow (Call result f words)
-    → Every (IsMet flow) (map two words)
+    → AllByRecursion (IsMet flow) (map two words)
 words-met flow None f words met = met
 words-met flow (Some d) f words met = met.1
 
@@ -98,7 +98,7 @@ words-met flow (Some d) f words met = met.1
 begins-kept : (program : GraphProgram) (s : State) (result : Option ℕ) (f : ℕ) (words : List ℕ) (values : List Value)
     (many : Bool) → IsState program s → f < length program.functions
     → op_of program s.current.function s.point ≡ Some (Call result f words)
-    → Every (IsMet (flow_at program s.current.function)) (map two words) → values_at s words ≡ Some values
+    → AllByRecursion (IsMet (flow_at program s.current.function)) (map two words) → values_at s words ≡ Some values
     → nat_le most_active (depth_of s) ≡ many
     → Kept program (if many then Halts (Trapped Check) else enters program s f values)
 begins-kept program s result f words values true i lt op met e is = tt

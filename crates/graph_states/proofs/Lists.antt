@@ -1,9 +1,8 @@
 -- Lists side by side, and single elements of lists.
 use Rattle.std.proofs.Common.{◌≡◌, ℕ, zero, suc, ◌<◌, List, [], ◌∷◌, length, map, set, Some, refl, sym, subst, arith}
-use Rattle.std.specs.List.{All, AllZip, slice_get}
+use Rattle.std.specs.List.{All, AllByRecursion, AllZip, slice_get}
 use Rattle.std.proofs.lemmas.List.Elements.{All-head, All-tail}
 use Rattle.std.proofs.lemmas.Option.{none-some, same_Some}
-use Rattle.flow_graph.specs.Graphs.{Every}
 
 -- what holds of each element holds of one
 pub all-at : {A : Type 0} (P : A → Type 0) (xs : List A) (k : ℕ) (x : A) → All P xs → slice_get xs k ≡ Some x → P x
@@ -12,7 +11,7 @@ all-at P (y ∷ xs) zero x h e = subst P (same_Some y x e) (All-head P y xs h)
 all-at P (y ∷ xs) (suc k) x h e = all-at P xs k x (All-tail P y xs h) e
 
 -- the same, where it is said by recursion on the list
-pub every-at : {A : Type 0} (P : A → Type 0) (xs : List A) (k : ℕ) (x : A) → Every P xs → slice_get xs k ≡ Some x → P x
+pub every-at : {A : Type 0} (P : A → Type 0) (xs : List A) (k : ℕ) (x : A) → AllByRecursion P xs → slice_get xs k ≡ Some x → P x
 every-at P [] k x h e = absurd (none-some x e)
 every-at P (y ∷ xs) zero x h e = subst P (same_Some y x e) h.0
 every-at P (y ∷ xs) (suc k) x h e = every-at P xs k x h.1 e

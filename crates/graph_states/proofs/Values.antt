@@ -3,14 +3,14 @@ use Rattle.std.proofs.Common.{◌≡◌, ℕ, suc, ◌-◌, ◌<◌, ℤ, List, 
 use Rattle.std.proofs.Common.{ap, subst, ◌∙◌, arith}
 use Rattle.std.specs.Prelude.{FitsSigned, slice_get}
 use Rattle.std.specs.Int.{w8, w32}
-use Rattle.std.specs.List.{All}
+use Rattle.std.specs.List.{All, AllByRecursion}
 use Rattle.std.proofs.lemmas.List.Elements.{All-cons, All-nil}
 use Rattle.std.proofs.lemmas.Option.{none-some, same_Some}
 use Rattle.pcc_base.specs.Outcome.{Null, Static, InFrame, Unknown, Value, Number, Array}
 use Rattle.pcc_base.specs.declared.run.Width.{Width}
 use Rattle.pcc_base.specs.declared.run.Width.TheVariants.{One, Two}
 use Rattle.flow_graph.specs.declared.op.Op.{Op}
-use Rattle.flow_graph.specs.Graphs.{Every, FitsOp, NumbersFit, empty_flow, HasFittingOp, HasWidth, IsIn, IsMet, Stands}
+use Rattle.flow_graph.specs.Graphs.{FitsOp, NumbersFit, empty_flow, HasFittingOp, HasWidth, IsIn, IsMet, Stands}
 use Rattle.flow_graph.specs.Graphs.{points_of}
 use Rattle.flow_graph.specs.Graphs.{two}
 use Rattle.flow_graph.specs.Meaning.{one_more, values_at}
@@ -22,7 +22,7 @@ use Rattle.graph_states.proofs.Lists.{all-at, every-at, zip-at}
 -- ---- programs
 
 -- what holds of each point of a list holds of one
-every-point : (P : ℕ → Type 0) (p : ℕ) (ps : List ℕ) → Every P ps → IsIn p ps → P p
+every-point : (P : ℕ → Type 0) (p : ℕ) (ps : List ℕ) → AllByRecursion P ps → IsIn p ps → P p
 every-point P p [] h i = absurd i
 every-point P p (q ∷ ps) h i = elim i [ inl e ↦ subst P e h.0 | inr j ↦ every-point P p ps h.1 j ]
 
@@ -141,7 +141,7 @@ own-array program older f k lt =
 
 -- argument words that are passed fit
 pub words-fit : (program : GraphProgram) (older : List ℕ) (s : State) (words : List ℕ) (values : List Value)
-    → IsActivation program older s.current → Every (IsMet (flow_at program s.current.function)) (map two words)
+    → IsActivation program older s.current → AllByRecursion (IsMet (flow_at program s.current.function)) (map two words)
     → values_at s words ≡ Some values → All (FitsWidth program (s.current.function ∷ older) Two) values
 words-fit program older s [] values h met e =
     subst (All (FitsWidth program (s.current.function ∷ older) Two)) (same_Some [] values e) (All-nil _)

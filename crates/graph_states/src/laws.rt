@@ -1,6 +1,7 @@
 //! Laws of the states of a program of graphs: each function's contract is one, and the function does nothing.
 
 ghost use Rattle.std.specs.Prelude.{◌≡◌, pos, [], ◌∷◌};
+ghost use Rattle.std.specs.List.{AllByRecursion};
 ghost use Rattle.flow_graph.specs.Meaning.{Moves, step};
 ghost use Rattle.flow_graph.specs.WellFormed.{FirstIsState, FunctionsBegin, HeldArraysAreThere, IsGraphProgram};
 ghost use Rattle.flow_graph.specs.WellFormed.{IsState, StatesAreStates, StepKeepsState};
@@ -16,12 +17,12 @@ pub fn step_keeps_state()
     ensures { StepKeepsState }
 {}
 
-/// Every state that comes over a list of bytes keeps it.
+/// AllByRecursion state that comes over a list of bytes keeps it.
 pub fn states_are_states()
     ensures { StatesAreStates }
 {}
 
-/// Every function of a program has a first point.
+/// AllByRecursion function of a program has a first point.
 pub fn functions_begin()
     ensures { FunctionsBegin }
 {}

@@ -1,4 +1,5 @@
 ghost use Rattle.std.specs.Prelude.{◌≡◌};
+ghost use Rattle.std.specs.List.{AllByRecursion};
 ghost use Rattle.ia32_insn.specs.Arithmetic as arithmetic;
 
 use ia32_insn::ShiftOp;
@@ -22,7 +23,7 @@ pub fn product(a: u32, b: u32) -> u32
     a.wrapping_mul(b)
 }
 
-/// Every bit turned over (NOT).
+/// AllByRecursion bit turned over (NOT).
 pub fn complement(a: u32) -> u32
     ensures { result ≡ arithmetic.complement a }
 {

@@ -1,4 +1,5 @@
 -- From the first state of a text to the state behind the prologue of its first function.
+use Rattle.std.specs.List.{AllByRecursion}
 use Rattle.std.proofs.Common.{◌≡◌, ℕ, ◌+◌, ◌^◌, ◌<◌, ◌≤◌, List, [], ◌++◌, length, Some, refl, arith}
 use Rattle.std.specs.Prelude.{slice_get}
 use Rattle.ia32_regs.specs.declared.names.Reg32.TheVariants.{Esp}
@@ -6,7 +7,6 @@ use Rattle.ia32_insn.specs.declared.item.Item.{Item}
 use Rattle.ia32_insn.specs.State.{State}
 use Rattle.ia32_insn.specs.Meaning.{word_of}
 use Rattle.ia32_insn.specs.Items.{Symbols, Places, IsText, data_start, data_memory, stack_end}
-use Rattle.flow_graph.specs.Graphs.{Every}
 use Rattle.ia32_rows.specs.Rows.{IsSlot, AllApart, prologue}
 use Rattle.ia32_calls.specs.Laws.{Started, Entered}
 use Rattle.ia32_calls.proofs.Pushes.{ready-from}
@@ -37,7 +37,7 @@ stack-top e h p = omega arith
 
 -- the start and the prologue, one after the other
 pub start-enters : (functions : List (List Item)) (order : List ℕ) (main : ℕ) (places : List Places) (symbols : Symbols) (text : List ℕ) (frame : ℕ) (slots : List ℕ) (back : List Item) (input : List ℕ) → IsText functions order [] main places symbols text → length text < 2 ^ 30 + 1024
-    → slice_get functions main ≡ Some (prologue frame slots ++ back) → 16 ≤ frame → frame ≤ 16384 → Every (IsSlot frame) slots → AllApart slots → (u : State) × Begun symbols places text main frame slots back input u
+    → slice_get functions main ≡ Some (prologue frame slots ++ back) → 16 ≤ frame → frame ≤ 16384 → AllByRecursion (IsSlot frame) slots → AllApart slots → (u : State) × Begun symbols places text main frame slots back input u
 start-enters functions order main places symbols text frame slots back input h fits items some small each apart =
     let at = function-placed functions order [] main places symbols text main (prologue frame slots ++ back) h items in
     let begun = start-goes functions order main places symbols text at.address input h fits at.named in

@@ -1,4 +1,5 @@
 -- The prologue: the caller's registers are saved, the frame is made, and every slot becomes 0.
+use Rattle.std.specs.List.{AllByRecursion}
 use Rattle.std.proofs.Common.{◌≡◌, ℕ, ◌+◌, ◌-◌, ◌^◌, ◌<◌, ◌≤◌, List, [], ◌∷◌, ◌++◌, pos, Ok, refl, sym, ap, subst, ◌∙◌, inl, inr, arith}
 use Rattle.std.specs.Prelude.{Result}
 use Rattle.pcc_base.specs.Outcome.{End}
@@ -11,7 +12,6 @@ use Rattle.ia32_insn.specs.State.{State}
 use Rattle.ia32_insn.specs.Meaning.{load, store, word_of, with_word, effect}
 use Rattle.ia32_insn.specs.Keeps.{AreDisjoint}
 use Rattle.ia32_insn.specs.Items.{plain}
-use Rattle.flow_graph.specs.Graphs.{Every}
 use Rattle.ia32_shows.specs.Placements.{below}
 use Rattle.ia32_shows.proofs.Sound.{load-same, word-below}
 use Rattle.ia32_shows.proofs.Steps.{Comes, comes-not, comes-then}
@@ -32,11 +32,11 @@ record HasRoom (site : Site) (frame : ℕ) (s : State) : Type 0 where
 
 -- places apart from the slots below an address
 abbrev OutsideSlots : ℕ → List ℕ → ℕ → ℕ → Type 0
-OutsideSlots e slots b n = Every (λ (slot : ℕ). AreDisjoint (e - slot) 4 b n) slots
+OutsideSlots e slots b n = AllByRecursion (λ (slot : ℕ). AreDisjoint (e - slot) 4 b n) slots
 
 -- each slot below the address is 0
 abbrev AreZero : ℕ → List ℕ → State → Type 0
-AreZero e slots u = Every (λ (slot : ℕ). load 4 (e - slot) u ≡ Ok 0) slots
+AreZero e slots u = AllByRecursion (λ (slot : ℕ). load 4 (e - slot) u ≡ Ok 0) slots
 
 record Cleared (site : Site) (back : List Item) (slots : List ℕ) (s u : State) : Type 0 where
   pub comes : Comes site.text s u
@@ -69,7 +69,7 @@ slots-disjoint : (e d c : ℕ) → d ≤ e → c ≤ e → AreApart d c → AreD
 slots-disjoint e d c h k (inl before) = inl (omega arith)
 slots-disjoint e d c h k (inr after) = inr (omega arith)
 
-outside-slots : (low f e d : ℕ) (slots : List ℕ) → low + f ≤ e → d ≤ f → Every (IsSlot f) slots → Every (AreApart d) slots → OutsideSlots e slots (e - d) 4
+outside-slots : (low f e d : ℕ) (slots : List ℕ) → low + f ≤ e → d ≤ f → AllByRecursion (IsSlot f) slots → AllByRecursion (AreApart d) slots → OutsideSlots e slots (e - d) 4
 outside-slots low f e d [] h k each apart = tt
 outside-slots low f e d (c ∷ slots) h k each apart =
     (slots-disjoint e d c (slot-within low f e d h k) (slot-within low f e c h each.0.high) apart.0, outside-slots low f e d slots h k each.1 apart.1)
@@ -92,7 +92,7 @@ clears-one site back slot slots s t u p q r outside =
       written = r.written ∙ q.written;
     }
 
-clears-goes : (site : Site) (frame : ℕ) (slots : List ℕ) (back : List Item) (s : State) → HasRoom site frame s → ReadyAt site (clears slots ++ back) s → Every (IsSlot frame) slots → AllApart slots → word_of Esi s ≡ 0 → (u : State) × Cleared site back slots s u
+clears-goes : (site : Site) (frame : ℕ) (slots : List ℕ) (back : List Item) (s : State) → HasRoom site frame s → ReadyAt site (clears slots ++ back) s → AllByRecursion (IsSlot frame) slots → AllApart slots → word_of Esi s ≡ 0 → (u : State) × Cleared site back slots s u
 clears-goes site frame [] back s has ready each apart zero =
     (s, record { comes = comes-not site.text s; ready = ready; sound = has.sound; words = λ q. refl; zeros = tt; kept = λ n b w k h. h; left = refl; taken = refl; written = refl })
 clears-goes site frame (slot ∷ slots) back s has ready each apart zero =
@@ -281,7 +281,7 @@ saved-part low e f n b h k d = disjoint-part (e - (f + 4)) (f + 4) (e - 16) 16 b
 slot-part : (low e f base d n b : ℕ) → low + f + 64 ≤ e → base + 4 ≡ e → 20 ≤ d → d ≤ f → AreDisjoint (e - (f + 4)) (f + 4) b n → AreDisjoint (base - d) 4 b n
 slot-part low e f base d n b h p l m k = disjoint-part (e - (f + 4)) (f + 4) (base - d) 4 b n (omega arith) (omega arith) k
 
-slots-part : (low e f base n b : ℕ) (slots : List ℕ) → low + f + 64 ≤ e → base + 4 ≡ e → Every (IsSlot f) slots → AreDisjoint (e - (f + 4)) (f + 4) b n → OutsideSlots base slots b n
+slots-part : (low e f base n b : ℕ) (slots : List ℕ) → low + f + 64 ≤ e → base + 4 ≡ e → AllByRecursion (IsSlot f) slots → AreDisjoint (e - (f + 4)) (f + 4) b n → OutsideSlots base slots b n
 slots-part low e f base n b [] h p each k = tt
 slots-part low e f base n b (d ∷ slots) h p each k = (slot-part low e f base d n b h p each.0.low each.0.high k, slots-part low e f base n b slots h p each.1 k)
 
@@ -289,7 +289,7 @@ slots-part low e f base n b (d ∷ slots) h p each k = (slot-part low e f base d
 saved-word : (low f base c d : ℕ) → low + f ≤ base → c ≤ 12 → 20 ≤ d → d ≤ f → AreDisjoint (base - d) 4 (base - c) 4
 saved-word low f base c d h k l m = inl (omega arith)
 
-saved-words : (low f base c : ℕ) (slots : List ℕ) → low + f ≤ base → c ≤ 12 → Every (IsSlot f) slots → OutsideSlots base slots (base - c) 4
+saved-words : (low f base c : ℕ) (slots : List ℕ) → low + f ≤ base → c ≤ 12 → AllByRecursion (IsSlot f) slots → OutsideSlots base slots (base - c) 4
 saved-words low f base c [] h k each = tt
 saved-words low f base c (d ∷ slots) h k each = (saved-word low f base c d h k each.0.low each.0.high, saved-words low f base c slots h k each.1)
 
@@ -309,14 +309,14 @@ few-twelve : 12 ≤ 12
 few-twelve = omega arith
 
 -- a saved word so far below EBP is kept while the slots become 0
-word-saved : (site : Site) (frame : ℕ) (back : List Item) (slots : List ℕ) (f h u : State) (c v : ℕ) → site.low + frame ≤ word_of Ebp f → Every (IsSlot frame) slots → c ≤ 12 → word_of Ebp h ≡ word_of Ebp f → word_of Ebp u ≡ word_of Ebp f → h.memory ≡ f.memory
+word-saved : (site : Site) (frame : ℕ) (back : List Item) (slots : List ℕ) (f h u : State) (c v : ℕ) → site.low + frame ≤ word_of Ebp f → AllByRecursion (IsSlot frame) slots → c ≤ 12 → word_of Ebp h ≡ word_of Ebp f → word_of Ebp u ≡ word_of Ebp f → h.memory ≡ f.memory
     → Cleared site back slots h u → load 4 (word_of Ebp f - c) f ≡ Ok v → load 4 (word_of Ebp u - c) u ≡ Ok v
 word-saved site frame back slots f h u c v low each few same now memory r held =
     let base : ℕ = word_of Ebp f in
     let outside : OutsideSlots (word_of Ebp h) slots (base - c) 4 = subst (λ (k : ℕ). OutsideSlots k slots (base - c) 4) (sym same) (saved-words site.low frame base c slots low few each) in
     subst (λ (k : ℕ). load 4 (k - c) u ≡ Ok v) (sym now) (r.kept 4 (base - c) v outside (load-same 4 (base - c) v f h memory held))
 
-entered : (site : Site) (frame : ℕ) (slots : List ℕ) (back : List Item) (t f g h u : State) → site.low + frame + 64 ≤ word_of Esp t → word_of Esp t + 4 ≤ site.high → 16 ≤ frame → Every (IsSlot frame) slots
+entered : (site : Site) (frame : ℕ) (slots : List ℕ) (back : List Item) (t f g h u : State) → site.low + frame + 64 ≤ word_of Esp t → word_of Esp t + 4 ≤ site.high → 16 ≤ frame → AllByRecursion (IsSlot frame) slots
     → Saved site t f → Comes site.text f g → Sets site Esp (word_of Ebp f - frame) f.written f g → Comes site.text g h → Sets site Esi 0 g.written g h → Cleared site back slots h u → Entered site frame slots back t u
 entered site frame slots back t f g h u room top some each p pg qg ph qh r =
     let e : ℕ = word_of Esp t in
@@ -350,7 +350,7 @@ entered site frame slots back t f g h u room top some each p pg qg ph qh r =
       written = r.written ∙ qh.written ∙ qg.written ∙ p.written;
     }
 
-makes-frame : (site : Site) (frame : ℕ) (slots : List ℕ) (back : List Item) (t : State) → site.low + frame + 64 ≤ word_of Esp t → word_of Esp t + 4 ≤ site.high → 16 ≤ frame → Every (IsSlot frame) slots → AllApart slots
+makes-frame : (site : Site) (frame : ℕ) (slots : List ℕ) (back : List Item) (t : State) → site.low + frame + 64 ≤ word_of Esp t → word_of Esp t + 4 ≤ site.high → 16 ≤ frame → AllByRecursion (IsSlot frame) slots → AllApart slots
     → ((f : State) × Saved site t f × ReadyAt site (making frame slots back) f) → (u : State) × Entered site frame slots back t u
 makes-frame site frame slots back t room top some each apart (f, p, ready) =
     let e : ℕ = word_of Esp t in

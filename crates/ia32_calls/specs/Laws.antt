@@ -1,5 +1,6 @@
 -- What calls and leaves do to the machine. Each law leads from a state to a later one, and passes no NOP on the way.
 use Rattle.std.specs.Prelude.{◌≡◌, ℕ, ◌+◌, ◌-◌, ◌%◌, ◌^◌, ◌<◌, ◌≤◌, List, [], ◌∷◌, ◌++◌, length, take, drop, slice_get, Some, Ok}
+use Rattle.std.specs.List.{AllByRecursion}
 use Rattle.pcc_base.specs.Outcome.{Ended}
 use Rattle.ia32_regs.specs.declared.names.Reg32.{Reg32}
 use Rattle.ia32_regs.specs.declared.names.Reg32.TheVariants.{Eax, Ebx, Esp, Ebp, Esi, Edi}
@@ -13,7 +14,6 @@ use Rattle.ia32_insn.specs.Meaning.{Halts, load, word_of}
 use Rattle.ia32_insn.specs.Keeps.{AreDisjoint}
 use Rattle.ia32_insn.specs.Runs.{Steps}
 use Rattle.ia32_insn.specs.Items.{Object, Symbols, Places, ItemsAt, IsText, plain, text_start, text_state, data_start, stack_end, start_items, putchar_items}
-use Rattle.flow_graph.specs.Graphs.{Every}
 use Rattle.ia32_shows.specs.Paths.{IsAt, IsClear, Comes}
 use Rattle.ia32_shows.specs.Placements.{below}
 use Rattle.ia32_rows.specs.Rows.{IsSlot, AllApart, prologue}
@@ -96,7 +96,7 @@ pub record Entered (site : Site) (frame : ℕ) (slots : List ℕ) (back : List I
   pub old_ebx : load 4 (word_of Ebp u - 4) u ≡ Ok (word_of Ebx t)
   pub old_esi : load 4 (word_of Ebp u - 8) u ≡ Ok (word_of Esi t)
   pub old_edi : load 4 (word_of Ebp u - 12) u ≡ Ok (word_of Edi t)
-  pub zeros : Every (λ (slot : ℕ). load 4 (word_of Ebp u - slot) u ≡ Ok 0) slots
+  pub zeros : AllByRecursion (λ (slot : ℕ). load 4 (word_of Ebp u - slot) u ≡ Ok 0) slots
   pub kept : (n b w : ℕ) → AreDisjoint (word_of Esp t - (frame + 4)) (frame + 4) b n → load n b t ≡ Ok w → load n b u ≡ Ok w
   pub left : u.left ≡ t.left
   pub taken : u.taken ≡ t.taken
@@ -106,7 +106,7 @@ pub record Entered (site : Site) (frame : ℕ) (slots : List ℕ) (back : List I
 abbrev pub PrologueGoes : Type 0
 PrologueGoes =
     (site : Site) (frame : ℕ) (slots : List ℕ) (back : List Item) (t : State) → SoundAt site t → ReadyAt site (prologue frame slots ++ back) t
-    → site.low + frame + 64 ≤ word_of Esp t → word_of Esp t + 4 ≤ site.high → 16 ≤ frame → Every (IsSlot frame) slots → AllApart slots
+    → site.low + frame + 64 ≤ word_of Esp t → word_of Esp t + 4 ≤ site.high → 16 ≤ frame → AllByRecursion (IsSlot frame) slots → AllApart slots
     → (u : State) × Entered site frame slots back t u
 
 -- ---- a return

@@ -1,4 +1,5 @@
 ghost use Rattle.std.specs.Prelude.{◌≡◌, [], None, Some, IfSome, IfNone, length};
+ghost use Rattle.std.specs.List.{AllByRecursion};
 ghost use Rattle.ia32_regs.specs.Registers.{zero_registers};
 ghost use Rattle.ia32_insn.specs.State as state;
 ghost use Rattle.ia32_insn.specs.Meaning.{word_of, with_word, byte_of, with_byte, with_flags, load, store};
@@ -31,7 +32,7 @@ impl Model for Processor {
 }
 
 impl Processor {
-    /// Every register is 0, the flags are unknown, and the next instruction is at the entry.
+    /// AllByRecursion register is 0, the flags are unknown, and the next instruction is at the entry.
     pub fn new(entry: u32, memory: Memory) -> Processor
         ensures { result ≡ record { registers = zero_registers; flags = None; eip = entry; memory = memory; left = []; taken = 0; written = [] } }
     {

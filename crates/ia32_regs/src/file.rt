@@ -1,4 +1,5 @@
 ghost use Rattle.std.specs.Prelude.{◌≡◌, ◌+◌, ◌*◌, ◌/◌, ◌<◌, ◌⊎◌, slice_set, slice_index};
+ghost use Rattle.std.specs.List.{AllByRecursion};
 ghost use Rattle.ia32_regs.specs.Registers.{
   register,
   with_register,
@@ -29,7 +30,7 @@ impl Model for RegFile {
 }
 
 impl RegFile {
-    /// Every register is 0.
+    /// AllByRecursion register is 0.
     pub fn new() -> RegFile
         ensures { result ≡ zero_registers }
     {

@@ -1,4 +1,5 @@
 -- What kinds of items the code of a graph over slots has.
+use Rattle.std.specs.List.{AllByRecursion}
 use Rattle.std.proofs.Common.{◌≡◌, ℕ, zero, suc, ◌+◌, ◌<◌, ◌≤◌, List, [], ◌∷◌, ◌++◌, length, Some, refl, sym, ap, subst, ◌∙◌, inl, inr, arith}
 use Rattle.std.specs.Prelude.{◌⊎◌, ⊤, slice_get, slice_index_or}
 use Rattle.std.proofs.lemmas.Option.{same_Some, get_or_from_slice_get}
@@ -10,23 +11,23 @@ use Rattle.ia32_insn.specs.declared.item.Stub.TheVariants as stub
 use Rattle.ia32_insn.specs.Items.{Symbols, Places, ItemAt, ItemsAt}
 use Rattle.flow_graph.specs.declared.op.Op.{Op}
 use Rattle.flow_graph.specs.declared.op.Op.TheVariants as op
-use Rattle.flow_graph.specs.Graphs.{Flow, Every, HasFittingOp, IsFlow, points_of}
+use Rattle.flow_graph.specs.Graphs.{Flow, HasFittingOp, IsFlow, points_of}
 use Rattle.flow_graph.proofs.Points.{every-map}
 use Rattle.ia32_shows.proofs.Spelled.{IsCommon, common-begins}
 use Rattle.ia32_rows.specs.Rows.{IsSlotOp, HasSlots, frame_of, row, clears, prologue, point_row, point_rows, block_rows, selected}
 
 -- what holds of each of two lists holds of each of both
-pub every-join : {X : Type 0} (P : X → Type 0) (xs ys : List X) → Every P xs → Every P ys → Every P (xs ++ ys)
+pub every-join : {X : Type 0} (P : X → Type 0) (xs ys : List X) → AllByRecursion P xs → AllByRecursion P ys → AllByRecursion P (xs ++ ys)
 every-join P [] ys a b = b
 every-join P (x ∷ xs) ys a b = (a.0, every-join P xs ys a.1 b)
 
 -- and of each of the second
-pub every-back : {X : Type 0} (P : X → Type 0) (xs ys : List X) → Every P (xs ++ ys) → Every P ys
+pub every-back : {X : Type 0} (P : X → Type 0) (xs ys : List X) → AllByRecursion P (xs ++ ys) → AllByRecursion P ys
 every-back P [] ys h = h
 every-back P (x ∷ xs) ys h = every-back P xs ys h.1
 
 -- what holds of each holds of the one at a place
-pub every-get : {X : Type 0} (P : X → Type 0) (xs : List X) (i : ℕ) (x : X) → Every P xs → slice_get xs i ≡ Some x → P x
+pub every-get : {X : Type 0} (P : X → Type 0) (xs : List X) (i : ℕ) (x : X) → AllByRecursion P xs → slice_get xs i ≡ Some x → P x
 every-get P [] i x h e = absurd (cc)
 every-get P (y ∷ xs) zero x h e = subst P (same_Some y x e) h.0
 every-get P (y ∷ xs) (suc i) x h e = every-get P xs i x h.1 e
@@ -47,7 +48,7 @@ IsRowItem (item.CallStub stub.Exit) = ⊥
 IsRowItem (item.JumpTrap c) = ⊥
 IsRowItem (item.AddressOf r k) = ⊥
 
-row-items : (slots : List ℕ) (o : Op) → Every IsRowItem (row slots o)
+row-items : (slots : List ℕ) (o : Op) → AllByRecursion IsRowItem (row slots o)
 row-items slots (op.Const d n) = (inl tt, (inl tt, tt))
 row-items slots (op.Copy d s) = (inl tt, (inl tt, tt))
 row-items slots (op.Add d a b) = (inl tt, (inl tt, (inl tt, (inl tt, tt))))
@@ -58,25 +59,25 @@ row-items slots op.Turn = (inr refl, tt)
 row-items slots (op.Return (Some a)) = (inl tt, (inl tt, (inl tt, (inl tt, (inl tt, (inl tt, tt))))))
 row-items slots o = tt
 
-clear-items : (slots : List ℕ) → Every IsRowItem (clears slots)
+clear-items : (slots : List ℕ) → AllByRecursion IsRowItem (clears slots)
 clear-items [] = tt
 clear-items (slot ∷ slots) = (inl tt, clear-items slots)
 
-prologue-items : (frame : ℕ) (slots : List ℕ) → Every IsRowItem (prologue frame slots)
+prologue-items : (frame : ℕ) (slots : List ℕ) → AllByRecursion IsRowItem (prologue frame slots)
 prologue-items frame slots = (inl tt, (inl tt, (inl tt, (inl tt, (inl tt, (inl tt, (inl tt, clear-items slots)))))))
 
-point_rows-items : (ops : List Op) (slots points : List ℕ) → Every IsRowItem (point_rows ops slots points)
+point_rows-items : (ops : List Op) (slots points : List ℕ) → AllByRecursion IsRowItem (point_rows ops slots points)
 point_rows-items ops slots [] = tt
 point_rows-items ops slots (p ∷ ps) =
     every-join IsRowItem (point_row ops slots p) (point_rows ops slots ps) (tt, row-items slots (slice_index_or ops p op.Turn)) (point_rows-items ops slots ps)
 
-block_rows-items : (ops : List Op) (slots : List ℕ) (k : ℕ) (blocks : List (List ℕ)) → Every IsRowItem (block_rows ops slots k blocks)
+block_rows-items : (ops : List Op) (slots : List ℕ) (k : ℕ) (blocks : List (List ℕ)) → AllByRecursion IsRowItem (block_rows ops slots k blocks)
 block_rows-items ops slots k [] = tt
 block_rows-items ops slots k (points ∷ blocks) =
     every-join IsRowItem (item.Label k ∷ point_rows ops slots points) (block_rows ops slots (suc k) blocks) (tt, point_rows-items ops slots points) (block_rows-items ops slots (suc k) blocks)
 
 -- every item of a graph's code is of these kinds
-pub selected-items : (flow : Flow) (slots : List ℕ) → Every IsRowItem (selected flow slots)
+pub selected-items : (flow : Flow) (slots : List ℕ) → AllByRecursion IsRowItem (selected flow slots)
 selected-items flow slots =
     every-join IsRowItem (prologue (frame_of flow) slots) (block_rows flow.ops slots 0 flow.blocks) (prologue-items (frame_of flow) slots) (block_rows-items flow.ops slots 0 flow.blocks)
 
@@ -148,7 +149,7 @@ abbrev pub HasSlotOp : List Op → ℕ → Type 0
 HasSlotOp ops p = (o : Op) × (slice_get ops p ≡ Some o) × IsSlotOp o
 
 -- every point of a block has
-pub points-have : (flow : Flow) (slots homes : List ℕ) (b : ℕ) → IsFlow flow homes → HasSlots flow slots → Every (HasSlotOp flow.ops) (points_of flow b)
+pub points-have : (flow : Flow) (slots homes : List ℕ) (b : ℕ) → IsFlow flow homes → HasSlots flow slots → AllByRecursion (HasSlotOp flow.ops) (points_of flow b)
 points-have flow slots homes b f h =
     every-map (HasFittingOp flow) (HasSlotOp flow.ops) (λ p fits. (fits.0, fits.1, every-get IsSlotOp flow.ops p fits.0 h.ops fits.1)) (points_of flow b) (f.each_block b).fits
 
@@ -157,11 +158,11 @@ point-room ops slots p (o, has, is) =
     let room = row-room slots o is in
     subst (λ (i : Op). BeginsWithRoom (row slots i) × PointsTakeRoom (row slots i)) (sym (get_or_from_slice_get ops p o op.Turn has)) room
 
-points-room : (ops : List Op) (slots points : List ℕ) → Every (HasSlotOp ops) points → PointsTakeRoom (point_rows ops slots points)
+points-room : (ops : List Op) (slots points : List ℕ) → AllByRecursion (HasSlotOp ops) points → PointsTakeRoom (point_rows ops slots points)
 points-room ops slots [] h = tt
 points-room ops slots (p ∷ ps) h = room-join (point_row ops slots p) (point_rows ops slots ps) (point-room ops slots p h.0) (points-room ops slots ps h.1)
 
-blocks-room : (ops : List Op) (slots : List ℕ) (k : ℕ) (blocks : List (List ℕ)) → ((b : ℕ) → Every (HasSlotOp ops) (slice_index_or blocks b [])) → PointsTakeRoom (block_rows ops slots k blocks)
+blocks-room : (ops : List Op) (slots : List ℕ) (k : ℕ) (blocks : List (List ℕ)) → ((b : ℕ) → AllByRecursion (HasSlotOp ops) (slice_index_or blocks b [])) → PointsTakeRoom (block_rows ops slots k blocks)
 blocks-room ops slots k [] h = tt
 blocks-room ops slots k (points ∷ blocks) h =
     room-join (item.Label k ∷ point_rows ops slots points) (block_rows ops slots (suc k) blocks) (tt, points-room ops slots points (h 0)) (blocks-room ops slots (suc k) blocks (λ b. h (suc b)))
@@ -210,7 +211,7 @@ later symbols places address (x ∷ xs) bytes (suc j) q (first, rest, whole, at,
     omega arith
 
 -- and later where these begin with an instruction
-strictly-later : (symbols : Symbols) (places : Places) (address : ℕ) (items : List Item) (bytes : List ℕ) (j q : ℕ) → Every IsRowItem items → BeginsWithRoom items → ItemsAt symbols places address items bytes
+strictly-later : (symbols : Symbols) (places : Places) (address : ℕ) (items : List Item) (bytes : List ℕ) (j q : ℕ) → AllByRecursion IsRowItem items → BeginsWithRoom items → ItemsAt symbols places address items bytes
     → slice_get items j ≡ Some (item.Point q) → address < places.points q
 strictly-later symbols places address [] bytes j q kinds begins h e = absurd begins
 strictly-later symbols places address (x ∷ xs) bytes zero q kinds begins h e =
@@ -239,7 +240,7 @@ point-address symbols places address x p bytes e at =
     (ap length point.0, point.1)
 
 -- points with one address are one point
-pub one-address : (symbols : Symbols) (places : Places) (address : ℕ) (items : List Item) (bytes : List ℕ) (i j p q : ℕ) → Every IsRowItem items → PointsTakeRoom items → ItemsAt symbols places address items bytes
+pub one-address : (symbols : Symbols) (places : Places) (address : ℕ) (items : List Item) (bytes : List ℕ) (i j p q : ℕ) → AllByRecursion IsRowItem items → PointsTakeRoom items → ItemsAt symbols places address items bytes
     → slice_get items i ≡ Some (item.Point p) → slice_get items j ≡ Some (item.Point q) → places.points p ≡ places.points q → p ≡ q
 one-address symbols places address [] bytes i j p q kinds room h a b e = absurd (cc)
 one-address symbols places address (x ∷ xs) bytes zero zero p q kinds room h a b e = one-point x p q a b

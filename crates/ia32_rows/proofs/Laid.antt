@@ -1,4 +1,5 @@
 -- Where the items of a graph over slots stand in a text.
+use Rattle.std.specs.List.{AllByRecursion}
 use Rattle.std.proofs.Common.{◌≡◌, ℕ, zero, suc, ◌+◌, Bool, cond, List, [], ◌∷◌, ◌++◌, length, Some, None, Option, refl, sym, ap, subst, ◌∙◌, inl, inr, arith, append_assoc}
 use Rattle.std.specs.Prelude.{slice_get, slice_index_or}
 use Rattle.std.proofs.lemmas.Option.{same_Some, get_or_from_slice_get}
@@ -11,7 +12,7 @@ use Rattle.ia32_insn.specs.declared.item.Item.TheVariants as item
 use Rattle.ia32_insn.specs.Items.{Symbols, Places, ItemsAt, FunctionAt, FunctionsAt, IsOrder, IsText, text_start, stack_end, start_items, putchar_items, plain}
 use Rattle.flow_graph.specs.declared.op.Op.{Op}
 use Rattle.flow_graph.specs.declared.op.Op.TheVariants as op
-use Rattle.flow_graph.specs.Graphs.{Flow, Every, IsIn, Stands, points_of, following}
+use Rattle.flow_graph.specs.Graphs.{Flow, IsIn, Stands, points_of, following}
 use Rattle.flow_graph.specs.States.{GraphProgram, Waiting}
 use Rattle.flow_graph.proofs.Points.{choose}
 use Rattle.ia32_shows.specs.Placements.{Code, objects_of, address_in, point_address}
@@ -396,8 +397,8 @@ no-calls flow slots code w f r h (items, places, address, has, placed, named, re
     let back : List Item = returns.2 in
     let is : items ≡ (front ++ item.Point w.point ∷ middle ++ item.CallFunction f ∷ []) ++ back = returns.5 in
     let of-one : slice_get (selected flow slots ∷ []) w.activation.function ≡ Some items = subst (λ (fs : List (List Item)). slice_get fs w.activation.function ≡ Some items) h.items_are has in
-    let mine : Every IsRowItem items = every-get (Every IsRowItem) (selected flow slots ∷ []) w.activation.function items (selected-items flow slots, tt) of-one in
+    let mine : AllByRecursion IsRowItem items = every-get (AllByRecursion IsRowItem) (selected flow slots ∷ []) w.activation.function items (selected-items flow slots, tt) of-one in
     let one : List Item = item.CallFunction f ∷ [] in
     let e = call-grouped front middle one back (item.Point w.point) in
-    let split : Every IsRowItem ((front ++ item.Point w.point ∷ middle) ++ (one ++ back)) = subst (Every IsRowItem) (is ∙ e) mine in
+    let split : AllByRecursion IsRowItem ((front ++ item.Point w.point ∷ middle) ++ (one ++ back)) = subst (AllByRecursion IsRowItem) (is ∙ e) mine in
     (every-back IsRowItem (front ++ item.Point w.point ∷ middle) (one ++ back) split).0

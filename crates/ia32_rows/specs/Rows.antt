@@ -1,6 +1,7 @@
 -- The items of a graph whose variables stand in slots of its frame: for each op the operands are read into ESI and
 -- EDI, the core works on them, and the result is written to its slot.
 use Rattle.std.specs.Prelude.{◌≡◌, ◌<◌, ◌≤◌, ◌⊎◌, ◌+◌, ◌*◌, ⊤, ℕ, suc, pos, List, [], ◌∷◌, ◌++◌, length, slice_index_or, Some}
+use Rattle.std.specs.List.{AllByRecursion}
 use Rattle.pcc_base.specs.declared.run.Width.TheVariants.{Two}
 use Rattle.ia32_regs.specs.declared.names.Reg32.TheVariants.{Eax, Ebx, Esp, Ebp, Esi, Edi}
 use Rattle.ia32_insn.specs.declared.operand.Mem.{Mem}
@@ -15,7 +16,7 @@ use Rattle.ia32_insn.specs.Items.{plain}
 use Rattle.flow_graph.specs.declared.op.Op.{Op}
 use Rattle.flow_graph.specs.declared.op.Op.TheVariants as op
 pub use Rattle.flow_graph.specs.SlotGraphs.{IsSlotOp}
-use Rattle.flow_graph.specs.Graphs.{Flow, Every, IsEnded}
+use Rattle.flow_graph.specs.Graphs.{Flow, IsEnded}
 use Rattle.ia32_shows.specs.Placements.{below}
 
 -- ---- the graphs that have code so far
@@ -36,16 +37,16 @@ AreApart first second = (first + 4 ≤ second) ⊎ (second + 4 ≤ first)
 -- no two slots of the list have
 abbrev pub AllApart : List ℕ → Type 0
 AllApart [] = ⊤
-AllApart (slot ∷ slots) = Every (AreApart slot) slots × AllApart slots
+AllApart (slot ∷ slots) = AllByRecursion (AreApart slot) slots × AllApart slots
 
 -- a graph of such ops over variables of width Two without frame arrays, with a slot for each variable
 pub record HasSlots (flow : Flow) (slots : List ℕ) : Type 0 where
-  pub widths : Every (λ width. width ≡ Two) flow.widths
+  pub widths : AllByRecursion (λ width. width ≡ Two) flow.widths
   pub no_arrays : flow.arrays ≡ []
-  pub ops : Every IsSlotOp flow.ops
+  pub ops : AllByRecursion IsSlotOp flow.ops
   pub ended : (block : ℕ) → block < length flow.blocks → IsEnded flow block
   pub as_many : length slots ≡ length flow.widths
-  pub within : Every (IsSlot (frame_of flow)) slots
+  pub within : AllByRecursion (IsSlot (frame_of flow)) slots
   pub apart : AllApart slots
   pub small : frame_of flow ≤ 16384
 

@@ -1,4 +1,5 @@
 -- The items of a graph over slots can be assembled: they have spellings, and so many bytes.
+use Rattle.std.specs.List.{AllByRecursion}
 use Rattle.std.proofs.Common.{◌≡◌, ℕ, zero, suc, ◌+◌, ◌*◌, ◌≤◌, ℤ, pos, Bool, true, false, cond, List, [], ◌∷◌, length, Some, None, refl, inl, inr, arith, get_or, length-append}
 use Rattle.std.specs.Prelude.{◌⊎◌, neg_ℤ, slice_index_or}
 use Rattle.std.specs.Int.{w32}
@@ -19,7 +20,7 @@ use Rattle.ia32_insn.specs.Preferred.{fields_for, displacement_for, word_bytes, 
 use Rattle.ia32_encode.proofs.Spelled.{spelling-indexed}
 use Rattle.flow_graph.specs.declared.op.Op.{Op}
 use Rattle.flow_graph.specs.declared.op.Op.TheVariants as op
-use Rattle.flow_graph.specs.Graphs.{Flow, Every, NumbersFit, IsFlow}
+use Rattle.flow_graph.specs.Graphs.{Flow, NumbersFit, IsFlow}
 use Rattle.ia32_asm.specs.declared.section.Target.TheVariants as target
 use Rattle.ia32_asm.specs.Sections.{CanAssemble, IsSpelled, HasLabel, items_size, target_of}
 use Rattle.ia32_asm.proofs.Laying.{items_size-append}
@@ -36,7 +37,7 @@ fits-below zero h = grind (arith, ints)
 fits-below (suc n) h = omega (arith, ints)
 
 -- a slot of any variable is in the frame
-slot-small : (frame : ℕ) (slots : List ℕ) (v : ℕ) → Every (IsSlot frame) slots → get_or slots v 0 ≤ frame
+slot-small : (frame : ℕ) (slots : List ℕ) (v : ℕ) → AllByRecursion (IsSlot frame) slots → get_or slots v 0 ≤ frame
 slot-small frame [] zero h = omega arith
 slot-small frame [] (suc v) h = omega arith
 slot-small frame (s ∷ slots) zero h = h.0.high
@@ -64,7 +65,7 @@ push-spelled r = ((80 + number32 r) ∷ [], inl refl)
 number-spelled : (r : Reg32) (z : ℤ) → FitsSigned w32 z → HasSpelling (insn.MovImm (rm.Reg r) z)
 number-spelled r z h = spelling-indexed (insn.MovImm (rm.Reg r) z) (tt, h) (tt, tt)
 
-row-spelled : (slots : List ℕ) (o : Op) → AreSmall slots → NumbersFit o → Every IsSpelled (row slots o)
+row-spelled : (slots : List ℕ) (o : Op) → AreSmall slots → NumbersFit o → AllByRecursion IsSpelled (row slots o)
 row-spelled slots (op.Const d n) small fits = (number-spelled Esi n fits, (write-spelled Esi _ (small d), tt))
 row-spelled slots (op.Copy d s) small fits = (read-spelled Esi _ (small s), (write-spelled Esi _ (small d), tt))
 row-spelled slots (op.Add d a b) small fits = (read-spelled Esi _ (small a), (read-spelled Edi _ (small b), (operation-spelled alu.Add, (write-spelled Esi _ (small d), tt))))
@@ -78,11 +79,11 @@ row-spelled slots (op.Return (Some a)) small fits = (
 )
 row-spelled slots o small fits = tt
 
-clears-spelled : (frame : ℕ) (slots : List ℕ) → frame ≤ 16384 → Every (IsSlot frame) slots → Every IsSpelled (clears slots)
+clears-spelled : (frame : ℕ) (slots : List ℕ) → frame ≤ 16384 → AllByRecursion (IsSlot frame) slots → AllByRecursion IsSpelled (clears slots)
 clears-spelled frame [] h small = tt
 clears-spelled frame (s ∷ slots) h small = let high = small.0.high in (write-spelled Esi s (omega arith), clears-spelled frame slots h small.1)
 
-prologue-spelled : (frame : ℕ) (slots : List ℕ) → frame ≤ 16384 → Every (IsSlot frame) slots → Every IsSpelled (prologue frame slots)
+prologue-spelled : (frame : ℕ) (slots : List ℕ) → frame ≤ 16384 → AllByRecursion (IsSlot frame) slots → AllByRecursion IsSpelled (prologue frame slots)
 prologue-spelled frame slots h small = (
   push-spelled Ebp,
   (
@@ -101,23 +102,23 @@ prologue-spelled frame slots h small = (
 )
 
 -- the number of a point's op has 32 bits, also where there is no such point
-word-at : (ops : List Op) (p : ℕ) → Every NumbersFit ops → NumbersFit (slice_index_or ops p op.Turn)
+word-at : (ops : List Op) (p : ℕ) → AllByRecursion NumbersFit ops → NumbersFit (slice_index_or ops p op.Turn)
 word-at [] zero h = tt
 word-at [] (suc p) h = tt
 word-at (o ∷ ops) zero h = h.0
 word-at (o ∷ ops) (suc p) h = word-at ops p h.1
 
-points-spelled : (ops : List Op) (slots points : List ℕ) → AreSmall slots → Every NumbersFit ops → Every IsSpelled (point_rows ops slots points)
+points-spelled : (ops : List Op) (slots points : List ℕ) → AreSmall slots → AllByRecursion NumbersFit ops → AllByRecursion IsSpelled (point_rows ops slots points)
 points-spelled ops slots [] small h = tt
 points-spelled ops slots (p ∷ ps) small h =
     every-join IsSpelled (point_row ops slots p) (point_rows ops slots ps) (tt, row-spelled slots (slice_index_or ops p op.Turn) small (word-at ops p h)) (points-spelled ops slots ps small h)
 
-blocks-spelled : (ops : List Op) (slots : List ℕ) (k : ℕ) (blocks : List (List ℕ)) → AreSmall slots → Every NumbersFit ops → Every IsSpelled (block_rows ops slots k blocks)
+blocks-spelled : (ops : List Op) (slots : List ℕ) (k : ℕ) (blocks : List (List ℕ)) → AreSmall slots → AllByRecursion NumbersFit ops → AllByRecursion IsSpelled (block_rows ops slots k blocks)
 blocks-spelled ops slots k [] small h = tt
 blocks-spelled ops slots k (points ∷ blocks) small h =
     every-join IsSpelled (item.Label k ∷ point_rows ops slots points) (block_rows ops slots (suc k) blocks) (tt, points-spelled ops slots points small h) (blocks-spelled ops slots (suc k) blocks small h)
 
-selected-spelled : (flow : Flow) (slots : List ℕ) → HasSlots flow slots → Every NumbersFit flow.ops → Every IsSpelled (selected flow slots)
+selected-spelled : (flow : Flow) (slots : List ℕ) → HasSlots flow slots → AllByRecursion NumbersFit flow.ops → AllByRecursion IsSpelled (selected flow slots)
 selected-spelled flow slots h words =
     let small : AreSmall slots = λ v. let in_frame = slot-small (frame_of flow) slots v h.within in let frame = h.small in omega arith in
     every-join IsSpelled (prologue (frame_of flow) slots) (block_rows flow.ops slots 0 flow.blocks) (prologue-spelled (frame_of flow) slots h.small h.within) (blocks-spelled flow.ops slots 0 flow.blocks small words)

@@ -1,4 +1,5 @@
 -- What is known of the offsets and of the ops of a graph over slots.
+use Rattle.std.specs.List.{AllByRecursion}
 use Rattle.std.proofs.Common.{◌≡◌, ℕ, zero, suc, inl, inr, get_or, ◌<◌, ◌*◌, ◌+◌, ℤ, List, [], ◌∷◌, length, Some, refl, sym, ap, subst, ◌∙◌, ◌++◌, append_assoc, arith}
 use Rattle.std.specs.Prelude.{slice_get, slice_index_or}
 use Rattle.std.proofs.lemmas.List.{length-map}
@@ -8,14 +9,14 @@ use Rattle.ia32_insn.specs.declared.item.Item.{Item}
 use Rattle.ia32_insn.specs.declared.item.Item.TheVariants as item
 use Rattle.flow_graph.specs.declared.op.Op.{Op}
 use Rattle.flow_graph.specs.declared.op.Op.TheVariants as op
-use Rattle.flow_graph.specs.Graphs.{Flow, Every, HasFittingOp, IsFlow, IsIn, IsPlaced, points_of, FitsOp}
+use Rattle.flow_graph.specs.Graphs.{Flow, HasFittingOp, IsFlow, IsIn, IsPlaced, points_of, FitsOp}
 use Rattle.flow_graph.proofs.Points.{every-in}
 use Rattle.ia32_rows.specs.Rows.{IsSlot, IsSlotOp, HasSlots, row, point_row}
 use Rattle.ia32_rows.proofs.ItemKinds.{every-get}
 use Rattle.ia32_select.specs.Offsets.{distance, slots_of, AreBelow, IsSlotOpOver}
 
 -- offsets whose slots are in a frame are below EBP
-below-frame : (frame : ℕ) (offsets : List ℤ) → Every (IsSlot frame) (slots_of offsets) → AreBelow offsets
+below-frame : (frame : ℕ) (offsets : List ℤ) → AllByRecursion (IsSlot frame) (slots_of offsets) → AreBelow offsets
 below-frame frame [] h = tt
 below-frame frame (z ∷ offsets) h = let low = h.0.low in (omega arith, below-frame frame offsets h.1)
 

@@ -1,5 +1,6 @@
 -- The labels and points among the items of a graph over slots: each stands once, and the points are those of the
 -- blocks.
+use Rattle.std.specs.List.{AllByRecursion}
 use Rattle.std.proofs.Common.{◌≡◌, ◌≢◌, ℕ, zero, suc, ◌+◌, ◌<◌, ◌≤◌, Bool, List, [], ◌∷◌, ◌++◌, length, Option, Some, None, refl, sym, ap, subst, ◌∙◌, inl, inr, arith, eqb, cond}
 use Rattle.std.specs.Prelude.{◌⊎◌, slice_get, slice_index_or}
 use Rattle.std.proofs.lemmas.Bool.Decides.{eqb_tells}
@@ -8,7 +9,7 @@ use Rattle.ia32_insn.specs.declared.item.Item.{Item}
 use Rattle.ia32_insn.specs.declared.item.Item.TheVariants as item
 use Rattle.flow_graph.specs.declared.op.Op.{Op}
 use Rattle.flow_graph.specs.declared.op.Op.TheVariants as op
-use Rattle.flow_graph.specs.Graphs.{Flow, Every, IsIn, IsDistinct, IsFlow, IsPlaced, points_of, without}
+use Rattle.flow_graph.specs.Graphs.{Flow, IsIn, IsDistinct, IsFlow, IsPlaced, points_of, without}
 use Rattle.flow_graph.proofs.Points.{every-in, every-map, every-without, distinct-without, choose}
 use Rattle.ia32_asm.specs.Sections.{Stands, StandOnce}
 use Rattle.ia32_rows.specs.Rows.{frame_of, row, clears, prologue, point_rows, block_rows, selected}
@@ -167,7 +168,7 @@ selected-labels flow slots =
 
 -- ---- none twice
 
-above : (k m : ℕ) (blocks : List (List ℕ)) → k < m → Every (λ q. q ≢ k) (labels_from m blocks)
+above : (k m : ℕ) (blocks : List (List ℕ)) → k < m → AllByRecursion (λ q. q ≢ k) (labels_from m blocks)
 above k m [] h = tt
 above k m (points ∷ blocks) h = (λ e. omega arith, above k (suc m) blocks (omega arith))
 
@@ -212,7 +213,7 @@ block-in (points ∷ blocks) n h =
       | inr k ↦ let m = block-in blocks n k in (suc m.0, m.1)
     ]
 
-every-but : (xs ys : List ℕ) (x : ℕ) → Every (λ q. q ≢ x) xs → (IsIn x ys → ⊥) → Every (λ q. q ≢ x) (xs ++ ys)
+every-but : (xs ys : List ℕ) (x : ℕ) → AllByRecursion (λ q. q ≢ x) xs → (IsIn x ys → ⊥) → AllByRecursion (λ q. q ≢ x) (xs ++ ys)
 every-but [] [] x a b = tt
 every-but [] (y ∷ ys) x a b = (λ e. b (inl e), every-but [] ys x tt (λ h. b (inr h)))
 every-but (z ∷ xs) ys x a b = (a.0, every-but xs ys x a.1 b)
@@ -222,10 +223,10 @@ distinct-join [] ys a b apart = b
 distinct-join (x ∷ xs) ys a b apart = (every-but xs ys x a.0 (apart x (inl refl)), distinct-join xs ys a.1 b (λ n i j. apart n (inr i) j))
 
 -- blocks whose points are at home in them have no point twice
-points-distinct : (homes : List ℕ) (k : ℕ) (blocks : List (List ℕ)) → ((b : ℕ) → IsDistinct (slice_index_or blocks b [])) → ((b : ℕ) → Every (λ p. slice_get homes p ≡ Some (k + b)) (slice_index_or blocks b [])) → IsDistinct (all_points blocks)
+points-distinct : (homes : List ℕ) (k : ℕ) (blocks : List (List ℕ)) → ((b : ℕ) → IsDistinct (slice_index_or blocks b [])) → ((b : ℕ) → AllByRecursion (λ p. slice_get homes p ≡ Some (k + b)) (slice_index_or blocks b [])) → IsDistinct (all_points blocks)
 points-distinct homes k [] one home = tt
 points-distinct homes k (points ∷ blocks) one home =
-    let next : (b : ℕ) → Every (λ p. slice_get homes p ≡ Some (suc k + b)) (slice_index_or blocks b []) = λ b. let e : k + suc b ≡ suc k + b = omega arith in subst (λ (h : ℕ). Every (λ p. slice_get homes p ≡ Some h) (slice_index_or blocks b [])) e (home (suc b)) in
+    let next : (b : ℕ) → AllByRecursion (λ p. slice_get homes p ≡ Some (suc k + b)) (slice_index_or blocks b []) = λ b. let e : k + suc b ≡ suc k + b = omega arith in subst (λ (h : ℕ). AllByRecursion (λ p. slice_get homes p ≡ Some h) (slice_index_or blocks b [])) e (home (suc b)) in
     distinct-join points (all_points blocks) (one 0) (points-distinct homes (suc k) blocks (λ b. one (suc b)) next)
     (λ n i j.
     let m = block-in blocks n j in
@@ -235,7 +236,7 @@ points-distinct homes k (points ∷ blocks) one home =
     omega arith)
 
 pub flow-distinct : (flow : Flow) (homes : List ℕ) → IsFlow flow homes → IsDistinct (all_points flow.blocks)
-flow-distinct flow homes f = points-distinct homes 0 flow.blocks (λ b. (f.each_block b).once) (λ b. let e : b ≡ 0 + b = omega arith in subst (λ (h : ℕ). Every (λ p. slice_get homes p ≡ Some h) (points_of flow b)) e (f.each_block b).at_home)
+flow-distinct flow homes f = points-distinct homes 0 flow.blocks (λ b. (f.each_block b).once) (λ b. let e : b ≡ 0 + b = omega arith in subst (λ (h : ℕ). AllByRecursion (λ p. slice_get homes p ≡ Some h) (points_of flow b)) e (f.each_block b).at_home)
 
 -- no point of a graph's code stands twice
 pub points-once : (flow : Flow) (homes slots : List ℕ) → IsFlow flow homes → StandOnce item.Point (selected flow slots)
@@ -266,15 +267,15 @@ placed-stands flow slots p (b, h) =
 
 -- ---- how many points there are
 
-absent : (n : ℕ) (ps : List ℕ) → IsDistinct ps → Every (λ q. q ≢ n) (without n ps)
+absent : (n : ℕ) (ps : List ℕ) → IsDistinct ps → AllByRecursion (λ q. q ≢ n) (without n ps)
 absent n [] d = tt
 absent n (p ∷ ps) d =
     choose-absent (absent n ps d.1)
   where
-    choose-absent : Every (λ q. q ≢ n) (without n ps) → Every (λ q. q ≢ n) (cond (eqb p n) ps (p ∷ without n ps))
+    choose-absent : AllByRecursion (λ q. q ≢ n) (without n ps) → AllByRecursion (λ q. q ≢ n) (cond (eqb p n) ps (p ∷ without n ps))
     choose-absent rest = elim (eqb_tells p n) [
-      | inl (t, e) ↦ let P : Bool → Type 0 = λ b. Every (λ q. q ≢ n) (cond b ps (p ∷ without n ps)) in subst P (sym t) (subst (λ (m : ℕ). Every (λ q. q ≢ m) ps) e d.0)
-      | inr (f, ne) ↦ let P : Bool → Type 0 = λ b. Every (λ q. q ≢ n) (cond b ps (p ∷ without n ps)) in subst P (sym f) (ne, rest)
+      | inl (t, e) ↦ let P : Bool → Type 0 = λ b. AllByRecursion (λ q. q ≢ n) (cond b ps (p ∷ without n ps)) in subst P (sym t) (subst (λ (m : ℕ). AllByRecursion (λ q. q ≢ m) ps) e d.0)
+      | inr (f, ne) ↦ let P : Bool → Type 0 = λ b. AllByRecursion (λ q. q ≢ n) (cond b ps (p ∷ without n ps)) in subst P (sym f) (ne, rest)
     ]
 
 length-without : (n : ℕ) (ps : List ℕ) → length ps ≤ 1 + length (without n ps)
@@ -283,12 +284,12 @@ length-without n (p ∷ ps) =
     let rest = length-without n ps in
     choose p n (λ (l : List ℕ). suc (length ps) ≤ 1 + length l) ps (p ∷ without n ps) (λ e. omega arith) (omega arith)
 
-both : (n : ℕ) (ps : List ℕ) → Every (λ q. q < suc n) ps → Every (λ q. q ≢ n) ps → Every (λ q. q < n) ps
+both : (n : ℕ) (ps : List ℕ) → AllByRecursion (λ q. q < suc n) ps → AllByRecursion (λ q. q ≢ n) ps → AllByRecursion (λ q. q < n) ps
 both n [] a b = tt
 both n (p ∷ ps) a b = let less = a.0 in let other = b.0 in (omega arith, both n ps a.1 b.1)
 
 -- numbers below n of which none stands twice are at most n
-few : (n : ℕ) (ps : List ℕ) → IsDistinct ps → Every (λ q. q < n) ps → length ps ≤ n
+few : (n : ℕ) (ps : List ℕ) → IsDistinct ps → AllByRecursion (λ q. q < n) ps → length ps ≤ n
 few n [] d h = omega arith
 few zero (p ∷ ps) d h = let none = h.0 in absurd (omega arith)
 few (suc n) (p ∷ ps) d h =
@@ -297,7 +298,7 @@ few (suc n) (p ∷ ps) d h =
     let long = length-without n (p ∷ ps) in
     omega arith
 
-every-from : (P : ℕ → Type 0) (ps : List ℕ) → ((n : ℕ) → IsIn n ps → P n) → Every P ps
+every-from : (P : ℕ → Type 0) (ps : List ℕ) → ((n : ℕ) → IsIn n ps → P n) → AllByRecursion P ps
 every-from P [] h = tt
 every-from P (p ∷ ps) h = (h p (inl refl), every-from P ps (λ n i. h n (inr i)))
 

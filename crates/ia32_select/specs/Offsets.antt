@@ -1,10 +1,10 @@
 -- Slots by their offsets from EBP, and what the code over slots names.
 use Rattle.std.specs.Prelude.{◌≡◌, ◌⊎◌, ◌<◌, ⊤, ℕ, suc, ℤ, pos, negsuc, List, map, slice_get, Some, None}
+use Rattle.std.specs.List.{AllByRecursion}
 use Rattle.ia32_insn.specs.declared.item.Item.{Item}
 use Rattle.ia32_insn.specs.declared.item.Stub.TheVariants as stub
 use Rattle.flow_graph.specs.declared.op.Op.{Op}
 use Rattle.flow_graph.specs.declared.op.Op.TheVariants as op
-use Rattle.flow_graph.specs.Graphs.{Every}
 use Rattle.ia32_asm.specs.declared.section.Target.TheVariants as target
 use Rattle.ia32_asm.specs.Sections.{target_of}
 
@@ -19,7 +19,7 @@ slots_of offsets = map distance offsets
 
 -- every offset is below EBP
 abbrev pub AreBelow : List ℤ → Type 0
-AreBelow offsets = Every (λ z. 0 < distance z) offsets
+AreBelow offsets = AllByRecursion (λ z. 0 < distance z) offsets
 
 -- an op that has code, over so many variables
 abbrev pub IsSlotOpOver : ℕ → Op → Type 0

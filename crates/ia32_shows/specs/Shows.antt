@@ -1,5 +1,6 @@
 -- A state of the machine shows a state of a program of graphs.
 use Rattle.std.specs.Prelude.{◌≡◌, ◌≢◌, ℕ, ◌+◌, ◌-◌, ◌*◌, ◌%◌, ◌<◌, ◌≤◌, ◌^◌, ⊤, ℤ, List, [], ◌∷◌, ◌++◌}
+use Rattle.std.specs.List.{AllByRecursion}
 use Rattle.std.specs.Prelude.{length, map, take, drop, slice_get, Option, Some, None, option_map, Ok, FitsSigned}
 use Rattle.std.specs.Int.{w8, w32, cast_unsigned}
 use Rattle.pcc_base.specs.Outcome.{ArrayName, Null, Static, InFrame, Unknown, Value, Number, Array}
@@ -14,7 +15,7 @@ use Rattle.ia32_insn.specs.State as machine
 use Rattle.ia32_insn.specs.State.{shape_of}
 use Rattle.ia32_insn.specs.Meaning.{load, word_of, byte_of, with_word}
 use Rattle.ia32_insn.specs.Items.{Places, ItemsAt, text_start, text_state, start_items, stack_end}
-use Rattle.flow_graph.specs.Graphs.{Every, Stands}
+use Rattle.flow_graph.specs.Graphs.{Stands}
 use Rattle.flow_graph.specs.States as graph
 use Rattle.flow_graph.specs.States.{Activation, Waiting, active_of, depth_of, flow_at}
 use Rattle.flow_graph.specs.WellFormed.{IsWaiting}
@@ -106,7 +107,7 @@ up_to_call front point middle callee = front ++ item.Point point ∷ middle ++ i
 abbrev pub ReturnsAt : Code → Places → ℕ → List Item → ℕ → ℕ → ℕ → Type 0
 ReturnsAt code places address items point callee return_address =
     (front middle back : List Item) × (before after : List ℕ)
-    × (items ≡ up_to_call front point middle callee ++ back) × Every IsInside middle
+    × (items ≡ up_to_call front point middle callee ++ back) × AllByRecursion IsInside middle
     × ItemsAt code.symbols places address (up_to_call front point middle callee) before
     × ItemsAt code.symbols places (address + length before) back after
     × StandsInText code address (before ++ after) × (return_address ≡ address + length before)

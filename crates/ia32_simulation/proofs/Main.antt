@@ -1,4 +1,5 @@
 -- What a state of the machine shows of a state of a program of one graph over slots, in short.
+use Rattle.std.specs.List.{AllByRecursion}
 use Rattle.std.proofs.Common.{◌≡◌, ℕ, zero, suc, ◌+◌, ◌-◌, ◌≤◌, List, [], ◌∷◌, length, Option, Some, None, Ok, refl, sym, ap, subst, ◌∙◌, arith}
 use Rattle.std.specs.Prelude.{ℤ, drop, slice_get, option_map, FitsSigned}
 use Rattle.std.specs.Int.{w32, cast_unsigned}
@@ -10,7 +11,7 @@ use Rattle.ia32_regs.specs.declared.names.Reg32.TheVariants.{Ebp}
 use Rattle.ia32_insn.specs.State as machine
 use Rattle.ia32_insn.specs.Meaning.{load, word_of}
 use Rattle.ia32_insn.specs.Items.{data_start, stack_end}
-use Rattle.flow_graph.specs.Graphs.{Stands, Every}
+use Rattle.flow_graph.specs.Graphs.{Stands}
 use Rattle.flow_graph.specs.States as graph
 use Rattle.flow_graph.specs.States.{Activation, active_of}
 use Rattle.ia32_shows.specs.Placements.{placement_of}
@@ -92,7 +93,7 @@ word-plain x a frames (Array Unknown) word k = absurd k
 -- ---- slots and widths
 
 -- a variable that has a slot is of width Two
-width-two : (widths : List Width) (slots : List ℕ) (v slot : ℕ) → Every (λ width. width ≡ Two) widths → length slots ≡ length widths → slice_get slots v ≡ Some slot → slice_get widths v ≡ Some Two
+width-two : (widths : List Width) (slots : List ℕ) (v slot : ℕ) → AllByRecursion (λ width. width ≡ Two) widths → length slots ≡ length widths → slice_get slots v ≡ Some slot → slice_get widths v ≡ Some Two
 width-two [] [] v slot each long e = absurd (none-some slot e)
 width-two [] (k ∷ ks) v slot each long e = absurd (omega (arith, long))
 width-two (w ∷ ws) [] v slot each long e = absurd (omega (arith, long))

@@ -1,8 +1,9 @@
 -- Slots of variables, variables that are set, and the next point of a block.
+use Rattle.std.specs.List.{AllByRecursion}
 use Rattle.std.proofs.Common.{◌≡◌, ◌≢◌, ℕ, zero, suc, ◌+◌, ◌≤◌, List, [], ◌∷◌, length, Option, Some, None, refl, ap, subst, inl, inr, arith}
 use Rattle.std.specs.Prelude.{◌⊎◌, slice_get, slice_set, slice_index_or}
 use Rattle.std.proofs.lemmas.Option.{same_Some}
-use Rattle.flow_graph.specs.Graphs.{Every, IsIn, following}
+use Rattle.flow_graph.specs.Graphs.{IsIn, following}
 use Rattle.flow_graph.proofs.Points.{choose}
 use Rattle.ia32_rows.specs.Rows.{IsSlot, AreApart, AllApart}
 use Rattle.ia32_shows.specs.Sites.{IsInFrame}
@@ -12,7 +13,7 @@ none-some : {X : Type 0} → (a : X) → None ≡ Some a → ⊥
 none-some a e = cc
 
 -- what holds of each element holds of the one in a place
-pub every-at : {X : Type 0} (P : X → Type 0) (xs : List X) (v : ℕ) (x : X) → Every P xs → slice_get xs v ≡ Some x → P x
+pub every-at : {X : Type 0} (P : X → Type 0) (xs : List X) (v : ℕ) (x : X) → AllByRecursion P xs → slice_get xs v ≡ Some x → P x
 every-at P [] v x each e = absurd (none-some x e)
 every-at P (y ∷ ys) zero x each e = subst P (same_Some y x e) each.0
 every-at P (y ∷ ys) (suc v) x each e = every-at P ys v x each.1 e
@@ -29,7 +30,7 @@ pub record HasSlot (slots : List ℕ) (frame v : ℕ) : Type 0 where
   pub inside : IsInFrame frame (slot_at slots v)
 
 -- each variable of the graph has one
-pub slot-there : {W : Type 0} (widths : List W) (slots : List ℕ) (frame v : ℕ) (width : W) → length slots ≡ length widths → Every (IsSlot frame) slots → slice_get widths v ≡ Some width → HasSlot slots frame v
+pub slot-there : {W : Type 0} (widths : List W) (slots : List ℕ) (frame v : ℕ) (width : W) → length slots ≡ length widths → AllByRecursion (IsSlot frame) slots → slice_get widths v ≡ Some width → HasSlot slots frame v
 slot-there [] slots frame v width long each e = absurd (none-some width e)
 slot-there (w ∷ ws) [] frame v width long each e = absurd (omega (arith, long))
 slot-there (w ∷ ws) (k ∷ ks) frame zero width long each e = record { there = refl; inside = record { low = each.0.low; high = each.0.high } }

@@ -1,5 +1,6 @@
 //! The bytes of instructions. They are those that GNU as gives for the text beside them.
 
+ghost use Rattle.std.specs.List.{AllByRecursion};
 use ia32_decode::decode;
 use ia32_encode::encode;
 use ia32_insn::{AluOp, Cond, Insn, Mem, Rm8, Rm32, ShiftOp};
@@ -36,7 +37,7 @@ macro_rules! absolute {
     };
 }
 
-/// Every form of a memory operand, with displacements about the bounds of a byte.
+/// AllByRecursion form of a memory operand, with displacements about the bounds of a byte.
 const MEMORY_OPERANDS: [(&[u8], Insn); 23] = spellings! {
     0x89 0x0B => Insn::Mov(Rm32::Mem(at!(Ebx, 0)), Ecx); // mov dword ptr [ebx], ecx
     0x89 0x4B 0x08 => Insn::Mov(Rm32::Mem(at!(Ebx, 8)), Ecx); // mov dword ptr [ebx+8], ecx

@@ -1,12 +1,12 @@
 -- The frame of a function: a slot for each variable of its graph.
 use Rattle.std.proofs.Common.{◌≡◌, ℕ, zero, suc, pos, neg_ℤ, ◌+◌, ◌*◌, ◌≤◌, List, [], ◌∷◌, length, map, refl, ap, ◌∙◌, subst, arith, inl}
 use Rattle.std.specs.Prelude.{sum_by}
-use Rattle.std.specs.List.{range_with_len}
+use Rattle.std.specs.List.{AllByRecursion, range_with_len}
 use Rattle.std.proofs.lemmas.List.Sums.{sum_by-cons}
 use Rattle.c_tree.specs.Program.{Function, Program}
 use Rattle.c_tree.specs.Sizes.{frame_bound}
 use Rattle.c_tree.specs.SlotForm.{IsSlotFunction, IsSlotProgram}
-use Rattle.flow_graph.specs.Graphs.{Every, Flow}
+use Rattle.flow_graph.specs.Graphs.{Flow}
 use Rattle.flow_graph.specs.SlotGraphs.{IsSlotFlow}
 use Rattle.c_lower.specs.Lowering.{AreSmall, IsLowered, array_of, points_in}
 use Rattle.ia32_rows.specs.Right.{one_graph}
@@ -18,12 +18,12 @@ use Rattle.pcc_compile.specs.Slots.{offset_at, slot_at, slots_for}
 -- ---- slots
 
 -- each of n slots from one on is under the four words and in the frame
-slots_within : (frame a n : ℕ) → 16 + 4 * (a + n) ≤ frame → Every (IsSlot frame) (map slot_at (range_with_len a n))
+slots_within : (frame a n : ℕ) → 16 + 4 * (a + n) ≤ frame → AllByRecursion (IsSlot frame) (map slot_at (range_with_len a n))
 slots_within frame a zero h = tt
 slots_within frame a (suc n) h = (record { low = omega arith; high = omega (arith, h) }, slots_within frame (a + 1) n (omega (arith, h)))
 
 -- none of them has a byte in common with one before them
-apart_from : (slot a n : ℕ) → slot + 4 ≤ slot_at a → Every (AreApart slot) (map slot_at (range_with_len a n))
+apart_from : (slot a n : ℕ) → slot + 4 ≤ slot_at a → AllByRecursion (AreApart slot) (map slot_at (range_with_len a n))
 apart_from slot a zero h = tt
 apart_from slot a (suc n) h = (inl h, apart_from slot (a + 1) n (omega (arith, h)))
 
@@ -61,11 +61,11 @@ function_slots f flow form low slot frame =
     }
 
 -- the graph of the function of a program that is compiled has a frame
-pub has_frame : (program : Program) (slot : IsSlotProgram program) (flow : Flow) → IsLowered slot.function flow → IsSlotFlow flow → AreSmall program (one_graph flow) → Every IsSmallFrame program.functions
+pub has_frame : (program : Program) (slot : IsSlotProgram program) (flow : Flow) → IsLowered slot.function flow → IsSlotFlow flow → AreSmall program (one_graph flow) → AllByRecursion IsSmallFrame program.functions
     → HasFrame flow
 has_frame program slot flow low slots small frames =
     let f = slot.function in
-    let frame : Every IsSmallFrame (f ∷ []) = subst (λ (fs : List Function). Every IsSmallFrame fs) slot.one_function frames in
+    let frame : AllByRecursion IsSmallFrame (f ∷ []) = subst (λ (fs : List Function). AllByRecursion IsSmallFrame fs) slot.one_function frames in
     let points : sum_by points_in (flow ∷ []) ≡ points_in flow + 0 = sum_by-cons points_in flow [] in
     record {
       slots = function_slots f flow slot.accepted low slots frame.0;

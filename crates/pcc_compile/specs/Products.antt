@@ -1,6 +1,7 @@
 -- What a compiled image is worth: for every list of bytes as its input and every number n of turns of the source there is
 -- a number of machine steps, at least n, with exactly the outcome of those turns.
 use Rattle.std.specs.Prelude.{◌≡◌, ◌≤◌, ℕ, List}
+use Rattle.std.specs.List.{AllByRecursion}
 use Rattle.pcc_base.specs.Bytes.{AreBytes}
 use Rattle.pcc_base.specs.Names.{IsName}
 use Rattle.pcc_base.specs.Outcome.{Outcome}
@@ -8,7 +9,6 @@ use Rattle.c_tree.specs.Program.{Local, Function, Program}
 use Rattle.c_tree.specs.Evaluation.{source_outcome}
 use Rattle.c_tree.specs.Sizes.{frame_bound}
 use Rattle.c_tree.specs.SlotForm.{IsSlotProgram}
-use Rattle.flow_graph.specs.Graphs.{Every}
 use Rattle.c_lower.specs.Lowering.{AreLowered, KeepsOutcome}
 use Rattle.elf_image.specs.Layout.{image_bytes}
 use Rattle.image_start.specs.Begins.{parts_of_text}
@@ -60,7 +60,7 @@ IsNamedLocal l = IsName l.name
 
 pub record IsNamedFunction (f : Function) : Type 0 where
   pub name : IsName f.name
-  pub locals : Every IsNamedLocal f.locals
+  pub locals : AllByRecursion IsNamedLocal f.locals
 
 -- a frame is within its limit
 abbrev pub IsSmallFrame : Function → Type 0
@@ -69,5 +69,5 @@ IsSmallFrame f = frame_bound f ≤ 16384
 -- the programs that are compiled so far
 pub record IsCompiledForm (program : Program) : Type 0 where
   pub form : IsSlotProgram program
-  pub names : Every IsNamedFunction program.functions
-  pub frames : Every IsSmallFrame program.functions
+  pub names : AllByRecursion IsNamedFunction program.functions
+  pub frames : AllByRecursion IsSmallFrame program.functions

@@ -13,7 +13,7 @@ use Rattle.c_tree.specs.Program.{int, Local, LocalArray, StaticObject, Function,
 use Rattle.c_tree.specs.SlotForm.{AreIntLocals, IsSlotFunction, IsSlotProgram}
 use Rattle.flow_graph.specs.declared.op.Op.{Op}
 use Rattle.flow_graph.specs.declared.op.Op.TheVariants as op
-use Rattle.flow_graph.specs.Graphs.{Every, Flow, IsDistinct, IsIn}
+use Rattle.flow_graph.specs.Graphs.{Flow, IsDistinct, IsIn}
 use Rattle.flow_graph.specs.States.{GraphProgram}
 use Rattle.flow_graph.proofs.Points.{every-in}
 use Rattle.flow_graph.specs.Sizes.{array_bytes}
@@ -90,7 +90,7 @@ slots-differ a b apart e = let same : b ≡ a = cc in differ apart same
     differ (inl low) same = absurd (omega (arith, low, same))
     differ (inr high) same = absurd (omega (arith, high, same))
 
-away-from : (slot k n : ℕ) (slots : List ℕ) → Every (AreApart slot) slots → AllByRecursion (λ (q : Place). q ≢ InSlot slot) (map (λ (s : Standing). s.place) (standings_from k (take n slots)))
+away-from : (slot k n : ℕ) (slots : List ℕ) → AllByRecursion (AreApart slot) slots → AllByRecursion (λ (q : Place). q ≢ InSlot slot) (map (λ (s : Standing). s.place) (standings_from k (take n slots)))
 away-from slot k zero slots all = tt
 away-from slot k (suc n) [] all = tt
 away-from slot k (suc n) (x ∷ slots) all = (slots-differ slot x all.0, away-from slot (suc k) n slots all.1)
@@ -159,7 +159,7 @@ from-listed f slots address ops (p ∷ points) n within =
     ]
 
 distinct-statement : (f : Function) (slots : List ℕ) (address : ℕ → ℕ) (p : ℕ) (o : Option Op) (rest : List MarkAt)
-    → ((n : ℕ) → o ≡ Some (op.Mark n) → Every (λ m. m ≢ n) (map (λ (x : MarkAt). x.statement) rest)) → IsDistinct (map (λ (x : MarkAt). x.statement) rest)
+    → ((n : ℕ) → o ≡ Some (op.Mark n) → AllByRecursion (λ m. m ≢ n) (map (λ (x : MarkAt). x.statement) rest)) → IsDistinct (map (λ (x : MarkAt). x.statement) rest)
     → IsDistinct (map (λ (x : MarkAt). x.statement) (op_marks f slots address p o ++ rest))
 distinct-statement f slots address p (Some (op.Mark n)) rest away once = (away n refl, once)
 distinct-statement f slots address p _ rest away once = once

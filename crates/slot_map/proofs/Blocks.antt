@@ -1,8 +1,9 @@
 -- The points of all blocks of a graph, one behind the other: each stands there once.
+use Rattle.std.specs.List.{AllByRecursion}
 use Rattle.std.proofs.Common.{◌≡◌, ◌≢◌, ℕ, zero, suc, ◌+◌, ◌<◌, ◌≤◌, List, [], ◌∷◌, ◌++◌, length, get_or, Some, refl, sym, ap, ◌∙◌, subst, arith, inl, inr}
 use Rattle.std.specs.Prelude.{◌⊎◌, flat_map, slice_get, slice_index_or}
 use Rattle.std.proofs.lemmas.Option.{same_Some}
-use Rattle.flow_graph.specs.Graphs.{Every, Flow, IsDistinct, IsFlow, IsIn, IsPlaced, Stands, points_of}
+use Rattle.flow_graph.specs.Graphs.{Flow, IsDistinct, IsFlow, IsIn, IsPlaced, Stands, points_of}
 use Rattle.flow_graph.proofs.Points.{every-in}
 use Rattle.slot_map.specs.SlotMap.{all_points}
 
@@ -24,11 +25,11 @@ in-either p (x ∷ xs) ys (inr within) =
     elim (in-either p xs ys within) [ inl front ↦ inl (inr front) | inr back ↦ inr back ]
 
 -- what holds of each that is in the list holds of each
-pub every-from : (P : ℕ → Type 0) (xs : List ℕ) → ((p : ℕ) → IsIn p xs → P p) → Every P xs
+pub every-from : (P : ℕ → Type 0) (xs : List ℕ) → ((p : ℕ) → IsIn p xs → P p) → AllByRecursion P xs
 every-from P [] all = tt
 every-from P (x ∷ xs) all = (all x (inl refl), every-from P xs (λ p within. all p (inr within)))
 
-every-both : (P : ℕ → Type 0) (xs ys : List ℕ) → Every P xs → Every P ys → Every P (xs ++ ys)
+every-both : (P : ℕ → Type 0) (xs ys : List ℕ) → AllByRecursion P xs → AllByRecursion P ys → AllByRecursion P (xs ++ ys)
 every-both P [] ys all more = more
 every-both P (x ∷ xs) ys all more = (all.0, every-both P xs ys all.1 more)
 
@@ -73,7 +74,7 @@ placed-at flow points i d p are h is = placed-in flow p (subst (λ (ps : List �
 -- ---- each point stands once
 
 abbrev AtHome : List ℕ → ℕ → List ℕ → Type 0
-AtHome homes k points = Every (λ p. slice_get homes p ≡ Some k) points × IsDistinct points
+AtHome homes k points = AllByRecursion (λ p. slice_get homes p ≡ Some k) points × IsDistinct points
 
 -- the points of later blocks are at home in later ones
 later-home : (homes : List ℕ) (k : ℕ) (blocks : List (List ℕ)) (q : ℕ) → ((j : ℕ) → AtHome homes (k + j) (slice_index_or blocks j [])) → IsIn q (flat_map (λ points. points) blocks)

@@ -3,14 +3,14 @@ use Rattle.std.proofs.Common.{◌≡◌, ◌<◌, ◌≤◌, ℕ, zero, suc, pos
 use Rattle.std.proofs.Common.{refl, sym, ap, subst, arith}
 use Rattle.std.specs.Prelude.{get_or, slice_get, option_map}
 use Rattle.std.proofs.lemmas.Option.{slice_get-get_or}
-use Rattle.std.specs.List.{All}
+use Rattle.std.specs.List.{All, AllByRecursion}
 use Rattle.std.proofs.lemmas.List.Elements.{All-append, All-cons, All-nil}
 use Rattle.std.proofs.lemmas.Option.{none-some, same_Some}
 use Rattle.pcc_base.specs.Outcome.{Value, Number, Array, Part, Scalar, ArrayOf, IndexOf, Visit, Listing, Outcome, Goes}
 use Rattle.pcc_base.specs.Outcome.{IsKnown, AreKnown, after_visits}
 use Rattle.flow_graph.specs.declared.op.Op.{Op}
 use Rattle.flow_graph.specs.declared.op.Op.TheVariants as op
-use Rattle.flow_graph.specs.Graphs.{Flow, Every}
+use Rattle.flow_graph.specs.Graphs.{Flow}
 use Rattle.flow_graph.specs.Meaning.{Moved, Moves, Halts, Stuck, step}
 use Rattle.flow_graph.specs.Running.{GraphOutcome, number_or_unknown, outcome_at, outcome_from, part_value, run_within}
 use Rattle.flow_graph.specs.Running.{takes_turn, visits_at, with_turn}
@@ -48,7 +48,7 @@ part-known flow g (Scalar v) whole below =
 part-known flow g (ArrayOf v) whole none = absurd none
 part-known flow g (IndexOf v) whole none = absurd none
 
-parts-known : (flow : Flow) (g : State) (parts : List Part) → IsWhole flow g → Every (IsShown flow) parts
+parts-known : (flow : Flow) (g : State) (parts : List Part) → IsWhole flow g → AllByRecursion (IsShown flow) parts
     → All IsKnown (map (part_value g) parts)
 parts-known flow g [] whole all = All-nil IsKnown
 parts-known flow g (part ∷ parts) whole all =
@@ -62,7 +62,7 @@ none-known : AreKnown []
 none-known = All-nil AllKnown
 
 visits-known : (flow : Flow) (listing : Listing) (g : State) (about : Option Op) → IsWhole flow g
-    → ((statement : ℕ) → Every (IsShown flow) (listing statement)) → AreKnown (visits_at listing g about)
+    → ((statement : ℕ) → AllByRecursion (IsShown flow) (listing statement)) → AreKnown (visits_at listing g about)
 visits-known flow listing g (Some (op.Mark statement)) whole shown =
     let visit : Visit = record { statement = statement; values = map (part_value g) (listing statement) } in
     All-cons AllKnown visit [] (parts-known flow g (listing statement) whole (shown statement)) none-known
@@ -90,8 +90,8 @@ turn-known true zero g go o later e = subst (λ (r : Outcome). AreKnown r.visits
     none-known
 turn-known true (suc turns) g go o later e = later turns e
 
-run-known : (flow : Flow) (listing : Listing) → Every IsSlotOp flow.ops
-    → ((statement : ℕ) → Every (IsShown flow) (listing statement)) → (steps turns : ℕ) (g : State) (o : Outcome)
+run-known : (flow : Flow) (listing : Listing) → AllByRecursion IsSlotOp flow.ops
+    → ((statement : ℕ) → AllByRecursion (IsShown flow) (listing statement)) → (steps turns : ℕ) (g : State) (o : Outcome)
     → IsWhole flow g → run_within (one_graph flow) listing steps turns g ≡ Some o → AreKnown o.visits
 run-known flow listing ops shown zero turns g o whole e = absurd (none-some o e)
 run-known flow listing ops shown (suc steps) turns g o whole e =
@@ -103,8 +103,8 @@ run-known flow listing ops shown (suc steps) turns g o whole e =
     run) e
 
 -- every outcome has known visits
-pub outcome-known : (flow : Flow) (listing : Listing) (input : List ℕ) (turns : ℕ) (o : Outcome) → Every IsSlotOp flow.ops
-    → ((statement : ℕ) → Every (IsShown flow) (listing statement)) → GraphOutcome (one_graph flow) listing input turns o
+pub outcome-known : (flow : Flow) (listing : Listing) (input : List ℕ) (turns : ℕ) (o : Outcome) → AllByRecursion IsSlotOp flow.ops
+    → ((statement : ℕ) → AllByRecursion (IsShown flow) (listing statement)) → GraphOutcome (one_graph flow) listing input turns o
     → AreKnown o.visits
 outcome-known flow listing input turns o ops shown (s, first, steps, run) =
     run-known flow listing ops shown steps turns s o
@@ -122,8 +122,8 @@ part-listed locals (IndexOf k) ints (l, at, is) =
     absurd (subst (λ (t : ValueType). IsPointer t) (local-int locals k l ints at) is)
 
 parts-listed : (flow : Flow) (locals : List Local) (parts : List Part) → AreIntLocals locals
-    → length locals ≤ length flow.widths → Every (IsPartOf locals) parts
-    → Every (IsShown flow) (map (variable_part locals) parts)
+    → length locals ≤ length flow.widths → AllByRecursion (IsPartOf locals) parts
+    → AllByRecursion (IsShown flow) (map (variable_part locals) parts)
 parts-listed flow locals [] ints enough all = tt
 parts-listed flow locals (part ∷ parts) ints enough all =
     let (k, below, is) = part-listed locals part ints all.0 in
@@ -136,9 +136,9 @@ shows-known program form flow slots code is listing lists input turns o run =
     let f = form.function in
     let enough = locals-fit f flow form.accepted is.lowered in
     outcome-known flow (variables_shown program listing) input turns o is.laid.has_slots.ops
-    (λ statement. subst (λ (fs : List Function). Every (IsShown flow)
+    (λ statement. subst (λ (fs : List Function). AllByRecursion (IsShown flow)
     (map (variable_part (locals_at fs statement)) (listing statement))) (sym form.one_function)
     (parts-listed flow f.locals (listing statement) form.accepted.locals enough
-    (subst (λ (fs : List Function). Every (IsPartOf (locals_at fs statement)) (listing statement)) form.one_function
+    (subst (λ (fs : List Function). AllByRecursion (IsPartOf (locals_at fs statement)) (listing statement)) form.one_function
     (lists statement))))
     (subst (λ (p : GraphProgram). GraphOutcome p (variables_shown program listing) input turns o) is.laid.program run)

@@ -1,7 +1,7 @@
 -- The statements of a function's body: how many there are, and how many locals are declared before each.
 use Rattle.std.proofs.Common.{◌≡◌, ℕ, zero, suc, ◌+◌, ◌<◌, ◌≤◌, Bool, true, false, cond, List, [], ◌∷◌, ◌++◌, length, take, get_or, Some, refl, sym, ap, ◌∙◌, subst, arith}
 use Rattle.std.specs.Prelude.{nat_lt, slice_get}
-use Rattle.std.specs.List.{count_by}
+use Rattle.std.specs.List.{AllByRecursion, count_by}
 use Rattle.std.proofs.lemmas.Bool.Decides.{nat_tests}
 use Rattle.std.proofs.lemmas.List.Sums.{sum_by-cons}
 use Rattle.c_tree.specs.declared.types.IntegerType.TheVariants.{Int}
@@ -12,7 +12,7 @@ use Rattle.c_tree.specs.Program.{Assign, Putchar, LocalPlace, Scalar, Declare, E
 use Rattle.c_tree.specs.SlotForm.{IsBody, IsSlotFunction}
 use Rattle.c_tree.specs.Sizes.{statements_size}
 use Rattle.flow_graph.specs.declared.op.Op.TheVariants as op
-use Rattle.flow_graph.specs.Graphs.{Every, Flow}
+use Rattle.flow_graph.specs.Graphs.{Flow}
 use Rattle.c_lower.specs.Lowering.{MarksStatements}
 use Rattle.c_lower.specs.Shown.{declarations_of, declared_before, numbers_of}
 use Rattle.slot_map.specs.SlotMap.{declared_by}
@@ -20,7 +20,7 @@ use Rattle.slot_map.specs.SlotMap.{declared_by}
 -- ---- lists
 
 -- what holds of each holds of the first ones
-pub every-take : {X : Type 0} (P : X → Type 0) (n : ℕ) (xs : List X) → Every P xs → Every P (take n xs)
+pub every-take : {X : Type 0} (P : X → Type 0) (n : ℕ) (xs : List X) → AllByRecursion P xs → AllByRecursion P (take n xs)
 every-take P zero [] all = tt
 every-take P zero (x ∷ xs) all = tt
 every-take P (suc n) [] all = tt

@@ -1,4 +1,5 @@
 -- The parts that the marks of a function over slots show: the locals that are declared before each statement.
+use Rattle.std.specs.List.{AllByRecursion}
 use Rattle.std.proofs.Common.{◌≡◌, ℕ, zero, suc, ◌+◌, ◌<◌, ◌≤◌, Bool, true, false, List, [], ◌∷◌, ◌++◌, length, map, take, eqb, Option, Some, refl, sym, ap, ◌∙◌, subst, arith, inl, inr}
 use Rattle.std.proofs.lemmas.List.{length-take}
 use Rattle.std.proofs.Common.{length-append}
@@ -10,7 +11,7 @@ use Rattle.c_tree.specs.Program.{Local, Function}
 use Rattle.c_tree.specs.SlotForm.{AreIntLocals, IsSlotFunction}
 use Rattle.flow_graph.specs.declared.op.Op.{Op}
 use Rattle.flow_graph.specs.declared.op.Op.TheVariants as op
-use Rattle.flow_graph.specs.Graphs.{Every, Flow, IsIn}
+use Rattle.flow_graph.specs.Graphs.{Flow, IsIn}
 use Rattle.c_lower.specs.Lowering.{IsLowered}
 use Rattle.c_lower.specs.Shown.{IsInteger, IsPartOf, declared_before, first_variable, local_widths, locals_at, type_widths, variable_part}
 use Rattle.c_lower.proofs.Kept.{length-widths}
@@ -46,7 +47,7 @@ standings-parts variables k (slot ∷ slots) locals =
     rw here (ap (λ (ps : List Part). Scalar k ∷ ps) later)
 
 -- they are locals of type int
-pub scalars-listed : (locals : List Local) (k : ℕ) (slots : List ℕ) → AreIntLocals locals → k + length slots ≤ length locals → Every (IsPartOf locals) (scalars k slots)
+pub scalars-listed : (locals : List Local) (k : ℕ) (slots : List ℕ) → AreIntLocals locals → k + length slots ≤ length locals → AllByRecursion (IsPartOf locals) (scalars k slots)
 scalars-listed locals k [] ints room = tt
 scalars-listed locals k (slot ∷ slots) ints room = (int-at locals k ints (omega (arith, room)), scalars-listed locals (suc k) slots ints (omega (arith, room)))
   where
@@ -102,36 +103,36 @@ parts-are f flow slots address n form low has =
 
 -- ---- listings
 
-each-if : (P : Part → Type 0) (b : Bool) (xs ys : List Part) → Every P xs → Every P ys → Every P (if b then xs else ys)
+each-if : (P : Part → Type 0) (b : Bool) (xs ys : List Part) → AllByRecursion P xs → AllByRecursion P ys → AllByRecursion P (if b then xs else ys)
 each-if P true xs ys one other = one
 each-if P false xs ys one other = other
 
 each-op : (P : Part → Type 0) (m : Map) (f : Function) (slots : List ℕ) (address : ℕ → ℕ) (statement p : ℕ) (o : Option Op) (rest : List MarkAt)
-    → ((n : ℕ) → Every P (parts_at m f slots n)) → Every P (listed_by m rest statement) → Every P (listed_by m (op_marks f slots address p o ++ rest) statement)
+    → ((n : ℕ) → AllByRecursion P (parts_at m f slots n)) → AllByRecursion P (listed_by m rest statement) → AllByRecursion P (listed_by m (op_marks f slots address p o ++ rest) statement)
 each-op P m f slots address statement p (Some (op.Mark n)) rest all more = each-if P (eqb n statement) (parts_at m f slots n) (listed_by m rest statement) (all n) more
 each-op P m f slots address statement p _ rest all more = more
 
 -- what holds of the parts at each mark holds of those listed
 each-listed : (P : Part → Type 0) (m : Map) (f : Function) (slots : List ℕ) (address : ℕ → ℕ) (ops : List Op) (statement : ℕ) (points : List ℕ)
-    → ((n : ℕ) → Every P (parts_at m f slots n)) → Every P (listed_by m (points_marks f slots address ops points) statement)
+    → ((n : ℕ) → AllByRecursion P (parts_at m f slots n)) → AllByRecursion P (listed_by m (points_marks f slots address ops points) statement)
 each-listed P m f slots address ops statement [] all = tt
 each-listed P m f slots address ops statement (p ∷ points) all =
     each-op P m f slots address statement p (slice_get ops p) (points_marks f slots address ops points) all (each-listed P m f slots address ops statement points all)
 
 pub function-lists : (f : Function) (flow : Flow) (slots : List ℕ) (address : ℕ → ℕ) (statement : ℕ) → IsSlotFunction f → IsLowered f flow → HasSlots flow slots
-    → Every (IsPartOf f.locals) (listed (slot_map f flow slots address) statement)
+    → AllByRecursion (IsPartOf f.locals) (listed (slot_map f flow slots address) statement)
 function-lists f flow slots address statement form low has =
     let m = slot_map f flow slots address in
     let P = IsPartOf f.locals in
-    let each : (n : ℕ) → Every P (parts_at m f slots n) =
-    λ n. subst (Every P) (sym (parts-are f flow slots address n form low has)) (scalars-listed f.locals 0 (slots_before f slots n) form.locals (omega (arith, slots-few f slots n form))) in
-    subst (λ (ms : List MarkAt). Every P (listed_by m ms statement)) (sym (marks-are f flow slots address)) (each-listed P m f slots address flow.ops statement (all_points flow) each)
+    let each : (n : ℕ) → AllByRecursion P (parts_at m f slots n) =
+    λ n. subst (AllByRecursion P) (sym (parts-are f flow slots address n form low has)) (scalars-listed f.locals 0 (slots_before f slots n) form.locals (omega (arith, slots-few f slots n form))) in
+    subst (λ (ms : List MarkAt). AllByRecursion P (listed_by m ms statement)) (sym (marks-are f flow slots address)) (each-listed P m f slots address flow.ops statement (all_points flow) each)
 
 -- the map lists locals of the program
 pub lists-locals : MapListsLocals
 lists-locals program form flow slots code is statement =
     let m = slot_map form.function flow slots (point_address code 0) in
-    subst (λ (fs : List Function). Every (IsPartOf (locals_at fs statement)) (listed m statement)) (sym form.one_function)
+    subst (λ (fs : List Function). AllByRecursion (IsPartOf (locals_at fs statement)) (listed m statement)) (sym form.one_function)
     (function-lists form.function flow slots (point_address code 0) statement form.accepted is.lowered is.laid.has_slots)
 
 -- ---- the parts at a mark

@@ -1,7 +1,7 @@
 -- The states that a program of one graph over slots comes to: one call is active, with a number for each variable.
 use Rattle.std.proofs.Common.{◌≡◌, ℕ, zero, suc, pos, List, [], ◌∷◌, ◌++◌, length, map, Option, Some, None, refl, sym, ap, ◌∙◌, subst}
 use Rattle.std.specs.Prelude.{slice_get, option_map, ⊤}
-use Rattle.std.specs.List.{All}
+use Rattle.std.specs.List.{All, AllByRecursion}
 use Rattle.std.proofs.lemmas.List.{length-map, length-set}
 use Rattle.std.proofs.lemmas.List.Elements.{All-cons, All-nil, All-set}
 use Rattle.std.proofs.lemmas.Option.{none-some, same_Some}
@@ -9,7 +9,7 @@ use Rattle.pcc_base.specs.declared.run.Width.{Width}
 use Rattle.pcc_base.specs.Outcome.{Value, Number, Array}
 use Rattle.flow_graph.specs.declared.op.Op.{Op}
 use Rattle.flow_graph.specs.declared.op.Op.TheVariants as op
-use Rattle.flow_graph.specs.Graphs.{Flow, Every}
+use Rattle.flow_graph.specs.Graphs.{Flow}
 use Rattle.flow_graph.specs.Meaning.{Moved, Moves, Halts, Stuck, act, at_point, given, onward, puts, sets, step, returns_to, low_byte}
 use Rattle.flow_graph.specs.Running.{GraphAt, from_state, state_after}
 use Rattle.flow_graph.specs.States.{GraphProgram, State, entry_of, first_state_at, number_at, op_at, op_of, point_after, value_at, with_value}
@@ -99,7 +99,7 @@ act-whole program flow g h _ is whole e = absurd is
 pub op-main : (flow : Flow) (g : State) → g.current.function ≡ 0 → op_at (one_graph flow) g ≡ slice_get flow.ops g.point
 op-main flow g main = ap (λ (f : ℕ). op_of (one_graph flow) f g.point) main
 
-pub step-whole : (flow : Flow) (g h : State) → Every IsSlotOp flow.ops → IsWhole flow g → step (one_graph flow) g ≡ Moves h → IsWhole flow h
+pub step-whole : (flow : Flow) (g h : State) → AllByRecursion IsSlotOp flow.ops → IsWhole flow g → step (one_graph flow) g ≡ Moves h → IsWhole flow h
 step-whole flow g h ops whole e = go (op_at (one_graph flow) g) (op-main flow g whole.main) e
   where
     go : (o : Option Op) → o ≡ slice_get flow.ops g.point → given o (act (one_graph flow) g) ≡ Moves h → IsWhole flow h
@@ -113,7 +113,7 @@ from-moves (Moves u) go t e = (u, refl, e)
 from-moves (Halts end) go t e = absurd (none-some t e)
 from-moves Stuck go t e = absurd (none-some t e)
 
-after-whole : (flow : Flow) (k : ℕ) (g h : State) → Every IsSlotOp flow.ops → IsWhole flow g → state_after (one_graph flow) k g ≡ Some h → IsWhole flow h
+after-whole : (flow : Flow) (k : ℕ) (g h : State) → AllByRecursion IsSlotOp flow.ops → IsWhole flow g → state_after (one_graph flow) k g ≡ Some h → IsWhole flow h
 after-whole flow zero g h ops whole e = subst (IsWhole flow) (same_Some g h e) whole
 after-whole flow (suc k) g h ops whole e =
     let (u, moves, later) = from-moves (step (one_graph flow) g) (state_after (one_graph flow) k) h e in
@@ -132,6 +132,6 @@ first-whole flow input g (Some point) e =
     subst (IsWhole flow) (same_Some first g e) (record { main = refl; alone = refl; values = length-map flow.widths zero_of; numbers = all-zero flow.widths })
 
 -- a state that the program comes to has a number for each variable
-pub reached-whole : (flow : Flow) (input : List ℕ) (k : ℕ) (g : State) → Every IsSlotOp flow.ops → GraphAt (one_graph flow) input k g → IsWhole flow g
+pub reached-whole : (flow : Flow) (input : List ℕ) (k : ℕ) (g : State) → AllByRecursion IsSlotOp flow.ops → GraphAt (one_graph flow) input k g → IsWhole flow g
 reached-whole flow input k g ops (s, first, at) =
     after-whole flow k s g ops (first-whole flow input s (entry_of (one_graph flow) 0 0) first) at

@@ -1,7 +1,7 @@
 -- What the map of a function over slots says: its variables, and its marks.
 use Rattle.std.proofs.Common.{◌≡◌, ℕ, zero, suc, ◌+◌, ◌<◌, ◌≤◌, List, [], ◌∷◌, ◌++◌, length, map, replicate, take, cond, Option, Some, refl, sym, ap, ◌∙◌, arith}
 use Rattle.std.specs.Prelude.{filter_map, flat_map, slice_get}
-use Rattle.std.specs.List.{count_by}
+use Rattle.std.specs.List.{AllByRecursion, count_by}
 use Rattle.std.proofs.lemmas.List.{append-nil}
 use Rattle.std.proofs.lemmas.List.Sums.{sum_by-cons}
 use Rattle.pcc_base.specs.declared.run.Width.{Width}
@@ -9,7 +9,7 @@ use Rattle.pcc_base.specs.declared.run.Width.TheVariants.{Two}
 use Rattle.c_tree.specs.Program.{Local, Function}
 use Rattle.flow_graph.specs.declared.op.Op.{Op}
 use Rattle.flow_graph.specs.declared.op.Op.TheVariants as op
-use Rattle.flow_graph.specs.Graphs.{Every, Flow}
+use Rattle.flow_graph.specs.Graphs.{Flow}
 use Rattle.c_lower.specs.Shown.{declared_before}
 use Rattle.pcc_listing.specs.Maps.{MapFunction, MapPoint, MapVariable, NamesScalar, Temporary, points_of}
 use Rattle.pcc_listing.specs.Marks.{MarkAt, begins_local, locals_before, mark_at as mark_of, marks_from, marks_of}
@@ -27,7 +27,7 @@ two-named : (width : Width) (name : List ℕ) → width ≡ Two → ◌≡◌ {A
 two-named width name same = ap (λ (w : Width). let v : MapVariable = record { width = w; named = NamesScalar name } in v) same
 
 -- the first variables are the locals
-pub local-at : (locals : List Local) (widths : List Width) (v : ℕ) → Every (λ width. width ≡ Two) widths → v < length locals → length locals ≤ length widths → IsLocalAt (variables_over locals widths) v
+pub local-at : (locals : List Local) (widths : List Width) (v : ℕ) → AllByRecursion (λ width. width ≡ Two) widths → v < length locals → length locals ≤ length widths → IsLocalAt (variables_over locals widths) v
 local-at [] widths v two h room = absurd (omega (arith, h))
 local-at (l ∷ locals) [] v two h room = absurd (omega (arith, room))
 local-at (l ∷ locals) (width ∷ widths) zero two h room = record { name = l.name; at = ap Some (two-named width l.name two.0); before = refl }
@@ -46,7 +46,7 @@ widths-over [] (width ∷ widths) = ap (λ (ws : List Width). width ∷ ws) (wid
 widths-over (l ∷ locals) (width ∷ widths) = ap (λ (ws : List Width). width ∷ ws) (widths-over locals widths)
 
 -- widths that are all Two are so many times Two
-pub all-two : (widths : List Width) → Every (λ width. width ≡ Two) widths → widths ≡ replicate (length widths) Two
+pub all-two : (widths : List Width) → AllByRecursion (λ width. width ≡ Two) widths → widths ≡ replicate (length widths) Two
 all-two [] two = refl
 all-two (width ∷ widths) two = ap (λ (w : Width). w ∷ widths) two.0 ∙ ap (λ (ws : List Width). Two ∷ ws) (all-two widths two.1)
 

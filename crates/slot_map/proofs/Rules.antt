@@ -11,7 +11,7 @@ use Rattle.pcc_base.specs.declared.run.Width.TheVariants.{Two}
 use Rattle.c_tree.specs.Program.{Local, Function}
 use Rattle.flow_graph.specs.declared.op.Op.{Op}
 use Rattle.flow_graph.specs.declared.op.Op.TheVariants as op
-use Rattle.flow_graph.specs.Graphs.{Every, Flow, IsDistinct, IsIn}
+use Rattle.flow_graph.specs.Graphs.{Flow, IsDistinct, IsIn}
 use Rattle.flow_graph.specs.Lives.{IsAscending}
 use Rattle.c_lower.specs.Shown.{declared_before}
 use Rattle.c_lower.proofs.Kept.{function-small}
@@ -43,18 +43,18 @@ each-point P f slots address ops (p ∷ points) each =
     (each-point P f slots address ops points (λ q n within at. each q n (inr within) at))
 
 every-number : (P : ℕ → Type 0) (f : Function) (slots : List ℕ) (address : ℕ → ℕ) (p : ℕ) (o : Option Op) (rest : List MapPoint)
-    → P p → Every P (map (λ x. x.number) rest) → Every P (map (λ x. x.number) (op_points f slots address p o ++ rest))
+    → P p → AllByRecursion P (map (λ x. x.number) rest) → AllByRecursion P (map (λ x. x.number) (op_points f slots address p o ++ rest))
 every-number P f slots address p (Some (op.Mark n)) rest here all = (here, all)
 every-number P f slots address p _ rest here all = all
 
 -- what holds of points holds of the numbers of those that are listed
-every-numbers : (P : ℕ → Type 0) (f : Function) (slots : List ℕ) (address : ℕ → ℕ) (ops : List Op) (points : List ℕ) → Every P points → Every P (map (λ x. x.number) (points_over f slots address ops points))
+every-numbers : (P : ℕ → Type 0) (f : Function) (slots : List ℕ) (address : ℕ → ℕ) (ops : List Op) (points : List ℕ) → AllByRecursion P points → AllByRecursion P (map (λ x. x.number) (points_over f slots address ops points))
 every-numbers P f slots address ops [] all = tt
 every-numbers P f slots address ops (p ∷ points) all =
     every-number P f slots address p (slice_get ops p) (points_over f slots address ops points) all.0 (every-numbers P f slots address ops points all.1)
 
 distinct-number : (f : Function) (slots : List ℕ) (address : ℕ → ℕ) (p : ℕ) (o : Option Op) (rest : List MapPoint)
-    → Every (λ q. q ≢ p) (map (λ x. x.number) rest) → IsDistinct (map (λ x. x.number) rest) → IsDistinct (map (λ x. x.number) (op_points f slots address p o ++ rest))
+    → AllByRecursion (λ q. q ≢ p) (map (λ x. x.number) rest) → IsDistinct (map (λ x. x.number) rest) → IsDistinct (map (λ x. x.number) (op_points f slots address p o ++ rest))
 distinct-number f slots address p (Some (op.Mark n)) rest away once = (away, once)
 distinct-number f slots address p _ rest away once = once
 
@@ -66,7 +66,7 @@ distinct-numbers f slots address ops (p ∷ points) once =
 
 -- ---- standings
 
-later-variables : (j k : ℕ) (slots : List ℕ) → j < k → Every (λ w. j < w) (map (λ (s : Standing). s.variable) (standings_from k slots))
+later-variables : (j k : ℕ) (slots : List ℕ) → j < k → AllByRecursion (λ w. j < w) (map (λ (s : Standing). s.variable) (standings_from k slots))
 later-variables j k [] h = tt
 later-variables j k (slot ∷ slots) h = (h, later-variables j (suc k) slots (omega (arith, h)))
 
@@ -74,7 +74,7 @@ ascending : (k : ℕ) (slots : List ℕ) → IsAscending (map (λ (s : Standing)
 ascending k [] = tt
 ascending k (slot ∷ slots) = (later-variables k (suc k) slots (omega arith), ascending (suc k) slots)
 
-standings-ruled : (variables : List MapVariable) (frame k : ℕ) (slots : List ℕ) → ((v : ℕ) → k ≤ v → v < k + length slots → IsLocalAt variables v) → Every (IsSlot frame) slots → frame ≤ 16384
+standings-ruled : (variables : List MapVariable) (frame k : ℕ) (slots : List ℕ) → ((v : ℕ) → k ≤ v → v < k + length slots → IsLocalAt variables v) → AllByRecursion (IsSlot frame) slots → frame ≤ 16384
     → AllByRecursion (IsStanding variables) (standings_from k slots)
 standings-ruled variables frame k [] locals within small = tt
 standings-ruled variables frame k (slot ∷ slots) locals within small =
@@ -87,7 +87,7 @@ standings-ruled variables frame k (slot ∷ slots) locals within small =
 
 -- ---- variables
 
-variables-ruled : (locals : List Local) (widths : List Width) → Every (λ l. IsName l.name) locals → AllByRecursion IsMapVariable (variables_over locals widths)
+variables-ruled : (locals : List Local) (widths : List Width) → AllByRecursion (λ l. IsName l.name) locals → AllByRecursion IsMapVariable (variables_over locals widths)
 variables-ruled locals [] names = tt
 variables-ruled [] (width ∷ widths) names = (tt, variables-ruled [] widths tt)
 variables-ruled (l ∷ locals) (width ∷ widths) names = (names.0, variables-ruled locals widths names.1)

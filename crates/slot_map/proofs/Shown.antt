@@ -17,7 +17,7 @@ use Rattle.ia32_insn.specs.State as machine
 use Rattle.ia32_insn.specs.Meaning.{word_of}
 use Rattle.flow_graph.specs.declared.op.Op.{Op}
 use Rattle.flow_graph.specs.declared.op.Op.TheVariants as op
-use Rattle.flow_graph.specs.Graphs.{Flow, Every, IsIn, Stands}
+use Rattle.flow_graph.specs.Graphs.{Flow, IsIn, Stands}
 use Rattle.flow_graph.specs.Running.{GraphAt, part_value, visits_at}
 use Rattle.flow_graph.specs.States as graph
 use Rattle.flow_graph.specs.States.{GraphProgram, active_of, flow_at, op_at, op_of}
@@ -40,7 +40,7 @@ use Rattle.slot_map.proofs.Reading.{IsLocalAt, mark_at, marks-are}
 use Rattle.slot_map.proofs.Parts.{listed-mark, local-all, parts-are, scalars, scalars-kept, slots-few, slots_before}
 use Rattle.slot_map.proofs.Reached.{IsNumber, op-main, reached-whole}
 use Rattle.graph_states.proofs.Lists.{all-at}
-use Rattle.std.specs.List.{All}
+use Rattle.std.specs.List.{All, AllByRecursion}
 use Rattle.slot_map.proofs.Words.{load-number, readable-by, shown_number, slot-address, word-shown}
 use Rattle.slot_map.proofs.Visits.{ShowsSlot, slot-before, slots-show, visits-here, visits-none}
 
@@ -62,7 +62,7 @@ code-arrays flow slots code h function = ap (λ (ps : List Placement). (slice_in
     none zero = refl
     none (suc k) = refl
 
-two-at : (widths : List Width) (v : ℕ) → Every (λ width. width ≡ Two) widths → v < length widths → slice_get widths v ≡ Some Two
+two-at : (widths : List Width) (v : ℕ) → AllByRecursion (λ width. width ≡ Two) widths → v < length widths → slice_get widths v ≡ Some Two
 two-at [] v all h = absurd (omega (arith, h))
 two-at (width ∷ widths) zero all h = ap Some all.0
 two-at (width ∷ widths) (suc v) all h = two-at widths v all.1 (omega (arith, h))
@@ -91,7 +91,7 @@ slot-shown flow slots code input g s v slot h shows main values numbers there =
     ∙ ap (λ (n : ℕ). slice_get (flow_at (one_graph flow) n).widths v) main
     ∙ two-at flow.widths v h.has_slots.widths known in
     let stands = subst (λ (w : Option Width). InSlotOf code (active_of g) shows.frames s (word_of Ebp s - slot) w value) width (shows.variables v value (InSlot slot) at before) in
-    let readable = readable-by s.memory (subst (λ (l : List Shape). Every (λ shape. shape.readable ≡ true) l) (sym shows.shapes) (refl, (refl, tt))) in
+    let readable = readable-by s.memory (subst (λ (l : List Shape). AllByRecursion (λ shape. shape.readable ≡ true) l) (sym shows.shapes) (refl, (refl, tt))) in
     let fits = every-get (IsSlot (frame_of flow)) slots v slot h.has_slots.within there in
     let frame : (placement_of code function).frame ≡ frame_of flow = ap (λ (p : Placement). p.frame) place in
     let room : slot ≤ register Ebp s.registers = omega (arith, fits.high, frame, shows.esp) in

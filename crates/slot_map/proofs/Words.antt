@@ -1,4 +1,5 @@
 -- What a slot shows: the word that stands there, read as a signed number.
+use Rattle.std.specs.List.{AllByRecursion}
 use Rattle.std.proofs.Common.{◌≡◌, ℕ, ◌-◌, ◌<◌, ◌≤◌, ◌^◌, Bool, true, false, List, [], ◌∷◌, map, take, drop, Option, Some, None, Ok, refl, sym, ap, ◌∙◌, arith}
 use Rattle.std.specs.Prelude.{option_map, if◌then◌else◌}
 use Rattle.std.specs.Int.{w32, cast_signed}
@@ -11,7 +12,6 @@ use Rattle.ia32_regs.specs.declared.names.Reg32.TheVariants.{Ebp}
 use Rattle.ia32_asm.proofs.Words.{twos_complement-word}
 use Rattle.ia32_insn.specs.State.{State, Area, bytes_at, has_bytes, shape_of}
 use Rattle.ia32_insn.specs.Meaning.{and_then, load, or_end}
-use Rattle.flow_graph.specs.Graphs.{Every}
 use Rattle.flow_graph.specs.Running.{number_or_unknown}
 use Rattle.slot_map.proofs.Reached.{IsNumber}
 use Rattle.flow_graph.specs.States.{Activation, number_of}
@@ -23,9 +23,9 @@ use Rattle.pcc_listing.specs.Marks as shown
 
 -- every area may be read
 abbrev pub AreReadable : List Area → Type 0
-AreReadable areas = Every (λ area. area.readable ≡ true) areas
+AreReadable areas = AllByRecursion (λ area. area.readable ≡ true) areas
 
-pub readable-by : (areas : List Area) → Every (λ shape. shape.readable ≡ true) (map shape_of areas) → AreReadable areas
+pub readable-by : (areas : List Area) → AllByRecursion (λ shape. shape.readable ≡ true) (map shape_of areas) → AreReadable areas
 readable-by [] all = tt
 readable-by (area ∷ areas) all = (all.0, readable-by areas all.1)
 

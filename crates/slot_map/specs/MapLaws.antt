@@ -1,11 +1,12 @@
 -- What the map of a program of one function over slots is worth: it keeps the rules of a map, it is that of the
 -- program, it lists locals of the program, and it shows of the machine what the graph shows at its marks.
 use Rattle.std.specs.Prelude.{◌≡◌, ◌∷◌, [], ℕ, List}
+use Rattle.std.specs.List.{AllByRecursion}
 use Rattle.pcc_base.specs.Names.{IsName}
 use Rattle.pcc_base.specs.Outcome.{AreKnown, Listing, Outcome}
 use Rattle.c_tree.specs.Program.{Local, Function, Program}
 use Rattle.c_tree.specs.SlotForm.{IsSlotProgram}
-use Rattle.flow_graph.specs.Graphs.{Every, Flow, IsDistinct, IsPlaced}
+use Rattle.flow_graph.specs.Graphs.{Flow, IsDistinct, IsPlaced}
 use Rattle.flow_graph.specs.Running.{GraphOutcome}
 use Rattle.c_lower.specs.Lowering.{IsLowered, MarksStatements, marks_in}
 use Rattle.c_lower.specs.Shown.{ListsLocals, variables_shown}
@@ -44,7 +45,7 @@ abbrev pub MapKeepsRules : Type 0
 MapKeepsRules =
     (program : Program) (form : IsSlotProgram program) (flow : Flow) (slots : List ℕ) (code : Code)
     → IsCodeOf form.function flow slots code → IsName form.function.name
-    → Every IsLocalNamed form.function.locals → IsMap (map_in form.function flow slots code)
+    → AllByRecursion IsLocalNamed form.function.locals → IsMap (map_in form.function flow slots code)
 
 -- ---- what it shows
 

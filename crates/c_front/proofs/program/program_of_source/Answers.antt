@@ -1,9 +1,9 @@
 -- The names are the text's, and a text without tokens is refused as its lexing is.
+use Rattle.std.specs.List.{AllByRecursion}
 use Rattle.std.proofs.Common.{List, ℕ, Result, Ok, Err, IfOk, rules}
 use Rattle.pcc_base.specs.declared.refusal.Refusal.{Refusal}
 use Rattle.c_lexer.specs.declared.token.Token.{Token}
 use Rattle.c_lexer.specs.Tokens.{HasTokens}
-use Rattle.c_grammar.specs.DeclarationTokens.{AllAre}
 use Rattle.c_tree.specs.declared.program.Program.{Program as Built}
 use Rattle.c_tree.specs.Erased.{program_of}
 use Rattle.c_front.specs.Accepted.{HasProgram, IsNamed}
@@ -13,7 +13,7 @@ use Rattle.c_front.proofs.program.program_of_source.Goals as goal
 
 -- the names of a program of the text's tokens
 named : (text : List ℕ) (tokens : List Token) (r : Result Built Refusal) → HasTokens 0 text tokens
-    → IfOk r (λ p. HasProgram tokens (program_of p)) → IfOk r (λ p. AllAre IsNamed (program_of p).functions)
+    → IfOk r (λ p. HasProgram tokens (program_of p)) → IfOk r (λ p. AllByRecursion IsNamed (program_of p).functions)
 named text tokens (Ok p) lexed has = program_names text (program_of p) (tokens, lexed, has)
 named text tokens (Err e) lexed has = tt
 

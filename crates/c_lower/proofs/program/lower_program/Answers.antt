@@ -1,8 +1,9 @@
 -- The one graph is a graph, as each is.
+use Rattle.std.specs.List.{AllByRecursion}
 use Rattle.std.proofs.Common.{◌≡◌, ℕ, List, arith}
 use Rattle.std.proofs.lemmas.Grind.{common_steps}
 use Rattle.c_tree.specs.Erased.{program_of}
-use Rattle.flow_graph.specs.Graphs.{Every, Flow, IsFlow}
+use Rattle.flow_graph.specs.Graphs.{Flow, IsFlow}
 use Rattle.flow_graph.specs.States.{GraphProgram}
 use Rattle.c_lower.specs.Code.{slot_graphs}
 use Rattle.c_lower.specs.Lowering.{graphs_of}
@@ -17,6 +18,6 @@ returns-clause-well_formed c =
     in
     let graphs : GraphProgram = graphs_of made in
     let same : graphs ≡ slot_graphs p = grind (arith, common_steps) in
-    let flows : Every (λ (flow : Flow). (homes : List ℕ) × IsFlow flow homes) graphs.functions =
+    let flows : AllByRecursion (λ (flow : Flow). (homes : List ℕ) × IsFlow flow homes) graphs.functions =
     rw (c.in_ok-push.ensures.items, c.new-functions.ensures.items) (c.is_flow.ensures, tt) in
     program-kept p graphs c.requires same flows

@@ -1,7 +1,7 @@
 -- The code runs as its graph does, its image begins in its first state, and the map shows the visits.
+use Rattle.std.specs.List.{AllByRecursion}
 use Rattle.std.proofs.Common.{ℕ, List, [], ◌∷◌, length, refl, sym, ap, ◌∙◌, subst}
 use Rattle.c_tree.specs.Program.{Function}
-use Rattle.flow_graph.specs.Graphs.{Every}
 use Rattle.flow_graph.specs.States.{GraphProgram}
 use Rattle.elf_image.specs.Layout.{image_bytes}
 use Rattle.image_start.specs.Begins.{parts_of_text}
@@ -19,7 +19,7 @@ returns c = λ program form flow slots code keeps low is.
     let f = form.form.function in
     let h = is.laid in
     let m = map_in f flow slots code in
-    let named : Every IsNamedFunction (f ∷ []) = subst (λ (fs : List Function). Every IsNamedFunction fs) form.form.one_function form.names in
+    let named : AllByRecursion IsNamedFunction (f ∷ []) = subst (λ (fs : List Function). AllByRecursion IsNamedFunction fs) form.form.one_function form.names in
     let right = c.slots_are_right.ensures flow slots code h in
     let lists = c.map_lists_locals.ensures program form.form flow slots code is in
     let shows = c.map_shows_visits.ensures program form.form flow slots code is in
