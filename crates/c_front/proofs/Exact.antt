@@ -32,13 +32,16 @@ use Rattle.c_front.proofs.Inside.{unit_inside}
 leads_fewer : (k l : ℕ) (from to other : Reached) (a b : List Token) → Leads k from a to → Leads l from b other
     → NoneBegins other.fresh other.rest → length a ≤ length b
 leads_fewer zero l from to other a b p q stuck = omega (arith, ap length p.1)
-leads_fewer (suc k) zero from to other a b p q stuck = absurd (subst (λ (r : Reached). NoneBegins r.fresh r.rest) q.0 stuck p.0 p.1 p.2)
+leads_fewer (suc k) zero from to other a b p q stuck =
+    absurd (subst (λ (r : Reached). NoneBegins r.fresh r.rest) q.0 stuck p.0 p.1 p.2)
 leads_fewer (suc k) (suc l) from to other a b p q stuck =
     let once = begins_once from.fresh from.rest p.0 q.0 p.1 q.1 p.2 q.2 in
-    let place : behind from q.0 q.1 ≡ behind from p.0 p.1 = ap₂ (λ (n : ℕ) (x : Piece). behind from n x) (sym once.0) (sym once.1) in
+    let place : behind from q.0 q.1 ≡ behind from p.0 p.1 =
+        ap₂ (λ (n : ℕ) (x : Piece). behind from n x) (sym once.0) (sym once.1) in
     let again : Leads l (behind from p.0 p.1) q.3 other = subst (λ (r : Reached). Leads l r q.3 other) place q.5 in
     let rest : length p.3 ≤ length q.3 = leads_fewer k l (behind from p.0 p.1) to other p.3 q.3 p.5 again stuck in
-    let same : length (tokens_of p.1 from.at) ≡ length (tokens_of q.1 from.at) = ap (λ (x : Piece). length (tokens_of x from.at)) once.1 in
+    let same : length (tokens_of p.1 from.at) ≡ length (tokens_of q.1 from.at) =
+        ap (λ (x : Piece). length (tokens_of x from.at)) once.1 in
     omega (
       arith,
       ap length p.4,
@@ -79,11 +82,14 @@ tokens_fault : (tokens : List Token) (p : Program) (kind : FaultKind) (at : Span
 tokens_fault tokens p Syntax at has fault = fault.1 has.height has.unit has.low has.tree
 tokens_fault tokens p TooDeep at has fault = fault.1 has.height has.unit has.low has.tree
 tokens_fault tokens p (Unsupported keyword) at has (before, after, none, outside, same) =
-    let inside : NoneUnsupported (before ++ word keyword at ∷ after) = subst NoneUnsupported same (tree_inside tokens has.height has.unit has.tree) in
+    let inside : NoneUnsupported (before ++ word keyword at ∷ after) =
+        subst NoneUnsupported same (tree_inside tokens has.height has.unit has.tree) in
     false≢true (sym (first_outside before after keyword at inside) ∙ outside)
-tokens_fault tokens p NotYet at has (place, (height, unit, low, tree, inl many)) = let few = has.few in omega (arith, few, many)
+tokens_fault tokens p NotYet at has (place, (height, unit, low, tree, inl many)) = let few = has.few in
+    omega (arith, few, many)
 tokens_fault tokens p NotYet at has (place, (height, unit, low, tree, inr none)) =
-    none p (subst (λ (u : List ExternalTree). IsLocalsProgram u p) (one_tree tokens has.height height has.unit unit has.tree tree).1 has.form)
+    none p (subst (λ (u : List ExternalTree). IsLocalsProgram u p)
+        (one_tree tokens has.height height has.unit unit has.tree tree).1 has.form)
 tokens_fault tokens p kind at has fault = absurd fault
 
 -- ---- texts
@@ -91,7 +97,8 @@ tokens_fault tokens p kind at has fault = absurd fault
 -- a text has one program
 pub one_program_text : (text : List ℕ) (p q : Program) → IsProgram text p → IsProgram text q → p ≡ q
 one_program_text text p q (a, lexed, has) (b, again, other) =
-    let same : HasProgram a q = subst (λ (tokens : List Token). HasProgram tokens q) (sym (one_list 0 text a b lexed again)) other in
+    let same : HasProgram a q = subst (λ (tokens : List Token). HasProgram tokens q)
+        (sym (one_list 0 text a b lexed again)) other in
     let unit : has.unit ≡ same.unit = (one_tree a has.height same.height has.unit same.unit has.tree same.tree).1 in
     one_read same.unit p q (subst (λ (u : List ExternalTree). IsLocalsProgram u p) unit has.form) same.form
 
@@ -99,7 +106,8 @@ one_program_text text p q (a, lexed, has) (b, again, other) =
 with_tokens : (text : List ℕ) (p : Program) (kind : FaultKind) (at : Span) → IsProgram text p
     → WithTokens text (λ tokens. IsTreeFault tokens kind at) → ⊥
 with_tokens text p kind at (a, lexed, has) (b, again, few, fault) =
-    tokens_fault a p kind at has (subst (λ (tokens : List Token). IsTreeFault tokens kind at) (sym (one_list 0 text a b lexed again)) fault)
+    tokens_fault a p kind at has (subst (λ (tokens : List Token). IsTreeFault tokens kind at)
+        (sym (one_list 0 text a b lexed again)) fault)
 
 -- a program's text has no lexical fault
 lexical : (text : List ℕ) (p : Program) (fault : Fault) → IsProgram text p → HasLexicalFault text fault → ⊥

@@ -88,7 +88,8 @@ piece_spelled fresh rest n (Spelled (kinds.Text bytes)) at h = (tt, tt)
 piece_spelled fresh rest n (Spelled (kinds.Mark m)) at h = (tt, tt)
 
 -- two lists of such tokens are one
-joined : (a b : List Token) → AllByRecursion IsSpelled a → AllByRecursion IsSpelled b → AllByRecursion IsSpelled (a ++ b)
+joined : (a b : List Token) → AllByRecursion IsSpelled a → AllByRecursion IsSpelled b
+    → AllByRecursion IsSpelled (a ++ b)
 joined [] b h g = g
 joined (t ∷ ts) b h g = (h.0, joined ts b h.1 g)
 
@@ -148,7 +149,8 @@ part_named name (Function p) value h = tt
 item_named : (i : ItemTree) (others : List Token) → AllByRecursion IsSpelled (item_tokens i ++ others)
     → IsNamedRule (item_rule (Some i))
 item_named i others h =
-    let declarator : AllByRecursion IsSpelled (declarator_tokens i.declarator) = front (declarator_tokens i.declarator) _ (front (item_tokens i) others h) in
+    let declarator : AllByRecursion IsSpelled (declarator_tokens i.declarator) =
+        front (declarator_tokens i.declarator) _ (front (item_tokens i) others h) in
     let name : IsName i.declarator.name.name = (back (pointer_tokens i.declarator.pointer) _ declarator).0 in
     where_false (is_some i.declarator.pointer) (part_rule i.declarator.name.name i.declarator.part i.initialiser)
     (part_named i.declarator.name.name i.declarator.part i.initialiser name)
@@ -205,7 +207,8 @@ named_more (n ∷ ns) name h g = (h.0, named_more ns name h.1 g)
 -- the names behind a statement of the form are names
 item_names : (names : List (List ℕ)) (n : ℕ) (rule : Rule) (after : List (List ℕ)) (t : Statement)
     → IsItem names n rule after t → IsNamedRule rule → AllByRecursion IsName names → AllByRecursion IsName after
-item_names names n (Declares name value) after t h named all = subst (AllByRecursion IsName) (sym h.3) (named_more names name all named)
+item_names names n (Declares name value) after t h named all =
+    subst (AllByRecursion IsName) (sym h.3) (named_more names name all named)
 item_names names n (Assigns name value) after t h named all = subst (AllByRecursion IsName) (sym h.4) all
 item_names names n (Puts value) after t h named all = subst (AllByRecursion IsName) (sym h.2) all
 item_names names n (Returns value) after t h named all = absurd h
@@ -213,7 +216,8 @@ item_names names n Other after t h named all = absurd h
 
 -- all that a body declares are names
 body_names : (ss : Stmts) (names : List (List ℕ)) (n : ℕ) (all : List (List ℕ)) (body : Statements)
-    → IsBody names n ss all body → AllByRecursion IsSpelled (stmts_tokens ss) → AllByRecursion IsName names → AllByRecursion IsName all
+    → IsBody names n ss all body → AllByRecursion IsSpelled (stmts_tokens ss) → AllByRecursion IsName names
+        → AllByRecursion IsName all
 body_names NoStmt names n all body h spelled named = absurd h
 body_names (OneStmt s ss) names n all body (inl h) spelled named = subst (AllByRecursion IsName) (sym h.3) named
 body_names (OneStmt s ss) names n all body (inr h) spelled named =
@@ -257,7 +261,8 @@ main_name : IsName (codes "main")
 main_name = name_of_word 109 (97 ∷ 105 ∷ 110 ∷ []) refl (refl, (refl, (refl, tt)))
 
 -- the names of a program of the form are those of its tokens
-unit_names : (unit : List ExternalTree) (p : Program) → IsLocalsProgram unit p → AllByRecursion IsSpelled (unit_tokens unit)
+unit_names : (unit : List ExternalTree) (p : Program) → IsLocalsProgram unit p
+    → AllByRecursion IsSpelled (unit_tokens unit)
     → AllByRecursion IsNamed p.functions
 unit_names unit p h spelled =
     let named : AllByRecursion IsName h.1 = body_names h.0 [] 0 h.1 h.2 h.5 (unit_spelled unit h.0 h.3 spelled) tt in
@@ -266,4 +271,5 @@ unit_names unit p h spelled =
 -- the names of a program's functions and locals are identifiers
 pub program_names : (text : List ℕ) (p : Program) → IsProgram text p → AllByRecursion IsNamed p.functions
 program_names text p (tokens, lexed, has) =
-    unit_names has.unit p has.form (subst (AllByRecursion IsSpelled) has.tree.tokens_are (leads_spelled lexed.0 (start_of 0 text) tokens lexed.1 lexed.2))
+    unit_names has.unit p has.form (subst (AllByRecursion IsSpelled) has.tree.tokens_are
+        (leads_spelled lexed.0 (start_of 0 text) tokens lexed.1 lexed.2))

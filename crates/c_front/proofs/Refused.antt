@@ -22,7 +22,8 @@ four_kinds : (P : FaultKind → Type 0) (rest : List ℕ) (kind : FaultKind) →
     → P Unclosed → P BadEscape → P kind
 four_kinds P [] kind h byte number unclosed escape = absurd h
 four_kinds P (b ∷ rest) kind (inl h) byte number unclosed escape = subst P (sym h.1) unclosed
-four_kinds P (b ∷ rest) kind (inr (inl h)) byte number unclosed escape = subst P (sym h.1) (quoted P (is_closed b rest) unclosed escape)
+four_kinds P (b ∷ rest) kind (inr (inl h)) byte number unclosed escape =
+    subst P (sym h.1) (quoted P (is_closed b rest) unclosed escape)
 four_kinds P (b ∷ rest) kind (inr (inr (inl h))) byte number unclosed escape = subst P (sym h.1) number
 four_kinds P (b ∷ rest) kind (inr (inr (inr h))) byte number unclosed escape = subst P (sym h.4) byte
 

@@ -1,5 +1,6 @@
 -- Where the reading of a rule ends: the next token goes on with no tree of that rule.
-use Rattle.std.proofs.Common.{◌≡◌, ℕ, ◌+◌, ◌≤◌, ◌<◌, false, List, [], ◌∷◌, ◌++◌, Option, Some, None, MatchOption, eqb, refl, subst, arith}
+use Rattle.std.proofs.Common.{◌≡◌, ℕ, ◌+◌, ◌≤◌, ◌<◌, false, List, [], ◌∷◌, ◌++◌, Option, Some, None, MatchOption, eqb}
+use Rattle.std.proofs.Common.{refl, subst, arith}
 use Rattle.std.proofs.lemmas.Bool.Decides.{nat_tests}
 use denote.Enum.Bare.{false_same}
 use Rattle.pcc_base.specs.declared.span.Span.{Span}
@@ -20,7 +21,8 @@ use Rattle.c_syntax.specs.declared.operator.AssignOp.TheVariants as assign
 use Rattle.c_syntax.specs.declared.expression.TextPiece.{TextPiece}
 use Rattle.c_grammar.specs.Marks.{mark, binary_mark, unary_mark, step_mark, assign_mark}
 use Rattle.c_grammar.specs.ExpressionTokens.{binary_level, text_tokens}
-use Rattle.c_grammar.specs.Taking.{is_mark, of_mark, binary_of_mark, step_of_mark, assign_of_mark, at_level, take_mark, take_step, take_unary, take_assign, take_binary, take_texts, texts_from}
+use Rattle.c_grammar.specs.Taking.{is_mark, of_mark, binary_of_mark, step_of_mark, assign_of_mark, at_level, take_mark}
+use Rattle.c_grammar.specs.Taking.{take_step, take_unary, take_assign, take_binary, take_texts, texts_from}
 
 -- how loose a rule is that goes on with a mark behind its first part; 17 where none does
 abbrev pub mark_joins : Punct → ℕ
@@ -79,7 +81,9 @@ stops_tighter c d (t ∷ ts) s h = omega arith
 
 not_mark : (m : Punct) (c : ℕ) (kind : TokenKind) → c < joins kind → mark_joins m ≤ c → is_mark m kind ≡ false
 not_mark m c (kinds.Mark n) s h =
-    false_same the_marks tt m n (λ (e : m ≡ n). absurd (let P : Punct → Type 0 = λ x. mark_joins x ≤ c in let g : mark_joins n ≤ c = subst P e h in omega arith))
+    false_same the_marks tt m n (λ (e : m ≡ n).
+        absurd (let P : Punct → Type 0 = λ x. mark_joins x ≤ c in let g : mark_joins n ≤ c = subst P e h in
+        omega arith))
 not_mark m c (kinds.Text bytes) s h = refl
 not_mark m c (kinds.Word w) s h = refl
 not_mark m c (kinds.Ident name) s h = refl
@@ -150,9 +154,11 @@ joins_level _ = tt
 other_level : (m n : ℕ) → (m ≡ n → ⊥) → eqb m n ≡ false
 other_level m n h = grind (arith, nat_tests)
 
-no_level : (k c j : ℕ) (o : Option BinaryOp) → MatchOption o (Unit {0}) (λ op. j ≡ binary_level op + 3) → c < j → k + 3 ≤ c → at_level k o ≡ None
+no_level : (k c j : ℕ) (o : Option BinaryOp) → MatchOption o (Unit {0}) (λ op. j ≡ binary_level op + 3) → c < j
+    → k + 3 ≤ c → at_level k o ≡ None
 no_level k c j None m s h = refl
-no_level k c j (Some op) m s h = (let e : eqb (binary_level op) k ≡ false = other_level (binary_level op) k (λ (f : binary_level op ≡ k). omega arith) in rw e refl)
+no_level k c j (Some op) m s h = (let e : eqb (binary_level op) k ≡ false =
+    other_level (binary_level op) k (λ (f : binary_level op ≡ k). omega arith) in rw e refl)
 
 no_binary : (k c : ℕ) (kind : TokenKind) → c < joins kind → k + 3 ≤ c → at_level k (of_mark binary_of_mark kind) ≡ None
 no_binary k c (kinds.Mark n) s h = no_level k c (mark_joins n) (binary_of_mark n) (joins_level n) s h
@@ -165,7 +171,8 @@ pub stops_binary : (k c : ℕ) (ts : List Token) → Stops c ts → k + 3 ≤ c 
 stops_binary k c [] s h = refl
 stops_binary k c (t ∷ ts) s h = rw (no_binary k c t.kind s h) refl
 
-no_text : (c : ℕ) (t : Token) (ts : List Token) (r : List TextPiece × List Token) → c < joins t.kind → texts_from t.kind t ts r ≡ ([], t ∷ ts)
+no_text : (c : ℕ) (t : Token) (ts : List Token) (r : List TextPiece × List Token) → c < joins t.kind
+    → texts_from t.kind t ts r ≡ ([], t ∷ ts)
 no_text c t ts r s = by_kind t.kind s
   where
     by_kind : (kind : TokenKind) → c < joins kind → texts_from kind t ts r ≡ ([], t ∷ ts)
@@ -178,11 +185,13 @@ stops_texts c (t ∷ ts) s = no_text c t ts (take_texts ts) s
 
 -- ---- what is taken
 
-pub takes_step : (op : StepOp) (at : Span) (ts : List Token) → take_step (mark (step_mark op) at ∷ ts) ≡ Some ((op, at), ts)
+pub takes_step : (op : StepOp) (at : Span) (ts : List Token) → take_step (mark (step_mark op) at ∷ ts)
+    ≡ Some ((op, at), ts)
 takes_step step.Increment at ts = refl
 takes_step step.Decrement at ts = refl
 
-pub takes_unary : (op : UnaryOp) (at : Span) (ts : List Token) → take_unary (mark (unary_mark op) at ∷ ts) ≡ Some ((op, at), ts)
+pub takes_unary : (op : UnaryOp) (at : Span) (ts : List Token) → take_unary (mark (unary_mark op) at ∷ ts)
+    ≡ Some ((op, at), ts)
 takes_unary unary.AddressOf at ts = refl
 takes_unary unary.Dereference at ts = refl
 takes_unary unary.Plus at ts = refl
@@ -199,7 +208,8 @@ unary_no_step unary.Minus at ts = refl
 unary_no_step unary.Complement at ts = refl
 unary_no_step unary.Not at ts = refl
 
-pub takes_assign : (op : AssignOp) (at : Span) (ts : List Token) → take_assign (mark (assign_mark op) at ∷ ts) ≡ Some ((op, at), ts)
+pub takes_assign : (op : AssignOp) (at : Span) (ts : List Token) → take_assign (mark (assign_mark op) at ∷ ts)
+    ≡ Some ((op, at), ts)
 takes_assign assign.Assign at ts = refl
 takes_assign assign.Multiply at ts = refl
 takes_assign assign.Divide at ts = refl
@@ -233,8 +243,10 @@ level_taken binary.LogicalAnd = refl
 level_taken binary.LogicalOr = refl
 level_taken binary.Comma = refl
 
-pub takes_binary : (op : BinaryOp) (k : ℕ) (at : Span) (ts : List Token) → binary_level op ≡ k → take_binary k (mark (binary_mark op) at ∷ ts) ≡ Some ((op, at), ts)
-takes_binary op k at ts e = subst (λ (n : ℕ). take_binary n (mark (binary_mark op) at ∷ ts) ≡ Some ((op, at), ts)) e (rw (level_taken op) refl)
+pub takes_binary : (op : BinaryOp) (k : ℕ) (at : Span) (ts : List Token) → binary_level op ≡ k
+    → take_binary k (mark (binary_mark op) at ∷ ts) ≡ Some ((op, at), ts)
+takes_binary op k at ts e = subst (λ (n : ℕ). take_binary n (mark (binary_mark op) at ∷ ts) ≡ Some ((op, at), ts)) e
+    (rw (level_taken op) refl)
 
 -- where operators join
 pub binary_joins : (op : BinaryOp) → mark_joins (binary_mark op) ≡ binary_level op + 3
@@ -276,11 +288,13 @@ step_joins step.Increment = refl
 step_joins step.Decrement = refl
 
 -- string literals, one behind the other
-pub takes_texts : (ps : List TextPiece) (rest : List Token) → Stops 0 rest → take_texts (text_tokens ps ++ rest) ≡ (ps, rest)
+pub takes_texts : (ps : List TextPiece) (rest : List Token) → Stops 0 rest → take_texts (text_tokens ps ++ rest)
+    ≡ (ps, rest)
 takes_texts [] rest s = stops_texts 0 rest s
 takes_texts (p ∷ ps) rest s = rw (takes_texts ps rest s) refl
 
 -- a step is no bracket
-pub step_no_bracket : (op : StepOp) (at : Span) (ts : List Token) → take_mark marks.LeftBracket (mark (step_mark op) at ∷ ts) ≡ None
+pub step_no_bracket : (op : StepOp) (at : Span) (ts : List Token)
+    → take_mark marks.LeftBracket (mark (step_mark op) at ∷ ts) ≡ None
 step_no_bracket step.Increment at ts = refl
 step_no_bracket step.Decrement at ts = refl

@@ -3,6 +3,7 @@ use Rattle.std.proofs.Common.{◌≡◌, max, List, [], ◌∷◌, ◌++◌, ari
 use Rattle.c_grammar.specs.Expressions.{Expr, exprs_of}
 use Rattle.c_grammar.specs.ExpressionTokens.{expr_height, exprs_height}
 
-pub exprs_height-push : (es : List Expr) (e : Expr) → exprs_height (exprs_of (es ++ e ∷ [])) ≡ max (exprs_height (exprs_of es)) (expr_height e)
+pub exprs_height-push : (es : List Expr) (e : Expr) → exprs_height (exprs_of (es ++ e ∷ []))
+    ≡ max (exprs_height (exprs_of es)) (expr_height e)
 exprs_height-push [] e = omega arith
 exprs_height-push (f ∷ es) e = omega (arith, exprs_height-push es e)

@@ -9,7 +9,9 @@ use Rattle.c_lexer.specs.declared.token.Punct.TheVariants as marks
 use Rattle.c_syntax.specs.declared.expression.Identifier.{Identifier}
 use Rattle.c_syntax.specs.declared.expression.Specifier.{Specifier}
 use Rattle.c_grammar.specs.Expressions.{Star, Expr, exprs_of}
-use Rattle.c_grammar.specs.Declarations.{ArrayTree, ParameterTree, ParametersTree, PartTree, Plain, Array, Function, DeclaratorTree, InitialiserTree, Single, Braces, ValueTree, ItemTree, DeclarationTree}
+use Rattle.c_grammar.specs.Declarations.{ArrayTree, ParameterTree, ParametersTree, PartTree, Plain, Array, Function}
+use Rattle.c_grammar.specs.Declarations.{DeclaratorTree, InitialiserTree, Single, Braces, ValueTree, ItemTree}
+use Rattle.c_grammar.specs.Declarations.{DeclarationTree}
 use Rattle.c_grammar.specs.Chains.{Step, Done, Goes, Reads, then_read, then_step, chained}
 use Rattle.c_grammar.specs.Taking.{take_mark, take_specifiers, take_pointer}
 use Rattle.c_grammar.specs.Reading.{Reader, Readers, Values}
@@ -21,7 +23,8 @@ Listed A = List A × List Span
 
 abbrev pub list_at : {A : Type 0} → (List Token → Reads A) → Listed A → Reads Span → Step (Listed A)
 list_at read so_far None = Done
-list_at read so_far (Some (comma, ts)) = then_step (read ts) (λ a us. Goes (so_far.0 ++ a ∷ [], so_far.1 ++ comma ∷ []) us)
+list_at read so_far (Some (comma, ts)) = then_step (read ts)
+    (λ a us. Goes (so_far.0 ++ a ∷ [], so_far.1 ++ comma ∷ []) us)
 
 abbrev pub list_step : {A : Type 0} → (List Token → Reads A) → Listed A → List Token → Step (Listed A)
 list_step read so_far ts = list_at read so_far (take_mark marks.Comma ts)
@@ -51,7 +54,9 @@ maybe_before read close ts = maybe_from read (take_mark close ts) ts
 
 abbrev pub array_behind : Readers → Span → List Token → Reads ArrayTree
 array_behind below o ts =
-    then_read (maybe_before below.conditional marks.RightBracket ts) (λ size us. then_read (take_mark marks.RightBracket us) (λ c vs. Some (record { opening = o; size = size; close = c }, vs)))
+    then_read (maybe_before below.conditional marks.RightBracket ts)
+        (λ size us. then_read (take_mark marks.RightBracket us)
+        (λ c vs. Some (record { opening = o; size = size; close = c }, vs)))
 
 abbrev pub maybe_array_from : Readers → Reads Span → List Token → Reads (Option ArrayTree)
 maybe_array_from below None ts = Some (None, ts)
@@ -60,9 +65,11 @@ maybe_array_from below (Some (o, us)) ts = then_read (array_behind below o us) (
 abbrev pub read_maybe_array : Readers → List Token → Reads (Option ArrayTree)
 read_maybe_array below ts = maybe_array_from below (take_mark marks.LeftBracket ts) ts
 
-abbrev pub parameter_named : Readers → List Specifier → Option Star → Option Identifier × List Token → Reads ParameterTree
+abbrev pub parameter_named : Readers → List Specifier → Option Star → Option Identifier × List Token
+    → Reads ParameterTree
 parameter_named below ss pointer name =
-    then_read (read_maybe_array below name.1) (λ a vs. Some (record { specifiers = ss; pointer = pointer; name = name.0; array = a }, vs))
+    then_read (read_maybe_array below name.1)
+        (λ a vs. Some (record { specifiers = ss; pointer = pointer; name = name.0; array = a }, vs))
 
 abbrev pub parameter_behind : Readers → List Specifier → Option Star × List Token → Reads ParameterTree
 parameter_behind below ss pointer = parameter_named below ss pointer.0 (take_name pointer.1)
@@ -83,7 +90,9 @@ read_parameters below ts = parameters_from below (take_mark marks.RightParen ts)
 
 abbrev pub parameters_behind : Readers → Span → List Token → Reads ParametersTree
 parameters_behind below o ts =
-    then_read (read_parameters below ts) (λ ps us. then_read (take_mark marks.RightParen us) (λ c vs. Some (record { opening = o; parameters = ps.0; commas = ps.1; close = c }, vs)))
+    then_read (read_parameters below ts) (λ ps us.
+        then_read (take_mark marks.RightParen us)
+        (λ c vs. Some (record { opening = o; parameters = ps.0; commas = ps.1; close = c }, vs)))
 
 abbrev pub part_in_parens : Readers → Reads Span → List Token → Reads PartTree
 part_in_parens below None ts = Some (Plain, ts)
@@ -98,7 +107,8 @@ read_part below ts = part_from below (take_mark marks.LeftBracket ts) ts
 
 abbrev pub declarator_named : Readers → Option Star → Option Identifier → List Token → Reads DeclaratorTree
 declarator_named below pointer None us = None
-declarator_named below pointer (Some n) us = then_read (read_part below us) (λ part vs. Some (record { pointer = pointer; name = n; part = part }, vs))
+declarator_named below pointer (Some n) us =
+    then_read (read_part below us) (λ part vs. Some (record { pointer = pointer; name = n; part = part }, vs))
 
 abbrev pub declarator_behind : Readers → Option Star × List Token → Reads DeclaratorTree
 declarator_behind below pointer = declarator_named below pointer.0 (take_name pointer.1).0 (take_name pointer.1).1
@@ -110,7 +120,8 @@ read_declarator below ts = declarator_behind below (take_pointer ts)
 
 abbrev pub brace_close : Readers → Values → Span → Reads Span → List Token → Step Values
 brace_close below so_far comma (Some close) ts = Done
-brace_close below so_far comma None ts = then_step (below.assignment ts) (λ e us. Goes (so_far.0 ++ e ∷ [], so_far.1 ++ comma ∷ []) us)
+brace_close below so_far comma None ts = then_step (below.assignment ts)
+    (λ e us. Goes (so_far.0 ++ e ∷ [], so_far.1 ++ comma ∷ []) us)
 
 abbrev pub brace_at : Readers → Values → Reads Span → Step Values
 brace_at below so_far None = Done
@@ -129,11 +140,13 @@ abbrev pub take_comma : List Token → Option Span × List Token
 take_comma ts = comma_from (take_mark marks.Comma ts) ts
 
 abbrev pub braces_end : Span → Values → Option Span × List Token → Reads InitialiserTree
-braces_end o values comma = then_read (take_mark marks.RightBrace comma.1) (λ c vs. Some (Braces o (exprs_of values.0) values.1 comma.0 c, vs))
+braces_end o values comma = then_read (take_mark marks.RightBrace comma.1)
+    (λ c vs. Some (Braces o (exprs_of values.0) values.1 comma.0 c, vs))
 
 abbrev pub braces_behind : Readers → Span → List Token → Reads InitialiserTree
 braces_behind below o ts =
-    then_read (below.assignment ts) (λ e us. then_read (chained (brace_step below) (e ∷ [], []) us) (λ values vs. braces_end o values (take_comma vs)))
+    then_read (below.assignment ts) (λ e us. then_read (chained (brace_step below) (e ∷ [], []) us)
+        (λ values vs. braces_end o values (take_comma vs)))
 
 abbrev pub initialiser_from : Readers → Reads Span → List Token → Reads InitialiserTree
 initialiser_from below None ts = then_read (below.assignment ts) (λ e us. Some (Single e, us))
@@ -146,10 +159,12 @@ read_initialiser below ts = initialiser_from below (take_mark marks.LeftBrace ts
 
 abbrev pub value_from : Readers → Reads Span → List Token → Reads (Option ValueTree)
 value_from below None ts = Some (None, ts)
-value_from below (Some (equal, us)) ts = then_read (read_initialiser below us) (λ v vs. Some (Some (record { equal = equal; value = v }), vs))
+value_from below (Some (equal, us)) ts = then_read (read_initialiser below us)
+    (λ v vs. Some (Some (record { equal = equal; value = v }), vs))
 
 abbrev pub item_behind : Readers → DeclaratorTree → List Token → Reads ItemTree
-item_behind below d ts = then_read (value_from below (take_mark marks.Equal ts) ts) (λ v us. Some (record { declarator = d; initialiser = v }, us))
+item_behind below d ts = then_read (value_from below (take_mark marks.Equal ts) ts)
+    (λ v us. Some (record { declarator = d; initialiser = v }, us))
 
 abbrev pub read_item : Readers → List Token → Reads ItemTree
 read_item below ts = then_read (read_declarator below ts) (λ d us. item_behind below d us)
@@ -157,11 +172,16 @@ read_item below ts = then_read (read_declarator below ts) (λ d us. item_behind 
 -- a declaration behind its first declarator
 abbrev pub declaration_behind : Readers → List Specifier → DeclaratorTree → List Token → Reads DeclarationTree
 declaration_behind below ss d ts =
-    then_read (item_behind below d ts) (λ i us. then_read (read_more (read_item below) i us) (λ items vs. then_read (take_mark marks.Semicolon vs) (λ semicolon ws. Some (record { specifiers = ss; items = items.0; commas = items.1; semicolon = semicolon }, ws))))
+    then_read (item_behind below d ts) (λ i us.
+        then_read (read_more (read_item below) i us)
+        (λ items vs. then_read (take_mark marks.Semicolon vs)
+        (λ semicolon ws. Some (record { specifiers = ss; items = items.0; commas = items.1; semicolon = semicolon },
+        ws))))
 
 abbrev pub declaration_with : Readers → List Specifier → List Token → Reads DeclarationTree
 declaration_with below [] us = None
-declaration_with below (s ∷ ss) us = then_read (read_declarator below us) (λ d vs. declaration_behind below (s ∷ ss) d vs)
+declaration_with below (s ∷ ss) us = then_read (read_declarator below us)
+    (λ d vs. declaration_behind below (s ∷ ss) d vs)
 
 -- a declaration, by readers for one less than its height
 abbrev pub read_declaration : Readers → List Token → Reads DeclarationTree

@@ -7,8 +7,11 @@ use Rattle.c_lexer.specs.declared.token.Punct.TheVariants as marks
 use Rattle.c_syntax.specs.declared.expression.Identifier.{Identifier}
 use Rattle.c_grammar.specs.Marks.{ident, mark}
 use Rattle.c_grammar.specs.Expressions.{Expr, NoExpr, OneExpr}
-use Rattle.c_grammar.specs.ExpressionTokens.{specifiers_tokens, pointer_tokens, expr_tokens, exprs_tokens, expr_height, exprs_height, looseness, IsExpr, AreValues, Separate, IsSpecifiers}
-use Rattle.c_grammar.specs.Declarations.{ArrayTree, ParameterTree, ParametersTree, PartTree, Plain, Array, Function, DeclaratorTree, InitialiserTree, Single, Braces, ValueTree, ItemTree, DeclarationTree}
+use Rattle.c_grammar.specs.ExpressionTokens.{specifiers_tokens, pointer_tokens, expr_tokens, exprs_tokens, expr_height}
+use Rattle.c_grammar.specs.ExpressionTokens.{exprs_height, looseness, IsExpr, AreValues, Separate, IsSpecifiers}
+use Rattle.c_grammar.specs.Declarations.{ArrayTree, ParameterTree, ParametersTree, PartTree, Plain, Array, Function}
+use Rattle.c_grammar.specs.Declarations.{DeclaratorTree, InitialiserTree, Single, Braces, ValueTree, ItemTree}
+use Rattle.c_grammar.specs.Declarations.{DeclarationTree}
 
 -- ---- several, with commas between them
 
@@ -47,10 +50,12 @@ maybe_name_tokens None = []
 maybe_name_tokens (Some n) = ident n.name n.at ∷ []
 
 abbrev pub parameter_tokens : ParameterTree → List Token
-parameter_tokens p = specifiers_tokens p.specifiers ++ (pointer_tokens p.pointer ++ (maybe_name_tokens p.name ++ maybe_array_tokens p.array))
+parameter_tokens p = specifiers_tokens p.specifiers
+    ++ (pointer_tokens p.pointer ++ (maybe_name_tokens p.name ++ maybe_array_tokens p.array))
 
 abbrev pub parameters_tokens : ParametersTree → List Token
-parameters_tokens p = mark marks.LeftParen p.opening ∷ (separated parameter_tokens p.parameters p.commas ++ mark marks.RightParen p.close ∷ [])
+parameters_tokens p = mark marks.LeftParen p.opening
+    ∷ (separated parameter_tokens p.parameters p.commas ++ mark marks.RightParen p.close ∷ [])
 
 abbrev pub part_tokens : PartTree → List Token
 part_tokens Plain = []
@@ -67,7 +72,8 @@ maybe_comma_tokens (Some at) = mark marks.Comma at ∷ []
 abbrev pub initialiser_tokens : InitialiserTree → List Token
 initialiser_tokens (Single e) = expr_tokens e
 initialiser_tokens (Braces o values commas trailing c) =
-    mark marks.LeftBrace o ∷ (exprs_tokens values commas ++ (maybe_comma_tokens trailing ++ mark marks.RightBrace c ∷ []))
+    mark marks.LeftBrace o ∷ (exprs_tokens values commas
+        ++ (maybe_comma_tokens trailing ++ mark marks.RightBrace c ∷ []))
 
 abbrev pub value_tokens : Option ValueTree → List Token
 value_tokens None = []
@@ -77,7 +83,8 @@ abbrev pub item_tokens : ItemTree → List Token
 item_tokens i = declarator_tokens i.declarator ++ value_tokens i.initialiser
 
 abbrev pub declaration_tokens : DeclarationTree → List Token
-declaration_tokens d = specifiers_tokens d.specifiers ++ (separated item_tokens d.items d.commas ++ mark marks.Semicolon d.semicolon ∷ [])
+declaration_tokens d = specifiers_tokens d.specifiers
+    ++ (separated item_tokens d.items d.commas ++ mark marks.Semicolon d.semicolon ∷ [])
 
 -- ---- heights: a declaration is a node, its parts are none
 

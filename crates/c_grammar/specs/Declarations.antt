@@ -52,7 +52,8 @@ pub record DeclaratorTree : Type 0 where
 -- initialiser : assignment | '{' assignment (',' assignment)* ','? '}'
 pub data InitialiserTree : Type 0 where
   Single : (value : Expr) → InitialiserTree
-  Braces : (opening : Span) (values : Exprs) (commas : List Span) (trailing : Option Span) (close : Span) → InitialiserTree
+  Braces : (opening : Span) (values : Exprs) (commas : List Span) (trailing : Option Span) (close : Span)
+      → InitialiserTree
 
 -- '=' initialiser
 pub record ValueTree : Type 0 where
@@ -85,10 +86,12 @@ maybe_array_of None = None
 maybe_array_of (Some a) = Some (array_of a)
 
 abbrev pub parameter_of : Parameter → ParameterTree
-parameter_of p = record { specifiers = p.specifiers.items; pointer = star_of p.pointer; name = p.name; array = maybe_array_of p.array }
+parameter_of p = record { specifiers = p.specifiers.items; pointer = star_of p.pointer; name = p.name; array =
+    maybe_array_of p.array }
 
 abbrev pub parameters_of : ParametersPart → ParametersTree
-parameters_of p = record { opening = p.opening; parameters = map parameter_of p.parameters.items; commas = p.commas.items; close = p.close }
+parameters_of p = record { opening = p.opening; parameters = map parameter_of p.parameters.items; commas =
+    p.commas.items; close = p.close }
 
 abbrev pub part_of : DeclaratorPart → PartTree
 part_of parts.Plain = Plain
@@ -100,7 +103,8 @@ declarator_of d = record { pointer = star_of d.pointer; name = d.name; part = pa
 
 abbrev pub initialiser_of : Initialiser → InitialiserTree
 initialiser_of (initialisers.Single e) = Single (expr_of e)
-initialiser_of (initialisers.List o values commas trailing c) = Braces o (exprs_of (map expr_of values.items)) commas.items trailing c
+initialiser_of (initialisers.List o values commas trailing c) =
+    Braces o (exprs_of (map expr_of values.items)) commas.items trailing c
 
 abbrev pub value_of : Option InitialiserPart → Option ValueTree
 value_of None = None
@@ -110,4 +114,5 @@ abbrev pub item_of : Item → ItemTree
 item_of i = record { declarator = declarator_of i.declarator; initialiser = value_of i.initialiser }
 
 abbrev pub declaration_of : Declaration → DeclarationTree
-declaration_of d = record { specifiers = d.specifiers.items; items = map item_of d.items.items; commas = d.commas.items; semicolon = d.semicolon }
+declaration_of d = record { specifiers = d.specifiers.items; items = map item_of d.items.items; commas = d.commas.items;
+    semicolon = d.semicolon }

@@ -8,8 +8,10 @@ use Rattle.c_syntax.specs.declared.operator.BinaryOp.{BinaryOp}
 use Rattle.c_syntax.specs.declared.operator.BinaryOp.TheVariants as binary
 use Rattle.c_syntax.specs.declared.expression.Specifier.{Specifier}
 use Rattle.c_syntax.specs.declared.expression.TextPiece.{TextPiece}
-use Rattle.c_grammar.specs.Marks.{ident, number, text, mark, word, binary_mark, unary_mark, step_mark, assign_mark, specifier_word}
-use Rattle.c_grammar.specs.Expressions.{Star, Expr, Exprs, Identifier, Number, Text, Parenthesised, Call, Index, Postfix, Prefix, Unary, Cast, Binary, Conditional, Assignment, NoExpr, OneExpr}
+use Rattle.c_grammar.specs.Marks.{ident, number, text, mark, word, binary_mark, unary_mark, step_mark, assign_mark}
+use Rattle.c_grammar.specs.Marks.{specifier_word}
+use Rattle.c_grammar.specs.Expressions.{Star, Expr, Exprs, Identifier, Number, Text, Parenthesised, Call, Index}
+use Rattle.c_grammar.specs.Expressions.{Postfix, Prefix, Unary, Cast, Binary, Conditional, Assignment, NoExpr, OneExpr}
 
 -- ---- tokens
 
@@ -37,14 +39,19 @@ abbrev mutual
   expr_tokens (Number value at) = number value at ∷ []
   expr_tokens (Text pieces) = text_tokens pieces
   expr_tokens (Parenthesised o e c) = mark marks.LeftParen o ∷ (expr_tokens e ++ mark marks.RightParen c ∷ [])
-  expr_tokens (Call f o arguments commas c) = ident f.name f.at ∷ mark marks.LeftParen o ∷ (exprs_tokens arguments commas ++ mark marks.RightParen c ∷ [])
-  expr_tokens (Index b o e c) = expr_tokens b ++ mark marks.LeftBracket o ∷ (expr_tokens e ++ mark marks.RightBracket c ∷ [])
+  expr_tokens (Call f o arguments commas c) =
+      ident f.name f.at ∷ mark marks.LeftParen o ∷ (exprs_tokens arguments commas ++ mark marks.RightParen c ∷ [])
+  expr_tokens (Index b o e c) = expr_tokens b ++ mark marks.LeftBracket o
+      ∷ (expr_tokens e ++ mark marks.RightBracket c ∷ [])
   expr_tokens (Postfix b op at) = expr_tokens b ++ mark (step_mark op) at ∷ []
   expr_tokens (Prefix op at e) = mark (step_mark op) at ∷ expr_tokens e
   expr_tokens (Unary op at e) = mark (unary_mark op) at ∷ expr_tokens e
-  expr_tokens (Cast o specifiers pointer c e) = mark marks.LeftParen o ∷ (specifiers_tokens specifiers ++ (pointer_tokens pointer ++ mark marks.RightParen c ∷ expr_tokens e))
+  expr_tokens (Cast o specifiers pointer c e) =
+      mark marks.LeftParen o ∷ (specifiers_tokens specifiers
+      ++ (pointer_tokens pointer ++ mark marks.RightParen c ∷ expr_tokens e))
   expr_tokens (Binary op l at r) = expr_tokens l ++ mark (binary_mark op) at ∷ expr_tokens r
-  expr_tokens (Conditional c q f k s) = expr_tokens c ++ mark marks.Question q ∷ (expr_tokens f ++ mark marks.Colon k ∷ expr_tokens s)
+  expr_tokens (Conditional c q f k s) = expr_tokens c ++ mark marks.Question q
+      ∷ (expr_tokens f ++ mark marks.Colon k ∷ expr_tokens s)
   expr_tokens (Assignment op l at r) = expr_tokens l ++ mark (assign_mark op) at ∷ expr_tokens r
 
   -- assignment (',' assignment)*
@@ -145,7 +152,8 @@ IsText (p ∷ ps) = Unit {0}
 abbrev mutual
   -- a tree of the rule expression
   pub IsExpr : Expr → Type 0
-  -- primary : ident | number | text+ | '(' expression ')' | ident '(' (assignment (',' assignment)*)? ')'  (C99 6.5.1, 6.5.2)
+  -- primary : ident | number | text+ | '(' expression ')' | ident '(' (assignment (',' assignment)*)? ')'  (C99 6.5.1,
+  -- 6.5.2)
   IsExpr (Identifier name) = Unit {0}
   IsExpr (Number value at) = Unit {0}
   IsExpr (Text pieces) = IsText pieces
@@ -159,8 +167,10 @@ abbrev mutual
   IsExpr (Unary op at e) = IsExpr e × (looseness e ≤ 3)
   -- cast : unary | '(' specifiers pointer? ')' cast  (C99 6.5.4)
   IsExpr (Cast o specifiers pointer c e) = IsSpecifiers specifiers × IsExpr e × (looseness e ≤ 3)
-  -- each level of binary, and expression : assignment (',' assignment)*, group from the left  (C99 6.5.5 to 6.5.14, 6.5.17)
-  IsExpr (Binary op l at r) = IsExpr l × (looseness l ≤ binary_level op + 3) × IsExpr r × (looseness r < binary_level op + 3)
+  -- each level of binary, and expression : assignment (',' assignment)*, group from the left  (C99 6.5.5 to 6.5.14,
+  -- 6.5.17)
+  IsExpr (Binary op l at r) = IsExpr l × (looseness l ≤ binary_level op + 3) × IsExpr r
+      × (looseness r < binary_level op + 3)
   -- conditional : binary ('?' expression ':' conditional)?  (C99 6.5.15)
   IsExpr (Conditional c q f k s) = IsExpr c × (looseness c ≤ 13) × IsExpr f × IsExpr s × (looseness s ≤ 14)
   -- assignment : conditional | unary assign-op assignment  (C99 6.5.16)

@@ -4,12 +4,14 @@ use Rattle.std.specs.List.{AllByRecursion}
 use Rattle.c_lexer.specs.declared.token.Token.{Token}
 use Rattle.c_grammar.specs.ExpressionTokens.{specifiers_tokens, IsSpecifiers}
 use Rattle.c_grammar.specs.Declarations.{PartTree, Function}
-use Rattle.c_grammar.specs.DeclarationTokens.{declarator_tokens, declaration_tokens, part_height, declaration_height, IsPart, IsDeclaration, greatest}
+use Rattle.c_grammar.specs.DeclarationTokens.{declarator_tokens, declaration_tokens, part_height, declaration_height}
+use Rattle.c_grammar.specs.DeclarationTokens.{IsPart, IsDeclaration, greatest}
 use Rattle.c_grammar.specs.Statements.{Stmt, Block, ExternalTree, FunctionTree, DeclaredTree}
 use Rattle.c_grammar.specs.StatementTokens.{stmt_tokens, stmt_height, IsStmt}
 
 abbrev pub external_tokens : ExternalTree → List Token
-external_tokens (FunctionTree specifiers declarator body) = specifiers_tokens specifiers ++ (declarator_tokens declarator ++ stmt_tokens body)
+external_tokens (FunctionTree specifiers declarator body) =
+    specifiers_tokens specifiers ++ (declarator_tokens declarator ++ stmt_tokens body)
 external_tokens (DeclaredTree d) = declaration_tokens d
 
 abbrev pub unit_tokens : List ExternalTree → List Token

@@ -1,5 +1,6 @@
 -- Reading an expression from the front of a list of tokens, where its height may be at most so much.
-use Rattle.std.specs.Prelude.{ℕ, zero, suc, ◌&&◌, List, [], ◌∷◌, ◌++◌, Option, Some, None, nat_lt, nat_le, if◌then◌else◌}
+use Rattle.std.specs.Prelude.{ℕ, zero, suc, ◌&&◌, List, [], ◌∷◌, ◌++◌, Option, Some, None, nat_lt, nat_le}
+use Rattle.std.specs.Prelude.{if◌then◌else◌}
 use Rattle.pcc_base.specs.declared.span.Span.{Span}
 use Rattle.c_lexer.specs.declared.token.Token.{Token}
 use Rattle.c_lexer.specs.declared.token.TokenKind.{TokenKind}
@@ -12,10 +13,12 @@ use Rattle.c_syntax.specs.declared.operator.AssignOp.{AssignOp}
 use Rattle.c_syntax.specs.declared.expression.Identifier.{Identifier as Ident}
 use Rattle.c_syntax.specs.declared.expression.Specifier.{Specifier}
 use Rattle.c_syntax.specs.declared.expression.TextPiece.{TextPiece}
-use Rattle.c_grammar.specs.Expressions.{Star, Expr, exprs_of, Identifier, Number, Text, Parenthesised, Call, Index, Postfix, Prefix, Unary, Cast, Binary, Conditional, Assignment}
+use Rattle.c_grammar.specs.Expressions.{Star, Expr, exprs_of, Identifier, Number, Text, Parenthesised, Call, Index}
+use Rattle.c_grammar.specs.Expressions.{Postfix, Prefix, Unary, Cast, Binary, Conditional, Assignment}
 use Rattle.c_grammar.specs.ExpressionTokens.{expr_height, looseness}
 use Rattle.c_grammar.specs.Chains.{Step, Done, Fails, Goes, Reads, then_read, then_step, chained}
-use Rattle.c_grammar.specs.Taking.{is_mark, take_mark, take_unary, take_step, take_assign, take_binary, take_texts, take_specifiers, take_pointer}
+use Rattle.c_grammar.specs.Taking.{is_mark, take_mark, take_unary, take_step, take_assign, take_binary, take_texts}
+use Rattle.c_grammar.specs.Taking.{take_specifiers, take_pointer}
 
 abbrev pub Reader : Type 0
 Reader = List Token → Reads Expr
@@ -54,20 +57,24 @@ read_arguments below ts = arguments_from below (take_mark marks.RightParen ts) t
 abbrev pub call_from : Readers → Ident → Reads Span → List Token → Reads Expr
 call_from below f None ts = Some (Identifier f, ts)
 call_from below f (Some (o, us)) ts =
-    then_read (read_arguments below us) (λ values vs. then_read (take_mark marks.RightParen vs) (λ c ws. Some (Call f o (exprs_of values.0) values.1 c, ws)))
+    then_read (read_arguments below us) (λ values vs.
+        then_read (take_mark marks.RightParen vs) (λ c ws. Some (Call f o (exprs_of values.0) values.1 c, ws)))
 
 abbrev pub parenthesised_from : Readers → Span → List Token → Reads Expr
 parenthesised_from below o ts =
-    then_read (below.expression ts) (λ e us. then_read (take_mark marks.RightParen us) (λ c vs. Some (Parenthesised o e c, vs)))
+    then_read (below.expression ts) (λ e us. then_read (take_mark marks.RightParen us)
+        (λ c vs. Some (Parenthesised o e c, vs)))
 
 abbrev pub text_from : TextPiece → List TextPiece × List Token → Reads Expr
 text_from first others = Some (Text (first ∷ others.0), others.1)
 
 abbrev pub primary_at : Readers → TokenKind → Span → List Token → Reads Expr
-primary_at below (kinds.Ident name) at ts = call_from below (record { name = name; at = at }) (take_mark marks.LeftParen ts) ts
+primary_at below (kinds.Ident name) at ts =
+    call_from below (record { name = name; at = at }) (take_mark marks.LeftParen ts) ts
 primary_at below (kinds.Number value) at ts = Some (Number value at, ts)
 primary_at below (kinds.Text bytes) at ts = text_from (record { bytes = bytes; at = at }) (take_texts ts)
-primary_at below (kinds.Mark m) at ts = if is_mark marks.LeftParen (kinds.Mark m) then parenthesised_from below at ts else None
+primary_at below (kinds.Mark m) at ts = if is_mark marks.LeftParen (kinds.Mark m) then parenthesised_from below at ts
+    else None
 primary_at below (kinds.Word w) at ts = None
 
 abbrev pub read_primary : Readers → List Token → Reads Expr
@@ -78,11 +85,13 @@ read_primary below (t ∷ ts) = primary_at below t.kind t.at ts
 
 abbrev pub index_from : ℕ → Readers → Expr → Span → List Token → Step Expr
 index_from height below base o ts =
-    if nat_lt (expr_height base) height then then_step (below.expression ts) (λ e us. then_step (take_mark marks.RightBracket us) (λ c vs. Goes (Index base o e c) vs)) else Fails
+    if nat_lt (expr_height base) height then then_step (below.expression ts)
+        (λ e us. then_step (take_mark marks.RightBracket us) (λ c vs. Goes (Index base o e c) vs)) else Fails
 
 abbrev pub postfix_from : ℕ → Expr → Reads (StepOp × Span) → Step Expr
 postfix_from height base None = Done
-postfix_from height base (Some (op, ts)) = if nat_lt (expr_height base) height then Goes (Postfix base op.0 op.1) ts else Fails
+postfix_from height base (Some (op, ts)) =
+    if nat_lt (expr_height base) height then Goes (Postfix base op.0 op.1) ts else Fails
 
 abbrev pub suffix_from : ℕ → Readers → Expr → Reads Span → List Token → Step Expr
 suffix_from height below base (Some (o, us)) ts = index_from height below base o us
@@ -109,7 +118,8 @@ read_unary height below ts = prefix_from height below (take_step ts) ts
 
 abbrev pub cast_behind : Readers → Span → List Specifier → Option Star × List Token → Reads Expr
 cast_behind below o specifiers pointer =
-    then_read (take_mark marks.RightParen pointer.1) (λ c vs. then_read (below.cast vs) (λ e ws. Some (Cast o specifiers pointer.0 c e, ws)))
+    then_read (take_mark marks.RightParen pointer.1)
+        (λ c vs. then_read (below.cast vs) (λ e ws. Some (Cast o specifiers pointer.0 c e, ws)))
 
 abbrev pub cast_with : ℕ → Readers → Span → List Specifier → List Token → List Token → Reads Expr
 cast_with height below o [] us ts = read_unary height below ts
@@ -146,16 +156,20 @@ read_binary height below (suc k) ts = read_infix (suc k) height (read_binary hei
 abbrev pub conditional_from : ℕ → Readers → Expr → Reads Span → List Token → Reads Expr
 conditional_from height below c None ts = Some (c, ts)
 conditional_from height below c (Some (q, us)) ts =
-    if nat_lt (expr_height c) height then then_read (below.expression us) (λ f vs. then_read (take_mark marks.Colon vs) (λ k ws. then_read (below.conditional ws) (λ s xs. Some (Conditional c q f k s, xs)))) else None
+    if nat_lt (expr_height c) height then then_read (below.expression us)
+        (λ f vs. then_read (take_mark marks.Colon vs)
+        (λ k ws. then_read (below.conditional ws) (λ s xs. Some (Conditional c q f k s, xs)))) else None
 
 abbrev pub read_conditional : ℕ → Readers → List Token → Reads Expr
 read_conditional height below ts =
-    then_read (read_binary height below 10 ts) (λ c us. conditional_from height below c (take_mark marks.Question us) us)
+    then_read (read_binary height below 10 ts)
+        (λ c us. conditional_from height below c (take_mark marks.Question us) us)
 
 abbrev pub assignment_from : ℕ → Readers → Expr → Reads (AssignOp × Span) → List Token → Reads Expr
 assignment_from height below l None ts = Some (l, ts)
 assignment_from height below l (Some (op, us)) ts =
-    if nat_le (looseness l) 2 && nat_lt (expr_height l) height then then_read (below.assignment us) (λ r vs. Some (Assignment op.0 l op.1 r, vs)) else None
+    if nat_le (looseness l) 2 && nat_lt (expr_height l) height then then_read (below.assignment us)
+        (λ r vs. Some (Assignment op.0 l op.1 r, vs)) else None
 
 abbrev pub read_assignment : ℕ → Readers → List Token → Reads Expr
 read_assignment height below ts =
@@ -173,7 +187,8 @@ abbrev no_binary : ℕ → Reader
 no_binary k ts = None
 
 abbrev pub no_readers : Readers
-no_readers = record { expression = no_reader; assignment = no_reader; conditional = no_reader; binary = no_binary; cast = no_reader; unary = no_reader }
+no_readers = record { expression = no_reader; assignment = no_reader; conditional = no_reader; binary = no_binary;
+    cast = no_reader; unary = no_reader }
 
 -- the readers for a height, by those for one less
 abbrev pub readers_over : ℕ → Readers → Readers

@@ -7,7 +7,9 @@ use Rattle.c_lexer.specs.declared.token.Punct.TheVariants as marks
 use Rattle.c_syntax.specs.declared.expression.Specifier.{Specifier}
 use Rattle.c_grammar.specs.Expressions.{Expr}
 use Rattle.c_grammar.specs.Declarations.{PartTree, Function, DeclaratorTree, DeclarationTree}
-use Rattle.c_grammar.specs.Statements.{LabelTree, Case, Default, Stmt, Declared, Labelled, Block, Simple, If, IfElse, Switch, While, Do, For, ForDeclaration, Break, Continue, Return, stmts_of, ExternalTree, FunctionTree, DeclaredTree}
+use Rattle.c_grammar.specs.Statements.{LabelTree, Case, Default, Stmt, Declared, Labelled, Block, Simple, If, IfElse}
+use Rattle.c_grammar.specs.Statements.{Switch, While, Do, For, ForDeclaration, Break, Continue, Return, stmts_of}
+use Rattle.c_grammar.specs.Statements.{ExternalTree, FunctionTree, DeclaredTree}
 use Rattle.c_grammar.specs.Chains.{Step, Done, Goes, Reads, then_read, then_step, chained}
 use Rattle.c_grammar.specs.Taking.{take_mark, take_word, take_specifiers}
 use Rattle.c_grammar.specs.Reading.{Reader, Readers, readers, no_readers}
@@ -32,7 +34,9 @@ Condition = Span × Expr × Span
 -- '(' expression ')'
 abbrev pub read_condition : Below → List Token → Reads Condition
 read_condition b ts =
-    then_read (take_mark marks.LeftParen ts) (λ o us. then_read (b.exprs.expression us) (λ e vs. then_read (take_mark marks.RightParen vs) (λ c ws. Some ((o, e, c), ws))))
+    then_read (take_mark marks.LeftParen ts) (λ o us.
+        then_read (b.exprs.expression us) (λ e vs.
+        then_read (take_mark marks.RightParen vs) (λ c ws. Some ((o, e, c), ws))))
 
 abbrev pub until_at : StmtReader → List Stmt → Reads Span → List Token → Step (List Stmt)
 until_at read so_far (Some close) ts = Done
@@ -63,7 +67,8 @@ read_labels read ts = chained (label_step read) [] ts
 
 -- label* statement
 abbrev pub read_labelled : Reader → StmtReader → List Token → Reads Stmt
-read_labelled read statement ts = then_read (read_labels read ts) (λ ls us. then_read (statement us) (λ s vs. Some (Labelled ls s, vs)))
+read_labelled read statement ts = then_read (read_labels read ts)
+    (λ ls us. then_read (statement us) (λ s vs. Some (Labelled ls s, vs)))
 
 abbrev pub item_with : (List Token → Reads DeclarationTree) → StmtReader → List Specifier → List Token → Reads Stmt
 item_with declaration statement [] ts = statement ts
@@ -76,21 +81,28 @@ read_block_item declaration statement ts = item_with declaration statement (take
 -- ---- statements, behind their first word
 
 abbrev pub block_behind : Below → Span → List Token → Reads Stmt
-block_behind b o ts = then_read (read_until b.item ts) (λ ss us. then_read (take_mark marks.RightBrace us) (λ c vs. Some (Block o (stmts_of ss) c, vs)))
+block_behind b o ts = then_read (read_until b.item ts)
+    (λ ss us. then_read (take_mark marks.RightBrace us) (λ c vs. Some (Block o (stmts_of ss) c, vs)))
 
 abbrev pub else_from : Below → Span → Condition → Stmt → Reads Span → List Token → Reads Stmt
 else_from b at k s None ts = Some (If at k.0 k.1 k.2 s, ts)
-else_from b at k s (Some (otherwise, us)) ts = then_read (b.statement us) (λ t vs. Some (IfElse at k.0 k.1 k.2 s otherwise t, vs))
+else_from b at k s (Some (otherwise, us)) ts =
+    then_read (b.statement us) (λ t vs. Some (IfElse at k.0 k.1 k.2 s otherwise t, vs))
 
 abbrev pub if_behind : Below → Span → List Token → Reads Stmt
-if_behind b at ts = then_read (read_condition b ts) (λ k us. then_read (b.statement us) (λ s vs. else_from b at k s (take_word words.Else vs) vs))
+if_behind b at ts = then_read (read_condition b ts)
+    (λ k us. then_read (b.statement us) (λ s vs. else_from b at k s (take_word words.Else vs) vs))
 
 abbrev pub while_behind : Below → Span → List Token → Reads Stmt
-while_behind b at ts = then_read (read_condition b ts) (λ k us. then_read (b.statement us) (λ s vs. Some (While at k.0 k.1 k.2 s, vs)))
+while_behind b at ts = then_read (read_condition b ts)
+    (λ k us. then_read (b.statement us) (λ s vs. Some (While at k.0 k.1 k.2 s, vs)))
 
 abbrev pub do_behind : Below → Span → List Token → Reads Stmt
 do_behind b at ts =
-    then_read (b.statement ts) (λ s us. then_read (take_word words.While us) (λ until vs. then_read (read_condition b vs) (λ k ws. then_read (take_mark marks.Semicolon ws) (λ semicolon xs. Some (Do at s until k.0 k.1 k.2 semicolon, xs)))))
+    then_read (b.statement ts) (λ s us. then_read (take_word words.While us)
+        (λ until vs. then_read (read_condition b vs)
+        (λ k ws. then_read (take_mark marks.Semicolon ws)
+        (λ semicolon xs. Some (Do at s until k.0 k.1 k.2 semicolon, xs)))))
 
 abbrev pub ForRest : Type 0
 ForRest = Option Expr × Span × Option Expr × Span × Stmt
@@ -98,19 +110,29 @@ ForRest = Option Expr × Span × Option Expr × Span × Stmt
 -- expression? ';' expression? ')' statement
 abbrev pub read_for_rest : Below → List Token → Reads ForRest
 read_for_rest b ts =
-    then_read (maybe_before b.exprs.expression marks.Semicolon ts) (λ k us. then_read (take_mark marks.Semicolon us) (λ second vs. then_read (maybe_before b.exprs.expression marks.RightParen vs) (λ step ws. then_read (take_mark marks.RightParen ws) (λ c xs. then_read (b.statement xs) (λ s ys. Some ((k, second, step, c, s), ys))))))
+    then_read (maybe_before b.exprs.expression marks.Semicolon ts)
+        (λ k us. then_read (take_mark marks.Semicolon us)
+        (λ second vs. then_read (maybe_before b.exprs.expression marks.RightParen vs)
+        (λ step ws. then_read (take_mark marks.RightParen ws)
+        (λ c xs. then_read (b.statement xs) (λ s ys. Some ((k, second, step, c, s), ys))))))
 
 abbrev pub for_with : Below → Span → Span → List Specifier → List Token → Reads Stmt
 for_with b at o [] ts =
-    then_read (maybe_before b.exprs.expression marks.Semicolon ts) (λ start us. then_read (take_mark marks.Semicolon us) (λ first vs. then_read (read_for_rest b vs) (λ r ws. Some (For at o start first r.0 r.1 r.2 r.3 r.4, ws))))
-for_with b at o (s ∷ ss) ts = then_read (b.declaration ts) (λ d us. then_read (read_for_rest b us) (λ r vs. Some (ForDeclaration at o d r.0 r.1 r.2 r.3 r.4, vs)))
+    then_read (maybe_before b.exprs.expression marks.Semicolon ts)
+        (λ start us. then_read (take_mark marks.Semicolon us)
+        (λ first vs. then_read (read_for_rest b vs) (λ r ws. Some (For at o start first r.0 r.1 r.2 r.3 r.4, ws))))
+for_with b at o (s ∷ ss) ts = then_read (b.declaration ts)
+    (λ d us. then_read (read_for_rest b us) (λ r vs. Some (ForDeclaration at o d r.0 r.1 r.2 r.3 r.4, vs)))
 
 abbrev pub for_behind : Below → Span → List Token → Reads Stmt
 for_behind b at ts = then_read (take_mark marks.LeftParen ts) (λ o us. for_with b at o (take_specifiers us).0 us)
 
 abbrev pub switch_behind : Below → Span → List Token → Reads Stmt
 switch_behind b at ts =
-    then_read (read_condition b ts) (λ k us. then_read (take_mark marks.LeftBrace us) (λ begin vs. then_read (read_until b.labelled vs) (λ ss ws. then_read (take_mark marks.RightBrace ws) (λ end xs. Some (Switch at k.0 k.1 k.2 begin (stmts_of ss) end, xs)))))
+    then_read (read_condition b ts) (λ k us. then_read (take_mark marks.LeftBrace us)
+        (λ begin vs. then_read (read_until b.labelled vs)
+        (λ ss ws. then_read (take_mark marks.RightBrace ws)
+        (λ end xs. Some (Switch at k.0 k.1 k.2 begin (stmts_of ss) end, xs)))))
 
 abbrev pub break_behind : Span → List Token → Reads Stmt
 break_behind at ts = then_read (take_mark marks.Semicolon ts) (λ semicolon us. Some (Break at semicolon, us))
@@ -120,11 +142,13 @@ continue_behind at ts = then_read (take_mark marks.Semicolon ts) (λ semicolon u
 
 abbrev pub return_behind : Below → Span → List Token → Reads Stmt
 return_behind b at ts =
-    then_read (maybe_before b.exprs.expression marks.Semicolon ts) (λ e us. then_read (take_mark marks.Semicolon us) (λ semicolon vs. Some (Return at e semicolon, vs)))
+    then_read (maybe_before b.exprs.expression marks.Semicolon ts)
+        (λ e us. then_read (take_mark marks.Semicolon us) (λ semicolon vs. Some (Return at e semicolon, vs)))
 
 abbrev pub read_simple : Below → List Token → Reads Stmt
 read_simple b ts =
-    then_read (maybe_before b.exprs.expression marks.Semicolon ts) (λ e us. then_read (take_mark marks.Semicolon us) (λ semicolon vs. Some (Simple e semicolon, vs)))
+    then_read (maybe_before b.exprs.expression marks.Semicolon ts)
+        (λ e us. then_read (take_mark marks.Semicolon us) (λ semicolon vs. Some (Simple e semicolon, vs)))
 
 -- ---- which statement
 
@@ -176,7 +200,8 @@ abbrev no_statement : StmtReader
 no_statement ts = None
 
 abbrev pub nothing_below : Below
-nothing_below = record { exprs = no_readers; declaration = no_declaration; statement = no_statement; item = no_statement; labelled = no_statement }
+nothing_below = record { exprs = no_readers; declaration = no_declaration; statement = no_statement; item =
+    no_statement; labelled = no_statement }
 
 -- the readers for a height, by those for one less
 abbrev pub below_over : ℕ → Below → Below

@@ -8,8 +8,11 @@ use Rattle.c_lexer.specs.declared.token.Punct.TheVariants as marks
 use Rattle.c_grammar.specs.Marks.{mark, word}
 use Rattle.c_grammar.specs.Expressions.{Expr}
 use Rattle.c_grammar.specs.ExpressionTokens.{expr_tokens, expr_height, looseness, IsExpr}
-use Rattle.c_grammar.specs.DeclarationTokens.{maybe_expr_tokens, maybe_expr_height, declaration_tokens, declaration_height, IsDeclaration, greatest}
-use Rattle.c_grammar.specs.Statements.{LabelTree, Case, Default, Stmt, Declared, Labelled, Block, Simple, If, IfElse, Switch, While, Do, For, ForDeclaration, Break, Continue, Return, Stmts, NoStmt, OneStmt}
+use Rattle.c_grammar.specs.DeclarationTokens.{maybe_expr_tokens, maybe_expr_height, declaration_tokens}
+use Rattle.c_grammar.specs.DeclarationTokens.{declaration_height, IsDeclaration, greatest}
+use Rattle.c_grammar.specs.Statements.{LabelTree, Case, Default, Stmt, Declared, Labelled, Block, Simple, If, IfElse}
+use Rattle.c_grammar.specs.Statements.{Switch, While, Do, For, ForDeclaration, Break, Continue, Return, Stmts, NoStmt}
+use Rattle.c_grammar.specs.Statements.{OneStmt}
 
 -- ---- tokens
 
@@ -32,17 +35,28 @@ abbrev mutual
   stmt_tokens (Block o items c) = mark marks.LeftBrace o ∷ (stmts_tokens items ++ mark marks.RightBrace c ∷ [])
   stmt_tokens (Simple e semicolon) = maybe_expr_tokens e ++ mark marks.Semicolon semicolon ∷ []
   stmt_tokens (If at o e c s) = word words.If at ∷ in_parens o e c (stmt_tokens s)
-  stmt_tokens (IfElse at o e c s otherwise t) = word words.If at ∷ in_parens o e c (stmt_tokens s ++ word words.Else otherwise ∷ stmt_tokens t)
-  stmt_tokens (Switch at o e c begin items end) = word words.Switch at ∷ in_parens o e c (mark marks.LeftBrace begin ∷ (stmts_tokens items ++ mark marks.RightBrace end ∷ []))
+  stmt_tokens (IfElse at o e c s otherwise t) =
+      word words.If at ∷ in_parens o e c (stmt_tokens s ++ word words.Else otherwise ∷ stmt_tokens t)
+  stmt_tokens (Switch at o e c begin items end) =
+      word words.Switch at ∷ in_parens o e c (mark marks.LeftBrace begin
+      ∷ (stmts_tokens items ++ mark marks.RightBrace end ∷ []))
   stmt_tokens (While at o e c s) = word words.While at ∷ in_parens o e c (stmt_tokens s)
-  stmt_tokens (Do at s until o e c semicolon) = word words.Do at ∷ (stmt_tokens s ++ word words.While until ∷ in_parens o e c (mark marks.Semicolon semicolon ∷ []))
+  stmt_tokens (Do at s until o e c semicolon) =
+      word words.Do at ∷ (stmt_tokens s ++ word words.While until
+      ∷ in_parens o e c (mark marks.Semicolon semicolon ∷ []))
   stmt_tokens (For at o start first condition second step c s) =
-      word words.For at ∷ mark marks.LeftParen o ∷ (maybe_expr_tokens start ++ mark marks.Semicolon first ∷ (maybe_expr_tokens condition ++ mark marks.Semicolon second ∷ (maybe_expr_tokens step ++ mark marks.RightParen c ∷ stmt_tokens s)))
+      word words.For at ∷ mark marks.LeftParen o
+          ∷ (maybe_expr_tokens start ++ mark marks.Semicolon first
+          ∷ (maybe_expr_tokens condition ++ mark marks.Semicolon second
+          ∷ (maybe_expr_tokens step ++ mark marks.RightParen c ∷ stmt_tokens s)))
   stmt_tokens (ForDeclaration at o start condition second step c s) =
-      word words.For at ∷ mark marks.LeftParen o ∷ (declaration_tokens start ++ (maybe_expr_tokens condition ++ mark marks.Semicolon second ∷ (maybe_expr_tokens step ++ mark marks.RightParen c ∷ stmt_tokens s)))
+      word words.For at ∷ mark marks.LeftParen o
+          ∷ (declaration_tokens start ++ (maybe_expr_tokens condition ++ mark marks.Semicolon second
+          ∷ (maybe_expr_tokens step ++ mark marks.RightParen c ∷ stmt_tokens s)))
   stmt_tokens (Break at semicolon) = word words.Break at ∷ mark marks.Semicolon semicolon ∷ []
   stmt_tokens (Continue at semicolon) = word words.Continue at ∷ mark marks.Semicolon semicolon ∷ []
-  stmt_tokens (Return at e semicolon) = word words.Return at ∷ (maybe_expr_tokens e ++ mark marks.Semicolon semicolon ∷ [])
+  stmt_tokens (Return at e semicolon) = word words.Return at
+      ∷ (maybe_expr_tokens e ++ mark marks.Semicolon semicolon ∷ [])
 
   pub stmts_tokens : Stmts → List Token
   stmts_tokens NoStmt = []
@@ -66,9 +80,11 @@ abbrev mutual
   stmt_height (While at o e c s) = suc (max (expr_height e) (stmt_height s))
   stmt_height (Do at s until o e c semicolon) = suc (max (stmt_height s) (expr_height e))
   stmt_height (For at o start first condition second step c s) =
-      suc (max (maybe_expr_height start) (max (maybe_expr_height condition) (max (maybe_expr_height step) (stmt_height s))))
+      suc (max (maybe_expr_height start) (max (maybe_expr_height condition)
+          (max (maybe_expr_height step) (stmt_height s))))
   stmt_height (ForDeclaration at o start condition second step c s) =
-      suc (max (declaration_height start) (max (maybe_expr_height condition) (max (maybe_expr_height step) (stmt_height s))))
+      suc (max (declaration_height start) (max (maybe_expr_height condition)
+          (max (maybe_expr_height step) (stmt_height s))))
   stmt_height (Break at semicolon) = 1
   stmt_height (Continue at semicolon) = 1
   stmt_height (Return at e semicolon) = suc (maybe_expr_height e)
@@ -127,7 +143,8 @@ abbrev mutual
   IsStmt (Simple e semicolon) = IsMaybeExpr e
   -- 'if' '(' expression ')' statement ('else' statement)?, the `else` at the nearest `if` that has none  (C99 6.8.4.1)
   IsStmt (If at o e c s) = IsExpr e × IsStmt s × IsPlain s
-  IsStmt (IfElse at o e c s otherwise t) = IsExpr e × IsStmt s × IsPlain s × (ends_open s ≡ false) × IsStmt t × IsPlain t
+  IsStmt (IfElse at o e c s otherwise t) = IsExpr e × IsStmt s × IsPlain s × (ends_open s ≡ false) × IsStmt t
+      × IsPlain t
   -- 'switch' '(' expression ')' '{' (label* statement)* '}'  (C99 6.8.4.2)
   IsStmt (Switch at o e c begin items end) = IsExpr e × AreCases items
   -- 'while' '(' expression ')' statement  (C99 6.8.5.1)
@@ -135,9 +152,11 @@ abbrev mutual
   -- 'do' statement 'while' '(' expression ')' ';'  (C99 6.8.5.2)
   IsStmt (Do at s until o e c semicolon) = IsStmt s × IsPlain s × IsExpr e
   -- 'for' '(' expression? ';' expression? ';' expression? ')' statement  (C99 6.8.5.3)
-  IsStmt (For at o start first condition second step c s) = IsMaybeExpr start × IsMaybeExpr condition × IsMaybeExpr step × IsStmt s × IsPlain s
+  IsStmt (For at o start first condition second step c s) = IsMaybeExpr start × IsMaybeExpr condition × IsMaybeExpr step
+      × IsStmt s × IsPlain s
   -- 'for' '(' declaration expression? ';' expression? ')' statement
-  IsStmt (ForDeclaration at o start condition second step c s) = IsDeclaration start × IsMaybeExpr condition × IsMaybeExpr step × IsStmt s × IsPlain s
+  IsStmt (ForDeclaration at o start condition second step c s) = IsDeclaration start × IsMaybeExpr condition
+      × IsMaybeExpr step × IsStmt s × IsPlain s
   -- 'break' ';' | 'continue' ';' | 'return' expression? ';'  (C99 6.8.6)
   IsStmt (Break at semicolon) = Unit {0}
   IsStmt (Continue at semicolon) = Unit {0}

@@ -30,13 +30,16 @@ mutual
     Simple : (value : Option Expr) (semicolon : Span) → Stmt
     -- C99 6.8.4
     If : (at opening : Span) (condition : Expr) (close : Span) (then : Stmt) → Stmt
-    IfElse : (at opening : Span) (condition : Expr) (close : Span) (then : Stmt) (otherwise : Span) (other : Stmt) → Stmt
+    IfElse : (at opening : Span) (condition : Expr) (close : Span) (then : Stmt) (otherwise : Span) (other : Stmt)
+        → Stmt
     Switch : (at opening : Span) (value : Expr) (close begin : Span) (items : Stmts) (end : Span) → Stmt
     -- C99 6.8.5
     While : (at opening : Span) (condition : Expr) (close : Span) (body : Stmt) → Stmt
     Do : (at : Span) (body : Stmt) (until opening : Span) (condition : Expr) (close semicolon : Span) → Stmt
-    For : (at opening : Span) (start : Option Expr) (first : Span) (condition : Option Expr) (second : Span) (step : Option Expr) (close : Span) (body : Stmt) → Stmt
-    ForDeclaration : (at opening : Span) (start : DeclarationTree) (condition : Option Expr) (second : Span) (step : Option Expr) (close : Span) (body : Stmt) → Stmt
+    For : (at opening : Span) (start : Option Expr) (first : Span) (condition : Option Expr) (second : Span)
+        (step : Option Expr) (close : Span) (body : Stmt) → Stmt
+    ForDeclaration : (at opening : Span) (start : DeclarationTree) (condition : Option Expr) (second : Span)
+        (step : Option Expr) (close : Span) (body : Stmt) → Stmt
     -- C99 6.8.6
     Break : (at semicolon : Span) → Stmt
     Continue : (at semicolon : Span) → Stmt
@@ -65,8 +68,10 @@ stmt_step (layers.If at o e c s) = If at o (expr_of e) c s.value
 stmt_step (layers.IfElse at o e c s otherwise t) = IfElse at o (expr_of e) c s.value otherwise t.value
 stmt_step (layers.While at o e c s) = While at o (expr_of e) c s.value
 stmt_step (layers.Do at s until o e c semicolon) = Do at s.value until o (expr_of e) c semicolon
-stmt_step (layers.For at o start first condition second step c s) = For at o (maybe_expr_of start) first (maybe_expr_of condition) second (maybe_expr_of step) c s.value
-stmt_step (layers.ForDeclaration at o start condition second step c s) = ForDeclaration at o (declaration_of start) (maybe_expr_of condition) second (maybe_expr_of step) c s.value
+stmt_step (layers.For at o start first condition second step c s) =
+    For at o (maybe_expr_of start) first (maybe_expr_of condition) second (maybe_expr_of step) c s.value
+stmt_step (layers.ForDeclaration at o start condition second step c s) =
+    ForDeclaration at o (declaration_of start) (maybe_expr_of condition) second (maybe_expr_of step) c s.value
 stmt_step (layers.Switch at o e c begin items end) = Switch at o (expr_of e) c begin (stmts_of items.items) end
 stmt_step (layers.Break at semicolon) = Break at semicolon
 stmt_step (layers.Continue at semicolon) = Continue at semicolon
@@ -82,7 +87,8 @@ pub data ExternalTree : Type 0 where
   DeclaredTree : (declaration : DeclarationTree) → ExternalTree
 
 abbrev pub external_of : External → ExternalTree
-external_of (externals.Function specifiers declarator body) = FunctionTree specifiers.items (declarator_of declarator) (stmt_of body)
+external_of (externals.Function specifiers declarator body) =
+    FunctionTree specifiers.items (declarator_of declarator) (stmt_of body)
 external_of (externals.Declaration d) = DeclaredTree (declaration_of d)
 
 -- unit : external*

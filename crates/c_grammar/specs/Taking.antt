@@ -159,7 +159,8 @@ abbrev pub take_texts : List Token → List TextPiece × List Token
 take_texts [] = ([], [])
 take_texts (t ∷ ts) = texts_from t.kind t ts (take_texts ts)
 
-abbrev pub specifiers_from : Option SpecifierWord → Token → List Token → List Specifier × List Token → List Specifier × List Token
+abbrev pub specifiers_from : Option SpecifierWord → Token → List Token → List Specifier × List Token → List Specifier
+    × List Token
 specifiers_from (Some w) t ts r = with_front (record { word = w; at = t.at }) r
 specifiers_from None t ts r = ([], t ∷ ts)
 

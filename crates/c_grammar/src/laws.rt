@@ -7,5 +7,6 @@ ghost use Rattle.c_grammar.specs.Grammar.{Tree};
 
 /// A list of tokens has one raw tree at most, of one height.
 pub fn one_raw_tree()
-    ensures { (tokens : List Token) (g h : ℕ) (t u : List ExternalTree) → Tree tokens g t → Tree tokens h u → (g ≡ h) × (t ≡ u) }
+    ensures { (tokens : List Token) (g h : ℕ) (t u : List ExternalTree) → Tree tokens g t → Tree tokens h u → (g ≡ h)
+        × (t ≡ u) }
 {}

@@ -61,7 +61,8 @@ no_item names n Other ss rest v h = refl
 return_ends : (names : List (List ℕ)) (n : ℕ) (rule : Rule) (ss : Stmts) (rest : List (List ℕ) → Option Body)
     (value : Expr) → returned_value rule ≡ Some value
     → read_rule names n rule ss rest ≡ ends names ss (returned n (read_short names value))
-return_ends names n (Returns e) ss rest value v = let same : e ≡ value = cc in ap (λ (x : Expr). ends names ss (returned n (read_short names x))) same
+return_ends names n (Returns e) ss rest value v = let same : e ≡ value = cc in
+    ap (λ (x : Expr). ends names ss (returned n (read_short names x))) same
 return_ends names n (Declares name e) ss rest value v = absurd (cc)
 return_ends names n (Assigns name e) ss rest value v = absurd (cc)
 return_ends names n (Puts e) ss rest value v = absurd (cc)
@@ -72,7 +73,8 @@ ends_none names NoStmt = refl
 ends_none names (OneStmt s ss) = refl
 
 -- What is known at a statement of the loop.
-pub record At (xs : List Raw) (i : ℕ) (x : Raw) (ts : List Built) (n : ℕ) (names : List (List ℕ)) (all : Option Body) : Type 0 where
+pub record At (xs : List Raw) (i : ℕ) (x : Raw) (ts : List Built) (n : ℕ) (names : List (List ℕ))
+    (all : Option Body) : Type 0 where
   pub inside : i < length xs
   pub here : x ≡ get_or xs i x
   pub counted : n ≡ i
@@ -160,7 +162,8 @@ pub return_last : {xs : List Raw} {i : ℕ} {x : Raw} {ts : List Built} {n : ℕ
     → some_body names (statements_of new) ≡ all
 return_last {xs} {i} {x} {ts} {n} {names} {all} a rule value t new same v h le pushed =
     let made : Statements → Option Body = λ (s : Statements). some_body names s in
-    let none : stmts_of (map stmt_of (drop (i + 1) xs)) ≡ NoStmt = ap (λ (ys : List Raw). stmts_of (map stmt_of ys)) (drop_all (i + 1) xs le) in
+    let none : stmts_of (map stmt_of (drop (i + 1) xs)) ≡ NoStmt =
+        ap (λ (ys : List Raw). stmts_of (map stmt_of ys)) (drop_all (i + 1) xs le) in
     ap (λ (us : List Built). made (statements_of us)) pushed
     ∙ ap made (sym (appended_statements (ts ++ t ∷ []))
     ∙ ap (λ (us : List Statement). appended us Done) (map-push statement_of ts t)

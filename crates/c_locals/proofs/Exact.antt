@@ -115,7 +115,9 @@ item_begins : (names : List (List ℕ)) (n : ℕ) (rule : Rule) (ss : Stmts) (re
     → Behind n ss rest → goes_on (read_item names n rule) rest ≡ Some b → Begins names n rule ss b.names b.statements
 item_begins names n rule ss rest b behind h =
     let t = goes_on_reads (read_item names n rule) rest b h in
-    let others : IsBody t.0.names (suc n) ss b.names t.1.statements = subst (λ (all : List (List ℕ)). IsBody t.0.names (suc n) ss all t.1.statements) (sym t.4) (behind t.0.names t.1 t.3) in
+    let others : IsBody t.0.names (suc n) ss b.names t.1.statements =
+        subst (λ (all : List (List ℕ)). IsBody t.0.names (suc n) ss all t.1.statements) (sym t.4)
+        (behind t.0.names t.1 t.3) in
     inr (t.0.names, t.0.statement, t.1.statements, item_reads names n rule t.0 t.2, others, t.5)
 
 rule_begins : (names : List (List ℕ)) (n : ℕ) (rule : Rule) (ss : Stmts) (rest : List (List ℕ) → Option Body) (b : Body)
@@ -214,7 +216,8 @@ goes_read names n (Returns value) ss rest i h = absurd (cc)
 goes_read names n Other ss rest i h = absurd (cc)
 
 last_read : (names : List (List ℕ)) (n : ℕ) (rule : Rule) (ss : Stmts) (rest : List (List ℕ) → Option Body)
-    (t : Statement) → ss ≡ NoStmt → IsLast names n rule t → read_rule names n rule ss rest ≡ some_body names (Next t Done)
+    (t : Statement) → ss ≡ NoStmt → IsLast names n rule t → read_rule names n rule ss rest
+        ≡ some_body names (Next t Done)
 last_read names n (Returns value) ss rest t e h =
     ap (λ (q : Stmts). ends names q (returned n (read_short names value))) e
     ∙ ap (λ (o : Option Expression). ends names NoStmt (returned n o)) (short_read names value h.0 h.1)

@@ -108,4 +108,5 @@ pub small_frames : (unit : List ExternalTree) (p : Program) → IsLocalsProgram 
 small_frames unit p h =
     let few : length h.1 ≤ 1000 = body_names h.0 [] 0 h.1 h.2 h.5 (omega arith) in
     let low : statements_height h.2 ≤ 4 = body_height h.0 [] 0 h.1 h.2 h.5 in
-    subst (λ (q : Program). AllByRecursion (λ (f : Function). frame_bound f ≤ 16384) q.functions) (sym h.6) (omega (arith, length-locals h.1), tt)
+    subst (λ (q : Program). AllByRecursion (λ (f : Function). frame_bound f ≤ 16384) q.functions) (sym h.6)
+        (omega (arith, length-locals h.1), tt)

@@ -54,14 +54,18 @@ value_length name Plain (Some v) = by_value v.value refl
   where
     by_value : (i : InitialiserTree) → v.value ≡ i
         → rule_length (value_rule name v.value) ≤ length (value_tokens (Some v))
-    by_value (Single e) same_value = subst (λ (i : InitialiserTree). rule_length (value_rule name i) ≤ length (value_tokens (Some (record { equal = v.equal; value = i })))) (sym same_value) (omega arith)
-    by_value (Braces o values commas trailing c) same_value = subst (λ (i : InitialiserTree). rule_length (value_rule name i) ≤ length (value_tokens (Some (record { equal = v.equal; value = i })))) (sym same_value) (omega arith)
+    by_value (Single e) same_value = subst (λ (i : InitialiserTree). rule_length (value_rule name i)
+        ≤ length (value_tokens (Some (record { equal = v.equal; value = i })))) (sym same_value) (omega arith)
+    by_value (Braces o values commas trailing c) same_value =
+        subst (λ (i : InitialiserTree). rule_length (value_rule name i)
+        ≤ length (value_tokens (Some (record { equal = v.equal; value = i })))) (sym same_value) (omega arith)
 value_length name (Array a) value = omega arith
 value_length name (Function p) value = omega arith
 
 item_length : (i : ItemTree) → rule_length (item_rule (Some i)) ≤ length (item_tokens i)
 item_length i =
-    let v : rule_length (part_rule i.declarator.name.name i.declarator.part i.initialiser) ≤ length (value_tokens i.initialiser) = value_length i.declarator.name.name i.declarator.part i.initialiser in
+    let v : rule_length (part_rule i.declarator.name.name i.declarator.part i.initialiser)
+        ≤ length (value_tokens i.initialiser) = value_length i.declarator.name.name i.declarator.part i.initialiser in
     where_false (is_some i.declarator.pointer) (part_rule i.declarator.name.name i.declarator.part i.initialiser)
     (length (item_tokens i)) (omega (
       arith,

@@ -22,7 +22,8 @@ local_within : (names : List (List ℕ)) (name : List ℕ) (v : ℕ) → local_n
 local_within names name v e = (position-Some (λ (n : List ℕ). same name n) names v [] e).0
 
 slot_atom : (names : List (List ℕ)) (e : Expr) (x : Expression) → IsAtom names e x → slots.IsSum (length names) x
-slot_atom names (trees.Identifier name) x h = subst (λ (y : Expression). slots.IsSum (length names) y) (sym h.2) (local_within names name.name h.0 h.1, refl)
+slot_atom names (trees.Identifier name) x h =
+    subst (λ (y : Expression). slots.IsSum (length names) y) (sym h.2) (local_within names name.name h.0 h.1, refl)
 slot_atom names (trees.Number value at) x h = subst (λ (y : Expression). slots.IsSum (length names) y) (sym h) tt
 slot_atom names e x h = absurd h
 
@@ -38,7 +39,9 @@ slot_binary d o a b (inr e) f g = subst (λ (p : BinaryOp). slots.IsSum d (Binar
 
 slot_sum : (names : List (List ℕ)) (e : Expr) (x : Expression) → IsSum names e x → slots.IsSum (length names) x
 slot_sum names (trees.Binary op l at r) x h =
-    subst (λ (y : Expression). slots.IsSum (length names) y) (sym h.6) (slot_binary (length names) h.0 h.1 h.2 (two_signs op h.0 h.3) (slot_sum names l h.1 h.4) (slot_atom names r h.2 h.5))
+    subst (λ (y : Expression). slots.IsSum (length names) y) (sym h.6)
+        (slot_binary (length names) h.0 h.1 h.2 (two_signs op h.0 h.3) (slot_sum names l h.1 h.4)
+        (slot_atom names r h.2 h.5))
 slot_sum names e x h = slot_atom names e x h
 
 item_grows : (names : List (List ℕ)) (n : ℕ) (rule : Rule) (after : List (List ℕ)) (t : Statement)
@@ -64,20 +67,28 @@ slot_item : (names : List (List ℕ)) (n : ℕ) (rule : Rule) (after : List (Lis
     → slots.IsBody all (length after) (suc n) others → slots.IsBody all (length names) n (Next t others)
 slot_item names n (Declares name value) after t all others h le rest =
     let grown : length after ≡ suc (length names) = omega (arith, ap length h.3, length-append names (name ∷ [])) in
-    let behind : slots.IsBody all (suc (length names)) (suc n) others = subst (λ (m : ℕ). slots.IsBody all m (suc n) others) grown rest in
-    subst (λ (u : Statement). slots.IsBody all (length names) n (Next u others)) (sym h.4) (refl, refl, omega arith, slot_sum names value h.0 h.2.1, behind)
+    let behind : slots.IsBody all (suc (length names)) (suc n) others =
+        subst (λ (m : ℕ). slots.IsBody all m (suc n) others) grown rest in
+    subst (λ (u : Statement). slots.IsBody all (length names) n (Next u others)) (sym h.4)
+        (refl, refl, omega arith, slot_sum names value h.0 h.2.1, behind)
 slot_item names n (Assigns name value) after t all others h le rest =
-    let behind : slots.IsBody all (length names) (suc n) others = subst (λ (m : List (List ℕ)). slots.IsBody all (length m) (suc n) others) h.4 rest in
-    subst (λ (u : Statement). slots.IsBody all (length names) n (Next u others)) (sym h.5) (refl, local_within names name h.0 h.2, slot_sum names value h.1 h.3.1, behind)
+    let behind : slots.IsBody all (length names) (suc n) others =
+        subst (λ (m : List (List ℕ)). slots.IsBody all (length m) (suc n) others) h.4 rest in
+    subst (λ (u : Statement). slots.IsBody all (length names) n (Next u others)) (sym h.5)
+        (refl, local_within names name h.0 h.2, slot_sum names value h.1 h.3.1, behind)
 slot_item names n (Puts value) after t all others h le rest =
-    let behind : slots.IsBody all (length names) (suc n) others = subst (λ (m : List (List ℕ)). slots.IsBody all (length m) (suc n) others) h.2 rest in
-    subst (λ (u : Statement). slots.IsBody all (length names) n (Next u others)) (sym h.3) (refl, slot_sum names value h.0 h.1.1, behind)
+    let behind : slots.IsBody all (length names) (suc n) others =
+        subst (λ (m : List (List ℕ)). slots.IsBody all (length m) (suc n) others) h.2 rest in
+    subst (λ (u : Statement). slots.IsBody all (length names) n (Next u others)) (sym h.3)
+        (refl, slot_sum names value h.0 h.1.1, behind)
 slot_item names n (Returns value) after t all others h le rest = absurd h
 slot_item names n Other after t all others h le rest = absurd h
 
 slot_last : (names : List (List ℕ)) (n : ℕ) (rule : Rule) (t : Statement) → IsLast names n rule t
     → slots.IsBody (length names) (length names) n (Next t Done)
-slot_last names n (Returns value) t h = subst (λ (u : Statement). slots.IsBody (length names) (length names) n (Next u Done)) (sym h.2) (refl, refl, slot_sum names value h.0 h.1.1)
+slot_last names n (Returns value) t h = subst
+    (λ (u : Statement). slots.IsBody (length names) (length names) n (Next u Done)) (sym h.2)
+    (refl, refl, slot_sum names value h.0 h.1.1)
 slot_last names n (Declares name value) t h = absurd h
 slot_last names n (Assigns name value) t h = absurd h
 slot_last names n (Puts value) t h = absurd h
@@ -87,7 +98,9 @@ slot_body : (ss : Stmts) (names : List (List ℕ)) (n : ℕ) (all : List (List �
     → IsBody names n ss all body → slots.IsBody (length all) (length names) n body
 slot_body NoStmt names n all body h = absurd h
 slot_body (OneStmt s ss) names n all body (inl h) =
-    let alone : slots.IsBody (length all) (length names) n (Next h.0 Done) = subst (λ (m : List (List ℕ)). slots.IsBody (length m) (length names) n (Next h.0 Done)) (sym h.3) (slot_last names n (rule_of s) h.0 h.2) in
+    let alone : slots.IsBody (length all) (length names) n (Next h.0 Done) =
+        subst (λ (m : List (List ℕ)). slots.IsBody (length m) (length names) n (Next h.0 Done)) (sym h.3)
+        (slot_last names n (rule_of s) h.0 h.2) in
     subst (λ (b : Statements). slots.IsBody (length all) (length names) n b) (sym h.4) alone
 slot_body (OneStmt s ss) names n all body (inr h) =
     subst (λ (b : Statements). slots.IsBody (length all) (length names) n b) (sym h.5)

@@ -76,7 +76,8 @@ pub fn locals_program(alloc: Global, unit: &RawUnit) -> Result<Option<Program>, 
     ensures none { IfOk result (λ o. IfNone o ((p : Typed) → ¬ IsLocalsProgram (unit_of unit.now) p)) }
     ensures sized { IfOk result (λ o. IfSome o
         (λ p. size_of (program_of p) ≤ length (unit_tokens (unit_of unit.now)))) }
-    ensures frames { IfOk result (λ o. IfSome o (λ p. AllByRecursion (λ f. frame_bound f ≤ 16384) (program_of p).functions)) }
+    ensures frames { IfOk result (λ o. IfSome o
+        (λ p. AllByRecursion (λ f. frame_bound f ≤ 16384) (program_of p).functions)) }
     ensures accepted { IfOk result (λ o.
         IfSome o (λ p. length (unit_tokens (unit_of unit.now)) ≤ 65536 → IsSlotProgram (program_of p))) }
 {

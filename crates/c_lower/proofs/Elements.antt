@@ -1,5 +1,6 @@
 -- Elements of lists, and ops that stand in a list of ops from a place on.
-use Rattle.std.proofs.Common.{◌≡◌, ◌≢◌, ℕ, zero, suc, ◌+◌, ◌<◌, List, [], ◌∷◌, ◌++◌, length, replicate, Some, refl, ap, subst, arith, append_assoc, length-append}
+use Rattle.std.proofs.Common.{◌≡◌, ◌≢◌, ℕ, zero, suc, ◌+◌, ◌<◌, List, [], ◌∷◌, ◌++◌, length, replicate, Some, refl, ap}
+use Rattle.std.proofs.Common.{subst, arith, append_assoc, length-append}
 use Rattle.std.specs.Prelude.{slice_get, slice_set}
 use Rattle.flow_graph.specs.declared.op.Op.{Op}
 
@@ -8,7 +9,8 @@ get-set_same [] i x h = absurd (omega (arith, h))
 get-set_same (y ∷ xs) zero x h = refl
 get-set_same (y ∷ xs) (suc i) x h = get-set_same xs i x (omega (arith, h))
 
-pub get-set_other : {X : Type 0} (xs : List X) (i j : ℕ) (x : X) → j ≢ i → slice_get (slice_set xs i x) j ≡ slice_get xs j
+pub get-set_other : {X : Type 0} (xs : List X) (i j : ℕ) (x : X) → j ≢ i → slice_get (slice_set xs i x) j
+    ≡ slice_get xs j
 get-set_other [] i j x ne = refl
 get-set_other (y ∷ xs) zero zero x ne = absurd (ne refl)
 get-set_other (y ∷ xs) zero (suc j) x ne = refl

@@ -18,9 +18,11 @@ pub record Emits (f : Function) (locals : ℕ) (body : List Statement) : Type 0 
   pub few_ops : length (op.Turn ∷ body_ops locals (statements_of body)) ≤ 262145
   pub fit : AllFit (locals + temporaries (statements_of body)) (op.Turn ∷ body_ops locals (statements_of body))
   pub ends : EndsLast (op.Turn ∷ body_ops locals (statements_of body))
-  pub whole : straight (locals + temporaries (statements_of body)) (op.Turn ∷ body_ops locals (statements_of body)) ≡ lowered (function_of f)
+  pub whole : straight (locals + temporaries (statements_of body)) (op.Turn ∷ body_ops locals (statements_of body))
+      ≡ lowered (function_of f)
 
-pub emits : (f : Function) (locals : ℕ) (body : List Statement) → IsSlotFunction (function_of f) → function_size (function_of f) ≤ 65536 → locals ≡ length f.locals.items → body ≡ f.body.items → Emits f locals body
+pub emits : (f : Function) (locals : ℕ) (body : List Statement) → IsSlotFunction (function_of f)
+    → function_size (function_of f) ≤ 65536 → locals ≡ length f.locals.items → body ≡ f.body.items → Emits f locals body
 emits f locals body slot small counted read =
     let facts = function-facts (function_of f) slot in
     let many : length (map local_of f.locals.items) ≡ locals = length-map f.locals.items local_of ∙ sym counted in

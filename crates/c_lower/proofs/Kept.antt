@@ -1,5 +1,6 @@
 -- What lowering promises beside the outcome.
-use Rattle.std.proofs.Common.{◌≡◌, ℕ, zero, suc, ◌+◌, ◌*◌, ◌<◌, ◌≤◌, true, List, [], ◌∷◌, ◌++◌, length, map, replicate, Some, refl, sym, ap, ◌∙◌, subst, arith}
+use Rattle.std.proofs.Common.{◌≡◌, ℕ, zero, suc, ◌+◌, ◌*◌, ◌<◌, ◌≤◌, true, List, [], ◌∷◌, ◌++◌, length, map, replicate}
+use Rattle.std.proofs.Common.{Some, refl, sym, ap, ◌∙◌, subst, arith}
 use Rattle.std.specs.Prelude.{slice_get, sum_by}
 use Rattle.std.specs.List.{All, AllByRecursion, range_with_len}
 use Rattle.std.proofs.lemmas.List.Elements.{All-cons, All-nil}
@@ -27,8 +28,10 @@ use Rattle.c_tree.specs.SlotForm.{AreSlotStatements, AreIntLocals, IsSlotFunctio
 use Rattle.c_tree.specs.Objects.{data_object}
 use Rattle.flow_graph.specs.SlotGraphs.{IsSlotFlow}
 use Rattle.c_lower.proofs.Marking.{function-marked}
-use Rattle.c_lower.specs.Lowering.{AreLowered, AreSlotGraphs, AreSmall, HasObjects, HaveMarks, MarksStatements, first_statement}
-use Rattle.c_lower.specs.Lowering.{IsLowered, KeepsOutcome, MarksOnce, array_of, marks_in, points_in, words_in, arrays_in}
+use Rattle.c_lower.specs.Lowering.{AreLowered, AreSlotGraphs, AreSmall, HasObjects, HaveMarks, MarksStatements}
+use Rattle.c_lower.specs.Lowering.{first_statement}
+use Rattle.c_lower.specs.Lowering.{IsLowered, KeepsOutcome, MarksOnce, array_of, marks_in, points_in, words_in}
+use Rattle.c_lower.specs.Lowering.{arrays_in}
 use Rattle.c_lower.specs.Shown.{local_widths, type_widths, variables_shown}
 use Rattle.c_lower.proofs.Elements.{has_all}
 use Rattle.c_lower.proofs.Fitting.{IsSlotOp, body-marks, body-sizes, ends-body, fit-body, slot-body, slots-body}
@@ -69,7 +72,8 @@ slot-ops f slot = (tt, slot-body (length f.locals) 0 0 f.body slot.body (omega a
 
 -- ---- variables
 
-int-widths : (locals : List Local) (more : ℕ) → AreIntLocals locals → replicate (length locals + more) Two ≡ local_widths locals ++ replicate more Two
+int-widths : (locals : List Local) (more : ℕ) → AreIntLocals locals → replicate (length locals + more) Two
+    ≡ local_widths locals ++ replicate more Two
 int-widths [] more ints = let e : 0 + more ≡ more = omega arith in ap (λ (k : ℕ). replicate k Two) e
 int-widths (l ∷ locals) more ints =
     let e : length (l ∷ locals) + more ≡ suc (length locals + more) = omega arith in
@@ -79,7 +83,8 @@ int-widths (l ∷ locals) more ints =
 
 pub length-widths : (locals : List Local) → AreIntLocals locals → length (local_widths locals) ≡ length locals
 length-widths [] ints = refl
-length-widths (l ∷ locals) ints = ap (λ (t : ValueType). length (type_widths t ++ local_widths locals)) ints.0 ∙ ap suc (length-widths locals ints.1)
+length-widths (l ∷ locals) ints = ap (λ (t : ValueType). length (type_widths t ++ local_widths locals)) ints.0
+    ∙ ap suc (length-widths locals ints.1)
 
 length-copies : (n : ℕ) → length (replicate n Two) ≡ n
 length-copies zero = refl
@@ -101,15 +106,18 @@ last-op (i ∷ j ∷ ops) ends =
     let l = last-op (j ∷ ops) ends.1 in
     record { place = suc l.place; found = l.found; last = ap suc l.last; there = l.there; end = l.end }
 
-ended-range : (ops : List Op) (a n place : ℕ) (i : Op) → a + n ≡ place → slice_get ops place ≡ Some i → is_end i ≡ true → LastIsEnd ops (range_with_len a (suc n))
-ended-range ops a zero place i e at end = let same : place ≡ a = omega (arith, e) in (i, subst (λ (k : ℕ). slice_get ops k ≡ Some i) same at, end)
+ended-range : (ops : List Op) (a n place : ℕ) (i : Op) → a + n ≡ place → slice_get ops place ≡ Some i → is_end i ≡ true
+    → LastIsEnd ops (range_with_len a (suc n))
+ended-range ops a zero place i e at end = let same : place ≡ a = omega (arith, e) in
+    (i, subst (λ (k : ℕ). slice_get ops k ≡ Some i) same at, end)
 ended-range ops a (suc n) place i e at end = ended-range ops (a + 1) n place i (omega (arith, e)) at end
 
 straight-ended : (ops : List Op) → EndsLast ops → LastIsEnd ops (range_with_len 0 (length ops))
 straight-ended ops ends =
     let l = last-op ops ends in
     let e : 0 + l.place ≡ l.place = omega arith in
-    subst (λ (k : ℕ). LastIsEnd ops (range_with_len 0 k)) l.last (ended-range ops 0 l.place l.place l.found e l.there l.end)
+    subst (λ (k : ℕ). LastIsEnd ops (range_with_len 0 k)) l.last
+        (ended-range ops 0 l.place l.place l.found e l.there l.end)
 
 -- ---- ops of the kinds that are emitted so far
 
@@ -131,7 +139,8 @@ names-own functions objects (op.Get bits d k) slot = absurd slot
 names-own functions objects (op.Put bits k s) slot = absurd slot
 names-own functions objects _ slot = tt
 
-all-names : (functions objects : ℕ) (ops : List Op) → AllByRecursion IsSlotOp ops → All (NamesWithin functions objects) ops
+all-names : (functions objects : ℕ) (ops : List Op) → AllByRecursion IsSlotOp ops
+    → All (NamesWithin functions objects) ops
 all-names functions objects [] slot = All-nil (NamesWithin functions objects)
 all-names functions objects (i ∷ ops) slot =
     All-cons (NamesWithin functions objects) i ops (names-own functions objects i slot.0)
@@ -150,11 +159,13 @@ sum-none (i ∷ ops) slot = sum_by-cons words_of i ops ∙ omega (arith, no-word
 no-mark-first : (statement : ℕ) → Some op.Turn ≡ Some (op.Mark statement) → ⊥
 no-mark-first statement e = absurd (cc)
 
-temporary-dead : (f : Function) (slot : IsSlotFunction f) (point statement v : ℕ) → slice_get (function_ops f) point ≡ Some (op.Mark statement) → length (local_widths f.locals) ≤ v → IsLiveBefore (lowered f) v point → ⊥
+temporary-dead : (f : Function) (slot : IsSlotFunction f) (point statement v : ℕ) → slice_get (function_ops f) point
+    ≡ Some (op.Mark statement) → length (local_widths f.locals) ≤ v → IsLiveBefore (lowered f) v point → ⊥
 temporary-dead f slot zero statement v at high live = no-mark-first statement at
 temporary-dead f slot (suc point) statement v at high (n, reach) =
     let L = length f.locals in
-    let low = mark-live (variables f) L (function_ops f) (slot-ops f slot) 0 0 1 (suc point) v n statement f.body slot.body (omega arith) (has_all (body_ops L f.body) (op.Turn ∷ [])) (omega arith) (omega arith) at reach in
+    let low = mark-live (variables f) L (function_ops f) (slot-ops f slot) 0 0 1 (suc point) v n statement f.body
+        slot.body (omega arith) (has_all (body_ops L f.body) (op.Turn ∷ [])) (omega arith) (omega arith) at reach in
     absurd (omega (arith, low, high, length-widths f.locals slot.locals))
 
 only-block : (f : Function) (slot : IsSlotFunction f) (block : ℕ) → block < 1 → IsEnded (lowered f) block
@@ -169,7 +180,8 @@ is-lowered f slot =
       first_variables = (replicate (temporaries f.body) Two, int-widths f.locals (temporaries f.body) slot.locals);
       arrays = sym (ap (map array_of) slot.no_arrays);
       ended = only-block f slot;
-      nothing_live = λ point v begins live. start-closed (variables f) L f.body point v slot.body (slot-ops f slot) (has_all (function_ops f) []) begins live;
+      nothing_live = λ point v begins live. start-closed (variables f) L f.body point v slot.body (slot-ops f slot)
+          (has_all (function_ops f) []) begins live;
       no_temporary_live = λ point statement v at high live. temporary-dead f slot point statement v at high live;
       fixed_die = λ point i at. fixed-die (lowered f) point i (slot-at (function_ops f) point i (slot-ops f slot) at);
       frame = omega (arith, length-copies (variables f), most-none (function_ops f) (slot-ops f slot), s.counted);
@@ -178,9 +190,11 @@ is-lowered f slot =
 -- ---- the program's promises
 
 -- the one function's graph
-pub one-graph : (program : Program) (slot : IsSlotProgram program) → slot_graphs program ≡ one_block (variables slot.function) (function_ops slot.function)
+pub one-graph : (program : Program) (slot : IsSlotProgram program) → slot_graphs program
+    ≡ one_block (variables slot.function) (function_ops slot.function)
 one-graph program slot =
-    let F : List Function → ℕ → GraphProgram = λ fs main. record { functions = map lowered fs; objects = []; main = main } in
+    let F : List Function → ℕ → GraphProgram =
+        λ fs main. record { functions = map lowered fs; objects = []; main = main } in
     ap (λ (fs : List Function). F fs program.main) slot.one_function ∙ ap (F (slot.function ∷ [])) slot.main
 
 pub outcome-kept : (program : Program) → IsSlotProgram program → KeepsOutcome program (slot_graphs program)
@@ -189,18 +203,23 @@ outcome-kept program slot = keeps-outcome program (slot_graphs program) slot (on
 pub stuck-never : (program : Program) → IsSlotProgram program → IsNeverStuck (slot_graphs program)
 stuck-never program slot =
     never_stuck (slot_graphs program) (variables_shown program (λ statement. []))
-    (λ input turns. (source_outcome program (λ statement. []) input turns, outcome-kept program slot (λ statement. []) (λ statement. tt) input turns))
+    (λ input turns. (source_outcome program (λ statement. []) input turns,
+        outcome-kept program slot (λ statement. []) (λ statement. tt) input turns))
 
-each-lowered : (f : Function) (slot : IsSlotFunction f) (k : ℕ) (g : Function) (flow : Flow) → slice_get (f ∷ []) k ≡ Some g → slice_get (lowered f ∷ []) k ≡ Some flow → IsLowered g flow
+each-lowered : (f : Function) (slot : IsSlotFunction f) (k : ℕ) (g : Function) (flow : Flow) → slice_get (f ∷ []) k
+    ≡ Some g → slice_get (lowered f ∷ []) k ≡ Some flow → IsLowered g flow
 each-lowered f slot zero g flow e h =
-    subst (λ (fl : Flow). IsLowered g fl) (same_Some (lowered f) flow h) (subst (λ (x : Function). IsLowered x (lowered f)) (same_Some f g e) (is-lowered f slot))
+    subst (λ (fl : Flow). IsLowered g fl) (same_Some (lowered f) flow h)
+        (subst (λ (x : Function). IsLowered x (lowered f)) (same_Some f g e) (is-lowered f slot))
 each-lowered f slot (suc k) g flow e h = absurd (none-some g e)
 
 pub functions-lowered : (program : Program) → IsSlotProgram program → AreLowered program (slot_graphs program)
 functions-lowered program slot = record {
-  as_many = ap (λ (fs : List Function). length (map lowered fs)) slot.one_function ∙ sym (ap (λ (fs : List Function). length fs) slot.one_function);
+  as_many = ap (λ (fs : List Function). length (map lowered fs)) slot.one_function
+      ∙ sym (ap (λ (fs : List Function). length fs) slot.one_function);
   each = λ k f flow e h.
-      each-lowered slot.function slot.accepted k f flow (ap (λ (fs : List Function). slice_get fs k) (sym slot.one_function) ∙ e)
+      each-lowered slot.function slot.accepted k f flow
+          (ap (λ (fs : List Function). slice_get fs k) (sym slot.one_function) ∙ e)
       (ap (λ (fs : List Function). slice_get (map lowered fs) k) (sym slot.one_function) ∙ h);
   main = refl;
 }
@@ -215,7 +234,9 @@ program-kept program graphs slot same flows =
     let f = slot.function in
     let one = one_block (variables f) (function_ops f) in
     let is : graphs ≡ one = same ∙ one-graph program slot in
-    let kept : AllByRecursion (λ flow. (homes : List ℕ) × IsFlow flow homes) one.functions = subst (λ (g : GraphProgram). AllByRecursion (λ flow. (homes : List ℕ) × IsFlow flow homes) g.functions) is flows in
+    let kept : AllByRecursion (λ flow. (homes : List ℕ) × IsFlow flow homes) one.functions =
+        subst (λ (g : GraphProgram). AllByRecursion (λ flow. (homes : List ℕ) × IsFlow flow homes) g.functions) is
+        flows in
     let ended = straight-ended (function_ops f) (function-facts f slot.accepted).ends in
     let graph : IsGraph 1 0 (lowered f) = record {
       keeps = kept.0;
@@ -240,12 +261,15 @@ marks-once program slot =
 pub marks-kept : (program : Program) → IsSlotProgram program → HaveMarks program (slot_graphs program)
 marks-kept program slot k f flow e h =
     subst (λ (fs : List Function). MarksStatements (first_statement fs k) f flow) (sym slot.one_function)
-    (each-marked slot.function slot.accepted k f flow (ap (λ (fs : List Function). slice_get fs k) (sym slot.one_function) ∙ e)
+    (each-marked slot.function slot.accepted k f flow
+        (ap (λ (fs : List Function). slice_get fs k) (sym slot.one_function) ∙ e)
     (ap (λ (fs : List Function). slice_get (map lowered fs) k) (sym slot.one_function) ∙ h))
   where
-    each-marked : (f : Function) (slot : IsSlotFunction f) (k : ℕ) (g : Function) (flow : Flow) → slice_get (f ∷ []) k ≡ Some g → slice_get (lowered f ∷ []) k ≡ Some flow → MarksStatements (first_statement (f ∷ []) k) g flow
+    each-marked : (f : Function) (slot : IsSlotFunction f) (k : ℕ) (g : Function) (flow : Flow) → slice_get (f ∷ []) k
+        ≡ Some g → slice_get (lowered f ∷ []) k ≡ Some flow → MarksStatements (first_statement (f ∷ []) k) g flow
     each-marked f slot zero g flow e h =
-        subst (λ (fl : Flow). MarksStatements 0 g fl) (same_Some (lowered f) flow h) (subst (λ (x : Function). MarksStatements 0 x (lowered f)) (same_Some f g e) (function-marked f slot))
+        subst (λ (fl : Flow). MarksStatements 0 g fl) (same_Some (lowered f) flow h)
+            (subst (λ (x : Function). MarksStatements 0 x (lowered f)) (same_Some f g e) (function-marked f slot))
     each-marked f slot (suc k) g flow e h = absurd (none-some g e)
 
 all-two : (n : ℕ) → AllByRecursion (λ width. width ≡ Two) (replicate n Two)
@@ -262,10 +286,18 @@ pub graphs-small : (program : Program) → IsSlotProgram program → AreSmall pr
 graphs-small program slot =
     let f = slot.function in
     let s = body-sizes (length f.locals) 0 0 f.body slot.accepted.body in
-    let size : size_of program ≡ function_size f + 0 = ap (λ (fs : List Function). sum_by function_size fs) slot.one_function ∙ sum_by-cons function_size slot.function [] in
-    let points : sum_by points_in (slot_graphs program).functions ≡ points_in (lowered f) + 0 = ap (λ (fs : List Function). sum_by points_in (map lowered fs)) slot.one_function ∙ sum_by-cons points_in (lowered slot.function) [] in
-    let words : sum_by words_in (slot_graphs program).functions ≡ words_in (lowered f) + 0 = ap (λ (fs : List Function). sum_by words_in (map lowered fs)) slot.one_function ∙ sum_by-cons words_in (lowered slot.function) [] in
-    let arrays : sum_by arrays_in (slot_graphs program).functions ≡ 0 + 0 = ap (λ (fs : List Function). sum_by arrays_in (map lowered fs)) slot.one_function ∙ sum_by-cons arrays_in (lowered slot.function) [] in
+    let size : size_of program ≡ function_size f + 0 =
+        ap (λ (fs : List Function). sum_by function_size fs) slot.one_function
+        ∙ sum_by-cons function_size slot.function [] in
+    let points : sum_by points_in (slot_graphs program).functions ≡ points_in (lowered f) + 0 =
+        ap (λ (fs : List Function). sum_by points_in (map lowered fs)) slot.one_function
+        ∙ sum_by-cons points_in (lowered slot.function) [] in
+    let words : sum_by words_in (slot_graphs program).functions ≡ words_in (lowered f) + 0 =
+        ap (λ (fs : List Function). sum_by words_in (map lowered fs)) slot.one_function
+        ∙ sum_by-cons words_in (lowered slot.function) [] in
+    let arrays : sum_by arrays_in (slot_graphs program).functions ≡ 0 + 0 =
+        ap (λ (fs : List Function). sum_by arrays_in (map lowered fs)) slot.one_function
+        ∙ sum_by-cons arrays_in (lowered slot.function) [] in
     record {
       points = omega (arith, size, points, s.ops);
       words = omega (arith, words, sum-none (function_ops f) (slot-ops f slot.accepted));
@@ -275,5 +307,7 @@ graphs-small program slot =
 -- the function is as small as the program
 pub function-small : (program : Program) (slot : IsSlotProgram program) → function_size slot.function ≤ 65536
 function-small program slot =
-    let size : size_of program ≡ function_size slot.function + 0 = ap (λ (fs : List Function). sum_by function_size fs) slot.one_function ∙ sum_by-cons function_size slot.function [] in
+    let size : size_of program ≡ function_size slot.function + 0 =
+        ap (λ (fs : List Function). sum_by function_size fs) slot.one_function
+        ∙ sum_by-cons function_size slot.function [] in
     omega (arith, size, slot.small)

@@ -1,12 +1,14 @@
 -- The statements of a body have marks, and no others.
-use Rattle.std.proofs.Common.{◌≡◌, ℕ, zero, suc, ◌+◌, ◌<◌, ◌≤◌, List, [], ◌∷◌, ◌++◌, length, Some, sym, ap, ◌∙◌, subst, arith, inl, inr}
+use Rattle.std.proofs.Common.{◌≡◌, ℕ, zero, suc, ◌+◌, ◌<◌, ◌≤◌, List, [], ◌∷◌, ◌++◌, length, Some, sym, ap, ◌∙◌, subst}
+use Rattle.std.proofs.Common.{arith, inl, inr}
 use Rattle.std.specs.Prelude.{slice_get, sum_by, take}
 use Rattle.std.specs.List.{AllByRecursion, range_with_len}
 use Rattle.std.proofs.lemmas.Bool.{cases_lt}
 use Rattle.std.proofs.lemmas.Option.{none-some, same_Some, slice_get_within}
 use Rattle.c_tree.specs.declared.types.IntegerType.TheVariants.{Int}
 use Rattle.c_tree.specs.declared.types.ValueType.TheVariants.{Integer}
-use Rattle.c_tree.specs.Program.{Assign, Putchar, LocalPlace, Scalar, Declare, Evaluate, Return, Expression, Statement, Statements, Done, Next, Function, Program}
+use Rattle.c_tree.specs.Program.{Assign, Putchar, LocalPlace, Scalar, Declare, Evaluate, Return, Expression, Statement}
+use Rattle.c_tree.specs.Program.{Statements, Done, Next, Function, Program}
 use Rattle.c_tree.specs.SlotForm.{IsBody, IsSlotFunction, IsSlotProgram, IsSum}
 use Rattle.c_tree.specs.Sizes.{height}
 use Rattle.flow_graph.specs.declared.op.Op.{Op}
@@ -25,10 +27,12 @@ IsBelow top (op.Mark n) = n < top
 IsBelow top _ = Unit {0}
 
 below-sum : (top locals d : ℕ) (e : Expression) → IsSum locals e → AllByRecursion (IsBelow top) (sum_ops d e)
-below-sum top locals d e is = every-sum (IsBelow top) e locals d (d + height e) is (omega arith) (λ k n h. tt) (λ k v h g. tt) (λ k h. tt) (λ k h. tt)
+below-sum top locals d e is = every-sum (IsBelow top) e locals d (d + height e) is (omega arith) (λ k n h. tt)
+    (λ k v h g. tt) (λ k h. tt) (λ k h. tt)
 
 -- the marks of a body are of its statements
-below-body : (top locals declared number : ℕ) (ss : Statements) → IsBody locals declared number ss → number + numbers_of ss ≤ top → AllByRecursion (IsBelow top) (body_ops locals ss)
+below-body : (top locals declared number : ℕ) (ss : Statements) → IsBody locals declared number ss
+    → number + numbers_of ss ≤ top → AllByRecursion (IsBelow top) (body_ops locals ss)
 below-body top locals declared number (Next (Declare (Scalar n v (Some e))) others) is room = (
   omega (arith, is.0, room),
   (
@@ -72,26 +76,33 @@ marks-same : (m n : ℕ) → m ≡ n → Some (op.Mark m) ≡ Some (op.Mark n)
 marks-same m n same = ap (λ (k : ℕ). Some (op.Mark k)) same
 
 -- each statement of a body is marked
-statements-marked : (locals d declared number n : ℕ) (ss : Statements) → IsBody locals declared number ss → number ≤ n → n < number + numbers_of ss → HasMark n (body_ops d ss)
+statements-marked : (locals d declared number n : ℕ) (ss : Statements) → IsBody locals declared number ss → number ≤ n
+    → n < number + numbers_of ss → HasMark n (body_ops d ss)
 statements-marked locals d declared number n (Next (Declare (Scalar m v (Some e))) others) is low high =
     let s : Statement = Declare (Scalar m v (Some e)) in
     elim (cases_lt number n) as (λ c. HasMark n (body_ops d (Next s others))) [
-      | inl less ↦ behind n (statement_ops d s) (body_ops d others) (statements-marked locals d (suc declared) (suc number) n others is.4 (omega (arith, less)) (omega (arith, high)))
+      | inl less ↦ behind n (statement_ops d s) (body_ops d others)
+          (statements-marked locals d (suc declared) (suc number) n others is.4 (omega (arith, less))
+          (omega (arith, high)))
       | inr more ↦ (0, marks-same m n (omega (arith, is.0, low, more)))
     ]
-statements-marked locals d declared number n (Next (Evaluate m (Assign (Integer Int) (LocalPlace v) e)) others) is low high =
+statements-marked locals d declared number n (Next (Evaluate m (Assign (Integer Int) (LocalPlace v) e)) others) is low
+    high =
     let s : Statement = Evaluate m (Assign (Integer Int) (LocalPlace v) e) in
     elim (cases_lt number n) as (λ c. HasMark n (body_ops d (Next s others))) [
-      | inl less ↦ behind n (statement_ops d s) (body_ops d others) (statements-marked locals d declared (suc number) n others is.3 (omega (arith, less)) (omega (arith, high)))
+      | inl less ↦ behind n (statement_ops d s) (body_ops d others)
+          (statements-marked locals d declared (suc number) n others is.3 (omega (arith, less)) (omega (arith, high)))
       | inr more ↦ (0, marks-same m n (omega (arith, is.0, low, more)))
     ]
 statements-marked locals d declared number n (Next (Evaluate m (Putchar e)) others) is low high =
     let s : Statement = Evaluate m (Putchar e) in
     elim (cases_lt number n) as (λ c. HasMark n (body_ops d (Next s others))) [
-      | inl less ↦ behind n (statement_ops d s) (body_ops d others) (statements-marked locals d declared (suc number) n others is.2 (omega (arith, less)) (omega (arith, high)))
+      | inl less ↦ behind n (statement_ops d s) (body_ops d others)
+          (statements-marked locals d declared (suc number) n others is.2 (omega (arith, less)) (omega (arith, high)))
       | inr more ↦ (0, marks-same m n (omega (arith, is.0, low, more)))
     ]
-statements-marked locals d declared number n (Next (Return m (Some e)) Done) is low high = (0, marks-same m n (omega (arith, is.0, low, high)))
+statements-marked locals d declared number n (Next (Return m (Some e)) Done) is low high =
+    (0, marks-same m n (omega (arith, is.0, low, high)))
 statements-marked locals d declared number n _ is low high = absurd is
 
 -- ---- a function
@@ -118,8 +129,10 @@ function-marked f form =
     let N = numbers_of f.body in
     record {
       marked = λ n low high.
-          let (p, at) : HasMark n ops = behind n (op.Turn ∷ []) (body_ops L f.body) (statements-marked L L 0 0 n f.body form.body (omega arith) (omega (arith, high))) in
-          (p, (0, within-range 0 (length ops) p (omega arith) (omega (arith, slice_get_within ops p (op.Mark n) at))), at);
+          let (p, at) : HasMark n ops = behind n (op.Turn ∷ []) (body_ops L f.body)
+              (statements-marked L L 0 0 n f.body form.body (omega arith) (omega (arith, high))) in
+          (p, (0, within-range 0 (length ops) p (omega arith) (omega (arith, slice_get_within ops p (op.Mark n) at))),
+              at);
       only = λ p n at.
           let below : AllByRecursion (IsBelow N) ops = (tt, below-body N L 0 0 f.body form.body (omega arith)) in
           (omega arith, omega (arith, every-at (IsBelow N) ops p (op.Mark n) below at));

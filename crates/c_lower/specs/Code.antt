@@ -1,11 +1,13 @@
 -- The ops of a program that is lowered.
-use Rattle.std.specs.Prelude.{ℕ, suc, ◌≡◌, ◌+◌, true, false, pos, List, [], ◌∷◌, ◌++◌, length, max, map, replicate, Some}
+use Rattle.std.specs.Prelude.{ℕ, suc, ◌≡◌, ◌+◌, true, false, pos, List, [], ◌∷◌, ◌++◌, length, max, map, replicate}
+use Rattle.std.specs.Prelude.{Some}
 use Rattle.std.specs.List.{AllByRecursion, range_with_len}
 use Rattle.pcc_base.specs.declared.run.Width.TheVariants.{Two}
 use Rattle.c_tree.specs.declared.expression.BinaryOp.TheVariants as binary
 use Rattle.c_tree.specs.declared.types.IntegerType.TheVariants.{Int}
 use Rattle.c_tree.specs.declared.types.ValueType.TheVariants.{Integer}
-use Rattle.c_tree.specs.Program.{Expression, Constant, Read, Binary, Assign, Putchar, LocalPlace, Scalar, Statement, Declare, Evaluate, Return, Statements, Done, Next, Function, Program}
+use Rattle.c_tree.specs.Program.{Expression, Constant, Read, Binary, Assign, Putchar, LocalPlace, Scalar, Statement}
+use Rattle.c_tree.specs.Program.{Declare, Evaluate, Return, Statements, Done, Next, Function, Program}
 use Rattle.c_tree.specs.Sizes.{height}
 use Rattle.flow_graph.specs.declared.op.Op.{Op}
 use Rattle.flow_graph.specs.declared.op.Op.TheVariants as op
@@ -55,7 +57,8 @@ variables f = length f.locals + temporaries f.body
 
 -- a graph of one block with these ops in order, over so many variables of width Two
 abbrev pub straight : ℕ → List Op → Flow
-straight variables ops = record { widths = replicate variables Two; arrays = []; blocks = range_with_len 0 (length ops) ∷ []; ops = ops }
+straight variables ops = record { widths = replicate variables Two; arrays = []; blocks =
+    range_with_len 0 (length ops) ∷ []; ops = ops }
 
 abbrev pub lowered : Function → Flow
 lowered f = straight (variables f) (function_ops f)

@@ -24,7 +24,8 @@ use Rattle.c_lower.specs.Shown.{ListsLocals, local_widths, numbers_of, variables
 -- ---- the program of graphs
 
 abbrev pub graphs_of : Graphs → GraphProgram
-graphs_of graphs = record { functions = graphs.functions.items; objects = map object_of graphs.objects.items; main = graphs.main }
+graphs_of graphs = record { functions = graphs.functions.items; objects = map object_of graphs.objects.items; main =
+    graphs.main }
 
 -- ---- outcomes
 
@@ -50,7 +51,8 @@ pub record IsLowered (f : Function) (flow : Flow) : Type 0 where
   pub ended : (block : ℕ) → block < length flow.blocks → IsEnded flow block
   -- no variable is live at the first point, and no temporary at a mark
   pub nothing_live : (point v : ℕ) → BeginsWith flow 0 point → IsLiveBefore flow v point → ⊥
-  pub no_temporary_live : (point statement v : ℕ) → slice_get flow.ops point ≡ Some (Mark statement) → length (local_widths f.locals) ≤ v → IsLiveBefore flow v point → ⊥
+  pub no_temporary_live : (point statement v : ℕ) → slice_get flow.ops point ≡ Some (Mark statement)
+      → length (local_widths f.locals) ≤ v → IsLiveBefore flow v point → ⊥
   -- fixed operands die at their ops
   pub fixed_die : (point : ℕ) (op : Op) → slice_get flow.ops point ≡ Some op → FixedDies flow point op
   -- the words of a frame with a slot for each variable, and of a call from it, are within the frame bound
@@ -59,7 +61,8 @@ pub record IsLowered (f : Function) (flow : Flow) : Type 0 where
 -- the graphs are those of the program's functions, in order
 pub record AreLowered (program : Program) (graphs : GraphProgram) : Type 0 where
   pub as_many : length graphs.functions ≡ length program.functions
-  pub each : (k : ℕ) (f : Function) (flow : Flow) → slice_get program.functions k ≡ Some f → slice_get graphs.functions k ≡ Some flow → IsLowered f flow
+  pub each : (k : ℕ) (f : Function) (flow : Flow) → slice_get program.functions k ≡ Some f
+      → slice_get graphs.functions k ≡ Some flow → IsLowered f flow
   pub main : graphs.main ≡ program.main
 
 -- ---- sizes
@@ -111,7 +114,8 @@ first_statement functions k = sum_by (λ f. numbers_of f.body) (take k functions
 -- the marks are those of the program's statements, in the graphs of their functions
 abbrev pub HaveMarks : Program → GraphProgram → Type 0
 HaveMarks program graphs =
-    (k : ℕ) (f : Function) (flow : Flow) → slice_get program.functions k ≡ Some f → slice_get graphs.functions k ≡ Some flow
+    (k : ℕ) (f : Function) (flow : Flow) → slice_get program.functions k ≡ Some f → slice_get graphs.functions k
+        ≡ Some flow
     → MarksStatements (first_statement program.functions k) f flow
 
 -- ---- the ops that are made so far

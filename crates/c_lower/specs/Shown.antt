@@ -1,5 +1,6 @@
 -- Which variables of a graph hold what a visit of a statement shows.
-use Rattle.std.specs.Prelude.{◌≡◌, ℕ, zero, suc, ◌+◌, ◌-◌, List, [], ◌∷◌, ◌++◌, count_by, flat_map, length, map, slice_get, Some, nat_lt, if◌then◌else◌}
+use Rattle.std.specs.Prelude.{◌≡◌, ℕ, zero, suc, ◌+◌, ◌-◌, List, [], ◌∷◌, ◌++◌, count_by, flat_map, length, map}
+use Rattle.std.specs.Prelude.{slice_get, Some, nat_lt, if◌then◌else◌}
 use Rattle.std.specs.List.{AllByRecursion}
 use Rattle.pcc_base.specs.declared.run.Width.{Width}
 use Rattle.pcc_base.specs.declared.run.Width.TheVariants.{One, Two}
@@ -8,7 +9,9 @@ use Rattle.c_tree.specs.declared.types.IntegerType.TheVariants.{Char, Short, Int
 use Rattle.c_tree.specs.declared.types.ValueType.{ValueType}
 use Rattle.c_tree.specs.declared.types.ValueType.TheVariants.{Void, Integer, Pointer}
 use Rattle.c_tree.specs.Program as items
-use Rattle.c_tree.specs.Program.{Item, First, Nothing, Evaluated, Declared, Statement, Declare, Empty, Evaluate, Block, If, While, Do, For, Switch, Break, Continue, Return, Statements, Done, Next, Local, Function, Program}
+use Rattle.c_tree.specs.Program.{Item, First, Nothing, Evaluated, Declared, Statement, Declare, Empty, Evaluate, Block}
+use Rattle.c_tree.specs.Program.{If, While, Do, For, Switch, Break, Continue, Return, Statements, Done, Next, Local}
+use Rattle.c_tree.specs.Program.{Function, Program}
 
 -- ---- the function of a statement
 
@@ -108,7 +111,8 @@ variable_part locals (IndexOf k) = IndexOf (suc (first_variable locals k))
 
 -- the variables that a graph shows where the source shows parts of locals
 abbrev pub variables_shown : Program → Listing → Listing
-variables_shown program listing statement = map (variable_part (locals_at program.functions statement)) (listing statement)
+variables_shown program listing statement =
+    map (variable_part (locals_at program.functions statement)) (listing statement)
 
 -- ---- listings
 
@@ -133,7 +137,8 @@ IsPartOf locals (IndexOf k) = HasLocal locals k IsPointer
 
 -- the listing shows parts of locals of each statement's function
 abbrev pub ListsLocals : Program → Listing → Type 0
-ListsLocals program listing = (statement : ℕ) → AllByRecursion (IsPartOf (locals_at program.functions statement)) (listing statement)
+ListsLocals program listing = (statement : ℕ)
+    → AllByRecursion (IsPartOf (locals_at program.functions statement)) (listing statement)
 
 abbrev pub type_parts : ℕ → ValueType → List Part
 type_parts k Void = []

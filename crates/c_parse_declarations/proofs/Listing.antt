@@ -38,18 +38,23 @@ list_more f read out xs ys x cs ds c ts us vs before e r g h less fewer =
     (let goes : list_step read (map f xs, cs) ts ≡ Goes (map f xs ++ f x ∷ [], cs ++ c ∷ []) vs = rw (e, r) refl in
     let shorter : length vs < length ts = omega arith in
     let k : (map f xs ++ f x ∷ [], cs ++ c ∷ []) ≡ (map f ys, ds) = rw (g, h, map_push f xs x) refl in
-    subst (λ a. Continues (list_step read) a vs out) k (continues_goes (list_step read) (map f xs, cs) (map f xs ++ f x ∷ [], cs ++ c ∷ []) ts vs out before goes shorter))
+    subst (λ a. Continues (list_step read) a vs out) k
+        (continues_goes (list_step read) (map f xs, cs) (map f xs ++ f x ∷ [], cs ++ c ∷ []) ts vs out before goes
+        shorter))
 
 pub list_refused : {A : Type 0} (read : List Token → Reads A) (a : Listed A) (c : Span) (ts us : List Token)
     (out : Reads (Listed A)) (e : Refusal) →
     Continues (list_step read) a ts out → take_mark marks.Comma ts ≡ Some (c, us) → Refused (read us) e → Refused out e
-list_refused read a c ts us out (Fault fault) before e r = (let fails : list_step read a ts ≡ Fails = rw (e, r) refl in continues_fails (list_step read) a ts out before fails)
+list_refused read a c ts us out (Fault fault) before e r =
+    (let fails : list_step read a ts ≡ Fails = rw (e, r) refl in continues_fails (list_step read) a ts out before fails)
 list_refused read a c ts us out (Limit limit) before e r = r
 list_refused read a c ts us out NoMemory before e r = tt
 
 pub list_done : {A : Type 0} (read : List Token → Reads A) (a : Listed A) (ts us : List Token) (out : Reads (Listed A))
     → Continues (list_step read) a ts out → take_mark marks.Comma ts ≡ None → us ≡ ts → out ≡ Some (a, us)
-list_done read a ts us out before e same = (let done : list_step read a ts ≡ Done = rw e refl in continues_done (list_step read) a ts out before done ∙ rw same refl)
+list_done read a ts us out before e same =
+    (let done : list_step read a ts ≡ Done = rw e refl in continues_done (list_step read) a ts out before done
+    ∙ rw same refl)
 
 begun_with : (b : Readers) (close : Reads Span) (ts : List Token) (p : ParameterTree) (us : List Token)
     → is_some close ≡ false → read_parameter b ts ≡ Some (p, us)
@@ -57,7 +62,8 @@ begun_with : (b : Readers) (close : Reads Span) (ts : List Token) (p : Parameter
 begun_with b (Some close) ts p us e r = absurd (let wrong : true ≡ false = e in cc)
 begun_with b None ts p us e r =
     (let k : read_more (read_parameter b) p us ≡ parameters_from b None ts = rw r refl in
-    subst (λ out. Continues (list_step (read_parameter b)) (p ∷ [], []) us out) k (continues_start (list_step (read_parameter b)) (p ∷ [], []) us))
+    subst (λ out. Continues (list_step (read_parameter b)) (p ∷ [], []) us out) k
+        (continues_start (list_step (read_parameter b)) (p ∷ [], []) us))
 
 -- the first parameter, where no `)` comes at once
 pub parameters_begun : (b : Readers) (ts : List Token) (p : ParameterTree) (us : List Token)

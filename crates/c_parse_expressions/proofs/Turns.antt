@@ -50,7 +50,8 @@ same_reading r s rest result e h = subst (λ (x : Reads Expr). IsReading x rest 
 -- a fault where nothing is read
 pub refused_fault : {A : Type 0} (reads : Reads A) (e : Refusal) (fault : Faults) → reads ≡ None
     → e ≡ Fault fault → Refused reads e
-refused_fault reads e fault n f = (let h : Refused reads (Fault fault) = n in subst (λ (x : Refusal). Refused reads x) (sym f) h)
+refused_fault reads e fault n f = (let h : Refused reads (Fault fault) = n in
+    subst (λ (x : Refusal). Refused reads x) (sym f) h)
 
 none_at_zero : (rule : Rule) (ts : List Token) → reader_of rule (readers 0) ts ≡ None
 none_at_zero rules_of.Expression ts = rw readers-none refl

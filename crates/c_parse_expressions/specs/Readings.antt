@@ -15,7 +15,8 @@ use Rattle.c_parse_expressions.specs.declared.found.Turn.TheVariants.{More, Last
 use Rattle.c_parse_expressions.specs.declared.found.ValuesTurn.{ValuesTurn}
 use Rattle.c_parse_expressions.specs.declared.found.ValuesTurn.TheVariants.{MoreValues, LastValues}
 use Rattle.c_parse_expressions.specs.declared.expression.Rule.{Rule}
-use Rattle.c_parse_expressions.specs.declared.expression.Rule.TheVariants.{Expression, Assignment, Conditional, Binary, Cast}
+use Rattle.c_parse_expressions.specs.declared.expression.Rule.TheVariants.{Expression, Assignment, Conditional, Binary}
+use Rattle.c_parse_expressions.specs.declared.expression.Rule.TheVariants.{Cast}
 use Rattle.c_parse_expressions.specs.declared.expression.Rule.TheVariants.{Unary}
 
 -- a refusal: where it is a fault, nothing is read

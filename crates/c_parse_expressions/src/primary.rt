@@ -6,7 +6,8 @@ ghost use Rattle.c_grammar.specs.ExpressionTokens.{expr_height};
 ghost use Rattle.c_grammar.specs.Reading.{read_postfix, read_primary, read_arguments, suffix_step, value_step};
 ghost use Rattle.c_grammar.specs.Reading.{call_from, parenthesised_from};
 ghost use Rattle.c_grammar.specs.Taking.{take_mark};
-ghost use Rattle.c_parse_expressions.specs.Readings.{IsReading, IsTurn, AreValues, IsValuesTurn, values_of, height_of_values};
+ghost use Rattle.c_parse_expressions.specs.Readings.{IsReading, IsTurn, AreValues, IsValuesTurn, values_of};
+ghost use Rattle.c_parse_expressions.specs.Readings.{height_of_values};
 ghost use Rattle.c_parse_expressions.specs.Readings.{below};
 
 use crate::build::{

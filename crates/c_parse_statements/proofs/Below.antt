@@ -10,7 +10,9 @@ use Rattle.c_grammar.specs.Taking.{take_mark, take_specifiers}
 use Rattle.c_grammar.specs.Reading.{readers}
 use Rattle.c_grammar.proofs.Reading.{readers-none}
 use Rattle.c_grammar.specs.DeclarationReading.{read_declaration, maybe_before}
-use Rattle.c_grammar.specs.StatementReading.{Below, below_of, read_statement, read_block_item, read_labels, read_labelled, read_condition, read_for_rest, for_with, if_behind, while_behind, do_behind, for_behind, switch_behind}
+use Rattle.c_grammar.specs.StatementReading.{Below, below_of, read_statement, read_block_item, read_labels}
+use Rattle.c_grammar.specs.StatementReading.{read_labelled, read_condition, read_for_rest, for_with, if_behind}
+use Rattle.c_grammar.specs.StatementReading.{while_behind, do_behind, for_behind, switch_behind}
 use Rattle.c_grammar.proofs.StatementReading.{below_of-none, below_of-suc, below_above}
 use Rattle.c_parse_expressions.specs.Rows.{BeginsWithSpecifier}
 use Rattle.c_parse_statements.specs.Parts.{fields_of, below_node}
@@ -24,49 +26,62 @@ fields_are (suc n) = rw (below_of-suc n) refl
 
 statement_at : (n : ℕ) (ts : List Token) → 0 < n → (below_of n).statement ts ≡ read_statement (fields_of (n - 1)) ts
 statement_at n ts h =
-    ap (λ (b : Below). b.statement ts) (below_above n h) ∙ ap (λ (b : Below). read_statement b ts) (sym (fields_are (n - 1)))
+    ap (λ (b : Below). b.statement ts) (below_above n h)
+        ∙ ap (λ (b : Below). read_statement b ts) (sym (fields_are (n - 1)))
 
 declaration_at : (n : ℕ) (ts : List Token) → 0 < n → (below_of n).declaration ts ≡ read_declaration (readers (n - 1)) ts
 declaration_at n ts h =
-    ap (λ (b : Below). b.declaration ts) (below_above n h) ∙ ap (λ (b : Below). read_declaration b.exprs ts) (sym (fields_are (n - 1)))
+    ap (λ (b : Below). b.declaration ts) (below_above n h)
+        ∙ ap (λ (b : Below). read_declaration b.exprs ts) (sym (fields_are (n - 1)))
 
-item_at : (n : ℕ) (ts : List Token) → 0 < n → (below_of n).item ts ≡ read_block_item (below_of n).declaration (below_of n).statement ts
+item_at : (n : ℕ) (ts : List Token) → 0 < n → (below_of n).item ts
+    ≡ read_block_item (below_of n).declaration (below_of n).statement ts
 item_at n ts h = rw (below_above n h) refl
 
-labelled_at : (n : ℕ) (ts : List Token) → 0 < n → (below_of n).labelled ts ≡ read_labelled (readers n).conditional (below_of n).statement ts
+labelled_at : (n : ℕ) (ts : List Token) → 0 < n → (below_of n).labelled ts
+    ≡ read_labelled (readers n).conditional (below_of n).statement ts
 labelled_at n ts h = rw (below_above n h) refl
 
 -- a statement below a node
-pub statement_is : (height : ℕ) (ts : List Token) → 1 < height → (below_node height).statement ts ≡ read_statement (below_node (height - 1)) ts
+pub statement_is : (height : ℕ) (ts : List Token) → 1 < height → (below_node height).statement ts
+    ≡ read_statement (below_node (height - 1)) ts
 statement_is height ts h = statement_at (height - 1) ts (omega arith)
 
 -- a declaration below a node
-pub declaration_is : (height : ℕ) (ts : List Token) → 1 < height → (below_node height).declaration ts ≡ read_declaration (readers (height - 1 - 1)) ts
+pub declaration_is : (height : ℕ) (ts : List Token) → 1 < height → (below_node height).declaration ts
+    ≡ read_declaration (readers (height - 1 - 1)) ts
 declaration_is height ts h = declaration_at (height - 1) ts (omega arith)
 
 -- a declaration or a statement in a block
-pub item_is : (height : ℕ) (ts : List Token) → 1 < height → (below_node height).item ts ≡ read_block_item (below_node height).declaration (below_node height).statement ts
+pub item_is : (height : ℕ) (ts : List Token) → 1 < height → (below_node height).item ts
+    ≡ read_block_item (below_node height).declaration (below_node height).statement ts
 item_is height ts h = item_at (height - 1) ts (omega arith)
 
 -- a declaration in a block
-pub item_declared : (height : ℕ) (ts : List Token) → 1 < height → BeginsWithSpecifier ts → (below_node height).item ts ≡ then_read ((below_node height).declaration ts) (λ d us. Some (Declared d, us))
+pub item_declared : (height : ℕ) (ts : List Token) → 1 < height → BeginsWithSpecifier ts → (below_node height).item ts
+    ≡ then_read ((below_node height).declaration ts) (λ d us. Some (Declared d, us))
 item_declared height ts h b = item_is height ts h ∙ (rw b.3 refl)
 
 -- a statement in a block
-pub item_stated : (height : ℕ) (ts : List Token) → 1 < height → take_specifiers ts ≡ ([], ts) → (below_node height).item ts ≡ (below_node height).statement ts
+pub item_stated : (height : ℕ) (ts : List Token) → 1 < height → take_specifiers ts ≡ ([], ts)
+    → (below_node height).item ts ≡ (below_node height).statement ts
 item_stated height ts h e = item_is height ts h ∙ (rw e refl)
 
 -- a statement with its labels in a switch
-pub labelled_is : (height : ℕ) (ts : List Token) → 1 < height → (below_node height).labelled ts ≡ read_labelled (readers (height - 1)).conditional (below_node height).statement ts
+pub labelled_is : (height : ℕ) (ts : List Token) → 1 < height → (below_node height).labelled ts
+    ≡ read_labelled (readers (height - 1)).conditional (below_node height).statement ts
 labelled_is height ts h = labelled_at (height - 1) ts (omega arith)
 
 -- a statement behind its labels
-pub labelled_reads : (height : ℕ) (ts : List Token) (ls : List LabelTree) (us : List Token) → 1 < height → read_labels (readers (height - 1)).conditional ts ≡ Some (ls, us) → (below_node height).labelled ts ≡ then_read ((below_node height).statement us) (λ s vs. Some (Labelled ls s, vs))
+pub labelled_reads : (height : ℕ) (ts : List Token) (ls : List LabelTree) (us : List Token) → 1 < height
+    → read_labels (readers (height - 1)).conditional ts ≡ Some (ls, us) → (below_node height).labelled ts
+    ≡ then_read ((below_node height).statement us) (λ s vs. Some (Labelled ls s, vs))
 labelled_reads height ts ls us h e = labelled_is height ts h ∙ (rw e refl)
 
 -- ---- where no height is left
 
-none_then : {A B : Type 0} (r : Reads A) (f : A → List Token → Reads B) → ((a : A) (us : List Token) → f a us ≡ None) → then_read r f ≡ None
+none_then : {A B : Type 0} (r : Reads A) (f : A → List Token → Reads B) → ((a : A) (us : List Token) → f a us ≡ None)
+    → then_read r f ≡ None
 none_then None f n = refl
 none_then (Some (a, us)) f n = n a us
 
@@ -113,7 +128,8 @@ no_rest height ts e =
     none_then (maybe_before (below_node height).exprs.expression marks.RightParen vs) _ (λ step ws.
     none_then (take_mark marks.RightParen ws) _ (λ c xs. first_none _ _ (no_statement height xs e)))))
 
-no_for_with : (height : ℕ) (at o : Span) (ss : List Specifier) (ts : List Token) → height ≡ 1 → for_with (below_node height) at o ss ts ≡ None
+no_for_with : (height : ℕ) (at o : Span) (ss : List Specifier) (ts : List Token) → height ≡ 1
+    → for_with (below_node height) at o ss ts ≡ None
 no_for_with height at o [] ts e =
     none_then (maybe_before (below_node height).exprs.expression marks.Semicolon ts) _ (λ start us.
     none_then (take_mark marks.Semicolon us) _ (λ first vs. first_none _ _ (no_rest height vs e)))

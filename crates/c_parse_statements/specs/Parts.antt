@@ -53,7 +53,8 @@ abbrev pub ClauseTree : Type 0
 ClauseTree = Option Expr × Span
 
 abbrev pub read_clause : Below → Punct → List Token → Reads ClauseTree
-read_clause b m ts = then_read (maybe_before b.exprs.expression m ts) (λ e us. then_read (take_mark m us) (λ at vs. Some ((e, at), vs)))
+read_clause b m ts = then_read (maybe_before b.exprs.expression m ts)
+    (λ e us. then_read (take_mark m us) (λ at vs. Some ((e, at), vs)))
 
 abbrev pub DoTailTree : Type 0
 DoTailTree = Span × reading.Condition × Span
@@ -61,14 +62,17 @@ DoTailTree = Span × reading.Condition × Span
 -- 'while' '(' expression ')' ';'
 abbrev pub read_do_tail : Below → List Token → Reads DoTailTree
 read_do_tail b ts =
-    then_read (take_word words.While ts) (λ until us. then_read (read_condition b us) (λ k vs. then_read (take_mark marks.Semicolon vs) (λ semicolon ws. Some ((until, k, semicolon), ws))))
+    then_read (take_word words.While ts) (λ until us.
+        then_read (read_condition b us) (λ k vs.
+        then_read (take_mark marks.Semicolon vs) (λ semicolon ws. Some ((until, k, semicolon), ws))))
 
 abbrev pub ForTestsTree : Type 0
 ForTestsTree = ClauseTree × ClauseTree
 
 -- expression? ';' expression? ')'
 abbrev pub read_for_tests : Below → List Token → Reads ForTestsTree
-read_for_tests b ts = then_read (read_clause b marks.Semicolon ts) (λ k us. then_read (read_clause b marks.RightParen us) (λ step vs. Some ((k, step), vs)))
+read_for_tests b ts = then_read (read_clause b marks.Semicolon ts)
+    (λ k us. then_read (read_clause b marks.RightParen us) (λ step vs. Some ((k, step), vs)))
 
 pub data ForStartTree : Type 0 where
   Expressed : (clause : ClauseTree) → ForStartTree
@@ -88,7 +92,9 @@ ForHeadTree = Span × ForStartTree × ForTestsTree
 -- '(' (expression? ';' | declaration) expression? ';' expression? ')'
 abbrev pub read_for_head : Below → List Token → Reads ForHeadTree
 read_for_head b ts =
-    then_read (take_mark marks.LeftParen ts) (λ o us. then_read (read_for_start b us) (λ start vs. then_read (read_for_tests b vs) (λ tests ws. Some ((o, start, tests), ws))))
+    then_read (take_mark marks.LeftParen ts) (λ o us.
+        then_read (read_for_start b us) (λ start vs.
+        then_read (read_for_tests b vs) (λ tests ws. Some ((o, start, tests), ws))))
 
 abbrev pub for_of : Span → Span → ForStartTree → ForTestsTree → Stmt → Stmt
 for_of at o (Expressed k) t s = For at o k.0 k.1 t.0.0 t.0.1 t.1.0 t.1.1 s
@@ -99,14 +105,16 @@ SwitchHeadTree = reading.Condition × Span
 
 -- '(' expression ')' '{'
 abbrev pub read_switch_head : Below → List Token → Reads SwitchHeadTree
-read_switch_head b ts = then_read (read_condition b ts) (λ k us. then_read (take_mark marks.LeftBrace us) (λ begin vs. Some ((k, begin), vs)))
+read_switch_head b ts = then_read (read_condition b ts)
+    (λ k us. then_read (take_mark marks.LeftBrace us) (λ begin vs. Some ((k, begin), vs)))
 
 abbrev pub ClosedTree : Type 0
 ClosedTree = List Stmt × Span
 
 -- statements and the `}` behind them
 abbrev pub read_closed : StmtReader → List Token → Reads ClosedTree
-read_closed read ts = then_read (read_until read ts) (λ ss us. then_read (take_mark marks.RightBrace us) (λ c vs. Some ((ss, c), vs)))
+read_closed read ts = then_read (read_until read ts)
+    (λ ss us. then_read (take_mark marks.RightBrace us) (λ c vs. Some ((ss, c), vs)))
 
 -- ---- what the parts stand for
 
@@ -147,6 +155,7 @@ closed_of l = (statements_of l, l.close)
 -- one label more, or the end of the labels
 abbrev pub IsLabelTurn : Reader → List Token → List Token → Result (Option Label) Refusal → Type 0
 IsLabelTurn read old new (Ok (Some l)) =
-    ((so_far : List LabelTree) → label_step read so_far old ≡ Goes (so_far ++ label_of l ∷ []) new) × (length new < length old)
+    ((so_far : List LabelTree) → label_step read so_far old ≡ Goes (so_far ++ label_of l ∷ []) new)
+        × (length new < length old)
 IsLabelTurn read old new (Ok None) = ((so_far : List LabelTree) → label_step read so_far old ≡ Done) × (new ≡ old)
 IsLabelTurn read old new (Err e) = (so_far : List LabelTree) → RefusedStep (label_step read so_far old) e

@@ -40,7 +40,8 @@ fn continue_behind(parser: &mut Parser<'_>, at: Span) -> Result<Statement, Refus
 fn return_behind(parser: &mut Parser<'_>, at: Span, height: u32) -> Result<Statement, Refusal>
     requires low { 0 < height }
     requires high { height ≤ 256 }
-    ensures reads { IsRead stmt_of (return_behind (below_node height) at parser.old.rest.now) parser.new.rest.now result }
+    ensures reads { IsRead stmt_of (return_behind (below_node height) at parser.old.rest.now)
+        parser.new.rest.now result }
     ensures shorter { IfOk result (λ _. length parser.new.rest.now ≤ length parser.old.rest.now) }
 {
     let clause = take_clause(parser, Punct::Semicolon, height)?;
@@ -62,7 +63,8 @@ fn simple(parser: &mut Parser<'_>, height: u32) -> Result<Statement, Refusal>
 pub(crate) fn jump_or_simple(parser: &mut Parser<'_>, height: u32) -> Result<Statement, Refusal>
     requires low { 0 < height }
     requires high { height ≤ 256 }
-    ensures reads { IsRead stmt_of (or_break (below_node height) (take_word Keyword.Break parser.old.rest.now) parser.old.rest.now) parser.new.rest.now result }
+    ensures reads { IsRead stmt_of (or_break (below_node height) (take_word Keyword.Break parser.old.rest.now)
+        parser.old.rest.now) parser.new.rest.now result }
     ensures shorter { IfOk result (λ _. length parser.new.rest.now < length parser.old.rest.now) }
 {
     if let Some(at) = parser.take_word(Keyword::Break) {

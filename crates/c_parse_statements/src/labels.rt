@@ -38,7 +38,8 @@ fn take_label(parser: &mut Parser<'_>, height: u32) -> Result<Option<Label>, Ref
 pub(crate) fn take_labels(parser: &mut Parser<'_>, height: u32) -> Result<LabelList, Refusal>
     requires low { 1 < height }
     requires high { height ≤ 256 }
-    ensures reads { IsRead labels_of (read_labels (below height).conditional parser.old.rest.now) parser.new.rest.now result }
+    ensures reads { IsRead labels_of (read_labels (below height).conditional parser.old.rest.now) parser.new.rest.now
+        result }
     ensures shorter { IfOk result (λ _. length parser.new.rest.now ≤ length parser.old.rest.now) }
 {
     let mut labels = Vec::new(parser.alloc);

@@ -46,7 +46,8 @@ pub(crate) fn block_node(opening: Span, items: StatementList) -> Statement
 }
 
 pub(crate) fn if_node(at: Span, condition: Condition, then: Box<Statement>) -> Statement
-    ensures { stmt_of result ≡ trees.If at condition.opening (expr_of condition.value.value) condition.close (stmt_of then.value) }
+    ensures { stmt_of result ≡ trees.If at condition.opening (expr_of condition.value.value) condition.close
+        (stmt_of then.value) }
 {
     Statement::If {
         at,
@@ -64,7 +65,8 @@ pub(crate) fn if_else_node(
     otherwise: Span,
     other: Box<Statement>,
 ) -> Statement
-    ensures { stmt_of result ≡ trees.IfElse at condition.opening (expr_of condition.value.value) condition.close (stmt_of then.value) otherwise (stmt_of other.value) }
+    ensures { stmt_of result ≡ trees.IfElse at condition.opening (expr_of condition.value.value) condition.close
+        (stmt_of then.value) otherwise (stmt_of other.value) }
 {
     Statement::IfElse {
         at,
@@ -78,7 +80,8 @@ pub(crate) fn if_else_node(
 }
 
 pub(crate) fn while_node(at: Span, condition: Condition, body: Box<Statement>) -> Statement
-    ensures { stmt_of result ≡ trees.While at condition.opening (expr_of condition.value.value) condition.close (stmt_of body.value) }
+    ensures { stmt_of result ≡ trees.While at condition.opening (expr_of condition.value.value) condition.close
+        (stmt_of body.value) }
 {
     Statement::While {
         at,
@@ -90,7 +93,8 @@ pub(crate) fn while_node(at: Span, condition: Condition, body: Box<Statement>) -
 }
 
 pub(crate) fn do_node(at: Span, body: Box<Statement>, tail: DoTail) -> Statement
-    ensures { stmt_of result ≡ trees.Do at (stmt_of body.value) tail.until tail.condition.opening (expr_of tail.condition.value.value) tail.condition.close tail.semicolon }
+    ensures { stmt_of result ≡ trees.Do at (stmt_of body.value) tail.until tail.condition.opening
+        (expr_of tail.condition.value.value) tail.condition.close tail.semicolon }
 {
     Statement::Do {
         at,
@@ -138,7 +142,8 @@ pub(crate) fn for_node(at: Span, head: ForHead, body: Box<Statement>) -> Stateme
 }
 
 pub(crate) fn switch_node(at: Span, head: SwitchHead, items: StatementList) -> Statement
-    ensures { stmt_of result ≡ trees.Switch at head.value.opening (expr_of head.value.value.value) head.value.close head.begin (stmts_of (statements_of items)) items.close }
+    ensures { stmt_of result ≡ trees.Switch at head.value.opening (expr_of head.value.value.value) head.value.close
+        head.begin (stmts_of (statements_of items)) items.close }
 {
     Statement::Switch {
         at,

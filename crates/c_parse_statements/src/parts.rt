@@ -9,7 +9,9 @@ ghost use Rattle.pcc_base.specs.declared.refusal.Refusal.TheVariants.{Fault as F
 ghost use Rattle.c_grammar.specs.Declarations.{declaration_of};
 ghost use Rattle.c_grammar.specs.StatementReading.{read_condition};
 ghost use Rattle.c_parse_declarations.specs.Parts.{IsRead};
-ghost use Rattle.c_parse_statements.specs.Parts.{below_node, clause_of, condition_of, for_head_of, read_clause, read_do_tail, read_for_head, read_for_start, read_for_tests, read_switch_head, start_of, switch_head_of, tail_of, tests_of};
+ghost use Rattle.c_parse_statements.specs.Parts.{below_node, clause_of, condition_of, for_head_of, read_clause};
+ghost use Rattle.c_parse_statements.specs.Parts.{read_do_tail, read_for_head, read_for_start, read_for_tests};
+ghost use Rattle.c_parse_statements.specs.Parts.{read_switch_head, start_of, switch_head_of, tail_of, tests_of};
 
 use c_lexer::{Punct, TokenKind};
 use c_parse_declarations::{declaration, maybe};
@@ -86,7 +88,8 @@ pub(crate) struct StatementList {
 pub(crate) fn parenthesised(parser: &mut Parser<'_>, height: u32) -> Result<Condition, Refusal>
     requires low { 1 < height }
     requires high { height ≤ 256 }
-    ensures reads { IsRead condition_of (read_condition (below_node height) parser.old.rest.now) parser.new.rest.now result }
+    ensures reads { IsRead condition_of (read_condition (below_node height) parser.old.rest.now) parser.new.rest.now
+        result }
     ensures shorter { IfOk result (λ _. length parser.new.rest.now < length parser.old.rest.now) }
 {
     let Some(opening) = parser.take_mark(Punct::LeftParen) else {
@@ -111,7 +114,8 @@ pub(crate) fn take_clause(
 ) -> Result<Clause, Refusal>
     requires low { 0 < height }
     requires high { height ≤ 256 }
-    ensures reads { IsRead clause_of (read_clause (below_node height) mark parser.old.rest.now) parser.new.rest.now result }
+    ensures reads { IsRead clause_of (read_clause (below_node height) mark parser.old.rest.now) parser.new.rest.now
+        result }
     ensures shorter { IfOk result (λ _. length parser.new.rest.now < length parser.old.rest.now) }
 {
     let value = maybe(parser, Rule::Expression, mark, height)?;
@@ -146,7 +150,8 @@ pub(crate) fn do_tail(parser: &mut Parser<'_>, height: u32) -> Result<DoTail, Re
 fn for_start(parser: &mut Parser<'_>, height: u32) -> Result<ForStart, Refusal>
     requires low { 1 < height }
     requires high { height ≤ 256 }
-    ensures reads { IsRead start_of (read_for_start (below_node height) parser.old.rest.now) parser.new.rest.now result }
+    ensures reads { IsRead start_of (read_for_start (below_node height) parser.old.rest.now)
+        parser.new.rest.now result }
     ensures shorter { IfOk result (λ _. length parser.new.rest.now < length parser.old.rest.now) }
 {
     if parser.at_specifier() {
@@ -161,7 +166,8 @@ fn for_start(parser: &mut Parser<'_>, height: u32) -> Result<ForStart, Refusal>
 fn for_tests(parser: &mut Parser<'_>, height: u32) -> Result<ForTests, Refusal>
     requires low { 1 < height }
     requires high { height ≤ 256 }
-    ensures reads { IsRead tests_of (read_for_tests (below_node height) parser.old.rest.now) parser.new.rest.now result }
+    ensures reads { IsRead tests_of (read_for_tests (below_node height) parser.old.rest.now)
+        parser.new.rest.now result }
     ensures shorter { IfOk result (λ _. length parser.new.rest.now < length parser.old.rest.now) }
 {
     let condition = take_clause(parser, Punct::Semicolon, height)?;
@@ -178,7 +184,8 @@ fn for_tests(parser: &mut Parser<'_>, height: u32) -> Result<ForTests, Refusal>
 pub(crate) fn for_head(parser: &mut Parser<'_>, height: u32) -> Result<ForHead, Refusal>
     requires low { 1 < height }
     requires high { height ≤ 256 }
-    ensures reads { IsRead for_head_of (read_for_head (below_node height) parser.old.rest.now) parser.new.rest.now result }
+    ensures reads { IsRead for_head_of (read_for_head (below_node height) parser.old.rest.now) parser.new.rest.now
+        result }
     ensures shorter { IfOk result (λ _. length parser.new.rest.now < length parser.old.rest.now) }
 {
     let Some(opening) = parser.take_mark(Punct::LeftParen) else {
@@ -202,7 +209,8 @@ pub(crate) fn for_head(parser: &mut Parser<'_>, height: u32) -> Result<ForHead, 
 pub(crate) fn switch_head(parser: &mut Parser<'_>, height: u32) -> Result<SwitchHead, Refusal>
     requires low { 1 < height }
     requires high { height ≤ 256 }
-    ensures reads { IsRead switch_head_of (read_switch_head (below_node height) parser.old.rest.now) parser.new.rest.now result }
+    ensures reads { IsRead switch_head_of (read_switch_head (below_node height) parser.old.rest.now) parser.new.rest.now
+        result }
     ensures shorter { IfOk result (λ _. length parser.new.rest.now < length parser.old.rest.now) }
 {
     let value = parenthesised(parser, height)?;
@@ -219,7 +227,8 @@ pub(crate) fn declaration_below(
 ) -> Result<Declaration, Refusal>
     requires low { 1 < height }
     requires high { height ≤ 256 }
-    ensures reads { IsRead declaration_of ((below_node height).declaration parser.old.rest.now) parser.new.rest.now result }
+    ensures reads { IsRead declaration_of ((below_node height).declaration parser.old.rest.now) parser.new.rest.now
+        result }
     ensures shorter { IfOk result (λ _. length parser.new.rest.now < length parser.old.rest.now) }
 {
     declaration(parser, height - 1)

@@ -2,7 +2,8 @@
 
 ghost use Rattle.std.specs.Prelude.{◌≡◌, ◌<◌, ◌≤◌, length, IfOk};
 ghost use Rattle.c_grammar.specs.Statements.{stmt_of};
-ghost use Rattle.c_grammar.specs.StatementReading.{read_statement, block_behind, else_from, if_behind, while_behind, do_behind, for_behind, switch_behind};
+ghost use Rattle.c_grammar.specs.StatementReading.{read_statement, block_behind, else_from, if_behind, while_behind};
+ghost use Rattle.c_grammar.specs.StatementReading.{do_behind, for_behind, switch_behind};
 ghost use Rattle.c_grammar.specs.Taking.{take_word};
 ghost use Rattle.c_parse_declarations.specs.Parts.{IsRead};
 ghost use Rattle.c_parse_statements.specs.Parts.{below_node, boxed_of, closed_of, condition_of, read_closed};
@@ -81,7 +82,8 @@ fn labelled(parser: &mut Parser<'_>, height: u32) -> Result<Statement, Refusal>
 fn block_items(parser: &mut Parser<'_>, height: u32) -> Result<StatementList, Refusal>
     requires low { 0 < height }
     requires high { height ≤ 256 }
-    ensures reads { IsRead closed_of (read_closed (below_node height).item parser.old.rest.now) parser.new.rest.now result }
+    ensures reads { IsRead closed_of (read_closed (below_node height).item parser.old.rest.now) parser.new.rest.now
+        result }
     ensures shorter { IfOk result (λ _. length parser.new.rest.now < length parser.old.rest.now) }
 {
     let mut statements = Vec::new(parser.alloc);
@@ -100,7 +102,8 @@ fn block_items(parser: &mut Parser<'_>, height: u32) -> Result<StatementList, Re
 fn switch_items(parser: &mut Parser<'_>, height: u32) -> Result<StatementList, Refusal>
     requires low { 1 < height }
     requires high { height ≤ 256 }
-    ensures reads { IsRead closed_of (read_closed (below_node height).labelled parser.old.rest.now) parser.new.rest.now result }
+    ensures reads { IsRead closed_of (read_closed (below_node height).labelled parser.old.rest.now) parser.new.rest.now
+        result }
     ensures shorter { IfOk result (λ _. length parser.new.rest.now < length parser.old.rest.now) }
 {
     let mut statements = Vec::new(parser.alloc);
@@ -119,7 +122,8 @@ fn switch_items(parser: &mut Parser<'_>, height: u32) -> Result<StatementList, R
 fn block_behind(parser: &mut Parser<'_>, opening: Span, height: u32) -> Result<Statement, Refusal>
     requires low { 0 < height }
     requires high { height ≤ 256 }
-    ensures reads { IsRead stmt_of (block_behind (below_node height) opening parser.old.rest.now) parser.new.rest.now result }
+    ensures reads { IsRead stmt_of (block_behind (below_node height) opening parser.old.rest.now) parser.new.rest.now
+        result }
     ensures shorter { IfOk result (λ _. length parser.new.rest.now ≤ length parser.old.rest.now) }
 {
     let items = block_items(parser, height)?;
@@ -157,7 +161,8 @@ fn else_behind(
 ) -> Result<Statement, Refusal>
     requires low { 1 < height }
     requires high { height ≤ 256 }
-    ensures reads { IsRead stmt_of (else_from (below_node height) at (condition_of condition) (stmt_of then.value) (take_word Keyword.Else parser.old.rest.now) parser.old.rest.now) parser.new.rest.now result }
+    ensures reads { IsRead stmt_of (else_from (below_node height) at (condition_of condition) (stmt_of then.value)
+        (take_word Keyword.Else parser.old.rest.now) parser.old.rest.now) parser.new.rest.now result }
     ensures shorter { IfOk result (λ _. length parser.new.rest.now ≤ length parser.old.rest.now) }
 {
     let Some(otherwise) = parser.take_word(Keyword::Else) else {
@@ -177,7 +182,8 @@ fn else_behind(
 fn while_behind(parser: &mut Parser<'_>, at: Span, height: u32) -> Result<Statement, Refusal>
     requires low { 0 < height }
     requires high { height ≤ 256 }
-    ensures reads { IsRead stmt_of (while_behind (below_node height) at parser.old.rest.now) parser.new.rest.now result }
+    ensures reads { IsRead stmt_of (while_behind (below_node height) at parser.old.rest.now)
+        parser.new.rest.now result }
     ensures shorter { IfOk result (λ _. length parser.new.rest.now ≤ length parser.old.rest.now) }
 {
     height_below(height, at)?;
@@ -234,7 +240,8 @@ fn for_behind(parser: &mut Parser<'_>, at: Span, height: u32) -> Result<Statemen
 fn switch_behind(parser: &mut Parser<'_>, at: Span, height: u32) -> Result<Statement, Refusal>
     requires low { 0 < height }
     requires high { height ≤ 256 }
-    ensures reads { IsRead stmt_of (switch_behind (below_node height) at parser.old.rest.now) parser.new.rest.now result }
+    ensures reads { IsRead stmt_of (switch_behind (below_node height) at parser.old.rest.now)
+        parser.new.rest.now result }
     ensures shorter { IfOk result (λ _. length parser.new.rest.now ≤ length parser.old.rest.now) }
 {
     height_below(height, at)?;

@@ -29,7 +29,8 @@ fn is_function(part: &DeclaratorPart) -> bool
 fn external(parser: &mut Parser<'_>, height: u32) -> Result<External, Refusal>
     requires low { 1 < height }
     requires high { height ≤ 256 }
-    ensures reads { IsRead external_of (read_external (below_node height) parser.old.rest.now) parser.new.rest.now result }
+    ensures reads { IsRead external_of (read_external (below_node height) parser.old.rest.now) parser.new.rest.now
+        result }
     ensures shorter { IfOk result (λ _. length parser.new.rest.now < length parser.old.rest.now) }
 {
     let specifiers = some_specifiers(parser)?;

@@ -1,5 +1,6 @@
 -- What a program holds while it runs, and how far it has come (C99 5.1.2.3 and 6.2.4).
-use Rattle.std.specs.Prelude.{ℕ, zero, suc, ◌==◌, ℤ, pos, negsuc, List, [], ◌∷◌, ◌++◌, length, map, replicate, slice_get}
+use Rattle.std.specs.Prelude.{ℕ, zero, suc, ◌==◌, ℤ, pos, negsuc, List, [], ◌∷◌, ◌++◌, length, map, replicate}
+use Rattle.std.specs.Prelude.{slice_get}
 use Rattle.std.specs.Prelude.{slice_set, slice_index_or, Option, Some, None, if◌then◌else◌}
 use Rattle.std.specs.Int.{w8, w16, int_wrap}
 use Rattle.pcc_base.specs.Outcome.{End, Goes, Trapped, ArrayName, Value, Number, Part, Visit, Listing}

@@ -8,8 +8,10 @@ use Rattle.c_tree.specs.declared.statement.Label.{Label}
 use Rattle.c_tree.specs.declared.types.IntegerType.TheVariants.{Char, Int}
 use Rattle.c_tree.specs.declared.types.ValueType.TheVariants.{Integer, Pointer}
 use Rattle.c_tree.specs.Program.{int, Expression, Constant, Start, Read, Binary, Assign, Step, Call, Putchar, Exit}
-use Rattle.c_tree.specs.Program.{LocalPlace, Target, Element, NoMore, Argument, Elements, Text, Scalar, Array, Statements}
-use Rattle.c_tree.specs.Program.{Declare, Evaluate, While, Switch, Break, Return, Done, Next, Local, LocalArray, Function}
+use Rattle.c_tree.specs.Program.{LocalPlace, Target, Element, NoMore, Argument, Elements, Text, Scalar, Array}
+use Rattle.c_tree.specs.Program.{Statements}
+use Rattle.c_tree.specs.Program.{Declare, Evaluate, While, Switch, Break, Return, Done, Next, Local, LocalArray}
+use Rattle.c_tree.specs.Program.{Function}
 use Rattle.c_tree.specs.Program.{Program}
 
 -- a program that is a `main` with these locals and arrays and this body

@@ -1,5 +1,6 @@
 -- Which segments are loadable, part by part.
-use Rattle.std.proofs.Common.{◌≡◌, ◌↔◌, ℕ, suc, ◌+◌, ◌≤◌, ◌<◌, Bool, true, false, true≢false, List, [], ◌∷◌, length, map, All, AllPairs, HoldsAt, MatchBool, refl, sym, subst, arith, get_or, fold, sum_by}
+use Rattle.std.proofs.Common.{◌≡◌, ◌↔◌, ℕ, suc, ◌+◌, ◌≤◌, ◌<◌, Bool, true, false, true≢false, List, [], ◌∷◌, length}
+use Rattle.std.proofs.Common.{map, All, AllPairs, HoldsAt, MatchBool, refl, sym, subst, arith, get_or, fold, sum_by}
 use Rattle.std.specs.Bool.{Decides}
 use Rattle.std.specs.List.{AllWithin}
 use Rattle.std.proofs.lemmas.List.{length-map, get_or-map}
@@ -19,13 +20,15 @@ decided P (x ∷ xs) false (k, inside, not) =
     let d : Segment = x in
     let same : get_or (map piece_of (x ∷ xs)) k (piece_of d) ≡ piece_of (get_or (x ∷ xs) k d) =
     get_or-map piece_of (x ∷ xs) k d (piece_of d) inside in
-    let within : k < length (map piece_of (x ∷ xs)) = subst (λ (n : ℕ). k < n) (sym (length-map (x ∷ xs) piece_of)) inside in
+    let within : k < length (map piece_of (x ∷ xs)) =
+        subst (λ (n : ℕ). k < n) (sym (length-map (x ∷ xs) piece_of)) inside in
     (λ e. absurd (true≢false (sym e)), λ all. absurd (not d (subst P same (all k (piece_of d) within))))
 
 -- the first is apart from all others, and these are
 pub pairs-split : (R : Piece → Piece → Type 0) (x : Piece) (xs : List Piece) → AllPairs R (x ∷ xs)
     → All (R x) xs × AllPairs R xs
-pairs-split R x xs all = (λ k d inside. all 0 (suc k) d (omega arith) (omega arith), λ i j d less inside. all (suc i) (suc j) d (omega arith) (omega arith))
+pairs-split R x xs all = (λ k d inside. all 0 (suc k) d (omega arith) (omega arith),
+    λ i j d less inside. all (suc i) (suc j) d (omega arith) (omega arith))
 
 -- where the first is apart from all others, all are exactly where these are
 pub pairs-step : (x : Piece) (xs : List Piece) → All (AreApart x) xs → AllPairs AreApart (x ∷ xs) ↔ AllPairs AreApart xs

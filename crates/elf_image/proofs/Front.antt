@@ -1,5 +1,6 @@
 -- Where the parts of an image stand in its bytes.
-use Rattle.std.proofs.Common.{◌≡◌, ℕ, ◌+◌, ◌-◌, ◌≤◌, List, ◌++◌, length, take, drop, sym, ap, ◌∙◌, arith, append_assoc, length-append, length-drop}
+use Rattle.std.proofs.Common.{◌≡◌, ℕ, ◌+◌, ◌-◌, ◌≤◌, List, ◌++◌, length, take, drop, sym, ap, ◌∙◌, arith, append_assoc}
+use Rattle.std.proofs.Common.{length-append, length-drop}
 use Rattle.std.proofs.Math.Seq.{take-append_seam, drop-append_seam, take-length}
 use Rattle.std.proofs.lemmas.List.{length-replicate}
 use Rattle.byteorder.specs.Endian.{little_number}
@@ -7,14 +8,16 @@ use Rattle.byteorder.specs.Numbers.{little_from-take, little_number-reads_back}
 use Rattle.std.specs.Int.{next_multiple_of}
 use Rattle.elf_image.specs.Fields.{text_length, parts_in}
 use Rattle.pcc_base.specs.Bytes.{zeros}
-use Rattle.elf_image.specs.Layout.{Parts, Fits, elf_header, program_header, text_address, text_span, data_memory, image_bytes}
+use Rattle.elf_image.specs.Layout.{Parts, Fits, elf_header, program_header, text_address, text_span, data_memory}
+use Rattle.elf_image.specs.Layout.{image_bytes}
 
 -- the bytes before the text
 pub front : Parts → List ℕ
 front parts =
     elf_header parts.entry
     ++ program_header 4096 text_address (length parts.text) (length parts.text) 5
-    ++ program_header (4096 + text_span parts) (text_address + text_span parts) (length parts.data_bytes) (data_memory parts) 6
+    ++ program_header (4096 + text_span parts) (text_address + text_span parts) (length parts.data_bytes)
+        (data_memory parts) 6
     ++ zeros (4096 - 116)
 
 -- there are n zeros
@@ -28,7 +31,8 @@ unfolding front
 length-front parts = let e = length-zeros 3980 in omega (arith, e)
 
 -- an image is what stands before the text, the text, zeros and the data
-pub image-parts : (parts : Parts) → image_bytes parts ≡ front parts ++ (parts.text ++ (zeros (text_span parts - length parts.text) ++ parts.data_bytes))
+pub image-parts : (parts : Parts) → image_bytes parts
+    ≡ front parts ++ (parts.text ++ (zeros (text_span parts - length parts.text) ++ parts.data_bytes))
 unfolding front
 image-parts parts = simp append_assoc
 
@@ -41,11 +45,13 @@ length-image parts =
 
 -- e_entry is the entry
 pub entry-reads : (parts : Parts) → Fits parts → little_number 4 (drop 24 (image_bytes parts)) ≡ parts.entry
-entry-reads parts fits = little_number-reads_back 4 parts.entry (drop 28 (image_bytes parts)) (omega (arith, fits.entry))
+entry-reads parts fits = little_number-reads_back 4 parts.entry (drop 28 (image_bytes parts))
+    (omega (arith, fits.entry))
 
 -- p_filesz of the first program header is the length of the text
 pub text_length-reads : (parts : Parts) → Fits parts → text_length (image_bytes parts) ≡ length parts.text
-text_length-reads parts fits = little_number-reads_back 4 (length parts.text) (drop 72 (image_bytes parts)) (omega (arith, fits.size))
+text_length-reads parts fits = little_number-reads_back 4 (length parts.text) (drop 72 (image_bytes parts))
+    (omega (arith, fits.size))
 
 -- the text begins at the first page
 text-reads : (parts : Parts) → take (length parts.text) (drop 4096 (image_bytes parts)) ≡ parts.text
@@ -70,7 +76,8 @@ data-reads parts =
     ∙ drop-append_seam before parts.data_bytes
 
 -- parts are equal where their fields are
-pub parts-equal : {e f : ℕ} {t u d w : List ℕ} → e ≡ f → t ≡ u → d ≡ w → record { entry = e; text = t; data_bytes = d } ≡ (let parts : Parts = record { entry = f; text = u; data_bytes = w } in parts)
+pub parts-equal : {e f : ℕ} {t u d w : List ℕ} → e ≡ f → t ≡ u → d ≡ w → record { entry = e; text = t; data_bytes = d }
+    ≡ (let parts : Parts = record { entry = f; text = u; data_bytes = w } in parts)
 parts-equal same-entry same-text same-data = cc
 
 -- the parts of an image are found in its bytes
@@ -89,7 +96,8 @@ pub record HasRoom (bytes : List ℕ) (n : ℕ) : Type 0 where
   pub size : n + (length bytes - (4096 + next_multiple_of n 4096)) ≤ 1200000000
 
 -- an image has room for a text of as many bytes as its field says
-pub image-room : (bytes : List ℕ) (parts : Parts) (n : ℕ) → Fits parts → bytes ≡ image_bytes parts → n ≡ text_length bytes → HasRoom bytes n
+pub image-room : (bytes : List ℕ) (parts : Parts) (n : ℕ) → Fits parts → bytes ≡ image_bytes parts → n
+    ≡ text_length bytes → HasRoom bytes n
 image-room bytes parts n fits same is =
     let long : length bytes ≡ 4096 + text_span parts + length parts.data_bytes = ap length same ∙ length-image parts in
     let count : length parts.text ≡ n = sym (text_length-reads parts fits) ∙ sym (ap text_length same) ∙ sym is in
@@ -98,7 +106,8 @@ image-room bytes parts n fits same is =
     record { headers = omega arith; text = omega arith; size = omega arith }
 
 -- what is read from a place within the first page is the number in the four bytes there
-pub field-reads : (at n : ℕ) (bytes : List ℕ) → 4096 ≤ length bytes → at ≤ 4092 → n ≡ little_number 4 (take (length bytes - at) (drop at bytes)) → n ≡ little_number 4 (drop at bytes)
+pub field-reads : (at n : ℕ) (bytes : List ℕ) → 4096 ≤ length bytes → at ≤ 4092 → n
+    ≡ little_number 4 (take (length bytes - at) (drop at bytes)) → n ≡ little_number 4 (drop at bytes)
 field-reads at n bytes long within is = is ∙ little_from-take 0 4 (length bytes - at) (drop at bytes) (omega arith)
 
 -- the rest of a slice, from a place on

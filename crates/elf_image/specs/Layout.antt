@@ -52,7 +52,8 @@ abbrev pub image_bytes : Parts → List ℕ
 image_bytes parts =
     elf_header parts.entry
     ++ program_header 4096 text_address (length parts.text) (length parts.text) 5
-    ++ program_header (4096 + text_span parts) (text_address + text_span parts) (length parts.data_bytes) (data_memory parts) 6
+    ++ program_header (4096 + text_span parts) (text_address + text_span parts) (length parts.data_bytes)
+        (data_memory parts) 6
     ++ zeros (4096 - 116)
     ++ parts.text
     ++ zeros (text_span parts - length parts.text)

@@ -1,5 +1,6 @@
 -- What the bytes of a file load: segments of memory, and where running begins.
-use Rattle.std.specs.Prelude.{◌≡◌, ℕ, ◌+◌, ◌<◌, ◌≤◌, ◌^◌, Bool, true, false, List, [], ◌∷◌, length, map, sum_by, All, AllPairs}
+use Rattle.std.specs.Prelude.{◌≡◌, ℕ, ◌+◌, ◌<◌, ◌≤◌, ◌^◌, Bool, true, false, List, [], ◌∷◌, length, map, sum_by, All}
+use Rattle.std.specs.Prelude.{AllPairs}
 use Rattle.elf_image.specs.declared.image.Image.{Image}
 use Rattle.elf_image.specs.declared.loaded.Segment.{Segment}
 use Rattle.elf_image.specs.declared.loaded.Loaded.{Loaded}
@@ -23,7 +24,8 @@ pub record Segments : Type 0 where
   pub pieces : List Piece
 
 abbrev pub piece_of : Segment → Piece
-piece_of s = record { address = s.addr; bytes = s.bytes.items; size = s.size; readable = s.read; writable = s.write; runnable = s.exec }
+piece_of s = record { address = s.addr; bytes = s.bytes.items; size = s.size; readable = s.read; writable = s.write;
+    runnable = s.exec }
 
 abbrev pub segments_of : Loaded → Segments
 segments_of loaded = record { entry = loaded.entry; pieces = map piece_of loaded.segments.items }
@@ -34,8 +36,10 @@ image_segments parts =
     record {
       entry = parts.entry;
       pieces =
-          record { address = text_address; bytes = parts.text; size = length parts.text; readable = true; writable = false; runnable = true }
-          ∷ record { address = text_address + text_span parts; bytes = parts.data_bytes; size = data_memory parts; readable = true; writable = true; runnable = false }
+          record { address = text_address; bytes = parts.text; size = length parts.text; readable = true; writable =
+              false; runnable = true }
+          ∷ record { address = text_address + text_span parts; bytes = parts.data_bytes; size = data_memory parts;
+              readable = true; writable = true; runnable = false }
           ∷ [];
     }
 

@@ -12,7 +12,8 @@ pub fn one_image()
 
 /// An image has a page of headers, its text in whole pages, and its data.
 pub fn image_length()
-    ensures { (parts : Parts) → Fits parts → length (image_bytes parts) ≡ 4096 + text_span parts + length parts.data_bytes }
+    ensures { (parts : Parts) → Fits parts → length (image_bytes parts)
+        ≡ 4096 + text_span parts + length parts.data_bytes }
 {}
 
 /// The text and the data lie in the file of their image, also where they have no bytes.

@@ -22,7 +22,8 @@ const TEXT_SIZE: usize = 68;
 fn candidate(alloc: Global, bytes: &[u8]) -> Result<Image, ImageRefusal>
     ensures parts { IfOk result (λ image. parts_of image ≡ parts_in bytes.now) }
     ensures fits { IfOk result (λ image. Fits (parts_of image)) }
-    ensures not_image { IsErrOf result ImageRefusal.NotImage → (parts : Parts) → Fits parts → bytes.now ≡ image_bytes parts → ⊥ }
+    ensures not_image { IsErrOf result ImageRefusal.NotImage → (parts : Parts) → Fits parts → bytes.now
+        ≡ image_bytes parts → ⊥ }
 {
     if bytes.len() < PAGE {
         return Err(ImageRefusal::NotImage);

@@ -73,7 +73,8 @@ fn push_elf_header(out: &mut Vec<u8>, entry: u32) -> Result<(), NoMemory>
 
 /// Puts a program header of type `PT_LOAD` at the end (ELF, "Program Header").
 fn push_program_header(out: &mut Vec<u8>, header: ProgramHeader) -> Result<(), NoMemory>
-    ensures { OnOk result (out.new.items ≡ out.old.items ++ program_header header.offset header.address header.file_size header.memory_size header.flags) }
+    ensures { OnOk result (out.new.items ≡ out.old.items
+        ++ program_header header.offset header.address header.file_size header.memory_size header.flags) }
 {
     push_word(out, 1)?;
     push_word(out, header.offset)?;

@@ -1,5 +1,6 @@
 -- Lists by the numbers of functions, filled in the order in which the functions stand.
-use Rattle.std.specs.Prelude.{◌≡◌, ◌<◌, ◌≤◌, ℕ, zero, suc, ◌+◌, List, [], ◌∷◌, drop, length, slice_set, slice_get, slice_index_or, Some, option_map}
+use Rattle.std.specs.Prelude.{◌≡◌, ◌<◌, ◌≤◌, ℕ, zero, suc, ◌+◌, List, [], ◌∷◌, drop, length, slice_set, slice_get}
+use Rattle.std.specs.Prelude.{slice_index_or, Some, option_map}
 use Rattle.std.proofs.Common.{refl, sym, ap, ◌∙◌, subst, arith, inl, inr}
 use Rattle.std.proofs.lemmas.Bool.{cases_eq}
 use Rattle.std.proofs.lemmas.Option.{same_Some, slice_get-map, slice_get_within}
@@ -18,7 +19,8 @@ set-there (y ∷ ys) zero x h = refl
 set-there (y ∷ ys) (suc k) x h = set-there ys k x (omega (arith, h))
 
 -- the others stay
-set-elsewhere : {A : Type 0} (xs : List A) (k l : ℕ) (x : A) → (l ≡ k → ⊥) → slice_get (slice_set xs k x) l ≡ slice_get xs l
+set-elsewhere : {A : Type 0} (xs : List A) (k l : ℕ) (x : A) → (l ≡ k → ⊥) → slice_get (slice_set xs k x) l
+    ≡ slice_get xs l
 set-elsewhere [] k l x h = refl
 set-elsewhere (y ∷ ys) zero zero x h = absurd (h refl)
 set-elsewhere (y ∷ ys) zero (suc l) x h = refl
@@ -31,36 +33,44 @@ IsFilled order placed numbered n =
     (i k : ℕ) → i < n → slice_get order i ≡ Some k → slice_get numbered k ≡ slice_get placed i
 
 -- one place more
-pub filled-more : {A : Type 0} (order : List ℕ) (placed numbered : List A) (m n k : ℕ) (x : A) → IsOrder m order → slice_get order n ≡ Some k
-    → slice_get placed n ≡ Some x → k < length numbered → IsFilled order placed numbered n → IsFilled order placed (slice_set numbered k x) (n + 1)
+pub filled-more : {A : Type 0} (order : List ℕ) (placed numbered : List A) (m n k : ℕ) (x : A) → IsOrder m order
+    → slice_get order n ≡ Some k
+    → slice_get placed n ≡ Some x → k < length numbered → IsFilled order placed numbered n
+        → IsFilled order placed (slice_set numbered k x) (n + 1)
 filled-more order placed numbered m n k x is at there inside filled =
     λ i l h e. elim (cases_eq i n) [
       | inl same ↦
           let number : l ≡ k = same_Some l k (sym e ∙ ap (slice_get order) same ∙ at) in
-          ap (slice_get (slice_set numbered k x)) number ∙ set-there numbered k x inside ∙ sym there ∙ ap (slice_get placed) (sym same)
+          ap (slice_get (slice_set numbered k x)) number ∙ set-there numbered k x inside ∙ sym there
+              ∙ ap (slice_get placed) (sym same)
       | inr other ↦
-          set-elsewhere numbered k l x (λ number. other (is.once i n l e (at ∙ ap Some (sym number)))) ∙ filled i l (omega (arith, h, other)) e
+          set-elsewhere numbered k l x (λ number. other (is.once i n l e (at ∙ ap Some (sym number))))
+              ∙ filled i l (omega (arith, h, other)) e
     ]
 
 -- all places
-pub filled-all : {A : Type 0} (order : List ℕ) (placed numbered : List A) (n : ℕ) → length order ≤ n → IsFilled order placed numbered n → AreNumbered order placed numbered
+pub filled-all : {A : Type 0} (order : List ℕ) (placed numbered : List A) (n : ℕ) → length order ≤ n
+    → IsFilled order placed numbered n → AreNumbered order placed numbered
 filled-all order placed numbered n h filled = λ i k e. filled i k (omega (arith, h, slice_get_within order i k e)) e
 
 -- what comes next in a list
-next-suc : {A : Type 0} (n : ℕ) (whole : List A) (x : A) (rest : List A) → drop n whole ≡ x ∷ rest → (slice_get whole n ≡ Some x) × (drop (suc n) whole ≡ rest)
+next-suc : {A : Type 0} (n : ℕ) (whole : List A) (x : A) (rest : List A) → drop n whole ≡ x ∷ rest
+    → (slice_get whole n ≡ Some x) × (drop (suc n) whole ≡ rest)
 next-suc zero [] x rest e = absurd (cc)
 next-suc zero (y ∷ ys) x rest e = (ap (λ zs. slice_get zs 0) e, ap (drop 1) e)
 next-suc (suc n) [] x rest e = absurd (cc)
 next-suc (suc n) (y ∷ ys) x rest e = next-suc n ys x rest e
 
-pub next-of : {A : Type 0} (n : ℕ) (whole : List A) (x : A) (rest : List A) → drop n whole ≡ x ∷ rest → (slice_get whole n ≡ Some x) × (drop (n + 1) whole ≡ rest)
+pub next-of : {A : Type 0} (n : ℕ) (whole : List A) (x : A) (rest : List A) → drop n whole ≡ x ∷ rest
+    → (slice_get whole n ≡ Some x) × (drop (n + 1) whole ≡ rest)
 next-of n whole x rest e =
     let next = next-suc n whole x rest e in
     let one : n + 1 ≡ suc n = omega arith in
     (next.0, ap (λ m. drop m whole) one ∙ next.1)
 
 -- the function of a section stands in the order at the section's place
-pub number-at : (sections : List Section) (i : ℕ) (s : Section) → slice_get sections i ≡ Some s → slice_get (order_of sections) i ≡ Some (function_of s)
+pub number-at : (sections : List Section) (i : ℕ) (s : Section) → slice_get sections i ≡ Some s
+    → slice_get (order_of sections) i ≡ Some (function_of s)
 number-at sections i s e = slice_get-map function_of sections i ∙ ap (option_map function_of) e
 
 -- a list in which an element was set is as long
@@ -85,18 +95,22 @@ order-alone = record { below = below; each = λ k h. (0, ap Some (omega (arith, 
     once (suc i) j k e f = absurd (cc)
 
 pub number-alone : (items : List Item) (s : Section) → IsSection 0 items s → order_of (s ∷ []) ≡ 0 ∷ []
-number-alone items s is = ap (λ (symbols : List Symbol). (slice_index_or symbols 0 (record { function = 0; offset = 0 })).function ∷ []) is.one_symbol
+number-alone items s is = ap (λ (symbols : List Symbol).
+    (slice_index_or symbols 0 (record { function = 0; offset = 0 })).function ∷ []) is.one_symbol
 
 pub sections-alone : (items : List Item) (s : Section) → IsSection 0 items s → AreSections (items ∷ []) (s ∷ [])
 sections-alone items s is =
     record { many = refl; each = λ i t e. each i t e }
   where
     number : function_of s ≡ 0
-    number = ap (λ (symbols : List Symbol). (slice_index_or symbols 0 (record { function = 0; offset = 0 })).function) is.one_symbol
+    number = ap (λ (symbols : List Symbol). (slice_index_or symbols 0 (record { function = 0; offset = 0 })).function)
+        is.one_symbol
 
-    each : (i : ℕ) (t : Section) → slice_get (s ∷ []) i ≡ Some t → (xs : List Item) × (slice_get (items ∷ []) (function_of t) ≡ Some xs) × IsSection (function_of t) xs t
+    each : (i : ℕ) (t : Section) → slice_get (s ∷ []) i ≡ Some t → (xs : List Item)
+        × (slice_get (items ∷ []) (function_of t) ≡ Some xs) × IsSection (function_of t) xs t
     each zero t e =
-        let P : Section → Type 0 = λ u. (xs : List Item) × (slice_get (items ∷ []) (function_of u) ≡ Some xs) × IsSection (function_of u) xs u in
+        let P : Section → Type 0 = λ u. (xs : List Item) × (slice_get (items ∷ []) (function_of u) ≡ Some xs)
+            × IsSection (function_of u) xs u in
         let Q : ℕ → Type 0 = λ n. (xs : List Item) × (slice_get (items ∷ []) n ≡ Some xs) × IsSection n xs s in
         subst P (same_Some s t e) (subst Q (sym number) (items, refl, is))
     each (suc i) t e = absurd (cc)

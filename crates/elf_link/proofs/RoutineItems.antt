@@ -1,5 +1,6 @@
 -- The items of the routines can be assembled, and need no places.
-use Rattle.std.specs.Prelude.{◌≡◌, ⊤, ◌<◌, ℕ, zero, suc, ◌+◌, ◌^◌, pos, List, [], ◌∷◌, ◌++◌, length, slice_get, Some, None}
+use Rattle.std.specs.Prelude.{◌≡◌, ⊤, ◌<◌, ℕ, zero, suc, ◌+◌, ◌^◌, pos, List, [], ◌∷◌, ◌++◌, length, slice_get, Some}
+use Rattle.std.specs.Prelude.{None}
 use Rattle.std.specs.List.{AllByRecursion}
 use Rattle.std.specs.Int.{w32, cast_signed}
 use Rattle.std.proofs.Common.{refl, subst, arith, inl, inr}
@@ -14,7 +15,8 @@ use Rattle.ia32_insn.specs.declared.insn.Insn.TheVariants as insn
 use Rattle.ia32_insn.specs.declared.item.Item.{Item}
 use Rattle.ia32_insn.specs.declared.item.Item.TheVariants as item
 use Rattle.ia32_insn.specs.Spelling.{HasSpelling, ReadsSigned, IsAddress}
-use Rattle.ia32_insn.specs.Items.{Symbols, Places, ItemAt, ItemsAt, near, absolute, start_items, putchar_items, getchar_items, exit_items, check_items}
+use Rattle.ia32_insn.specs.Items.{Symbols, Places, ItemAt, ItemsAt, near, absolute, start_items, putchar_items}
+use Rattle.ia32_insn.specs.Items.{getchar_items, exit_items, check_items}
 use Rattle.ia32_asm.specs.Sections.{CanAssemble, IsSpelled, HasLabel, items_size}
 use Rattle.ia32_asm.proofs.Words.{reads_word}
 
@@ -71,7 +73,8 @@ plainly_can items h size =
     }
 
 -- such items are the same with any places
-any_place : (symbols : Symbols) (p q : Places) (address : ℕ) (x : Item) (bytes : List ℕ) → IsPlainly x → ItemAt symbols p address x bytes → ItemAt symbols q address x bytes
+any_place : (symbols : Symbols) (p q : Places) (address : ℕ) (x : Item) (bytes : List ℕ) → IsPlainly x
+    → ItemAt symbols p address x bytes → ItemAt symbols q address x bytes
 any_place symbols p q address (item.Plain i) bytes h a = a
 any_place symbols p q address (item.Label l) bytes h a = absurd h
 any_place symbols p q address (item.Point n) bytes h a = absurd h
@@ -82,11 +85,13 @@ any_place symbols p q address (item.CallStub s) bytes h a = absurd h
 any_place symbols p q address (item.JumpTrap c) bytes h a = absurd h
 any_place symbols p q address (item.AddressOf r k) bytes h a = absurd h
 
-pub any_places : (symbols : Symbols) (p q : Places) (address : ℕ) (items : List Item) (bytes : List ℕ) → ArePlainly items
+pub any_places : (symbols : Symbols) (p q : Places) (address : ℕ) (items : List Item) (bytes : List ℕ)
+    → ArePlainly items
     → ItemsAt symbols p address items bytes → ItemsAt symbols q address items bytes
 any_places symbols p q address [] bytes h a = a
 any_places symbols p q address (x ∷ xs) bytes h a =
-    (a.0, a.1, a.2, any_place symbols p q address x a.0 h.0 a.3, any_places symbols p q (address + length a.0) xs a.1 h.1 a.4)
+    (a.0, a.1, a.2, any_place symbols p q address x a.0 h.0 a.3,
+        any_places symbols p q (address + length a.0) xs a.1 h.1 a.4)
 
 -- ---- the routines
 
@@ -96,9 +101,12 @@ word_to r n h = ((184 + number32 r) ∷ little_bytes 4 n, inl (little_bytes 4 n,
 
 one_to_depth : (depth : ℕ) → depth < 2 ^ 32 → HasSpelling (insn.MovImm (rm.Mem (absolute depth)) (pos 1))
 one_to_depth depth h =
-    let place : IsAddress 0 5 None (absolute depth) (little_bytes 4 depth) = record { base_is = refl; index_is = refl; displacement = reads_word depth h } in (
+    let place : IsAddress 0 5 None (absolute depth) (little_bytes 4 depth) =
+        record { base_is = refl; index_is = refl; displacement = reads_word depth h } in (
       199 ∷ 5 ∷ little_bytes 4 depth ++ little_bytes 4 1,
-      (5 ∷ little_bytes 4 depth, little_bytes 4 1, refl, (5, little_bytes 4 depth, refl, omega arith, refl, inl (λ e. absurd (omega (arith, e)), place)), reads_word 1 (omega arith)),
+      (5 ∷ little_bytes 4 depth, little_bytes 4 1, refl,
+          (5, little_bytes 4 depth, refl, omega arith, refl, inl (λ e. absurd (omega (arith, e)), place)),
+          reads_word 1 (omega arith)),
     )
 
 near_stack : (n : ℕ) → ReadsSigned 1 (n ∷ []) (pos n) → IsAddress 1 4 None (near Esp n) (n ∷ [])
@@ -119,19 +127,22 @@ returned = (195 ∷ [], refl)
 argument_address : HasSpelling (insn.Lea Ecx (near Esp 8))
 argument_address = (
   141 ∷ 76 ∷ 36 ∷ 8 ∷ [],
-  (76 ∷ 36 ∷ 8 ∷ [], refl, (76, 36 ∷ 8 ∷ [], refl, omega arith, refl, inr (refl, (36, 8 ∷ [], refl, omega arith, near_stack 8 (record { count = refl; reads = refl }))))),
+  (76 ∷ 36 ∷ 8 ∷ [], refl, (76, 36 ∷ 8 ∷ [], refl, omega arith, refl,
+      inr (refl, (36, 8 ∷ [], refl, omega arith, near_stack 8 (record { count = refl; reads = refl }))))),
 )
 
 argument_byte : HasSpelling (insn.MovZx8 Eax (rm8.Mem (near Esp 8)))
 argument_byte = (
   15 ∷ 182 ∷ 68 ∷ 36 ∷ 8 ∷ [],
-  (68 ∷ 36 ∷ 8 ∷ [], refl, (68, 36 ∷ 8 ∷ [], refl, omega arith, refl, inr (refl, (36, 8 ∷ [], refl, omega arith, near_stack 8 (record { count = refl; reads = refl }))))),
+  (68 ∷ 36 ∷ 8 ∷ [], refl, (68, 36 ∷ 8 ∷ [], refl, omega arith, refl,
+      inr (refl, (36, 8 ∷ [], refl, omega arith, near_stack 8 (record { count = refl; reads = refl }))))),
 )
 
 argument_word : HasSpelling (insn.MovLoad Ebx (near Esp 4))
 argument_word = (
   139 ∷ 92 ∷ 36 ∷ 4 ∷ [],
-  (92 ∷ 36 ∷ 4 ∷ [], refl, (92, 36 ∷ 4 ∷ [], refl, omega arith, refl, inr (refl, (36, 4 ∷ [], refl, omega arith, near_stack 4 (record { count = refl; reads = refl }))))),
+  (92 ∷ 36 ∷ 4 ∷ [], refl, (92, 36 ∷ 4 ∷ [], refl, omega arith, refl,
+      inr (refl, (36, 4 ∷ [], refl, omega arith, near_stack 4 (record { count = refl; reads = refl }))))),
 )
 
 pub start_plainly : (stack depth main : ℕ) → stack < 2 ^ 32 → depth < 2 ^ 32 → ArePlainly (start_items stack depth main)
@@ -177,7 +188,8 @@ getchar_plainly = (
             (
               interrupt,
               (
-                (131 ∷ 232 ∷ 1 ∷ [], inl (232 ∷ [], 1 ∷ [], refl, (232, refl, refl, refl, refl), record { count = refl; reads = refl })),
+                (131 ∷ 232 ∷ 1 ∷ [], inl (232 ∷ [], 1 ∷ [], refl, (232, refl, refl, refl, refl),
+                    record { count = refl; reads = refl })),
                 (
                   (89 ∷ [], refl),
                   ((9 ∷ 200 ∷ [], inl (200 ∷ [], refl, (200, refl, refl, refl, refl))), (pop_ebx, (returned, tt))),

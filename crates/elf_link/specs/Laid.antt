@@ -2,7 +2,8 @@
 use Rattle.std.specs.List.{filter_map}
 use Rattle.std.specs.Prelude.{◌≡◌, ℕ, ◌+◌, List, [], ◌∷◌, ◌++◌, length, map, slice_get, Some}
 use Rattle.ia32_insn.specs.declared.item.Item.{Item}
-use Rattle.ia32_insn.specs.Items.{Symbols, Places, Object, ItemsAt, round_up, text_start, object_addresses, start_items, putchar_items, getchar_items, exit_items, check_items}
+use Rattle.ia32_insn.specs.Items.{Symbols, Places, Object, ItemsAt, round_up, text_start, object_addresses, start_items}
+use Rattle.ia32_insn.specs.Items.{putchar_items, getchar_items, exit_items, check_items}
 use Rattle.ia32_asm.specs.declared.section.Section.{Section}
 use Rattle.ia32_asm.specs.declared.section.Target.{Target}
 use Rattle.ia32_asm.specs.Sections.{target_of, resolved, items_size, HasAddress}
@@ -18,12 +19,14 @@ addresses_from address (s ∷ sections) = address ∷ addresses_from (address + 
 abbrev pub code_from : Symbols → ℕ → List Section → List ℕ
 code_from symbols address [] = []
 code_from symbols address (s ∷ sections) =
-    resolved symbols address s.relocations.items s.bytes.items ++ code_from symbols (address + length s.bytes.items) sections
+    resolved symbols address s.relocations.items s.bytes.items
+        ++ code_from symbols (address + length s.bytes.items) sections
 
 -- and the addresses of the points
 abbrev pub points_from : ℕ → List Section → List (List ℕ)
 points_from address [] = []
-points_from address (s ∷ sections) = map (λ p. address + p) s.points.items ∷ points_from (address + length s.bytes.items) sections
+points_from address (s ∷ sections) = map (λ p. address + p) s.points.items
+    ∷ points_from (address + length s.bytes.items) sections
 
 -- a list by the numbers of functions has what stands at the places of these numbers in their order
 abbrev pub AreNumbered : {A : Type 0} → List ℕ → List A → List A → Type 0

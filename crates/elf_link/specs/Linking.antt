@@ -1,5 +1,6 @@
 -- Linked programs: the sections of all functions and the static objects in one image.
-use Rattle.std.specs.Prelude.{◌≡◌, ◌⊎◌, ◌<◌, ◌≤◌, ℕ, ◌+◌, ◌^◌, ⊤, List, [], ◌∷◌, length, map, slice_get, slice_index, slice_index_or, Some}
+use Rattle.std.specs.Prelude.{◌≡◌, ◌⊎◌, ◌<◌, ◌≤◌, ℕ, ◌+◌, ◌^◌, ⊤, List, [], ◌∷◌, length, map, slice_get, slice_index}
+use Rattle.std.specs.Prelude.{slice_index_or, Some}
 pub use Rattle.pcc_base.specs.Objects.{object_of}
 use Rattle.ia32_insn.specs.declared.item.Item.{Item}
 use Rattle.ia32_insn.specs.declared.item.Item.TheVariants as item
@@ -40,8 +41,10 @@ IsThere functions objects target.Depth = ⊤
 -- it has a symbol, and each relocation names what is there, and lies inside the bytes; so does each point
 pub record FitsIn (functions objects : ℕ) (section : Section) : Type 0 where
   pub named : 0 < length section.symbols.items
-  pub targets : (j : ℕ) (r : Relocation) → slice_get section.relocations.items j ≡ Some r → IsThere functions objects r.target
-  pub inside : (j : ℕ) (r : Relocation) → slice_get section.relocations.items j ≡ Some r → r.at + 4 ≤ length section.bytes.items
+  pub targets : (j : ℕ) (r : Relocation) → slice_get section.relocations.items j ≡ Some r
+      → IsThere functions objects r.target
+  pub inside : (j : ℕ) (r : Relocation) → slice_get section.relocations.items j ≡ Some r
+      → r.at + 4 ≤ length section.bytes.items
   pub points : (p : ℕ) → slice_index section.points.items p ≤ length section.bytes.items
 
 -- objects of elements of 1, 2 or 4 bytes, whose bytes are at most 2^24
@@ -72,13 +75,15 @@ pub record HasPoints (items : List Item) (place : Places) (entries : List ℕ) :
 
 -- the image has the text of the functions in this order and the data of the objects, with the addresses of points and
 -- objects
-pub record IsLinked (functions : List (List Item)) (order : List ℕ) (objects : List Object) (main : ℕ) (linked : Linked) : Type 0 where
+pub record IsLinked (functions : List (List Item)) (order : List ℕ) (objects : List Object) (main : ℕ)
+    (linked : Linked) : Type 0 where
   pub places : List Places
   pub symbols : Symbols
   pub text : IsText functions order objects main places symbols linked.image.text.items
   pub data_is : linked.image.data_bytes.items ≡ data_bytes objects
   pub entry : linked.image.entry ≡ text_start
   pub points_are : length linked.points.items ≡ length functions
-  pub points : (f : ℕ) (items : List Item) (place : Places) (entries : List ℕ) → slice_get functions f ≡ Some items → slice_get places f ≡ Some place
+  pub points : (f : ℕ) (items : List Item) (place : Places) (entries : List ℕ) → slice_get functions f ≡ Some items
+      → slice_get places f ≡ Some place
       → slice_get (map (λ v. v.items) linked.points.items) f ≡ Some entries → HasPoints items place entries
   pub objects_are : linked.objects.items ≡ symbols.objects

@@ -1,7 +1,8 @@
 ghost use Rattle.std.specs.Prelude.{◌≡◌, ◌<◌, ◌≤◌, ◌+◌, ◌^◌, ℕ, IfOk, Some, length, map, slice_get, vec_len};
 ghost use Rattle.ia32_insn.specs.Items.{IsOrder, elements_size, object_addresses};
 ghost use Rattle.ia32_asm.specs.Sections.{target_address, word_for};
-ghost use Rattle.elf_link.specs.Linking.{CanHold, IsThere, function_of, object_of, objects_size, order_of, sections_size};
+ghost use Rattle.elf_link.specs.Linking.{CanHold, IsThere, function_of, object_of, objects_size, order_of};
+ghost use Rattle.elf_link.specs.Linking.{sections_size};
 ghost use Rattle.ia32_asm.specs.declared.section.Section.{Section};
 ghost use Rattle.elf_link.specs.Laid.{AreAddresses, AreNumbered, addresses_from, symbols_of};
 

@@ -1,5 +1,6 @@
 -- What every graph keeps stays after each change, and where a point is at home.
-use Rattle.std.proofs.Common.{ℕ, zero, suc, ◌≡◌, ◌≢◌, ◌<◌, ◌≤◌, ◌+◌, inl, inr, false, List, [], ◌∷◌, ◌++◌, length, get_or}
+use Rattle.std.proofs.Common.{ℕ, zero, suc, ◌≡◌, ◌≢◌, ◌<◌, ◌≤◌, ◌+◌, inl, inr, false, List, [], ◌∷◌, ◌++◌, length}
+use Rattle.std.proofs.Common.{get_or}
 use Rattle.std.proofs.Common.{Some, refl, sym, subst, arith, length-append, get_or-set_same, get_or-set_other}
 use Rattle.std.proofs.Math.ListN.{set, length-set}
 use Rattle.std.specs.List.{AllByRecursion, slice_get}
@@ -9,7 +10,8 @@ use Rattle.pcc_base.specs.declared.run.Width.{Width}
 use Rattle.flow_graph.specs.declared.op.Op.{Op}
 use Rattle.flow_graph.specs.Graphs.{Flow, IsIn, FitsOp, HasFittingOp, NumbersFit, IsPlainAt, IsEnded, IsArray, IsBlock}
 use Rattle.flow_graph.specs.Graphs.{IsFlow, IsPlaced, Stands, points_of, insert_after, is_end, with_variable}
-use Rattle.flow_graph.specs.Graphs.{with_array, with_block, with_points, with_op, with_op_after, without, without_point_of}
+use Rattle.flow_graph.specs.Graphs.{with_array, with_block, with_points, with_op, with_op_after, without}
+use Rattle.flow_graph.specs.Graphs.{without_point_of}
 use Rattle.flow_graph.proofs.Points.{every-map, every-push, every-insert, every-without, every-in, distinct-push}
 use Rattle.flow_graph.proofs.Points.{distinct-insert, distinct-without, all_plain, ends-push, ends-insert, ends-without}
 use Rattle.flow_graph.proofs.Growth.{Grows, keeps-append, keeps-same, slice_get-last, fits_op-grows, plain-grows}
@@ -20,7 +22,8 @@ set_cases : (P : ℕ → List ℕ → Type 0) (blocks : List (List ℕ)) (k : �
     → ((b : ℕ) → P b (get_or blocks b [])) → (b : ℕ) → P b (get_or (set blocks k new) b [])
 set_cases P blocks k new h w f b =
     elim (cases_eq b k) [
-      | inl e ↦ subst (λ (j : ℕ). P j (get_or (set blocks k new) j [])) (sym e) (subst (λ (ps : List ℕ). P k ps) (sym (get_or-set_same blocks k new [] h)) w)
+      | inl e ↦ subst (λ (j : ℕ). P j (get_or (set blocks k new) j [])) (sym e)
+          (subst (λ (ps : List ℕ). P k ps) (sym (get_or-set_same blocks k new [] h)) w)
       | inr n ↦ subst (λ (ps : List ℕ). P b ps) (sym (get_or-set_other blocks k b new [] n)) (f b)
     ]
 
@@ -45,7 +48,9 @@ has_block (x ∷ xs) (suc b) p h = omega (arith, has_block xs b p h)
 pub flow-variable : (f : Flow) (homes : List ℕ) (w : Width) → IsFlow f homes → length f.widths < 4294967295
     → IsFlow (with_variable f w) homes
 flow-variable f homes w i h =
-    let grows : Grows f (with_variable f w) = record { widths = keeps-append f.widths (w ∷ []); arrays = omega arith; blocks = omega arith; ops = keeps-same f.ops } in
+    let grows : Grows f (with_variable f w) =
+        record { widths = keeps-append f.widths (w ∷ []); arrays = omega arith; blocks = omega arith; ops =
+        keeps-same f.ops } in
     record {
       one_home = i.one_home;
       each_block = λ b. block-grows f (with_variable f w) homes homes grows (keeps-same homes) b
@@ -60,11 +65,13 @@ flow-variable f homes w i h =
     }
 
 -- with one more frame array
-pub flow-array : (f : Flow) (homes : List ℕ) (w n : ℕ) → IsFlow f homes → IsArray (w, n) → n ≤ 4294967295 → length f.arrays < 4294967295
+pub flow-array : (f : Flow) (homes : List ℕ) (w n : ℕ) → IsFlow f homes → IsArray (w, n) → n ≤ 4294967295
+    → length f.arrays < 4294967295
     → IsFlow (with_array f w n) homes
 flow-array f homes w n i fit few h =
     let more = length-push f.arrays (w, n) in
-    let grows : Grows f (with_array f w n) = record { widths = keeps-same f.widths; arrays = omega (arith, more); blocks = omega arith; ops = keeps-same f.ops } in
+    let grows : Grows f (with_array f w n) = record
+        { widths = keeps-same f.widths; arrays = omega (arith, more); blocks = omega arith; ops = keeps-same f.ops } in
     record {
       one_home = i.one_home;
       each_block = λ b. block-grows f (with_array f w n) homes homes grows (keeps-same homes) b
@@ -83,10 +90,12 @@ pub flow-block : (f : Flow) (homes : List ℕ) → IsFlow f homes → length f.b
     → IsFlow (with_block f) homes
 flow-block f homes i h =
     let more : length (f.blocks ++ [] ∷ []) ≡ length f.blocks + 1 = length-push f.blocks [] in
-    let grows : Grows f (with_block f) = record { widths = keeps-same f.widths; arrays = omega arith; blocks = omega (arith, more); ops = keeps-same f.ops } in
+    let grows : Grows f (with_block f) = record
+        { widths = keeps-same f.widths; arrays = omega arith; blocks = omega (arith, more); ops = keeps-same f.ops } in
     record {
       one_home = i.one_home;
-      each_block = λ b. subst (λ (ps : List ℕ). IsBlock (with_block f) homes b ps) (get_or-empty f.blocks b) (block-grows f (with_block f) homes homes grows (keeps-same homes) b (points_of f b) (i.each_block b));
+      each_block = λ b. subst (λ (ps : List ℕ). IsBlock (with_block f) homes b ps) (get_or-empty f.blocks b)
+          (block-grows f (with_block f) homes homes grows (keeps-same homes) b (points_of f b) (i.each_block b));
       arrays_fit = i.arrays_fit;
       few_elements = i.few_elements;
       numbers = i.numbers;
@@ -130,7 +139,8 @@ flow-points f homes b ps op i h room word w =
 -- the number of the new point stands nowhere yet
 fresh : (f : Flow) (ps : List ℕ) → AllByRecursion (HasFittingOp f) ps → AllByRecursion (λ q. q ≢ length f.ops) ps
 fresh f ps h =
-    every-map (HasFittingOp f) (λ q. q ≢ length f.ops) (λ q m e. let below = slice_get_within f.ops q m.0 m.1 in absurd (omega (arith, below, e))) ps h
+    every-map (HasFittingOp f) (λ q. q ≢ length f.ops)
+        (λ q m e. let below = slice_get_within f.ops q m.0 m.1 in absurd (omega (arith, below, e))) ps h
 
 -- the new point is at home
 new_home : (f : Flow) (homes : List ℕ) (b : ℕ) → IsFlow f homes → slice_get (homes ++ b ∷ []) (length f.ops) ≡ Some b
@@ -138,7 +148,8 @@ new_home f homes b i = subst (λ (n : ℕ). slice_get (homes ++ b ∷ []) n ≡ 
 
 -- with a new point at the end of a block
 pub flow-append : (f : Flow) (homes : List ℕ) (b : ℕ) (op : Op) → IsFlow f homes → b < length f.blocks
-    → length f.ops < 4294967295 → (IsEnded f b → ⊥) → FitsOp f op → NumbersFit op → IsFlow (with_op f b op) (homes ++ b ∷ [])
+    → length f.ops < 4294967295 → (IsEnded f b → ⊥) → FitsOp f op → NumbersFit op
+        → IsFlow (with_op f b op) (homes ++ b ∷ [])
 flow-append f homes b op i h room open_block fit word =
     let ps : List ℕ = points_of f b in
     let x : ℕ = length f.ops in
@@ -146,7 +157,8 @@ flow-append f homes b op i h room open_block fit word =
     let g : Flow = with_points f b qs op in
     let grows : Grows f g = points-grow f b qs op in
     let old : IsBlock f homes b ps = i.each_block b in
-    let grown : IsBlock g (homes ++ b ∷ []) b ps = block-grows f g homes (homes ++ b ∷ []) grows (keeps-append homes (b ∷ [])) b ps old in
+    let grown : IsBlock g (homes ++ b ∷ []) b ps =
+        block-grows f g homes (homes ++ b ∷ []) grows (keeps-append homes (b ∷ [])) b ps old in
     flow-points f homes b qs op i h room word (record {
       at_home = every-push (λ p. slice_get (homes ++ b ∷ []) p ≡ Some b) ps x grown.at_home (new_home f homes b i);
       fits = every-push (HasFittingOp g) ps x grown.fits (op, slice_get-last f.ops op, fits_op-grows f g grows op fit);
@@ -168,7 +180,8 @@ flow-insert f homes b point op i h room plain no_end fit word =
     let g : Flow = with_points f b qs op in
     let grows : Grows f g = points-grow f b qs op in
     let old : IsBlock f homes b ps = i.each_block b in
-    let grown : IsBlock g (homes ++ b ∷ []) b ps = block-grows f g homes (homes ++ b ∷ []) grows (keeps-append homes (b ∷ [])) b ps old in
+    let grown : IsBlock g (homes ++ b ∷ []) b ps =
+        block-grows f g homes (homes ++ b ∷ []) grows (keeps-append homes (b ∷ [])) b ps old in
     flow-points f homes b qs op i h room word (record {
       at_home = every-insert (λ p. slice_get (homes ++ b ∷ []) p ≡ Some b) point x ps grown.at_home
           (new_home f homes b i);
@@ -192,7 +205,8 @@ flow-remove f homes b point i h =
     let ps : List ℕ = points_of f b in
     let qs : List ℕ = without point ps in
     let g : Flow = without_point_of f b point in
-    let grows : Grows f g = record { widths = keeps-same f.widths; arrays = omega arith; blocks = omega (arith, length-set f.blocks b qs); ops = keeps-same f.ops } in
+    let grows : Grows f g = record { widths = keeps-same f.widths; arrays = omega arith; blocks =
+        omega (arith, length-set f.blocks b qs); ops = keeps-same f.ops } in
     let grown : IsBlock g homes b ps = block-grows f g homes homes grows (keeps-same homes) b ps (i.each_block b) in
     let left : IsBlock g homes b qs = record {
       at_home = every-without (λ p. slice_get homes p ≡ Some b) point ps grown.at_home;

@@ -1,7 +1,8 @@
 -- The laws of liveness, by the length of a path.
 use Rattle.std.proofs.Common.{ℕ, zero, suc, ◌⊎◌, inl, inr}
 use Rattle.flow_graph.specs.Graphs.{Flow, IsIn}
-use Rattle.flow_graph.specs.Liveness.{IsDefinedAt, IsLiveAfter, IsLiveBefore, IsSuccessor, IsUsedAt, LiveStep, LiveWithin, ReachesUse}
+use Rattle.flow_graph.specs.Liveness.{IsDefinedAt, IsLiveAfter, IsLiveBefore, IsSuccessor, IsUsedAt, LiveStep}
+use Rattle.flow_graph.specs.Liveness.{LiveWithin, ReachesUse}
 
 -- the first step of a path to a use
 first-step : (flow : Flow) (v point : ℕ) → IsLiveBefore flow v point

@@ -30,7 +30,8 @@ following-place : (x : ℕ) (ps : List ℕ) → following x ps ≡ slice_get ps 
 following-place x [] = refl
 following-place x (p ∷ ps) =
     let step : (1 + place_of x ps) + 1 ≡ suc (place_of x ps + 1) = omega arith in
-    elim (eqb p x) as (λ b. cond b (slice_get ps 0) (following x ps) ≡ slice_get (p ∷ ps) (cond (not b) (1 + place_of x ps) 0 + 1)) [
+    elim (eqb p x) as (λ b. cond b (slice_get ps 0) (following x ps)
+        ≡ slice_get (p ∷ ps) (cond (not b) (1 + place_of x ps) 0 + 1)) [
       | true ↦ refl
       | false ↦ rw step (following-place x ps)
     ]
@@ -41,7 +42,8 @@ insert_after-place : (x y : ℕ) (ps : List ℕ) → place_of x ps < length ps
 insert_after-place x y [] h = absurd (omega arith)
 insert_after-place x y (p ∷ ps) h =
     let step : (1 + place_of x ps) + 1 ≡ suc (place_of x ps + 1) = omega arith in
-    (elim (eqb p x) as (λ b. cond (not b) (1 + place_of x ps) 0 < suc (length ps) → cond b (p ∷ y ∷ ps) (p ∷ insert_after x y ps) ≡ insert (p ∷ ps) (cond (not b) (1 + place_of x ps) 0 + 1) y) [
+    (elim (eqb p x) as (λ b. cond (not b) (1 + place_of x ps) 0 < suc (length ps)
+        → cond b (p ∷ y ∷ ps) (p ∷ insert_after x y ps) ≡ insert (p ∷ ps) (cond (not b) (1 + place_of x ps) 0 + 1) y) [
       | true ↦ λ l. refl
       | false ↦ λ l. rw step (ap (λ zs. p ∷ zs) (insert_after-place x y ps (omega arith)))
     ]) h
@@ -50,7 +52,8 @@ insert_after-place x y (p ∷ ps) h =
 insert_after-absent : (x y : ℕ) (ps : List ℕ) → length ps ≤ place_of x ps → insert_after x y ps ≡ ps
 insert_after-absent x y [] h = refl
 insert_after-absent x y (p ∷ ps) h =
-    (elim (eqb p x) as (λ b. suc (length ps) ≤ cond (not b) (1 + place_of x ps) 0 → cond b (p ∷ y ∷ ps) (p ∷ insert_after x y ps) ≡ p ∷ ps) [
+    (elim (eqb p x) as (λ b. suc (length ps) ≤ cond (not b) (1 + place_of x ps) 0
+        → cond b (p ∷ y ∷ ps) (p ∷ insert_after x y ps) ≡ p ∷ ps) [
       | true ↦ λ l. absurd (omega arith)
       | false ↦ λ l. ap (λ zs. p ∷ zs) (insert_after-absent x y ps (omega arith))
     ]) h
@@ -60,7 +63,8 @@ without-place : (x : ℕ) (ps : List ℕ) → place_of x ps < length ps → with
 without-place x [] h = absurd (omega arith)
 without-place x (p ∷ ps) h =
     let step : 1 + place_of x ps ≡ suc (place_of x ps) = omega arith in
-    (elim (eqb p x) as (λ b. cond (not b) (1 + place_of x ps) 0 < suc (length ps) → cond b ps (p ∷ without x ps) ≡ remove (p ∷ ps) (cond (not b) (1 + place_of x ps) 0)) [
+    (elim (eqb p x) as (λ b. cond (not b) (1 + place_of x ps) 0 < suc (length ps) → cond b ps (p ∷ without x ps)
+        ≡ remove (p ∷ ps) (cond (not b) (1 + place_of x ps) 0)) [
       | true ↦ λ l. refl
       | false ↦ λ l. rw step (ap (λ zs. p ∷ zs) (without-place x ps (omega arith)))
     ]) h
@@ -69,7 +73,8 @@ without-place x (p ∷ ps) h =
 without-absent : (x : ℕ) (ps : List ℕ) → length ps ≤ place_of x ps → without x ps ≡ ps
 without-absent x [] h = refl
 without-absent x (p ∷ ps) h =
-    (elim (eqb p x) as (λ b. suc (length ps) ≤ cond (not b) (1 + place_of x ps) 0 → cond b ps (p ∷ without x ps) ≡ p ∷ ps) [
+    (elim (eqb p x) as (λ b. suc (length ps) ≤ cond (not b) (1 + place_of x ps) 0 → cond b ps (p ∷ without x ps)
+        ≡ p ∷ ps) [
       | true ↦ λ l. absurd (omega arith)
       | false ↦ λ l. ap (λ zs. p ∷ zs) (without-absent x ps (omega arith))
     ]) h
@@ -77,7 +82,8 @@ without-absent x (p ∷ ps) h =
 -- the next point, at the place that was found
 pub following-found : (x : ℕ) (ps : List ℕ) (i : ℕ) → position (λ p. p == x) ps ≡ Some i
     → following x ps ≡ slice_get ps (i + 1)
-following-found x ps i e = subst (λ k. following x ps ≡ slice_get ps (k + 1)) (place-some x ps i e).0 (following-place x ps)
+following-found x ps i e = subst (λ k. following x ps ≡ slice_get ps (k + 1)) (place-some x ps i e).0
+    (following-place x ps)
 
 -- there is no next point where there is no place
 pub following-none : (x : ℕ) (ps : List ℕ) → position (λ p. p == x) ps ≡ None → following x ps ≡ None
@@ -90,7 +96,8 @@ pub insert_after-found : (x y : ℕ) (ps : List ℕ) (i : ℕ) → position (λ 
     → insert_after x y ps ≡ insert ps (i + 1) y
 insert_after-found x y ps i e =
     let at = place-some x ps i e in
-    subst (λ k. insert_after x y ps ≡ insert ps (k + 1) y) at.0 (insert_after-place x y ps (subst (λ k. k < length ps) (sym at.0) at.1))
+    subst (λ k. insert_after x y ps ≡ insert ps (k + 1) y) at.0
+        (insert_after-place x y ps (subst (λ k. k < length ps) (sym at.0) at.1))
 
 -- the points stay where there is no place
 pub insert_after-none : (x y : ℕ) (ps : List ℕ) → position (λ p. p == x) ps ≡ None → insert_after x y ps ≡ ps
@@ -107,17 +114,20 @@ pub without-none : (x : ℕ) (ps : List ℕ) → position (λ p. p == x) ps ≡ 
 without-none x ps e = without-absent x ps (place-none x ps e)
 
 -- what holds of each implies another
-pub every-map : {X : Type 0} (P Q : X → Type 0) → ((x : X) → P x → Q x) → (xs : List X) → AllByRecursion P xs → AllByRecursion Q xs
+pub every-map : {X : Type 0} (P Q : X → Type 0) → ((x : X) → P x → Q x) → (xs : List X) → AllByRecursion P xs
+    → AllByRecursion Q xs
 every-map P Q f [] h = tt
 every-map P Q f (x ∷ xs) h = (f x h.0, every-map P Q f xs h.1)
 
 -- what holds of each and of one more
-pub every-push : {X : Type 0} (P : X → Type 0) (xs : List X) (x : X) → AllByRecursion P xs → P x → AllByRecursion P (xs ++ x ∷ [])
+pub every-push : {X : Type 0} (P : X → Type 0) (xs : List X) (x : X) → AllByRecursion P xs → P x
+    → AllByRecursion P (xs ++ x ∷ [])
 every-push P [] x h w = (w, tt)
 every-push P (y ∷ ys) x h w = (h.0, every-push P ys x h.1 w)
 
 -- what holds of each, and of a point that comes in
-pub every-insert : (P : ℕ → Type 0) (x y : ℕ) (ps : List ℕ) → AllByRecursion P ps → P y → AllByRecursion P (insert_after x y ps)
+pub every-insert : (P : ℕ → Type 0) (x y : ℕ) (ps : List ℕ) → AllByRecursion P ps → P y
+    → AllByRecursion P (insert_after x y ps)
 every-insert P x y [] h w = tt
 every-insert P x y (p ∷ ps) h w =
     choose p x (AllByRecursion P) (p ∷ y ∷ ps) (p ∷ insert_after x y ps) (λ e. (h.0, (w, h.1))) (
@@ -128,7 +138,8 @@ every-insert P x y (p ∷ ps) h w =
 -- what holds of each holds of each that is left
 pub every-without : (P : ℕ → Type 0) (x : ℕ) (ps : List ℕ) → AllByRecursion P ps → AllByRecursion P (without x ps)
 every-without P x [] h = tt
-every-without P x (p ∷ ps) h = choose p x (AllByRecursion P) ps (p ∷ without x ps) (λ e. h.1) (h.0, every-without P x ps h.1)
+every-without P x (p ∷ ps) h = choose p x (AllByRecursion P) ps (p ∷ without x ps) (λ e. h.1)
+    (h.0, every-without P x ps h.1)
 
 -- what holds of each holds of a point among them
 pub every-in : (P : ℕ → Type 0) (x : ℕ) (ps : List ℕ) → AllByRecursion P ps → IsIn x ps → P x
@@ -142,7 +153,8 @@ distinct-push [] y d f = (tt, tt)
 distinct-push (p ∷ ps) y d f = (every-push (λ q. q ≢ p) ps y d.0 (λ e. f.0 (sym e)), distinct-push ps y d.1 f.1)
 
 -- a new point leaves the points distinct
-pub distinct-insert : (x y : ℕ) (ps : List ℕ) → IsDistinct ps → AllByRecursion (λ q. q ≢ y) ps → IsDistinct (insert_after x y ps)
+pub distinct-insert : (x y : ℕ) (ps : List ℕ) → IsDistinct ps → AllByRecursion (λ q. q ≢ y) ps
+    → IsDistinct (insert_after x y ps)
 distinct-insert x y [] d f = tt
 distinct-insert x y (p ∷ ps) d f =
     choose p x IsDistinct (p ∷ y ∷ ps) (p ∷ insert_after x y ps)
@@ -166,7 +178,8 @@ ends-cons ops p (q ∷ ps) h e = (h, e)
 -- an op is an end or none
 end_or_plain : (ops : List Op) (p : ℕ) (op : Op) → slice_get ops p ≡ Some op → (IsEndAt ops p → ⊥) → IsPlainAt ops p
 end_or_plain ops p op e n =
-    (elim (is_end op) as (λ b. is_end op ≡ b → IsPlainAt ops p) [ true ↦ λ t. absurd (n (op, e, t)) | false ↦ λ f. (op, e, f) ]) refl
+    (elim (is_end op) as (λ b. is_end op ≡ b → IsPlainAt ops p)
+        [ true ↦ λ t. absurd (n (op, e, t)) | false ↦ λ f. (op, e, f) ]) refl
 
 -- where the last is no end, none is
 pub all_plain : (ops : List Op) (ps : List ℕ) → AllByRecursion (λ p. (op : Op) × (slice_get ops p ≡ Some op)) ps
@@ -176,7 +189,8 @@ all_plain ops (p ∷ []) h e n = (end_or_plain ops p h.0.0 h.0.1 n, tt)
 all_plain ops (p ∷ q ∷ ps) h e n = (e.0, all_plain ops (q ∷ ps) h.1 e.1 n)
 
 -- after points that are no ends, any may come
-pub ends-push : (ops : List Op) (ps : List ℕ) (y : ℕ) → AllByRecursion (IsPlainAt ops) ps → EndsOnlyLast ops (ps ++ y ∷ [])
+pub ends-push : (ops : List Op) (ps : List ℕ) (y : ℕ) → AllByRecursion (IsPlainAt ops) ps
+    → EndsOnlyLast ops (ps ++ y ∷ [])
 ends-push ops [] y h = tt
 ends-push ops (p ∷ ps) y h = ends-cons ops p (ps ++ y ∷ []) h.0 (ends-push ops ps y h.1)
 

@@ -1,5 +1,6 @@
 -- The states of a program of graphs.
-use Rattle.std.specs.Prelude.{ℕ, suc, ◌-◌, ◌==◌, ℤ, pos, negsuc, List, [], ◌∷◌, length, map, replicate, slice_get, slice_set}
+use Rattle.std.specs.Prelude.{ℕ, suc, ◌-◌, ◌==◌, ℤ, pos, negsuc, List, [], ◌∷◌, length, map, replicate, slice_get}
+use Rattle.std.specs.Prelude.{slice_set}
 use Rattle.std.specs.Prelude.{slice_index_or, Option, Some, None, option_map, if◌then◌else◌}
 use Rattle.std.specs.Int.{w8, int_wrap}
 use Rattle.pcc_base.specs.Outcome.{ArrayName, Null, Static, InFrame, Unknown, Value, Number, Array}

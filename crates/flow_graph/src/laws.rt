@@ -7,7 +7,8 @@ ghost use Rattle.flow_graph.specs.Liveness.{IsDistance, IsLiveBefore, LiveStep, 
 ghost use Rattle.flow_graph.specs.Meaning.{Stuck, step};
 ghost use Rattle.flow_graph.specs.Running.{GraphOutcome, NeverStuckWithOutcomes, OneOutcome, OneState, part_value};
 ghost use Rattle.flow_graph.specs.Worked.{low_byte_program, nothing_yet, variable_listed, written_and_ended};
-ghost use Rattle.flow_graph.specs.Worked.{before_reading, empty_object_program, five_points, holding_array, one_removed};
+ghost use Rattle.flow_graph.specs.Worked.{before_reading, empty_object_program, five_points, holding_array};
+ghost use Rattle.flow_graph.specs.Worked.{one_removed};
 
 /// A program of graphs has one outcome over an input in so many turns.
 pub fn one_outcome()
@@ -42,9 +43,9 @@ pub fn live_within()
 {}
 
 /// The definitions say of small graphs (`specs/Worked.antt`) what a reader expects: their outcome before a turn and
-/// after it; nothing is live at a point that was removed; a static object without elements can't be read; a scalar whose
-/// variable holds an array has no number to show; and from the point that defines a variable the next use of it is one
-/// step away.
+/// after it; nothing is live at a point that was removed; a static object without elements can't be read; a scalar
+/// whose variable holds an array has no number to show; and from the point that defines a variable the next use of it
+/// is one step away.
 pub fn worked_example()
     ensures before { GraphOutcome low_byte_program variable_listed [] 0 nothing_yet }
     ensures after { GraphOutcome low_byte_program variable_listed [] 1 written_and_ended }

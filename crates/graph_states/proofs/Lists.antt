@@ -11,7 +11,8 @@ all-at P (y ∷ xs) zero x h e = subst P (same_Some y x e) (All-head P y xs h)
 all-at P (y ∷ xs) (suc k) x h e = all-at P xs k x (All-tail P y xs h) e
 
 -- the same, where it is said by recursion on the list
-pub every-at : {A : Type 0} (P : A → Type 0) (xs : List A) (k : ℕ) (x : A) → AllByRecursion P xs → slice_get xs k ≡ Some x → P x
+pub every-at : {A : Type 0} (P : A → Type 0) (xs : List A) (k : ℕ) (x : A) → AllByRecursion P xs → slice_get xs k
+    ≡ Some x → P x
 every-at P [] k x h e = absurd (none-some x e)
 every-at P (y ∷ xs) zero x h e = subst P (same_Some y x e) h.0
 every-at P (y ∷ xs) (suc k) x h e = every-at P xs k x h.1 e

@@ -17,10 +17,12 @@ use Rattle.ia32_shows.specs.Sites.{Site, ReadyAt}
 
 -- where the text and the data stand, with the labels and points of one function
 abbrev pub text_site : Symbols → Places → List ℕ → Site
-text_site symbols places text = record { symbols = symbols; places = places; text = text; low = data_start text; high = stack_end text [] }
+text_site symbols places text = record { symbols = symbols; places = places; text = text; low = data_start text; high =
+    stack_end text [] }
 
 -- the state behind the first function's prologue, and the one in which that function began
-pub record Begun (symbols : Symbols) (places : List Places) (text : List ℕ) (main frame : ℕ) (slots : List ℕ) (back : List Item) (input : List ℕ) (u : State) : Type 0 where
+pub record Begun (symbols : Symbols) (places : List Places) (text : List ℕ) (main frame : ℕ) (slots : List ℕ)
+    (back : List Item) (input : List ℕ) (u : State) : Type 0 where
   pub place : Places
   pub placed : slice_get places main ≡ Some place
   pub address : ℕ
@@ -36,14 +38,23 @@ stack-top : (e h : ℕ) → e + 4 ≡ h → e + 4 ≤ h
 stack-top e h p = omega arith
 
 -- the start and the prologue, one after the other
-pub start-enters : (functions : List (List Item)) (order : List ℕ) (main : ℕ) (places : List Places) (symbols : Symbols) (text : List ℕ) (frame : ℕ) (slots : List ℕ) (back : List Item) (input : List ℕ) → IsText functions order [] main places symbols text → length text < 2 ^ 30 + 1024
-    → slice_get functions main ≡ Some (prologue frame slots ++ back) → 16 ≤ frame → frame ≤ 16384 → AllByRecursion (IsSlot frame) slots → AllApart slots → (u : State) × Begun symbols places text main frame slots back input u
+pub start-enters : (functions : List (List Item)) (order : List ℕ) (main : ℕ) (places : List Places) (symbols : Symbols)
+    (text : List ℕ) (frame : ℕ) (slots : List ℕ) (back : List Item) (input : List ℕ)
+    → IsText functions order [] main places symbols text → length text < 2 ^ 30 + 1024
+    → slice_get functions main ≡ Some (prologue frame slots ++ back) → 16 ≤ frame → frame ≤ 16384
+        → AllByRecursion (IsSlot frame) slots → AllApart slots → (u : State)
+        × Begun symbols places text main frame slots back input u
 start-enters functions order main places symbols text frame slots back input h fits items some small each apart =
     let at = function-placed functions order [] main places symbols text main (prologue frame slots ++ back) h items in
     let begun = start-goes functions order main places symbols text at.address input h fits at.named in
     let t : State = begun.0 in
     let site : Site = text_site symbols at.place text in
-    let ready : ReadyAt site (prologue frame slots ++ back) t = ready-from site (prologue frame slots ++ back) at.address t (at.stands (data_start text) (stack_end text [])) begun.1.eip in
-    let room = stack-room (data_start text) frame (word_of Esp t) (stack_end text []) (data_memory []) small refl length-memory begun.1.esp in
-    let p = prologue-goes site frame slots back t begun.1.sound ready room (stack-top (word_of Esp t) (stack_end text []) begun.1.esp) some each apart in
-    (p.0, record { place = at.place; placed = at.placed; address = at.address; named = at.named; first = t; started = begun.1; entered = p.1 })
+    let ready : ReadyAt site (prologue frame slots ++ back) t =
+        ready-from site (prologue frame slots ++ back) at.address t (at.stands (data_start text) (stack_end text []))
+        begun.1.eip in
+    let room = stack-room (data_start text) frame (word_of Esp t) (stack_end text []) (data_memory []) small refl
+        length-memory begun.1.esp in
+    let p = prologue-goes site frame slots back t begun.1.sound ready room
+        (stack-top (word_of Esp t) (stack_end text []) begun.1.esp) some each apart in
+    (p.0, record { place = at.place; placed = at.placed; address = at.address; named = at.named; first = t; started =
+        begun.1; entered = p.1 })

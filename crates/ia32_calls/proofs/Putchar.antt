@@ -1,5 +1,6 @@
 -- A call of `putchar` over slots: the routine, and the row that calls it.
-use Rattle.std.proofs.Common.{◌≡◌, ℕ, ◌+◌, ◌-◌, ◌%◌, ◌^◌, ◌<◌, ◌≤◌, List, [], ◌∷◌, ◌++◌, length, pos, Ok, refl, sym, ap, subst, ◌∙◌, inl, arith}
+use Rattle.std.proofs.Common.{◌≡◌, ℕ, ◌+◌, ◌-◌, ◌%◌, ◌^◌, ◌<◌, ◌≤◌, List, [], ◌∷◌, ◌++◌, length, pos, Ok, refl, sym, ap}
+use Rattle.std.proofs.Common.{subst, ◌∙◌, inl, arith}
 use Rattle.std.specs.Prelude.{slice_index_or, Result}
 use Rattle.pcc_base.specs.Outcome.{End}
 use Rattle.ia32_regs.specs.declared.names.Reg32.TheVariants.{Eax, Ecx, Edx, Ebx, Esp, Ebp, Esi, Edi}
@@ -19,7 +20,8 @@ use Rattle.ia32_shows.proofs.Steps.{IsAt, Comes, comes-then}
 use Rattle.ia32_shows.proofs.Frames.{went-then, went-stricter, load-went, store-went}
 use Rattle.ia32_rows.specs.Rows.{putchar_row}
 use Rattle.ia32_calls.specs.Laws.{putchar_between, StandsFrom, OutsideCall, WroteByCall, PutcharRow}
-use Rattle.ia32_calls.proofs.Pushes.{ready-from, disjoint-part, unlike, one_fits, Sets, set-goes, Pushed, push-goes, call-goes, pop-goes, ret-goes}
+use Rattle.ia32_calls.proofs.Pushes.{ready-from, disjoint-part, unlike, one_fits, Sets, set-goes, Pushed, push-goes}
+use Rattle.ia32_calls.proofs.Pushes.{call-goes, pop-goes, ret-goes}
 use Rattle.ia32_calls.proofs.Interrupts.{write-goes}
 use Rattle.ia32_shows.specs.Sites.{Site, SoundAt, ReadyAt, Framed, Went, IsInFrame, Anywhere}
 
@@ -29,7 +31,8 @@ use Rattle.ia32_shows.specs.Sites.{Site, SoundAt, ReadyAt, Framed, Went, IsInFra
 no_wrap : (e d : ℕ) → e + d < 4294967296 → (e + 0 + d) % 4294967296 ≡ e + d
 no_wrap e d h = omega arith
 
-pub near-address : (distance : ℕ) (s : State) → word_of Esp s + distance < 4294967296 → address_of (near Esp distance) s ≡ word_of Esp s + distance
+pub near-address : (distance : ℕ) (s : State) → word_of Esp s + distance < 4294967296 → address_of (near Esp distance) s
+    ≡ word_of Esp s + distance
 near-address distance s h = no_wrap (word_of Esp s) distance h
 
 four_fits : 4 < 2 ^ 32
@@ -91,8 +94,10 @@ abbrev setting_four : List Item
 setting_four = plain (insn.MovImm (rm.Reg Eax) (pos 4)) ∷ plain (insn.MovImm (rm.Reg Ebx) (pos 1)) ∷ setting_two
 
 -- two registers in turn keep the others
-readied : (site : Site) (s b c d u : State) → Comes site.text s b → Sets site Eax 4 s.written s b → Comes site.text b c → Sets site Ebx 1 b.written b c
-    → Comes site.text c d → Sets site Ecx (word_of Esp s + 8) c.written c d → Comes site.text d u → Sets site Edx 1 d.written d u → ReadyAt site writing u → Readied site s u
+readied : (site : Site) (s b c d u : State) → Comes site.text s b → Sets site Eax 4 s.written s b → Comes site.text b c
+    → Sets site Ebx 1 b.written b c
+    → Comes site.text c d → Sets site Ecx (word_of Esp s + 8) c.written c d → Comes site.text d u
+        → Sets site Edx 1 d.written d u → ReadyAt site writing u → Readied site s u
 readied site s b c d u p q r v w x y z ready =
     record {
       comes = comes-then site.text s b u p (comes-then site.text b c u r (comes-then site.text c d u w y));
@@ -102,8 +107,10 @@ readied site s b c d u p q r v w x y z ready =
       ebx = z.others Ebx (unlike 3 2 refl) ∙ x.others Ebx (unlike 3 1 refl) ∙ v.value;
       ecx = z.others Ecx (unlike 1 2 refl) ∙ x.value;
       edx = z.value;
-      esp = z.others Esp (unlike 4 2 refl) ∙ x.others Esp (unlike 4 1 refl) ∙ v.others Esp (unlike 4 3 refl) ∙ q.others Esp (unlike 4 0 refl);
-      ebp = z.others Ebp (unlike 5 2 refl) ∙ x.others Ebp (unlike 5 1 refl) ∙ v.others Ebp (unlike 5 3 refl) ∙ q.others Ebp (unlike 5 0 refl);
+      esp = z.others Esp (unlike 4 2 refl) ∙ x.others Esp (unlike 4 1 refl) ∙ v.others Esp (unlike 4 3 refl)
+          ∙ q.others Esp (unlike 4 0 refl);
+      ebp = z.others Ebp (unlike 5 2 refl) ∙ x.others Ebp (unlike 5 1 refl) ∙ v.others Ebp (unlike 5 3 refl)
+          ∙ q.others Ebp (unlike 5 0 refl);
       memory = z.memory ∙ x.memory ∙ v.memory ∙ q.memory;
       left = z.left ∙ x.left ∙ v.left ∙ q.left;
       taken = z.taken ∙ x.taken ∙ v.taken ∙ q.taken;
@@ -111,20 +118,29 @@ readied site s b c d u p q r v w x y z ready =
     }
 
 -- the argument's address to ECX, and one byte to EDX
-readies-two : (site : Site) (s b : State) → Comes site.text s b → Sets site Eax 4 s.written s b → ((c : State) × Comes site.text b c × ReadyAt site setting_two c × Sets site Ebx 1 b.written b c) → word_of Esp s + 8 < 4294967296 → (u : State) × Readied site s u
+readies-two : (site : Site) (s b : State) → Comes site.text s b → Sets site Eax 4 s.written s b
+    → ((c : State) × Comes site.text b c × ReadyAt site setting_two c × Sets site Ebx 1 b.written b c)
+    → word_of Esp s + 8 < 4294967296 → (u : State) × Readied site s u
 readies-two site s b p q (c, r, ready, v) fits =
     let esp : word_of Esp c ≡ word_of Esp s = v.others Esp (unlike 4 3 refl) ∙ q.others Esp (unlike 4 0 refl) in
-    let there : address_of (near Esp 8) c ≡ word_of Esp s + 8 = near-address 8 c (subst (λ (k : ℕ). k + 8 < 4294967296) (sym esp) fits) ∙ ap (λ (k : ℕ). k + 8) esp in
-    let w = set-goes site (plain (insn.MovImm (rm.Reg Edx) (pos 1)) ∷ writing) (insn.Lea Ecx (near Esp 8)) Ecx (word_of Esp s + 8) c.flags c v.sound ready tt fits (λ after. ap (λ (k : ℕ). let o : Result State End = Ok (with_word Ecx k c) in o) there) (λ after. refl) in
+    let there : address_of (near Esp 8) c ≡ word_of Esp s + 8 =
+        near-address 8 c (subst (λ (k : ℕ). k + 8 < 4294967296) (sym esp) fits) ∙ ap (λ (k : ℕ). k + 8) esp in
+    let w = set-goes site (plain (insn.MovImm (rm.Reg Edx) (pos 1)) ∷ writing) (insn.Lea Ecx (near Esp 8)) Ecx
+        (word_of Esp s + 8) c.flags c v.sound ready tt fits
+        (λ after. ap (λ (k : ℕ). let o : Result State End = Ok (with_word Ecx k c) in o) there) (λ after. refl) in
     let d : State = w.0 in
-    let y = set-goes site writing (insn.MovImm (rm.Reg Edx) (pos 1)) Edx 1 d.flags d w.3.sound w.2 tt one_fits (λ after. refl) (λ after. refl) in
+    let y = set-goes site writing (insn.MovImm (rm.Reg Edx) (pos 1)) Edx 1 d.flags d w.3.sound w.2 tt one_fits
+        (λ after. refl) (λ after. refl) in
     (y.0, readied site s b c d y.0 p q r v w.1 w.3 y.1 y.3 y.2)
 
-readies : (site : Site) (s : State) → SoundAt site s → ReadyAt site setting_four s → word_of Esp s + 8 < 4294967296 → (u : State) × Readied site s u
+readies : (site : Site) (s : State) → SoundAt site s → ReadyAt site setting_four s → word_of Esp s + 8 < 4294967296
+    → (u : State) × Readied site s u
 readies site s sound ready fits =
-    let p = set-goes site (plain (insn.MovImm (rm.Reg Ebx) (pos 1)) ∷ setting_two) (insn.MovImm (rm.Reg Eax) (pos 4)) Eax 4 s.flags s sound ready tt four_fits (λ after. refl) (λ after. refl) in
+    let p = set-goes site (plain (insn.MovImm (rm.Reg Ebx) (pos 1)) ∷ setting_two) (insn.MovImm (rm.Reg Eax) (pos 4))
+        Eax 4 s.flags s sound ready tt four_fits (λ after. refl) (λ after. refl) in
     let b : State = p.0 in
-    readies-two site s b p.1 p.3 (set-goes site setting_two (insn.MovImm (rm.Reg Ebx) (pos 1)) Ebx 1 b.flags b p.3.sound p.2 tt one_fits (λ after. refl) (λ after. refl)) fits
+    readies-two site s b p.1 p.3 (set-goes site setting_two (insn.MovImm (rm.Reg Ebx) (pos 1)) Ebx 1 b.flags b p.3.sound
+        p.2 tt one_fits (λ after. refl) (λ after. refl)) fits
 
 -- the state in which the routine calls the system
 record Prepared (site : Site) (s u : State) : Type 0 where
@@ -143,7 +159,8 @@ record Prepared (site : Site) (s u : State) : Type 0 where
   pub taken : u.taken ≡ s.taken
   pub written : u.written ≡ s.written
 
-prepared : (site : Site) (s a u : State) → Comes site.text s a → Pushed site (word_of Ebx s) s a → Readied site a u → Prepared site s u
+prepared : (site : Site) (s a u : State) → Comes site.text s a → Pushed site (word_of Ebx s) s a → Readied site a u
+    → Prepared site s u
 prepared site s a u comes p r =
     let lower : word_of Esp a ≡ word_of Esp s - 4 = four-lower (word_of Esp a) (word_of Esp s) p.esp in
     record {
@@ -156,20 +173,27 @@ prepared site s a u comes p r =
       edx = r.edx;
       esp = still-lower (word_of Esp u) (word_of Esp a) (word_of Esp s) r.esp p.esp;
       ebp = r.ebp ∙ p.others Ebp (unlike 5 4 refl);
-      old_ebx = load-same 4 (word_of Esp u) (word_of Ebx s) a u r.memory (subst (λ (k : ℕ). load 4 k a ≡ Ok (word_of Ebx s)) (sym r.esp) p.word);
-      kept = λ n x y k e. load-same n x y a u r.memory (p.apart n x y (subst (λ (m : ℕ). AreDisjoint m 4 x n) (sym lower) k) e);
+      old_ebx = load-same 4 (word_of Esp u) (word_of Ebx s) a u r.memory
+          (subst (λ (k : ℕ). load 4 k a ≡ Ok (word_of Ebx s)) (sym r.esp) p.word);
+      kept = λ n x y k e. load-same n x y a u r.memory
+          (p.apart n x y (subst (λ (m : ℕ). AreDisjoint m 4 x n) (sym lower) k) e);
       left = r.left ∙ p.left;
       taken = r.taken ∙ p.taken;
       written = r.written ∙ p.written;
     }
 
-prepares-behind : (site : Site) (s : State) → word_of Esp s + 8 ≤ site.high → ((a : State) × Comes site.text s a × ReadyAt site setting_four a × Pushed site (word_of Ebx s) s a) → (u : State) × Prepared site s u
+prepares-behind : (site : Site) (s : State) → word_of Esp s + 8 ≤ site.high
+    → ((a : State) × Comes site.text s a × ReadyAt site setting_four a × Pushed site (word_of Ebx s) s a) → (u : State)
+    × Prepared site s u
 prepares-behind site s top (a, comes, ready, p) =
-    let r = readies site a p.sound ready (less-than (word_of Esp a + 8) site.high 4294967296 (higher-below (word_of Esp a) (word_of Esp s) site.high p.esp top) p.sound.below) in
+    let r = readies site a p.sound ready (less-than (word_of Esp a + 8) site.high 4294967296
+        (higher-below (word_of Esp a) (word_of Esp s) site.high p.esp top) p.sound.below) in
     (r.0, prepared site s a r.0 comes p r.1)
 
-prepares : (site : Site) (s : State) → SoundAt site s → ReadyAt site putchar_items s → site.low + 4 ≤ word_of Esp s → word_of Esp s + 8 ≤ site.high → (u : State) × Prepared site s u
-prepares site s sound ready room top = prepares-behind site s top (push-goes site setting_four Ebx s sound ready room (no-more (word_of Esp s) site.high top))
+prepares : (site : Site) (s : State) → SoundAt site s → ReadyAt site putchar_items s → site.low + 4 ≤ word_of Esp s
+    → word_of Esp s + 8 ≤ site.high → (u : State) × Prepared site s u
+prepares site s sound ready room top = prepares-behind site s top
+    (push-goes site setting_four Ebx s sound ready room (no-more (word_of Esp s) site.high top))
 
 -- the state behind the routine
 pub record Answered (site : Site) (y address : ℕ) (s u : State) : Type 0 where
@@ -224,13 +248,19 @@ popped-back : (a b c e : ℕ) → a ≡ b + 4 → b ≡ c → c + 4 ≡ e → a 
 popped-back a b c e p q r = omega arith
 
 -- the result is read and EBX is as before
-answering-pop : (site : Site) (y : ℕ) (s a b c : State) → word_of Esp s + 8 ≤ site.high → SoundAt site s → Prepared site s a → Comes site.text a b → Sets site Eax 1 (a.written ++ y ∷ []) a b
-    → Comes site.text b c → Sets site Eax y b.written b c → ReadyAt site (plain (insn.Pop Ebx) ∷ plain insn.Ret ∷ []) c → (u : State) × Answering site y s u
+answering-pop : (site : Site) (y : ℕ) (s a b c : State) → word_of Esp s + 8 ≤ site.high → SoundAt site s
+    → Prepared site s a → Comes site.text a b → Sets site Eax 1 (a.written ++ y ∷ []) a b
+    → Comes site.text b c → Sets site Eax y b.written b c → ReadyAt site (plain (insn.Pop Ebx) ∷ plain insn.Ret ∷ []) c
+        → (u : State) × Answering site y s u
 answering-pop site y s a b c top sound p q r v w ready =
     let esp : word_of Esp c ≡ word_of Esp a = w.others Esp (unlike 4 0 refl) ∙ r.others Esp (unlike 4 0 refl) in
     let memory : c.memory ≡ a.memory = w.memory ∙ r.memory in
-    let old : load 4 (word_of Esp c) c ≡ Ok (word_of Ebx s) = load-same 4 (word_of Esp c) (word_of Ebx s) a c memory (subst (λ (k : ℕ). load 4 k a ≡ Ok (word_of Ebx s)) (sym esp) p.old_ebx) in
-    let x = pop-goes site (plain insn.Ret ∷ []) Ebx (word_of Ebx s) c w.sound ready (unlike 4 3 refl) old (word-below site.text site.low site.high Ebx s sound) (popped-fits (word_of Esp c) (word_of Esp a) (word_of Esp s) site.high esp p.esp top) in
+    let old : load 4 (word_of Esp c) c ≡ Ok (word_of Ebx s) =
+        load-same 4 (word_of Esp c) (word_of Ebx s) a c memory
+        (subst (λ (k : ℕ). load 4 k a ≡ Ok (word_of Ebx s)) (sym esp) p.old_ebx) in
+    let x = pop-goes site (plain insn.Ret ∷ []) Ebx (word_of Ebx s) c w.sound ready (unlike 4 3 refl) old
+        (word-below site.text site.low site.high Ebx s sound)
+        (popped-fits (word_of Esp c) (word_of Esp a) (word_of Esp s) site.high esp p.esp top) in
     let u : State = x.0 in (
       u,
       record {
@@ -239,7 +269,8 @@ answering-pop site y s a b c top sound p q r v w ready =
         sound = x.3.sound;
         eax = x.3.others Eax (unlike 0 3 refl) (unlike 0 4 refl) ∙ w.value;
         esp = popped-back (word_of Esp u) (word_of Esp c) (word_of Esp a) (word_of Esp s) x.3.esp esp p.esp;
-        ebp = x.3.others Ebp (unlike 5 3 refl) (unlike 5 4 refl) ∙ w.others Ebp (unlike 5 0 refl) ∙ r.others Ebp (unlike 5 0 refl) ∙ p.ebp;
+        ebp = x.3.others Ebp (unlike 5 3 refl) (unlike 5 4 refl) ∙ w.others Ebp (unlike 5 0 refl)
+            ∙ r.others Ebp (unlike 5 0 refl) ∙ p.ebp;
         kept = λ n k z apart e. load-same n k z a u (x.3.memory ∙ memory) (p.kept n k z apart e);
         left = x.3.left ∙ w.left ∙ r.left ∙ p.left;
         taken = x.3.taken ∙ w.taken ∙ r.taken ∙ p.taken;
@@ -247,28 +278,46 @@ answering-pop site y s a b c top sound p q r v w ready =
       },
     )
 
-answering-read : (site : Site) (y : ℕ) (s a : State) → word_of Esp s + 8 ≤ site.high → SoundAt site s → Prepared site s a → load 1 (word_of Esp s + 4) a ≡ Ok y → y < 2 ^ 32
-    → ((b : State) × Comes site.text a b × ReadyAt site answering b × Sets site Eax 1 (a.written ++ y ∷ []) a b) → (u : State) × Answering site y s u
+answering-read : (site : Site) (y : ℕ) (s a : State) → word_of Esp s + 8 ≤ site.high → SoundAt site s
+    → Prepared site s a → load 1 (word_of Esp s + 4) a ≡ Ok y → y < 2 ^ 32
+    → ((b : State) × Comes site.text a b × ReadyAt site answering b × Sets site Eax 1 (a.written ++ y ∷ []) a b)
+        → (u : State) × Answering site y s u
 answering-read site y s a top sound p byte small (b, q, ready, r) =
     let esp : word_of Esp b ≡ word_of Esp a = r.others Esp (unlike 4 0 refl) in
-    let at : word_of Esp b + 8 ≡ word_of Esp s + 4 = ap (λ (k : ℕ). k + 8) esp ∙ four-higher (word_of Esp a) (word_of Esp s) p.esp in
-    let room : word_of Esp b + 8 < 4294967296 = less-than (word_of Esp b + 8) site.high 4294967296 (subst (λ (k : ℕ). k ≤ site.high) (sym at) (next-four (word_of Esp s) site.high top)) sound.below in
+    let at : word_of Esp b + 8 ≡ word_of Esp s + 4 = ap (λ (k : ℕ). k + 8) esp
+        ∙ four-higher (word_of Esp a) (word_of Esp s) p.esp in
+    let room : word_of Esp b + 8 < 4294967296 =
+        less-than (word_of Esp b + 8) site.high 4294967296
+        (subst (λ (k : ℕ). k ≤ site.high) (sym at) (next-four (word_of Esp s) site.high top)) sound.below in
     let there : address_of (near Esp 8) b ≡ word_of Esp s + 4 = near-address 8 b room ∙ at in
-    let read : load 1 (address_of (near Esp 8) b) b ≡ Ok y = ap (λ (k : ℕ). load 1 k b) there ∙ load-same 1 (word_of Esp s + 4) y a b r.memory byte in
-    let v = set-goes site (plain (insn.Pop Ebx) ∷ plain insn.Ret ∷ []) (insn.MovZx8 Eax (rm8.Mem (near Esp 8))) Eax y b.flags b r.sound ready tt small (λ after. ap (λ (x : Result ℕ End). and_then x (λ value. let o : Result State End = Ok (with_word Eax value b) in o)) read) (λ after. refl) in
+    let read : load 1 (address_of (near Esp 8) b) b ≡ Ok y = ap (λ (k : ℕ). load 1 k b) there
+        ∙ load-same 1 (word_of Esp s + 4) y a b r.memory byte in
+    let v = set-goes site (plain (insn.Pop Ebx) ∷ plain insn.Ret ∷ []) (insn.MovZx8 Eax (rm8.Mem (near Esp 8))) Eax y
+        b.flags b r.sound ready tt small (λ after.
+        ap (λ (x : Result ℕ End). and_then x (λ value. let o : Result State End = Ok (with_word Eax value b) in o))
+        read) (λ after. refl) in
     answering-pop site y s a b v.0 top sound p q r v.1 v.3 v.2
 
-answers-behind : (site : Site) (y : ℕ) (s : State) → SoundAt site s → site.low + 4 ≤ word_of Esp s → word_of Esp s + 8 ≤ site.high → load 1 (word_of Esp s + 4) s ≡ Ok y → y < 2 ^ 32 → ((a : State) × Prepared site s a) → (u : State) × Answering site y s u
+answers-behind : (site : Site) (y : ℕ) (s : State) → SoundAt site s → site.low + 4 ≤ word_of Esp s
+    → word_of Esp s + 8 ≤ site.high → load 1 (word_of Esp s + 4) s ≡ Ok y → y < 2 ^ 32
+    → ((a : State) × Prepared site s a) → (u : State) × Answering site y s u
 answers-behind site y s sound room top byte small (a, p) =
     let e : ℕ = word_of Esp s in
     let held : load 1 (e + 4) a ≡ Ok y = p.kept 1 (e + 4) y (behind site.low e 1 (e + 4) room (no-less e)) byte in
-    answering-read site y s a top sound p held small (write-goes site answering y (e + 4) a p.sound p.ready p.eax p.ebx p.ecx p.edx held (above site.low e 4 room) (next-one e site.high top))
+    answering-read site y s a top sound p held small
+        (write-goes site answering y (e + 4) a p.sound p.ready p.eax p.ebx p.ecx p.edx held (above site.low e 4 room)
+        (next-one e site.high top))
 
-answers-back : (site : Site) (y address : ℕ) (s : State) → site.low + 4 ≤ word_of Esp s → word_of Esp s + 8 ≤ site.high → load 4 (word_of Esp s) s ≡ Ok address → address < 2 ^ 32 → ((d : State) × Answering site y s d) → (u : State) × Answered site y address s u
+answers-back : (site : Site) (y address : ℕ) (s : State) → site.low + 4 ≤ word_of Esp s → word_of Esp s + 8 ≤ site.high
+    → load 4 (word_of Esp s) s ≡ Ok address → address < 2 ^ 32 → ((d : State) × Answering site y s d) → (u : State)
+    × Answered site y address s u
 answers-back site y address s room top held fits (d, p) =
     let e : ℕ = word_of Esp s in
-    let there : load 4 (word_of Esp d) d ≡ Ok address = subst (λ (k : ℕ). load 4 k d ≡ Ok address) (sym p.esp) (p.kept 4 e address (behind site.low e 4 e room (itself e)) held) in
-    let w = ret-goes site [] address d p.sound p.ready there fits (subst (λ (k : ℕ). k + 4 ≤ site.high) (sym p.esp) (next-four e site.high top)) in
+    let there : load 4 (word_of Esp d) d ≡ Ok address =
+        subst (λ (k : ℕ). load 4 k d ≡ Ok address) (sym p.esp)
+        (p.kept 4 e address (behind site.low e 4 e room (itself e)) held) in
+    let w = ret-goes site [] address d p.sound p.ready there fits
+        (subst (λ (k : ℕ). k + 4 ≤ site.high) (sym p.esp) (next-four e site.high top)) in
     let u : State = w.0 in (
       u,
       record {
@@ -286,10 +335,13 @@ answers-back site y address s room top held fits (d, p) =
     )
 
 -- the byte above the return address is written, and is the result
-pub putchar-answers : (site : Site) (y address : ℕ) (s : State) → SoundAt site s → ReadyAt site putchar_items s → site.low + 4 ≤ word_of Esp s → word_of Esp s + 8 ≤ site.high
-    → load 4 (word_of Esp s) s ≡ Ok address → address < 2 ^ 32 → load 1 (word_of Esp s + 4) s ≡ Ok y → y < 2 ^ 32 → (u : State) × Answered site y address s u
+pub putchar-answers : (site : Site) (y address : ℕ) (s : State) → SoundAt site s → ReadyAt site putchar_items s
+    → site.low + 4 ≤ word_of Esp s → word_of Esp s + 8 ≤ site.high
+    → load 4 (word_of Esp s) s ≡ Ok address → address < 2 ^ 32 → load 1 (word_of Esp s + 4) s ≡ Ok y → y < 2 ^ 32
+        → (u : State) × Answered site y address s u
 putchar-answers site y address s sound ready room top held fits byte small =
-    answers-back site y address s room top held fits (answers-behind site y s sound room top byte small (prepares site s sound ready room top))
+    answers-back site y address s room top held fits
+        (answers-behind site y s sound room top byte small (prepares site s sound ready room top))
 
 -- ---- the row
 
@@ -345,14 +397,20 @@ back-above : (u c a e : ℕ) → u ≡ c + 4 → c + 4 ≡ a → a + 4 ≡ e →
 back-above u c a e p q r = omega arith
 
 -- from the routine's answer
-called : (site : Site) (back : List Item) (x address : ℕ) (s a c u : State) → word_of Esp s ≤ site.high → site.low + 12 ≤ word_of Esp s → Comes site.text s a → Pushed site x s a → Comes site.text a c → Pushed site address a c
+called : (site : Site) (back : List Item) (x address : ℕ) (s a c u : State) → word_of Esp s ≤ site.high
+    → site.low + 12 ≤ word_of Esp s → Comes site.text s a → Pushed site x s a → Comes site.text a c
+    → Pushed site address a c
     → StandsFrom site back address → Answered site (x % 256) address c u → Called site back x s u
 called site back x address s a c u top room p q r v follows w =
     let e : ℕ = word_of Esp s in
     let some = twelve site.low e room in
     let esp : word_of Esp u ≡ word_of Esp a = w.esp ∙ v.esp in
-    let argument_c : load 4 (word_of Esp a) c ≡ Ok x = v.apart 4 (word_of Esp a) x (word-above (word_of Esp c) (word_of Esp a) 4 v.esp) q.word in
-    let argument_u : load 4 (word_of Esp a) u ≡ Ok x = w.kept 4 (word_of Esp a) x (behind site.low (word_of Esp c) 4 (word_of Esp a) (room-three site.low e (word_of Esp a) (word_of Esp c) room q.esp v.esp) (subst (λ (k : ℕ). word_of Esp c ≤ k) v.esp (no-less (word_of Esp c)))) argument_c in
+    let argument_c : load 4 (word_of Esp a) c ≡ Ok x =
+        v.apart 4 (word_of Esp a) x (word-above (word_of Esp c) (word_of Esp a) 4 v.esp) q.word in
+    let argument_u : load 4 (word_of Esp a) u ≡ Ok x =
+        w.kept 4 (word_of Esp a) x (behind site.low (word_of Esp c) 4 (word_of Esp a)
+        (room-three site.low e (word_of Esp a) (word_of Esp c) room q.esp v.esp)
+        (subst (λ (k : ℕ). word_of Esp c ≤ k) v.esp (no-less (word_of Esp c)))) argument_c in
     record {
       comes = comes-then site.text s a u p (comes-then site.text a c u r w.comes);
       ready = ready-from site back address u follows w.eip;
@@ -361,36 +419,51 @@ called site back x address s a c u top room p q r v follows w =
       esp = back-above (word_of Esp u) (word_of Esp c) (word_of Esp a) e w.esp v.esp q.esp;
       ebp = w.ebp ∙ v.others Ebp (unlike 5 4 refl) ∙ q.others Ebp (unlike 5 4 refl);
       argument = subst (λ (k : ℕ). load 4 k u ≡ Ok x) (sym esp) argument_u;
-      kept = λ n b z k h. w.kept n b z (third-word e (word_of Esp a) (word_of Esp c) n b some q.esp v.esp k) (v.apart n b z (second-word e (word_of Esp a) (word_of Esp c) n b some q.esp v.esp k) (q.apart n b z (first-word e (word_of Esp a) n b some q.esp k) h));
+      kept = λ n b z k h. w.kept n b z (third-word e (word_of Esp a) (word_of Esp c) n b some q.esp v.esp k)
+          (v.apart n b z (second-word e (word_of Esp a) (word_of Esp c) n b some q.esp v.esp k)
+          (q.apart n b z (first-word e (word_of Esp a) n b some q.esp k) h));
       left = w.left ∙ v.left ∙ q.left;
       taken = w.taken ∙ v.taken ∙ q.taken;
       written = w.written ∙ ap (λ (l : List ℕ). l ++ (x % 256) ∷ []) (v.written ∙ q.written);
     }
 
-called-by : (site : Site) (back : List Item) (x address : ℕ) (s a c : State) → word_of Esp s ≤ site.high → site.low + 12 ≤ word_of Esp s → StandsFrom site putchar_items site.symbols.putchar → Comes site.text s a → Pushed site x s a
-    → Comes site.text a c → c.eip ≡ site.symbols.putchar → Pushed site address a c → StandsFrom site back address → address < 2 ^ 32 → (u : State) × Called site back x s u
+called-by : (site : Site) (back : List Item) (x address : ℕ) (s a c : State) → word_of Esp s ≤ site.high
+    → site.low + 12 ≤ word_of Esp s → StandsFrom site putchar_items site.symbols.putchar → Comes site.text s a
+    → Pushed site x s a
+    → Comes site.text a c → c.eip ≡ site.symbols.putchar → Pushed site address a c → StandsFrom site back address
+        → address < 2 ^ 32 → (u : State) × Called site back x s u
 called-by site back x address s a c top room routine p q r at v follows fits =
     let e : ℕ = word_of Esp s in
     let ready : ReadyAt site putchar_items c = ready-from site putchar_items site.symbols.putchar c routine at in
-    let byte : load 1 (word_of Esp c + 4) c ≡ Ok (x % 256) = subst (λ (k : ℕ). load 1 k c ≡ Ok (x % 256)) (sym v.esp) (v.apart 1 (word_of Esp a) (x % 256) (word-above (word_of Esp c) (word_of Esp a) 1 v.esp) q.byte) in
-    let w = putchar-answers site (x % 256) address c v.sound ready (room-three site.low e (word_of Esp a) (word_of Esp c) room q.esp v.esp) (top-three e (word_of Esp a) (word_of Esp c) site.high q.esp v.esp top) v.word fits byte (byte-fits x) in
+    let byte : load 1 (word_of Esp c + 4) c ≡ Ok (x % 256) =
+        subst (λ (k : ℕ). load 1 k c ≡ Ok (x % 256)) (sym v.esp)
+        (v.apart 1 (word_of Esp a) (x % 256) (word-above (word_of Esp c) (word_of Esp a) 1 v.esp) q.byte) in
+    let w = putchar-answers site (x % 256) address c v.sound ready
+        (room-three site.low e (word_of Esp a) (word_of Esp c) room q.esp v.esp)
+        (top-three e (word_of Esp a) (word_of Esp c) site.high q.esp v.esp top) v.word fits byte (byte-fits x) in
     (w.0, called site back x address s a c w.0 top room p q r v follows w.1)
 
-calls-behind : (site : Site) (back : List Item) (x : ℕ) (s : State) → word_of Esp s ≤ site.high → site.low + 12 ≤ word_of Esp s → StandsFrom site putchar_items site.symbols.putchar
-    → ((a : State) × Comes site.text s a × ReadyAt site (item.CallStub stub.Putchar ∷ back) a × Pushed site x s a) → (u : State) × Called site back x s u
+calls-behind : (site : Site) (back : List Item) (x : ℕ) (s : State) → word_of Esp s ≤ site.high
+    → site.low + 12 ≤ word_of Esp s → StandsFrom site putchar_items site.symbols.putchar
+    → ((a : State) × Comes site.text s a × ReadyAt site (item.CallStub stub.Putchar ∷ back) a × Pushed site x s a)
+        → (u : State) × Called site back x s u
 calls-behind site back x s top room routine (a, p, ready, q) =
     let e : ℕ = word_of Esp s in
     let first : List ℕ = ready.stand.0 in
     let rest : List ℕ = ready.stand.1 in
     let whole : IsAt site.text a.eip (first ++ rest) = subst (IsAt site.text a.eip) ready.stand.2 ready.here in
-    let r = call-goes site back site.symbols.putchar first rest a q.sound whole ready.stand.3 ready.stand.4 (room-two site.low e (word_of Esp a) room q.esp) (top-two e (word_of Esp a) site.high q.esp top) in
+    let r = call-goes site back site.symbols.putchar first rest a q.sound whole ready.stand.3 ready.stand.4
+        (room-two site.low e (word_of Esp a) room q.esp) (top-two e (word_of Esp a) site.high q.esp top) in
     called-by site back x (a.eip + length first) s a r.0 top room routine p q r.1 r.2 r.3 r.4 r.5
 
 -- the word in ESI is passed to the routine
-calls : (site : Site) (back : List Item) (x : ℕ) (s : State) → SoundAt site s → word_of Esp s ≤ site.high → site.low + 12 ≤ word_of Esp s → StandsFrom site putchar_items site.symbols.putchar
-    → ReadyAt site (plain (insn.Push (rm.Reg Esi)) ∷ item.CallStub stub.Putchar ∷ back) s → word_of Esi s ≡ x → (u : State) × Called site back x s u
+calls : (site : Site) (back : List Item) (x : ℕ) (s : State) → SoundAt site s → word_of Esp s ≤ site.high
+    → site.low + 12 ≤ word_of Esp s → StandsFrom site putchar_items site.symbols.putchar
+    → ReadyAt site (plain (insn.Push (rm.Reg Esi)) ∷ item.CallStub stub.Putchar ∷ back) s → word_of Esi s ≡ x
+        → (u : State) × Called site back x s u
 calls site back x s sound top room routine ready is =
-    let p = push-goes site (item.CallStub stub.Putchar ∷ back) Esi s sound ready (room-one site.low (word_of Esp s) room) top in
+    let p = push-goes site (item.CallStub stub.Putchar ∷ back) Esi s sound ready
+        (room-one site.low (word_of Esp s) room) top in
     calls-behind site back x s top room routine (p.0, p.1, p.2, subst (λ (k : ℕ). Pushed site k s p.0) is p.3)
 
 -- places apart from the twelve bytes below an address
@@ -404,10 +477,13 @@ pop-top : (u e f b h : ℕ) → u + 4 ≡ e → e + f ≡ b → b + 8 ≤ h → 
 pop-top u e f b h p q r = omega arith
 
 -- the argument comes off the stack again
-call-went : (site : Site) (frame : ℕ) (items : List Item) (x : ℕ) (s : State) → Framed site frame s → x < 2 ^ 32 → ((t : State) × Called site (plain (insn.Pop Edi) ∷ items) x s t)
-    → (u : State) × Went site frame items (Below (word_of Esp s)) (s.written ++ (x % 256) ∷ []) s u × (word_of Eax u ≡ x % 256)
+call-went : (site : Site) (frame : ℕ) (items : List Item) (x : ℕ) (s : State) → Framed site frame s → x < 2 ^ 32
+    → ((t : State) × Called site (plain (insn.Pop Edi) ∷ items) x s t)
+    → (u : State) × Went site frame items (Below (word_of Esp s)) (s.written ++ (x % 256) ∷ []) s u
+        × (word_of Eax u ≡ x % 256)
 call-went site frame items x s framed fits (t, p) =
-    let w = pop-goes site items Edi x t p.sound p.ready (unlike 4 7 refl) p.argument fits (pop-top (word_of Esp t) (word_of Esp s) frame (word_of Ebp s) site.high p.esp framed.esp framed.top) in
+    let w = pop-goes site items Edi x t p.sound p.ready (unlike 4 7 refl) p.argument fits
+        (pop-top (word_of Esp t) (word_of Esp s) frame (word_of Ebp s) site.high p.esp framed.esp framed.top) in
     let u : State = w.0 in
     let esp : word_of Esp u ≡ word_of Esp s = w.3.esp ∙ p.esp in
     let ebp : word_of Ebp u ≡ word_of Ebp s = w.3.others Ebp (unlike 5 7 refl) (unlike 5 4 refl) ∙ p.ebp in (
@@ -415,7 +491,9 @@ call-went site frame items x s framed fits (t, p) =
       record {
         comes = comes-then site.text s t u p.comes w.1;
         ready = w.2;
-        framed = record { sound = w.3.sound; esp = ap (λ (k : ℕ). k + frame) esp ∙ framed.esp ∙ sym ebp; room = subst (λ (k : ℕ). site.low + 4 ≤ k) (sym esp) framed.room; top = subst (λ (k : ℕ). k + 8 ≤ site.high) (sym ebp) framed.top };
+        framed = record { sound = w.3.sound; esp = ap (λ (k : ℕ). k + frame) esp ∙ framed.esp ∙ sym ebp; room =
+            subst (λ (k : ℕ). site.low + 4 ≤ k) (sym esp) framed.room; top =
+            subst (λ (k : ℕ). k + 8 ≤ site.high) (sym ebp) framed.top };
         ebp = ebp;
         esp = esp;
         left = w.3.left ∙ p.left;
@@ -436,41 +514,59 @@ some-distance : (d : ℕ) → 20 ≤ d → 0 < d
 some-distance d h = omega arith
 
 -- the result goes to its slot
-row-ends : (site : Site) (frame : ℕ) (back : List Item) (d y e : ℕ) (out : List ℕ) (s t : State) → IsInFrame frame d → Went site frame (storing d back) (Below e) out s t → word_of Eax t ≡ y
-    → (u : State) × Went site frame back (OutsideCall (word_of Ebp s - d) e) out s u × (load 4 (word_of Ebp s - d) u ≡ Ok y)
+row-ends : (site : Site) (frame : ℕ) (back : List Item) (d y e : ℕ) (out : List ℕ) (s t : State) → IsInFrame frame d
+    → Went site frame (storing d back) (Below e) out s t → word_of Eax t ≡ y
+    → (u : State) × Went site frame back (OutsideCall (word_of Ebp s - d) e) out s u
+        × (load 4 (word_of Ebp s - d) u ≡ Ok y)
 row-ends site frame back d y e out s t inside went value =
     let slot : ℕ = word_of Ebp s - d in
     let K : ℕ → ℕ → Type 0 = OutsideCall slot e in
     let same : word_of Ebp t - d ≡ slot = ap (λ (k : ℕ). k - d) went.ebp in
-    let stored = store-went site frame back K Eax d y t went.framed went.ready (some-room d inside.low) inside.high value (λ n b k. subst (λ (a : ℕ). AreDisjoint a 4 b n) (sym same) k.0) in
+    let stored = store-went site frame back K Eax d y t went.framed went.ready (some-room d inside.low) inside.high
+        value (λ n b k. subst (λ (a : ℕ). AreDisjoint a 4 b n) (sym same) k.0) in
     let first = went-stricter site frame (storing d back) (Below e) K out s t (λ b n k. k.1) went in
     let second = subst (λ (o : List ℕ). Went site frame back K o t stored.0) went.written stored.1 in
-    (stored.0, went-then site frame (storing d back) back K out out s t stored.0 first second, subst (λ (a : ℕ). load 4 a stored.0 ≡ Ok y) same stored.2)
+    (stored.0, went-then site frame (storing d back) back K out out s t stored.0 first second,
+        subst (λ (a : ℕ). load 4 a stored.0 ≡ Ok y) same stored.2)
 
-row-called : (site : Site) (frame : ℕ) (back : List Item) (d y : ℕ) (s t : State) → IsInFrame frame d → Went site frame (plain (insn.Push (rm.Reg Esi)) ∷ item.CallStub stub.Putchar ∷ plain (insn.Pop Edi) ∷ storing d back) Anywhere s.written s t
-    → ((c : State) × Went site frame (storing d back) (Below (word_of Esp t)) (t.written ++ y ∷ []) t c × (word_of Eax c ≡ y)) → (u : State) × WroteByCall site frame back (word_of Ebp s - d) y (s.written ++ y ∷ []) s u
+row-called : (site : Site) (frame : ℕ) (back : List Item) (d y : ℕ) (s t : State) → IsInFrame frame d
+    → Went site frame (plain (insn.Push (rm.Reg Esi)) ∷ item.CallStub stub.Putchar ∷ plain (insn.Pop Edi)
+    ∷ storing d back) Anywhere s.written s t
+    → ((c : State) × Went site frame (storing d back) (Below (word_of Esp t)) (t.written ++ y ∷ []) t c
+        × (word_of Eax c ≡ y)) → (u : State) × WroteByCall site frame back (word_of Ebp s - d) y (s.written ++ y ∷ []) s
+        u
 row-called site frame back d y s t inside went (c, w, eax) =
-    let calling : List Item = plain (insn.Push (rm.Reg Esi)) ∷ item.CallStub stub.Putchar ∷ plain (insn.Pop Edi) ∷ storing d back in
+    let calling : List Item = plain (insn.Push (rm.Reg Esi)) ∷ item.CallStub stub.Putchar ∷ plain (insn.Pop Edi)
+        ∷ storing d back in
     let out : List ℕ = s.written ++ y ∷ [] in
     let first = went-stricter site frame calling Anywhere (Below (word_of Esp s)) s.written s t (λ b n k. tt) went in
     let written : t.written ++ y ∷ [] ≡ out = ap (λ (l : List ℕ). l ++ y ∷ []) went.written in
-    let esp_now : Went site frame (storing d back) (Below (word_of Esp s)) (t.written ++ y ∷ []) t c = subst (λ (e : ℕ). Went site frame (storing d back) (Below e) (t.written ++ y ∷ []) t c) went.esp w in
-    let second : Went site frame (storing d back) (Below (word_of Esp s)) out t c = subst (λ (o : List ℕ). Went site frame (storing d back) (Below (word_of Esp s)) o t c) written esp_now in
+    let esp_now : Went site frame (storing d back) (Below (word_of Esp s)) (t.written ++ y ∷ []) t c =
+        subst (λ (e : ℕ). Went site frame (storing d back) (Below e) (t.written ++ y ∷ []) t c) went.esp w in
+    let second : Went site frame (storing d back) (Below (word_of Esp s)) out t c =
+        subst (λ (o : List ℕ). Went site frame (storing d back) (Below (word_of Esp s)) o t c) written esp_now in
     let all = went-then site frame calling (storing d back) (Below (word_of Esp s)) s.written out s t c first second in
     let ends = row-ends site frame back d y (word_of Esp s) out s c inside all eax in
     (ends.0, record { went = ends.1; same = ends.2 })
 
 -- the row that selection writes
-pub putchar_row-between : (slots : List ℕ) (d a : ℕ) (back : List Item) → putchar_row slots d a ++ back ≡ putchar_between (slice_index_or slots d 0) (slice_index_or slots a 0) back
+pub putchar_row-between : (slots : List ℕ) (d a : ℕ) (back : List Item) → putchar_row slots d a ++ back
+    ≡ putchar_between (slice_index_or slots d 0) (slice_index_or slots a 0) back
 putchar_row-between slots d a back = refl
 
 -- the low byte of the word in the one slot is written, and becomes the word in the other
 pub putchar-row : PutcharRow
 putchar-row site frame back d a x s framed room routine ready from to held fits =
-    let calling : List Item = plain (insn.Push (rm.Reg Esi)) ∷ item.CallStub stub.Putchar ∷ plain (insn.Pop Edi) ∷ storing d back in
-    let one = load-went site frame calling Anywhere Esi a x s framed ready (unlike 5 6 refl) (unlike 4 6 refl) (some-distance a from.low) from.high held fits in
+    let calling : List Item = plain (insn.Push (rm.Reg Esi)) ∷ item.CallStub stub.Putchar ∷ plain (insn.Pop Edi)
+        ∷ storing d back in
+    let one = load-went site frame calling Anywhere Esi a x s framed ready (unlike 5 6 refl) (unlike 4 6 refl)
+        (some-distance a from.low) from.high held fits in
     let t : State = one.0 in
     let w = one.1 in
-    let top : word_of Esp t ≤ site.high = frame-top (word_of Esp t) frame (word_of Ebp t) site.high w.framed.esp w.framed.top in
+    let top : word_of Esp t ≤ site.high = frame-top (word_of Esp t) frame (word_of Ebp t) site.high w.framed.esp
+        w.framed.top in
     let room_now : site.low + 12 ≤ word_of Esp t = subst (λ (k : ℕ). site.low + 12 ≤ k) (sym w.esp) room in
-    row-called site frame back d (x % 256) s t to w (call-went site frame (storing d back) x t w.framed fits (calls site (plain (insn.Pop Edi) ∷ storing d back) x t w.framed.sound top room_now routine w.ready one.2.value))
+    row-called site frame back d (x % 256) s t to w
+        (call-went site frame (storing d back) x t w.framed fits
+        (calls site (plain (insn.Pop Edi) ∷ storing d back) x t w.framed.sound top room_now routine w.ready
+        one.2.value))

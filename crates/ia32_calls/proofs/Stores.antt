@@ -24,7 +24,8 @@ pub record Stores (site : Site) (a v : ℕ) (s u : State) : Type 0 where
   pub written : u.written ≡ s.written
 
 -- a store that was done, at another address of the next instruction
-pub stored-at : (site : Site) (address a v : ℕ) (s t : State) → Stored site.text site.low site.high a v s t → Stores site a v s (at_address address t)
+pub stored-at : (site : Site) (address a v : ℕ) (s t : State) → Stored site.text site.low site.high a v s t
+    → Stores site a v s (at_address address t)
 stored-at site address a v s t h =
     let rest = h.rest in
     record {
@@ -38,11 +39,13 @@ stored-at site address a v s t h =
     }
 
 -- an instruction that stores a word
-pub store-goes : (site : Site) (items : List Item) (i : Insn) (a v : ℕ) (s : State) → SoundAt site s → ReadyAt site (item.Plain i ∷ items) s → IsCommon i → site.low ≤ a → a + 4 ≤ site.high → v < 2 ^ 32
+pub store-goes : (site : Site) (items : List Item) (i : Insn) (a v : ℕ) (s : State) → SoundAt site s
+    → ReadyAt site (item.Plain i ∷ items) s → IsCommon i → site.low ≤ a → a + 4 ≤ site.high → v < 2 ^ 32
     → ((after : ℕ) → effect i after s ≡ store 4 a v s) → ((after : ℕ) → target i after s ≡ Ok after)
     → (u : State) × Comes site.text s u × ReadyAt site items u × Stores site a v s u
 store-goes site items i a v s sound ready common from to fits e k =
     let stored = store-in site.text site.low site.high a v s sound from to fits in
     let t : State = stored.0 in
-    let went = plain-goes site.symbols site.places site.text site.low site.high i items s t sound ready common (λ after. e after ∙ stored.1.is) k in
+    let went = plain-goes site.symbols site.places site.text site.low site.high i items s t sound ready common
+        (λ after. e after ∙ stored.1.is) k in
     (at_address went.0 t, went.1, went.2, stored-at site went.0 a v s t stored.1)

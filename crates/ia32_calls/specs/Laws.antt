@@ -1,5 +1,6 @@
 -- What calls and leaves do to the machine. Each law leads from a state to a later one, and passes no NOP on the way.
-use Rattle.std.specs.Prelude.{◌≡◌, ℕ, ◌+◌, ◌-◌, ◌%◌, ◌^◌, ◌<◌, ◌≤◌, List, [], ◌∷◌, ◌++◌, length, take, drop, slice_get, Some, Ok}
+use Rattle.std.specs.Prelude.{◌≡◌, ℕ, ◌+◌, ◌-◌, ◌%◌, ◌^◌, ◌<◌, ◌≤◌, List, [], ◌∷◌, ◌++◌, length, take, drop, slice_get}
+use Rattle.std.specs.Prelude.{Some, Ok}
 use Rattle.std.specs.List.{AllByRecursion}
 use Rattle.pcc_base.specs.Outcome.{Ended}
 use Rattle.ia32_regs.specs.declared.names.Reg32.{Reg32}
@@ -13,7 +14,8 @@ use Rattle.ia32_insn.specs.State.{State}
 use Rattle.ia32_insn.specs.Meaning.{Halts, load, word_of}
 use Rattle.ia32_insn.specs.Keeps.{AreDisjoint}
 use Rattle.ia32_insn.specs.Runs.{Steps}
-use Rattle.ia32_insn.specs.Items.{Object, Symbols, Places, ItemsAt, IsText, plain, text_start, text_state, data_start, stack_end, start_items, putchar_items}
+use Rattle.ia32_insn.specs.Items.{Object, Symbols, Places, ItemsAt, IsText, plain, text_start, text_state, data_start}
+use Rattle.ia32_insn.specs.Items.{stack_end, start_items, putchar_items}
 use Rattle.ia32_shows.specs.Paths.{IsAt, IsClear, Comes}
 use Rattle.ia32_shows.specs.Placements.{below}
 use Rattle.ia32_rows.specs.Rows.{IsSlot, AllApart, prologue}
@@ -42,15 +44,18 @@ abbrev pub OutsideCall : ℕ → ℕ → ℕ → ℕ → Type 0
 OutsideCall slot esp b n = ApartFrom slot b n × AreDisjoint (esp - 12) 12 b n
 
 -- a row that called a routine and wrote a word to a slot
-pub record WroteByCall (site : Site) (frame : ℕ) (items : List Item) (slot word : ℕ) (out : List ℕ) (s u : State) : Type 0 where
+pub record WroteByCall (site : Site) (frame : ℕ) (items : List Item) (slot word : ℕ) (out : List ℕ) (s u : State) : Type
+    0 where
   pub went : Went site frame items (OutsideCall slot (word_of Esp s)) out s u
   pub same : load 4 slot u ≡ Ok word
 
 -- the low byte of the word in the one slot is written, and becomes the word in the other
 abbrev pub PutcharRow : Type 0
 PutcharRow =
-    (site : Site) (frame : ℕ) (back : List Item) (d a x : ℕ) (s : State) → Framed site frame s → site.low + 12 ≤ word_of Esp s → StandsFrom site putchar_items site.symbols.putchar
-    → ReadyAt site (putchar_between d a back) s → IsInFrame frame a → IsInFrame frame d → load 4 (word_of Ebp s - a) s ≡ Ok x → x < 2 ^ 32
+    (site : Site) (frame : ℕ) (back : List Item) (d a x : ℕ) (s : State) → Framed site frame s
+        → site.low + 12 ≤ word_of Esp s → StandsFrom site putchar_items site.symbols.putchar
+    → ReadyAt site (putchar_between d a back) s → IsInFrame frame a → IsInFrame frame d → load 4 (word_of Ebp s - a) s
+        ≡ Ok x → x < 2 ^ 32
     → (u : State) × WroteByCall site frame back (word_of Ebp s - d) (x % 256) (s.written ++ (x % 256) ∷ []) s u
 
 -- ---- the start
@@ -60,8 +65,10 @@ abbrev pub ReturnsToStart : Symbols → List ℕ → List Object → ℕ → ℕ
 ReturnsToStart symbols text objects main address =
     (before after : List ℕ) × (places : Places)
     × ItemsAt symbols places text_start (take 3 (start_items (stack_end text objects) symbols.depth main)) before
-    × ItemsAt symbols places (text_start + length before) (drop 3 (start_items (stack_end text objects) symbols.depth main)) after
-    × ((done rest : List ℕ) × (text ≡ done ++ ((before ++ after) ++ rest)) × (text_start ≡ text_start + length done)) × (address ≡ text_start + length before)
+    × ItemsAt symbols places (text_start + length before)
+        (drop 3 (start_items (stack_end text objects) symbols.depth main)) after
+    × ((done rest : List ℕ) × (text ≡ done ++ ((before ++ after) ++ rest)) × (text_start ≡ text_start + length done))
+        × (address ≡ text_start + length before)
 
 -- the state in which `main` begins
 pub record Started (symbols : Symbols) (text : List ℕ) (main address : ℕ) (input : List ℕ) (t : State) : Type 0 where
@@ -80,8 +87,10 @@ pub record Started (symbols : Symbols) (text : List ℕ) (main address : ℕ) (i
 -- the start comes to the first function's address, with one call active
 abbrev pub StartGoes : Type 0
 StartGoes =
-    (functions : List (List Item)) (order : List ℕ) (main : ℕ) (places : List Places) (symbols : Symbols) (text : List ℕ) (address : ℕ) (input : List ℕ)
-    → IsText functions order [] main places symbols text → length text < 2 ^ 30 + 1024 → slice_get symbols.functions main ≡ Some address
+    (functions : List (List Item)) (order : List ℕ) (main : ℕ) (places : List Places) (symbols : Symbols)
+        (text : List ℕ) (address : ℕ) (input : List ℕ)
+    → IsText functions order [] main places symbols text → length text < 2 ^ 30 + 1024
+        → slice_get symbols.functions main ≡ Some address
     → (t : State) × Started symbols text main address input t
 
 -- ---- a function's first items
@@ -97,7 +106,8 @@ pub record Entered (site : Site) (frame : ℕ) (slots : List ℕ) (back : List I
   pub old_esi : load 4 (word_of Ebp u - 8) u ≡ Ok (word_of Esi t)
   pub old_edi : load 4 (word_of Ebp u - 12) u ≡ Ok (word_of Edi t)
   pub zeros : AllByRecursion (λ (slot : ℕ). load 4 (word_of Ebp u - slot) u ≡ Ok 0) slots
-  pub kept : (n b w : ℕ) → AreDisjoint (word_of Esp t - (frame + 4)) (frame + 4) b n → load n b t ≡ Ok w → load n b u ≡ Ok w
+  pub kept : (n b w : ℕ) → AreDisjoint (word_of Esp t - (frame + 4)) (frame + 4) b n → load n b t ≡ Ok w → load n b u
+      ≡ Ok w
   pub left : u.left ≡ t.left
   pub taken : u.taken ≡ t.taken
   pub written : u.written ≡ t.written
@@ -105,8 +115,10 @@ pub record Entered (site : Site) (frame : ℕ) (slots : List ℕ) (back : List I
 -- the prologue makes the frame, with the caller's registers in its first words and 0 in each slot
 abbrev pub PrologueGoes : Type 0
 PrologueGoes =
-    (site : Site) (frame : ℕ) (slots : List ℕ) (back : List Item) (t : State) → SoundAt site t → ReadyAt site (prologue frame slots ++ back) t
-    → site.low + frame + 64 ≤ word_of Esp t → word_of Esp t + 4 ≤ site.high → 16 ≤ frame → AllByRecursion (IsSlot frame) slots → AllApart slots
+    (site : Site) (frame : ℕ) (slots : List ℕ) (back : List Item) (t : State) → SoundAt site t
+        → ReadyAt site (prologue frame slots ++ back) t
+    → site.low + frame + 64 ≤ word_of Esp t → word_of Esp t + 4 ≤ site.high → 16 ≤ frame
+        → AllByRecursion (IsSlot frame) slots → AllApart slots
     → (u : State) × Entered site frame slots back t u
 
 -- ---- a return
@@ -145,7 +157,8 @@ pub record Returned (site : Site) (word address : ℕ) (s u : State) : Type 0 wh
 
 abbrev pub ReturnGoes : Type 0
 ReturnGoes =
-    (site : Site) (frame : ℕ) (back : List Item) (a x address : ℕ) (s : State) → Framed site frame s → ReadyAt site (return_before a back) s → IsInFrame frame a
+    (site : Site) (frame : ℕ) (back : List Item) (a x address : ℕ) (s : State) → Framed site frame s
+        → ReadyAt site (return_before a back) s → IsInFrame frame a
     → load 4 (word_of Ebp s - a) s ≡ Ok x → x < 2 ^ 32 → load 4 (word_of Ebp s + 4) s ≡ Ok address → address < 2 ^ 32
     → (u : State) × Returned site x address s u
 
@@ -162,5 +175,6 @@ pub record Ending (text : List ℕ) (word : ℕ) (s t : State) : Type 0 where
 -- behind the return of `main` the run ends with the low byte of its result
 abbrev pub EndingHalts : Type 0
 EndingHalts =
-    (symbols : Symbols) (text : List ℕ) (objects : List Object) (main low high x : ℕ) (s : State) → IsSound text low high s → ReturnsToStart symbols text objects main s.eip → word_of Eax s ≡ x
+    (symbols : Symbols) (text : List ℕ) (objects : List Object) (main low high x : ℕ) (s : State)
+        → IsSound text low high s → ReturnsToStart symbols text objects main s.eip → word_of Eax s ≡ x
     → (t : State) × Ending text x s t

@@ -89,7 +89,8 @@ fn index_of(scale: u8, number: u8) -> Option<(Reg32, u8)>
 /// The displacement that goes with this mod and this number of a base.
 #[tactic(auto, unfolding(ia32_insn::specs::Reading::read_signed))]
 fn displacement(mode: u8, number: u8, bytes: &[u8]) -> Option<(i32, usize)>
-    ensures { result ≡ option_map (λ z. (z, displacement_size mode number)) (read_signed (displacement_size mode number) bytes.now) }
+    ensures { result ≡ option_map (λ z. (z, displacement_size mode number))
+        (read_signed (displacement_size mode number) bytes.now) }
 {
     if mode == 1 {
         return Some((signed_at(bytes, 0, 1)?, 1));

@@ -1,6 +1,7 @@
 -- Texts of items: how the code of a program stands in memory, function by function, with the routines that it
 -- calls, and the state in which its image starts.
-use Rattle.std.specs.Prelude.{◌≡◌, ◌⊎◌, ◌<◌, ℕ, ◌+◌, ◌-◌, ◌*◌, ◌/◌, ◌%◌, ◌^◌, ℤ, pos, true, false, List, [], ◌∷◌, ◌++◌, flat_map, length, slice_get, Option, Some, None}
+use Rattle.std.specs.Prelude.{◌≡◌, ◌⊎◌, ◌<◌, ℕ, ◌+◌, ◌-◌, ◌*◌, ◌/◌, ◌%◌, ◌^◌, ℤ, pos, true, false, List, [], ◌∷◌, ◌++◌}
+use Rattle.std.specs.Prelude.{flat_map, length, slice_get, Option, Some, None}
 use Rattle.std.specs.Int.{w32, cast_unsigned, cast_signed}
 use Rattle.byteorder.specs.Endian.{little_bytes}
 use Rattle.pcc_base.specs.Bytes.{zeros}
@@ -47,12 +48,14 @@ stub_address symbols stub.Exit = symbols.exit
 
 -- the address is that of a static object, or for this number that of the depth word
 abbrev pub IsObject : Symbols → ℕ → ℕ → Type 0
-IsObject symbols k address = ((k ≡ 4294967295) × (address ≡ symbols.depth)) ⊎ (slice_get symbols.objects k ≡ Some address)
+IsObject symbols k address = ((k ≡ 4294967295) × (address ≡ symbols.depth))
+    ⊎ (slice_get symbols.objects k ≡ Some address)
 
 -- an instruction that these bytes spell at an address leads to the target, by its distance
 abbrev pub LeadsTo : (ℤ → Insn) → ℕ → ℕ → List ℕ → Type 0
 LeadsTo instruction address target bytes =
-    (distance : ℤ) × Spells (instruction distance) bytes × ((address + length bytes + cast_unsigned w32 distance) % 2 ^ 32 ≡ target)
+    (distance : ℤ) × Spells (instruction distance) bytes
+        × ((address + length bytes + cast_unsigned w32 distance) % 2 ^ 32 ≡ target)
 
 -- a jump, always or where a condition holds
 abbrev pub jump_if : Option Cond → ℤ → Insn
@@ -66,17 +69,20 @@ ItemAt symbols places address (item.Label l) bytes = (bytes ≡ []) × (places.l
 ItemAt symbols places address (item.Point p) bytes = (bytes ≡ []) × (places.points p ≡ address)
 ItemAt symbols places address (item.JumpTo l) bytes = LeadsTo insn.Jmp address (places.labels l) bytes
 ItemAt symbols places address (item.JumpIf c l) bytes = LeadsTo (insn.Jcc c) address (places.labels l) bytes
-ItemAt symbols places address (item.CallFunction f) bytes = (target : ℕ) × (slice_get symbols.functions f ≡ Some target) × LeadsTo insn.Call address target bytes
+ItemAt symbols places address (item.CallFunction f) bytes = (target : ℕ) × (slice_get symbols.functions f ≡ Some target)
+    × LeadsTo insn.Call address target bytes
 ItemAt symbols places address (item.CallStub s) bytes = LeadsTo insn.Call address (stub_address symbols s) bytes
 ItemAt symbols places address (item.JumpTrap c) bytes = LeadsTo (jump_if c) address symbols.check bytes
 ItemAt symbols places address (item.AddressOf r k) bytes =
-    (target : ℕ) × (z : ℤ) × IsObject symbols k target × (cast_unsigned w32 z ≡ target) × Spells (insn.MovImm (rm.Reg r) z) bytes
+    (target : ℕ) × (z : ℤ) × IsObject symbols k target × (cast_unsigned w32 z ≡ target)
+        × Spells (insn.MovImm (rm.Reg r) z) bytes
 
 -- the items stand one after the other from the address on, and have these bytes
 abbrev pub ItemsAt : Symbols → Places → ℕ → List Item → List ℕ → Type 0
 ItemsAt symbols places address [] bytes = bytes ≡ []
 ItemsAt symbols places address (i ∷ items) bytes =
-    (first : List ℕ) × (rest : List ℕ) × (bytes ≡ first ++ rest) × ItemAt symbols places address i first × ItemsAt symbols places (address + length first) items rest
+    (first : List ℕ) × (rest : List ℕ) × (bytes ≡ first ++ rest) × ItemAt symbols places address i first
+        × ItemsAt symbols places (address + length first) items rest
 
 -- the numbers below n in some order: each stands at one place
 pub record IsOrder (n : ℕ) (order : List ℕ) : Type 0 where
@@ -85,7 +91,8 @@ pub record IsOrder (n : ℕ) (order : List ℕ) : Type 0 where
   pub once : (i j k : ℕ) → slice_get order i ≡ Some k → slice_get order j ≡ Some k → i ≡ j
 
 -- the function with this number stands at the address, with these bytes
-pub record FunctionAt (symbols : Symbols) (functions : List (List Item)) (places : List Places) (f address : ℕ) (bytes : List ℕ) : Type 0 where
+pub record FunctionAt (symbols : Symbols) (functions : List (List Item)) (places : List Places) (f address : ℕ)
+    (bytes : List ℕ) : Type 0 where
   pub items : List Item
   pub place : Places
   pub is : slice_get functions f ≡ Some items
@@ -188,7 +195,8 @@ elements_size object = round_up 4 (object.width * length object.elements)
 -- the number of elements in four bytes, the elements, and zeros up to a multiple of 4
 abbrev pub object_bytes : Object → List ℕ
 object_bytes object =
-    little_bytes 4 (length object.elements) ++ element_bytes object ++ zeros (elements_size object - object.width * length object.elements)
+    little_bytes 4 (length object.elements) ++ element_bytes object
+        ++ zeros (elements_size object - object.width * length object.elements)
 
 -- the depth word, and then the static objects
 abbrev pub data_bytes : List Object → List ℕ
@@ -197,7 +205,8 @@ data_bytes objects = zeros 4 ++ flat_map object_bytes objects
 -- where element 0 of each object is, where they begin at the address
 abbrev pub object_addresses : ℕ → List Object → List ℕ
 object_addresses address [] = []
-object_addresses address (object ∷ objects) = (address + 4) ∷ object_addresses (address + 4 + elements_size object) objects
+object_addresses address (object ∷ objects) =
+    (address + 4) ∷ object_addresses (address + 4 + elements_size object) objects
 
 -- where the data of a text begins, and where their memory and the stack end
 abbrev pub data_start : List ℕ → ℕ
@@ -211,7 +220,8 @@ stack_end text objects = data_start text + data_memory objects
 
 -- The text: the start, the functions in this order of their numbers, and the other routines, one after the other. The
 -- functions, their places and their addresses are listed by their numbers.
-pub record IsText (functions : List (List Item)) (order : List ℕ) (objects : List Object) (main : ℕ) (places : List Places) (symbols : Symbols) (text : List ℕ) : Type 0 where
+pub record IsText (functions : List (List Item)) (order : List ℕ) (objects : List Object) (main : ℕ)
+    (places : List Places) (symbols : Symbols) (text : List ℕ) : Type 0 where
   pub start : List ℕ
   pub code : List ℕ
   pub putchar : List ℕ
@@ -219,7 +229,8 @@ pub record IsText (functions : List (List Item)) (order : List ℕ) (objects : L
   pub exit : List ℕ
   pub check : List ℕ
   pub whole : text ≡ start ++ code ++ putchar ++ getchar ++ exit ++ check
-  pub start_at : (none : Places) → ItemsAt symbols none text_start (start_items (stack_end text objects) symbols.depth main) start
+  pub start_at : (none : Places) → ItemsAt symbols none text_start
+      (start_items (stack_end text objects) symbols.depth main) start
   pub order_is : IsOrder (length functions) order
   pub places_are : length places ≡ length functions
   pub addresses_are : length symbols.functions ≡ length functions
@@ -253,4 +264,5 @@ data_area text objects =
 -- or written
 abbrev pub text_state : List ℕ → List Object → List ℕ → State
 text_state text objects input =
-    record { registers = zero_registers; flags = None; eip = text_start; memory = text_area text ∷ data_area text objects ∷ []; left = input; taken = 0; written = [] }
+    record { registers = zero_registers; flags = None; eip = text_start; memory =
+        text_area text ∷ data_area text objects ∷ []; left = input; taken = 0; written = [] }

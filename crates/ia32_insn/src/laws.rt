@@ -19,5 +19,6 @@ pub fn one_step()
 
 /// A number of steps from a state has one outcome.
 pub fn one_outcome()
-    ensures { (visits : State → List Visit) (m : ℕ) (s : State) (a b : Outcome) → Runs visits m s a → Runs visits m s b → a ≡ b }
+    ensures { (visits : State → List Visit) (m : ℕ) (s : State) (a b : Outcome) → Runs visits m s a → Runs visits m s b
+        → a ≡ b }
 {}

@@ -25,20 +25,25 @@ ghost use Rattle.ia32_insn.specs.Worked.{bare};
 pub fn load_after_store()
     ensures same { (n address value old : ℕ) (s t : State) → 0 < n → value < 256 ^ n → AreApart s.memory
         → load n address s ≡ Ok old → store n address value s ≡ Ok t → load n address t ≡ Ok value }
-    ensures elsewhere { (a n b m value : ℕ) (s t : State) → store n a value s ≡ Ok t → AreDisjoint a n b m → load m b t ≡ load m b s }
+    ensures elsewhere { (a n b m value : ℕ) (s t : State) → store n a value s ≡ Ok t → AreDisjoint a n b m → load m b t
+        ≡ load m b s }
 {}
 
 /// A store keeps the areas' places, lengths and permissions, and all but memory.
 pub fn store_keeps()
-    ensures areas { (address : ℕ) (bytes : List ℕ) (s t : State) → store_bytes address bytes s ≡ Ok t → KeepsAreas s.memory t.memory }
-    ensures others { (address : ℕ) (bytes : List ℕ) (s t : State) → store_bytes address bytes s ≡ Ok t → KeepsAllButMemory s t }
+    ensures areas { (address : ℕ) (bytes : List ℕ) (s t : State) → store_bytes address bytes s ≡ Ok t
+        → KeepsAreas s.memory t.memory }
+    ensures others { (address : ℕ) (bytes : List ℕ) (s t : State) → store_bytes address bytes s ≡ Ok t
+        → KeepsAllButMemory s t }
 {}
 
 /// What every instruction keeps that goes on, and what those keep that don't write memory, or aren't INT.
 pub fn instruction_keeps()
     ensures areas { (i : Insn) (after : ℕ) (s : State) → IfOk (effect i after s) (λ t. KeepsAreas s.memory t.memory) }
-    ensures memory { (i : Insn) (after : ℕ) (s : State) → may_write i ≡ false → IfOk (effect i after s) (λ t. t.memory ≡ s.memory) }
-    ensures streams { (i : Insn) (after : ℕ) (s : State) → may_call i ≡ false → IfOk (effect i after s) (KeepsStreams s) }
+    ensures memory { (i : Insn) (after : ℕ) (s : State) → may_write i ≡ false
+        → IfOk (effect i after s) (λ t. t.memory ≡ s.memory) }
+    ensures streams { (i : Insn) (after : ℕ) (s : State) → may_call i ≡ false
+        → IfOk (effect i after s) (KeepsStreams s) }
 {}
 
 /// The definitions give of single instructions what a reader of the Intel manual, volume 2, expects: a second byte
@@ -47,14 +52,17 @@ pub fn instruction_keeps()
 pub fn worked_steps()
     ensures high_byte { perform (Mov8Imm Ah 85) 2 (bare (with_register Eax 287454020 zero_registers))
         ≡ Moves (at_address 2 (bare (with_register Eax 287462724 zero_registers))) }
-    ensures divides_by_zero { perform (IDiv (Reg Ebx)) 2 (bare (with_register Eax 7 zero_registers)) ≡ Halts (Trapped Divide) }
+    ensures divides_by_zero { perform (IDiv (Reg Ebx)) 2 (bare (with_register Eax 7 zero_registers))
+        ≡ Halts (Trapped Divide) }
     ensures quotient_too_large { perform (IDiv (Reg Ebx)) 2
-        (bare (with_register Eax 2147483648 (with_register Edx 4294967295 (with_register Ebx 4294967295 zero_registers)))) ≡ Halts (Trapped Divide) }
+        (bare (with_register Eax 2147483648 (with_register Edx 4294967295 (with_register Ebx 4294967295 zero_registers))))
+        ≡ Halts (Trapped Divide) }
     ensures unknown_flags { perform (SetCc E (Reg8 Al)) 3 (bare zero_registers) ≡ Halts (Stopped UnknownFlags 0) }
     ensures sete_al { Spells (SetCc E (Reg8 Al)) (15 ∷ 148 ∷ 192 ∷ []) }
     ensures shift { perform (ShiftCl Shl (Reg Eax)) 2 (bare (with_register Eax 1 (with_register Ecx 33 zero_registers)))
         ≡ Moves (at_address 2 (bare (with_register Eax 2 (with_register Ecx 33 zero_registers)))) }
     ensures overflow { perform (AluImm Add (Reg Eax) (pos 1)) 3 (bare (with_register Eax 2147483647 zero_registers))
-        ≡ Moves (at_address 3 (record (bare (with_register Eax 2147483648 zero_registers)) { flags = Some (record { cf = false; zf = false; sf = true; of = true }) })) }
+        ≡ Moves (at_address 3 (record (bare (with_register Eax 2147483648 zero_registers))
+            { flags = Some (record { cf = false; zf = false; sf = true; of = true }) })) }
     ensures add_minus_one { Spells (AluImm Add (Reg Eax) (negsuc 0)) (131 ∷ 192 ∷ 255 ∷ []) }
 {}

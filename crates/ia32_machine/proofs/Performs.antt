@@ -1,5 +1,6 @@
 -- A step is a fetch and a performance.
-use Rattle.std.specs.Prelude.{◌≡◌, ◌≢◌, ℕ, ◌+◌, ◌%◌, Bool, true, false, List, [], Option, Result, Ok, Err, if◌then◌else◌, refl}
+use Rattle.std.specs.Prelude.{◌≡◌, ◌≢◌, ℕ, ◌+◌, ◌%◌, Bool, true, false, List, [], Option, Result, Ok, Err}
+use Rattle.std.specs.Prelude.{if◌then◌else◌, refl}
 use Rattle.std.proofs.Common.{sym, ◌∙◌, ap, subst, arith, inl, inr, append-nil}
 use Rattle.std.specs.Int.{w32, cast_unsigned}
 use Rattle.pcc_base.specs.Outcome as outcome
@@ -10,7 +11,8 @@ use Rattle.pcc_outside.specs.Streams.{SinkCounts}
 use Rattle.ia32_insn.specs.declared.insn.Insn.{Insn}
 use Rattle.ia32_insn.specs.declared.insn.Insn.TheVariants as insn
 use Rattle.ia32_insn.specs.State.{State, at_address}
-use Rattle.ia32_insn.specs.Meaning.{Moved, Moves, Halts, moved_of, and_then, decided, push, system_call, effect, target, perform}
+use Rattle.ia32_insn.specs.Meaning.{Moved, Moves, Halts, moved_of, and_then, decided, push, system_call, effect, target}
+use Rattle.ia32_insn.specs.Meaning.{perform}
 use Rattle.ia32_insn.specs.Runs.{StepsAt, Steps}
 use Rattle.ia32_insn.proofs.Streams.{UsesNoStreams, perform-streamed}
 use Rattle.ia32_processor.specs.declared.halt.Halt.{Halt}
@@ -18,45 +20,58 @@ use Rattle.ia32_processor.specs.declared.halt.Halt.TheVariants as halt
 use Rattle.ia32_processor.specs.Answers.{end_of}
 use Rattle.ia32_machine.specs.First.{lent}
 use Rattle.ia32_machine.specs.Runs.{LeadsTold, StepTold, alone}
-use Rattle.ia32_machine.specs.Performs.{FetchTold, end_at, step_of, call_moved, insn_moved, PartTold, PartCounts, AdvanceTold}
+use Rattle.ia32_machine.specs.Performs.{FetchTold, end_at, step_of, call_moved, insn_moved, PartTold, PartCounts}
+use Rattle.ia32_machine.specs.Performs.{AdvanceTold}
 use Rattle.ia32_machine.specs.declared.ends.MachineEnd.{MachineEnd}
-use Rattle.ia32_machine.specs.declared.ends.MachineEnd.TheVariants.{Ended, Trapped, Stopped, BudgetSpent, ReadFault, WriteFault, NoMemory}
+use Rattle.ia32_machine.specs.declared.ends.MachineEnd.TheVariants.{Ended, Trapped, Stopped, BudgetSpent, ReadFault}
+use Rattle.ia32_machine.specs.declared.ends.MachineEnd.TheVariants.{WriteFault, NoMemory}
 use Rattle.ia32_machine.specs.declared.ends.StepEnd.{StepEnd}
 use Rattle.ia32_machine.specs.declared.ends.StepEnd.TheVariants as step
 
 -- ---- int 0x80
 
 -- what a part leads to, and then the next instruction
-goes_on : (after : ℕ) (x : Result State End) (next : State) → Moves next ≡ moved_of x → Moves (at_address after next) ≡ moved_of (and_then x (λ t. Ok (at_address after t)))
+goes_on : (after : ℕ) (x : Result State End) (next : State) → Moves next ≡ moved_of x → Moves (at_address after next)
+    ≡ moved_of (and_then x (λ t. Ok (at_address after t)))
 goes_on after (Ok t) next e = let same : next ≡ t = cc in ap (λ (u : State). Moves (at_address after u)) same
 goes_on after (Err end) next e = absurd (let no : Moves next ≡ Halts end = e in cc)
 
-ends_on : (after : ℕ) (x : Result State End) (end : End) → Halts end ≡ moved_of x → Halts end ≡ moved_of (and_then x (λ t. Ok (at_address after t)))
+ends_on : (after : ℕ) (x : Result State End) (end : End) → Halts end ≡ moved_of x → Halts end
+    ≡ moved_of (and_then x (λ t. Ok (at_address after t)))
 ends_on after (Ok t) end e = absurd (let no : Halts end ≡ Moves t = e in cc)
 ends_on after (Err other) end e = e
 
 -- a system call that goes on is the whole instruction once EIP is the next one's address
-pub call_goes : (i : Insn) (after : ℕ) (s mid : State) (left taken taken' : List ℕ) → i ≡ insn.Int 128 → PartTold (call_moved s) s mid left taken taken' (Ok tt) → PartTold (insn_moved i after s) s (at_address after mid) left taken taken' (Ok tt)
+pub call_goes : (i : Insn) (after : ℕ) (s mid : State) (left taken taken' : List ℕ) → i ≡ insn.Int 128
+    → PartTold (call_moved s) s mid left taken taken' (Ok tt)
+    → PartTold (insn_moved i after s) s (at_address after mid) left taken taken' (Ok tt)
 unfolding call_moved insn_moved PartTold
 call_goes i after s mid left taken taken' e h =
     let moves : Moves (at_address after h.0) ≡ perform (insn.Int 128) after s = goes_on after (system_call s) h.0 h.1 in
     (at_address after h.0, moves ∙ ap (λ (j : Insn). perform j after s) (sym e), ap (at_address after) h.2, h.3, h.4)
 
 -- so is one that ends
-pub call_ends : (i : Insn) (after : ℕ) (s mid : State) (left taken taken' : List ℕ) (end : MachineEnd) → i ≡ insn.Int 128 → PartTold (call_moved s) s mid left taken taken' (Err end) → PartTold (insn_moved i after s) s mid left taken taken' (Err end)
+pub call_ends : (i : Insn) (after : ℕ) (s mid : State) (left taken taken' : List ℕ) (end : MachineEnd) → i
+    ≡ insn.Int 128 → PartTold (call_moved s) s mid left taken taken' (Err end)
+    → PartTold (insn_moved i after s) s mid left taken taken' (Err end)
 unfolding call_moved insn_moved PartTold
 call_ends i after s mid left taken taken' (Ended status) e h =
-    (ends_on after (system_call s) (outcome.Ended status) h.0 ∙ ap (λ (j : Insn). perform j after s) (sym e), h.1, h.2, h.3)
+    (ends_on after (system_call s) (outcome.Ended status) h.0 ∙ ap (λ (j : Insn). perform j after s) (sym e), h.1, h.2,
+        h.3)
 call_ends i after s mid left taken taken' (Trapped trap) e h =
-    (ends_on after (system_call s) (outcome.Trapped trap) h.0 ∙ ap (λ (j : Insn). perform j after s) (sym e), h.1, h.2, h.3)
+    (ends_on after (system_call s) (outcome.Trapped trap) h.0 ∙ ap (λ (j : Insn). perform j after s) (sym e), h.1, h.2,
+        h.3)
 call_ends i after s mid left taken taken' (Stopped cause address) e h =
-    (ends_on after (system_call s) (outcome.Stopped cause address) h.0 ∙ ap (λ (j : Insn). perform j after s) (sym e), h.1, h.2, h.3)
+    (ends_on after (system_call s) (outcome.Stopped cause address) h.0 ∙ ap (λ (j : Insn). perform j after s) (sym e),
+        h.1, h.2, h.3)
 call_ends i after s mid left taken taken' BudgetSpent e h = elim h [ ]
 call_ends i after s mid left taken taken' ReadFault e h = h
 call_ends i after s mid left taken taken' WriteFault e h =
-    (at_address after h.0, goes_on after (system_call s) h.0 h.1 ∙ ap (λ (j : Insn). perform j after s) (sym e), h.2, h.3, h.4, h.5)
+    (at_address after h.0, goes_on after (system_call s) h.0 h.1 ∙ ap (λ (j : Insn). perform j after s) (sym e), h.2,
+        h.3, h.4, h.5)
 call_ends i after s mid left taken taken' NoMemory e h =
-    (at_address after h.0, goes_on after (system_call s) h.0 h.1 ∙ ap (λ (j : Insn). perform j after s) (sym e), h.2, h.3, h.4, h.5)
+    (at_address after h.0, goes_on after (system_call s) h.0 h.1 ∙ ap (λ (j : Insn). perform j after s) (sym e), h.2,
+        h.3, h.4, h.5)
 
 -- ---- the other instructions
 
@@ -66,37 +81,55 @@ uses_none (insn.Int n) other = λ e. other (ap (λ (m : ℕ). insn.Int m) e)
 uses_none _ other = tt
 
 -- it does the same to a machine that is lent an input
-lent_performs : (i : Insn) (after : ℕ) (old new : State) (left : List ℕ) → i ≢ insn.Int 128 → perform i after old ≡ Moves new → perform i after (lent old left) ≡ Moves (lent new left)
-lent_performs i after old new left other e = perform-streamed (λ l. left) (λ n. 0) (λ l. []) i after old (uses_none i other) ∙ ap (λ (m : Moved). elim m as (λ v. Moved) [ Moves t ↦ Moves (lent t left) | Halts end ↦ Halts end ]) e
+lent_performs : (i : Insn) (after : ℕ) (old new : State) (left : List ℕ) → i ≢ insn.Int 128 → perform i after old
+    ≡ Moves new → perform i after (lent old left) ≡ Moves (lent new left)
+lent_performs i after old new left other e =
+    perform-streamed (λ l. left) (λ n. 0) (λ l. []) i after old (uses_none i other)
+    ∙ ap (λ (m : Moved). elim m as (λ v. Moved) [ Moves t ↦ Moves (lent t left) | Halts end ↦ Halts end ]) e
 
-lent_halts : (i : Insn) (after : ℕ) (old : State) (left : List ℕ) (end : End) → i ≢ insn.Int 128 → perform i after old ≡ Halts end → perform i after (lent old left) ≡ Halts end
-lent_halts i after old left end other e = perform-streamed (λ l. left) (λ n. 0) (λ l. []) i after old (uses_none i other) ∙ ap (λ (m : Moved). elim m as (λ v. Moved) [ Moves t ↦ Moves (lent t left) | Halts end ↦ Halts end ]) e
+lent_halts : (i : Insn) (after : ℕ) (old : State) (left : List ℕ) (end : End) → i ≢ insn.Int 128 → perform i after old
+    ≡ Halts end → perform i after (lent old left) ≡ Halts end
+lent_halts i after old left end other e = perform-streamed (λ l. left) (λ n. 0) (λ l. []) i after old
+    (uses_none i other) ∙ ap (λ (m : Moved). elim m as (λ v. Moved)
+    [ Moves t ↦ Moves (lent t left) | Halts end ↦ Halts end ]) e
 
 -- it leaves a machine without input and output
-stays_alone : (i : Insn) (after : ℕ) (old new : State) → old ≡ alone old → i ≢ insn.Int 128 → perform i after old ≡ Moves new → new ≡ alone new
+stays_alone : (i : Insn) (after : ℕ) (old new : State) → old ≡ alone old → i ≢ insn.Int 128 → perform i after old
+    ≡ Moves new → new ≡ alone new
 stays_alone i after old new bare other e =
     let there : perform i after (alone old) ≡ Moves (alone new) = lent_performs i after old new [] other e in
     let same : Moves new ≡ Moves (alone new) = sym e ∙ ap (λ (s : State). perform i after s) bare ∙ there in
     cc
 
-pub insn_goes : (i : Insn) (after : ℕ) (old new : State) (left taken : List ℕ) → old ≡ alone old → i ≢ insn.Int 128 → perform i after old ≡ Moves new → PartTold (insn_moved i after (lent old left)) (lent old left) new left taken taken (Ok tt)
+pub insn_goes : (i : Insn) (after : ℕ) (old new : State) (left taken : List ℕ) → old ≡ alone old → i ≢ insn.Int 128
+    → perform i after old ≡ Moves new → PartTold (insn_moved i after (lent old left)) (lent old left) new left taken
+    taken (Ok tt)
 unfolding insn_moved PartTold
-insn_goes i after old new left taken bare other e = (lent new left, sym (lent_performs i after old new left other e), stays_alone i after old new bare other e, refl, sym (append-nil taken))
+insn_goes i after old new left taken bare other e =
+    (lent new left, sym (lent_performs i after old new left other e), stays_alone i after old new bare other e, refl,
+    sym (append-nil taken))
 
-pub insn_ends : (i : Insn) (after : ℕ) (old : State) (left taken : List ℕ) (why : Halt) → old ≡ alone old → i ≢ insn.Int 128 → perform i after old ≡ Halts (end_of why old) → PartTold (insn_moved i after (lent old left)) (lent old left) old left taken taken (Err (end_at old.eip why))
+pub insn_ends : (i : Insn) (after : ℕ) (old : State) (left taken : List ℕ) (why : Halt) → old ≡ alone old
+    → i ≢ insn.Int 128 → perform i after old ≡ Halts (end_of why old)
+    → PartTold (insn_moved i after (lent old left)) (lent old left) old left taken taken (Err (end_at old.eip why))
 unfolding insn_moved PartTold
-insn_ends i after old left taken (halt.Trapped trap) bare other e = (sym (lent_halts i after old left (outcome.Trapped trap) other e), bare, refl, refl)
-insn_ends i after old left taken (halt.Stopped cause) bare other e = (sym (lent_halts i after old left (outcome.Stopped cause old.eip) other e), bare, refl, refl)
+insn_ends i after old left taken (halt.Trapped trap) bare other e =
+    (sym (lent_halts i after old left (outcome.Trapped trap) other e), bare, refl, refl)
+insn_ends i after old left taken (halt.Stopped cause) bare other e =
+    (sym (lent_halts i after old left (outcome.Stopped cause old.eip) other e), bare, refl, refl)
 
 -- a halt raises no count
-pub halt_counts : (address faults : ℕ) (counts : SinkCounts) (why : Halt) → PartCounts faults faults counts counts (Err (end_at address why))
+pub halt_counts : (address faults : ℕ) (counts : SinkCounts) (why : Halt)
+    → PartCounts faults faults counts counts (Err (end_at address why))
 halt_counts address faults counts (halt.Trapped trap) = (refl, refl)
 halt_counts address faults counts (halt.Stopped cause) = (refl, refl)
 
 -- ---- the address of the next instruction
 
 -- two addresses that are the same once they are wrapped
-next_same : (x : Result State End) (y z : Result ℕ End) → and_then y (λ n. Ok (n % 4294967296)) ≡ and_then z (λ n. Ok (n % 4294967296)) → moved_of (and_then x (λ t. and_then y (λ n. Ok (at_address n t)))) ≡ moved_of (and_then x (λ t. and_then z (λ n. Ok (at_address n t))))
+next_same : (x : Result State End) (y z : Result ℕ End) → and_then y (λ n. Ok (n % 4294967296))
+    ≡ and_then z (λ n. Ok (n % 4294967296)) → moved_of (and_then x (λ t. and_then y (λ n. Ok (at_address n t))))
+    ≡ moved_of (and_then x (λ t. and_then z (λ n. Ok (at_address n t))))
 next_same (Err end) y z e = refl
 next_same (Ok t) (Ok m) (Ok n) e =
     let same : m % 4294967296 ≡ n % 4294967296 = (let got : Ok (m % 4294967296) ≡ Ok (n % 4294967296) = e in cc) in
@@ -106,12 +139,18 @@ next_same (Ok t) (Err end) (Ok n) e = absurd (let no : Err end ≡ Ok (n % 42949
 next_same (Ok t) (Err a) (Err b) e = let same : a ≡ b = (let got : Err a ≡ Err b = e in cc) in ap Halts same
 
 -- a branch from a wrapped address
-branch_same : (a d : ℕ) (x : Result Bool End) → and_then (and_then x (λ known. Ok (if known then a % 4294967296 + d else a % 4294967296))) (λ n. Ok (n % 4294967296)) ≡ and_then (and_then x (λ known. Ok (if known then a + d else a))) (λ n. Ok (n % 4294967296))
-branch_same a d (Ok true) = let e : (a % 4294967296 + d) % 4294967296 ≡ (a + d) % 4294967296 = omega arith in ap (λ (n : ℕ). Ok n) e
-branch_same a d (Ok false) = let e : a % 4294967296 % 4294967296 ≡ a % 4294967296 = omega arith in ap (λ (n : ℕ). Ok n) e
+branch_same : (a d : ℕ) (x : Result Bool End)
+    → and_then (and_then x (λ known. Ok (if known then a % 4294967296 + d else a % 4294967296)))
+    (λ n. Ok (n % 4294967296)) ≡ and_then (and_then x (λ known. Ok (if known then a + d else a)))
+    (λ n. Ok (n % 4294967296))
+branch_same a d (Ok true) = let e : (a % 4294967296 + d) % 4294967296 ≡ (a + d) % 4294967296 = omega arith in
+    ap (λ (n : ℕ). Ok n) e
+branch_same a d (Ok false) = let e : a % 4294967296 % 4294967296 ≡ a % 4294967296 = omega arith in
+    ap (λ (n : ℕ). Ok n) e
 branch_same a d (Err end) = refl
 
-target_same : (i : Insn) (a : ℕ) (s : State) → and_then (target i (a % 4294967296) s) (λ n. Ok (n % 4294967296)) ≡ and_then (target i a s) (λ n. Ok (n % 4294967296))
+target_same : (i : Insn) (a : ℕ) (s : State) → and_then (target i (a % 4294967296) s) (λ n. Ok (n % 4294967296))
+    ≡ and_then (target i a s) (λ n. Ok (n % 4294967296))
 target_same (insn.Call distance) a s =
     let d : ℕ = cast_unsigned w32 distance in
     let e : (a % 4294967296 + d) % 4294967296 ≡ (a + d) % 4294967296 = omega arith in ap (λ (n : ℕ). Ok n) e
@@ -123,57 +162,75 @@ target_same (insn.Jcc c distance) a s = branch_same a (cast_unsigned w32 distanc
 target_same _ a s = let e : a % 4294967296 % 4294967296 ≡ a % 4294967296 = omega arith in ap (λ (n : ℕ). Ok n) e
 
 effect_same : (i : Insn) (a : ℕ) (s : State) → effect i (a % 4294967296) s ≡ effect i a s
-effect_same (insn.Call distance) a s = let e : a % 4294967296 % 4294967296 ≡ a % 4294967296 = omega arith in ap (λ (n : ℕ). push n s) e
+effect_same (insn.Call distance) a s = let e : a % 4294967296 % 4294967296 ≡ a % 4294967296 = omega arith in
+    ap (λ (n : ℕ). push n s) e
 effect_same _ a s = refl
 
 -- the address of the next instruction wraps
 perform_wrapped : (i : Insn) (a : ℕ) (s : State) → perform i (a % 4294967296) s ≡ perform i a s
 perform_wrapped i a s =
-    ap (λ (r : Result State End). moved_of (and_then r (λ t. and_then (target i (a % 4294967296) s) (λ n. Ok (at_address n t))))) (effect_same i a s)
+    ap (λ (r : Result State End). moved_of (and_then r
+        (λ t. and_then (target i (a % 4294967296) s) (λ n. Ok (at_address n t))))) (effect_same i a s)
     ∙ next_same (effect i a s) (target i (a % 4294967296) s) (target i a s) (target_same i a s)
 
 -- ---- a step
 
 -- what is known of where a part leads, weakened
-leads : (P Q : Moved → Type 0) (s machine : State) (left taken taken' : List ℕ) (answer : StepEnd) → ((m : Moved) → P m → Q m) → LeadsTold P s machine left taken taken' answer → LeadsTold Q s machine left taken taken' answer
+leads : (P Q : Moved → Type 0) (s machine : State) (left taken taken' : List ℕ) (answer : StepEnd)
+    → ((m : Moved) → P m → Q m) → LeadsTold P s machine left taken taken' answer
+    → LeadsTold Q s machine left taken taken' answer
 leads P Q s machine left taken taken' step.Going f h = (h.0, f (Moves h.0) h.1, h.2, h.3, h.4)
-leads P Q s machine left taken taken' (step.End (Ended status)) f h = (f (Halts (outcome.Ended status)) h.0, h.1, h.2, h.3)
-leads P Q s machine left taken taken' (step.End (Trapped trap)) f h = (f (Halts (outcome.Trapped trap)) h.0, h.1, h.2, h.3)
-leads P Q s machine left taken taken' (step.End (Stopped cause address)) f h = (f (Halts (outcome.Stopped cause address)) h.0, h.1, h.2, h.3)
+leads P Q s machine left taken taken' (step.End (Ended status)) f h =
+    (f (Halts (outcome.Ended status)) h.0, h.1, h.2, h.3)
+leads P Q s machine left taken taken' (step.End (Trapped trap)) f h =
+    (f (Halts (outcome.Trapped trap)) h.0, h.1, h.2, h.3)
+leads P Q s machine left taken taken' (step.End (Stopped cause address)) f h =
+    (f (Halts (outcome.Stopped cause address)) h.0, h.1, h.2, h.3)
 leads P Q s machine left taken taken' (step.End BudgetSpent) f h = h
 leads P Q s machine left taken taken' (step.End ReadFault) f h = h
 leads P Q s machine left taken taken' (step.End WriteFault) f h = (h.0, f (Moves h.0) h.1, h.2, h.3, h.4, h.5)
 leads P Q s machine left taken taken' (step.End NoMemory) f h = (h.0, f (Moves h.0) h.1, h.2, h.3, h.4, h.5)
 
 -- the step that performs the instruction that was fetched
-fetched-steps : (s : State) (left : List ℕ) (i : Insn) (n : ℕ) → FetchTold s (Ok (i, n)) → Steps (lent s left) (perform i (s.eip + n) (lent s left))
+fetched-steps : (s : State) (left : List ℕ) (i : Insn) (n : ℕ) → FetchTold s (Ok (i, n))
+    → Steps (lent s left) (perform i (s.eip + n) (lent s left))
 fetched-steps s left i n h =
-    subst (λ (code : Option (List ℕ)). StepsAt code (lent s left) (perform i (s.eip + n) (lent s left))) (sym h.1) (inl (i, n, h.2, refl))
+    subst (λ (code : Option (List ℕ)). StepsAt code (lent s left) (perform i (s.eip + n) (lent s left))) (sym h.1)
+        (inl (i, n, h.2, refl))
 
 -- the step that stops where nothing was fetched
-unfetched-steps : (s : State) (left : List ℕ) (cause : Stop) → FetchTold s (Err cause) → Steps (lent s left) (Halts (outcome.Stopped cause s.eip))
+unfetched-steps : (s : State) (left : List ℕ) (cause : Stop) → FetchTold s (Err cause)
+    → Steps (lent s left) (Halts (outcome.Stopped cause s.eip))
 unfetched-steps s left Instruction h =
-    subst (λ (code : Option (List ℕ)). StepsAt code (lent s left) (Halts (outcome.Stopped Instruction s.eip))) (sym h.1) (inr (h.2, refl))
+    subst (λ (code : Option (List ℕ)). StepsAt code (lent s left) (Halts (outcome.Stopped Instruction s.eip))) (sym h.1)
+        (inr (h.2, refl))
 unfetched-steps s left (Access address) h =
-    subst (λ (code : Option (List ℕ)). StepsAt code (lent s left) (Halts (outcome.Stopped (Access address) s.eip))) (sym h.0)
+    subst (λ (code : Option (List ℕ)). StepsAt code (lent s left) (Halts (outcome.Stopped (Access address) s.eip)))
+        (sym h.0)
     (ap (λ (a : ℕ). Halts (outcome.Stopped (Access a) s.eip)) h.1)
 unfetched-steps s left _ h = elim h [ ]
 
 -- a step whose instruction was fetched
-pub fetched : (s machine : State) (left left' taken taken' : List ℕ) (i : Insn) (n after : ℕ) (result : Result Unit MachineEnd) → FetchTold s (Ok (i, n)) → after ≡ (s.eip + n) % 4294967296 → PartTold (insn_moved i after (lent s left)) (lent s left) machine left' taken taken' result → AdvanceTold (lent s left) machine left' taken taken' result
+pub fetched : (s machine : State) (left left' taken taken' : List ℕ) (i : Insn) (n after : ℕ)
+    (result : Result Unit MachineEnd) → FetchTold s (Ok (i, n)) → after ≡ (s.eip + n) % 4294967296
+    → PartTold (insn_moved i after (lent s left)) (lent s left) machine left' taken taken' result
+    → AdvanceTold (lent s left) machine left' taken taken' result
 unfolding insn_moved PartTold AdvanceTold StepTold
 fetched s machine left left' taken taken' i n after result h e told =
     let u : State = lent s left in
-    let given : perform i after u ≡ perform i (s.eip + n) u = ap (λ (a : ℕ). perform i a u) e ∙ perform_wrapped i (s.eip + n) u in
+    let given : perform i after u ≡ perform i (s.eip + n) u = ap (λ (a : ℕ). perform i a u) e
+        ∙ perform_wrapped i (s.eip + n) u in
     leads (λ m. m ≡ perform i after u) (Steps u) u machine left' taken taken' (step_of result)
     (λ m same. subst (λ (v : Moved). Steps u v) (sym (same ∙ given)) (fetched-steps s left i n h)) told
 
 -- a step that stops where nothing was fetched
-pub unfetched : (s : State) (left taken : List ℕ) (cause : Stop) → s ≡ alone s → FetchTold s (Err cause) → AdvanceTold (lent s left) s left taken taken (Err (Stopped cause s.eip))
+pub unfetched : (s : State) (left taken : List ℕ) (cause : Stop) → s ≡ alone s → FetchTold s (Err cause)
+    → AdvanceTold (lent s left) s left taken taken (Err (Stopped cause s.eip))
 unfolding AdvanceTold StepTold
 unfetched s left taken cause bare h = (unfetched-steps s left cause h, bare, refl, refl)
 
 -- what is told of the parts of a step is told of the step
-pub advanced : (s machine : State) (left taken taken' : List ℕ) (result : Result Unit MachineEnd) → AdvanceTold s machine left taken taken' result → StepTold s machine left taken taken' (step_of result)
+pub advanced : (s machine : State) (left taken taken' : List ℕ) (result : Result Unit MachineEnd)
+    → AdvanceTold s machine left taken taken' result → StepTold s machine left taken taken' (step_of result)
 unfolding AdvanceTold StepTold
 advanced s machine left taken taken' result h = h

@@ -9,9 +9,11 @@ use Rattle.ia32_insn.specs.Runs.{Steps, Runs, stands, no_visits}
 use Rattle.ia32_insn.proofs.Runs.{runs_after, runs_halts}
 use Rattle.ia32_insn.proofs.Streams.{since, steps-since, Takes, steps-takes}
 use Rattle.ia32_machine.specs.First.{lent}
-use Rattle.ia32_machine.specs.Runs.{alone, Reaches, HaltsAt, EndsTold, StepTold, GivesSoFar, GivesPart, RunEnds, WritesNext, RunTold}
+use Rattle.ia32_machine.specs.Runs.{alone, Reaches, HaltsAt, EndsTold, StepTold, GivesSoFar, GivesPart, RunEnds}
+use Rattle.ia32_machine.specs.Runs.{WritesNext, RunTold}
 use Rattle.ia32_machine.specs.declared.ends.MachineEnd.{MachineEnd}
-use Rattle.ia32_machine.specs.declared.ends.MachineEnd.TheVariants.{Ended, Trapped, Stopped, BudgetSpent, ReadFault, WriteFault, NoMemory}
+use Rattle.ia32_machine.specs.declared.ends.MachineEnd.TheVariants.{Ended, Trapped, Stopped, BudgetSpent, ReadFault}
+use Rattle.ia32_machine.specs.declared.ends.MachineEnd.TheVariants.{WriteFault, NoMemory}
 use Rattle.ia32_machine.specs.declared.ends.StepEnd.TheVariants as step
 
 -- one more step at the end
@@ -25,18 +27,21 @@ reaches_goes zero s t r = ap (λ (v : State). stands [] v outcome.Goes) r
 reaches_goes (suc n) s t r = runs_after no_visits n s r.0 (stands [] t outcome.Goes) r.1 (reaches_goes n r.0 t r.2)
 
 -- the run that ends after some steps, with some to spare
-reaches_halts-spare : (n k : ℕ) (s t : State) (end : outcome.End) → Reaches n s t → Steps t (Halts end) → Runs no_visits (n + suc k) s (stands [] t end)
+reaches_halts-spare : (n k : ℕ) (s t : State) (end : outcome.End) → Reaches n s t → Steps t (Halts end)
+    → Runs no_visits (n + suc k) s (stands [] t end)
 reaches_halts-spare zero k s t end r h =
     let e : suc k ≡ 0 + suc k = omega arith in
     let run : Runs no_visits (suc k) t (stands [] t end) = runs_halts no_visits k t end h in
-    subst (λ (m : ℕ). Runs no_visits m s (stands [] t end)) e (subst (λ (v : State). Runs no_visits (suc k) v (stands [] t end)) r run)
+    subst (λ (m : ℕ). Runs no_visits m s (stands [] t end)) e
+        (subst (λ (v : State). Runs no_visits (suc k) v (stands [] t end)) r run)
 reaches_halts-spare (suc n) k s t end r h =
     let e : suc (n + suc k) ≡ suc n + suc k = omega arith in
     subst (λ (m : ℕ). Runs no_visits m s (stands [] t end)) e
     (runs_after no_visits (n + suc k) s r.0 (stands [] t end) r.1 (reaches_halts-spare n k r.0 t end r.2 h))
 
 -- the run that ends after fewer steps than the budget
-pub reaches_halts : (n budget : ℕ) (s t : State) (end : outcome.End) → n < budget → Reaches n s t → Steps t (Halts end) → Runs no_visits budget s (stands [] t end)
+pub reaches_halts : (n budget : ℕ) (s t : State) (end : outcome.End) → n < budget → Reaches n s t → Steps t (Halts end)
+    → Runs no_visits budget s (stands [] t end)
 reaches_halts n budget s t end lt r h =
     let e : n + suc (budget - suc n) ≡ budget = omega arith in
     subst (λ (m : ℕ). Runs no_visits m s (stands [] t end)) e (reaches_halts-spare n (budget - suc n) s t end r h)
@@ -51,32 +56,44 @@ pub record Ran (n : ℕ) (s machine : State) (left left' taken taken' : List ℕ
   pub wrote : taken' ≡ taken ++ state.written
 
 -- no steps yet
-pub ran_none : (machine : State) (left taken : List ℕ) → machine ≡ alone machine → Ran 0 (lent machine left) machine left left taken taken
+pub ran_none : (machine : State) (left taken : List ℕ) → machine ≡ alone machine
+    → Ran 0 (lent machine left) machine left left taken taken
 ran_none machine left taken bare =
-    record { state = lent machine left; reaches = refl; machine_is = bare; left_is = refl; took = refl; wrote = sym (append-nil taken) }
+    record { state = lent machine left; reaches = refl; machine_is = bare; left_is = refl; took = refl; wrote =
+        sym (append-nil taken) }
 
 -- a state is the machine lent its input, since what was taken and written before
-since_lent : (t machine : State) (left : List ℕ) → machine ≡ alone t → left ≡ t.left → since t.taken t.written (lent machine left) ≡ t
+since_lent : (t machine : State) (left : List ℕ) → machine ≡ alone t → left ≡ t.left
+    → since t.taken t.written (lent machine left) ≡ t
 since_lent t machine left m l =
     ap (λ (v : State). since t.taken t.written (lent v left)) m
     ∙ ap (λ (v : List ℕ). since t.taken t.written (lent t v)) l
-    ∙ ap (λ (k : ℕ). let u : State = record { registers = t.registers; flags = t.flags; eip = t.eip; memory = t.memory; left = t.left; taken = k; written = t.written ++ [] } in u) (add-zero t.taken)
-    ∙ ap (λ (w : List ℕ). let u : State = record { registers = t.registers; flags = t.flags; eip = t.eip; memory = t.memory; left = t.left; taken = t.taken; written = w } in u) (append-nil t.written)
+    ∙ ap (λ (k : ℕ). let u : State = record { registers = t.registers; flags = t.flags; eip = t.eip; memory = t.memory;
+        left = t.left; taken = k; written = t.written ++ [] } in u) (add-zero t.taken)
+    ∙ ap (λ (w : List ℕ). let u : State = record
+        { registers = t.registers; flags = t.flags; eip = t.eip; memory = t.memory; left = t.left; taken = t.taken;
+        written = w } in u) (append-nil t.written)
 
 -- a step that goes on, from the state that was reached
-ran_steps : (n : ℕ) (s machine next : State) (left left' taken taken' : List ℕ) → (r : Ran n s machine left left' taken taken') → Steps (lent machine left') (Moves next) → Steps r.state (Moves (since r.state.taken r.state.written next))
+ran_steps : (n : ℕ) (s machine next : State) (left left' taken taken' : List ℕ)
+    → (r : Ran n s machine left left' taken taken') → Steps (lent machine left') (Moves next)
+    → Steps r.state (Moves (since r.state.taken r.state.written next))
 ran_steps n s machine next left left' taken taken' r h =
-    subst (λ (v : State). Steps v (Moves (since r.state.taken r.state.written next))) (since_lent r.state machine left' r.machine_is r.left_is)
+    subst (λ (v : State). Steps v (Moves (since r.state.taken r.state.written next)))
+        (since_lent r.state machine left' r.machine_is r.left_is)
     (steps-since r.state.taken r.state.written (lent machine left') (Moves next) h)
 
 -- a step that ends, from the state that was reached
-ran_halts : (n : ℕ) (s machine : State) (left left' taken taken' : List ℕ) (end : outcome.End) → (r : Ran n s machine left left' taken taken') → Steps (lent machine left') (Halts end) → Steps r.state (Halts end)
+ran_halts : (n : ℕ) (s machine : State) (left left' taken taken' : List ℕ) (end : outcome.End)
+    → (r : Ran n s machine left left' taken taken') → Steps (lent machine left') (Halts end) → Steps r.state (Halts end)
 ran_halts n s machine left left' taken taken' end r h =
     subst (λ (v : State). Steps v (Halts end)) (since_lent r.state machine left' r.machine_is r.left_is)
     (steps-since r.state.taken r.state.written (lent machine left') (Halts end) h)
 
 -- one more step
-pub ran_more : (n : ℕ) (s machine machine' : State) (left left' left'' taken taken' taken'' : List ℕ) → Ran n s machine left left' taken taken' → StepTold (lent machine left') machine' left'' taken' taken'' step.Going → Ran (suc n) s machine' left left'' taken taken''
+pub ran_more : (n : ℕ) (s machine machine' : State) (left left' left'' taken taken' taken'' : List ℕ)
+    → Ran n s machine left left' taken taken' → StepTold (lent machine left') machine' left'' taken' taken'' step.Going
+    → Ran (suc n) s machine' left left'' taken taken''
 unfolding StepTold
 ran_more n s machine machine' left left' left'' taken taken' taken'' r h =
     let t : State = r.state in
@@ -88,12 +105,14 @@ ran_more n s machine machine' left left' left'' taken taken' taken'' r h =
       reaches = reaches_more n s t u r.reaches steps;
       machine_is = h.2;
       left_is = h.3;
-      took = takes.left ∙ ap (drop takes.count) r.took ∙ drop-drop takes.count t.taken left ∙ ap (λ (k : ℕ). drop k left) (sym takes.taken);
+      took = takes.left ∙ ap (drop takes.count) r.took ∙ drop-drop takes.count t.taken left
+          ∙ ap (λ (k : ℕ). drop k left) (sym takes.taken);
       wrote = h.4 ∙ ap (λ (l : List ℕ). l ++ h.0.written) r.wrote ∙ append_assoc taken t.written h.0.written;
     }
 
 -- an end of the definition after some steps is that of the run
-ran_ends : (n budget : ℕ) (s machine machine' : State) (left left' left'' taken taken' taken'' : List ℕ) (end : outcome.End)
+ran_ends : (n budget : ℕ) (s machine machine' : State) (left left' left'' taken taken' taken'' : List ℕ)
+    (end : outcome.End)
     → n < budget → Ran n s machine left left' taken taken'
     → HaltsAt (Steps (lent machine left')) (lent machine left') machine' left'' taken' taken'' end
     → RunEnds budget s machine' left left'' taken taken'' end
@@ -124,7 +143,8 @@ ran_refused n budget s machine machine' left left' left'' taken taken' taken'' H
 -- something behind a list makes another list
 something-behind : (xs ys : List ℕ) → ys ≢ [] → xs ++ ys ≢ xs
 something-behind xs [] some e = some refl
-something-behind xs (y ∷ ys) some e = absurd (let n : length (xs ++ y ∷ ys) ≡ length xs = ap length e in omega (arith, n, length-append xs (y ∷ ys)))
+something-behind xs (y ∷ ys) some e = absurd
+    (let n : length (xs ++ y ∷ ys) ≡ length xs = ap length e in omega (arith, n, length-append xs (y ∷ ys)))
 
 -- a step that writes, from the state that was reached
 ran_writes : (n : ℕ) (s machine next : State) (left left' taken taken' : List ℕ)
@@ -132,7 +152,8 @@ ran_writes : (n : ℕ) (s machine next : State) (left left' taken taken' : List 
     → WritesNext r.state
 ran_writes n s machine next left left' taken taken' r h some =
     let t : State = r.state in
-    (since t.taken t.written next, ran_steps n s machine next left left' taken taken' r h, something-behind t.written next.written some)
+    (since t.taken t.written next, ran_steps n s machine next left left' taken taken' r h,
+        something-behind t.written next.written some)
 
 -- bytes, and then a part of more
 take-append-more : (xs ys : List ℕ) (k : ℕ) → xs ++ take k ys ≡ take (length xs + k) (xs ++ ys)
@@ -166,7 +187,8 @@ ran_failed n budget s machine machine' left left' left'' taken taken' taken'' lt
     )
 
 -- a step that ends the run
-pub ran_last : (n budget : ℕ) (s machine machine' : State) (left left' left'' taken taken' taken'' : List ℕ) (end : MachineEnd)
+pub ran_last : (n budget : ℕ) (s machine machine' : State) (left left' left'' taken taken' taken'' : List ℕ)
+    (end : MachineEnd)
     → n < budget → Ran n s machine left left' taken taken'
     → StepTold (lent machine left') machine' left'' taken' taken'' (step.End end)
     → RunTold budget s machine' left left'' taken taken'' end

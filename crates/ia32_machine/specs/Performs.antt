@@ -50,7 +50,8 @@ insn_moved i after s = perform i after s
 -- What a part of a step leaves that is to lead there: the part is of the state s, and leaves this machine, this
 -- input and these bytes taken.
 unfoldable pub PartTold : Moved → State → State → List ℕ → List ℕ → List ℕ → Result Unit MachineEnd → Type 0
-PartTold given s machine left taken taken' result = LeadsTold (λ moved. moved ≡ given) s machine left taken taken' (step_of result)
+PartTold given s machine left taken taken' result =
+    LeadsTold (λ moved. moved ≡ given) s machine left taken taken' (step_of result)
 
 -- its counts
 abbrev pub PartCounts : ℕ → ℕ → SinkCounts → SinkCounts → Result Unit MachineEnd → Type 0

@@ -8,7 +8,8 @@ use Rattle.ia32_insn.specs.Meaning.{Moved, Moves, Halts}
 use Rattle.ia32_insn.specs.Runs.{Steps, Runs, no_visits}
 use Rattle.ia32_machine.specs.First.{lent}
 use Rattle.ia32_machine.specs.declared.ends.MachineEnd.{MachineEnd}
-use Rattle.ia32_machine.specs.declared.ends.MachineEnd.TheVariants.{Ended, Trapped, Stopped, BudgetSpent, ReadFault, WriteFault, NoMemory}
+use Rattle.ia32_machine.specs.declared.ends.MachineEnd.TheVariants.{Ended, Trapped, Stopped, BudgetSpent, ReadFault}
+use Rattle.ia32_machine.specs.declared.ends.MachineEnd.TheVariants.{WriteFault, NoMemory}
 use Rattle.ia32_machine.specs.declared.ends.StepEnd.{StepEnd}
 use Rattle.ia32_machine.specs.declared.ends.StepEnd.TheVariants as step
 
@@ -35,21 +36,27 @@ StepCounts input input' out out' (step.End end) = RunCounts input input' out out
 -- Where this is known of what a step from the state s leads to: an end, which leaves the machine and the
 -- streams
 abbrev pub HaltsAt : (Moved → Type 0) → State → State → List ℕ → List ℕ → List ℕ → outcome.End → Type 0
-HaltsAt Leads s machine left taken taken' end = Leads (Halts end) × (machine ≡ alone s) × (left ≡ s.left) × (taken' ≡ taken)
+HaltsAt Leads s machine left taken taken' end = Leads (Halts end) × (machine ≡ alone s) × (left ≡ s.left)
+    × (taken' ≡ taken)
 
 -- a step from s that ends so, by the machine, the input left and the bytes taken then
 abbrev pub EndsTold : (Moved → Type 0) → State → State → List ℕ → List ℕ → List ℕ → MachineEnd → Type 0
-EndsTold Leads s machine left taken taken' (Ended status) = HaltsAt Leads s machine left taken taken' (outcome.Ended status)
-EndsTold Leads s machine left taken taken' (Trapped trap) = HaltsAt Leads s machine left taken taken' (outcome.Trapped trap)
-EndsTold Leads s machine left taken taken' (Stopped cause address) = HaltsAt Leads s machine left taken taken' (outcome.Stopped cause address)
+EndsTold Leads s machine left taken taken' (Ended status) =
+    HaltsAt Leads s machine left taken taken' (outcome.Ended status)
+EndsTold Leads s machine left taken taken' (Trapped trap) =
+    HaltsAt Leads s machine left taken taken' (outcome.Trapped trap)
+EndsTold Leads s machine left taken taken' (Stopped cause address) =
+    HaltsAt Leads s machine left taken taken' (outcome.Stopped cause address)
 EndsTold Leads s machine left taken taken' BudgetSpent = ⊥
 EndsTold Leads s machine left taken taken' ReadFault = (machine ≡ alone s) × (left ≡ s.left) × (taken' ≡ taken)
 -- a sink that fails has taken a part of what the step writes
 EndsTold Leads s machine left taken taken' WriteFault =
-    (next : State) × Leads (Moves next) × (machine ≡ alone s) × (left ≡ s.left) × (n : ℕ) × (taken' ≡ taken ++ take n next.written)
+    (next : State) × Leads (Moves next) × (machine ≡ alone s) × (left ≡ s.left) × (n : ℕ)
+        × (taken' ≡ taken ++ take n next.written)
 -- one that finds no memory has taken nothing of the bytes that the step writes
 EndsTold Leads s machine left taken taken' NoMemory =
-    (next : State) × Leads (Moves next) × (next.written ≢ s.written) × (machine ≡ alone s) × (left ≡ s.left) × (taken' ≡ taken)
+    (next : State) × Leads (Moves next) × (next.written ≢ s.written) × (machine ≡ alone s) × (left ≡ s.left)
+        × (taken' ≡ taken)
 
 -- the same of any answer
 abbrev pub LeadsTold : (Moved → Type 0) → State → State → List ℕ → List ℕ → List ℕ → StepEnd → Type 0
@@ -64,7 +71,8 @@ StepTold s machine left taken taken' answer = LeadsTold (Steps s) s machine left
 -- the outcome of n steps from s, by the input left and the bytes taken before and after
 abbrev pub Gives : ℕ → State → List ℕ → List ℕ → List ℕ → List ℕ → outcome.End → Type 0
 Gives n s left left' taken taken' end =
-    (o : outcome.Outcome) × Runs no_visits n s o × (o.end ≡ end) × (left' ≡ drop o.taken left) × (taken' ≡ taken ++ o.written)
+    (o : outcome.Outcome) × Runs no_visits n s o × (o.end ≡ end) × (left' ≡ drop o.taken left)
+        × (taken' ≡ taken ++ o.written)
 
 -- n steps lead to a state of which this holds, and the machine and the input were left there
 abbrev pub LeftAfter : ℕ → State → State → List ℕ → (State → Type 0) → Type 0
@@ -73,15 +81,18 @@ LeftAfter n s machine left Holds = (t : State) × Reaches n s t × Holds t × (m
 -- an end of the definition: the budget has this outcome, and the machine was left where the step that ends is made
 abbrev pub RunEnds : ℕ → State → State → List ℕ → List ℕ → List ℕ → List ℕ → outcome.End → Type 0
 RunEnds budget s machine left left' taken taken' end =
-    Gives budget s left left' taken taken' end × (n : ℕ) × (n < budget) × LeftAfter n s machine left' (λ t. Steps t (Halts end))
+    Gives budget s left left' taken taken' end × (n : ℕ) × (n < budget)
+        × LeftAfter n s machine left' (λ t. Steps t (Halts end))
 
--- after a refusal: some number of steps, fewer than the budget, were made, and the machine, the input and the bytes taken
+-- after a refusal: some number of steps, fewer than the budget, were made, and the machine, the input and the bytes
+-- taken
 -- are as they leave them
 abbrev pub GivesSoFar : ℕ → State → State → List ℕ → List ℕ → List ℕ → List ℕ → (State → Type 0) → Type 0
 GivesSoFar budget s machine left left' taken taken' Holds =
     (n : ℕ) × (n < budget) × Gives n s left left' taken taken' outcome.Goes × LeftAfter n s machine left' Holds
 
--- after a fault of the output: the machine and the input are as those steps leave them, and of what one step more writes
+-- after a fault of the output: the machine and the input are as those steps leave them, and of what one step more
+-- writes
 -- at least the bytes that they wrote are taken, in order
 abbrev pub GivesPart : ℕ → State → State → List ℕ → List ℕ → List ℕ → List ℕ → Type 0
 GivesPart budget s machine left left' taken taken' =
@@ -96,12 +107,16 @@ WritesNext t = (next : State) × Steps t (Moves next) × (next.written ≢ t.wri
 -- A run of at most `budget` steps from s. For want of memory the steps that were made are those before the first whose
 -- bytes weren't taken.
 unfoldable pub RunTold : ℕ → State → State → List ℕ → List ℕ → List ℕ → List ℕ → MachineEnd → Type 0
-RunTold budget s machine left left' taken taken' (Ended status) = RunEnds budget s machine left left' taken taken' (outcome.Ended status)
-RunTold budget s machine left left' taken taken' (Trapped trap) = RunEnds budget s machine left left' taken taken' (outcome.Trapped trap)
+RunTold budget s machine left left' taken taken' (Ended status) =
+    RunEnds budget s machine left left' taken taken' (outcome.Ended status)
+RunTold budget s machine left left' taken taken' (Trapped trap) =
+    RunEnds budget s machine left left' taken taken' (outcome.Trapped trap)
 RunTold budget s machine left left' taken taken' (Stopped cause address) =
     RunEnds budget s machine left left' taken taken' (outcome.Stopped cause address)
 RunTold budget s machine left left' taken taken' BudgetSpent =
     Gives budget s left left' taken taken' outcome.Goes × LeftAfter budget s machine left' (λ t. ⊤)
-RunTold budget s machine left left' taken taken' ReadFault = GivesSoFar budget s machine left left' taken taken' (λ t. ⊤)
+RunTold budget s machine left left' taken taken' ReadFault =
+    GivesSoFar budget s machine left left' taken taken' (λ t. ⊤)
 RunTold budget s machine left left' taken taken' WriteFault = GivesPart budget s machine left left' taken taken'
-RunTold budget s machine left left' taken taken' NoMemory = GivesSoFar budget s machine left left' taken taken' WritesNext
+RunTold budget s machine left left' taken taken' NoMemory =
+    GivesSoFar budget s machine left left' taken taken' WritesNext

@@ -15,9 +15,11 @@ padded-full n bytes full =
     ap (λ (k : ℕ). bytes ++ replicate k 0) none ∙ append-nil bytes
 
 -- a list that was filled up with zeros is padded
-pub padded-filled : (n : ℕ) (bytes filled : List ℕ) → length bytes ≤ n → filled ≡ take n bytes ++ replicate (n - length bytes) 0 → filled ≡ padded n bytes
+pub padded-filled : (n : ℕ) (bytes filled : List ℕ) → length bytes ≤ n → filled
+    ≡ take n bytes ++ replicate (n - length bytes) 0 → filled ≡ padded n bytes
 unfolding padded zeros
-padded-filled n bytes filled fits e = e ∙ ap (λ (b : List ℕ). b ++ replicate (n - length bytes) 0) (take_all n bytes fits)
+padded-filled n bytes filled fits e = e ∙ ap (λ (b : List ℕ). b ++ replicate (n - length bytes) 0)
+    (take_all n bytes fits)
 
 -- the bytes and their zeros have the size
 pub length-padded : (n : ℕ) (bytes : List ℕ) → length bytes ≤ n → length (padded n bytes) ≡ n
@@ -25,8 +27,11 @@ unfolding padded zeros
 length-padded n bytes fits = simp (length-append, length-replicate) (omega arith)
 
 -- each segment is a piece, where all are
-pub piece_at : (segments : List Segment) (i : ℕ) (s : Segment) → i < length segments → s ≡ get_or segments i s → All IsPiece (map piece_of segments) → IsPiece (piece_of s)
+pub piece_at : (segments : List Segment) (i : ℕ) (s : Segment) → i < length segments → s ≡ get_or segments i s
+    → All IsPiece (map piece_of segments) → IsPiece (piece_of s)
 piece_at segments i s within e each =
-    let at : get_or (map piece_of segments) i (piece_of s) ≡ piece_of (get_or segments i s) = get_or-map piece_of segments i s (piece_of s) within in
-    let holds : IsPiece (get_or (map piece_of segments) i (piece_of s)) = each i (piece_of s) (let n : i < length (map piece_of segments) = simp length-map within in n) in
+    let at : get_or (map piece_of segments) i (piece_of s) ≡ piece_of (get_or segments i s) =
+        get_or-map piece_of segments i s (piece_of s) within in
+    let holds : IsPiece (get_or (map piece_of segments) i (piece_of s)) =
+        each i (piece_of s) (let n : i < length (map piece_of segments) = simp length-map within in n) in
     subst (λ (p : Piece). IsPiece p) (at ∙ sym (ap piece_of e)) holds

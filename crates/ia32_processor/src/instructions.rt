@@ -160,7 +160,8 @@ impl Processor {
 
     /// Changes an operand, and the flags are unknown after it.
     fn change(&mut self, operand: Rm32, value: u32) -> Result<(), Halt>
-        ensures { Leaves (and_then (written32 operand value self.old) (λ t. Ok (with_flags None t))) self.old self.new result }
+        ensures { Leaves (and_then (written32 operand value self.old) (λ t. Ok (with_flags None t))) self.old self.new
+            result }
     {
         self.write32(operand, value)?;
         self.set_flags(None);

@@ -1,5 +1,6 @@
 ghost use Rattle.std.specs.Prelude.{◌≡◌, ◌≢◌, ◌%◌, ◌^◌, Ok};
-ghost use Rattle.ia32_insn.specs.Meaning.{and_then, distant as distant_from, effect as effect_of, target as target_of, perform as performed};
+ghost use Rattle.ia32_insn.specs.Meaning.{and_then, distant as distant_from, effect as effect_of, target as target_of};
+ghost use Rattle.ia32_insn.specs.Meaning.{perform as performed};
 ghost use Rattle.ia32_processor.specs.Answers.{answer_of, Leaves, Performs};
 
 use crate::halt::Halt;
@@ -76,7 +77,8 @@ impl Processor {
 
     /// The address of the instruction that comes next.
     fn target(&self, insn: Insn, after: u32) -> Result<u32, Halt>
-        ensures { and_then (target_of insn after self.now) (λ address. Ok (address % 2 ^ 32)) ≡ answer_of self.now result }
+        ensures { and_then (target_of insn after self.now) (λ address. Ok (address % 2 ^ 32))
+            ≡ answer_of self.now result }
     {
         match insn {
             Insn::Call(distance) => Ok(distant(after, distance)),
@@ -122,7 +124,8 @@ impl Processor {
 
     /// The address of the instruction that comes after Jcc.
     fn branch(&self, cond: Cond, distance: i32, after: u32) -> Result<u32, Halt>
-        ensures { and_then (target_of (Insn.Jcc cond distance) after self.now) (λ address. Ok (address % 2 ^ 32)) ≡ answer_of self.now result }
+        ensures { and_then (target_of (Insn.Jcc cond distance) after self.now) (λ address. Ok (address % 2 ^ 32))
+            ≡ answer_of self.now result }
     {
         if self.decided(cond)? {
             Ok(distant(after, distance))

@@ -54,7 +54,8 @@ impl RegFile {
         self.words[number_of(r)] = value;
     }
 
-    /// The byte that has a name of its own: the lowest of a register, or its second (Intel manual, volume 1, section 3.4.1).
+    /// The byte that has a name of its own: the lowest of a register, or its second (Intel manual, volume 1, section
+    /// 3.4.1).
     pub fn get8(&self, r: Reg8) -> u8
         ensures value { result ≡ slice_index self.now (byte_place r) }
         ensures shape { AreRegisters self.now }

@@ -1,6 +1,7 @@
 -- The items of a graph whose variables stand in slots of its frame: for each op the operands are read into ESI and
 -- EDI, the core works on them, and the result is written to its slot.
-use Rattle.std.specs.Prelude.{◌≡◌, ◌<◌, ◌≤◌, ◌⊎◌, ◌+◌, ◌*◌, ⊤, ℕ, suc, pos, List, [], ◌∷◌, ◌++◌, length, slice_index_or, Some}
+use Rattle.std.specs.Prelude.{◌≡◌, ◌<◌, ◌≤◌, ◌⊎◌, ◌+◌, ◌*◌, ⊤, ℕ, suc, pos, List, [], ◌∷◌, ◌++◌, length, slice_index_or}
+use Rattle.std.specs.Prelude.{Some}
 use Rattle.std.specs.List.{AllByRecursion}
 use Rattle.pcc_base.specs.declared.run.Width.TheVariants.{Two}
 use Rattle.ia32_regs.specs.declared.names.Reg32.TheVariants.{Eax, Ebx, Esp, Ebp, Esi, Edi}
@@ -78,7 +79,8 @@ putchar_row slots d s =
     ∷ plain (insn.Mov (rm.Mem (slot_of slots d)) Eax)
     ∷ []
 
--- the result to EAX, and the caller's registers as they were (System V ABI, Intel386 supplement, "Function Calling Sequence")
+-- the result to EAX, and the caller's registers as they were (System V ABI, Intel386 supplement, "Function Calling
+-- Sequence")
 abbrev pub return_row : List ℕ → ℕ → List Item
 return_row slots a =
     plain (insn.MovLoad Eax (slot_of slots a))
@@ -130,7 +132,8 @@ point_rows ops slots (point ∷ points) = point_row ops slots point ++ point_row
 -- the blocks from a number on, each behind its label
 abbrev pub block_rows : List Op → List ℕ → ℕ → List (List ℕ) → List Item
 block_rows ops slots k [] = []
-block_rows ops slots k (points ∷ blocks) = (item.Label k ∷ point_rows ops slots points) ++ block_rows ops slots (suc k) blocks
+block_rows ops slots k (points ∷ blocks) =
+    (item.Label k ∷ point_rows ops slots points) ++ block_rows ops slots (suc k) blocks
 
 -- the items of a graph
 abbrev pub selected : Flow → List ℕ → List Item

@@ -1,6 +1,7 @@
 -- The items of a graph over slots can be assembled: they have spellings, and so many bytes.
 use Rattle.std.specs.List.{AllByRecursion}
-use Rattle.std.proofs.Common.{◌≡◌, ℕ, zero, suc, ◌+◌, ◌*◌, ◌≤◌, ℤ, pos, Bool, true, false, cond, List, [], ◌∷◌, length, Some, None, refl, inl, inr, arith, get_or, length-append}
+use Rattle.std.proofs.Common.{◌≡◌, ℕ, zero, suc, ◌+◌, ◌*◌, ◌≤◌, ℤ, pos, Bool, true, false, cond, List, [], ◌∷◌, length}
+use Rattle.std.proofs.Common.{Some, None, refl, inl, inr, arith, get_or, length-append}
 use Rattle.std.specs.Prelude.{◌⊎◌, neg_ℤ, slice_index_or}
 use Rattle.std.specs.Int.{w32}
 use Rattle.std.specs.Int.RustNames.{FitsSigned}
@@ -25,7 +26,8 @@ use Rattle.ia32_asm.specs.declared.section.Target.TheVariants as target
 use Rattle.ia32_asm.specs.Sections.{CanAssemble, IsSpelled, HasLabel, items_size, target_of}
 use Rattle.ia32_asm.proofs.Laying.{items_size-append}
 use Rattle.ia32_shows.specs.Placements.{below}
-use Rattle.ia32_rows.specs.Rows.{IsSlot, HasSlots, frame_of, row, clears, prologue, point_row, point_rows, block_rows, selected}
+use Rattle.ia32_rows.specs.Rows.{IsSlot, HasSlots, frame_of, row, clears, prologue, point_row, point_rows, block_rows}
+use Rattle.ia32_rows.specs.Rows.{selected}
 use Rattle.ia32_rows.proofs.ItemKinds.{IsRowItem, every-join, every-get, selected-items}
 use Rattle.ia32_select.specs.Offsets.{NamesOnlyPutchar}
 use Rattle.ia32_select.proofs.Marked.{all_points, labels-once, points-once, few-points}
@@ -68,22 +70,31 @@ number-spelled r z h = spelling-indexed (insn.MovImm (rm.Reg r) z) (tt, h) (tt, 
 row-spelled : (slots : List ℕ) (o : Op) → AreSmall slots → NumbersFit o → AllByRecursion IsSpelled (row slots o)
 row-spelled slots (op.Const d n) small fits = (number-spelled Esi n fits, (write-spelled Esi _ (small d), tt))
 row-spelled slots (op.Copy d s) small fits = (read-spelled Esi _ (small s), (write-spelled Esi _ (small d), tt))
-row-spelled slots (op.Add d a b) small fits = (read-spelled Esi _ (small a), (read-spelled Edi _ (small b), (operation-spelled alu.Add, (write-spelled Esi _ (small d), tt))))
-row-spelled slots (op.Sub d a b) small fits = (read-spelled Esi _ (small a), (read-spelled Edi _ (small b), (operation-spelled alu.Sub, (write-spelled Esi _ (small d), tt))))
-row-spelled slots (op.Putchar d s) small fits = (read-spelled Esi _ (small s), (push-spelled Esi, (tt, ((95 ∷ [], refl), (write-spelled Eax _ (small d), tt)))))
+row-spelled slots (op.Add d a b) small fits =
+    (read-spelled Esi _ (small a), (read-spelled Edi _ (small b),
+    (operation-spelled alu.Add, (write-spelled Esi _ (small d), tt))))
+row-spelled slots (op.Sub d a b) small fits =
+    (read-spelled Esi _ (small a), (read-spelled Edi _ (small b),
+    (operation-spelled alu.Sub, (write-spelled Esi _ (small d), tt))))
+row-spelled slots (op.Putchar d s) small fits =
+    (read-spelled Esi _ (small s), (push-spelled Esi, (tt, ((95 ∷ [], refl), (write-spelled Eax _ (small d), tt)))))
 row-spelled slots (op.Mark s) small fits = ((144 ∷ [], refl), tt)
 row-spelled slots op.Turn small fits = ((144 ∷ [], refl), tt)
 row-spelled slots (op.Return (Some a)) small fits = (
   read-spelled Eax _ (small a),
-  (read-spelled Ebx 4 (omega arith), (read-spelled Esi 8 (omega arith), (read-spelled Edi 12 (omega arith), ((201 ∷ [], refl), ((195 ∷ [], refl), tt))))),
+  (read-spelled Ebx 4 (omega arith), (read-spelled Esi 8 (omega arith),
+      (read-spelled Edi 12 (omega arith), ((201 ∷ [], refl), ((195 ∷ [], refl), tt))))),
 )
 row-spelled slots o small fits = tt
 
-clears-spelled : (frame : ℕ) (slots : List ℕ) → frame ≤ 16384 → AllByRecursion (IsSlot frame) slots → AllByRecursion IsSpelled (clears slots)
+clears-spelled : (frame : ℕ) (slots : List ℕ) → frame ≤ 16384 → AllByRecursion (IsSlot frame) slots
+    → AllByRecursion IsSpelled (clears slots)
 clears-spelled frame [] h small = tt
-clears-spelled frame (s ∷ slots) h small = let high = small.0.high in (write-spelled Esi s (omega arith), clears-spelled frame slots h small.1)
+clears-spelled frame (s ∷ slots) h small = let high = small.0.high in
+    (write-spelled Esi s (omega arith), clears-spelled frame slots h small.1)
 
-prologue-spelled : (frame : ℕ) (slots : List ℕ) → frame ≤ 16384 → AllByRecursion (IsSlot frame) slots → AllByRecursion IsSpelled (prologue frame slots)
+prologue-spelled : (frame : ℕ) (slots : List ℕ) → frame ≤ 16384 → AllByRecursion (IsSlot frame) slots
+    → AllByRecursion IsSpelled (prologue frame slots)
 prologue-spelled frame slots h small = (
   push-spelled Ebp,
   (
@@ -94,7 +105,8 @@ prologue-spelled frame slots h small = (
         push-spelled Esi,
         (
           push-spelled Edi,
-          (spelling-indexed (insn.Lea Esp (below frame)) (fits-below frame h) tt, (number-spelled Esi (pos 0) (omega (arith, ints)), clears-spelled frame slots h small)),
+          (spelling-indexed (insn.Lea Esp (below frame)) (fits-below frame h) tt,
+              (number-spelled Esi (pos 0) (omega (arith, ints)), clears-spelled frame slots h small)),
         ),
       ),
     ),
@@ -108,20 +120,29 @@ word-at [] (suc p) h = tt
 word-at (o ∷ ops) zero h = h.0
 word-at (o ∷ ops) (suc p) h = word-at ops p h.1
 
-points-spelled : (ops : List Op) (slots points : List ℕ) → AreSmall slots → AllByRecursion NumbersFit ops → AllByRecursion IsSpelled (point_rows ops slots points)
+points-spelled : (ops : List Op) (slots points : List ℕ) → AreSmall slots → AllByRecursion NumbersFit ops
+    → AllByRecursion IsSpelled (point_rows ops slots points)
 points-spelled ops slots [] small h = tt
 points-spelled ops slots (p ∷ ps) small h =
-    every-join IsSpelled (point_row ops slots p) (point_rows ops slots ps) (tt, row-spelled slots (slice_index_or ops p op.Turn) small (word-at ops p h)) (points-spelled ops slots ps small h)
+    every-join IsSpelled (point_row ops slots p) (point_rows ops slots ps)
+        (tt, row-spelled slots (slice_index_or ops p op.Turn) small (word-at ops p h))
+        (points-spelled ops slots ps small h)
 
-blocks-spelled : (ops : List Op) (slots : List ℕ) (k : ℕ) (blocks : List (List ℕ)) → AreSmall slots → AllByRecursion NumbersFit ops → AllByRecursion IsSpelled (block_rows ops slots k blocks)
+blocks-spelled : (ops : List Op) (slots : List ℕ) (k : ℕ) (blocks : List (List ℕ)) → AreSmall slots
+    → AllByRecursion NumbersFit ops → AllByRecursion IsSpelled (block_rows ops slots k blocks)
 blocks-spelled ops slots k [] small h = tt
 blocks-spelled ops slots k (points ∷ blocks) small h =
-    every-join IsSpelled (item.Label k ∷ point_rows ops slots points) (block_rows ops slots (suc k) blocks) (tt, points-spelled ops slots points small h) (blocks-spelled ops slots (suc k) blocks small h)
+    every-join IsSpelled (item.Label k ∷ point_rows ops slots points) (block_rows ops slots (suc k) blocks)
+        (tt, points-spelled ops slots points small h) (blocks-spelled ops slots (suc k) blocks small h)
 
-selected-spelled : (flow : Flow) (slots : List ℕ) → HasSlots flow slots → AllByRecursion NumbersFit flow.ops → AllByRecursion IsSpelled (selected flow slots)
+selected-spelled : (flow : Flow) (slots : List ℕ) → HasSlots flow slots → AllByRecursion NumbersFit flow.ops
+    → AllByRecursion IsSpelled (selected flow slots)
 selected-spelled flow slots h words =
-    let small : AreSmall slots = λ v. let in_frame = slot-small (frame_of flow) slots v h.within in let frame = h.small in omega arith in
-    every-join IsSpelled (prologue (frame_of flow) slots) (block_rows flow.ops slots 0 flow.blocks) (prologue-spelled (frame_of flow) slots h.small h.within) (blocks-spelled flow.ops slots 0 flow.blocks small words)
+    let small : AreSmall slots = λ v. let in_frame = slot-small (frame_of flow) slots v h.within in let frame =
+        h.small in omega arith in
+    every-join IsSpelled (prologue (frame_of flow) slots) (block_rows flow.ops slots 0 flow.blocks)
+        (prologue-spelled (frame_of flow) slots h.small h.within)
+        (blocks-spelled flow.ops slots 0 flow.blocks small words)
 
 -- ---- no jumps, and no names but putchar
 
@@ -151,7 +172,8 @@ kind-named (item.AddressOf r k) h = absurd h
 
 -- the items name no function and no object
 pub selected-names : (flow : Flow) (slots : List ℕ) → NamesOnlyPutchar (selected flow slots)
-selected-names flow slots j i e = kind-named i (every-get IsRowItem (selected flow slots) j i (selected-items flow slots) e)
+selected-names flow slots j i e = kind-named i
+    (every-get IsRowItem (selected flow slots) j i (selected-items flow slots) e)
 
 -- ---- bytes
 
@@ -164,15 +186,20 @@ choice false false x y h k = k
 fields-size : (reg d : ℕ) → length (fields_for reg (InMemory (below d))) ≤ 5
 fields-size reg d =
     let z : ℤ = neg_ℤ (pos d) in
-    let four : length (displacement_for (Some Ebp) z) ≤ 4 = choice _ _ (byte_bytes z) (word_bytes z) (omega arith) (omega arith) in
+    let four : length (displacement_for (Some Ebp) z) ≤ 4 =
+        choice _ _ (byte_bytes z) (word_bytes z) (omega arith) (omega arith) in
     omega arith
 
 row-size : (slots : List ℕ) (o : Op) → items_size (row slots o) ≤ 64
 row-size slots (op.Const d n) = let one = fields-size 6 (slice_index_or slots d 0) in omega arith
-row-size slots (op.Copy d s) = let one = fields-size 6 (slice_index_or slots d 0) in let two = fields-size 6 (slice_index_or slots s 0) in omega arith
-row-size slots (op.Add d a b) = let one = fields-size 6 (slice_index_or slots d 0) in let two = fields-size 6 (slice_index_or slots a 0) in let three = fields-size 7 (slice_index_or slots b 0) in omega arith
-row-size slots (op.Sub d a b) = let one = fields-size 6 (slice_index_or slots d 0) in let two = fields-size 6 (slice_index_or slots a 0) in let three = fields-size 7 (slice_index_or slots b 0) in omega arith
-row-size slots (op.Putchar d s) = let one = fields-size 0 (slice_index_or slots d 0) in let two = fields-size 6 (slice_index_or slots s 0) in omega arith
+row-size slots (op.Copy d s) = let one = fields-size 6 (slice_index_or slots d 0) in let two =
+    fields-size 6 (slice_index_or slots s 0) in omega arith
+row-size slots (op.Add d a b) = let one = fields-size 6 (slice_index_or slots d 0) in let two =
+    fields-size 6 (slice_index_or slots a 0) in let three = fields-size 7 (slice_index_or slots b 0) in omega arith
+row-size slots (op.Sub d a b) = let one = fields-size 6 (slice_index_or slots d 0) in let two =
+    fields-size 6 (slice_index_or slots a 0) in let three = fields-size 7 (slice_index_or slots b 0) in omega arith
+row-size slots (op.Putchar d s) = let one = fields-size 0 (slice_index_or slots d 0) in let two =
+    fields-size 6 (slice_index_or slots s 0) in omega arith
 row-size slots (op.Mark s) = omega arith
 row-size slots op.Turn = omega arith
 row-size slots (op.Return (Some a)) = let one = fields-size 0 (slice_index_or slots a 0) in omega arith
@@ -194,7 +221,8 @@ points-size ops slots (p ∷ ps) =
     let whole = items_size-append mine (point_rows ops slots ps) in
     omega arith
 
-blocks-size : (ops : List Op) (slots : List ℕ) (k : ℕ) (blocks : List (List ℕ)) → items_size (block_rows ops slots k blocks) ≤ 64 * length (all_points blocks)
+blocks-size : (ops : List Op) (slots : List ℕ) (k : ℕ) (blocks : List (List ℕ))
+    → items_size (block_rows ops slots k blocks) ≤ 64 * length (all_points blocks)
 blocks-size ops slots k [] = omega arith
 blocks-size ops slots k (points ∷ blocks) =
     let one = points-size ops slots points in
@@ -204,7 +232,8 @@ blocks-size ops slots k (points ∷ blocks) =
     omega arith
 
 -- the bytes of the items, by the graph's points and variables
-pub selected-size : (flow : Flow) (homes slots : List ℕ) → IsFlow flow homes → HasSlots flow slots → items_size (selected flow slots) ≤ 800 * length flow.ops + 8 * length flow.widths + 64
+pub selected-size : (flow : Flow) (homes slots : List ℕ) → IsFlow flow homes → HasSlots flow slots
+    → items_size (selected flow slots) ≤ 800 * length flow.ops + 8 * length flow.widths + 64
 selected-size flow homes slots f h =
     let one = prologue-size (frame_of flow) slots in
     let rest = blocks-size flow.ops slots 0 flow.blocks in
@@ -215,13 +244,15 @@ selected-size flow homes slots f h =
 
 -- ---- all of it
 
-pub selected-assembles : (flow : Flow) (homes slots : List ℕ) → IsFlow flow homes → HasSlots flow slots → length flow.ops ≤ 1310720 → CanAssemble (selected flow slots)
+pub selected-assembles : (flow : Flow) (homes slots : List ℕ) → IsFlow flow homes → HasSlots flow slots
+    → length flow.ops ≤ 1310720 → CanAssemble (selected flow slots)
 selected-assembles flow homes slots f h bound =
     let size = selected-size flow homes slots f h in
     let frame = h.small in
     record {
       spelled = λ j i e. every-get IsSpelled (selected flow slots) j i (selected-spelled flow slots h f.numbers) e;
-      labelled = λ j i e. kind-labelled (selected flow slots) i (every-get IsRowItem (selected flow slots) j i (selected-items flow slots) e);
+      labelled = λ j i e. kind-labelled (selected flow slots) i
+          (every-get IsRowItem (selected flow slots) j i (selected-items flow slots) e);
       labels_once = labels-once flow slots;
       points_once = points-once flow homes slots f;
       size = omega arith;

@@ -1,6 +1,7 @@
 -- What is known of the offsets and of the ops of a graph over slots.
 use Rattle.std.specs.List.{AllByRecursion}
-use Rattle.std.proofs.Common.{◌≡◌, ℕ, zero, suc, inl, inr, get_or, ◌<◌, ◌*◌, ◌+◌, ℤ, List, [], ◌∷◌, length, Some, refl, sym, ap, subst, ◌∙◌, ◌++◌, append_assoc, arith}
+use Rattle.std.proofs.Common.{◌≡◌, ℕ, zero, suc, inl, inr, get_or, ◌<◌, ◌*◌, ◌+◌, ℤ, List, [], ◌∷◌, length, Some, refl}
+use Rattle.std.proofs.Common.{sym, ap, subst, ◌∙◌, ◌++◌, append_assoc, arith}
 use Rattle.std.specs.Prelude.{slice_get, slice_index_or}
 use Rattle.std.proofs.lemmas.List.{length-map}
 use Rattle.std.proofs.lemmas.Option.{same_Some, slice_get_within, get_or_from_slice_get}
@@ -24,13 +25,17 @@ pub below-slots : (flow : Flow) (offsets : List ℤ) → HasSlots flow (slots_of
 below-slots flow offsets h = below-frame (16 + 4 * length flow.widths) offsets h.within
 
 -- there is an offset for each variable
-pub length-offsets : (flow : Flow) (offsets : List ℤ) → HasSlots flow (slots_of offsets) → length offsets ≡ length flow.widths
+pub length-offsets : (flow : Flow) (offsets : List ℤ) → HasSlots flow (slots_of offsets) → length offsets
+    ≡ length flow.widths
 length-offsets flow offsets h = sym (length-map offsets distance) ∙ h.as_many
 
 -- an op that fits in the graph is over its variables
 over-variables : (flow : Flow) (n : ℕ) (o : Op) → length flow.widths ≡ n → IsSlotOp o → FitsOp flow o → IsSlotOpOver n o
-over-variables flow n (op.Const d m) e is fits = subst (λ (k : ℕ). d < k) e (slice_get_within flow.widths d fits.0.0 fits.0.1)
-over-variables flow n (op.Copy d s) e is fits = (subst (λ (k : ℕ). d < k) e (slice_get_within flow.widths d fits.0.0 fits.0.1), subst (λ (k : ℕ). s < k) e (slice_get_within flow.widths s fits.0.0 fits.0.2))
+over-variables flow n (op.Const d m) e is fits =
+    subst (λ (k : ℕ). d < k) e (slice_get_within flow.widths d fits.0.0 fits.0.1)
+over-variables flow n (op.Copy d s) e is fits =
+    (subst (λ (k : ℕ). d < k) e (slice_get_within flow.widths d fits.0.0 fits.0.1),
+    subst (λ (k : ℕ). s < k) e (slice_get_within flow.widths s fits.0.0 fits.0.2))
 over-variables flow n (op.Add d a b) e is fits = (within d _ fits.0, within a _ fits.1.0, within b _ fits.1.1.0)
   where
     within : (v : ℕ) (width : Width) → slice_get flow.widths v ≡ Some width → v < n
@@ -45,21 +50,29 @@ over-variables flow n (op.Putchar d s) e is fits = (within d _ fits.0, within s 
     within v width h = subst (λ (k : ℕ). v < k) e (slice_get_within flow.widths v width h)
 over-variables flow n (op.Mark s) e is fits = tt
 over-variables flow n op.Turn e is fits = tt
-over-variables flow n (op.Return (Some a)) e is fits = subst (λ (k : ℕ). a < k) e (slice_get_within flow.widths a _ fits.0)
+over-variables flow n (op.Return (Some a)) e is fits =
+    subst (λ (k : ℕ). a < k) e (slice_get_within flow.widths a _ fits.0)
 over-variables flow n o e is fits = absurd is
 
 -- the op of a placed point has code, over the variables that have offsets
-pub over-offsets : (flow : Flow) (homes : List ℕ) (offsets : List ℤ) (p : ℕ) (o : Op) → IsFlow flow homes → HasSlots flow (slots_of offsets) → IsPlaced flow p → slice_get flow.ops p ≡ Some o → IsSlotOpOver (length offsets) o
+pub over-offsets : (flow : Flow) (homes : List ℕ) (offsets : List ℤ) (p : ℕ) (o : Op) → IsFlow flow homes
+    → HasSlots flow (slots_of offsets) → IsPlaced flow p → slice_get flow.ops p ≡ Some o
+    → IsSlotOpOver (length offsets) o
 over-offsets flow homes offsets p o f h (block, stands) has =
-    let fitting : HasFittingOp flow p = every-in (HasFittingOp flow) p (points_of flow block) (f.each_block block).fits stands in
+    let fitting : HasFittingOp flow p = every-in (HasFittingOp flow) p (points_of flow block) (f.each_block block).fits
+        stands in
     let fits : FitsOp flow o = subst (FitsOp flow) (same_Some fitting.0 o (sym fitting.1 ∙ has)) fitting.2 in
-    over-variables flow (length offsets) o (sym (length-offsets flow offsets h)) (every-get IsSlotOp flow.ops p o h.ops has) fits
+    over-variables flow (length offsets) o (sym (length-offsets flow offsets h))
+        (every-get IsSlotOp flow.ops p o h.ops has) fits
 
 -- a point and the items of its op behind others
-pub point-emitted : (old pushed new : List Item) (ops : List Op) (slots : List ℕ) (p : ℕ) (o : Op) → pushed ≡ old ++ item.Point p ∷ [] → slice_get ops p ≡ Some o → new ≡ pushed ++ row slots o → new ≡ old ++ point_row ops slots p
+pub point-emitted : (old pushed new : List Item) (ops : List Op) (slots : List ℕ) (p : ℕ) (o : Op) → pushed
+    ≡ old ++ item.Point p ∷ [] → slice_get ops p ≡ Some o → new ≡ pushed ++ row slots o → new
+    ≡ old ++ point_row ops slots p
 point-emitted old pushed new ops slots p o one has e =
     let is : o ≡ slice_index_or ops p op.Turn = sym (get_or_from_slice_get ops p o op.Turn has) in
-    e ∙ ap (λ (l : List Item). l ++ row slots o) one ∙ append_assoc old (item.Point p ∷ []) (row slots o) ∙ ap (λ (i : Op). old ++ item.Point p ∷ row slots i) is
+    e ∙ ap (λ (l : List Item). l ++ row slots o) one ∙ append_assoc old (item.Point p ∷ []) (row slots o)
+        ∙ ap (λ (i : Op). old ++ item.Point p ∷ row slots i) is
 
 -- a point at a place is among the points
 pub in-at : (ps : List ℕ) (i : ℕ) → i < length ps → IsIn (get_or ps i 0) ps

@@ -1,7 +1,8 @@
 -- The labels and points among the items of a graph over slots: each stands once, and the points are those of the
 -- blocks.
 use Rattle.std.specs.List.{AllByRecursion}
-use Rattle.std.proofs.Common.{◌≡◌, ◌≢◌, ℕ, zero, suc, ◌+◌, ◌<◌, ◌≤◌, Bool, List, [], ◌∷◌, ◌++◌, length, Option, Some, None, refl, sym, ap, subst, ◌∙◌, inl, inr, arith, eqb, cond}
+use Rattle.std.proofs.Common.{◌≡◌, ◌≢◌, ℕ, zero, suc, ◌+◌, ◌<◌, ◌≤◌, Bool, List, [], ◌∷◌, ◌++◌, length, Option, Some}
+use Rattle.std.proofs.Common.{None, refl, sym, ap, subst, ◌∙◌, inl, inr, arith, eqb, cond}
 use Rattle.std.specs.Prelude.{◌⊎◌, slice_get, slice_index_or}
 use Rattle.std.proofs.lemmas.Bool.Decides.{eqb_tells}
 use Rattle.std.proofs.lemmas.Option.{same_Some, slice_get_within}
@@ -41,7 +42,8 @@ before-append (Some n) xs ys = refl
 
 numbers-append : (f : Item → Option ℕ) (xs ys : List Item) → numbers f (xs ++ ys) ≡ numbers f xs ++ numbers f ys
 numbers-append f [] ys = refl
-numbers-append f (x ∷ xs) ys = ap (before (f x)) (numbers-append f xs ys) ∙ before-append (f x) (numbers f xs) (numbers f ys)
+numbers-append f (x ∷ xs) ys = ap (before (f x)) (numbers-append f xs ys)
+    ∙ before-append (f x) (numbers f xs) (numbers f ys)
 
 in-before : (o : Option ℕ) (ns : List ℕ) (n : ℕ) → IsIn n ns → IsIn n (before o ns)
 in-before None ns n h = h
@@ -51,7 +53,8 @@ first-before : (o : Option ℕ) (ns : List ℕ) (n : ℕ) → o ≡ Some n → b
 first-before o ns n e = ap (λ (x : Option ℕ). before x ns) e
 
 -- the number of an item is among the numbers
-numbers-in : (f : Item → Option ℕ) (items : List Item) (j n : ℕ) (i : Item) → slice_get items j ≡ Some i → f i ≡ Some n → IsIn n (numbers f items)
+numbers-in : (f : Item → Option ℕ) (items : List Item) (j n : ℕ) (i : Item) → slice_get items j ≡ Some i → f i ≡ Some n
+    → IsIn n (numbers f items)
 numbers-in f [] j n i e has = absurd (cc)
 numbers-in f (x ∷ xs) zero n i e has =
     let mine : f x ≡ Some n = ap f (same_Some x i e) ∙ has in
@@ -59,11 +62,14 @@ numbers-in f (x ∷ xs) zero n i e has =
 numbers-in f (x ∷ xs) (suc j) n i e has = in-before (f x) (numbers f xs) n (numbers-in f xs j n i e has)
 
 -- and each of them is that of an item
-numbers-from : (f : Item → Option ℕ) (items : List Item) (n : ℕ) → IsIn n (numbers f items) → (j : ℕ) × (i : Item) × (slice_get items j ≡ Some i) × (f i ≡ Some n)
+numbers-from : (f : Item → Option ℕ) (items : List Item) (n : ℕ) → IsIn n (numbers f items) → (j : ℕ) × (i : Item)
+    × (slice_get items j ≡ Some i) × (f i ≡ Some n)
 numbers-from f [] n h = absurd h
 numbers-from f (x ∷ xs) n h = at (f x) refl (λ k. let m = numbers-from f xs n k in (suc m.0, m.1, m.2, m.3)) h
   where
-    at : (o : Option ℕ) → f x ≡ o → (IsIn n (numbers f xs) → (j : ℕ) × (i : Item) × (slice_get (x ∷ xs) j ≡ Some i) × (f i ≡ Some n)) → IsIn n (before o (numbers f xs)) → (j : ℕ) × (i : Item) × (slice_get (x ∷ xs) j ≡ Some i) × (f i ≡ Some n)
+    at : (o : Option ℕ) → f x ≡ o → (IsIn n (numbers f xs) → (j : ℕ) × (i : Item) × (slice_get (x ∷ xs) j ≡ Some i)
+        × (f i ≡ Some n)) → IsIn n (before o (numbers f xs)) → (j : ℕ) × (i : Item) × (slice_get (x ∷ xs) j ≡ Some i)
+        × (f i ≡ Some n)
     at None e later k = later k
     at (Some m) e later (inl same) = (0, x, refl, e ∙ ap Some same)
     at (Some m) e later (inr k) = later k
@@ -78,7 +84,8 @@ distinct-first o ns n e d h =
     every-in (λ q. q ≢ n) n ns whole.0 h refl
 
 -- where no number stands twice, an item with a number stands once
-once : (f : Item → Option ℕ) (items : List Item) (i j n : ℕ) (x y : Item) → IsDistinct (numbers f items) → slice_get items i ≡ Some x → slice_get items j ≡ Some y → f x ≡ Some n → f y ≡ Some n → i ≡ j
+once : (f : Item → Option ℕ) (items : List Item) (i j n : ℕ) (x y : Item) → IsDistinct (numbers f items)
+    → slice_get items i ≡ Some x → slice_get items j ≡ Some y → f x ≡ Some n → f y ≡ Some n → i ≡ j
 once f [] i j n x y d a b one two = absurd (cc)
 once f (z ∷ zs) zero zero n x y d a b one two = refl
 once f (z ∷ zs) zero (suc j) n x y d a b one two =
@@ -125,13 +132,17 @@ point_rows-points : (ops : List Op) (slots points : List ℕ) → numbers point_
 point_rows-points ops slots [] = refl
 point_rows-points ops slots (p ∷ ps) =
     let mine : List Item = row slots (slice_index_or ops p op.Turn) in
-    ap (λ (l : List ℕ). p ∷ l) (numbers-append point_of mine (point_rows ops slots ps) ∙ ap (λ (l : List ℕ). l ++ numbers point_of (point_rows ops slots ps)) (row-points slots (slice_index_or ops p op.Turn)) ∙ point_rows-points ops slots ps)
+    ap (λ (l : List ℕ). p ∷ l) (numbers-append point_of mine (point_rows ops slots ps)
+        ∙ ap (λ (l : List ℕ). l ++ numbers point_of (point_rows ops slots ps))
+        (row-points slots (slice_index_or ops p op.Turn)) ∙ point_rows-points ops slots ps)
 
 point_rows-labels : (ops : List Op) (slots points : List ℕ) → numbers label_of (point_rows ops slots points) ≡ []
 point_rows-labels ops slots [] = refl
 point_rows-labels ops slots (p ∷ ps) =
     let mine : List Item = row slots (slice_index_or ops p op.Turn) in
-    numbers-append label_of mine (point_rows ops slots ps) ∙ ap (λ (l : List ℕ). l ++ numbers label_of (point_rows ops slots ps)) (row-labels slots (slice_index_or ops p op.Turn)) ∙ point_rows-labels ops slots ps
+    numbers-append label_of mine (point_rows ops slots ps)
+        ∙ ap (λ (l : List ℕ). l ++ numbers label_of (point_rows ops slots ps))
+        (row-labels slots (slice_index_or ops p op.Turn)) ∙ point_rows-labels ops slots ps
 
 -- the points of all blocks, and the numbers of blocks from one on
 abbrev pub all_points : List (List ℕ) → List ℕ
@@ -142,29 +153,37 @@ abbrev labels_from : ℕ → List (List ℕ) → List ℕ
 labels_from k [] = []
 labels_from k (points ∷ blocks) = k ∷ labels_from (suc k) blocks
 
-block_rows-points : (ops : List Op) (slots : List ℕ) (k : ℕ) (blocks : List (List ℕ)) → numbers point_of (block_rows ops slots k blocks) ≡ all_points blocks
+block_rows-points : (ops : List Op) (slots : List ℕ) (k : ℕ) (blocks : List (List ℕ))
+    → numbers point_of (block_rows ops slots k blocks) ≡ all_points blocks
 block_rows-points ops slots k [] = refl
 block_rows-points ops slots k (points ∷ blocks) =
     numbers-append point_of (item.Label k ∷ point_rows ops slots points) (block_rows ops slots (suc k) blocks)
-    ∙ ap (λ (l : List ℕ). l ++ numbers point_of (block_rows ops slots (suc k) blocks)) (point_rows-points ops slots points)
+    ∙ ap (λ (l : List ℕ). l ++ numbers point_of (block_rows ops slots (suc k) blocks))
+        (point_rows-points ops slots points)
     ∙ ap (λ (l : List ℕ). points ++ l) (block_rows-points ops slots (suc k) blocks)
 
-block_rows-labels : (ops : List Op) (slots : List ℕ) (k : ℕ) (blocks : List (List ℕ)) → numbers label_of (block_rows ops slots k blocks) ≡ labels_from k blocks
+block_rows-labels : (ops : List Op) (slots : List ℕ) (k : ℕ) (blocks : List (List ℕ))
+    → numbers label_of (block_rows ops slots k blocks) ≡ labels_from k blocks
 block_rows-labels ops slots k [] = refl
 block_rows-labels ops slots k (points ∷ blocks) =
     numbers-append label_of (item.Label k ∷ point_rows ops slots points) (block_rows ops slots (suc k) blocks)
-    ∙ ap (λ (l : List ℕ). (k ∷ l) ++ numbers label_of (block_rows ops slots (suc k) blocks)) (point_rows-labels ops slots points)
+    ∙ ap (λ (l : List ℕ). (k ∷ l) ++ numbers label_of (block_rows ops slots (suc k) blocks))
+        (point_rows-labels ops slots points)
     ∙ ap (λ (l : List ℕ). k ∷ l) (block_rows-labels ops slots (suc k) blocks)
 
 selected-points : (flow : Flow) (slots : List ℕ) → numbers point_of (selected flow slots) ≡ all_points flow.blocks
 selected-points flow slots =
     let back : List Item = block_rows flow.ops slots 0 flow.blocks in
-    numbers-append point_of (prologue (frame_of flow) slots) back ∙ ap (λ (l : List ℕ). l ++ numbers point_of back) (clears-points slots) ∙ block_rows-points flow.ops slots 0 flow.blocks
+    numbers-append point_of (prologue (frame_of flow) slots) back
+        ∙ ap (λ (l : List ℕ). l ++ numbers point_of back) (clears-points slots)
+        ∙ block_rows-points flow.ops slots 0 flow.blocks
 
 selected-labels : (flow : Flow) (slots : List ℕ) → numbers label_of (selected flow slots) ≡ labels_from 0 flow.blocks
 selected-labels flow slots =
     let back : List Item = block_rows flow.ops slots 0 flow.blocks in
-    numbers-append label_of (prologue (frame_of flow) slots) back ∙ ap (λ (l : List ℕ). l ++ numbers label_of back) (clears-labels slots) ∙ block_rows-labels flow.ops slots 0 flow.blocks
+    numbers-append label_of (prologue (frame_of flow) slots) back
+        ∙ ap (λ (l : List ℕ). l ++ numbers label_of back) (clears-labels slots)
+        ∙ block_rows-labels flow.ops slots 0 flow.blocks
 
 -- ---- none twice
 
@@ -179,7 +198,8 @@ labels-distinct k (points ∷ blocks) = (above k (suc k) blocks (omega arith), l
 -- no label of a graph's code stands twice
 pub labels-once : (flow : Flow) (slots : List ℕ) → StandOnce item.Label (selected flow slots)
 labels-once flow slots i j n a b =
-    once label_of (selected flow slots) i j n (item.Label n) (item.Label n) (subst IsDistinct (sym (selected-labels flow slots)) (labels-distinct 0 flow.blocks)) a b refl refl
+    once label_of (selected flow slots) i j n (item.Label n) (item.Label n)
+        (subst IsDistinct (sym (selected-labels flow slots)) (labels-distinct 0 flow.blocks)) a b refl refl
 
 in-front : (xs ys : List ℕ) (n : ℕ) → IsIn n xs → IsIn n (xs ++ ys)
 in-front [] ys n h = absurd h
@@ -213,35 +233,49 @@ block-in (points ∷ blocks) n h =
       | inr k ↦ let m = block-in blocks n k in (suc m.0, m.1)
     ]
 
-every-but : (xs ys : List ℕ) (x : ℕ) → AllByRecursion (λ q. q ≢ x) xs → (IsIn x ys → ⊥) → AllByRecursion (λ q. q ≢ x) (xs ++ ys)
+every-but : (xs ys : List ℕ) (x : ℕ) → AllByRecursion (λ q. q ≢ x) xs → (IsIn x ys → ⊥)
+    → AllByRecursion (λ q. q ≢ x) (xs ++ ys)
 every-but [] [] x a b = tt
 every-but [] (y ∷ ys) x a b = (λ e. b (inl e), every-but [] ys x tt (λ h. b (inr h)))
 every-but (z ∷ xs) ys x a b = (a.0, every-but xs ys x a.1 b)
 
-distinct-join : (xs ys : List ℕ) → IsDistinct xs → IsDistinct ys → ((n : ℕ) → IsIn n xs → IsIn n ys → ⊥) → IsDistinct (xs ++ ys)
+distinct-join : (xs ys : List ℕ) → IsDistinct xs → IsDistinct ys → ((n : ℕ) → IsIn n xs → IsIn n ys → ⊥)
+    → IsDistinct (xs ++ ys)
 distinct-join [] ys a b apart = b
-distinct-join (x ∷ xs) ys a b apart = (every-but xs ys x a.0 (apart x (inl refl)), distinct-join xs ys a.1 b (λ n i j. apart n (inr i) j))
+distinct-join (x ∷ xs) ys a b apart = (every-but xs ys x a.0 (apart x (inl refl)),
+    distinct-join xs ys a.1 b (λ n i j. apart n (inr i) j))
 
 -- blocks whose points are at home in them have no point twice
-points-distinct : (homes : List ℕ) (k : ℕ) (blocks : List (List ℕ)) → ((b : ℕ) → IsDistinct (slice_index_or blocks b [])) → ((b : ℕ) → AllByRecursion (λ p. slice_get homes p ≡ Some (k + b)) (slice_index_or blocks b [])) → IsDistinct (all_points blocks)
+points-distinct : (homes : List ℕ) (k : ℕ) (blocks : List (List ℕ))
+    → ((b : ℕ) → IsDistinct (slice_index_or blocks b []))
+    → ((b : ℕ) → AllByRecursion (λ p. slice_get homes p ≡ Some (k + b)) (slice_index_or blocks b []))
+    → IsDistinct (all_points blocks)
 points-distinct homes k [] one home = tt
 points-distinct homes k (points ∷ blocks) one home =
-    let next : (b : ℕ) → AllByRecursion (λ p. slice_get homes p ≡ Some (suc k + b)) (slice_index_or blocks b []) = λ b. let e : k + suc b ≡ suc k + b = omega arith in subst (λ (h : ℕ). AllByRecursion (λ p. slice_get homes p ≡ Some h) (slice_index_or blocks b [])) e (home (suc b)) in
+    let next : (b : ℕ) → AllByRecursion (λ p. slice_get homes p ≡ Some (suc k + b)) (slice_index_or blocks b []) =
+        λ b. let e : k + suc b ≡ suc k + b = omega arith in
+        subst (λ (h : ℕ). AllByRecursion (λ p. slice_get homes p ≡ Some h) (slice_index_or blocks b [])) e
+        (home (suc b)) in
     distinct-join points (all_points blocks) (one 0) (points-distinct homes (suc k) blocks (λ b. one (suc b)) next)
     (λ n i j.
     let m = block-in blocks n j in
-    let here : slice_get homes n ≡ Some (k + 0) = every-in (λ p. slice_get homes p ≡ Some (k + 0)) n points (home 0) i in
-    let there : slice_get homes n ≡ Some (suc k + m.0) = every-in (λ p. slice_get homes p ≡ Some (suc k + m.0)) n (slice_index_or blocks m.0 []) (next m.0) m.1 in
+    let here : slice_get homes n ≡ Some (k + 0) =
+        every-in (λ p. slice_get homes p ≡ Some (k + 0)) n points (home 0) i in
+    let there : slice_get homes n ≡ Some (suc k + m.0) =
+        every-in (λ p. slice_get homes p ≡ Some (suc k + m.0)) n (slice_index_or blocks m.0 []) (next m.0) m.1 in
     let same : k + 0 ≡ suc k + m.0 = same_Some (k + 0) (suc k + m.0) (sym here ∙ there) in
     omega arith)
 
 pub flow-distinct : (flow : Flow) (homes : List ℕ) → IsFlow flow homes → IsDistinct (all_points flow.blocks)
-flow-distinct flow homes f = points-distinct homes 0 flow.blocks (λ b. (f.each_block b).once) (λ b. let e : b ≡ 0 + b = omega arith in subst (λ (h : ℕ). AllByRecursion (λ p. slice_get homes p ≡ Some h) (points_of flow b)) e (f.each_block b).at_home)
+flow-distinct flow homes f = points-distinct homes 0 flow.blocks (λ b. (f.each_block b).once)
+    (λ b. let e : b ≡ 0 + b = omega arith in subst
+    (λ (h : ℕ). AllByRecursion (λ p. slice_get homes p ≡ Some h) (points_of flow b)) e (f.each_block b).at_home)
 
 -- no point of a graph's code stands twice
 pub points-once : (flow : Flow) (homes slots : List ℕ) → IsFlow flow homes → StandOnce item.Point (selected flow slots)
 points-once flow homes slots f i j n a b =
-    once point_of (selected flow slots) i j n (item.Point n) (item.Point n) (subst IsDistinct (sym (selected-points flow slots)) (flow-distinct flow homes f)) a b refl refl
+    once point_of (selected flow slots) i j n (item.Point n) (item.Point n)
+        (subst IsDistinct (sym (selected-points flow slots)) (flow-distinct flow homes f)) a b refl refl
 
 -- ---- a point stands among the items exactly where it stands in a block
 
@@ -256,13 +290,17 @@ point-is (item.CallStub s) n e = absurd (cc)
 point-is (item.JumpTrap c) n e = absurd (cc)
 point-is (item.AddressOf r k) n e = absurd (cc)
 
-pub stands-placed : (flow : Flow) (slots : List ℕ) (p : ℕ) → Stands (item.Point p) (selected flow slots) → IsPlaced flow p
+pub stands-placed : (flow : Flow) (slots : List ℕ) (p : ℕ) → Stands (item.Point p) (selected flow slots)
+    → IsPlaced flow p
 stands-placed flow slots p (j, e) =
-    block-in flow.blocks p (subst (IsIn p) (selected-points flow slots) (numbers-in point_of (selected flow slots) j p (item.Point p) e refl))
+    block-in flow.blocks p (subst (IsIn p) (selected-points flow slots)
+        (numbers-in point_of (selected flow slots) j p (item.Point p) e refl))
 
-pub placed-stands : (flow : Flow) (slots : List ℕ) (p : ℕ) → IsPlaced flow p → Stands (item.Point p) (selected flow slots)
+pub placed-stands : (flow : Flow) (slots : List ℕ) (p : ℕ) → IsPlaced flow p
+    → Stands (item.Point p) (selected flow slots)
 placed-stands flow slots p (b, h) =
-    let m = numbers-from point_of (selected flow slots) p (subst (IsIn p) (sym (selected-points flow slots)) (in-block flow.blocks p b h)) in
+    let m = numbers-from point_of (selected flow slots) p
+        (subst (IsIn p) (sym (selected-points flow slots)) (in-block flow.blocks p b h)) in
     (m.0, m.2 ∙ ap Some (point-is m.1 p m.3))
 
 -- ---- how many points there are
@@ -272,10 +310,13 @@ absent n [] d = tt
 absent n (p ∷ ps) d =
     choose-absent (absent n ps d.1)
   where
-    choose-absent : AllByRecursion (λ q. q ≢ n) (without n ps) → AllByRecursion (λ q. q ≢ n) (cond (eqb p n) ps (p ∷ without n ps))
+    choose-absent : AllByRecursion (λ q. q ≢ n) (without n ps)
+        → AllByRecursion (λ q. q ≢ n) (cond (eqb p n) ps (p ∷ without n ps))
     choose-absent rest = elim (eqb_tells p n) [
-      | inl (t, e) ↦ let P : Bool → Type 0 = λ b. AllByRecursion (λ q. q ≢ n) (cond b ps (p ∷ without n ps)) in subst P (sym t) (subst (λ (m : ℕ). AllByRecursion (λ q. q ≢ m) ps) e d.0)
-      | inr (f, ne) ↦ let P : Bool → Type 0 = λ b. AllByRecursion (λ q. q ≢ n) (cond b ps (p ∷ without n ps)) in subst P (sym f) (ne, rest)
+      | inl (t, e) ↦ let P : Bool → Type 0 = λ b. AllByRecursion (λ q. q ≢ n) (cond b ps (p ∷ without n ps)) in
+          subst P (sym t) (subst (λ (m : ℕ). AllByRecursion (λ q. q ≢ m) ps) e d.0)
+      | inr (f, ne) ↦ let P : Bool → Type 0 = λ b. AllByRecursion (λ q. q ≢ n) (cond b ps (p ∷ without n ps)) in
+          subst P (sym f) (ne, rest)
     ]
 
 length-without : (n : ℕ) (ps : List ℕ) → length ps ≤ 1 + length (without n ps)
@@ -284,7 +325,8 @@ length-without n (p ∷ ps) =
     let rest = length-without n ps in
     choose p n (λ (l : List ℕ). suc (length ps) ≤ 1 + length l) ps (p ∷ without n ps) (λ e. omega arith) (omega arith)
 
-both : (n : ℕ) (ps : List ℕ) → AllByRecursion (λ q. q < suc n) ps → AllByRecursion (λ q. q ≢ n) ps → AllByRecursion (λ q. q < n) ps
+both : (n : ℕ) (ps : List ℕ) → AllByRecursion (λ q. q < suc n) ps → AllByRecursion (λ q. q ≢ n) ps
+    → AllByRecursion (λ q. q < n) ps
 both n [] a b = tt
 both n (p ∷ ps) a b = let less = a.0 in let other = b.0 in (omega arith, both n ps a.1 b.1)
 
@@ -294,7 +336,8 @@ few n [] d h = omega arith
 few zero (p ∷ ps) d h = let none = h.0 in absurd (omega arith)
 few (suc n) (p ∷ ps) d h =
     let less = every-without (λ q. q < suc n) n (p ∷ ps) h in
-    let rest = few n (without n (p ∷ ps)) (distinct-without n (p ∷ ps) d) (both n (without n (p ∷ ps)) less (absent n (p ∷ ps) d)) in
+    let rest = few n (without n (p ∷ ps)) (distinct-without n (p ∷ ps) d)
+        (both n (without n (p ∷ ps)) less (absent n (p ∷ ps) d)) in
     let long = length-without n (p ∷ ps) in
     omega arith
 
@@ -308,4 +351,6 @@ few-points flow homes f =
     few (length flow.ops) (all_points flow.blocks) (flow-distinct flow homes f)
     (every-from (λ q. q < length flow.ops) (all_points flow.blocks) (λ n i.
     let m = block-in flow.blocks n i in
-    every-in (λ q. q < length flow.ops) n (points_of flow m.0) (every-map _ (λ q. q < length flow.ops) (λ q fits. slice_get_within flow.ops q fits.0 fits.1) (points_of flow m.0) (f.each_block m.0).fits) m.1))
+    every-in (λ q. q < length flow.ops) n (points_of flow m.0)
+        (every-map _ (λ q. q < length flow.ops) (λ q fits. slice_get_within flow.ops q fits.0 fits.1)
+        (points_of flow m.0) (f.each_block m.0).fits) m.1))

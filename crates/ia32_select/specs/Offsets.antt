@@ -35,4 +35,5 @@ IsSlotOpOver n _ = ⊥
 
 -- the items name no function and no object: only `putchar`
 abbrev pub NamesOnlyPutchar : List Item → Type 0
-NamesOnlyPutchar items = (j : ℕ) (i : Item) → slice_get items j ≡ Some i → (target_of i ≡ None) ⊎ (target_of i ≡ Some (target.Stub stub.Putchar))
+NamesOnlyPutchar items = (j : ℕ) (i : Item) → slice_get items j ≡ Some i → (target_of i ≡ None)
+    ⊎ (target_of i ≡ Some (target.Stub stub.Putchar))

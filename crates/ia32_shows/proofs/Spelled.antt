@@ -1,5 +1,6 @@
 -- How spellings begin: with a byte at least, which is that of NOP for NOP alone.
-use Rattle.std.proofs.Common.{◌≡◌, ◌≢◌, ℕ, ◌+◌, ◌*◌, ◌<◌, ℤ, List, [], ◌∷◌, ◌++◌, ap, ◌∙◌, inl, inr, arith, append_assoc}
+use Rattle.std.proofs.Common.{◌≡◌, ◌≢◌, ℕ, ◌+◌, ◌*◌, ◌<◌, ℤ, List, [], ◌∷◌, ◌++◌, ap, ◌∙◌, inl, inr, arith}
+use Rattle.std.proofs.Common.{append_assoc}
 use Rattle.ia32_regs.specs.Registers.{number32}
 use Rattle.ia32_regs.proofs.Registers.{number32_below}
 use Rattle.ia32_insn.specs.declared.operand.Rm32.TheVariants as rm
@@ -7,23 +8,30 @@ use Rattle.ia32_insn.specs.declared.insn.AluOp.{AluOp}
 use Rattle.ia32_insn.specs.declared.insn.AluOp.TheVariants as alu
 use Rattle.ia32_insn.specs.declared.insn.Insn.{Insn}
 use Rattle.ia32_insn.specs.declared.insn.Insn.TheVariants as insn
-use Rattle.ia32_insn.specs.Spelling.{Spells, Operand, InRegister, InMemory, operand32, operand8, Row, RowWith, Immediate, Reversed, alu_number}
+use Rattle.ia32_insn.specs.Spelling.{Spells, Operand, InRegister, InMemory, operand32, operand8, Row, RowWith}
+use Rattle.ia32_insn.specs.Spelling.{Immediate, Reversed, alu_number}
 
 -- the bytes begin with a byte that isn't 144
 abbrev pub BeginsOther : List ℕ → Type 0
 BeginsOther bytes = (first : ℕ) × (rest : List ℕ) × (bytes ≡ first ∷ rest) × (first ≢ 144)
 
-row-begins : (first : ℕ) (more : List ℕ) (reg : ℕ) (operand : Operand) (bytes : List ℕ) → first ≢ 144 → Row (first ∷ more) reg operand bytes → BeginsOther bytes
+row-begins : (first : ℕ) (more : List ℕ) (reg : ℕ) (operand : Operand) (bytes : List ℕ) → first ≢ 144
+    → Row (first ∷ more) reg operand bytes → BeginsOther bytes
 row-begins first more reg operand bytes other (fields, whole, has) = (first, more ++ fields, whole, other)
 
-row_with-begins : (first : ℕ) (more : List ℕ) (reg : ℕ) (operand : Operand) (n : ℕ) (z : ℤ) (bytes : List ℕ) → first ≢ 144 → RowWith (first ∷ more) reg operand n z bytes → BeginsOther bytes
-row_with-begins first more reg operand n z bytes other (fields, rest, whole, has, reads) = (first, more ++ (fields ++ rest), whole ∙ ap (λ (l : List ℕ). first ∷ l) (append_assoc more fields rest), other)
+row_with-begins : (first : ℕ) (more : List ℕ) (reg : ℕ) (operand : Operand) (n : ℕ) (z : ℤ) (bytes : List ℕ)
+    → first ≢ 144 → RowWith (first ∷ more) reg operand n z bytes → BeginsOther bytes
+row_with-begins first more reg operand n z bytes other (fields, rest, whole, has, reads) =
+    (first, more ++ (fields ++ rest), whole ∙ ap (λ (l : List ℕ). first ∷ l) (append_assoc more fields rest), other)
 
-immediate-begins : (first : ℕ) (more : List ℕ) (n : ℕ) (z : ℤ) (bytes : List ℕ) → first ≢ 144 → Immediate (first ∷ more) n z bytes → BeginsOther bytes
+immediate-begins : (first : ℕ) (more : List ℕ) (n : ℕ) (z : ℤ) (bytes : List ℕ) → first ≢ 144
+    → Immediate (first ∷ more) n z bytes → BeginsOther bytes
 immediate-begins first more n z bytes other (rest, whole, reads) = (first, more ++ rest, whole, other)
 
-reversed-begins : (first : ℕ) (more : List ℕ) (operand : Operand) (source : ℕ) (bytes : List ℕ) → first ≢ 144 → Reversed (first ∷ more) operand source bytes → BeginsOther bytes
-reversed-begins first more (InRegister number) source bytes other h = row-begins first more number (InRegister source) bytes other h
+reversed-begins : (first : ℕ) (more : List ℕ) (operand : Operand) (source : ℕ) (bytes : List ℕ) → first ≢ 144
+    → Reversed (first ∷ more) operand source bytes → BeginsOther bytes
+reversed-begins first more (InRegister number) source bytes other h =
+    row-begins first more number (InRegister source) bytes other h
 reversed-begins first more (InMemory m) source bytes other h = absurd h
 
 -- the instructions that selection and the routines are made of
@@ -52,20 +60,32 @@ alu_other alu.Xor k h e = omega arith
 alu_other alu.Cmp k h e = omega arith
 
 pub common-begins : (i : Insn) (bytes : List ℕ) → IsCommon i → Spells i bytes → BeginsOther bytes
-common-begins (insn.Mov operand r) bytes c (inl h) = row-begins 137 [] (number32 r) (operand32 operand) bytes (λ e. omega arith) h
-common-begins (insn.Mov operand r) bytes c (inr h) = reversed-begins 139 [] (operand32 operand) (number32 r) bytes (λ e. omega arith) h
+common-begins (insn.Mov operand r) bytes c (inl h) =
+    row-begins 137 [] (number32 r) (operand32 operand) bytes (λ e. omega arith) h
+common-begins (insn.Mov operand r) bytes c (inr h) =
+    reversed-begins 139 [] (operand32 operand) (number32 r) bytes (λ e. omega arith) h
 common-begins (insn.MovLoad r m) bytes c h = row-begins 139 [] (number32 r) (InMemory m) bytes (λ e. omega arith) h
-common-begins (insn.MovImm (rm.Reg r) z) bytes c (inl h) = immediate-begins (184 + number32 r) [] 4 z bytes (λ e. omega arith) h
-common-begins (insn.MovImm (rm.Reg r) z) bytes c (inr h) = row_with-begins 199 [] 0 (InRegister (number32 r)) 4 z bytes (λ e. omega arith) h
-common-begins (insn.MovImm (rm.Mem m) z) bytes c h = row_with-begins 199 [] 0 (InMemory m) 4 z bytes (λ e. omega arith) h
-common-begins (insn.MovZx8 r operand) bytes c h = row-begins 15 (182 ∷ []) (number32 r) (operand8 operand) bytes (λ e. omega arith) h
+common-begins (insn.MovImm (rm.Reg r) z) bytes c (inl h) =
+    immediate-begins (184 + number32 r) [] 4 z bytes (λ e. omega arith) h
+common-begins (insn.MovImm (rm.Reg r) z) bytes c (inr h) =
+    row_with-begins 199 [] 0 (InRegister (number32 r)) 4 z bytes (λ e. omega arith) h
+common-begins (insn.MovImm (rm.Mem m) z) bytes c h =
+    row_with-begins 199 [] 0 (InMemory m) 4 z bytes (λ e. omega arith) h
+common-begins (insn.MovZx8 r operand) bytes c h =
+    row-begins 15 (182 ∷ []) (number32 r) (operand8 operand) bytes (λ e. omega arith) h
 common-begins (insn.Lea r m) bytes c h = row-begins 141 [] (number32 r) (InMemory m) bytes (λ e. omega arith) h
-common-begins (insn.Alu op operand r) bytes c (inl h) = row-begins (8 * alu_number op + 1) [] (number32 r) (operand32 operand) bytes (alu_other op 1 (omega arith)) h
-common-begins (insn.Alu op operand r) bytes c (inr h) = reversed-begins (8 * alu_number op + 3) [] (operand32 operand) (number32 r) bytes (alu_other op 3 (omega arith)) h
-common-begins (insn.AluImm op operand z) bytes c (inl h) = row_with-begins 131 [] (alu_number op) (operand32 operand) 1 z bytes (λ e. omega arith) h
-common-begins (insn.AluImm op operand z) bytes c (inr h) = row_with-begins 129 [] (alu_number op) (operand32 operand) 4 z bytes (λ e. omega arith) h
-common-begins (insn.Push (rm.Reg r)) bytes c (inl h) = (80 + number32 r, [], h, λ e. let below = number32_below r in omega arith)
-common-begins (insn.Push (rm.Reg r)) bytes c (inr h) = row-begins 255 [] 6 (InRegister (number32 r)) bytes (λ e. omega arith) h
+common-begins (insn.Alu op operand r) bytes c (inl h) =
+    row-begins (8 * alu_number op + 1) [] (number32 r) (operand32 operand) bytes (alu_other op 1 (omega arith)) h
+common-begins (insn.Alu op operand r) bytes c (inr h) =
+    reversed-begins (8 * alu_number op + 3) [] (operand32 operand) (number32 r) bytes (alu_other op 3 (omega arith)) h
+common-begins (insn.AluImm op operand z) bytes c (inl h) =
+    row_with-begins 131 [] (alu_number op) (operand32 operand) 1 z bytes (λ e. omega arith) h
+common-begins (insn.AluImm op operand z) bytes c (inr h) =
+    row_with-begins 129 [] (alu_number op) (operand32 operand) 4 z bytes (λ e. omega arith) h
+common-begins (insn.Push (rm.Reg r)) bytes c (inl h) =
+    (80 + number32 r, [], h, λ e. let below = number32_below r in omega arith)
+common-begins (insn.Push (rm.Reg r)) bytes c (inr h) =
+    row-begins 255 [] 6 (InRegister (number32 r)) bytes (λ e. omega arith) h
 common-begins (insn.Push (rm.Mem m)) bytes c h = row-begins 255 [] 6 (InMemory m) bytes (λ e. omega arith) h
 common-begins (insn.Pop r) bytes c h = (88 + number32 r, [], h, λ e. let below = number32_below r in omega arith)
 common-begins (insn.Call distance) bytes c h = immediate-begins 232 [] 4 distance bytes (λ e. omega arith) h

@@ -37,8 +37,10 @@ pub none-beyond-objects : NoneBeyondTheObjects
 none-beyond-objects code active frames k word beyond h = let within = h.0 in omega arith
 
 -- the first of the calls that wait
-first-waits : (code : Code) (g : graph.State) (s : machine.State) (active : List Activation) (frames : List ℕ) (w : Waiting)
-    (waiting : List Waiting) (older : List ℕ) → WaitFrom code active frames s g.current (word_of Ebp s) (w ∷ waiting) older
+first-waits : (code : Code) (g : graph.State) (s : machine.State) (active : List Activation) (frames : List ℕ)
+    (w : Waiting)
+    (waiting : List Waiting) (older : List ℕ)
+        → WaitFrom code active frames s g.current (word_of Ebp s) (w ∷ waiting) older
     → WaitsForCurrent code g s w
 first-waits code g s active frames w waiting [] h = absurd h
 first-waits code g s active frames w waiting (o ∷ older) h =
@@ -61,7 +63,8 @@ waiting-calls code input g s w waiting shown is =
     first-waits code g s (active_of g) shown.frames w waiting shown.older (subst C is shown.chain)
 
 -- what no call waits for is main
-main-oldest : (code : Code) (g : graph.State) (s : machine.State) (active : List Activation) (frames : List ℕ) (older : List ℕ)
+main-oldest : (code : Code) (g : graph.State) (s : machine.State) (active : List Activation) (frames : List ℕ)
+    (older : List ℕ)
     → WaitFrom code active frames s g.current (word_of Ebp s) [] older
     → (g.current.function ≡ code.program.main) × (g.current.arguments ≡ [])
 main-oldest code g s active frames [] h = (h.0, h.1)

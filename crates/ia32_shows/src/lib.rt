@@ -2,8 +2,8 @@
 //! stand (`specs/Placements.antt`), and the relation between the two states (`specs/Shows.antt`), with the runs of
 //! the machine that lead from one to the other (`specs/Paths.antt`).
 //!
-//! What it means that code follows its program, step by step and in whole runs, for any list of graphs and any placement,
-//! is in `specs/Follows.antt`; whole runs follow from single steps (`whole_runs`).
+//! What it means that code follows its program, step by step and in whole runs, for any list of graphs and any
+//! placement, is in `specs/Follows.antt`; whole runs follow from single steps (`whole_runs`).
 #![tactic(auto)]
 
 mod laws;

@@ -47,16 +47,24 @@ complement-fits n h =
 
 -- what four bytes read as is of 32 bits
 reads-fits : (z : ℤ) (bytes : List ℕ) → EachByte bytes → ReadsSigned 4 bytes z → FitsSigned w32 z
-reads-fits z bytes each h = subst (FitsSigned w32) h.reads (complement-fits (little_number 4 bytes) (little_from-lt 0 4 bytes each))
+reads-fits z bytes each h = subst (FitsSigned w32) h.reads
+    (complement-fits (little_number 4 bytes) (little_from-lt 0 4 bytes each))
 
 -- the number of a MOV that these bytes spell
-mov-fits : (r : Reg32) (z : ℤ) (bytes : List ℕ) → EachByte bytes → Spells (insn.MovImm (rm.Reg r) z) bytes → FitsSigned w32 z
-mov-fits r z bytes each (inl (rest, whole, reads)) = reads-fits z rest (bytes-back (_ ∷ []) rest (subst EachByte whole each)) reads
-mov-fits r z bytes each (inr (fields, rest, whole, has, reads)) = reads-fits z rest (bytes-back fields rest (bytes-back (199 ∷ []) (fields ++ rest) (subst EachByte whole each))) reads
+mov-fits : (r : Reg32) (z : ℤ) (bytes : List ℕ) → EachByte bytes → Spells (insn.MovImm (rm.Reg r) z) bytes
+    → FitsSigned w32 z
+mov-fits r z bytes each (inl (rest, whole, reads)) =
+    reads-fits z rest (bytes-back (_ ∷ []) rest (subst EachByte whole each)) reads
+mov-fits r z bytes each (inr (fields, rest, whole, has, reads)) =
+    reads-fits z rest (bytes-back fields rest (bytes-back (199 ∷ []) (fields ++ rest) (subst EachByte whole each)))
+    reads
 
 -- the number of a MOV that is ready
-pub ready-fits : (site : Site) (r : Reg32) (z : ℤ) (items : List Item) (s : machine.State) → AreBytes site.text → ReadyAt site (item.Plain (insn.MovImm (rm.Reg r) z) ∷ items) s → FitsSigned w32 z
+pub ready-fits : (site : Site) (r : Reg32) (z : ℤ) (items : List Item) (s : machine.State) → AreBytes site.text
+    → ReadyAt site (item.Plain (insn.MovImm (rm.Reg r) z) ∷ items) s → FitsSigned w32 z
 ready-fits site r z items s each ready =
     let first : List ℕ = ready.stand.0 in
-    let here : EachByte ready.bytes = bytes-front ready.bytes ready.here.rest (bytes-back ready.here.done (ready.bytes ++ ready.here.rest) (subst EachByte ready.here.whole (each-byte site.text each))) in
+    let here : EachByte ready.bytes = bytes-front ready.bytes ready.here.rest
+        (bytes-back ready.here.done (ready.bytes ++ ready.here.rest)
+        (subst EachByte ready.here.whole (each-byte site.text each))) in
     mov-fits r z first (bytes-front first ready.stand.1 (subst EachByte ready.stand.2 here)) ready.stand.3

@@ -37,7 +37,8 @@ call-keeps slot esp some b apart (inl far) = (apart, inl (omega arith))
 call-keeps slot esp some b apart (inr far) = (apart, inr (omega arith))
 
 -- the step of `putchar`
-pub putchar-follows : PutcharRow → (x : Setup) (input : List ℕ) (g : graph.State) (s : machine.State) (d a : ℕ) → IsSetup x → AtMain x input g s → FitsOp x.flow (op.Putchar d a) → RowAt x g (op.Putchar d a) s
+pub putchar-follows : PutcharRow → (x : Setup) (input : List ℕ) (g : graph.State) (s : machine.State) (d a : ℕ)
+    → IsSetup x → AtMain x input g s → FitsOp x.flow (op.Putchar d a) → RowAt x g (op.Putchar d a) s
     → FollowsMain x input s g (act (one_graph x.flow) (main_state g) (op.Putchar d a))
 putchar-follows law x input g s d a h at fits r =
     let to = has-slot x d Two h fits.0 in
@@ -47,15 +48,22 @@ putchar-follows law x input g s d a h at fits r =
     let small = h.has_slots.small in
     let esp = at.framed.esp in
     let ebp = at.ebp in
-    given-number (FollowsMain x input s g) (slice_get g.current.variables a) (puts (one_graph x.flow) (main_state g) d) tt (λ n e.
+    given-number (FollowsMain x input s g) (slice_get g.current.variables a) (puts (one_graph x.flow) (main_state g) d)
+        tt (λ n e.
     let held = at.variables a (Number n) (slot_at x.slots a) e from.there in
     let byte : ℕ = held.0 % 256 in
-    let wrote = law (site_in x) (frame_of x.flow) r.rest (slot_at x.slots d) (slot_at x.slots a) held.0 s at.framed (omega arith) (routine-stands x s h) r.ready from.inside to.inside held.1 (plain-fits (Number n) held.0 held.2) in
+    let wrote = law (site_in x) (frame_of x.flow) r.rest (slot_at x.slots d) (slot_at x.slots a) held.0 s at.framed
+        (omega arith) (routine-stands x s h) r.ready from.inside to.inside held.1
+        (plain-fits (Number n) held.0 held.2) in
     let u : machine.State = wrote.0 in
     let K : ℕ → ℕ → Type 0 = OutsideCall (word_of Ebp s - slot_at x.slots d) (word_of Esp s) in
     let is : byte ≡ low_byte n = ap (λ (w : ℕ). w % 256) held.2.1 in
-    let output : s.written ++ byte ∷ [] ≡ g.written ++ low_byte n ∷ [] = ap (λ (l : List ℕ). l ++ byte ∷ []) at.written ∙ ap (λ (k : ℕ). g.written ++ k ∷ []) is in
-    let went : Went (site_in x) (frame_of x.flow) r.rest K (g.written ++ low_byte n ∷ []) s u = subst (λ (out : List ℕ). Went (site_in x) (frame_of x.flow) r.rest K out s u) output wrote.1.went in
+    let output : s.written ++ byte ∷ [] ≡ g.written ++ low_byte n ∷ [] = ap (λ (l : List ℕ). l ++ byte ∷ []) at.written
+        ∙ ap (λ (k : ℕ). g.written ++ k ∷ []) is in
+    let went : Went (site_in x) (frame_of x.flow) r.rest K (g.written ++ low_byte n ∷ []) s u =
+        subst (λ (out : List ℕ). Went (site_in x) (frame_of x.flow) r.rest K out s u) output wrote.1.went in
     let byte_fits : FitsSigned w32 (pos (low_byte n)) = fits_signed_from_abs w32 (pos (low_byte n)) (omega arith) in
-    write-follows x input g s u K r.rest d (Number (pos (low_byte n))) byte (g.written ++ low_byte n ∷ []) (following g.point (points_of x.flow g.block)) h at to refl r.follows (call-keeps (word_of Ebp s - slot_at x.slots d) (word_of Esp s) (omega arith)) went wrote.1.same
+    write-follows x input g s u K r.rest d (Number (pos (low_byte n))) byte (g.written ++ low_byte n ∷ [])
+        (following g.point (points_of x.flow g.block)) h at to refl r.follows
+        (call-keeps (word_of Ebp s - slot_at x.slots d) (word_of Esp s) (omega arith)) went wrote.1.same
     (byte_fits, is))

@@ -1,5 +1,6 @@
 -- A code over slots and a state of its program by their parts, so that what is asked of them computes.
-use Rattle.std.proofs.Common.{◌≡◌, ℕ, ◌+◌, ◌*◌, ◌/◌, ◌<◌, ◌≤◌, List, [], ◌∷◌, length, refl, ap, ◌∙◌, arith, length-append}
+use Rattle.std.proofs.Common.{◌≡◌, ℕ, ◌+◌, ◌*◌, ◌/◌, ◌<◌, ◌≤◌, List, [], ◌∷◌, length, refl, ap, ◌∙◌, arith}
+use Rattle.std.proofs.Common.{length-append}
 use Rattle.pcc_base.specs.Bytes.{zeros}
 use Rattle.ia32_insn.specs.Items.{Symbols, Places, text_start, round_up, data_bytes, data_memory, data_start, stack_end}
 use Rattle.flow_graph.specs.Graphs.{Flow}
@@ -32,13 +33,15 @@ code_in x =
 
 -- the site of its only function
 abbrev pub site_in : Setup → Site
-site_in x = record { symbols = x.symbols; places = x.places; text = x.text; low = data_start x.text; high = stack_end x.text [] }
+site_in x = record { symbols = x.symbols; places = x.places; text = x.text; low = data_start x.text; high =
+    stack_end x.text [] }
 
 -- the state with its current call that of main, for which no call waits
 abbrev pub main_state : graph.State → graph.State
 main_state g =
     record g {
-      current = record { function = 0; arguments = g.current.arguments; variables = g.current.variables; arrays = g.current.arrays };
+      current = record { function = 0; arguments = g.current.arguments; variables = g.current.variables; arrays =
+          g.current.arrays };
       waiting = [];
     }
 

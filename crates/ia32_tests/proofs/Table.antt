@@ -50,11 +50,52 @@ point_number : (m n : ℕ) → item.Point m ≡ item.Point n → m ≡ n
 point_number m n e = cc
 
 labels_once : StandOnce item.Label from_0
-labels_once = (once_other item.Label (item.Point 1) from_1 (λ n e. (cc)) (once_mark item.Label (item.Label 7) from_2 (absent_more (item.Label 7) (item.Plain insn.Nop) from_3 (λ e. (cc)) (absent_more (item.Label 7) (item.JumpIf E 3) from_4 (λ e. (cc)) (absent_more (item.Label 7) (item.CallFunction 2) from_5 (λ e. (cc)) (absent_more (item.Label 7) (item.AddressOf Eax 5) from_6 (λ e. (cc)) (absent_more (item.Label 7) (item.JumpTo 7) from_7 (λ e. (cc)) (absent_more (item.Label 7) (item.Label 3) from_8 (λ e. absurd (omega (arith, label_number 3 7 e))) (absent_more (item.Label 7) (item.Point 3) from_9 (λ e. (cc)) (absent_more (item.Label 7) (item.Plain insn.Ret) from_10 (λ e. (cc)) (absent_none (item.Label 7)))))))))) (once_other item.Label (item.Plain insn.Nop) from_3 (λ n e. (cc)) (once_other item.Label (item.JumpIf E 3) from_4 (λ n e. (cc)) (once_other item.Label (item.CallFunction 2) from_5 (λ n e. (cc)) (once_other item.Label (item.AddressOf Eax 5) from_6 (λ n e. (cc)) (once_other item.Label (item.JumpTo 7) from_7 (λ n e. (cc)) (once_mark item.Label (item.Label 3) from_8 (absent_more (item.Label 3) (item.Point 3) from_9 (λ e. (cc)) (absent_more (item.Label 3) (item.Plain insn.Ret) from_10 (λ e. (cc)) (absent_none (item.Label 3)))) (once_other item.Label (item.Point 3) from_9 (λ n e. (cc)) (once_other item.Label (item.Plain insn.Ret) from_10 (λ n e. (cc)) (once_none item.Label)))))))))))
+labels_once = (once_other item.Label (item.Point 1) from_1 (λ n e. (cc))
+    (once_mark item.Label (item.Label 7) from_2
+    (absent_more (item.Label 7) (item.Plain insn.Nop) from_3 (λ e. (cc))
+    (absent_more (item.Label 7) (item.JumpIf E 3) from_4 (λ e. (cc))
+    (absent_more (item.Label 7) (item.CallFunction 2) from_5 (λ e. (cc))
+    (absent_more (item.Label 7) (item.AddressOf Eax 5) from_6 (λ e. (cc))
+    (absent_more (item.Label 7) (item.JumpTo 7) from_7 (λ e. (cc))
+    (absent_more (item.Label 7) (item.Label 3) from_8 (λ e. absurd (omega (arith, label_number 3 7 e)))
+    (absent_more (item.Label 7) (item.Point 3) from_9 (λ e. (cc))
+    (absent_more (item.Label 7) (item.Plain insn.Ret) from_10 (λ e. (cc)) (absent_none (item.Label 7))))))))))
+    (once_other item.Label (item.Plain insn.Nop) from_3 (λ n e. (cc))
+    (once_other item.Label (item.JumpIf E 3) from_4 (λ n e. (cc))
+    (once_other item.Label (item.CallFunction 2) from_5 (λ n e. (cc))
+    (once_other item.Label (item.AddressOf Eax 5) from_6 (λ n e. (cc))
+    (once_other item.Label (item.JumpTo 7) from_7 (λ n e. (cc))
+    (once_mark item.Label (item.Label 3) from_8
+    (absent_more (item.Label 3) (item.Point 3) from_9 (λ e. (cc))
+    (absent_more (item.Label 3) (item.Plain insn.Ret) from_10 (λ e. (cc)) (absent_none (item.Label 3))))
+    (once_other item.Label (item.Point 3) from_9 (λ n e. (cc))
+    (once_other item.Label (item.Plain insn.Ret) from_10 (λ n e. (cc)) (once_none item.Label)))))))))))
 
 points_once : StandOnce item.Point from_0
-points_once = (once_mark item.Point (item.Point 1) from_1 (absent_more (item.Point 1) (item.Label 7) from_2 (λ e. (cc)) (absent_more (item.Point 1) (item.Plain insn.Nop) from_3 (λ e. (cc)) (absent_more (item.Point 1) (item.JumpIf E 3) from_4 (λ e. (cc)) (absent_more (item.Point 1) (item.CallFunction 2) from_5 (λ e. (cc)) (absent_more (item.Point 1) (item.AddressOf Eax 5) from_6 (λ e. (cc)) (absent_more (item.Point 1) (item.JumpTo 7) from_7 (λ e. (cc)) (absent_more (item.Point 1) (item.Label 3) from_8 (λ e. (cc)) (absent_more (item.Point 1) (item.Point 3) from_9 (λ e. absurd (omega (arith, point_number 3 1 e))) (absent_more (item.Point 1) (item.Plain insn.Ret) from_10 (λ e. (cc)) (absent_none (item.Point 1))))))))))) (once_other item.Point (item.Label 7) from_2 (λ n e. (cc)) (once_other item.Point (item.Plain insn.Nop) from_3 (λ n e. (cc)) (once_other item.Point (item.JumpIf E 3) from_4 (λ n e. (cc)) (once_other item.Point (item.CallFunction 2) from_5 (λ n e. (cc)) (once_other item.Point (item.AddressOf Eax 5) from_6 (λ n e. (cc)) (once_other item.Point (item.JumpTo 7) from_7 (λ n e. (cc)) (once_other item.Point (item.Label 3) from_8 (λ n e. (cc)) (once_mark item.Point (item.Point 3) from_9 (absent_more (item.Point 3) (item.Plain insn.Ret) from_10 (λ e. (cc)) (absent_none (item.Point 3))) (once_other item.Point (item.Plain insn.Ret) from_10 (λ n e. (cc)) (once_none item.Point)))))))))))
+points_once = (once_mark item.Point (item.Point 1) from_1
+    (absent_more (item.Point 1) (item.Label 7) from_2 (λ e. (cc))
+    (absent_more (item.Point 1) (item.Plain insn.Nop) from_3 (λ e. (cc))
+    (absent_more (item.Point 1) (item.JumpIf E 3) from_4 (λ e. (cc))
+    (absent_more (item.Point 1) (item.CallFunction 2) from_5 (λ e. (cc))
+    (absent_more (item.Point 1) (item.AddressOf Eax 5) from_6 (λ e. (cc))
+    (absent_more (item.Point 1) (item.JumpTo 7) from_7 (λ e. (cc))
+    (absent_more (item.Point 1) (item.Label 3) from_8 (λ e. (cc))
+    (absent_more (item.Point 1) (item.Point 3) from_9 (λ e. absurd (omega (arith, point_number 3 1 e)))
+    (absent_more (item.Point 1) (item.Plain insn.Ret) from_10 (λ e. (cc)) (absent_none (item.Point 1)))))))))))
+    (once_other item.Point (item.Label 7) from_2 (λ n e. (cc))
+    (once_other item.Point (item.Plain insn.Nop) from_3 (λ n e. (cc))
+    (once_other item.Point (item.JumpIf E 3) from_4 (λ n e. (cc))
+    (once_other item.Point (item.CallFunction 2) from_5 (λ n e. (cc))
+    (once_other item.Point (item.AddressOf Eax 5) from_6 (λ n e. (cc))
+    (once_other item.Point (item.JumpTo 7) from_7 (λ n e. (cc))
+    (once_other item.Point (item.Label 3) from_8 (λ n e. (cc))
+    (once_mark item.Point (item.Point 3) from_9
+    (absent_more (item.Point 3) (item.Plain insn.Ret) from_10 (λ e. (cc)) (absent_none (item.Point 3)))
+    (once_other item.Point (item.Plain insn.Ret) from_10 (λ n e. (cc)) (once_none item.Point)))))))))))
 
 pub table_can : (items : List Item) → items ≡ from_0 → CanAssemble items
 table_can items e =
-    subst CanAssemble (sym e) (can_assemble from_0 (tt, (tt, ((144 ∷ [], refl), (tt, (tt, (tt, (tt, (tt, (tt, ((195 ∷ [], refl), tt)))))))))) (tt, (tt, (tt, ((7, refl), (tt, (tt, ((1, refl), (tt, (tt, (tt, tt)))))))))) labels_once points_once (omega arith))
+    subst CanAssemble (sym e) (can_assemble from_0
+        (tt, (tt, ((144 ∷ [], refl), (tt, (tt, (tt, (tt, (tt, (tt, ((195 ∷ [], refl), tt))))))))))
+        (tt, (tt, (tt, ((7, refl), (tt, (tt, ((1, refl), (tt, (tt, (tt, tt)))))))))) labels_once points_once
+        (omega arith))

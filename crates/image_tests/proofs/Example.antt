@@ -1,5 +1,6 @@
 -- The sections and objects of the example of the tests can be linked.
-use Rattle.std.specs.Prelude.{◌≡◌, ◌⊎◌, ◌<◌, ◌+◌, ℕ, zero, suc, ◌*◌, pos, negsuc, List, [], ◌∷◌, length, map, slice_get, slice_index_or, Some}
+use Rattle.std.specs.Prelude.{◌≡◌, ◌⊎◌, ◌<◌, ◌+◌, ℕ, zero, suc, ◌*◌, pos, negsuc, List, [], ◌∷◌, length, map, slice_get}
+use Rattle.std.specs.Prelude.{slice_index_or, Some}
 use Rattle.std.specs.List.{filter_map}
 use Rattle.std.proofs.Common.{refl, sym, ap, ◌∙◌, subst, arith, inl}
 use Rattle.std.proofs.lemmas.Option.{same_Some}
@@ -26,34 +27,42 @@ abbrev pub other_items : List Item
 other_items = item.Plain (insn.MovImm (rm.Reg Eax) (pos 5)) ∷ item.Plain insn.Ret ∷ []
 
 pub other_can : (items : List Item) → items ≡ other_items → CanAssemble items
-other_can items e = subst CanAssemble (sym e) (plainly_can other_items (word_to Eax 5 (omega arith), (returned, tt)) (omega arith))
+other_can items e = subst CanAssemble (sym e)
+    (plainly_can other_items (word_to Eax 5 (omega arith), (returned, tt)) (omega arith))
 
 pub example_can : (items : List Item) → items ≡ example_items → CanAssemble items
-example_can items e = subst CanAssemble (sym e) (plainly_can example_items (word_to Eax 3 (omega arith), (returned, tt)) (omega arith))
+example_can items e = subst CanAssemble (sym e)
+    (plainly_can example_items (word_to Eax 3 (omega arith), (returned, tt)) (omega arith))
 
 -- a section that names nothing
-fits_alone : (functions objects f : ℕ) (items : List Item) (s : Section) → IsSection f items s → filter_map target_of items ≡ [] → FitsIn functions objects s
+fits_alone : (functions objects f : ℕ) (items : List Item) (s : Section) → IsSection f items s
+    → filter_map target_of items ≡ [] → FitsIn functions objects s
 fits_alone functions objects f items s is e =
     record {
       named = omega (arith, ap length is.one_symbol);
-      targets = λ j r h. let named = named_target f items s is j r h in let none = ap (λ ts. slice_get ts j) e in absurd (cc);
+      targets = λ j r h. let named = named_target f items s is j r h in let none = ap (λ ts. slice_get ts j) e in
+          absurd (cc);
       inside = follow_inside 0 (length s.bytes.items) s.relocations.items is.apart;
       points = is.points_within;
     }
 
-held_alone : (object : DataObject) → object.width ≡ 1 → object.elements.items ≡ pos 65 ∷ negsuc 0 ∷ [] → CanHold (object_of object ∷ [])
+held_alone : (object : DataObject) → object.width ≡ 1 → object.elements.items ≡ pos 65 ∷ negsuc 0 ∷ []
+    → CanHold (object_of object ∷ [])
 held_alone object w e =
     let size : elements_size (object_of object) ≡ 4 =
     ap (λ (n : ℕ). round_up 4 (n * length object.elements.items)) w ∙ ap (λ zs. round_up 4 (1 * length zs)) e
     in
     record { widths = narrow object w; size = omega (arith, size) }
   where
-    narrow : (object : DataObject) → object.width ≡ 1 → (k : ℕ) (o : Object) → slice_get (object_of object ∷ []) k ≡ Some o → (o.width ≡ 1) ⊎ ((o.width ≡ 2) ⊎ (o.width ≡ 4))
+    narrow : (object : DataObject) → object.width ≡ 1 → (k : ℕ) (o : Object) → slice_get (object_of object ∷ []) k
+        ≡ Some o → (o.width ≡ 1) ⊎ ((o.width ≡ 2) ⊎ (o.width ≡ 4))
     narrow object w zero o e = inl (ap (λ (x : Object). x.width) (sym (same_Some (object_of object) o e)) ∙ w)
     narrow object w (suc k) o e = absurd (cc)
 
-pub example_link : (items : List Item) (section : Section) (sections : List Section) (object : DataObject) (objects : List DataObject) → items ≡ example_items
-    → IsSection 0 items section → length section.bytes.items ≡ items_size items → sections ≡ section ∷ [] → objects ≡ object ∷ []
+pub example_link : (items : List Item) (section : Section) (sections : List Section) (object : DataObject)
+    (objects : List DataObject) → items ≡ example_items
+    → IsSection 0 items section → length section.bytes.items ≡ items_size items → sections ≡ section ∷ [] → objects
+        ≡ object ∷ []
     → object.width ≡ 1 → object.elements.items ≡ pos 65 ∷ negsuc 0 ∷ [] → CanLink sections (map object_of objects) 0
 example_link items section sections object objects e is size s o w z =
     let few : length section.bytes.items ≡ 6 = size ∙ ap items_size e in
@@ -67,31 +76,40 @@ example_link items section sections object objects e is size s o w z =
       held = held_alone object w z;
     }))
   where
-    alone : (section : Section) → FitsIn 1 1 section → (k : ℕ) (s : Section) → slice_get (section ∷ []) k ≡ Some s → FitsIn 1 1 s
+    alone : (section : Section) → FitsIn 1 1 section → (k : ℕ) (s : Section) → slice_get (section ∷ []) k ≡ Some s
+        → FitsIn 1 1 s
     alone section fits zero s e = subst (λ (x : Section). FitsIn 1 1 x) (same_Some section s e) fits
     alone section fits (suc k) s e = absurd (cc)
 
 -- the sections of two functions, the second one's first
-pub two_link : (items others : List Item) (section other : Section) (sections : List Section) (objects : List DataObject) → items ≡ example_items → others ≡ other_items
-    → IsSection 0 items section → IsSection 1 others other → length section.bytes.items ≡ items_size items → length other.bytes.items ≡ items_size others
+pub two_link : (items others : List Item) (section other : Section) (sections : List Section)
+    (objects : List DataObject) → items ≡ example_items → others ≡ other_items
+    → IsSection 0 items section → IsSection 1 others other → length section.bytes.items ≡ items_size items
+        → length other.bytes.items ≡ items_size others
     → sections ≡ other ∷ section ∷ [] → objects ≡ [] → CanLink sections (map object_of objects) 0
 two_link items others section other sections objects e f is are size long s o =
     let few : length section.bytes.items ≡ 6 = size ∙ ap items_size e in
     let short : length other.bytes.items ≡ 6 = long ∙ ap items_size f in
-    let number : function_of section ≡ 0 = ap (λ (symbols : List Symbol). (slice_index_or symbols 0 (record { function = 0; offset = 0 })).function) is.one_symbol in
-    let higher : function_of other ≡ 1 = ap (λ (symbols : List Symbol). (slice_index_or symbols 0 (record { function = 0; offset = 0 })).function) are.one_symbol in
-    let order : order_of (other ∷ section ∷ []) ≡ 1 ∷ 0 ∷ [] = ap (λ (n : ℕ). n ∷ function_of section ∷ []) higher ∙ ap (λ (n : ℕ). 1 ∷ n ∷ []) number in
+    let number : function_of section ≡ 0 = ap
+        (λ (symbols : List Symbol). (slice_index_or symbols 0 (record { function = 0; offset = 0 })).function)
+        is.one_symbol in
+    let higher : function_of other ≡ 1 = ap (λ (symbols : List Symbol).
+        (slice_index_or symbols 0 (record { function = 0; offset = 0 })).function) are.one_symbol in
+    let order : order_of (other ∷ section ∷ []) ≡ 1 ∷ 0 ∷ [] = ap (λ (n : ℕ). n ∷ function_of section ∷ []) higher
+        ∙ ap (λ (n : ℕ). 1 ∷ n ∷ []) number in
     subst (λ (ss : List Section). CanLink ss (map object_of objects) 0) (sym s)
     (subst (λ (os : List DataObject). CanLink (other ∷ section ∷ []) (map object_of os) 0) (sym o)
     (record {
       main_there = omega arith;
       order = subst (IsOrder 2) (sym order) two_order;
-      each = both (fits_alone 2 0 0 items section is (ap (filter_map target_of) e)) (fits_alone 2 0 1 others other are (ap (filter_map target_of) f));
+      each = both (fits_alone 2 0 0 items section is (ap (filter_map target_of) e))
+          (fits_alone 2 0 1 others other are (ap (filter_map target_of) f));
       code = omega (arith, few, short);
       held = record { widths = λ k o e. absurd (cc); size = omega arith };
     }))
   where
-    both : FitsIn 2 0 section → FitsIn 2 0 other → (k : ℕ) (s : Section) → slice_get (other ∷ section ∷ []) k ≡ Some s → FitsIn 2 0 s
+    both : FitsIn 2 0 section → FitsIn 2 0 other → (k : ℕ) (s : Section) → slice_get (other ∷ section ∷ []) k ≡ Some s
+        → FitsIn 2 0 s
     both one two zero s e = subst (FitsIn 2 0) (same_Some other s e) two
     both one two (suc zero) s e = subst (FitsIn 2 0) (same_Some section s e) one
     both one two (suc (suc k)) s e = absurd (cc)

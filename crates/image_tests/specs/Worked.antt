@@ -2,7 +2,8 @@
 use Rattle.std.specs.Prelude.{ℤ, pos, [], ◌∷◌, codes, Some}
 use Rattle.c_tree.specs.declared.expression.BinaryOp.TheVariants.{Add}
 use Rattle.c_tree.specs.declared.types.IntegerType.TheVariants.{Int}
-use Rattle.c_tree.specs.Program.{int, Expression, Constant, Read, Binary, Assign, Putchar, LocalPlace, Scalar, Declare, Evaluate, Return, Statements, Done, Next, Function, Program}
+use Rattle.c_tree.specs.Program.{int, Expression, Constant, Read, Binary, Assign, Putchar, LocalPlace, Scalar, Declare}
+use Rattle.c_tree.specs.Program.{Evaluate, Return, Statements, Done, Next, Function, Program}
 
 -- the local x, and a sum of it and a number
 abbrev pub worked_local : Expression
@@ -19,7 +20,8 @@ worked_body =
 
 abbrev pub worked_main : Function
 worked_main =
-    record { name = codes "main"; result = int; parameters = 0; locals = record { name = codes "x"; of = int } ∷ []; arrays = []; body = worked_body }
+    record { name = codes "main"; result = int; parameters = 0; locals = record { name = codes "x"; of = int } ∷ [];
+        arrays = []; body = worked_body }
 
 abbrev pub worked_program : Program
 worked_program = record { objects = []; functions = worked_main ∷ []; main = 0 }

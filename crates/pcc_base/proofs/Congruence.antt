@@ -1,5 +1,6 @@
 -- A number, its Euclidean remainder, and the remainder less the divisor are congruent.
-use Rattle.std.proofs.Common.{ℕ, suc, ℤ, pos, neg_ℤ, ◌+ℤ◌, ◌-ℤ◌, ◌*ℤ◌, ◌<ℤ◌, ◌≤ℤ◌, ◌≡◌, ◌<◌, ◌+◌, ◌-◌, ◌*◌, ◌/◌, ◌^◌, arith, ap, sym, ◌∙◌, subst}
+use Rattle.std.proofs.Common.{ℕ, suc, ℤ, pos, neg_ℤ, ◌+ℤ◌, ◌-ℤ◌, ◌*ℤ◌, ◌<ℤ◌, ◌≤ℤ◌, ◌≡◌, ◌<◌, ◌+◌, ◌-◌, ◌*◌, ◌/◌, ◌^◌}
+use Rattle.std.proofs.Common.{arith, ap, sym, ◌∙◌, subst}
 use lib.IntN.{negsuc, suc_ℤ}
 use Rattle.std.proofs.Math.IntN.{suc_ℤ-*ℤ}
 use Rattle.std.proofs.Math.Nat.{pow-succ'}
@@ -26,7 +27,8 @@ close_multiples : (j i n : ℕ) → j * n < i * n + n → i * n < j * n + n → 
 close_multiples j i n p q = grind arith
 
 -- congruent numbers less than the modulus apart are one
-congruent_once : (h : ℕ) (z a b k l : ℤ) → neg_ℤ (pos h) ≤ℤ a → a <ℤ pos h → neg_ℤ (pos h) ≤ℤ b → b <ℤ pos h → z ≡ a +ℤ (k *ℤ pos (2 * h)) → z ≡ b +ℤ (l *ℤ pos (2 * h)) → a ≡ b
+congruent_once : (h : ℕ) (z a b k l : ℤ) → neg_ℤ (pos h) ≤ℤ a → a <ℤ pos h → neg_ℤ (pos h) ≤ℤ b → b <ℤ pos h → z
+    ≡ a +ℤ (k *ℤ pos (2 * h)) → z ≡ b +ℤ (l *ℤ pos (2 * h)) → a ≡ b
 congruent_once h z a b (pos j) (pos i) p q r s e f =
     let same : j ≡ i = close_multiples j i (2 * h) (omega (arith, ints)) (omega (arith, ints)) in
     let product : j * (2 * h) ≡ i * (2 * h) = ap (λ x. x * (2 * h)) same in

@@ -1,7 +1,11 @@
 -- The numbers and names under which faults are printed.
 use Rattle.std.specs.Prelude.{ℕ, List, codes}
 use Rattle.pcc_base.specs.declared.fault.FaultKind.{FaultKind}
-use Rattle.pcc_base.specs.declared.fault.FaultKind.TheVariants.{BadByte, BadNumber, Unclosed, BadEscape, Syntax, Unsupported, TooDeep, Redeclared, Undeclared, TypeRule, NotAssignable, ArgumentCount, ArraySize, Initialiser, Jump, CaseLabel, PointerUse, NoMain, NoBody, BadBoard, NotYet}
+use Rattle.pcc_base.specs.declared.fault.FaultKind.TheVariants.{BadByte, BadNumber, Unclosed, BadEscape, Syntax}
+use Rattle.pcc_base.specs.declared.fault.FaultKind.TheVariants.{Unsupported, TooDeep, Redeclared, Undeclared, TypeRule}
+use Rattle.pcc_base.specs.declared.fault.FaultKind.TheVariants.{NotAssignable, ArgumentCount, ArraySize, Initialiser}
+use Rattle.pcc_base.specs.declared.fault.FaultKind.TheVariants.{Jump, CaseLabel, PointerUse, NoMain, NoBody, BadBoard}
+use Rattle.pcc_base.specs.declared.fault.FaultKind.TheVariants.{NotYet}
 
 abbrev pub number_of : FaultKind → ℕ
 number_of BadByte = 1

@@ -1,5 +1,5 @@
-//! Values on the heap. Where memory is wanting, a caller that holds no other value besides has nothing to drop, so these
-//! take along what stands beside.
+//! Values on the heap. Where memory is wanting, a caller that holds no other value besides has nothing to drop, so
+//! these take along what stands beside.
 
 ghost use Rattle.std.specs.Prelude.{◌≡◌, IfOk};
 

@@ -1,5 +1,6 @@
 -- The frame of a function: a slot for each variable of its graph.
-use Rattle.std.proofs.Common.{◌≡◌, ℕ, zero, suc, pos, neg_ℤ, ◌+◌, ◌*◌, ◌≤◌, List, [], ◌∷◌, length, map, refl, ap, ◌∙◌, subst, arith, inl}
+use Rattle.std.proofs.Common.{◌≡◌, ℕ, zero, suc, pos, neg_ℤ, ◌+◌, ◌*◌, ◌≤◌, List, [], ◌∷◌, length, map, refl, ap, ◌∙◌}
+use Rattle.std.proofs.Common.{subst, arith, inl}
 use Rattle.std.specs.Prelude.{sum_by}
 use Rattle.std.specs.List.{AllByRecursion, range_with_len}
 use Rattle.std.proofs.lemmas.List.Sums.{sum_by-cons}
@@ -18,9 +19,11 @@ use Rattle.pcc_compile.specs.Slots.{offset_at, slot_at, slots_for}
 -- ---- slots
 
 -- each of n slots from one on is under the four words and in the frame
-slots_within : (frame a n : ℕ) → 16 + 4 * (a + n) ≤ frame → AllByRecursion (IsSlot frame) (map slot_at (range_with_len a n))
+slots_within : (frame a n : ℕ) → 16 + 4 * (a + n) ≤ frame
+    → AllByRecursion (IsSlot frame) (map slot_at (range_with_len a n))
 slots_within frame a zero h = tt
-slots_within frame a (suc n) h = (record { low = omega arith; high = omega (arith, h) }, slots_within frame (a + 1) n (omega (arith, h)))
+slots_within frame a (suc n) h = (record { low = omega arith; high = omega (arith, h) },
+    slots_within frame (a + 1) n (omega (arith, h)))
 
 -- none of them has a byte in common with one before them
 apart_from : (slot a n : ℕ) → slot + 4 ≤ slot_at a → AllByRecursion (AreApart slot) (map slot_at (range_with_len a n))
@@ -46,7 +49,8 @@ pub record HasFrame (flow : Flow) : Type 0 where
   pub few : length flow.widths ≤ 4096
 
 -- the graph of a function within the frame's limit has a slot for each variable
-function_slots : (f : Function) (flow : Flow) → IsSlotFunction f → IsLowered f flow → IsSlotFlow flow → frame_bound f ≤ 16384 → HasSlots flow (slots_for (length flow.widths))
+function_slots : (f : Function) (flow : Flow) → IsSlotFunction f → IsLowered f flow → IsSlotFlow flow
+    → frame_bound f ≤ 16384 → HasSlots flow (slots_for (length flow.widths))
 function_slots f flow form low slot frame =
     let n = length flow.widths in
     record {
@@ -61,11 +65,13 @@ function_slots f flow form low slot frame =
     }
 
 -- the graph of the function of a program that is compiled has a frame
-pub has_frame : (program : Program) (slot : IsSlotProgram program) (flow : Flow) → IsLowered slot.function flow → IsSlotFlow flow → AreSmall program (one_graph flow) → AllByRecursion IsSmallFrame program.functions
+pub has_frame : (program : Program) (slot : IsSlotProgram program) (flow : Flow) → IsLowered slot.function flow
+    → IsSlotFlow flow → AreSmall program (one_graph flow) → AllByRecursion IsSmallFrame program.functions
     → HasFrame flow
 has_frame program slot flow low slots small frames =
     let f = slot.function in
-    let frame : AllByRecursion IsSmallFrame (f ∷ []) = subst (λ (fs : List Function). AllByRecursion IsSmallFrame fs) slot.one_function frames in
+    let frame : AllByRecursion IsSmallFrame (f ∷ []) =
+        subst (λ (fs : List Function). AllByRecursion IsSmallFrame fs) slot.one_function frames in
     let points : sum_by points_in (flow ∷ []) ≡ points_in flow + 0 = sum_by-cons points_in flow [] in
     record {
       slots = function_slots f flow slot.accepted low slots frame.0;
@@ -84,4 +90,5 @@ distance_below (suc m) = refl
 pub same_slots : (ks : List ℕ) → map distance (map offset_at ks) ≡ map slot_at ks
 same_slots [] = refl
 same_slots (k ∷ ks) =
-    ap (λ (n : ℕ). n ∷ map distance (map offset_at ks)) (distance_below (slot_at k)) ∙ ap (λ (ns : List ℕ). slot_at k ∷ ns) (same_slots ks)
+    ap (λ (n : ℕ). n ∷ map distance (map offset_at ks)) (distance_below (slot_at k))
+        ∙ ap (λ (ns : List ℕ). slot_at k ∷ ns) (same_slots ks)

@@ -11,7 +11,8 @@ use Rattle.pcc_compile.specs.Products.{IsCompiledForm, IsImageOf}
 
 -- ---- law
 
--- Where the graph keeps the program's outcome, and the code is that of the graph, the image of the code's text does what
+-- Where the graph keeps the program's outcome, and the code is that of the graph, the image of the code's text does
+-- what
 -- the program does, by the map of the function's points.
 abbrev pub CompiledDoesAs : Type 0
 CompiledDoesAs =

@@ -1,4 +1,5 @@
--- What a compiled image is worth: for every list of bytes as its input and every number n of turns of the source there is
+-- What a compiled image is worth: for every list of bytes as its input and every number n of turns of the source there
+-- is
 -- a number of machine steps, at least n, with exactly the outcome of those turns.
 use Rattle.std.specs.Prelude.{◌≡◌, ◌≤◌, ℕ, List}
 use Rattle.std.specs.List.{AllByRecursion}
@@ -32,7 +33,8 @@ DoesAs image map program =
     (input : List ℕ) (n : ℕ) → AreBytes input
     → (m : ℕ) × (n ≤ m) × ImageOutcome image map input m (source_outcome program (listed map) input n)
 
--- The image and the map belong to the program: there are graphs of the program, whose code stands in the text that is the
+-- The image and the map belong to the program: there are graphs of the program, whose code stands in the text that is
+-- the
 -- image's, and the map is that of this code.
 pub record BelongsTo (program : Program) (image : List ℕ) (map : Map) : Type 0 where
   pub code : Code

@@ -15,18 +15,23 @@ use Rattle.pcc_driver.specs.declared.report.Report.{Report}
 use Rattle.pcc_driver.specs.declared.report.Report.TheVariants as reports
 
 -- the status after a put: that of want of memory, that of a fault that came, or the line's own
-put_status : (status : ℕ) (answer : Result Unit WriteRefusal) (counts counts' : SinkCounts) → CountsPut counts counts' answer → (status_after status answer ≡ 11) ⊎ (((status_after status answer ≡ 5) × Rose counts.faults counts'.faults) ⊎ (status_after status answer ≡ status))
+put_status : (status : ℕ) (answer : Result Unit WriteRefusal) (counts counts' : SinkCounts)
+    → CountsPut counts counts' answer → (status_after status answer ≡ 11)
+    ⊎ (((status_after status answer ≡ 5) × Rose counts.faults counts'.faults) ⊎ (status_after status answer ≡ status))
 put_status status (Ok done) counts counts' counted = inr (inr refl)
 put_status status (Err put.Failed) counts counts' counted = inr (inl (refl, counted.0))
 put_status status (Err put.NoMemory) counts counts' counted = inl refl
 
 -- the status of the line that is shown is the report's, or that of want of memory
-shown_status : (report shown : Report) (status : ℕ) → IsShown report shown → status ≡ status_of shown → (status ≡ 11) ⊎ (status ≡ status_of report)
+shown_status : (report shown : Report) (status : ℕ) → IsShown report shown → status ≡ status_of shown → (status ≡ 11)
+    ⊎ (status ≡ status_of report)
 shown_status report shown status (inl same) e = inr (e ∙ ap status_of same)
 shown_status report shown status (inr none) e = inl (e ∙ ap status_of none)
 
 -- a status that is neither 5 nor 11 is the report's
-pub ended_status : (command : Command) (report : Report) (counts counts' : SinkCounts) (tells : Type 0) (taken taken' : List ℕ) (result : ℕ) → Ends command report counts counts' tells taken taken' result → (result ≡ 11) ⊎ (((result ≡ 5) × Rose counts.faults counts'.faults) ⊎ (result ≡ status_of report))
+pub ended_status : (command : Command) (report : Report) (counts counts' : SinkCounts) (tells : Type 0)
+    (taken taken' : List ℕ) (result : ℕ) → Ends command report counts counts' tells taken taken' result → (result ≡ 11)
+    ⊎ (((result ≡ 5) × Rose counts.faults counts'.faults) ⊎ (result ≡ status_of report))
 ended_status command report counts counts' tells taken taken' result ends =
     elim (put_status (status_of ends.0) ends.2.0 counts counts' ends.2.1) [
       | inl e ↦ inl (ends.2.3 ∙ e)
@@ -38,40 +43,58 @@ ended_status command report counts counts' tells taken taken' result ends =
     ]
 
 -- too many tokens are told of a source that is compiled
-many_told : (command : Command) (files_tell streams_tell : Type 0) (old new : Files) (streams streams' : Streams) (tokens : ℕ) → CommandTold command files_tell streams_tell old new streams streams' (reports.TooManyTokens tokens) → TokensCause command files_tell old
-many_told (commands.Compile name source) files_tell streams_tell old new streams streams' tokens told = λ f. (told.0 f).1
+many_told : (command : Command) (files_tell streams_tell : Type 0) (old new : Files) (streams streams' : Streams)
+    (tokens : ℕ) → CommandTold command files_tell streams_tell old new streams streams' (reports.TooManyTokens tokens)
+    → TokensCause command files_tell old
+many_told (commands.Compile name source) files_tell streams_tell old new streams streams' tokens told =
+    λ f. (told.0 f).1
 many_told (commands.Run image) files_tell streams_tell old new streams streams' tokens told = absurd told.0
 many_told commands.Usage files_tell streams_tell old new streams streams' tokens told =
     let other : 3 ≡ 2 = ap status_of told.0 in
     absurd (omega (arith, other))
 
 -- a report of status 3 is of a file that is too long, or of too many tokens
-limit_report : (report : Report) (command : Command) (files_tell streams_tell : Type 0) (old new : Files) (streams streams' : Streams) (before after : Counts) → HasCause report before after → CommandTold command files_tell streams_tell old new streams streams' report → status_of report ≡ 3 → Rose before.files.too_long after.files.too_long ⊎ TokensCause command files_tell old
-limit_report (reports.TooLong file) command files_tell streams_tell old new streams streams' before after cause told e = inl cause.files.0
-limit_report (reports.TooManyTokens tokens) command files_tell streams_tell old new streams streams' before after cause told e =
+limit_report : (report : Report) (command : Command) (files_tell streams_tell : Type 0) (old new : Files)
+    (streams streams' : Streams) (before after : Counts) → HasCause report before after
+    → CommandTold command files_tell streams_tell old new streams streams' report → status_of report ≡ 3
+    → Rose before.files.too_long after.files.too_long ⊎ TokensCause command files_tell old
+limit_report (reports.TooLong file) command files_tell streams_tell old new streams streams' before after cause told e =
+    inl cause.files.0
+limit_report (reports.TooManyTokens tokens) command files_tell streams_tell old new streams streams' before after cause
+    told e =
     inr (many_told command files_tell streams_tell old new streams streams' tokens told)
-limit_report report command files_tell streams_tell old new streams streams' before after cause told e = absurd (omega (arith, e))
+limit_report report command files_tell streams_tell old new streams streams' before after cause told e =
+    absurd (omega (arith, e))
 
 -- a report of status 4 is of a fault of reading
-read_report : (report : Report) (before after : Counts) → HasCause report before after → status_of report ≡ 4 → Rose before.files.read_faults after.files.read_faults ⊎ Rose before.input after.input
+read_report : (report : Report) (before after : Counts) → HasCause report before after → status_of report ≡ 4
+    → Rose before.files.read_faults after.files.read_faults ⊎ Rose before.input after.input
 read_report (reports.ReadFault file) before after cause e = inl cause.files.0
 read_report reports.InputFault before after cause e = inr cause.streams.0
 read_report report before after cause e = absurd (omega (arith, e))
 
 -- a report of status 5 is of a fault of writing
-write_report : (report : Report) (before after : Counts) → HasCause report before after → status_of report ≡ 5 → Rose before.files.write_faults after.files.write_faults ⊎ Rose before.out.faults after.out.faults
+write_report : (report : Report) (before after : Counts) → HasCause report before after → status_of report ≡ 5
+    → Rose before.files.write_faults after.files.write_faults ⊎ Rose before.out.faults after.out.faults
 write_report (reports.WriteFault file) before after cause e = inl cause.files.0
 write_report reports.OutputFault before after cause e = inr cause.streams.1
 write_report report before after cause e = absurd (omega (arith, e))
 
 -- a report of status 6 is of a missing file
-missing_report : (report : Report) (before after : Counts) → HasCause report before after → status_of report ≡ 6 → Rose before.files.missing after.files.missing
+missing_report : (report : Report) (before after : Counts) → HasCause report before after → status_of report ≡ 6
+    → Rose before.files.missing after.files.missing
 missing_report (reports.NoFile file) before after cause e = cause.files.0
 missing_report report before after cause e = absurd (omega (arith, e))
 
 -- what a status that is the report's comes from
-pub status_causes : (command : Command) (report : Report) (files_tell streams_tell : Type 0) (old new : Files) (streams streams' : Streams) (before after : Counts) (err err' : SinkCounts) (err_tells : Type 0) (taken taken' : List ℕ) (result : ℕ) → HasCause report before after → CommandTold command files_tell streams_tell old new streams streams' report → Ends command report err err' err_tells taken taken' result → HasCauses command old files_tell before after err err' result
-status_causes command report files_tell streams_tell old new streams streams' before after err err' err_tells taken taken' result cause told ends =
+pub status_causes : (command : Command) (report : Report) (files_tell streams_tell : Type 0) (old new : Files)
+    (streams streams' : Streams) (before after : Counts) (err err' : SinkCounts) (err_tells : Type 0)
+    (taken taken' : List ℕ) (result : ℕ) → HasCause report before after
+    → CommandTold command files_tell streams_tell old new streams streams' report
+    → Ends command report err err' err_tells taken taken' result
+    → HasCauses command old files_tell before after err err' result
+status_causes command report files_tell streams_tell old new streams streams' before after err err' err_tells taken
+    taken' result cause told ends =
     elim (ended_status command report err err' err_tells taken taken' result ends) [
       | inl e ↦ record {
         limit = λ h. absurd (omega (arith, e, h));
@@ -86,7 +109,8 @@ status_causes command report files_tell streams_tell old new streams streams' be
         no_file = λ h. absurd (omega (arith, e, h));
       }
       | inr (inr e) ↦ record {
-        limit = λ h. limit_report report command files_tell streams_tell old new streams streams' before after cause told (sym e ∙ h);
+        limit = λ h. limit_report report command files_tell streams_tell old new streams streams' before after cause
+            told (sym e ∙ h);
         read_fault = λ h. read_report report before after cause (sym e ∙ h);
         write_fault = λ h. elim (write_report report before after cause (sym e ∙ h)) [
           | inl rose ↦ inl rose

@@ -1,5 +1,6 @@
 -- Lemmas on what is held under names.
-use Rattle.std.proofs.Common.{◌≡◌, ◌≢◌, ◌++◌, length, length-append, arith, ℕ, Bool, true, false, List, Err, subst, sym, refl, ap, ◌∙◌, inl, inr}
+use Rattle.std.proofs.Common.{◌≡◌, ◌≢◌, ◌++◌, length, length-append, arith, ℕ, Bool, true, false, List, Err, subst, sym}
+use Rattle.std.proofs.Common.{refl, ap, ◌∙◌, inl, inr}
 use Rattle.std.specs.Prelude.{codes, bytes_eq, ◌⊎◌}
 use Rattle.std.proofs.lemmas.Slice.Eq.{bytes_eq-Decides}
 use Rattle.pcc_outside.specs.Files.{WriteTold}
@@ -27,9 +28,12 @@ same_files name old new others same other =
     ]
 
 -- the first write was refused
-pub first_refused : (refusal : WriteRefusal) (map_name name map_bytes image bytes : List ℕ) (old new : Files) → OnlyFile map_name old new → WriteTold (old map_name) (new map_name) bytes (Err refusal) → WritesTold map_name name map_bytes image old new (report_of_write refusal Map)
+pub first_refused : (refusal : WriteRefusal) (map_name name map_bytes image bytes : List ℕ) (old new : Files)
+    → OnlyFile map_name old new → WriteTold (old map_name) (new map_name) bytes (Err refusal)
+    → WritesTold map_name name map_bytes image old new (report_of_write refusal Map)
 first_refused put.Failed map_name name map_bytes image bytes old new others told = others
-first_refused put.NoMemory map_name name map_bytes image bytes old new others told = inl (same_files map_name old new others told)
+first_refused put.NoMemory map_name name map_bytes image bytes old new others told =
+    inl (same_files map_name old new others told)
 
 -- the name of a map is another name than the image's
 pub other_name : (name map : List ℕ) → map ≡ map_name name → map ≢ name

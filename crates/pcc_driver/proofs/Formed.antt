@@ -18,6 +18,8 @@ every_named [] h = tt
 every_named (f ∷ fs) h = (record { name = h.0.0; locals = every IsNamedLocal f.locals h.0.1 }, every_named fs h.1)
 
 -- so the program is of the form that is compiled
-pub compiled_form : (program : Program) → IsSlotProgram program → AllByRecursion IsNamed program.functions → AllByRecursion (λ (f : Function). frame_bound f ≤ 16384) program.functions → IsCompiledForm program
+pub compiled_form : (program : Program) → IsSlotProgram program → AllByRecursion IsNamed program.functions
+    → AllByRecursion (λ (f : Function). frame_bound f ≤ 16384) program.functions → IsCompiledForm program
 compiled_form program form names frames =
-    record { form = form; names = every_named program.functions names; frames = every IsSmallFrame program.functions frames }
+    record { form = form; names = every_named program.functions names; frames =
+        every IsSmallFrame program.functions frames }

@@ -10,7 +10,8 @@ use Rattle.ia32_machine.specs.Runs.{Gives, GivesSoFar, GivesPart, WritesNext}
 use Rattle.ia32_machine.specs.declared.ends.MachineEnd.{MachineEnd}
 use Rattle.ia32_machine.specs.declared.ends.MachineEnd.TheVariants as machine
 use Rattle.pcc_driver.specs.declared.report.Named.TheVariants.{Source, Map, Image}
-use Rattle.pcc_driver.specs.Answers.{Streams, ImageTold, RunTold, RunGives, RunGivesSoFar, RunGivesPart, Holds, GivesNoMachine, IsNoImage, report_of_end, run_steps}
+use Rattle.pcc_driver.specs.Answers.{Streams, ImageTold, RunTold, RunGives, RunGivesSoFar, RunGivesPart, Holds}
+use Rattle.pcc_driver.specs.Answers.{GivesNoMachine, IsNoImage, report_of_end, run_steps}
 use Rattle.pcc_driver.specs.Headline.{file_limit}
 use Rattle.pcc_driver.specs.declared.report.Report.{Report}
 use Rattle.pcc_driver.specs.declared.report.Report.TheVariants as reports
@@ -20,8 +21,10 @@ pub no_image : (image input : List ℕ) → ((segments : Segments) → Loads ima
 no_image image input none s first = none first.0 first.1
 
 -- the report of bytes that give no machine
-pub no_machine_told : (report : Report) (content : Option (List ℕ)) (image : List ℕ) (streams : Streams) → content ≡ Some image → length image ≤ file_limit → GivesNoMachine image report → RunTold content streams streams report
-no_machine_told reports.NotImage content image streams read small none = ((image, read, small, no_image image streams.left none), refl)
+pub no_machine_told : (report : Report) (content : Option (List ℕ)) (image : List ℕ) (streams : Streams) → content
+    ≡ Some image → length image ≤ file_limit → GivesNoMachine image report → RunTold content streams streams report
+no_machine_told reports.NotImage content image streams read small none =
+    ((image, read, small, no_image image streams.left none), refl)
 no_machine_told reports.NoMemory content image streams read small none = inl refl
 no_machine_told reports.Compiled content image streams read small none = none
 no_machine_told (reports.Exited status) content image streams read small none = absurd none
@@ -39,7 +42,8 @@ no_machine_told (reports.Stopped cause address) content image streams read small
 no_machine_told (reports.BudgetSpent steps) content image streams read small none = absurd none
 
 -- such a report says what the file holds
-pub no_machine_file : (report : Report) (content : Option (List ℕ)) (image : List ℕ) → content ≡ Some image → length image ≤ file_limit → GivesNoMachine image report → ImageTold content report
+pub no_machine_file : (report : Report) (content : Option (List ℕ)) (image : List ℕ) → content ≡ Some image
+    → length image ≤ file_limit → GivesNoMachine image report → ImageTold content report
 no_machine_file reports.NotImage content image read small none = (image, read, small, none)
 no_machine_file (reports.NoFile Image) content image read small none = absurd none
 no_machine_file (reports.NoFile Source) content image read small none = tt
@@ -60,12 +64,17 @@ machine_file machine.WriteFault content = tt
 machine_file machine.NoMemory content = tt
 
 -- a loaded machine that is lent an input is in the first state
-pub lent_first : (image : List ℕ) (segments : Segments) (machine : State) (left : List ℕ) → Loads image segments → machine ≡ first_state segments [] → First image left (lent machine left)
+pub lent_first : (image : List ℕ) (segments : Segments) (machine : State) (left : List ℕ) → Loads image segments
+    → machine ≡ first_state segments [] → First image left (lent machine left)
 lent_first image segments machine left loads same = (segments, loads, ap (λ (m : State). lent m left) same)
 
 -- the end of a run is told by its report
-gives_told : (content : Option (List ℕ)) (image : List ℕ) (s : State) (streams streams' : Streams) (end : outcome.End) → content ≡ Some image → length image ≤ file_limit → First image streams.left s → Gives run_steps s streams.left streams'.left streams.taken streams'.taken end → Holds content (RunGives streams streams' end)
-gives_told content image s streams streams' end read small first told = (image, read, small, (s, first, told.0, told.1, told.2, told.3, told.4))
+gives_told : (content : Option (List ℕ)) (image : List ℕ) (s : State) (streams streams' : Streams) (end : outcome.End)
+    → content ≡ Some image → length image ≤ file_limit → First image streams.left s
+    → Gives run_steps s streams.left streams'.left streams.taken streams'.taken end
+    → Holds content (RunGives streams streams' end)
+gives_told content image s streams streams' end read small first told =
+    (image, read, small, (s, first, told.0, told.1, told.2, told.3, told.4))
 
 so_far_told : (content : Option (List ℕ)) (image : List ℕ) (s left : State) (streams streams' : Streams)
     (IsLeft : State → Type 0) → content ≡ Some image → length image ≤ file_limit → First image streams.left s

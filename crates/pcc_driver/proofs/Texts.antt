@@ -6,7 +6,8 @@ use Rattle.std.proofs.lemmas.Bool.Decides.{Decides-at, Decides-like, same_from_d
 use Rattle.std.proofs.lemmas.Slice.Eq.{bytes_eq-Decides}
 
 -- a text that ends in p is the name with p behind it just where its front is the name
-pub bytes_eq-with_end : (front name p source : List ℕ) (r : Bool) → source ≡ front ++ p → r ≡ bytes_eq front name → r ≡ bytes_eq (name ++ p) source
+pub bytes_eq-with_end : (front name p source : List ℕ) (r : Bool) → source ≡ front ++ p → r ≡ bytes_eq front name → r
+    ≡ bytes_eq (name ++ p) source
 bytes_eq-with_end front name p source r e same =
     same_from_decides r (bytes_eq (name ++ p) source)
     (Decides-at r (bytes_eq front name) same
@@ -17,7 +18,8 @@ bytes_eq-with_end front name p source r e same =
     (bytes_eq-Decides (name ++ p) source)
 
 -- a text that doesn't end in p is no name with p behind it
-pub bytes_eq-without_end : (name p source : List ℕ) → ((front : List ℕ) → source ≢ front ++ p) → false ≡ bytes_eq (name ++ p) source
+pub bytes_eq-without_end : (name p source : List ℕ) → ((front : List ℕ) → source ≢ front ++ p) → false
+    ≡ bytes_eq (name ++ p) source
 bytes_eq-without_end name p source other =
     same_from_decides false (bytes_eq (name ++ p) source)
     (λ h. absurd (false≢true h), λ h. absurd (other name (sym h)))

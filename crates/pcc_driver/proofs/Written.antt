@@ -9,12 +9,19 @@ use Rattle.pcc_driver.specs.declared.report.Report.{Report}
 use Rattle.pcc_driver.specs.declared.report.Report.TheVariants as reports
 
 -- the map's text stands, and what else changed is the image
-map_stands : (name source text map_bytes image : List ℕ) (old mid new : Files) → ((other : List ℕ) → mid other ≡ old other) → old source ≡ Some text → length text ≤ file_limit → AreProducts text map_bytes image → new (map_name name) ≡ Some map_bytes → ((other : List ℕ) → other ≢ name → other ≢ map_name name → new other ≡ mid other) → MapStands name source old new
+map_stands : (name source text map_bytes image : List ℕ) (old mid new : Files)
+    → ((other : List ℕ) → mid other ≡ old other) → old source ≡ Some text → length text ≤ file_limit
+    → AreProducts text map_bytes image → new (map_name name) ≡ Some map_bytes
+    → ((other : List ℕ) → other ≢ name → other ≢ map_name name → new other ≡ mid other) → MapStands name source old new
 map_stands name source text map_bytes image old mid new kept read small products written others =
-    ((text, products.0, products.2.0, image, read, small, products.1, products.2.2, written ∙ ap Some products.2.1), λ other n m. others other n m ∙ kept other)
+    ((text, products.0, products.2.0, image, read, small, products.1, products.2.2, written ∙ ap Some products.2.1),
+        λ other n m. others other n m ∙ kept other)
 
 -- the report of the writes tells what the compilation did
-pub written_told : (report : Report) (name source text map_bytes image : List ℕ) (old mid new : Files) → ((other : List ℕ) → mid other ≡ old other) → old source ≡ Some text → length text ≤ file_limit → AreProducts text map_bytes image → WritesTold (map_name name) name map_bytes image mid new report → CompileTold name source old new report
+pub written_told : (report : Report) (name source text map_bytes image : List ℕ) (old mid new : Files)
+    → ((other : List ℕ) → mid other ≡ old other) → old source ≡ Some text → length text ≤ file_limit
+    → AreProducts text map_bytes image → WritesTold (map_name name) name map_bytes image mid new report
+    → CompileTold name source old new report
 written_told reports.Compiled name source text map_bytes image old mid new kept read small products told =
     record {
       text = text;
@@ -36,19 +43,31 @@ written_told (reports.WriteFault Image) name source text map_bytes image old mid
 written_told reports.NoMemory name source text map_bytes image old mid new kept read small products told =
     elim told [
       | inl same ↦ inl (λ other. same other ∙ kept other)
-      | inr half ↦ inr (map_stands name source text map_bytes image old mid new kept read small products half.0 half.1, half.2 ∙ kept name)
+      | inr half ↦ inr (map_stands name source text map_bytes image old mid new kept read small products half.0 half.1,
+          half.2 ∙ kept name)
     ]
-written_told (reports.WriteFault Source) name source text map_bytes image old mid new kept read small products told = absurd told
-written_told (reports.Exited status) name source text map_bytes image old mid new kept read small products told = absurd told
-written_told (reports.SourceFault fault) name source text map_bytes image old mid new kept read small products told = absurd told
+written_told (reports.WriteFault Source) name source text map_bytes image old mid new kept read small products told =
+    absurd told
+written_told (reports.Exited status) name source text map_bytes image old mid new kept read small products told =
+    absurd told
+written_told (reports.SourceFault fault) name source text map_bytes image old mid new kept read small products told =
+    absurd told
 written_told reports.Usage name source text map_bytes image old mid new kept read small products told = absurd told
-written_told (reports.TooLong file) name source text map_bytes image old mid new kept read small products told = absurd told
-written_told (reports.TooManyTokens tokens) name source text map_bytes image old mid new kept read small products told = absurd told
-written_told (reports.ReadFault file) name source text map_bytes image old mid new kept read small products told = absurd told
+written_told (reports.TooLong file) name source text map_bytes image old mid new kept read small products told =
+    absurd told
+written_told (reports.TooManyTokens tokens) name source text map_bytes image old mid new kept read small products told =
+    absurd told
+written_told (reports.ReadFault file) name source text map_bytes image old mid new kept read small products told =
+    absurd told
 written_told reports.InputFault name source text map_bytes image old mid new kept read small products told = absurd told
-written_told reports.OutputFault name source text map_bytes image old mid new kept read small products told = absurd told
-written_told (reports.NoFile file) name source text map_bytes image old mid new kept read small products told = absurd told
+written_told reports.OutputFault name source text map_bytes image old mid new kept read small products told =
+    absurd told
+written_told (reports.NoFile file) name source text map_bytes image old mid new kept read small products told =
+    absurd told
 written_told reports.NotImage name source text map_bytes image old mid new kept read small products told = absurd told
-written_told (reports.Trapped trap) name source text map_bytes image old mid new kept read small products told = absurd told
-written_told (reports.Stopped cause address) name source text map_bytes image old mid new kept read small products told = absurd told
-written_told (reports.BudgetSpent steps) name source text map_bytes image old mid new kept read small products told = absurd told
+written_told (reports.Trapped trap) name source text map_bytes image old mid new kept read small products told =
+    absurd told
+written_told (reports.Stopped cause address) name source text map_bytes image old mid new kept read small products
+    told = absurd told
+written_told (reports.BudgetSpent steps) name source text map_bytes image old mid new kept read small products told =
+    absurd told

@@ -1,5 +1,6 @@
 -- What a command leaves behind and why, by cases over its report: impossible reports are refused.
-use Rattle.std.specs.Prelude.{◌≡◌, ◌≢◌, ◌<◌, ◌≤◌, ◌⊎◌, ℕ, suc, ◌+◌, List, ◌++◌, length, take, drop, Option, Some, None, Result, Ok, Err, ⊤}
+use Rattle.std.specs.Prelude.{◌≡◌, ◌≢◌, ◌<◌, ◌≤◌, ◌⊎◌, ℕ, suc, ◌+◌, List, ◌++◌, length, take, drop, Option, Some, None}
+use Rattle.std.specs.Prelude.{Result, Ok, Err, ⊤}
 use Rattle.pcc_base.specs.Counts.{Rose}
 use Rattle.pcc_base.specs.Outcome as outcome
 use Rattle.pcc_base.specs.Outcome.{Outcome}
@@ -55,7 +56,8 @@ FilesCause _ old new = new ≡ old
 -- the count of the input or the output that the report names rose, and no other
 abbrev pub StreamsCause : Report → ℕ → ℕ → SinkCounts → SinkCounts → Type 0
 StreamsCause reports.InputFault input input' out out' = Rose input input' × (out' ≡ out)
-StreamsCause reports.OutputFault input input' out out' = (input' ≡ input) × Rose out.faults out'.faults × (out'.wants ≡ out.wants)
+StreamsCause reports.OutputFault input input' out out' = (input' ≡ input) × Rose out.faults out'.faults
+    × (out'.wants ≡ out.wants)
 StreamsCause reports.NoMemory input input' out out' = (input' ≡ input) × (out'.faults ≡ out.faults)
 StreamsCause _ input input' out out' = (input' ≡ input) × (out' ≡ out)
 
@@ -95,13 +97,15 @@ abbrev pub CompileTold : List ℕ → List ℕ → Files → Files → Report �
 CompileTold name source old new reports.Compiled = IsCompiled old new name source
 CompileTold name source old new (reports.SourceFault fault) =
     Holds (old source) (λ text. IsSourceFault text fault) × SameFiles old new
-CompileTold name source old new (reports.TooManyTokens tokens) = (tokens ≡ 65537) × Holds (old source) HasManyTokens × SameFiles old new
+CompileTold name source old new (reports.TooManyTokens tokens) = (tokens ≡ 65537) × Holds (old source) HasManyTokens
+    × SameFiles old new
 CompileTold name source old new (reports.TooLong Source) = IsTooLong (old source) × SameFiles old new
 CompileTold name source old new (reports.ReadFault Source) = SameFiles old new
 CompileTold name source old new (reports.NoFile Source) = (old source ≡ None) × SameFiles old new
 CompileTold name source old new (reports.WriteFault Map) = OnlyFile (map_name name) old new
 CompileTold name source old new (reports.WriteFault Image) = MapStands name source old new
-CompileTold name source old new reports.NoMemory = SameFiles old new ⊎ (MapStands name source old new × (new name ≡ old name))
+CompileTold name source old new reports.NoMemory = SameFiles old new
+    ⊎ (MapStands name source old new × (new name ≡ old name))
 CompileTold name source old new _ = ⊥
 
 -- ---- the steps of a command
@@ -137,13 +141,15 @@ GivesNoMachine image _ = ⊥
 -- two files are written, the map's and then the image's; no other file has changed
 abbrev pub WritesTold : List ℕ → List ℕ → List ℕ → List ℕ → Files → Files → Report → Type 0
 WritesTold map_name name map_bytes image old new reports.Compiled =
-    (new map_name ≡ Some map_bytes) × (new name ≡ Some image) × ((other : List ℕ) → other ≢ name → other ≢ map_name → new other ≡ old other)
+    (new map_name ≡ Some map_bytes) × (new name ≡ Some image)
+        × ((other : List ℕ) → other ≢ name → other ≢ map_name → new other ≡ old other)
 WritesTold map_name name map_bytes image old new (reports.WriteFault Map) = OnlyFile map_name old new
 WritesTold map_name name map_bytes image old new (reports.WriteFault Image) =
     (new map_name ≡ Some map_bytes) × ((other : List ℕ) → other ≢ name → other ≢ map_name → new other ≡ old other)
 WritesTold map_name name map_bytes image old new reports.NoMemory =
     SameFiles old new
-    ⊎ ((new map_name ≡ Some map_bytes) × ((other : List ℕ) → other ≢ name → other ≢ map_name → new other ≡ old other) × (new name ≡ old name))
+    ⊎ ((new map_name ≡ Some map_bytes) × ((other : List ℕ) → other ≢ name → other ≢ map_name → new other ≡ old other)
+        × (new name ≡ old name))
 WritesTold map_name name map_bytes image old new _ = ⊥
 
 -- ---- run
@@ -165,14 +171,17 @@ RunGives old new end image =
 -- the streams are as fewer steps than that leave them
 abbrev pub RunGivesSoFar : Streams → Streams → List ℕ → Type 0
 RunGivesSoFar old new image =
-    (s : State) × First image old.left s × (n : ℕ) × (n < run_steps) × (o : Outcome) × Runs no_visits n s o × (o.end ≡ outcome.Goes)
+    (s : State) × First image old.left s × (n : ℕ) × (n < run_steps) × (o : Outcome) × Runs no_visits n s o
+        × (o.end ≡ outcome.Goes)
     × (new.left ≡ drop o.taken old.left) × (new.taken ≡ old.taken ++ o.written)
 
--- the input is as those steps leave it, and what was put on the output is what they write, and a prefix of what one step
+-- the input is as those steps leave it, and what was put on the output is what they write, and a prefix of what one
+-- step
 -- more writes
 abbrev pub RunGivesPart : Streams → Streams → List ℕ → Type 0
 RunGivesPart old new image =
-    (s : State) × First image old.left s × (n : ℕ) × (n < run_steps) × (o next : Outcome) × Runs no_visits n s o × Runs no_visits (suc n) s next
+    (s : State) × First image old.left s × (n : ℕ) × (n < run_steps) × (o next : Outcome) × Runs no_visits n s o
+        × Runs no_visits (suc n) s next
     × (new.left ≡ drop o.taken old.left) × (k : ℕ) × (new.taken ≡ old.taken ++ take (length o.written + k) next.written)
 
 -- the image has no first state
@@ -195,8 +204,10 @@ ImageTold content _ = ⊤
 abbrev pub RunTold : Option (List ℕ) → Streams → Streams → Report → Type 0
 RunTold content old new (reports.Exited status) = Holds content (RunGives old new (outcome.Ended status))
 RunTold content old new (reports.Trapped trap) = Holds content (RunGives old new (outcome.Trapped trap))
-RunTold content old new (reports.Stopped cause address) = Holds content (RunGives old new (outcome.Stopped cause address))
-RunTold content old new (reports.BudgetSpent steps) = (steps ≡ run_steps) × Holds content (RunGives old new outcome.Goes)
+RunTold content old new (reports.Stopped cause address) =
+    Holds content (RunGives old new (outcome.Stopped cause address))
+RunTold content old new (reports.BudgetSpent steps) = (steps ≡ run_steps)
+    × Holds content (RunGives old new outcome.Goes)
 RunTold content old new reports.NotImage = Holds content (IsNoImage old.left) × (new ≡ old)
 RunTold content old new (reports.TooLong Image) = IsTooLong content × (new ≡ old)
 RunTold content old new (reports.ReadFault Image) = new ≡ old
@@ -222,12 +233,14 @@ IsShown report shown = (shown ≡ report) ⊎ (shown ≡ reports.NoMemory)
 -- status is that of the report, or 5 or 11 where standard error refused.
 abbrev pub IsPut : List ℕ → ℕ → SinkCounts → SinkCounts → Type 0 → List ℕ → List ℕ → ℕ → Type 0
 IsPut line status counts counts' tells taken taken' result =
-    (answer : Result Unit WriteRefusal) × CountsPut counts counts' answer × (tells → PutTold taken taken' line answer) × (result ≡ status_after status answer)
+    (answer : Result Unit WriteRefusal) × CountsPut counts counts' answer × (tells → PutTold taken taken' line answer)
+        × (result ≡ status_after status answer)
 
 -- a command's report ends in its status
 abbrev pub Ends : Command → Report → SinkCounts → SinkCounts → Type 0 → List ℕ → List ℕ → ℕ → Type 0
 Ends command report counts counts' tells taken taken' result =
-    (shown : Report) × IsShown report shown × IsPut (report_line command shown) (status_of shown) counts counts' tells taken taken' result
+    (shown : Report) × IsShown report shown × IsPut (report_line command shown) (status_of shown) counts counts' tells
+        taken taken' result
 
 -- the report of a command on what is told
 abbrev pub CommandTold : Command → Type 0 → Type 0 → Files → Files → Streams → Streams → Report → Type 0

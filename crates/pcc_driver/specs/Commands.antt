@@ -13,7 +13,8 @@ map_name name = name ++ codes ".map"
 
 -- NAME and NAME.map have to be other names than SRC
 abbrev pub compile_command : List ℕ → List ℕ → Command
-compile_command name source = if bytes_eq name source || bytes_eq (map_name name) source then Usage else Compile name source
+compile_command name source = if bytes_eq name source
+    || bytes_eq (map_name name) source then Usage else Compile name source
 
 -- `run IMAGE`, `compile -o NAME SRC`, and no others
 abbrev pub command_of : List (List ℕ) → Command

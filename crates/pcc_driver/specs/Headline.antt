@@ -15,7 +15,8 @@ file_limit = 1342177280
 abbrev pub Files : Type 0
 Files = List ℕ → Option (List ℕ)
 
--- What a compilation leaves: the source is a program, NAME.map holds the text of the map of the image (and a text is the
+-- What a compilation leaves: the source is a program, NAME.map holds the text of the map of the image (and a text is
+-- the
 -- text of one map at most), NAME holds an image that does what the program does by that map, and no other file has
 -- changed.
 pub record IsCompiled (old new : Files) (name source : List ℕ) : Type 0 where

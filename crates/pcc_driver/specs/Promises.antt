@@ -28,7 +28,8 @@ CompileStatus (Some text) status =
     (file_limit < length text → status ≡ 3)
     × (length text ≤ file_limit → (program : Program) → IsProgram text program → status ≡ 0)
     × (length text ≤ file_limit → HasManyTokens text → status ≡ 3)
-    × (length text ≤ file_limit → ((program : Program) → IsProgram text program → ⊥) → (HasManyTokens text → ⊥) → status ≡ 1)
+    × (length text ≤ file_limit → ((program : Program) → IsProgram text program → ⊥) → (HasManyTokens text → ⊥) → status
+        ≡ 1)
 
 -- the status of `run` for the end of its steps
 abbrev pub end_status : End → ℕ
@@ -43,7 +44,8 @@ RunStatus input None status = status ≡ 6
 RunStatus input (Some image) status =
     (file_limit < length image → status ≡ 3)
     × (length image ≤ file_limit → IsNoImage input image → status ≡ 7)
-    × (length image ≤ file_limit → (s : State) (o : Outcome) → First image input s → Runs no_visits run_steps s o → status ≡ end_status o.end)
+    × (length image ≤ file_limit → (s : State) (o : Outcome) → First image input s → Runs no_visits run_steps s o
+        → status ≡ end_status o.end)
 
 -- the one status of a command where nothing fails
 abbrev pub HasStatus : Command → Files → List ℕ → ℕ → Type 0
@@ -59,10 +61,12 @@ TokensCause Usage files_tell files = ⊥
 
 -- Which count rose where a status comes that the outside causes. Status 3 comes besides where a source has too
 -- many tokens.
-pub record HasCauses (command : Command) (files : Files) (files_tell : Type 0) (old new : Counts) (err err' : SinkCounts) (status : ℕ) : Type 0 where
+pub record HasCauses (command : Command) (files : Files) (files_tell : Type 0) (old new : Counts)
+    (err err' : SinkCounts) (status : ℕ) : Type 0 where
   pub limit : status ≡ 3 → Rose old.files.too_long new.files.too_long ⊎ TokensCause command files_tell files
   pub read_fault : status ≡ 4 → Rose old.files.read_faults new.files.read_faults ⊎ Rose old.input new.input
-  pub write_fault : status ≡ 5 → Rose old.files.write_faults new.files.write_faults ⊎ (Rose old.out.faults new.out.faults ⊎ Rose err.faults err'.faults)
+  pub write_fault : status ≡ 5 → Rose old.files.write_faults new.files.write_faults
+      ⊎ (Rose old.out.faults new.out.faults ⊎ Rose err.faults err'.faults)
   pub no_file : status ≡ 6 → Rose old.files.missing new.files.missing
 
 -- a fault was met: the status says so, or that memory was wanting

@@ -15,7 +15,10 @@ use Rattle.pcc_driver.specs.Commands.{map_name}
 use Rattle.pcc_driver.specs.declared.report.Named.{Named}
 use Rattle.pcc_driver.specs.declared.report.Named.TheVariants.{Source, Map, Image}
 use Rattle.pcc_driver.specs.declared.report.Report.{Report}
-use Rattle.pcc_driver.specs.declared.report.Report.TheVariants.{Compiled, Exited, SourceFault, Usage, TooLong, TooManyTokens, ReadFault, InputFault, WriteFault, OutputFault, NoFile, NotImage, Trapped, Stopped, BudgetSpent, NoMemory}
+use Rattle.pcc_driver.specs.declared.report.Report.TheVariants.{Compiled, Exited, SourceFault, Usage, TooLong}
+use Rattle.pcc_driver.specs.declared.report.Report.TheVariants.{TooManyTokens, ReadFault, InputFault, WriteFault}
+use Rattle.pcc_driver.specs.declared.report.Report.TheVariants.{OutputFault, NoFile, NotImage, Trapped, Stopped}
+use Rattle.pcc_driver.specs.declared.report.Report.TheVariants.{BudgetSpent, NoMemory}
 
 abbrev pub status_of : Report → ℕ
 status_of Compiled = 0
@@ -63,7 +66,8 @@ abbrev pub kind_text : FaultKind → List ℕ
 kind_text kind = decimal (number_of kind) ++ codes " " ++ name_of kind ++ word_text kind
 
 abbrev pub fault_text : Fault → List ℕ
-fault_text fault = codes ":" ++ decimal fault.at.line ++ codes ":" ++ decimal fault.at.col ++ codes ": " ++ kind_text fault.kind
+fault_text fault = codes ":" ++ decimal fault.at.line ++ codes ":" ++ decimal fault.at.col ++ codes ": "
+    ++ kind_text fault.kind
 
 -- the line without its newline
 abbrev pub report_text : commands.Command → Report → List ℕ

@@ -1,5 +1,6 @@
 -- Fields of a text: where one ends, and that its text determines it.
-use Rattle.std.proofs.Common.{◌≡◌, ◌<◌, ℕ, zero, suc, ◌+◌, ◌*◌, ◌/◌, ◌%◌, ◌^◌, List, [], ◌∷◌, ◌++◌, length, decimal, get_or, ap, sym, refl, ◌∙◌, subst, arith, length-append}
+use Rattle.std.proofs.Common.{◌≡◌, ◌<◌, ℕ, zero, suc, ◌+◌, ◌*◌, ◌/◌, ◌%◌, ◌^◌, List, [], ◌∷◌, ◌++◌, length, decimal}
+use Rattle.std.proofs.Common.{get_or, ap, sym, refl, ◌∙◌, subst, arith, length-append}
 use Rattle.std.proofs.Math.Nat.{pow-suc}
 use Rattle.std.proofs.lemmas.Bool.Decides.{nat_tests}
 use Rattle.std.specs.Prelude.{⊤}
@@ -15,7 +16,8 @@ Stops P [] = ⊤
 Stops P (c ∷ rest) = P c → ⊥
 
 -- fields of bytes with a property, with other bytes behind them, are the same where the texts are
-pub field-one : (P : ℕ → Type 0) (xs ys r s : List ℕ) → AllByRecursion P xs → AllByRecursion P ys → Stops P r → Stops P s → xs ++ r ≡ ys ++ s → (xs ≡ ys) × (r ≡ s)
+pub field-one : (P : ℕ → Type 0) (xs ys r s : List ℕ) → AllByRecursion P xs → AllByRecursion P ys → Stops P r
+    → Stops P s → xs ++ r ≡ ys ++ s → (xs ≡ ys) × (r ≡ s)
 field-one P [] [] r s all all' stop stop' e = (refl, e)
 field-one P [] (y ∷ ys) [] s all all' stop stop' e = absurd (cc)
 field-one P [] (y ∷ ys) (c ∷ r) s all all' stop stop' e =
@@ -51,16 +53,19 @@ decimal-digits = decimal_by_steps (λ n ds. AllByRecursion IsDigit ds)
     (λ n ds h all. all-append IsDigit ds ((48 + n % 10) ∷ []) all ((omega arith, omega arith), tt))
 
 -- a number with no digit behind it
-pub number-one : (n m : ℕ) (r s : List ℕ) → IsNumber n → IsNumber m → Stops IsDigit r → Stops IsDigit s → decimal n ++ r ≡ decimal m ++ s → (n ≡ m) × (r ≡ s)
+pub number-one : (n m : ℕ) (r s : List ℕ) → IsNumber n → IsNumber m → Stops IsDigit r → Stops IsDigit s → decimal n ++ r
+    ≡ decimal m ++ s → (n ≡ m) × (r ≡ s)
 number-one n m r s small small' stop stop' e =
     let k : n < 2 ^ 64 = omega arith in
     let k' : m < 2 ^ 64 = omega arith in
-    let fields = field-one IsDigit (decimal n) (decimal m) r s (decimal-digits n k) (decimal-digits m k') stop stop' e in
+    let fields = field-one IsDigit (decimal n) (decimal m) r s (decimal-digits n k) (decimal-digits m k') stop stop'
+        e in
     (decimal_injective n m k k' fields.0, fields.1)
 
 hexadecimal-length : (k n : ℕ) → length (hexadecimal k n) ≡ k
 hexadecimal-length zero n = refl
-hexadecimal-length (suc k) n = rw (length-append (hexadecimal k (n / 16)) (hexadecimal_digit (n % 16) ∷ []), hexadecimal-length k (n / 16)) (omega arith)
+hexadecimal-length (suc k) n = rw (length-append (hexadecimal k (n / 16)) (hexadecimal_digit (n % 16) ∷ []),
+    hexadecimal-length k (n / 16)) (omega arith)
 
 -- hexadecimal digits differ
 digit-one : (d e : ℕ) → d < 16 → e < 16 → hexadecimal_digit d ≡ hexadecimal_digit e → d ≡ e
@@ -74,19 +79,25 @@ sixteenth k n small = let p : 16 ^ suc k ≡ 16 ^ k * 16 = pow-suc 16 k in omega
 hexadecimal-one : (k n m : ℕ) → n < 16 ^ k → m < 16 ^ k → hexadecimal k n ≡ hexadecimal k m → n ≡ m
 hexadecimal-one zero n m small small' e = omega arith
 hexadecimal-one (suc k) n m small small' e =
-    let parts = fixed-one (hexadecimal k (n / 16)) (hexadecimal k (m / 16)) (hexadecimal_digit (n % 16) ∷ []) (hexadecimal_digit (m % 16) ∷ [])
+    let parts = fixed-one (hexadecimal k (n / 16)) (hexadecimal k (m / 16)) (hexadecimal_digit (n % 16) ∷ [])
+        (hexadecimal_digit (m % 16) ∷ [])
     (hexadecimal-length k (n / 16) ∙ sym (hexadecimal-length k (m / 16))) e in
-    let high : n / 16 ≡ m / 16 = hexadecimal-one k (n / 16) (m / 16) (sixteenth k n small) (sixteenth k m small') parts.0 in
-    let low : n % 16 ≡ m % 16 = digit-one (n % 16) (m % 16) (omega arith) (omega arith) (ap (λ l. get_or l 0 0) parts.1) in
+    let high : n / 16 ≡ m / 16 = hexadecimal-one k (n / 16) (m / 16) (sixteenth k n small) (sixteenth k m small')
+        parts.0 in
+    let low : n % 16 ≡ m % 16 = digit-one (n % 16) (m % 16) (omega arith) (omega arith)
+        (ap (λ l. get_or l 0 0) parts.1) in
     omega arith
 
 -- an address
-pub address-one : (n m : ℕ) (r s : List ℕ) → IsNumber n → IsNumber m → address_text n ++ r ≡ address_text m ++ s → (n ≡ m) × (r ≡ s)
+pub address-one : (n m : ℕ) (r s : List ℕ) → IsNumber n → IsNumber m → address_text n ++ r ≡ address_text m ++ s
+    → (n ≡ m) × (r ≡ s)
 address-one n m r s small small' e =
-    let parts = fixed-one (hexadecimal 8 n) (hexadecimal 8 m) r s (hexadecimal-length 8 n ∙ sym (hexadecimal-length 8 m)) e in
+    let parts = fixed-one (hexadecimal 8 n) (hexadecimal 8 m) r s
+        (hexadecimal-length 8 n ∙ sym (hexadecimal-length 8 m)) e in
     (hexadecimal-one 8 n m (omega arith) (omega arith) parts.0, parts.1)
 
 -- a number with a byte behind it that is no digit
-pub number-at : (c n m : ℕ) (r s : List ℕ) → (IsDigit c → ⊥) → IsNumber n → IsNumber m → decimal n ++ (c ∷ r) ≡ decimal m ++ (c ∷ s) → (n ≡ m) × (r ≡ s)
+pub number-at : (c n m : ℕ) (r s : List ℕ) → (IsDigit c → ⊥) → IsNumber n → IsNumber m → decimal n ++ (c ∷ r)
+    ≡ decimal m ++ (c ∷ s) → (n ≡ m) × (r ≡ s)
 number-at c n m r s stop small small' e =
     let parts = number-one n m (c ∷ r) (c ∷ s) small small' stop stop e in (parts.0, cc (parts.1))

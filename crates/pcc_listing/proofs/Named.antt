@@ -50,12 +50,16 @@ kinds-one (NamesScalar name) (NamesScalar other) r s f b = (ap NamesScalar f, cc
 kinds-one (NamesArray name) (NamesArray other) r s f b = (ap NamesArray f, cc)
 kinds-one (NamesIndex name) (NamesIndex other) r s f b = (ap NamesIndex f, cc)
 kinds-one Temporary Temporary r s f b = (refl, cc)
-kinds-one (NamesArray name) (NamesIndex other) r s f b = let h = ap (λ (l : List ℕ). get_or l 1 0) b in absurd (omega arith)
-kinds-one (NamesIndex name) (NamesArray other) r s f b = let h = ap (λ (l : List ℕ). get_or l 1 0) b in absurd (omega arith)
+kinds-one (NamesArray name) (NamesIndex other) r s f b = let h = ap (λ (l : List ℕ). get_or l 1 0) b in
+    absurd (omega arith)
+kinds-one (NamesIndex name) (NamesArray other) r s f b = let h = ap (λ (l : List ℕ). get_or l 1 0) b in
+    absurd (omega arith)
 kinds-one x y r s f b = let h = ap (λ (l : List ℕ). get_or l 0 0) b in absurd (omega arith)
 
-pub named-one : (x y : Named) (r s : List ℕ) → IsNamed x → IsNamed y → named_text x ++ (10 ∷ r) ≡ named_text y ++ (10 ∷ s) → (x ≡ y) × (r ≡ s)
+pub named-one : (x y : Named) (r s : List ℕ) → IsNamed x → IsNamed y → named_text x ++ (10 ∷ r)
+    ≡ named_text y ++ (10 ∷ s) → (x ≡ y) × (r ≡ s)
 named-one x y r s ok ok' e =
-    let parts = field-one IsNameByte (front x) (front y) (back x r) (back y s) (front-bytes x ok) (front-bytes y ok') (back-stops x r) (back-stops y s)
+    let parts = field-one IsNameByte (front x) (front y) (back x r) (back y s) (front-bytes x ok) (front-bytes y ok')
+        (back-stops x r) (back-stops y s)
     (sym (named-parts x r) ∙ e ∙ named-parts y s) in
     kinds-one x y r s parts.0 parts.1

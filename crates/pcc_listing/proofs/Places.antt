@@ -1,5 +1,6 @@
 -- The text of a place determines it.
-use Rattle.std.proofs.Common.{◌≡◌, ◌≤◌, ℕ, ◌+◌, ◌*◌, List, ◌∷◌, ◌++◌, length, codes, decimal, get_or, ap, sym, refl, ◌∙◌, arith, append_assoc}
+use Rattle.std.proofs.Common.{◌≡◌, ◌≤◌, ℕ, ◌+◌, ◌*◌, List, ◌∷◌, ◌++◌, length, codes, decimal, get_or, ap, sym, refl}
+use Rattle.std.proofs.Common.{◌∙◌, arith, append_assoc}
 use Rattle.std.proofs.lemmas.List.{append_cancel_left}
 use Rattle.std.specs.Prelude.{if◌then◌else◌, ◌==◌}
 use Rattle.ia32_regs.specs.declared.names.Reg32.{Reg32}
@@ -79,7 +80,8 @@ byte-length Dh = refl
 byte-length Bh = refl
 
 -- the name of a byte register begins with one of the letters a to d
-byte-first : (r : Reg8) (rest : List ℕ) → (97 ≤ get_or (byte_text r ++ rest) 0 0) × (get_or (byte_text r ++ rest) 0 0 ≤ 100)
+byte-first : (r : Reg8) (rest : List ℕ) → (97 ≤ get_or (byte_text r ++ rest) 0 0)
+    × (get_or (byte_text r ++ rest) 0 0 ≤ 100)
 byte-first Al rest = (omega arith, omega arith)
 byte-first Cl rest = (omega arith, omega arith)
 byte-first Dl rest = (omega arith, omega arith)
@@ -96,12 +98,15 @@ first-same xs ys e = ap (λ (l : List ℕ). get_or l 0 0) e
 slot-text : (below : ℕ) (r : List ℕ) → place_text (InSlot below) ++ r ≡ codes "[ebp-" ++ (decimal below ++ (93 ∷ r))
 slot-text below r = simp append_assoc
 
-slot-one : (n m : ℕ) (r s : List ℕ) → IsPlace (InSlot n) → IsPlace (InSlot m) → place_text (InSlot n) ++ r ≡ place_text (InSlot m) ++ s → (n ≡ m) × (r ≡ s)
+slot-one : (n m : ℕ) (r s : List ℕ) → IsPlace (InSlot n) → IsPlace (InSlot m) → place_text (InSlot n) ++ r
+    ≡ place_text (InSlot m) ++ s → (n ≡ m) × (r ≡ s)
 slot-one n m r s ok ok' e =
-    let e1 : codes "[ebp-" ++ (decimal n ++ (93 ∷ r)) ≡ codes "[ebp-" ++ (decimal m ++ (93 ∷ s)) = sym (slot-text n r) ∙ e ∙ slot-text m s in
+    let e1 : codes "[ebp-" ++ (decimal n ++ (93 ∷ r)) ≡ codes "[ebp-" ++ (decimal m ++ (93 ∷ s)) = sym (slot-text n r)
+        ∙ e ∙ slot-text m s in
     number-at 93 n m r s (λ h. omega arith) (omega arith) (omega arith) (append_cancel_left (codes "[ebp-") _ _ e1)
 
-pub place-one : (x y : Place) (r s : List ℕ) → IsPlace x → IsPlace y → place_text x ++ r ≡ place_text y ++ s → (x ≡ y) × (r ≡ s)
+pub place-one : (x y : Place) (r s : List ℕ) → IsPlace x → IsPlace y → place_text x ++ r ≡ place_text y ++ s → (x ≡ y)
+    × (r ≡ s)
 place-one (InWord q) (InWord q') r s ok ok' e =
     let parts = fixed-one (register_text q) (register_text q') r s (register-length q ∙ sym (register-length q')) e in
     (ap InWord (sym (register-back q) ∙ ap register_named parts.0 ∙ register-back q'), parts.1)

@@ -1,6 +1,7 @@
 -- The lines of a map, and their text. Numbers are decimal, addresses are eight lower-case hexadecimal digits, and each
 -- line ends in a newline. Of a function those points have lines that are listed so far, and its blocks have none.
-use Rattle.std.specs.Prelude.{ℕ, zero, suc, ◌+◌, ◌/◌, ◌%◌, List, [], ◌∷◌, ◌++◌, flat_map, map, codes, decimal, nat_lt, if◌then◌else◌, Option, Some, None}
+use Rattle.std.specs.Prelude.{ℕ, zero, suc, ◌+◌, ◌/◌, ◌%◌, List, [], ◌∷◌, ◌++◌, flat_map, map, codes, decimal, nat_lt}
+use Rattle.std.specs.Prelude.{if◌then◌else◌, Option, Some, None}
 use Rattle.std.specs.Fmt.{signed_decimal}
 use Rattle.pcc_base.specs.declared.run.Width.{Width}
 use Rattle.pcc_base.specs.declared.run.Width.TheVariants.{One, Two}
@@ -15,7 +16,8 @@ use Rattle.flow_graph.specs.declared.op.Comparison.TheVariants.{Eq, Ne, Lt, Le, 
 use Rattle.flow_graph.specs.declared.op.Op.{Op}
 use Rattle.flow_graph.specs.declared.op.Op.TheVariants as op
 use Rattle.ia32_places.specs.Places.{Place, InWord, InByte, InSlot}
-use Rattle.pcc_listing.specs.Maps.{Map, MapObject, MapFunction, MapArray, MapVariable, MapPoint, Standing, Named, NamesScalar, NamesArray, NamesIndex, Temporary, points_of}
+use Rattle.pcc_listing.specs.Maps.{Map, MapObject, MapFunction, MapArray, MapVariable, MapPoint, Standing, Named}
+use Rattle.pcc_listing.specs.Maps.{NamesScalar, NamesArray, NamesIndex, Temporary, points_of}
 
 pub data Line : Type 0 where
   -- a static object: the address of its element 0, its elements, and the bytes of one
@@ -166,7 +168,8 @@ op_words (op.Same a b) = codes "same" ∷ decimal a ∷ decimal b ∷ []
 op_words (op.Mark s) = codes "mark" ∷ decimal s ∷ []
 op_words op.Turn = codes "turn" ∷ []
 op_words (op.Jump x) = codes "jump" ∷ decimal x ∷ []
-op_words (op.Branch how a b x y) = codes "branch" ∷ comparison_text how ∷ decimal a ∷ decimal b ∷ decimal x ∷ decimal y ∷ []
+op_words (op.Branch how a b x y) = codes "branch" ∷ comparison_text how ∷ decimal a ∷ decimal b ∷ decimal x ∷ decimal y
+    ∷ []
 op_words (op.Return a) = codes "return" ∷ if_any_text a ∷ []
 
 -- words with a space between them
@@ -182,11 +185,13 @@ op_text op = spaced (op_words op)
 
 abbrev pub line_text : Line → List ℕ
 line_text (ObjectLine number address count bytes) =
-    codes "object " ++ decimal number ++ codes " " ++ address_text address ++ codes " " ++ decimal count ++ codes " " ++ decimal bytes ++ newline ∷ []
+    codes "object " ++ decimal number ++ codes " " ++ address_text address ++ codes " " ++ decimal count ++ codes " "
+        ++ decimal bytes ++ newline ∷ []
 line_text (FunctionLine number name frame) =
     codes "function " ++ decimal number ++ codes " " ++ name ++ codes " frame " ++ decimal frame ++ newline ∷ []
 line_text (ArrayLine number below count bytes) =
-    codes "array " ++ decimal number ++ codes " -" ++ decimal below ++ codes " " ++ decimal count ++ codes " " ++ decimal bytes ++ newline ∷ []
+    codes "array " ++ decimal number ++ codes " -" ++ decimal below ++ codes " " ++ decimal count ++ codes " "
+        ++ decimal bytes ++ newline ∷ []
 line_text (VariableLine number width name) =
     codes "var " ++ decimal number ++ codes " " ++ width_text width ++ codes " " ++ named_text name ++ newline ∷ []
 line_text (PointLine number address op) =

@@ -1,5 +1,6 @@
 -- Maps: what is where in an image. A map is a tree, and the rules say which trees are maps.
-use Rattle.std.specs.Prelude.{◌≡◌, ◌<◌, ◌≤◌, ◌⊎◌, ⊤, ℕ, ◌^◌, List, [], ◌∷◌, length, map, flat_map, slice_get, Some, FitsSigned}
+use Rattle.std.specs.Prelude.{◌≡◌, ◌<◌, ◌≤◌, ◌⊎◌, ⊤, ℕ, ◌^◌, List, [], ◌∷◌, length, map, flat_map, slice_get, Some}
+use Rattle.std.specs.Prelude.{FitsSigned}
 use Rattle.std.specs.Int.{w32}
 use Rattle.std.specs.List.{All}
 use Rattle.pcc_base.specs.Names.{IsName}
@@ -92,7 +93,8 @@ IsMapArray a = (1 ≤ a.below) × (a.below ≤ 2 ^ 31) × AreElements a.count a.
 abbrev pub IsMapVariable : MapVariable → Type 0
 IsMapVariable v = IsNamed v.named
 
--- a place for a variable of that width: a register for one of four bytes, a byte of a register for one of one byte, and a
+-- a place for a variable of that width: a register for one of four bytes, a byte of a register for one of one byte, and
+-- a
 -- slot for both
 abbrev pub TakesWidth : Width → Place → Type 0
 TakesWidth Two (InWord r) = ⊤

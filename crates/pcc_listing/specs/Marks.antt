@@ -1,17 +1,21 @@
 -- What a map shows of a state of the machine: at the address of a mark, the statement is visited, with
 -- the values that the places named before it hold.
-use Rattle.std.specs.Prelude.{ℕ, zero, suc, ◌+◌, ◌-◌, ◌%◌, ◌^◌, Bool, true, false, ◌&&◌, List, [], ◌∷◌, ◌++◌, take, drop, map, filter_map, count_by, slice_get, slice_index, Option, Some, None, option_map, nat_lt, nat_le, ◌==◌, if◌then◌else◌}
+use Rattle.std.specs.Prelude.{ℕ, zero, suc, ◌+◌, ◌-◌, ◌%◌, ◌^◌, Bool, true, false, ◌&&◌, List, [], ◌∷◌, ◌++◌, take}
+use Rattle.std.specs.Prelude.{drop, map, filter_map, count_by, slice_get, slice_index, Option, Some, None, option_map}
+use Rattle.std.specs.Prelude.{nat_lt, nat_le, ◌==◌, if◌then◌else◌}
 use Rattle.byteorder.specs.Endian.{little_number, twos_complement}
 use Rattle.pcc_base.specs.declared.run.Width.{Width}
 use Rattle.pcc_base.specs.declared.run.Width.TheVariants.{One, Two}
-use Rattle.pcc_base.specs.Outcome.{ArrayName, Null, Static, InFrame, Unknown, Value, Number, Array, Part, Scalar, ArrayOf, IndexOf, Visit, Listing}
+use Rattle.pcc_base.specs.Outcome.{ArrayName, Null, Static, InFrame, Unknown, Value, Number, Array, Part, Scalar}
+use Rattle.pcc_base.specs.Outcome.{ArrayOf, IndexOf, Visit, Listing}
 use Rattle.ia32_regs.specs.Registers.{register, byte_place}
 use Rattle.ia32_regs.specs.declared.names.Reg32.TheVariants.{Ebp}
 use Rattle.ia32_insn.specs.State.{State, Area, has_bytes}
 use Rattle.flow_graph.specs.declared.op.Op.{Op}
 use Rattle.flow_graph.specs.declared.op.Op.TheVariants.{Mark}
 use Rattle.ia32_places.specs.Places.{Place, InWord, InByte, InSlot}
-use Rattle.pcc_listing.specs.Maps.{Map, MapFunction, MapVariable, MapPoint, Standing, Named, NamesScalar, NamesArray, NamesIndex, Temporary, points_of}
+use Rattle.pcc_listing.specs.Maps.{Map, MapFunction, MapVariable, MapPoint, Standing, Named, NamesScalar, NamesArray}
+use Rattle.pcc_listing.specs.Maps.{NamesIndex, Temporary, points_of}
 
 -- ---- what the map says
 
@@ -111,7 +115,8 @@ listed m statement = listed_by m (marks_of m) statement
 abbrev pub number_at : ℕ → ℕ → List Area → Option ℕ
 number_at n address [] = None
 number_at n address (area ∷ areas) =
-    if has_bytes area address n then Some (little_number n (drop (address - area.address) area.bytes)) else number_at n address areas
+    if has_bytes area address n then Some (little_number n (drop (address - area.address) area.bytes)) else number_at n
+        address areas
 
 abbrev pub word_at : ℕ → List Area → Option ℕ
 word_at address memory = number_at 4 address memory
@@ -165,7 +170,8 @@ arrays_of m (Some f) = arrays_in m f
 -- the array that is at this address, by how far each is below its frame
 abbrev pub array_in : ℕ → ℕ → ℕ → List ℕ → Option ℕ
 array_in k address frame [] = None
-array_in k address frame (below ∷ belows) = if address + below == frame then Some k else array_in (suc k) address frame belows
+array_in k address frame (below ∷ belows) =
+    if address + below == frame then Some k else array_in (suc k) address frame belows
 
 abbrev pub in_frame : ℕ → ArrayName → Option ℕ → ArrayName
 in_frame depth otherwise None = otherwise
@@ -175,7 +181,8 @@ in_frame depth otherwise (Some k) = InFrame k depth
 abbrev pub named_in_frames : Map → ℕ → List Frame → ArrayName
 named_in_frames m address [] = Unknown
 named_in_frames m address (frame ∷ frames) =
-    in_frame frame.depth (named_in_frames m address frames) (array_in 0 address frame.address (arrays_of m frame.function))
+    in_frame frame.depth (named_in_frames m address frames)
+        (array_in 0 address frame.address (arrays_of m frame.function))
 
 abbrev pub static_or : ArrayName → Option ℕ → ArrayName
 static_or otherwise None = otherwise

@@ -10,7 +10,8 @@ use Rattle.ia32_insn.specs.State.{State}
 use Rattle.flow_graph.specs.declared.op.Op.TheVariants.{Mark}
 use Rattle.pcc_base.specs.declared.run.Width.{Width}
 use Rattle.ia32_places.specs.Places.{Place, InWord, InByte, InSlot}
-use Rattle.pcc_listing.specs.Maps.{Map, MapPoint, MapVariable, Standing, Named, NamesScalar, NamesArray, NamesIndex, Temporary}
+use Rattle.pcc_listing.specs.Maps.{Map, MapPoint, MapVariable, Standing, Named, NamesScalar, NamesArray, NamesIndex}
+use Rattle.pcc_listing.specs.Maps.{Temporary}
 
 abbrev pub stands : ℕ → Place → Standing
 stands variable place = record { variable = variable; place = place }
@@ -66,14 +67,16 @@ worked_map =
 -- main's frame, 2400, and above it the return address 1020
 abbrev pub worked_data : List ℕ
 worked_data =
-    little_bytes 4 2 ++ replicate 176 0 ++ little_bytes 4 3 ++ replicate 16 0 ++ little_bytes 4 2400 ++ little_bytes 4 1020 ++ replicate 192 0 ++ replicate 100 0
+    little_bytes 4 2 ++ replicate 176 0 ++ little_bytes 4 3 ++ replicate 16 0 ++ little_bytes 4 2400
+        ++ little_bytes 4 1020 ++ replicate 192 0 ++ replicate 100 0
 
 -- EAX is -5, EBX this word, CH 255, EDX 9 and EBP 2200
 abbrev pub worked_state : ℕ → State
 worked_state word =
     record {
       registers =
-          little_bytes 4 4294967291 ++ (0 ∷ 255 ∷ 0 ∷ 0 ∷ []) ++ little_bytes 4 9 ++ little_bytes 4 word ++ little_bytes 4 2100 ++ little_bytes 4 2200 ++ replicate 8 0;
+          little_bytes 4 4294967291 ++ (0 ∷ 255 ∷ 0 ∷ 0 ∷ []) ++ little_bytes 4 9 ++ little_bytes 4 word
+              ++ little_bytes 4 2100 ++ little_bytes 4 2200 ++ replicate 8 0;
       flags = None;
       eip = 1100;
       memory =

@@ -41,6 +41,8 @@ pub trait FileStore {
     fn write(&mut self, name: &str, bytes: &[u8]) -> Result<(), WriteRefusal>
         ensures counted { CountsWrite (counts self.old) (counts self.new) result }
         ensures telling { tells self.old → tells self.new }
-        ensures others { tells self.old → (other : List ℕ) → other ≢ name.now → content self.new other ≡ content self.old other }
-        ensures told { tells self.old → WriteTold (content self.old name.now) (content self.new name.now) bytes.now result };
+        ensures others { tells self.old → (other : List ℕ) → other ≢ name.now → content self.new other
+            ≡ content self.old other }
+        ensures told { tells self.old → WriteTold (content self.old name.now) (content self.new name.now) bytes.now
+            result };
 }

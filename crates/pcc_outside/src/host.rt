@@ -1,10 +1,12 @@
 //! Thin adapters over the system's files and streams. They count, and tell nothing of content.
-ghost use Rattle.std.specs.Prelude.{◌≡◌, ◌≤◌, ◌∷◌, [], Some, None, Err, IfOk, IfSome, MatchResult, OnErr, OnOk, vec_len};
+ghost use Rattle.std.specs.Prelude.{◌≡◌, ◌≤◌, ◌∷◌, [], Some, None, Err, IfOk, IfSome, MatchResult, OnErr, OnOk};
+ghost use Rattle.std.specs.Prelude.{vec_len};
 ghost use Rattle.std.specs.IoError.{error_kind};
 ghost use Rattle.std.specs.Io.KnownBytes.{Appends, Keeps};
 ghost use Rattle.pcc_outside.specs.Calls.{PutRaises, ReadRaises, WriteRaises, faults_after};
 ghost use Rattle.pcc_outside.specs.Files.{CountsRead, CountsWrite, ReadTold};
-ghost use Rattle.pcc_outside.specs.Host.{AppendsPrefix, NextRead, host_counts, input_faults, input_remaining, open_refusal_of, output_contents, output_counts, read_refusal_of};
+ghost use Rattle.pcc_outside.specs.Host.{AppendsPrefix, NextRead, host_counts, input_faults, input_remaining};
+ghost use Rattle.pcc_outside.specs.Host.{open_refusal_of, output_contents, output_counts, read_refusal_of};
 ghost use Rattle.pcc_outside.specs.Memory.{no_answers, no_puts};
 ghost use Rattle.pcc_outside.specs.Streams.{CountsNext, CountsPut};
 
@@ -300,8 +302,10 @@ impl<W: Write> Sink for HostOutput<W> {
     fn put_all(&mut self, bytes: &[u8]) -> Result<(), WriteRefusal>
         ensures counted { CountsPut (output_counts self.old) (output_counts self.new) result }
         ensures raises { PutRaises (output_counts self.old) (output_counts self.new) result }
-        ensures whole { OnOk result (Appends (output_contents W.contents self.old) (output_contents W.contents self.new) bytes.now) }
-        ensures part { AppendsPrefix (output_contents W.contents self.old) (output_contents W.contents self.new) bytes.now }
+        ensures whole { OnOk result (Appends (output_contents W.contents self.old) (output_contents W.contents self.new)
+            bytes.now) }
+        ensures part { AppendsPrefix (output_contents W.contents self.old) (output_contents W.contents self.new)
+            bytes.now }
     {
         match write_whole(&mut self.writer, bytes) {
             Ok(()) => Ok(()),

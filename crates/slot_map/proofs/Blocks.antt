@@ -1,6 +1,7 @@
 -- The points of all blocks of a graph, one behind the other: each stands there once.
 use Rattle.std.specs.List.{AllByRecursion}
-use Rattle.std.proofs.Common.{◌≡◌, ◌≢◌, ℕ, zero, suc, ◌+◌, ◌<◌, ◌≤◌, List, [], ◌∷◌, ◌++◌, length, get_or, Some, refl, sym, ap, ◌∙◌, subst, arith, inl, inr}
+use Rattle.std.proofs.Common.{◌≡◌, ◌≢◌, ℕ, zero, suc, ◌+◌, ◌<◌, ◌≤◌, List, [], ◌∷◌, ◌++◌, length, get_or, Some, refl}
+use Rattle.std.proofs.Common.{sym, ap, ◌∙◌, subst, arith, inl, inr}
 use Rattle.std.specs.Prelude.{◌⊎◌, flat_map, slice_get, slice_index_or}
 use Rattle.std.proofs.lemmas.Option.{same_Some}
 use Rattle.flow_graph.specs.Graphs.{Flow, IsDistinct, IsFlow, IsIn, IsPlaced, Stands, points_of}
@@ -33,7 +34,8 @@ every-both : (P : ℕ → Type 0) (xs ys : List ℕ) → AllByRecursion P xs →
 every-both P [] ys all more = more
 every-both P (x ∷ xs) ys all more = (all.0, every-both P xs ys all.1 more)
 
-distinct-both : (xs ys : List ℕ) → IsDistinct xs → IsDistinct ys → ((p q : ℕ) → IsIn p xs → IsIn q ys → q ≢ p) → IsDistinct (xs ++ ys)
+distinct-both : (xs ys : List ℕ) → IsDistinct xs → IsDistinct ys → ((p q : ℕ) → IsIn p xs → IsIn q ys → q ≢ p)
+    → IsDistinct (xs ++ ys)
 distinct-both [] ys one other away = other
 distinct-both (x ∷ xs) ys one other away = (
   every-both (λ q. q ≢ x) xs ys one.0 (every-from (λ q. q ≢ x) ys (λ q within. away x q (inl refl) within)),
@@ -43,7 +45,8 @@ distinct-both (x ∷ xs) ys one other away = (
 -- ---- blocks
 
 -- a point among those of all blocks is in one of them
-one-block : (p : ℕ) (blocks : List (List ℕ)) → IsIn p (flat_map (λ points. points) blocks) → (k : ℕ) × IsIn p (slice_index_or blocks k [])
+one-block : (p : ℕ) (blocks : List (List ℕ)) → IsIn p (flat_map (λ points. points) blocks) → (k : ℕ)
+    × IsIn p (slice_index_or blocks k [])
 one-block p [] within = absurd within
 one-block p (points ∷ blocks) within =
     elim (in-either p points (flat_map (λ points. points) blocks) within) [
@@ -51,10 +54,12 @@ one-block p (points ∷ blocks) within =
       | inr later ↦ (let (k, there) = one-block p blocks later in (suc k, there))
     ]
 
-all-blocks : (p k : ℕ) (blocks : List (List ℕ)) → IsIn p (slice_index_or blocks k []) → IsIn p (flat_map (λ points. points) blocks)
+all-blocks : (p k : ℕ) (blocks : List (List ℕ)) → IsIn p (slice_index_or blocks k [])
+    → IsIn p (flat_map (λ points. points) blocks)
 all-blocks p k [] within = absurd within
 all-blocks p zero (points ∷ blocks) within = in-front p points (flat_map (λ points. points) blocks) within
-all-blocks p (suc k) (points ∷ blocks) within = in-back p points (flat_map (λ points. points) blocks) (all-blocks p k blocks within)
+all-blocks p (suc k) (points ∷ blocks) within =
+    in-back p points (flat_map (λ points. points) blocks) (all-blocks p k blocks within)
 
 pub placed-in : (flow : Flow) (p : ℕ) → IsIn p (all_points flow) → IsPlaced flow p
 placed-in flow p within = one-block p flow.blocks within
@@ -63,8 +68,10 @@ pub in-placed : (flow : Flow) (p b : ℕ) → Stands flow p b → IsIn p (all_po
 in-placed flow p b stands = all-blocks p b flow.blocks stands
 
 -- so is each in a list of them
-pub placed-at : (flow : Flow) (points : List ℕ) (i d p : ℕ) → points ≡ all_points flow → i < length points → get_or points i d ≡ p → IsPlaced flow p
-placed-at flow points i d p are h is = placed-in flow p (subst (λ (ps : List ℕ). IsIn p ps) are (subst (λ (q : ℕ). IsIn q points) is (one-of points i d h)))
+pub placed-at : (flow : Flow) (points : List ℕ) (i d p : ℕ) → points ≡ all_points flow → i < length points
+    → get_or points i d ≡ p → IsPlaced flow p
+placed-at flow points i d p are h is = placed-in flow p
+    (subst (λ (ps : List ℕ). IsIn p ps) are (subst (λ (q : ℕ). IsIn q points) is (one-of points i d h)))
   where
     one-of : (xs : List ℕ) (i d : ℕ) → i < length xs → IsIn (get_or xs i d) xs
     one-of [] i d h = absurd (omega (arith, h))
@@ -77,18 +84,22 @@ abbrev AtHome : List ℕ → ℕ → List ℕ → Type 0
 AtHome homes k points = AllByRecursion (λ p. slice_get homes p ≡ Some k) points × IsDistinct points
 
 -- the points of later blocks are at home in later ones
-later-home : (homes : List ℕ) (k : ℕ) (blocks : List (List ℕ)) (q : ℕ) → ((j : ℕ) → AtHome homes (k + j) (slice_index_or blocks j [])) → IsIn q (flat_map (λ points. points) blocks)
+later-home : (homes : List ℕ) (k : ℕ) (blocks : List (List ℕ)) (q : ℕ)
+    → ((j : ℕ) → AtHome homes (k + j) (slice_index_or blocks j [])) → IsIn q (flat_map (λ points. points) blocks)
     → (h : ℕ) × (k ≤ h) × (slice_get homes q ≡ Some h)
 later-home homes k blocks q homely within =
     let (j, there) = one-block q blocks within in
-    (k + j, omega arith, every-in (λ p. slice_get homes p ≡ Some (k + j)) q (slice_index_or blocks j []) (homely j).0 there)
+    (k + j, omega arith, every-in (λ p. slice_get homes p ≡ Some (k + j)) q (slice_index_or blocks j []) (homely j).0
+        there)
 
-blocks-distinct : (homes : List ℕ) (k : ℕ) (blocks : List (List ℕ)) → ((j : ℕ) → AtHome homes (k + j) (slice_index_or blocks j [])) → IsDistinct (flat_map (λ points. points) blocks)
+blocks-distinct : (homes : List ℕ) (k : ℕ) (blocks : List (List ℕ))
+    → ((j : ℕ) → AtHome homes (k + j) (slice_index_or blocks j [])) → IsDistinct (flat_map (λ points. points) blocks)
 blocks-distinct homes k [] homely = tt
 blocks-distinct homes k (points ∷ blocks) homely =
     let here : k + 0 ≡ k = omega arith in
     let others : (j : ℕ) → AtHome homes (suc k + j) (slice_index_or blocks j []) =
-    λ j. (let next : k + suc j ≡ suc k + j = omega arith in subst (λ (h : ℕ). AtHome homes h (slice_index_or blocks j [])) next (homely (suc j))) in
+    λ j. (let next : k + suc j ≡ suc k + j = omega arith in
+        subst (λ (h : ℕ). AtHome homes h (slice_index_or blocks j [])) next (homely (suc j))) in
     let mine = subst (λ (h : ℕ). AtHome homes h points) here (homely 0) in
     distinct-both points (flat_map (λ points. points) blocks) mine.1 (blocks-distinct homes (suc k) blocks others)
     (λ p q front back same.
@@ -100,4 +111,5 @@ blocks-distinct homes k (points ∷ blocks) homely =
 pub all-distinct : (flow : Flow) (homes : List ℕ) → IsFlow flow homes → IsDistinct (all_points flow)
 all-distinct flow homes is =
     blocks-distinct homes 0 flow.blocks
-    (λ j. (let e : j ≡ 0 + j = omega arith in subst (λ (h : ℕ). AtHome homes h (points_of flow j)) e ((is.each_block j).at_home, (is.each_block j).once)))
+    (λ j. (let e : j ≡ 0 + j = omega arith in
+        subst (λ (h : ℕ). AtHome homes h (points_of flow j)) e ((is.each_block j).at_home, (is.each_block j).once)))

@@ -1,5 +1,6 @@
 -- What is visited in a run of a program of one graph over slots is known: numbers alone are shown.
-use Rattle.std.proofs.Common.{◌≡◌, ◌<◌, ◌≤◌, ℕ, zero, suc, pos, Bool, true, false, List, [], ◌∷◌, length, map, Option, Some, None}
+use Rattle.std.proofs.Common.{◌≡◌, ◌<◌, ◌≤◌, ℕ, zero, suc, pos, Bool, true, false, List, [], ◌∷◌, length, map, Option}
+use Rattle.std.proofs.Common.{Some, None}
 use Rattle.std.proofs.Common.{refl, sym, ap, subst, arith}
 use Rattle.std.specs.Prelude.{get_or, slice_get, option_map}
 use Rattle.std.proofs.lemmas.Option.{slice_get-get_or}
@@ -91,7 +92,8 @@ turn-known true zero g go o later e = subst (λ (r : Outcome). AreKnown r.visits
 turn-known true (suc turns) g go o later e = later turns e
 
 run-known : (flow : Flow) (listing : Listing) → AllByRecursion IsSlotOp flow.ops
-    → ((statement : ℕ) → AllByRecursion (IsShown flow) (listing statement)) → (steps turns : ℕ) (g : State) (o : Outcome)
+    → ((statement : ℕ) → AllByRecursion (IsShown flow) (listing statement))
+        → (steps turns : ℕ) (g : State) (o : Outcome)
     → IsWhole flow g → run_within (one_graph flow) listing steps turns g ≡ Some o → AreKnown o.visits
 run-known flow listing ops shown zero turns g o whole e = absurd (none-some o e)
 run-known flow listing ops shown (suc steps) turns g o whole e =
@@ -103,8 +105,10 @@ run-known flow listing ops shown (suc steps) turns g o whole e =
     run) e
 
 -- every outcome has known visits
-pub outcome-known : (flow : Flow) (listing : Listing) (input : List ℕ) (turns : ℕ) (o : Outcome) → AllByRecursion IsSlotOp flow.ops
-    → ((statement : ℕ) → AllByRecursion (IsShown flow) (listing statement)) → GraphOutcome (one_graph flow) listing input turns o
+pub outcome-known : (flow : Flow) (listing : Listing) (input : List ℕ) (turns : ℕ) (o : Outcome)
+    → AllByRecursion IsSlotOp flow.ops
+    → ((statement : ℕ) → AllByRecursion (IsShown flow) (listing statement))
+        → GraphOutcome (one_graph flow) listing input turns o
     → AreKnown o.visits
 outcome-known flow listing input turns o ops shown (s, first, steps, run) =
     run-known flow listing ops shown steps turns s o
@@ -139,6 +143,7 @@ shows-known program form flow slots code is listing lists input turns o run =
     (λ statement. subst (λ (fs : List Function). AllByRecursion (IsShown flow)
     (map (variable_part (locals_at fs statement)) (listing statement))) (sym form.one_function)
     (parts-listed flow f.locals (listing statement) form.accepted.locals enough
-    (subst (λ (fs : List Function). AllByRecursion (IsPartOf (locals_at fs statement)) (listing statement)) form.one_function
+    (subst (λ (fs : List Function). AllByRecursion (IsPartOf (locals_at fs statement)) (listing statement))
+        form.one_function
     (lists statement))))
     (subst (λ (p : GraphProgram). GraphOutcome p (variables_shown program listing) input turns o) is.laid.program run)

@@ -1,6 +1,7 @@
 -- When a map is that of a program: the program, its graphs, where their variables stand, and the addresses of their
 -- points fix what stands in it.
-use Rattle.std.specs.Prelude.{◌≡◌, ◌<◌, ◌≤◌, ◌⊎◌, ◌≢◌, ⊤, ℕ, ◌+◌, ◌*◌, List, [], ◌∷◌, ◌++◌, flat_map, length, map, slice_get, sum_by, take, Some}
+use Rattle.std.specs.Prelude.{◌≡◌, ◌<◌, ◌≤◌, ◌⊎◌, ◌≢◌, ⊤, ℕ, ◌+◌, ◌*◌, List, [], ◌∷◌, ◌++◌, flat_map, length, map}
+use Rattle.std.specs.Prelude.{slice_get, sum_by, take, Some}
 use Rattle.std.specs.List.{All, range_with_len}
 use Rattle.pcc_base.specs.declared.run.Width.{Width}
 use Rattle.pcc_base.specs.declared.run.Width.TheVariants.{One, Two}
@@ -17,7 +18,8 @@ use Rattle.c_lower.specs.Shown.{declared_before, local_widths, numbers_of}
 use Rattle.ia32_shows.specs.Paths.{IsAt}
 use Rattle.ia32_shows.specs.Placements.{Code, Placement, placement_of, point_address}
 use Rattle.ia32_places.specs.Places.{Place}
-use Rattle.pcc_listing.specs.Maps.{Map, MapObject, MapFunction, MapArray, MapVariable, MapPoint, Standing, NamesScalar, NamesArray, NamesIndex, Temporary, points_of}
+use Rattle.pcc_listing.specs.Maps.{Map, MapObject, MapFunction, MapArray, MapVariable, MapPoint, Standing, NamesScalar}
+use Rattle.pcc_listing.specs.Maps.{NamesArray, NamesIndex, Temporary, points_of}
 use Rattle.pcc_listing.specs.Marks.{marks_of}
 
 -- ---- objects, arrays and variables
@@ -60,21 +62,25 @@ AreDistinct (p ∷ ps) = All (λ q. q ≢ p) ps × AreDistinct ps
 
 -- The point is a mark of a function's graph. At a mark exactly the locals are listed that are declared before its
 -- statement, each with its variables in order.
-pub record IsMarkOf (first : ℕ) (f : Function) (flow : Flow) (placement : Placement) (addresses : ℕ → ℕ) (p : MapPoint) : Type 0 where
+pub record IsMarkOf (first : ℕ) (f : Function) (flow : Flow) (placement : Placement) (addresses : ℕ → ℕ)
+    (p : MapPoint) : Type 0 where
   pub statement : ℕ
   pub own : (first ≤ statement) × (statement < first + numbers_of f.body)
   pub marks : p.op ≡ Mark statement
   pub placed : IsPlaced flow p.number
   pub same_op : slice_get flow.ops p.number ≡ Some p.op
   pub address : p.address ≡ addresses p.number
-  pub lists : map (λ s. s.variable) p.before ≡ range_with_len 0 (length (local_widths (take (declared_before f statement) f.locals)))
+  pub lists : map (λ s. s.variable) p.before
+      ≡ range_with_len 0 (length (local_widths (take (declared_before f statement) f.locals)))
   pub places : All (λ s. placement.before p.number s.variable ≡ Some s.place) p.before
   pub apart : AreDistinct (map (λ s. s.place) p.before)
 
 -- ---- functions
 
--- The function of the map is that of a function of the program, whose first statement has this number, and of its graph.
-pub record IsFunctionOf (first : ℕ) (f : Function) (flow : Flow) (placement : Placement) (addresses : ℕ → ℕ) (m : MapFunction) : Type 0 where
+-- The function of the map is that of a function of the program, whose first statement has this number, and of its
+-- graph.
+pub record IsFunctionOf (first : ℕ) (f : Function) (flow : Flow) (placement : Placement) (addresses : ℕ → ℕ)
+    (m : MapFunction) : Type 0 where
   pub name : m.name ≡ f.name
   -- the four words below EBP, four bytes for each variable, and the arrays
   pub frame : m.frame ≡ 16 + 4 * length flow.widths + sum_by array_bytes flow.arrays
@@ -86,7 +92,8 @@ pub record IsFunctionOf (first : ℕ) (f : Function) (flow : Flow) (placement : 
   pub widths : map (λ v. v.width) m.variables ≡ flow.widths
   -- its points are the marks of the graph
   pub marks : All (IsMarkOf first f flow placement addresses) (points_of m)
-  pub all_marks : (point statement : ℕ) → IsPlaced flow point → slice_get flow.ops point ≡ Some (Mark statement) → IsIn point (map (λ p. p.number) (points_of m))
+  pub all_marks : (point statement : ℕ) → IsPlaced flow point → slice_get flow.ops point ≡ Some (Mark statement)
+      → IsIn point (map (λ p. p.number) (points_of m))
 
 -- ---- programs
 
@@ -98,6 +105,7 @@ pub record IsMapOf (program : Program) (code : Code) (m : Map) : Type 0 where
   pub functions : (k : ℕ) (f : Function) (flow : Flow) (x : MapFunction) → slice_get program.functions k ≡ Some f
       → slice_get code.program.functions k ≡ Some flow → slice_get m.functions k ≡ Some x
       → IsFunctionOf (first_statement program.functions k) f flow (placement_of code k) (point_address code k) x
-  pub each : (n : ℕ) → n < sum_by (λ f. numbers_of f.body) program.functions → IsIn n (map (λ mark. mark.statement) (marks_of m))
+  pub each : (n : ℕ) → n < sum_by (λ f. numbers_of f.body) program.functions
+      → IsIn n (map (λ mark. mark.statement) (marks_of m))
   pub once : IsDistinct (map (λ mark. mark.statement) (marks_of m))
   pub nops : All (λ mark. IsAt code.text mark.address (144 ∷ [])) (marks_of m)

@@ -47,7 +47,8 @@ op_points f slots address point (Some (Mark n)) =
 op_points f slots address point _ = []
 
 abbrev pub points_over : Function → List ℕ → (ℕ → ℕ) → List Op → List ℕ → List MapPoint
-points_over f slots address ops points = flat_map (λ point. op_points f slots address point (slice_get ops point)) points
+points_over f slots address ops points = flat_map (λ point. op_points f slots address point (slice_get ops point))
+    points
 
 -- the points of all blocks, in order
 abbrev pub all_points : Flow → List ℕ

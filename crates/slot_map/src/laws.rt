@@ -1,6 +1,7 @@
 //! Laws of the map of a function over slots: each function's contract is one, and the function does nothing.
 
-ghost use Rattle.slot_map.specs.MapLaws.{MapBelongs, MapBySameAddresses, MapKeepsRules, MapListsLocals, MapShowsKnown, MapShowsVisits};
+ghost use Rattle.slot_map.specs.MapLaws.{MapBelongs, MapBySameAddresses, MapKeepsRules, MapListsLocals, MapShowsKnown};
+ghost use Rattle.slot_map.specs.MapLaws.{MapShowsVisits};
 
 /// The map is that of the program: it names its function and its locals, marks each statement once, at its address, and
 /// lists there exactly the locals that are declared before it.

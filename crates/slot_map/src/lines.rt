@@ -78,7 +78,8 @@ fn push_mark(
     requires below { AreBelow offsets.now }
     ensures { OnOk result (
         map line_of lines.new.items
-        ≡ map line_of lines.old.items ++ point_lines (marked_point mark.point mark.address mark.statement (slots_of offsets.now))) }
+        ≡ map line_of lines.old.items ++ point_lines
+            (marked_point mark.point mark.address mark.statement (slots_of offsets.now))) }
 {
     let standings = standings(alloc, offsets)?;
     lines.push(Line::Mark {
@@ -185,7 +186,8 @@ fn push_points(
     ensures { OnOk result (
         map line_of lines.new.items
         ≡ map line_of lines.old.items
-        ++ flat_map point_lines (points_over (function_of function.now) (slots_of offsets.now) (λ point. slice_index addresses.now point) graph.now.ops (all_points graph.now))) }
+        ++ flat_map point_lines (points_over (function_of function.now) (slots_of offsets.now)
+            (λ point. slice_index addresses.now point) graph.now.ops (all_points graph.now))) }
 {
     let counts = declared_counts(alloc, function)?;
     let placed = placed_points(alloc, graph)?;
@@ -219,7 +221,8 @@ pub fn map_lines(
     requires addresses { (point : ℕ) → IsPlaced graph.now point → point < length addresses.now }
     ensures { IfOk result (λ lines.
         map line_of lines.items
-        ≡ lines_of (slot_map (function_of function.now) graph.now (slots_of offsets.now) (λ point. slice_index addresses.now point))) }
+        ≡ lines_of (slot_map (function_of function.now) graph.now (slots_of offsets.now)
+            (λ point. slice_index addresses.now point))) }
 {
     let variables = graph.vars();
     let mut lines = Vec::new(alloc);

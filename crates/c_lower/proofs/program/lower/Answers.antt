@@ -6,7 +6,8 @@ use Rattle.flow_graph.specs.Running.{IsNeverStuck}
 use Rattle.flow_graph.specs.States.{GraphProgram}
 use Rattle.c_lower.specs.Code.{slot_graphs}
 use Rattle.c_lower.specs.Lowering.{AreLowered, AreSlotGraphs, AreSmall, HaveMarks, KeepsOutcome, MarksOnce, graphs_of}
-use Rattle.c_lower.proofs.Kept.{functions-lowered, graphs-small, marks-kept, marks-once, outcome-kept, slots-kept, stuck-never}
+use Rattle.c_lower.proofs.Kept.{functions-lowered, graphs-small, marks-kept, marks-once, outcome-kept, slots-kept}
+use Rattle.c_lower.proofs.Kept.{stuck-never}
 use Rattle.c_lower.proofs.program.lower.Goals as goal
 
 pub returns-clause-outcome : goal.returns-clause-outcome
@@ -52,11 +53,15 @@ returns-clause-small c =
 pub returns-clause-statements : goal.returns-clause-statements
 returns-clause-statements c =
     let p = program_of c.args.program.now in
-    IfOk-weaker c.lower_program.result (λ graphs. graphs_of graphs ≡ slot_graphs p) (λ graphs. HaveMarks p (graphs_of graphs))
-    (λ graphs is. subst (λ (g : GraphProgram). HaveMarks p g) (sym is) (marks-kept p c.requires)) c.lower_program.ensures.graphs
+    IfOk-weaker c.lower_program.result (λ graphs. graphs_of graphs ≡ slot_graphs p)
+        (λ graphs. HaveMarks p (graphs_of graphs))
+    (λ graphs is. subst (λ (g : GraphProgram). HaveMarks p g) (sym is) (marks-kept p c.requires))
+        c.lower_program.ensures.graphs
 
 pub returns-clause-slots : goal.returns-clause-slots
 returns-clause-slots c =
     let p = program_of c.args.program.now in
-    IfOk-weaker c.lower_program.result (λ graphs. graphs_of graphs ≡ slot_graphs p) (λ graphs. AreSlotGraphs (graphs_of graphs))
-    (λ graphs is. subst (λ (g : GraphProgram). AreSlotGraphs g) (sym is) (slots-kept p c.requires)) c.lower_program.ensures.graphs
+    IfOk-weaker c.lower_program.result (λ graphs. graphs_of graphs ≡ slot_graphs p)
+        (λ graphs. AreSlotGraphs (graphs_of graphs))
+    (λ graphs is. subst (λ (g : GraphProgram). AreSlotGraphs g) (sym is) (slots-kept p c.requires))
+        c.lower_program.ensures.graphs

@@ -8,5 +8,6 @@ abbrev pub invariant-loop-statement : goal.invariant-loop-statement
 invariant-loop-statement l = record {
   slot : AreSlotStatements l.locals (statements_of (drop l.statement-index l.body));
   room : l.locals + code.temporaries (statements_of (drop l.statement-index l.body)) < 2 ^ 32;
-  emitted : l.ops.items ++ code.body_ops l.locals (statements_of (drop l.statement-index l.body)) ≡ l.initial.ops.items ++ code.body_ops l.locals (statements_of l.body);
+  emitted : l.ops.items ++ code.body_ops l.locals (statements_of (drop l.statement-index l.body))
+      ≡ l.initial.ops.items ++ code.body_ops l.locals (statements_of l.body);
 }

@@ -8,5 +8,6 @@ abbrev pub invariant-loop-statement : goal.invariant-loop-statement
 invariant-loop-statement l = record {
   slot : AreSlotStatements l.locals (statements_of (drop l.statement-index l.body));
   low : code.temporaries (statements_of (drop l.statement-index l.body)) < 2 ^ 32;
-  most : max l.most (code.temporaries (statements_of (drop l.statement-index l.body))) ≡ code.temporaries (statements_of l.body);
+  most : max l.most (code.temporaries (statements_of (drop l.statement-index l.body)))
+      ≡ code.temporaries (statements_of l.body);
 }

@@ -5,4 +5,5 @@ use Rattle.c_parse_statements.proofs.jumps.simple.Goals as goal
 
 pub returns-clause-reads : goal.returns-clause-reads
 returns-clause-reads c =
-    simple_parted (below_node c.args.height) c.args.parser.now.rest.now ∙ (rw (c.in_ok-clause.ensures.reads, c.simple_node.ensures) refl)
+    simple_parted (below_node c.args.height) c.args.parser.now.rest.now
+        ∙ (rw (c.in_ok-clause.ensures.reads, c.simple_node.ensures) refl)

@@ -10,14 +10,16 @@ pub labels-preserved : goal.labels-preserved
 labels-preserved c =
     let turn = rw c.in-Some.is at c.in_ok-label.ensures in
     record {
-      reads = label_more (below c.args.height).conditional _ _ _ _ _ _ c.labels.invariant.reads turn c.in_ok-push.ensures.ok;
+      reads = label_more (below c.args.height).conditional _ _ _ _ _ _ c.labels.invariant.reads turn
+          c.in_ok-push.ensures.ok;
       shorter = omega (arith, turn.1, c.labels.invariant.shorter);
     }
 
 pub returns-in_err-label-clause-reads : goal.returns-in_err-label-clause-reads
 returns-in_err-label-clause-reads c =
     let p = err_from_is_err_and c.from_residual.result c.from_residual.ensures.1 in
-    rw (p.1, p.2) (refused_turn _ _ _ _ _ c.labels.invariant.reads (c.in_err-label.ensures (map label_of c.labels.labels.items)))
+    rw (p.1, p.2) (refused_turn _ _ _ _ _ c.labels.invariant.reads
+        (c.in_err-label.ensures (map label_of c.labels.labels.items)))
 
 pub returns-clause-reads : goal.returns-clause-reads
 returns-clause-reads c =

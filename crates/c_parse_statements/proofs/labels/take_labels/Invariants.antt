@@ -8,7 +8,8 @@ use Rattle.c_parse_statements.proofs.labels.take_labels.Given as goal
 
 abbrev pub invariant-labels : goal.invariant-labels
 invariant-labels l = record {
-  reads : Continues (label_step (below l.height).conditional) (map label_of l.labels.items) l.parser.rest.now (read_labels (below l.height).conditional l.fn.parser.rest.now);
+  reads : Continues (label_step (below l.height).conditional) (map label_of l.labels.items) l.parser.rest.now
+      (read_labels (below l.height).conditional l.fn.parser.rest.now);
   shorter : length l.parser.rest.now ≤ length l.fn.parser.rest.now;
 }
 

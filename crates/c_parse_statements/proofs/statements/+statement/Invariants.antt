@@ -52,7 +52,8 @@ decreases-statement_below l = 16 * l.height + 4
 
 abbrev pub invariant-block_items-items : goal.invariant-block_items-items
 invariant-block_items-items l = record {
-  reads : Continues (until_step (below_node l.height).item) (map stmt_of l.statements.items) l.parser.rest.now (read_until (below_node l.height).item l.fn.parser.rest.now);
+  reads : Continues (until_step (below_node l.height).item) (map stmt_of l.statements.items) l.parser.rest.now
+      (read_until (below_node l.height).item l.fn.parser.rest.now);
   shorter : length l.parser.rest.now ≤ length l.fn.parser.rest.now;
 }
 
@@ -61,7 +62,8 @@ decreases-block_items-items l = length l.parser.rest.now
 
 abbrev pub invariant-switch_items-items : goal.invariant-switch_items-items
 invariant-switch_items-items l = record {
-  reads : Continues (until_step (below_node l.height).labelled) (map stmt_of l.statements.items) l.parser.rest.now (read_until (below_node l.height).labelled l.fn.parser.rest.now);
+  reads : Continues (until_step (below_node l.height).labelled) (map stmt_of l.statements.items) l.parser.rest.now
+      (read_until (below_node l.height).labelled l.fn.parser.rest.now);
   shorter : length l.parser.rest.now ≤ length l.fn.parser.rest.now;
 }
 

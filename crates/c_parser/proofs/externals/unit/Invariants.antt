@@ -8,7 +8,8 @@ use Rattle.c_parser.proofs.externals.unit.Given as goal
 
 abbrev pub invariant-externals : goal.invariant-externals
 invariant-externals l =
-    Continues (unit_step (below_node l.height)) (map external_of l.externals.items) l.parser.rest.now (read_unit (below_node l.height) l.fn.parser.rest.now)
+    Continues (unit_step (below_node l.height)) (map external_of l.externals.items) l.parser.rest.now
+        (read_unit (below_node l.height) l.fn.parser.rest.now)
 
 abbrev pub decreases-externals : goal.decreases-externals
 decreases-externals l = length l.parser.rest.now

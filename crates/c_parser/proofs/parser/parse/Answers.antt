@@ -8,4 +8,5 @@ returns-in-Ok-clause-tree c =
 
 pub returns-in-Err-Fault-clause-refused : goal.returns-in-Err-Fault-clause-refused
 returns-in-Err-Fault-clause-refused c =
-    rw (sym c.as_slice-tokens.ensures.value) (c.fault_of.ensures _ c.in_default.ensures.none (no_tree _ (rw c.in-Err-Fault.field-0-is at c.in-Err-Fault.ensures.reads)))
+    rw (sym c.as_slice-tokens.ensures.value) (c.fault_of.ensures _ c.in_default.ensures.none
+        (no_tree _ (rw c.in-Err-Fault.field-0-is at c.in-Err-Fault.ensures.reads)))

@@ -14,16 +14,20 @@ returns-then-not-is_apart_from c =
           let others : AllPairs AreApart (map piece_of (c.in-Some.first.now ∷ c.in-Some.others.now)) =
           subst (λ (xs : List Segment). AllPairs AreApart (map piece_of xs)) rest left in
           sym c.if-not-is_apart_from.true
-          ∙ c.is_apart_from.ensures.1 (pairs-split AreApart (piece_of c.in-Some.first.now) (map piece_of c.in-Some.others.now) others).0,
+          ∙ c.is_apart_from.ensures.1 (pairs-split AreApart (piece_of c.in-Some.first.now)
+              (map piece_of c.in-Some.others.now) others).0,
     )
 
 pub loop-first-preserved : goal.loop-first-preserved
 loop-first-preserved c =
     let rest : c.loop-first.rest.now ≡ c.in-Some.first.now ∷ c.in-Some.others.now = c.in-Some.ensures.cases.0 in
-    let step : AllPairs AreApart (map piece_of (c.in-Some.first.now ∷ c.in-Some.others.now)) ↔ AllPairs AreApart (map piece_of c.in-Some.others.now) =
-    pairs-step (piece_of c.in-Some.first.now) (map piece_of c.in-Some.others.now) (c.is_apart_from.ensures.0 c.if-not-is_apart_from.false) in
+    let step : AllPairs AreApart (map piece_of (c.in-Some.first.now ∷ c.in-Some.others.now))
+        ↔ AllPairs AreApart (map piece_of c.in-Some.others.now) =
+    pairs-step (piece_of c.in-Some.first.now) (map piece_of c.in-Some.others.now)
+        (c.is_apart_from.ensures.0 c.if-not-is_apart_from.false) in
     let Apart : List Segment → Type 0 = λ xs. AllPairs AreApart (map piece_of xs) in
-    (λ all. step.0 (subst Apart rest (c.loop-first.invariant.0 all)), λ others. c.loop-first.invariant.1 (subst Apart (sym rest) (step.1 others)))
+    (λ all. step.0 (subst Apart rest (c.loop-first.invariant.0 all)),
+        λ others. c.loop-first.invariant.1 (subst Apart (sym rest) (step.1 others)))
 
 pub returns : goal.returns
 returns c =

@@ -1,5 +1,6 @@
 -- The parts are where the fields say, and a written image has room for them.
-use Rattle.std.proofs.Common.{◌≡◌, ℕ, ◌+◌, ◌-◌, ◌<◌, List, length, take, drop, get_or, Fits, w8, refl, sym, ap, subst, ◌∙◌, arith, rules, length-drop}
+use Rattle.std.proofs.Common.{◌≡◌, ℕ, ◌+◌, ◌-◌, ◌<◌, List, length, take, drop, get_or, Fits, w8, refl, sym, ap, subst}
+use Rattle.std.proofs.Common.{◌∙◌, arith, rules, length-drop}
 use Rattle.std.proofs.Math.Facts.{Fits-lt-pow}
 use Rattle.std.proofs.lemmas.List.{get_or_default, length-take}
 use Rattle.std.proofs.lemmas.List.Elements.{All-take, All-drop}
@@ -17,13 +18,16 @@ returns-then-bytes-lt-PAGE-clause-not_image c = λ _ parts fits same.
 
 pub returns-then-bytes-data_start-clause-not_image : goal.returns-then-bytes-data_start-clause-not_image
 returns-then-bytes-data_start-clause-not_image c = λ _ parts fits same.
-    let field = field-reads 68 c.read_u32-text_len.result c.args.bytes.now (omega arith) (omega arith) c.read_u32-text_len.ensures in
+    let field = field-reads 68 c.read_u32-text_len.result c.args.bytes.now (omega arith) (omega arith)
+        c.read_u32-text_len.ensures in
     let room = image-room c.args.bytes.now parts c.read_u32-text_len.result fits same field in
     absurd (omega (arith, room.text))
 
-pub returns-then-text_len-bytes-gt-IMAGE_LIMIT-clause-not_image : goal.returns-then-text_len-bytes-gt-IMAGE_LIMIT-clause-not_image
+pub returns-then-text_len-bytes-gt-IMAGE_LIMIT-clause-not_image
+    : goal.returns-then-text_len-bytes-gt-IMAGE_LIMIT-clause-not_image
 returns-then-text_len-bytes-gt-IMAGE_LIMIT-clause-not_image c = λ _ parts fits same.
-    let field = field-reads 68 c.read_u32-text_len.result c.args.bytes.now (omega arith) (omega arith) c.read_u32-text_len.ensures in
+    let field = field-reads 68 c.read_u32-text_len.result c.args.bytes.now (omega arith) (omega arith)
+        c.read_u32-text_len.ensures in
     let room = image-room c.args.bytes.now parts c.read_u32-text_len.result fits same field in
     absurd (omega (arith, room.size))
 
@@ -40,8 +44,10 @@ returns-clause-parts c =
     ∙ ap (λ (k : ℕ). 4096 + next_multiple_of k 4096) field in
     parts-equal
     entry
-    (c.in_ok-text.ensures.items_if_clones_equal (λ _ _ same. same) ∙ ap (λ (k : ℕ). take k (drop 4096 bytes)) (count ∙ field))
-    (c.in_ok-data_bytes.ensures.items_if_clones_equal (λ _ _ same. same) ∙ take-rest start bytes ∙ ap (λ (k : ℕ). drop k bytes) begins)
+    (c.in_ok-text.ensures.items_if_clones_equal (λ _ _ same. same)
+        ∙ ap (λ (k : ℕ). take k (drop 4096 bytes)) (count ∙ field))
+    (c.in_ok-data_bytes.ensures.items_if_clones_equal (λ _ _ same. same) ∙ take-rest start bytes
+        ∙ ap (λ (k : ℕ). drop k bytes) begins)
 
 -- the items of a slice of bytes are below 256
 below-256 : (xs : List ℕ) → ((i : ℕ) → Fits w8 (get_or xs i 0)) → AreBytes xs
@@ -57,11 +63,15 @@ returns-clause-fits c =
     let all : AreBytes bytes = below-256 bytes c.type_inv.bytes in
     let parts = returns-clause-parts c in
     let start = 4096 + c.next_multiple_of-data_start.result in
-    let text-length = ap length (c.in_ok-text.ensures.items_if_clones_equal (λ _ _ same. same)) ∙ length-take (4096 + c.read_u32-text_len.result - 4096) (drop 4096 bytes) in
-    let data-length = ap length (c.in_ok-data_bytes.ensures.items_if_clones_equal (λ _ _ same. same) ∙ take-rest start bytes) ∙ length-drop start bytes in
+    let text-length = ap length (c.in_ok-text.ensures.items_if_clones_equal (λ _ _ same. same))
+        ∙ length-take (4096 + c.read_u32-text_len.result - 4096) (drop 4096 bytes) in
+    let data-length = ap length (c.in_ok-data_bytes.ensures.items_if_clones_equal (λ _ _ same. same)
+        ∙ take-rest start bytes) ∙ length-drop start bytes in
     record {
       entry = search rules;
-      text = subst Holds (sym (ap (λ (p : Parts). p.text) parts)) (All-take Below (text_length bytes) (drop 4096 bytes) (All-drop Below 4096 bytes all));
-      data_bytes = subst Holds (sym (ap (λ (p : Parts). p.data_bytes) parts)) (All-drop Below (4096 + next_multiple_of (text_length bytes) 4096) bytes all);
+      text = subst Holds (sym (ap (λ (p : Parts). p.text) parts))
+          (All-take Below (text_length bytes) (drop 4096 bytes) (All-drop Below 4096 bytes all));
+      data_bytes = subst Holds (sym (ap (λ (p : Parts). p.data_bytes) parts))
+          (All-drop Below (4096 + next_multiple_of (text_length bytes) 4096) bytes all);
       size = omega (arith, text-length, data-length);
     }

@@ -9,7 +9,10 @@ abbrev pub invariant-loop-section : goal.invariant-loop-section
 invariant-loop-section l =
     record {
       many : length l.addresses.items ≡ length l.sections.items;
-      made : IsFilled (order_of l.sections.items) (addresses_from l.fn.start l.sections.items) l.addresses.items l.section-index;
-      next : drop l.section-index (addresses_from l.fn.start l.sections.items) ≡ addresses_from l.address (drop l.section-index l.sections.items);
-      left : l.address + sections_size (drop l.section-index l.sections.items) ≡ l.fn.start + sections_size l.sections.items;
+      made : IsFilled (order_of l.sections.items) (addresses_from l.fn.start l.sections.items) l.addresses.items
+          l.section-index;
+      next : drop l.section-index (addresses_from l.fn.start l.sections.items)
+          ≡ addresses_from l.address (drop l.section-index l.sections.items);
+      left : l.address + sections_size (drop l.section-index l.sections.items)
+          ≡ l.fn.start + sections_size l.sections.items;
     }

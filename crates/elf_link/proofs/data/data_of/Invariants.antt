@@ -6,4 +6,5 @@ use Rattle.elf_link.specs.Linking.{object_of}
 use Rattle.elf_link.proofs.data.data_of.Given as goal
 
 abbrev pub invariant-loop-object : goal.invariant-loop-object
-invariant-loop-object l = l.bytes.items ++ flat_map object_bytes (map object_of (drop l.object-index l.objects.items)) ≡ data_bytes (map object_of l.objects.items)
+invariant-loop-object l = l.bytes.items ++ flat_map object_bytes (map object_of (drop l.object-index l.objects.items))
+    ≡ data_bytes (map object_of l.objects.items)

@@ -9,7 +9,10 @@ abbrev pub invariant-loop-section : goal.invariant-loop-section
 invariant-loop-section l =
     record {
       many : length l.points.items ≡ length l.sections.items;
-      made : IsFilled (order_of l.sections.items) (points_from l.fn.start l.sections.items) (map (λ v. v.items) l.points.items) l.section-index;
-      next : drop l.section-index (points_from l.fn.start l.sections.items) ≡ points_from l.address (drop l.section-index l.sections.items);
-      left : l.address + sections_size (drop l.section-index l.sections.items) ≡ l.fn.start + sections_size l.sections.items;
+      made : IsFilled (order_of l.sections.items) (points_from l.fn.start l.sections.items)
+          (map (λ v. v.items) l.points.items) l.section-index;
+      next : drop l.section-index (points_from l.fn.start l.sections.items)
+          ≡ points_from l.address (drop l.section-index l.sections.items);
+      left : l.address + sections_size (drop l.section-index l.sections.items)
+          ≡ l.fn.start + sections_size l.sections.items;
     }

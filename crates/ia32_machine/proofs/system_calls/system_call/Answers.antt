@@ -5,7 +5,10 @@ use Rattle.ia32_insn.specs.Meaning.{Moved, word_of}
 use Rattle.ia32_machine.specs.First.{lent}
 use Rattle.ia32_machine.specs.Performs.{PartTold}
 use Rattle.ia32_machine.proofs.Calls.{call_exit, call_read, call_write, call_none}
-use Rattle.ia32_machine.proofs.system_calls.system_call.Goals.{else-call-eq3-via-then-call-eq3+else-first-eq0, else-call-eq3-via-else-call-eq3, else-call-eq4-via-then-call-eq4+else-first-eq1, else-call-eq4-via-else-call-eq4}
+use Rattle.ia32_machine.proofs.system_calls.system_call.Goals.{else-call-eq3-via-then-call-eq3+else-first-eq0}
+use Rattle.ia32_machine.proofs.system_calls.system_call.Goals.{else-call-eq3-via-else-call-eq3}
+use Rattle.ia32_machine.proofs.system_calls.system_call.Goals.{else-call-eq4-via-then-call-eq4+else-first-eq1}
+use Rattle.ia32_machine.proofs.system_calls.system_call.Goals.{else-call-eq4-via-else-call-eq4}
 use Rattle.ia32_machine.proofs.system_calls.system_call.Goals as goal
 
 pub overflow_cast-result : goal.overflow_cast-result
@@ -13,7 +16,8 @@ overflow_cast-result g c = omega arith
 
 pub returns-then-call-eq1-clause-told : goal.returns-then-call-eq1-clause-told
 returns-then-call-eq1-clause-told g c = λ _ _.
-    rw c.word-first.ensures (call_exit c.args.processor.now (g.I.Source.left c.args.input.now) (g.O.Sink.taken c.args.out.now) c.requires (sym c.word-call.ensures ∙ c.if-call-eq1.true))
+    rw c.word-first.ensures (call_exit c.args.processor.now (g.I.Source.left c.args.input.now)
+        (g.O.Sink.taken c.args.out.now) c.requires (sym c.word-call.ensures ∙ c.if-call-eq1.true))
 
 pub returns-then-call-eq1-clause-counted : goal.returns-then-call-eq1-clause-counted
 returns-then-call-eq1-clause-counted g c = (refl, refl)
@@ -31,8 +35,10 @@ pub returns-then-first-eq0-clause-told : goal.returns-then-first-eq0-clause-told
 returns-then-first-eq0-clause-told g c = λ i _.
     let left : List ℕ = g.I.Source.left c.args.input.now in
     let taken : List ℕ = g.O.Sink.taken c.args.out.now in
-    subst (λ (m : Moved). PartTold m (lent c.args.processor.now left) c.read_call.new.processor (g.I.Source.left c.read_call.new.input) taken taken c.read_call.result)
-    (call_read c.args.processor.now left (sym c.word-call.ensures ∙ c.if-call-eq3.true) (sym c.word-first.ensures ∙ c.if-first-eq0.true)) (c.read_call.ensures.told i taken)
+    subst (λ (m : Moved). PartTold m (lent c.args.processor.now left) c.read_call.new.processor
+        (g.I.Source.left c.read_call.new.input) taken taken c.read_call.result)
+    (call_read c.args.processor.now left (sym c.word-call.ensures ∙ c.if-call-eq3.true)
+        (sym c.word-first.ensures ∙ c.if-first-eq0.true)) (c.read_call.ensures.told i taken)
 
 pub returns-then-first-eq0-clause-counted : goal.returns-then-first-eq0-clause-counted
 returns-then-first-eq0-clause-counted g c = c.read_call.ensures.counted (g.O.Sink.counts c.args.out.now)
@@ -49,8 +55,10 @@ write_call-requires g c = c.requires
 pub returns-then-first-eq1-clause-told : goal.returns-then-first-eq1-clause-told
 returns-then-first-eq1-clause-told g c = λ _ o.
     let left : List ℕ = g.I.Source.left c.args.input.now in
-    subst (λ (m : Moved). PartTold m (lent c.args.processor.now left) c.write_call.new.processor left (g.O.Sink.taken c.args.out.now) (g.O.Sink.taken c.write_call.new.out) c.write_call.result)
-    (call_write c.args.processor.now left (sym c.word-call.ensures ∙ c.if-call-eq4.true) (sym c.word-first.ensures ∙ c.if-first-eq1.true)) (c.write_call.ensures.told o left)
+    subst (λ (m : Moved). PartTold m (lent c.args.processor.now left) c.write_call.new.processor left
+        (g.O.Sink.taken c.args.out.now) (g.O.Sink.taken c.write_call.new.out) c.write_call.result)
+    (call_write c.args.processor.now left (sym c.word-call.ensures ∙ c.if-call-eq4.true)
+        (sym c.word-first.ensures ∙ c.if-first-eq1.true)) (c.write_call.ensures.told o left)
 
 pub returns-then-first-eq1-clause-counted : goal.returns-then-first-eq1-clause-counted
 returns-then-first-eq1-clause-counted g c = c.write_call.ensures.counted (g.I.Source.faults c.args.input.now)
@@ -75,7 +83,8 @@ returns-clause-told g c = λ _ _.
       | else-call-eq4-via-then-call-eq4+else-first-eq1 w ↦ w.if-first-eq1.false (c.word-first.ensures ∙ file)
       | else-call-eq4-via-else-call-eq4 w ↦ w.if-call-eq4.false (c.word-call.ensures ∙ call)
     ] in
-    rw c.eip.ensures.value (call_none old (g.I.Source.left c.args.input.now) (g.O.Sink.taken c.args.out.now) c.requires exit read write)
+    rw c.eip.ensures.value (call_none old (g.I.Source.left c.args.input.now) (g.O.Sink.taken c.args.out.now) c.requires
+        exit read write)
 
 pub returns-clause-counted : goal.returns-clause-counted
 returns-clause-counted g c = (refl, refl)

@@ -25,23 +25,28 @@ returns-clause-assembles c =
     let flow : Flow = c.args.graph.now in
     let slots : List ℕ = slots_of c.args.offsets.now in
     IfOk-weaker c.select_items.result (λ v. v.items ≡ selected flow slots) (λ v. CanAssemble v.items)
-    (λ v e. subst CanAssemble (sym e) (selected-assembles flow c.is_flow.ensures.0 slots c.is_flow.ensures.1 c.requires.slots c.requires.few_points))
+    (λ v e. subst CanAssemble (sym e) (selected-assembles flow c.is_flow.ensures.0 slots c.is_flow.ensures.1
+        c.requires.slots c.requires.few_points))
     c.select_items.ensures
 
 pub returns-clause-size : goal.returns-clause-size
 returns-clause-size c =
     let flow : Flow = c.args.graph.now in
     let slots : List ℕ = slots_of c.args.offsets.now in
-    IfOk-weaker c.select_items.result (λ v. v.items ≡ selected flow slots) (λ v. items_size v.items ≤ 800 * length flow.ops + 8 * length flow.widths + 64)
-    (λ v e. subst (λ (items : List Item). items_size items ≤ 800 * length flow.ops + 8 * length flow.widths + 64) (sym e) (selected-size flow c.is_flow.ensures.0 slots c.is_flow.ensures.1 c.requires.slots))
+    IfOk-weaker c.select_items.result (λ v. v.items ≡ selected flow slots)
+        (λ v. items_size v.items ≤ 800 * length flow.ops + 8 * length flow.widths + 64)
+    (λ v e. subst (λ (items : List Item). items_size items ≤ 800 * length flow.ops + 8 * length flow.widths + 64)
+        (sym e) (selected-size flow c.is_flow.ensures.0 slots c.is_flow.ensures.1 c.requires.slots))
     c.select_items.ensures
 
 pub returns-clause-points : goal.returns-clause-points
 returns-clause-points c =
     let flow : Flow = c.args.graph.now in
     let slots : List ℕ = slots_of c.args.offsets.now in
-    IfOk-weaker c.select_items.result (λ v. v.items ≡ selected flow slots) (λ v. (p : ℕ) → Stands (item.Point p) v.items ↔ IsPlaced flow p)
-    (λ v e p. (λ s. stands-placed flow slots p (subst (Stands (item.Point p)) e s), λ s. subst (Stands (item.Point p)) (sym e) (placed-stands flow slots p s)))
+    IfOk-weaker c.select_items.result (λ v. v.items ≡ selected flow slots)
+        (λ v. (p : ℕ) → Stands (item.Point p) v.items ↔ IsPlaced flow p)
+    (λ v e p. (λ s. stands-placed flow slots p (subst (Stands (item.Point p)) e s),
+        λ s. subst (Stands (item.Point p)) (sym e) (placed-stands flow slots p s)))
     c.select_items.ensures
 
 pub returns-clause-names : goal.returns-clause-names

@@ -1,5 +1,6 @@
 -- One more variable has its offset.
-use Rattle.std.proofs.Common.{◌≡◌, ℕ, ◌+◌, ◌*◌, ◌<◌, suc, ℤ, pos, negsuc, ◌-ℤ◌, ◌*ℤ◌, List, [], ◌∷◌, ◌++◌, map, sym, ap, ◌∙◌, arith, to_z, of_z}
+use Rattle.std.proofs.Common.{◌≡◌, ℕ, ◌+◌, ◌*◌, ◌<◌, suc, ℤ, pos, negsuc, ◌-ℤ◌, ◌*ℤ◌, List, [], ◌∷◌, ◌++◌, map, sym, ap}
+use Rattle.std.proofs.Common.{◌∙◌, arith, to_z, of_z}
 use Rattle.std.specs.Int.{w32}
 use Rattle.std.specs.List.{range_with_len}
 use Rattle.std.proofs.lemmas.List.{map-append}
@@ -19,11 +20,15 @@ offsets_more n =
     ∙ ap offsets_for s
 
 -- the offset as it is computed in 32 bits
-offset_computed : (n : ℕ) (z : ℤ) → n < 4096 → z ≡ pos n → to_z w32 (of_z w32 (negsuc 19 -ℤ to_z w32 (of_z w32 (pos 4 *ℤ z)))) ≡ offset_at n
+offset_computed : (n : ℕ) (z : ℤ) → n < 4096 → z ≡ pos n
+    → to_z w32 (of_z w32 (negsuc 19 -ℤ to_z w32 (of_z w32 (pos 4 *ℤ z)))) ≡ offset_at n
 offset_computed n z h e =
-    let four : to_z w32 (of_z w32 (pos 4 *ℤ pos n)) ≡ pos (4 * n) = to_z-of_z w32 (pos 4 *ℤ pos n) (omega (arith, ints)) ∙ omega (arith, ints) in
-    let whole : to_z w32 (of_z w32 (negsuc 19 -ℤ pos (4 * n))) ≡ offset_at n = to_z-of_z w32 (negsuc 19 -ℤ pos (4 * n)) (omega (arith, ints)) ∙ omega (arith, ints) in
-    ap (λ (x : ℤ). to_z w32 (of_z w32 (negsuc 19 -ℤ to_z w32 (of_z w32 (pos 4 *ℤ x))))) e ∙ ap (λ (x : ℤ). to_z w32 (of_z w32 (negsuc 19 -ℤ x))) four ∙ whole
+    let four : to_z w32 (of_z w32 (pos 4 *ℤ pos n)) ≡ pos (4 * n) = to_z-of_z w32 (pos 4 *ℤ pos n) (omega (arith, ints))
+        ∙ omega (arith, ints) in
+    let whole : to_z w32 (of_z w32 (negsuc 19 -ℤ pos (4 * n))) ≡ offset_at n =
+        to_z-of_z w32 (negsuc 19 -ℤ pos (4 * n)) (omega (arith, ints)) ∙ omega (arith, ints) in
+    ap (λ (x : ℤ). to_z w32 (of_z w32 (negsuc 19 -ℤ to_z w32 (of_z w32 (pos 4 *ℤ x))))) e
+        ∙ ap (λ (x : ℤ). to_z w32 (of_z w32 (negsuc 19 -ℤ x))) four ∙ whole
 
 pub loop-variable-preserved : goal.loop-variable-preserved
 loop-variable-preserved c =

@@ -12,4 +12,5 @@ loop-place-preserved c =
 pub returns : goal.returns
 returns c =
     let last : c.loop-place.place ≡ 8 = omega arith in
-    c.loop-place.invariant ∙ ap (λ ds. c.args.out.now.items ++ ds) (hexadecimal-all c.args.address c.loop-place.place last)
+    c.loop-place.invariant ∙ ap (λ ds. c.args.out.now.items ++ ds)
+        (hexadecimal-all c.args.address c.loop-place.place last)

@@ -5,4 +5,5 @@ use Rattle.pcc_listing.proofs.lines.print_lines.Given as goal
 
 -- the lines so far have their texts
 abbrev pub invariant-loop-line : goal.invariant-loop-line
-invariant-loop-line l = l.out.items ≡ l.initial.out.items ++ flat_map line_text (map line_of (take l.line-index l.lines.items))
+invariant-loop-line l = l.out.items ≡ l.initial.out.items
+    ++ flat_map line_text (map line_of (take l.line-index l.lines.items))

@@ -5,4 +5,5 @@ use Rattle.pcc_listing.proofs.lines.push_standings.Given as goal
 
 -- the variables so far have their texts
 abbrev pub invariant-loop-standing : goal.invariant-loop-standing
-invariant-loop-standing l = l.out.items ≡ l.initial.out.items ++ flat_map standing_text (map standing_of (take l.standing-index l.standings))
+invariant-loop-standing l = l.out.items ≡ l.initial.out.items
+    ++ flat_map standing_text (map standing_of (take l.standing-index l.standings))

@@ -1,4 +1,5 @@
-use Rattle.std.proofs.Common.{◌≡◌, ◌<◌, ℕ, ℤ, List, ◌++◌, flat_map, length, map, take, slice_index, refl, sym, ap, ◌∙◌, arith}
+use Rattle.std.proofs.Common.{◌≡◌, ◌<◌, ℕ, ℤ, List, ◌++◌, flat_map, length, map, take, slice_index, refl, sym, ap, ◌∙◌}
+use Rattle.std.proofs.Common.{arith}
 use Rattle.std.proofs.lemmas.List.{append-nil, length-map, length-take, take-map}
 use Rattle.std.specs.Prelude.{slice_get, slice_index_or, Some}
 use Rattle.std.proofs.lemmas.List.FromFn.{length-map-range_with_len}
@@ -27,12 +28,14 @@ declared_counts-requires-clause-few c =
 pub op-requires : goal.op-requires
 op-requires c =
     let points = c.deref-point-items.result.now in
-    placed-at c.args.graph.now points c.loop-point.point-index 0 _ (c.deref-point-items.ensures.value ∙ c.in_ok-placed.ensures) c.loop-point-test.true refl
+    placed-at c.args.graph.now points c.loop-point.point-index 0 _
+        (c.deref-point-items.ensures.value ∙ c.in_ok-placed.ensures) c.loop-point-test.true refl
 
 pub bounds-addresses-point : goal.bounds-addresses-point
 bounds-addresses-point c =
     let points = c.deref-point-items.result.now in
-    let placed = placed-at c.args.graph.now points c.loop-point.point-index 0 _ (c.deref-point-items.ensures.value ∙ c.in_ok-placed.ensures) c.loop-point-test.true refl in
+    let placed = placed-at c.args.graph.now points c.loop-point.point-index 0 _
+        (c.deref-point-items.ensures.value ∙ c.in_ok-placed.ensures) c.loop-point-test.true refl in
     c.requires.addresses _ placed
 
 pub index-requires : goal.index-requires
@@ -50,13 +53,16 @@ slice_bounds-push_mark-end c =
     let body = c.args.function.now.body.items in
     let at = c.op.ensures ∙ ap Some c.in-Mark.is in
     let below = marked-below f c.args.graph.now body _ c.in-Mark.statement c.requires.form c.requires.marks refl at in
-    let is = declared-read c.in_ok-counts.counts.items f (length body) c.in-Mark.statement c.index.result.now c.in_ok-counts.ensures below c.index.ensures in
+    let is = declared-read c.in_ok-counts.counts.items f (length body) c.in-Mark.statement c.index.result.now
+        c.in_ok-counts.ensures below c.index.ensures in
     let few = function-declares f c.in-Mark.statement c.requires.form in
     let room = locals-fit f c.args.graph.now c.requires.form c.requires.lowered in
-    omega (arith, is, few, room, length-offsets c.args.graph.now c.args.offsets.now c.requires.slots, length-take {A = ℤ})
+    omega (arith, is, few, room, length-offsets c.args.graph.now c.args.offsets.now c.requires.slots,
+        length-take {A = ℤ})
 
 pub push_mark-requires-clause-below : goal.push_mark-requires-clause-below
-push_mark-requires-clause-below c = every-take (λ z. 0 < distance z) c.index.result.now c.args.offsets.now (below-slots c.args.graph.now c.args.offsets.now c.requires.slots)
+push_mark-requires-clause-below c = every-take (λ z. 0 < distance z) c.index.result.now c.args.offsets.now
+    (below-slots c.args.graph.now c.args.offsets.now c.requires.slots)
 
 pub loop-point-preserved : goal.loop-point-preserved
 loop-point-preserved c =
@@ -76,12 +82,17 @@ loop-point-preserved c =
           let n = w.in-Mark.statement in
           let at : slice_get ops p ≡ Some (op.Mark n) = c.op.ensures ∙ ap Some w.in-Mark.is in
           let below = marked-below f c.args.graph.now body p n c.requires.form c.requires.marks refl at in
-          let is = declared-read c.in_ok-counts.counts.items f (length body) n w.index.result.now c.in_ok-counts.ensures below w.index.ensures in
-          let same = ap (λ (k : ℕ). slots_of (take k offsets)) is ∙ sym (take-map distance (declared_before f n) offsets) in
-          let put = w.in_ok-push_mark.ensures ∙ ap (λ (slots : List ℕ). old ++ point_lines (marked_point p (address p) n slots)) same in
-          rw w.lines-is (point-put start old (map line_of w.push_mark.new.lines.items) f (slots_of offsets) address ops points i 0 p (op.Mark n) c.loop-point-test.true refl at c.loop-point.invariant put)
+          let is = declared-read c.in_ok-counts.counts.items f (length body) n w.index.result.now c.in_ok-counts.ensures
+              below w.index.ensures in
+          let same = ap (λ (k : ℕ). slots_of (take k offsets)) is
+              ∙ sym (take-map distance (declared_before f n) offsets) in
+          let put = w.in_ok-push_mark.ensures ∙ ap
+              (λ (slots : List ℕ). old ++ point_lines (marked_point p (address p) n slots)) same in
+          rw w.lines-is (point-put start old (map line_of w.push_mark.new.lines.items) f (slots_of offsets) address ops
+              points i 0 p (op.Mark n) c.loop-point-test.true refl at c.loop-point.invariant put)
       | in_default w ↦
           let none = other-points f (slots_of offsets) address p c.op.result.now w.in_default.not-Mark in
           let put = sym (append-nil old) ∙ ap (λ (ps : List MapPoint). old ++ flat_map point_lines ps) (sym none) in
-          rw w.lines-is (point-put start old old f (slots_of offsets) address ops points i 0 p c.op.result.now c.loop-point-test.true refl c.op.ensures c.loop-point.invariant put)
+          rw w.lines-is (point-put start old old f (slots_of offsets) address ops points i 0 p c.op.result.now
+              c.loop-point-test.true refl c.op.ensures c.loop-point.invariant put)
     ]

@@ -6,7 +6,8 @@ use Rattle.c_grammar.proofs.Chains.{continues_goes}
 use Rattle.c_grammar.proofs.Reading.{read_binary_above, expression_above, assignment_above, conditional_above}
 use Rattle.c_grammar.proofs.Reading.{binary_above, cast_above, unary_above}
 use Rattle.c_parse_expressions.specs.Readings.{reader_of, below}
-use Rattle.c_parse_expressions.proofs.Turns.{refused_turn, last_turn, refused_then, same_reading, refused_fault, none_below}
+use Rattle.c_parse_expressions.proofs.Turns.{refused_turn, last_turn, refused_then, same_reading, refused_fault}
+use Rattle.c_parse_expressions.proofs.Turns.{none_below}
 use Rattle.c_parse_expressions.proofs.Turns.{no_arguments, no_cast_below}
 use Rattle.c_parse_expressions.proofs.cursor.Parser.+expression.Goals as goal
 
@@ -18,37 +19,45 @@ below-returns-then-height-eq1-clause-reads t c =
 pub below-returns-in-Expression-clause-reads : goal.below-returns-in-Expression-clause-reads
 below-returns-in-Expression-clause-reads t c =
     let pos : 0 < c.args.height - 1 = omega (arith, c.if-height-eq1.false) in
-    same_reading _ _ _ _ (rw c.in-Expression.is (expression_above (c.args.height - 1) c.args.self.now.rest.now pos)) c.expression.ensures.reads
+    same_reading _ _ _ _ (rw c.in-Expression.is (expression_above (c.args.height - 1) c.args.self.now.rest.now pos))
+        c.expression.ensures.reads
 
 pub below-returns-in-Assignment-clause-reads : goal.below-returns-in-Assignment-clause-reads
 below-returns-in-Assignment-clause-reads t c =
     let pos : 0 < c.args.height - 1 = omega (arith, c.if-height-eq1.false) in
-    same_reading _ _ _ _ (rw c.in-Assignment.is (assignment_above (c.args.height - 1) c.args.self.now.rest.now pos)) c.assignment.ensures.reads
+    same_reading _ _ _ _ (rw c.in-Assignment.is (assignment_above (c.args.height - 1) c.args.self.now.rest.now pos))
+        c.assignment.ensures.reads
 
 pub below-returns-in-Conditional-clause-reads : goal.below-returns-in-Conditional-clause-reads
 below-returns-in-Conditional-clause-reads t c =
     let pos : 0 < c.args.height - 1 = omega (arith, c.if-height-eq1.false) in
-    same_reading _ _ _ _ (rw c.in-Conditional.is (conditional_above (c.args.height - 1) c.args.self.now.rest.now pos)) c.conditional.ensures.reads
+    same_reading _ _ _ _ (rw c.in-Conditional.is (conditional_above (c.args.height - 1) c.args.self.now.rest.now pos))
+        c.conditional.ensures.reads
 
 pub below-returns-in-Binary-clause-reads : goal.below-returns-in-Binary-clause-reads
 below-returns-in-Binary-clause-reads t c =
     let pos : 0 < c.args.height - 1 = omega (arith, c.if-height-eq1.false) in
-    same_reading _ _ _ _ (rw c.in-Binary.is (binary_above (c.args.height - 1) c.in-Binary.level c.args.self.now.rest.now pos)) c.binary.ensures.reads
+    same_reading _ _ _ _ (rw c.in-Binary.is (binary_above (c.args.height - 1) c.in-Binary.level c.args.self.now.rest.now
+        pos)) c.binary.ensures.reads
 
 pub below-returns-in-Cast-clause-reads : goal.below-returns-in-Cast-clause-reads
 below-returns-in-Cast-clause-reads t c =
     let pos : 0 < c.args.height - 1 = omega (arith, c.if-height-eq1.false) in
-    same_reading _ _ _ _ (rw c.in-Cast.is (cast_above (c.args.height - 1) c.args.self.now.rest.now pos)) c.cast.ensures.reads
+    same_reading _ _ _ _ (rw c.in-Cast.is (cast_above (c.args.height - 1) c.args.self.now.rest.now pos))
+        c.cast.ensures.reads
 
 pub below-returns-in-Unary-clause-reads : goal.below-returns-in-Unary-clause-reads
 below-returns-in-Unary-clause-reads t c =
     let pos : 0 < c.args.height - 1 = omega (arith, c.if-height-eq1.false) in
-    same_reading _ _ _ _ (rw c.in-Unary.is (unary_above (c.args.height - 1) c.args.self.now.rest.now pos)) c.unary.ensures.reads
+    same_reading _ _ _ _ (rw c.in-Unary.is (unary_above (c.args.height - 1) c.args.self.now.rest.now pos))
+        c.unary.ensures.reads
 
 pub cast-returns-in_err-height_below-clause-reads : goal.cast-returns-in_err-height_below-clause-reads
 cast-returns-in_err-height_below-clause-reads t c =
     let p = err_from_is_err_and c.from_residual.result c.from_residual.ensures.1 in
-    rw (p.1, p.2) (refused_fault _ _ _ (no_cast_below c.args.height c.args.self.now.rest.now _ _ c.in_err-height_below.ensures.err.0 c.in-Some.ensures.some.0 c.in-Some.ensures.some.1) c.in_err-height_below.ensures.err.1.1)
+    rw (p.1, p.2) (refused_fault _ _ _ (no_cast_below c.args.height c.args.self.now.rest.now _ _
+        c.in_err-height_below.ensures.err.0 c.in-Some.ensures.some.0 c.in-Some.ensures.some.1)
+        c.in_err-height_below.ensures.err.1.1)
 
 pub binary-returns-in_err-left-clause-reads : goal.binary-returns-in_err-left-clause-reads
 binary-returns-in_err-left-clause-reads t c =

@@ -6,7 +6,9 @@ pub loop-specifier-preserved : goal.loop-specifier-preserved
 loop-specifier-preserved c =
     record {
       row = rw c.in_ok-push.ensures.ok (prefixed_more _ _ _ _ _ c.loop-specifier.invariant.row c.in-Some.ensures.some);
-      shorter = omega (arith, c.in-Some.ensures.shorter, c.loop-specifier.invariant.shorter, ap length c.in_ok-push.ensures.ok, length-append c.loop-specifier.specifiers.items (c.in-Some.specifier ∷ []));
+      shorter = omega (arith, c.in-Some.ensures.shorter, c.loop-specifier.invariant.shorter,
+          ap length c.in_ok-push.ensures.ok, length-append c.loop-specifier.specifiers.items
+          (c.in-Some.specifier ∷ []));
     }
 
 pub returns-clause-ok : goal.returns-clause-ok

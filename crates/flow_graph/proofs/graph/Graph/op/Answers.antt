@@ -5,7 +5,8 @@ use Rattle.flow_graph.proofs.graph.Graph.op.Goals as goal
 
 pub index-requires : goal.index-requires
 index-requires c =
-    let h : c.args.point < length c.self.inside.ops.items = has_op _ c.args.self.now _ c.args.point c.self.view_is c.self.invariant c.requires in
+    let h : c.args.point < length c.self.inside.ops.items =
+        has_op _ c.args.self.now _ c.args.point c.self.view_is c.self.invariant c.requires in
     search rules
 
 pub returns : goal.returns

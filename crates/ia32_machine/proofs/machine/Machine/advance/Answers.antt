@@ -14,8 +14,10 @@ returns-in-Ok-clause-told g c = λ i o.
     let s : State = c.args.self.now in
     let left : List ℕ = g.I.Source.left c.args.input.now in
     let after : ℕ = (c.eip-address.result + c.in-Ok.length) % 4294967296 in
-    let same : after ≡ (s.eip + c.in-Ok.length) % 4294967296 = ap (λ (n : ℕ). (n + c.in-Ok.length) % 4294967296) c.eip-address.ensures.value in
-    fetched s c.perform.new.self left (g.I.Source.left c.perform.new.input) (g.O.Sink.taken c.args.out.now) (g.O.Sink.taken c.perform.new.out) c.in-Ok.insn c.in-Ok.length after c.perform.result
+    let same : after ≡ (s.eip + c.in-Ok.length) % 4294967296 =
+        ap (λ (n : ℕ). (n + c.in-Ok.length) % 4294967296) c.eip-address.ensures.value in
+    fetched s c.perform.new.self left (g.I.Source.left c.perform.new.input) (g.O.Sink.taken c.args.out.now)
+        (g.O.Sink.taken c.perform.new.out) c.in-Ok.insn c.in-Ok.length after c.perform.result
     c.in-Ok.ensures.told same (c.perform.ensures.told i o)
 
 pub returns-in-Ok-clause-counted : goal.returns-in-Ok-clause-counted
@@ -30,7 +32,8 @@ returns-in-Ok-clause-out_tells g c = c.perform.ensures.out_tells
 pub returns-in-Err-clause-told : goal.returns-in-Err-clause-told
 returns-in-Err-clause-told g c = λ _ _.
     rw c.eip-address.ensures.value
-    (unfetched c.args.self.now (g.I.Source.left c.args.input.now) (g.O.Sink.taken c.args.out.now) c.in-Err.cause c.eip-address.ensures.bare c.in-Err.ensures.told)
+    (unfetched c.args.self.now (g.I.Source.left c.args.input.now) (g.O.Sink.taken c.args.out.now) c.in-Err.cause
+        c.eip-address.ensures.bare c.in-Err.ensures.told)
 
 pub returns-in-Err-clause-counted : goal.returns-in-Err-clause-counted
 returns-in-Err-clause-counted g c = (refl, refl)

@@ -26,16 +26,22 @@ returns-in_err-system_call-clause-told g c = λ i o.
     let taken' : List ℕ = g.O.Sink.taken c.system_call.new.out in
     let end : MachineEnd = c.in_err-system_call.field-0.0 in
     let same : c.from_residual.result ≡ Err end = search rules in
-    let told : PartTold (call_moved (lent c.args.self.now left)) (lent c.args.self.now left) c.system_call.new.processor left' taken taken' (Err end) =
-    subst (λ (s : State). PartTold (call_moved (lent s left)) (lent s left) c.system_call.new.processor left' taken taken' (Err end)) c.self.view_is (c.in_err-system_call.ensures.told i o) in
-    subst (λ (r : Result Unit MachineEnd). PartTold (insn_moved c.args.insn c.args.after (lent c.args.self.now left)) (lent c.args.self.now left) c.system_call.new.processor left' taken taken' r) (sym same)
-    (call_ends c.args.insn c.args.after (lent c.args.self.now left) c.system_call.new.processor left' taken taken' end (c.if-is_system_call.ensures.0 refl) told)
+    let told : PartTold (call_moved (lent c.args.self.now left)) (lent c.args.self.now left) c.system_call.new.processor
+        left' taken taken' (Err end) =
+    subst (λ (s : State). PartTold (call_moved (lent s left)) (lent s left) c.system_call.new.processor left' taken
+        taken' (Err end)) c.self.view_is (c.in_err-system_call.ensures.told i o) in
+    subst (λ (r : Result Unit MachineEnd). PartTold (insn_moved c.args.insn c.args.after (lent c.args.self.now left))
+        (lent c.args.self.now left) c.system_call.new.processor left' taken taken' r) (sym same)
+    (call_ends c.args.insn c.args.after (lent c.args.self.now left) c.system_call.new.processor left' taken taken' end
+        (c.if-is_system_call.ensures.0 refl) told)
 
 pub returns-in_err-system_call-clause-counted : goal.returns-in_err-system_call-clause-counted
 returns-in_err-system_call-clause-counted g c =
     let end : MachineEnd = c.in_err-system_call.field-0.0 in
     let same : c.from_residual.result ≡ Err end = search rules in
-    subst (λ (r : Result Unit MachineEnd). PartCounts (g.I.Source.faults c.args.input.now) (g.I.Source.faults c.system_call.new.input) (g.O.Sink.counts c.args.out.now) (g.O.Sink.counts c.system_call.new.out) r) (sym same)
+    subst (λ (r : Result Unit MachineEnd). PartCounts (g.I.Source.faults c.args.input.now)
+        (g.I.Source.faults c.system_call.new.input) (g.O.Sink.counts c.args.out.now)
+        (g.O.Sink.counts c.system_call.new.out) r) (sym same)
     c.in_err-system_call.ensures.counted
 
 pub returns-in_err-system_call-clause-input_tells : goal.returns-in_err-system_call-clause-input_tells
@@ -50,10 +56,13 @@ returns-then-is_system_call-clause-told g c = λ i o.
     let left' : List ℕ = g.I.Source.left c.system_call.new.input in
     let taken : List ℕ = g.O.Sink.taken c.args.out.now in
     let taken' : List ℕ = g.O.Sink.taken c.system_call.new.out in
-    let told : PartTold (call_moved (lent c.args.self.now left)) (lent c.args.self.now left) c.system_call.new.processor left' taken taken' (Ok tt) =
-    subst (λ (s : State). PartTold (call_moved (lent s left)) (lent s left) c.system_call.new.processor left' taken taken' (Ok tt)) c.self.view_is (c.in_ok-system_call.ensures.told i o) in
+    let told : PartTold (call_moved (lent c.args.self.now left)) (lent c.args.self.now left) c.system_call.new.processor
+        left' taken taken' (Ok tt) =
+    subst (λ (s : State). PartTold (call_moved (lent s left)) (lent s left) c.system_call.new.processor left' taken
+        taken' (Ok tt)) c.self.view_is (c.in_ok-system_call.ensures.told i o) in
     rw c.set_eip.ensures
-    (call_goes c.args.insn c.args.after (lent c.args.self.now left) c.system_call.new.processor left' taken taken' (c.if-is_system_call.ensures.0 refl) told)
+    (call_goes c.args.insn c.args.after (lent c.args.self.now left) c.system_call.new.processor left' taken taken'
+        (c.if-is_system_call.ensures.0 refl) told)
 
 pub returns-then-is_system_call-clause-counted : goal.returns-then-is_system_call-clause-counted
 returns-then-is_system_call-clause-counted g c = c.in_ok-system_call.ensures.counted
@@ -68,13 +77,19 @@ pub perform-requires : goal.perform-requires
 perform-requires g c = λ e. let no : false ≡ true = c.if-is_system_call.ensures.1 e in cc
 
 -- an instruction that was performed, by the processor's answer
-told-ok : (i : Insn) (after : ℕ) (inside old new : State) (left taken : List ℕ) (result : Result Unit MachineEnd) → inside ≡ old → old ≡ alone old → i ≢ insn.Int 128 → perform i after inside ≡ Moves new → result ≡ Ok tt → PartTold (insn_moved i after (lent old left)) (lent old left) new left taken taken result
+told-ok : (i : Insn) (after : ℕ) (inside old new : State) (left taken : List ℕ) (result : Result Unit MachineEnd)
+    → inside ≡ old → old ≡ alone old → i ≢ insn.Int 128 → perform i after inside ≡ Moves new → result ≡ Ok tt
+    → PartTold (insn_moved i after (lent old left)) (lent old left) new left taken taken result
 told-ok i after inside old new left taken result same bare other e is =
     rw is (insn_goes i after old new left taken bare other (ap (λ (s : State). perform i after s) (sym same) ∙ e))
 
-told-err : (i : Insn) (after : ℕ) (inside old new : State) (left taken : List ℕ) (why : Halt) (address : ℕ) (result : Result Unit MachineEnd) → inside ≡ old → old ≡ alone old → i ≢ insn.Int 128 → perform i after inside ≡ Halts (end_of why inside) → new ≡ inside → address ≡ inside.eip → result ≡ Err (end_at address why) → PartTold (insn_moved i after (lent old left)) (lent old left) new left taken taken result
+told-err : (i : Insn) (after : ℕ) (inside old new : State) (left taken : List ℕ) (why : Halt) (address : ℕ)
+    (result : Result Unit MachineEnd) → inside ≡ old → old ≡ alone old → i ≢ insn.Int 128 → perform i after inside
+    ≡ Halts (end_of why inside) → new ≡ inside → address ≡ inside.eip → result ≡ Err (end_at address why)
+    → PartTold (insn_moved i after (lent old left)) (lent old left) new left taken taken result
 told-err i after inside old new left taken why address result same bare other e kept at is =
-    let there : perform i after old ≡ Halts (end_of why old) = ap (λ (s : State). perform i after s) (sym same) ∙ e ∙ ap (λ (s : State). Halts (end_of why s)) same in
+    let there : perform i after old ≡ Halts (end_of why old) = ap (λ (s : State). perform i after s) (sym same) ∙ e
+        ∙ ap (λ (s : State). Halts (end_of why s)) same in
     let eip : address ≡ old.eip = at ∙ ap (λ (s : State). s.eip) same in
     rw (is, eip, kept, same) (insn_ends i after old left taken why bare other there)
 
@@ -84,8 +99,10 @@ returns-clause-told g c = λ _ _.
     let taken : List ℕ = g.O.Sink.taken c.args.out.now in
     let other : c.args.insn ≢ insn.Int 128 = λ e. let no : false ≡ true = c.if-is_system_call.ensures.1 e in cc in
     elim c.match-perform.branch [
-      | in-Ok w ↦ told-ok c.args.insn c.args.after c.self.inside.processor c.args.self.now c.perform.new.self left taken c.match-perform.result c.self.view_is c.requires other w.in-Ok.ensures w.result-is
-      | in-Err w ↦ told-err c.args.insn c.args.after c.self.inside.processor c.args.self.now c.perform.new.self left taken w.in-Err.halt c.eip-address.result c.match-perform.result c.self.view_is c.requires other
+      | in-Ok w ↦ told-ok c.args.insn c.args.after c.self.inside.processor c.args.self.now c.perform.new.self left taken
+          c.match-perform.result c.self.view_is c.requires other w.in-Ok.ensures w.result-is
+      | in-Err w ↦ told-err c.args.insn c.args.after c.self.inside.processor c.args.self.now c.perform.new.self left
+          taken w.in-Err.halt c.eip-address.result c.match-perform.result c.self.view_is c.requires other
           w.in-Err.ensures.0 w.in-Err.ensures.1 c.eip-address.ensures.value (w.result-is ∙ ap Err w.end_at.ensures)
     ]
 
