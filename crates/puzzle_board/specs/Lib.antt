@@ -1,0 +1,4 @@
+pub mod Areas
+pub mod Placements
+pub mod Boards
+pub mod Worked

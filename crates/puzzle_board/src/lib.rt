@@ -1,0 +1,11 @@
+//! In: areas and pieces. Out: a board on which pieces are placed, found and counted by kind. The promise: each call
+//! changes exactly what it names, and the placed pieces always stand legally (`specs/Placements.antt`).
+#![tactic(auto)]
+
+mod area;
+mod laws;
+mod piece;
+
+pub use area::{Area, AreaKind, Column};
+pub use laws::worked_example;
+pub use piece::{Columns, Kind, Piece, Spot, State};
