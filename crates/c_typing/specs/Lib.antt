@@ -1,0 +1,14 @@
+pub mod Faults
+pub mod Library
+pub mod Types
+pub mod Checked
+pub mod Constants
+pub mod Rows
+pub mod Names
+pub mod Expressions
+pub mod Declarators
+pub mod Initialisers
+pub mod Statements
+pub mod Files
+pub mod Numbering
+pub mod Typed
