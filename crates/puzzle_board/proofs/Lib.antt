@@ -1,0 +1,5 @@
+pub mod Cells
+pub mod Finding
+pub mod Kept
+pub mod Removing
+pub mod Standings

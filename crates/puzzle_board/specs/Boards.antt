@@ -1,6 +1,6 @@
 -- What a contract sees of a board, what each call leaves, and what every board keeps.
-use Rattle.std.specs.Prelude.{ℕ, ◌≡◌, ◌≤◌, Bool, ◌&&◌, ◌==◌, if◌then◌else◌, List, [], ◌∷◌}
-use Rattle.std.specs.Prelude.{◌++◌, length, map, count_by, Some, slice_get, slice_set}
+use Rattle.std.specs.Prelude.{ℕ, ◌≡◌, ◌≤◌, Bool, true, false, ◌&&◌, ◌==◌, if◌then◌else◌, IsTrue, List, [], ◌∷◌}
+use Rattle.std.specs.Prelude.{◌++◌, length, map, count_by, Option, Some, None, slice_get, slice_set}
 use Rattle.pcc_base.specs.declared.run.Width.{Width}
 use Rattle.pcc_base.specs.declared.run.Width.TheVariants.{One, Two}
 use Rattle.puzzle_board.specs.declared.area.Area.{Area}
@@ -12,7 +12,7 @@ use Rattle.puzzle_board.specs.declared.piece.Spot.{Spot}
 use Rattle.puzzle_board.specs.declared.piece.State.{State}
 use Rattle.puzzle_board.specs.declared.piece.State.TheVariants.{Unplaced, At, Removed}
 use Rattle.puzzle_board.specs.Areas.{kind_of, same_kind}
-use Rattle.puzzle_board.specs.Placements.{Standing, IsLegal, clear_all}
+use Rattle.puzzle_board.specs.Placements.{Standing, fits, IsLegal, clear_all}
 
 -- a board: its areas as they were given, its pieces in the order in which they were added, and what has become of each
 pub record Puzzle : Type 0 where
@@ -61,36 +61,81 @@ free_areas board = clear_all board.areas (standing board)
 
 -- ---- found and counted by kind
 
+-- how many areas are of this kind
+abbrev pub areas_of_kind : List Area → AreaKind → ℕ
+areas_of_kind areas kind = count_by (λ a. same_kind (kind_of a) kind) areas
+
 -- how many areas are of this kind now
 abbrev pub area_count : Puzzle → AreaKind → ℕ
-area_count board kind = count_by (λ a. same_kind (kind_of a) kind) (free_areas board)
-
-abbrev pub place_in_alphabet : Kind → ℕ
-place_in_alphabet X = 0
-place_in_alphabet Y = 1
-place_in_alphabet Z = 2
-
-abbrev pub columns_of : Width → ℕ
-columns_of One = 1
-columns_of Two = 2
-
--- the piece is of this kind and width
-abbrev pub is_piece : Kind → Width → Piece → Bool
-is_piece kind width p =
-    place_in_alphabet p.kind == place_in_alphabet kind && columns_of p.width == columns_of width
-
--- how many pieces of this kind and width are neither placed nor removed
-abbrev pub piece_count : Puzzle → Kind → Width → ℕ
-piece_count board kind width = count_by (is_piece kind width) (unplaced board)
+area_count board kind = areas_of_kind (free_areas board) kind
 
 -- area number `area` is of this kind now
 abbrev pub IsAreaOf : Puzzle → AreaKind → ℕ → Type 0
 IsAreaOf board kind area = slice_get (map kind_of (free_areas board)) area ≡ Some kind
 
--- piece number `piece` is such a piece, neither placed nor removed
-pub record IsUnplaced (board : Puzzle) (piece : ℕ) (p : Piece) : Type 0 where
-  pub is : slice_get board.pieces piece ≡ Some p
-  pub unplaced : slice_get board.states piece ≡ Some Unplaced
+abbrev pub same_letter : Kind → Kind → Bool
+same_letter X X = true
+same_letter X Y = false
+same_letter X Z = false
+same_letter Y X = false
+same_letter Y Y = true
+same_letter Y Z = false
+same_letter Z X = false
+same_letter Z Y = false
+same_letter Z Z = true
+
+abbrev pub same_width : Width → Width → Bool
+same_width One One = true
+same_width One Two = false
+same_width Two One = false
+same_width Two Two = true
+
+-- the piece is of this kind and width
+abbrev pub is_piece : Kind → Width → Piece → Bool
+is_piece kind width p = same_letter p.kind kind && same_width p.width width
+
+-- how many pieces are of this kind and width
+abbrev pub pieces_of : List Piece → Kind → Width → ℕ
+pieces_of pieces kind width = count_by (is_piece kind width) pieces
+
+-- how many pieces of this kind and width are neither placed nor removed
+abbrev pub piece_count : Puzzle → Kind → Width → ℕ
+piece_count board kind width = pieces_of (unplaced board) kind width
+
+abbrev pub is_unplaced : State → Bool
+is_unplaced Unplaced = true
+is_unplaced (At spot) = false
+is_unplaced Removed = false
+
+-- piece number `number` is this one, neither placed nor removed
+pub record IsUnplaced (board : Puzzle) (number : ℕ) (p : Piece) : Type 0 where
+  pub is : slice_get board.pieces number ≡ Some p
+  pub unplaced : slice_get board.states number ≡ Some Unplaced
+
+-- piece number `number` of these is of this kind and width, and neither placed nor removed
+abbrev pub IsUnplacedIn : List Piece → List State → Kind → Width → ℕ → Type 0
+IsUnplacedIn pieces states kind width number =
+    (p : Piece) × (slice_get pieces number ≡ Some p) × (slice_get states number ≡ Some Unplaced) × (p.kind ≡ kind)
+    × (p.width ≡ width)
+
+abbrev pub IsUnplacedOf : Puzzle → Kind → Width → ℕ → Type 0
+IsUnplacedOf board kind width number = IsUnplacedIn board.pieces board.states kind width number
+
+-- the piece is unplaced, and fits there on free cells
+abbrev pub IsPlaceable : Puzzle → ℕ → Spot → Type 0
+IsPlaceable board number spot =
+    (p : Piece) × IsUnplaced board number p
+    × IsTrue (fits (free_areas board) (record { piece = p; spot = spot }))
+
+abbrev pub spot_in : Option State → Option Spot
+spot_in None = None
+spot_in (Some Unplaced) = None
+spot_in (Some (At spot)) = Some spot
+spot_in (Some Removed) = None
+
+-- where the piece stands, if it does
+abbrev pub spot_of : Puzzle → ℕ → Option Spot
+spot_of board piece = spot_in (slice_get board.states piece)
 
 -- ---- what each call leaves
 
@@ -134,3 +179,8 @@ pub record IsBoard (board : Puzzle) : Type 0 where
   pub legal : IsLegal board.areas (standing board)
   pub few_areas : length board.areas ≤ 4294967295
   pub few_pieces : length board.pieces ≤ 4294967295
+
+-- and the free cells that it keeps beside them are those that the placed pieces leave
+pub record IsKept (board : Puzzle) (free : List Area) : Type 0 where
+  pub kept : IsBoard board
+  pub left : free ≡ free_areas board

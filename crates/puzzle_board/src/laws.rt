@@ -13,7 +13,9 @@ ghost use Rattle.puzzle_board.specs.Worked.{three_pieces, three_placed};
 pub fn worked_example()
     ensures wide { IsLegalPlacement one_empty (piece Y Two ∷ []) (at Y Two 1 All ∷ []) }
     ensures wide_alone { (area : ℕ) → IsTrue (fits one_empty (at Y Two area All)) → area ≡ 1 }
-    ensures narrow { IsLegalPlacement one_empty (piece Y One ∷ piece Y One ∷ []) (at Y One 1 Low ∷ at Y One 1 High ∷ []) }
+    ensures narrow { IsLegalPlacement one_empty
+        (piece Y One ∷ piece Y One ∷ [])
+        (at Y One 1 Low ∷ at Y One 1 High ∷ []) }
     ensures apart { ¬ IsLegal one_empty (at Y One 1 High ∷ at Y One 1 High ∷ []) }
     ensures shared { IsLegalPlacement (bb ∷ bu ∷ []) three_pieces three_placed }
     ensures full { IsLegalPlacement four_empty eight_pieces eight_placed }

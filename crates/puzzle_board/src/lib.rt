@@ -3,9 +3,11 @@
 #![tactic(auto)]
 
 mod area;
+mod board;
 mod laws;
 mod piece;
 
 pub use area::{Area, AreaKind, Column};
+pub use board::Board;
 pub use laws::worked_example;
 pub use piece::{Columns, Kind, Piece, Spot, State};
