@@ -12,3 +12,5 @@ pub mod Statements
 pub mod Files
 pub mod Numbering
 pub mod Typed
+pub mod Worked
+pub mod Laws

@@ -20,13 +20,19 @@ use Rattle.c_typing.specs.Files.{typed_units}
 
 -- ---- faults
 
--- before anything has a number
+-- the files, where objects and functions have these numbers
+abbrev pub judged : Numbers → List (List ExternalTree) → Checked (List Function)
+judged numbers units = typed_units units (first_scope numbers)
+
 abbrev pub no_numbers : Numbers
 no_numbers = record { objects = []; functions = [] }
 
--- the files, with no numbers yet; numbers change neither faults nor notes
+-- the numbers that the files give, by what they note where nothing has a number yet
+abbrev pub numbers_in : List (List ExternalTree) → Numbers
+numbers_in units = numbers_of (notes_in (judged no_numbers units))
+
 abbrev pub checked : List (List ExternalTree) → Checked (List Function)
-checked units = typed_units units (first_scope no_numbers)
+checked units = judged (numbers_in units) units
 
 -- all faults but those of definitions that are missing
 abbrev pub faults_of : List (List ExternalTree) → List Fault
@@ -53,20 +59,16 @@ has_main units = list_any is_main (notes_of units)
 
 -- ---- the program
 
-abbrev pub numbers_in : List (List ExternalTree) → Numbers
-numbers_in units = numbers_of (notes_of units)
-
-abbrev pub program_with : List Note → Option (List Function) → Option Program
-program_with notes None = None
-program_with notes (Some functions) = Some (record {
+abbrev pub program_with : Numbers → List Note → Option (List Function) → Option Program
+program_with numbers notes None = None
+program_with numbers notes (Some functions) = Some (record {
   objects = static_objects notes;
   functions = functions;
-  main = number_among (numbers_of notes).functions main;
+  main = number_among numbers.functions main;
 })
 
--- the files, with the numbers that they give
 abbrev pub elaborated : List (List ExternalTree) → Option Program
-elaborated units = program_with (notes_of units) (value_in (typed_units units (first_scope (numbers_in units))))
+elaborated units = program_with (numbers_in units) (notes_of units) (value_in (checked units))
 
 -- the files have this typed program
 pub record Typed (units : List (List ExternalTree)) (p : Program) : Type 0 where
@@ -132,3 +134,19 @@ pub record IsAbove (units : List (List ExternalTree)) (limit : Limit) : Type 0 w
   pub program : Program
   pub typed : Typed units program
   pub above : limit_of program ≡ Some limit
+
+-- ---- what is found of files that have an elaborated program
+
+abbrev pub objects_in : Option Program → List StaticObject
+objects_in None = []
+objects_in (Some p) = p.objects
+
+abbrev pub objects_found : List (List ExternalTree) → List StaticObject
+objects_found units = objects_in (elaborated units)
+
+abbrev pub limit_in : Option Program → Option Limit
+limit_in None = None
+limit_in (Some p) = limit_of p
+
+abbrev pub limit_found : List (List ExternalTree) → Option Limit
+limit_found units = limit_in (elaborated units)

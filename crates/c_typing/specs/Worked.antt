@@ -1,0 +1,211 @@
+-- Files that the definitions are read on, as their raw trees. Each has one line, whose columns are the places.
+use Rattle.std.specs.Prelude.{ℕ, ◌+◌, pos, List, [], ◌∷◌, codes, Option, Some, None}
+use Rattle.pcc_base.specs.declared.span.Span.{Span}
+use Rattle.c_syntax.specs.declared.operator.AssignOp.TheVariants as asg
+use Rattle.c_syntax.specs.declared.operator.BinaryOp.TheVariants as ops
+use Rattle.c_syntax.specs.declared.operator.SpecifierWord.{SpecifierWord}
+use Rattle.c_syntax.specs.declared.operator.SpecifierWord.TheVariants as words
+use Rattle.c_syntax.specs.declared.expression.Identifier.{Identifier as Ident}
+use Rattle.c_syntax.specs.declared.expression.Specifier.{Specifier}
+use Rattle.c_syntax.specs.declared.expression.TextPiece.{TextPiece}
+use Rattle.c_grammar.specs.Expressions.{Star, Expr, Identifier, Number, Text, Call, Binary, Assignment, NoExpr, OneExpr}
+use Rattle.c_grammar.specs.Declarations.{ArrayTree, ParameterTree, ParametersTree, PartTree, Plain, Array, Function}
+use Rattle.c_grammar.specs.Declarations.{DeclaratorTree, InitialiserTree, Single, Braces, ValueTree, ItemTree}
+use Rattle.c_grammar.specs.Declarations.{DeclarationTree}
+use Rattle.c_grammar.specs.Statements.{Case, Declared, Labelled, Block, Simple, Switch, Return, Stmts, NoStmt, OneStmt}
+use Rattle.c_grammar.specs.Statements.{ExternalTree, FunctionTree, DeclaredTree}
+
+-- a column of a file
+abbrev pub at : ℕ → ℕ → Span
+at file col = record { file = file; line = 1; col = col }
+
+abbrev named : List ℕ → ℕ → ℕ → Ident
+named name file col = record { name = name; at = at file col }
+
+abbrev word : SpecifierWord → ℕ → ℕ → Specifier
+word w file col = record { word = w; at = at file col }
+
+abbrev piece : List ℕ → ℕ → ℕ → TextPiece
+piece bytes file col = record { bytes = bytes; at = at file col }
+
+abbrev star : Span → Star
+star place = record { star = place; consts = [] }
+
+abbrev array : Span → Option Expr → Span → ArrayTree
+array o size c = record { opening = o; size = size; close = c }
+
+abbrev parameter : List Specifier → Option Star → Option Ident → ParameterTree
+parameter specifiers pointer name =
+    record { specifiers = specifiers; pointer = pointer; name = name; array = None }
+
+abbrev parameters : Span → List ParameterTree → Span → ParametersTree
+parameters o ps c = record { opening = o; parameters = ps; commas = []; close = c }
+
+abbrev declarator : Option Star → Ident → PartTree → DeclaratorTree
+declarator pointer name part = record { pointer = pointer; name = name; part = part }
+
+abbrev given : Span → InitialiserTree → ValueTree
+given equal value = record { equal = equal; value = value }
+
+abbrev item : DeclaratorTree → Option ValueTree → ItemTree
+item d value = record { declarator = d; initialiser = value }
+
+abbrev declaration : List Specifier → ItemTree → Span → DeclarationTree
+declaration specifiers i semicolon =
+    record { specifiers = specifiers; items = i ∷ []; commas = []; semicolon = semicolon }
+
+-- `int main(void){..}` from a column on, with its body and the column of its `}`
+abbrev main_at : ℕ → ℕ → ℕ → Stmts → ExternalTree
+main_at file col close body =
+    FunctionTree (word words.Int file col ∷ [])
+    (declarator None (named (codes "main") file (col + 4)) (Function (parameters (at file (col + 8))
+    (parameter (word words.Void file (col + 9) ∷ []) None None ∷ []) (at file (col + 13)))))
+    (Block (at file (col + 14)) body (at file close))
+
+-- an empty file
+abbrev pub nothing : List (List ExternalTree)
+nothing =
+    ([]) ∷ []
+
+-- `int main(void){int a[2]={1,2,3};return 0;}`
+abbrev pub too_many_values : List (List ExternalTree)
+too_many_values =
+    (main_at 0 1 42 (OneStmt (Declared (declaration (word words.Int 0 16 ∷ []) (item (declarator None (named (codes
+    "a") 0 20) (Array (array (at 0 21) (Some (Number (pos 2) (at 0 22))) (at 0 23)))) (Some (given (at 0 24) (Braces
+    (at 0 25) (OneExpr (Number (pos 1) (at 0 26)) (OneExpr (Number (pos 2) (at 0 28)) (OneExpr (Number (pos 3) (at 0
+    30)) NoExpr))) (at 0 27 ∷ at 0 29 ∷ []) None (at 0 31))))) (at 0 32))) (OneStmt (Return (at 0 33) (Some (Number
+    (pos 0) (at 0 40))) (at 0 41)) NoStmt)) ∷ []) ∷ []
+
+-- `int main(void){return x;}`
+abbrev pub undeclared : List (List ExternalTree)
+undeclared =
+    (main_at 0 1 25 (OneStmt (Return (at 0 16) (Some (Identifier (named (codes "x") 0 23))) (at 0 24)) NoStmt) ∷ [])
+    ∷ []
+
+-- `int f(int n); int main(void){return f(20);}`
+abbrev pub no_body : List (List ExternalTree)
+no_body =
+    (DeclaredTree (declaration (word words.Int 0 1 ∷ []) (item (declarator None (named (codes "f") 0 5) (Function
+    (parameters (at 0 6) (parameter (word words.Int 0 7 ∷ []) None (Some (named (codes "n") 0 11)) ∷ []) (at 0
+    12)))) None) (at 0 13)) ∷ main_at 0 15 43 (OneStmt (Return (at 0 30) (Some (Call (named (codes "f") 0 37) (at 0
+    38) (OneExpr (Number (pos 20) (at 0 39)) NoExpr) [] (at 0 41))) (at 0 42)) NoStmt) ∷ []) ∷ []
+
+-- `int f(int f){return f;} int main(void){int x=1; {int x=2; return x+f(1);}}`
+abbrev pub shadows : List (List ExternalTree)
+shadows =
+    (FunctionTree (word words.Int 0 1 ∷ []) (declarator None (named (codes "f") 0 5) (Function (parameters (at 0 6)
+    (parameter (word words.Int 0 7 ∷ []) None (Some (named (codes "f") 0 11)) ∷ []) (at 0 12)))) (Block (at 0 13)
+    (OneStmt (Return (at 0 14) (Some (Identifier (named (codes "f") 0 21))) (at 0 22)) NoStmt) (at 0 23)) ∷ main_at
+    0 25 74 (OneStmt (Declared (declaration (word words.Int 0 40 ∷ []) (item (declarator None (named (codes "x") 0
+    44) Plain) (Some (given (at 0 45) (Single (Number (pos 1) (at 0 46)))))) (at 0 47))) (OneStmt (Block (at 0 49)
+    (OneStmt (Declared (declaration (word words.Int 0 50 ∷ []) (item (declarator None (named (codes "x") 0 54)
+    Plain) (Some (given (at 0 55) (Single (Number (pos 2) (at 0 56)))))) (at 0 57))) (OneStmt (Return (at 0 59)
+    (Some (Binary ops.Add (Identifier (named (codes "x") 0 66)) (at 0 67) (Call (named (codes "f") 0 68) (at 0 69)
+    (OneExpr (Number (pos 1) (at 0 70)) NoExpr) [] (at 0 71)))) (at 0 72)) NoStmt)) (at 0 73)) NoStmt)) ∷ []) ∷ []
+
+-- `int x=1; int x; static int y; int main(void){extern int x; return 0;}`
+abbrev pub extern_inside : List (List ExternalTree)
+extern_inside =
+    (DeclaredTree (declaration (word words.Int 0 1 ∷ []) (item (declarator None (named (codes "x") 0 5) Plain) (Some
+    (given (at 0 6) (Single (Number (pos 1) (at 0 7)))))) (at 0 8)) ∷ DeclaredTree (declaration (word words.Int 0 10
+    ∷ []) (item (declarator None (named (codes "x") 0 14) Plain) None) (at 0 15)) ∷ DeclaredTree (declaration (word
+    words.Static 0 17 ∷ word words.Int 0 24 ∷ []) (item (declarator None (named (codes "y") 0 28) Plain) None) (at 0
+    29)) ∷ main_at 0 31 69 (OneStmt (Declared (declaration (word words.Extern 0 46 ∷ word words.Int 0 53 ∷ []) (item
+    (declarator None (named (codes "x") 0 57) Plain) None) (at 0 58))) (OneStmt (Return (at 0 60) (Some (Number (pos
+    0) (at 0 67))) (at 0 68)) NoStmt)) ∷ []) ∷ []
+
+-- the files `int x=1;` and `int x=2;`
+abbrev pub defined_twice : List (List ExternalTree)
+defined_twice =
+    (DeclaredTree (declaration (word words.Int 0 1 ∷ []) (item (declarator None (named (codes "x") 0 5) Plain) (Some
+    (given (at 0 6) (Single (Number (pos 1) (at 0 7)))))) (at 0 8)) ∷ []) ∷ (DeclaredTree (declaration (word
+    words.Int 1 1 ∷ []) (item (declarator None (named (codes "x") 1 5) Plain) (Some (given (at 1 6) (Single (Number
+    (pos 2) (at 1 7)))))) (at 1 8)) ∷ []) ∷ []
+
+-- the files `extern int x; int x;` and `int x=1; int main(void){return x;}`
+abbrev pub declared_again : List (List ExternalTree)
+declared_again =
+    (DeclaredTree (declaration (word words.Extern 0 1 ∷ word words.Int 0 8 ∷ []) (item (declarator None (named
+    (codes "x") 0 12) Plain) None) (at 0 13)) ∷ DeclaredTree (declaration (word words.Int 0 15 ∷ []) (item
+    (declarator None (named (codes "x") 0 19) Plain) None) (at 0 20)) ∷ []) ∷ (DeclaredTree (declaration (word
+    words.Int 1 1 ∷ []) (item (declarator None (named (codes "x") 1 5) Plain) (Some (given (at 1 6) (Single (Number
+    (pos 1) (at 1 7)))))) (at 1 8)) ∷ main_at 1 10 34 (OneStmt (Return (at 1 25) (Some (Identifier (named (codes
+    "x") 1 32))) (at 1 33)) NoStmt) ∷ []) ∷ []
+
+-- the files `static int x=1;` and `int main(void){return x;}`
+abbrev pub static_apart : List (List ExternalTree)
+static_apart =
+    (DeclaredTree (declaration (word words.Static 0 1 ∷ word words.Int 0 8 ∷ []) (item (declarator None (named
+    (codes "x") 0 12) Plain) (Some (given (at 0 13) (Single (Number (pos 1) (at 0 14)))))) (at 0 15)) ∷ []) ∷
+    (main_at 1 1 25 (OneStmt (Return (at 1 16) (Some (Identifier (named (codes "x") 1 23))) (at 1 24)) NoStmt) ∷ [])
+    ∷ []
+
+-- `char s[2]="ab"; int main(void){return 0;}`
+abbrev pub letters : List (List ExternalTree)
+letters =
+    (DeclaredTree (declaration (word words.Char 0 1 ∷ []) (item (declarator None (named (codes "s") 0 6) (Array
+    (array (at 0 7) (Some (Number (pos 2) (at 0 8))) (at 0 9)))) (Some (given (at 0 10) (Single (Text (piece (codes
+    "ab") 0 11 ∷ [])))))) (at 0 15)) ∷ main_at 0 17 41 (OneStmt (Return (at 0 32) (Some (Number (pos 0) (at 0 39)))
+    (at 0 40)) NoStmt) ∷ []) ∷ []
+
+-- `char s[2]="abc";`
+abbrev pub too_many_letters : List (List ExternalTree)
+too_many_letters =
+    (DeclaredTree (declaration (word words.Char 0 1 ∷ []) (item (declarator None (named (codes "s") 0 6) (Array
+    (array (at 0 7) (Some (Number (pos 2) (at 0 8))) (at 0 9)))) (Some (given (at 0 10) (Single (Text (piece (codes
+    "abc") 0 11 ∷ [])))))) (at 0 16)) ∷ []) ∷ []
+
+-- `int main(void){int *p; p=1>2; return 0;}`
+abbrev pub null_constant : List (List ExternalTree)
+null_constant =
+    (main_at 0 1 40 (OneStmt (Declared (declaration (word words.Int 0 16 ∷ []) (item (declarator (Some (star (at 0
+    20))) (named (codes "p") 0 21) Plain) None) (at 0 22))) (OneStmt (Simple (Some (Assignment asg.Assign
+    (Identifier (named (codes "p") 0 24)) (at 0 25) (Binary ops.Greater (Number (pos 1) (at 0 26)) (at 0 27) (Number
+    (pos 2) (at 0 28))))) (at 0 29)) (OneStmt (Return (at 0 31) (Some (Number (pos 0) (at 0 38))) (at 0 39))
+    NoStmt))) ∷ []) ∷ []
+
+-- `int main(void){int *p; p=1; return 0;}`
+abbrev pub no_null_constant : List (List ExternalTree)
+no_null_constant =
+    (main_at 0 1 38 (OneStmt (Declared (declaration (word words.Int 0 16 ∷ []) (item (declarator (Some (star (at 0
+    20))) (named (codes "p") 0 21) Plain) None) (at 0 22))) (OneStmt (Simple (Some (Assignment asg.Assign
+    (Identifier (named (codes "p") 0 24)) (at 0 25) (Number (pos 1) (at 0 26)))) (at 0 27)) (OneStmt (Return (at 0
+    29) (Some (Number (pos 0) (at 0 36))) (at 0 37)) NoStmt))) ∷ []) ∷ []
+
+-- `int main(void){switch(1){case 1: case 2: ; case 1: ;} return 0;}`
+abbrev pub case_twice : List (List ExternalTree)
+case_twice =
+    (main_at 0 1 64 (OneStmt (Switch (at 0 16) (at 0 22) (Number (pos 1) (at 0 23)) (at 0 24) (at 0 25) (OneStmt
+    (Labelled ((Case (at 0 26) (Number (pos 1) (at 0 31)) (at 0 32)) ∷ (Case (at 0 34) (Number (pos 2) (at 0 39))
+    (at 0 40)) ∷ []) (Simple None (at 0 42))) (OneStmt (Labelled ((Case (at 0 44) (Number (pos 1) (at 0 49)) (at 0
+    50)) ∷ []) (Simple None (at 0 52))) NoStmt)) (at 0 53)) (OneStmt (Return (at 0 55) (Some (Number (pos 0) (at 0
+    62))) (at 0 63)) NoStmt)) ∷ []) ∷ []
+
+-- `int x=1||1/0; int main(void){return x;}`
+abbrev pub short_cut : List (List ExternalTree)
+short_cut =
+    (DeclaredTree (declaration (word words.Int 0 1 ∷ []) (item (declarator None (named (codes "x") 0 5) Plain) (Some
+    (given (at 0 6) (Single (Binary ops.LogicalOr (Number (pos 1) (at 0 7)) (at 0 8) (Binary ops.Divide (Number (pos
+    1) (at 0 10)) (at 0 11) (Number (pos 0) (at 0 12)))))))) (at 0 13)) ∷ main_at 0 15 39 (OneStmt (Return (at 0 30)
+    (Some (Identifier (named (codes "x") 0 37))) (at 0 38)) NoStmt) ∷ []) ∷ []
+
+-- `int x=1/0;`
+abbrev pub no_value : List (List ExternalTree)
+no_value =
+    (DeclaredTree (declaration (word words.Int 0 1 ∷ []) (item (declarator None (named (codes "x") 0 5) Plain) (Some
+    (given (at 0 6) (Single (Binary ops.Divide (Number (pos 1) (at 0 7)) (at 0 8) (Number (pos 0) (at 0 9))))))) (at
+    0 10)) ∷ []) ∷ []
+
+-- `int main(void){5=7; return 3=4;}`
+abbrev pub two_faults : List (List ExternalTree)
+two_faults =
+    (main_at 0 1 32 (OneStmt (Simple (Some (Assignment asg.Assign (Number (pos 5) (at 0 16)) (at 0 17) (Number (pos
+    7) (at 0 18)))) (at 0 19)) (OneStmt (Return (at 0 21) (Some (Assignment asg.Assign (Number (pos 3) (at 0 28))
+    (at 0 29) (Number (pos 4) (at 0 30)))) (at 0 31)) NoStmt)) ∷ []) ∷ []
+
+-- `int main(void){char a[16221]; return 0;}`
+abbrev pub large_frame : List (List ExternalTree)
+large_frame =
+    (main_at 0 1 40 (OneStmt (Declared (declaration (word words.Char 0 16 ∷ []) (item (declarator None (named (codes
+    "a") 0 21) (Array (array (at 0 22) (Some (Number (pos 16221) (at 0 23))) (at 0 28)))) None) (at 0 29))) (OneStmt
+    (Return (at 0 31) (Some (Number (pos 0) (at 0 38))) (at 0 39)) NoStmt)) ∷ []) ∷ []

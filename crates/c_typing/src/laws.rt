@@ -1,0 +1,74 @@
+//! Laws of the definitions: each function's contract is one, and the function does nothing.
+
+ghost use Rattle.std.specs.Prelude.{◌≡◌, [], ◌∷◌, pos, Some, None};
+ghost use Rattle.pcc_base.specs.declared.fault.FaultKind.TheVariants as kinds;
+ghost use Rattle.pcc_base.specs.declared.refusal.Limit.TheVariants.{Frame};
+ghost use Rattle.c_tree.specs.declared.types.IntegerType.TheVariants.{Int, Char};
+ghost use Rattle.c_typing.specs.Faults.{fault};
+ghost use Rattle.c_typing.specs.Laws.{LeastIsLeast, LeastOfBoth, OneTypedProgram, TypedWithoutFault};
+ghost use Rattle.c_typing.specs.Typed.{fault_of, limit_found, objects_found};
+ghost use Rattle.c_typing.specs.Worked.{
+  at,
+  case_twice,
+  declared_again,
+  defined_twice,
+  extern_inside,
+  large_frame,
+  letters,
+  no_body,
+  no_null_constant,
+  no_value,
+  nothing,
+  null_constant,
+  shadows,
+  short_cut,
+  static_apart,
+  too_many_letters,
+  too_many_values,
+  two_faults,
+  undeclared,
+};
+
+/// The definitions find the faults of small files (`specs/Worked.antt`) where a reader expects them.
+pub fn worked_faults()
+    ensures main { fault_of nothing (at 0 1) ≡ Some (fault kinds.NoMain (at 0 1)) }
+    ensures list { fault_of too_many_values (at 0 43) ≡ Some (fault kinds.Initialiser (at 0 30)) }
+    ensures name { fault_of undeclared (at 0 26) ≡ Some (fault kinds.Undeclared (at 0 23)) }
+    ensures body { fault_of no_body (at 0 44) ≡ Some (fault kinds.NoBody (at 0 37)) }
+    ensures storage { fault_of extern_inside (at 0 70) ≡ Some (fault kinds.TypeRule (at 0 46)) }
+    ensures twice { fault_of defined_twice (at 1 9) ≡ Some (fault kinds.Redeclared (at 1 5)) }
+    ensures apart { fault_of static_apart (at 1 26) ≡ Some (fault kinds.Undeclared (at 1 23)) }
+    ensures string { fault_of too_many_letters (at 0 17) ≡ Some (fault kinds.Initialiser (at 0 11)) }
+    ensures pointer { fault_of no_null_constant (at 0 39) ≡ Some (fault kinds.PointerUse (at 0 25)) }
+    ensures label { fault_of case_twice (at 0 65) ≡ Some (fault kinds.CaseLabel (at 0 44)) }
+    ensures value { fault_of no_value (at 0 11) ≡ Some (fault kinds.Initialiser (at 0 7)) }
+    ensures least { fault_of two_faults (at 0 33) ≡ Some (fault kinds.NotAssignable (at 0 17)) }
+{}
+
+/// Small files have no fault where a reader expects none: a name that is shadowed, an object that is declared
+/// again, and in another file too, a string that fits without its zero, a null constant, and a constant whose evaluation
+/// doesn't come to a division by zero. A frame is too large by a word.
+pub fn worked_programs()
+    ensures shadowing { fault_of shadows (at 0 75) ≡ None }
+    ensures again { fault_of declared_again (at 1 35) ≡ None }
+    ensures once { objects_found declared_again ≡ record { element = Int; elements = pos 1 ∷ [] } ∷ [] }
+    ensures string { fault_of letters (at 0 42) ≡ None }
+    ensures null { fault_of null_constant (at 0 41) ≡ None }
+    ensures constant { objects_found short_cut ≡ record { element = Int; elements = pos 1 ∷ [] } ∷ [] }
+    ensures frame { limit_found large_frame ≡ Some (Frame 0 16388) }
+{}
+
+/// The least of faults is one of them, and none precedes it; the least of two lists is the earlier one of the least of
+/// each.
+#[tactic(auto, using(crate::proofs::LeastFault::least_is_least, crate::proofs::LeastFault::least_of_both))]
+pub fn least_fault()
+    ensures least { LeastIsLeast }
+    ensures both { LeastOfBoth }
+{}
+
+/// Files have one typed program at most, and they have one exactly where no fault is answered.
+#[tactic(auto, using(crate::proofs::OneProgram::one_typed_program, crate::proofs::OneProgram::typed_without_fault))]
+pub fn one_typed_program()
+    ensures one { OneTypedProgram }
+    ensures exactly { TypedWithoutFault }
+{}
