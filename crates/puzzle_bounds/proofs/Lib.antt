@@ -1,0 +1,4 @@
+pub mod Changes
+pub mod Necessary
+pub mod Prices
+pub mod Totals
