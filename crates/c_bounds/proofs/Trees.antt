@@ -12,7 +12,7 @@ use Rattle.c_tree.specs.Evaluation.{AtIndex, Calls, evaluate, locate, evaluate_a
 use Rattle.c_tree.specs.Evaluation.{text_then_zeros, initialise, initialise_local, zeroed, Types, own_array, declare}
 use Rattle.c_tree.specs.Evaluation.{declare_all, Runs, tested, tested_if_any}
 use Rattle.c_tree.specs.Evaluation.{evaluated_if_any, run_first, returned, switched, none_or_from, execute}
-use Rattle.c_tree.specs.Evaluation.{execute_from}
+use Rattle.c_tree.specs.Evaluation.{execute_from, Setting}
 use Rattle.c_tree.specs.Evaluation.{low_byte}
 use Rattle.c_tree.specs.Operators.{binary_value, is_true, step_op}
 use Rattle.c_tree.specs.Program.{Expression, Constant, Start, Read, Address, Unary, Binary, And, Or, Conditional, Cast}
@@ -24,6 +24,7 @@ use Rattle.c_tree.specs.Program.{Statements, Done, Next}
 use Rattle.c_tree.specs.Store.{HoldsNumber, HoldsPointer, in_type, zero_of, State, with_local}
 use Rattle.c_tree.specs.Store.{array_named, with_array, array_of, visited, Evaluated}
 use Rattle.c_bounds.specs.Bounds.{with_more, Extending, CallsExtend}
+use Rattle.c_bounds.specs.Laws.{within}
 use Rattle.c_bounds.proofs.After.{Follows, follows-same, follows-then, local-follows, array-follows, length-text}
 use Rattle.c_bounds.proofs.After.{length-zeroed, visit-follows}
 use Rattle.c_bounds.proofs.Keeping.{follows-keeps}
@@ -206,10 +207,17 @@ module _ (k d : ℕ) (calls others : Calls) (h : CallsExtend k d calls others) w
         → Extending k d (λ s. f (visited listing statement s)) (λ s. g (visited listing statement s))
     visit-both statement = before-both (visited listing statement) (visit-follows listing statement) (λ s. refl)
 
+    -- the settings of both
+    abbrev one : Setting
+    one = within calls bound listing types result
+
+    abbrev two : Setting
+    two = within others other listing types result
+
     mutual
       -- a statement is executed
       pub statement_both : (x : Statement)
-          → Extending k d (execute calls bound listing types result x) (execute others other listing types result x)
+          → Extending k d (execute one x) (execute two x)
       statement_both (Declare item) = then-both (item-both listing types item) (λ done. same-both)
       statement_both (Empty n) = visit-both n same-both
       statement_both (Evaluate n e) = visit-both n (then-both (expression-both e) (λ v. same-both))
@@ -233,8 +241,8 @@ module _ (k d : ℕ) (calls others : Calls) (h : CallsExtend k d calls others) w
 
       -- statements are executed, from a place on
       pub statements_both : (xs : Statements) (place : ℕ)
-          → Extending k d (execute_from calls bound listing types result xs place)
-          (execute_from others other listing types result xs place)
+          → Extending k d (execute_from one xs place)
+          (execute_from two xs place)
       statements_both Done place = same-both
       statements_both (Next first rest) zero =
           then-both (statement_both first) (statement-both (statements_both rest 0))

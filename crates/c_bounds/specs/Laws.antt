@@ -5,7 +5,7 @@ use Rattle.pcc_base.specs.Outcome.{ArrayName, Goes, Listing, Outcome, Visit}
 use Rattle.c_tree.specs.Evaluation.{Calls, evaluate, locate, evaluate_all, fill, initialise, initialise_local}
 use Rattle.c_tree.specs.Evaluation.{Types, declare, declare_all, Runs, run_first, returned}
 use Rattle.c_tree.specs.Evaluation.{tested_if_any, evaluated_if_any, after_body, Falls, loop, do_loop, execute}
-use Rattle.c_tree.specs.Evaluation.{execute_from, run_function, call_within, source_outcome}
+use Rattle.c_tree.specs.Evaluation.{execute_from, run_function, call_within, source_outcome, Setting}
 use Rattle.c_tree.specs.declared.types.IntegerType.{IntegerType}
 use Rattle.c_tree.specs.declared.types.ValueType.{ValueType}
 use Rattle.c_tree.specs.Program.{Arguments, Expression, First, Initialiser, Item, Place, Program, Statement}
@@ -14,6 +14,12 @@ use Rattle.c_tree.specs.Store.{Held, State, Evaluated, Gives, Ends, and_then, ta
 use Rattle.c_bounds.specs.Bounds.{CallsAgree, CallsExtend, CallsKeep, Extending, Keeps}
 
 -- ---- trees
+
+-- a function's body where calls do this, loops have this bound, visits show this, and these are the types of the
+-- function's locals and of what it returns
+abbrev pub within : Calls → ℕ → Listing → Types → ValueType → Setting
+within calls bound listing types result =
+    record { calls = calls; bound = bound; listing = listing; types = types; result = result }
 
 -- The evaluation of every tree keeps what evaluations keep, with loops over a bound that isn't lower.
 pub record TreesKeep (bound : ℕ) (calls : Calls) : Type 0 where
@@ -37,9 +43,9 @@ pub record TreesKeep (bound : ℕ) (calls : Calls) : Type 0 where
   pub returns : (result : ValueType) (value : Option Expression) (s : State)
       → Keeps bound s (returned result calls value s)
   pub statements : (loops : ℕ) (listing : Listing) (types : Types) (result : ValueType) (x : Statement) (s : State)
-      → bound ≤ loops → Keeps bound s (execute calls loops listing types result x s)
+      → bound ≤ loops → Keeps bound s (execute (within calls loops listing types result) x s)
   pub bodies : (loops : ℕ) (listing : Listing) (types : Types) (result : ValueType) (xs : Statements) (place : ℕ)
-      (s : State) → bound ≤ loops → Keeps bound s (execute_from calls loops listing types result xs place s)
+      (s : State) → bound ≤ loops → Keeps bound s (execute_from (within calls loops listing types result) xs place s)
 
 -- Trees whose calls keep it do so.
 abbrev pub TreesKeepAsCalls : Type 0
@@ -69,12 +75,13 @@ pub record TreesExtend (bound more : ℕ) (calls others : Calls) : Type 0 where
   pub returns : (result : ValueType) (value : Option Expression)
       → Extending bound more (returned result calls value) (returned result others value)
   pub statements : (loops other : ℕ) (listing : Listing) (types : Types) (result : ValueType) (x : Statement)
-      → bound ≤ loops → bound + more ≤ other → Extending bound more (execute calls loops listing types result x)
-      (execute others other listing types result x)
+      → bound ≤ loops → bound + more ≤ other → Extending bound more
+          (execute (within calls loops listing types result) x)
+      (execute (within others other listing types result) x)
   pub bodies : (loops other : ℕ) (listing : Listing) (types : Types) (result : ValueType) (xs : Statements) (place : ℕ)
       → bound ≤ loops → bound + more ≤ other
-      → Extending bound more (execute_from calls loops listing types result xs place)
-      (execute_from others other listing types result xs place)
+      → Extending bound more (execute_from (within calls loops listing types result) xs place)
+      (execute_from (within others other listing types result) xs place)
 
 -- Trees extend as calls do.
 abbrev pub TreesExtendAsCalls : Type 0
@@ -107,11 +114,11 @@ pub record TreesAgree (bound : ℕ) (calls others : Calls) : Type 0 where
       → returned result calls value s ≡ returned result others value s
   pub statements : (loops other : ℕ) (listing : Listing) (types : Types) (result : ValueType) (x : Statement)
       (s : State) → bound ≤ loops → bound ≤ other → s.turns < bound
-      → execute calls loops listing types result x s ≡ execute others other listing types result x s
+      → execute (within calls loops listing types result) x s ≡ execute (within others other listing types result) x s
   pub bodies : (loops other : ℕ) (listing : Listing) (types : Types) (result : ValueType) (xs : Statements) (place : ℕ)
       (s : State) → bound ≤ loops → bound ≤ other → s.turns < bound
-      → execute_from calls loops listing types result xs place s
-      ≡ execute_from others other listing types result xs place s
+      → execute_from (within calls loops listing types result) xs place s
+      ≡ execute_from (within others other listing types result) xs place s
 
 -- Trees agree as calls do that keep what evaluations keep.
 abbrev pub TreesAgreeAsCalls : Type 0

@@ -9,7 +9,7 @@ use Rattle.c_tree.specs.declared.types.IntegerType.TheVariants.{Int}
 use Rattle.c_tree.specs.declared.types.ValueType.{ValueType}
 use Rattle.c_tree.specs.declared.types.ValueType.TheVariants.{Integer}
 use Rattle.c_tree.specs.Evaluation.{Calls, Left, Falls, Returns, InLocal, Types, after_statement, call_over, execute}
-use Rattle.c_tree.specs.Evaluation.{execute_from, initialise_local, outcome_of, put, returned, store}
+use Rattle.c_tree.specs.Evaluation.{execute_from, initialise_local, outcome_of, put, returned, store, Setting}
 use Rattle.c_tree.specs.Program.{int, Assign, Putchar, LocalPlace, Scalar, Statement, Declare, Evaluate, Return}
 use Rattle.c_tree.specs.Program.{Statements, Done, Next}
 use Rattle.c_tree.specs.Store as source
@@ -95,15 +95,19 @@ module _ (variables locals : ℕ) (ops : List Op) (shown listing : Listing) (cal
       let F : List Value → Visit = λ vs. record { statement = statement; values = vs } in
       ap F (shows statement p values before left taken written matches)
 
+  -- the setting of the body
+  abbrev within : Setting
+  within = record { calls = calls; bound = bound; listing = listing; types = types; result = result }
+
   -- what is left of the source from these statements on
   abbrev rest_of : Statements → source.State → Outcome
-  rest_of ss s = finish (execute_from calls bound listing types result ss 0 s)
+  rest_of ss s = finish (execute_from within ss 0 s)
 
   goes_on : (s : Statement) (others : Statements) (from to : source.State)
-      → execute calls bound listing types result s from ≡ Gives Falls to → rest_of (Next s others) from
+      → execute within s from ≡ Gives Falls to → rest_of (Next s others) from
       ≡ rest_of others to
   goes_on s others from to e = ap (λ (r : Evaluated Left).
-      finish (and_then r (after_statement (execute_from calls bound listing types result others 0)))) e
+      finish (and_then r (after_statement (execute_from within others 0)))) e
 
   -- what comes of a statement and then of the others
   abbrev Runs : ℕ → Statements → ℕ → List Value → List Held → ℕ → List ℕ → ℕ → List ℕ → List Visit → Type 0
@@ -114,7 +118,7 @@ module _ (variables locals : ℕ) (ops : List Op) (shown listing : Listing) (cal
   -- a statement that is visited, and the others after it
   then_others : (s : Statement) (others : Statements) (statement p q turns left_turns : ℕ) (before after : List Value)
       (values values' : List Held) (left : List ℕ) (taken : ℕ) (written written' : List ℕ) (visits : List Visit)
-      → Matches locals values before → execute calls bound listing types result s
+      → Matches locals values before → execute within s
       (running arrays objects left_turns left taken written visits values)
       ≡ Gives Falls (running arrays objects left_turns left taken written' (visits ++ seen statement values ∷ [])
       values') → ((o : Outcome) → Comes variables ops shown turns (at q after left taken written') o
@@ -288,9 +292,9 @@ module _ (variables locals : ℕ) (ops : List Op) (shown listing : Listing) (cal
           (running arrays objects left_turns left taken written visits values)
           ≡ after_visits (visits ++ seen n values ∷ []) ended =
       ap (λ (t : ValueType). finish (and_then (returned t calls (Some e) s1)
-          (after_statement (execute_from calls bound listing types result Done 0)))) returns
+          (after_statement (execute_from within Done 0)))) returns
       ∙ ap (λ (r : Evaluated Held). finish (and_then (and_then r (λ x s. Gives (Returns (Some (in_type int x))) s))
-          (after_statement (execute_from calls bound listing types result Done 0))))
+          (after_statement (execute_from within Done 0))))
           (sum_gives calls e locals arrays objects left_turns left taken written (visits ++ seen n values ∷ []) values
           before sum matches)
       ∙ no_more (visits ++ seen n values ∷ []) ended in (

@@ -302,42 +302,45 @@ abbrev pub none_or_from : Option ℕ → (ℕ → Runs) → Runs
 none_or_from None from s = Gives Falls s
 none_or_from (Some place) from s = from place s
 
+-- what is the same throughout a function's body: what calls do, the bound of loops, what visits show, the types of the
+-- function's locals, and the type that it returns
+pub record Setting : Type 0 where
+  pub calls : Calls
+  pub bound : ℕ
+  pub listing : Listing
+  pub types : Types
+  pub result : ValueType
+
 abbrev mutual
-  pub execute : Calls → ℕ → Listing → Types → ValueType → Statement → Runs
-  execute calls bound listing types result (Declare item) s = and_then (declare calls listing types item s)
+  pub execute : Setting → Statement → Runs
+  execute within (Declare item) s = and_then (declare within.calls within.listing within.types item s)
       (λ done s'. Gives Falls s')
-  execute calls bound listing types result (Empty n) s = Gives Falls (visited listing n s)
-  execute calls bound listing types result (Evaluate n e) s = and_then (evaluate calls e (visited listing n s))
+  execute within (Empty n) s = Gives Falls (visited within.listing n s)
+  execute within (Evaluate n e) s = and_then (evaluate within.calls e (visited within.listing n s))
       (λ v s'. Gives Falls s')
-  execute calls bound listing types result (Block body) s = execute_from calls bound listing types result body 0 s
-  execute calls bound listing types result (If n e a b) s =
-      and_then (tested calls e (visited listing n s)) (λ holds s'. if holds
-      then execute calls bound listing types result a s' else execute calls bound listing types result b s')
-  execute calls bound listing types result (While n e body) s =
-      loop bound (tested calls e) (execute calls bound listing types result body)
-      (λ t. Gives Falls t) (visited listing n s)
-  execute calls bound listing types result (Do n body e) s =
-      do_loop bound (tested calls e) (execute calls bound listing types result body) (visited listing n s)
-  execute calls bound listing types result (For n first test after body) s =
-      and_then (run_first calls listing types first (visited listing n s))
-      (λ done s'. loop bound (tested_if_any calls test) (execute calls bound listing types result body)
-      (evaluated_if_any calls after) s')
-  execute calls bound listing types result (Switch n e labels body) s =
-      and_then (evaluate calls e (visited listing n s))
-      (λ v s'. and_then (none_or_from (switched labels v)
-      (execute_from calls bound listing types result body) s') after_switch)
-  execute calls bound listing types result (Break n) s = Gives Breaks (visited listing n s)
-  execute calls bound listing types result (Continue n) s = Gives Continues (visited listing n s)
-  execute calls bound listing types result (Return n value) s = returned result calls value (visited listing n s)
+  execute within (Block body) s = execute_from within body 0 s
+  execute within (If n e a b) s = and_then (tested within.calls e (visited within.listing n s))
+      (λ holds s'. if holds then execute within a s' else execute within b s')
+  execute within (While n e body) s = loop within.bound (tested within.calls e) (execute within body)
+      (λ t. Gives Falls t) (visited within.listing n s)
+  execute within (Do n body e) s = do_loop within.bound (tested within.calls e) (execute within body)
+      (visited within.listing n s)
+  execute within (For n first test after body) s =
+      and_then (run_first within.calls within.listing within.types first (visited within.listing n s))
+      (λ done s'. loop within.bound (tested_if_any within.calls test) (execute within body)
+      (evaluated_if_any within.calls after) s')
+  execute within (Switch n e labels body) s = and_then (evaluate within.calls e (visited within.listing n s))
+      (λ v s'. and_then (none_or_from (switched labels v) (execute_from within body) s') after_switch)
+  execute within (Break n) s = Gives Breaks (visited within.listing n s)
+  execute within (Continue n) s = Gives Continues (visited within.listing n s)
+  execute within (Return n value) s = returned within.result within.calls value (visited within.listing n s)
 
   -- the statements from a place on
-  pub execute_from : Calls → ℕ → Listing → Types → ValueType → Statements → ℕ → Runs
-  execute_from calls bound listing types result Done place s = Gives Falls s
-  execute_from calls bound listing types result (Next first others) zero s =
-      and_then (execute calls bound listing types result first s)
-      (after_statement (execute_from calls bound listing types result others 0))
-  execute_from calls bound listing types result (Next first others)
-      (suc place) s = execute_from calls bound listing types result others place s
+  pub execute_from : Setting → Statements → ℕ → Runs
+  execute_from within Done place s = Gives Falls s
+  execute_from within (Next first others) zero s =
+      and_then (execute within first s) (after_statement (execute_from within others 0))
+  execute_from within (Next first others) (suc place) s = execute_from within others place s
 
 -- ---- calls (C99 6.5.2.2) and programs
 
@@ -377,7 +380,9 @@ enter f arguments body s =
 abbrev pub run_function : Calls → ℕ → Listing → Option Function → List Held → State → Evaluated Held
 run_function calls bound listing None arguments s = Gives (HoldsNumber (pos 0)) s
 run_function calls bound listing (Some f) arguments s =
-    enter f arguments (execute_from calls bound listing (type_at f) f.result f.body 0) s
+    let within : Setting = record { calls = calls; bound = bound; listing = listing; types = type_at f;
+        result = f.result } in
+    enter f arguments (execute_from within f.body 0) s
 
 -- Calls within calls go over a bound above the turns: what still goes has then no turn left, and every such bound makes
 -- the same of it (proved in `c_bounds`).
