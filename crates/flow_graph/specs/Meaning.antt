@@ -98,7 +98,10 @@ both _ _ f = None
 abbrev pub arrays_compared : Comparison → Option ArrayName → Option ArrayName → Option Bool
 arrays_compared Eq a b = both a b same_array
 arrays_compared Ne a b = both a b (λ x y. not (same_array x y))
-arrays_compared _ a b = None
+arrays_compared Lt a b = None
+arrays_compared Le a b = None
+arrays_compared Gt a b = None
+arrays_compared Ge a b = None
 
 abbrev pub first_of : {A : Type 0} → Option A → Option A → Option A
 first_of (Some x) other = Some x
@@ -201,7 +204,44 @@ back_to s w waiting = record s { block = w.block; point = w.point; current = w.a
 abbrev pub result_to : GraphProgram → State → Option ℤ → Option Op → Moved
 result_to program s (Some n) (Some (op.Call (Some d) f arguments)) = sets program s d (Number n)
 result_to program s n (Some (op.Call None f arguments)) = onward program s
-result_to program s n _ = Stuck
+-- a call that wants a result that isn't there, and where no call waits, no step is
+result_to program s None (Some (op.Call (Some d) f arguments)) = Stuck
+result_to program s n None = Stuck
+result_to program s n (Some (op.Const d m)) = Stuck
+result_to program s n (Some (op.Copy d a)) = Stuck
+result_to program s n (Some (op.Wide d a)) = Stuck
+result_to program s n (Some (op.Low d a)) = Stuck
+result_to program s n (Some (op.Low16 d a)) = Stuck
+result_to program s n (Some (op.Neg d a)) = Stuck
+result_to program s n (Some (op.Not d a)) = Stuck
+result_to program s n (Some (op.Add d a b)) = Stuck
+result_to program s n (Some (op.Sub d a b)) = Stuck
+result_to program s n (Some (op.Mul d a b)) = Stuck
+result_to program s n (Some (op.And d a b)) = Stuck
+result_to program s n (Some (op.Or d a b)) = Stuck
+result_to program s n (Some (op.Xor d a b)) = Stuck
+result_to program s n (Some (op.Shl d a c)) = Stuck
+result_to program s n (Some (op.Sar d a c)) = Stuck
+result_to program s n (Some (op.Div d a b)) = Stuck
+result_to program s n (Some (op.Rem d a b)) = Stuck
+result_to program s n (Some (op.Set how d a b)) = Stuck
+result_to program s n (Some (op.Frame d k)) = Stuck
+result_to program s n (Some (op.Static d k)) = Stuck
+result_to program s n (Some (op.Load bits d p i)) = Stuck
+result_to program s n (Some (op.Store bits p i a)) = Stuck
+result_to program s n (Some (op.Get bits d k)) = Stuck
+result_to program s n (Some (op.Put bits k a)) = Stuck
+result_to program s n (Some (op.Clear k)) = Stuck
+result_to program s n (Some (op.Param d k)) = Stuck
+result_to program s n (Some (op.Putchar d a)) = Stuck
+result_to program s n (Some (op.Getchar d)) = Stuck
+result_to program s n (Some (op.Exit a)) = Stuck
+result_to program s n (Some (op.Same a b)) = Stuck
+result_to program s n (Some (op.Mark statement)) = Stuck
+result_to program s n (Some op.Turn) = Stuck
+result_to program s n (Some (op.Jump x)) = Stuck
+result_to program s n (Some (op.Branch how a b x y)) = Stuck
+result_to program s n (Some (op.Return a)) = Stuck
 
 -- The exit status is the low 8 bits of what the first call returns (C99 5.1.2.2.3).
 abbrev pub low_byte : ℤ → ℕ

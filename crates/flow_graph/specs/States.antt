@@ -1,6 +1,6 @@
 -- The states of a program of graphs.
 use Rattle.std.specs.Prelude.{ℕ, suc, ◌-◌, ◌==◌, ℤ, pos, negsuc, List, [], ◌∷◌, length, map, replicate, slice_get}
-use Rattle.std.specs.Prelude.{slice_set}
+use Rattle.std.specs.Prelude.{slice_set, nat_le}
 use Rattle.std.specs.Prelude.{slice_index_or, Option, Some, None, option_map, if◌then◌else◌}
 use Rattle.std.specs.Int.{w8, int_wrap}
 use Rattle.pcc_base.specs.Outcome.{ArrayName, Null, Static, InFrame, Unknown, Value, Number, Array}
@@ -143,11 +143,12 @@ with_elements k elements a = record {
   arrays = slice_set a.arrays k elements;
 }
 
--- the place among the waiting calls of the one of a depth, with `main` at depth 1
+-- the place among the waiting calls of the one of a depth, with `main` at depth 1; a depth above theirs has none, and
+-- its place is past their end
 abbrev pub waiting_place : State → ℕ → ℕ
-waiting_place s depth = length s.waiting - depth
+waiting_place s depth = if nat_le depth (length s.waiting) then length s.waiting - depth else length s.waiting
 
--- the active call of a depth
+-- the active call of a depth, where there is one
 abbrev pub frame_at : State → ℕ → Option Activation
 frame_at s depth = if depth == depth_of s then Some s.current
     else option_map (λ w. w.activation) (slice_get s.waiting (waiting_place s depth))

@@ -182,3 +182,9 @@ HeldArraysAreThere =
     → value_at g v ≡ Some (Array array) → (width : ℕ) × (elements : List ℤ)
     × (elements_of program g array ≡ Some (width, elements)) × IsArray (width, length elements)
     × All (FitsBytes width) elements
+
+-- a frame array that a variable holds is that of an active call: its depth is none above theirs
+abbrev pub HeldFramesAreActive : Type 0
+HeldFramesAreActive =
+    (program : GraphProgram) (g : State) (v k depth : ℕ) → IsState program g
+    → value_at g v ≡ Some (Array (InFrame k depth)) → (1 ≤ depth) × (depth ≤ depth_of g)

@@ -1,9 +1,9 @@
 -- The arrays that variables hold are there.
-use Rattle.std.proofs.Common.{◌≡◌, ℕ, zero, suc, ◌-◌, ◌<◌, Bool, false, ℤ, List, [], ◌∷◌, length, Option, Some}
+use Rattle.std.proofs.Common.{◌≡◌, ℕ, zero, suc, ◌-◌, ◌<◌, ◌≤◌, Bool, false, ℤ, List, [], ◌∷◌, length, Option, Some}
 use Rattle.std.proofs.Common.{inl, inr, refl, sym, ap, subst, ◌∙◌, eq-eqb, arith, rules}
 use Rattle.std.specs.Prelude.{◌==◌, if◌then◌else◌, option_map, slice_get}
 use Rattle.std.specs.List.{All}
-use Rattle.std.proofs.lemmas.Bool.{cases_eq}
+use Rattle.std.proofs.lemmas.Bool.{cases_eq, le-leb}
 use Rattle.std.proofs.lemmas.Option.{none-some, same_Some}
 use Rattle.pcc_base.specs.Objects.{FitsBytes, IsObject, Object}
 use Rattle.pcc_base.specs.Outcome.{ArrayName, Null, Static, InFrame, Unknown, Array}
@@ -13,7 +13,7 @@ use Rattle.flow_graph.specs.Graphs.{IsArray}
 use Rattle.flow_graph.specs.States.{Activation, GraphProgram, State, Waiting, active_of, depth_of, elements_in}
 use Rattle.flow_graph.specs.States.{elements_of, elements_with, flow_at, frame_at, waiting_place}
 use Rattle.flow_graph.specs.WellFormed.{AreElementsIn, AreElementsOf, FitsWidth, HasArray, HasFrameArray}
-use Rattle.flow_graph.specs.WellFormed.{HeldArraysAreThere}
+use Rattle.flow_graph.specs.WellFormed.{HeldArraysAreThere, HeldFramesAreActive}
 use Rattle.flow_graph.specs.WellFormed.{IsGraphProgram, IsState, functions_of}
 use Rattle.graph_states.proofs.Arrays.{frame-active, length-functions}
 use Rattle.graph_states.proofs.Changes.{activations, store}
@@ -82,6 +82,11 @@ waiting s depth w n at =
     ap (λ (y : Bool). if y then Some s.current
     else option_map (λ (u : Waiting). u.activation) (slice_get s.waiting (waiting_place s depth))) test ∙ call
 
+-- the place of a depth that isn't above those of the waiting calls
+place-of : (s : State) (depth : ℕ) → depth ≤ length s.waiting → waiting_place s depth ≡ length s.waiting - depth
+place-of s depth h =
+    ap (λ (y : Bool). if y then length s.waiting - depth else length s.waiting) (le-leb depth (length s.waiting) h)
+
 -- the active call of a depth whose function has frame array k
 record IsFrame (program : GraphProgram) (s : State) (k depth : ℕ) : Type 0 where
   call : Activation
@@ -104,8 +109,11 @@ frame-of program s k depth (one, old, f, at, has) =
             has = has-same program k s.current.function f same has;
           }
       | inr n ↦
+          let place : waiting_place s depth ≡ length s.waiting - depth =
+              place-of s depth (omega (arith, few, n, old)) in
           let there : length (functions_of (active_of s)) - depth ≡ suc (waiting_place s depth) =
-          omega (arith, few, n, old, one) in
+              (let plain : length (functions_of (active_of s)) - depth ≡ suc (length s.waiting - depth) =
+                  omega (arith, few, n, old, one) in plain) ∙ ap suc (sym place) in
           let (w, is_w, same) =
           waiting-at s.waiting (waiting_place s depth) f
           (at-place (functions_of (active_of s)) f (length (functions_of (active_of s)) - depth)
@@ -162,3 +170,20 @@ held_arrays program s v array h i e =
     (Array array) i.active.0.variables e in
     let has = array-has program s array h i (held program active width array fits) in
     (has.width, has.elements, has.there, has.is_array, has.fit)
+
+-- ---- the depths of held arrays
+
+-- the depth of a frame array that is there is that of an active call
+has-depth : (program : GraphProgram) (s : State) (k depth : ℕ)
+    → HasFrameArray program (functions_of (active_of s)) k depth → (1 ≤ depth) × (depth ≤ depth_of s)
+has-depth program s k depth (one, old, f, at, has) =
+    let few = length-functions s.waiting in
+    (one, omega (arith, few, old))
+
+pub held_frames : HeldFramesAreActive
+held_frames program s v k depth i e =
+    let active = functions_of (active_of s) in
+    let (width, is_width, fits) =
+    zip-first (FitsWidth program active) (flow_at program s.current.function).widths s.current.variables v
+    (Array (InFrame k depth)) i.active.0.variables e in
+    has-depth program s k depth (held program active width (InFrame k depth) fits)

@@ -1,11 +1,14 @@
 //! Laws of the states of a program of graphs: each function's contract is one, and the function does nothing.
 
-ghost use Rattle.std.specs.Prelude.{◌≡◌, pos, [], ◌∷◌};
+ghost use Rattle.std.specs.Prelude.{◌≡◌, pos, [], ◌∷◌, None, Some};
 ghost use Rattle.std.specs.List.{AllByRecursion};
 ghost use Rattle.flow_graph.specs.Meaning.{Moves, step};
-ghost use Rattle.flow_graph.specs.WellFormed.{FirstIsState, FunctionsBegin, HeldArraysAreThere, IsGraphProgram};
+ghost use Rattle.flow_graph.specs.WellFormed.{FirstIsState, FunctionsBegin, HeldArraysAreThere, HeldFramesAreActive};
+ghost use Rattle.flow_graph.specs.WellFormed.{IsGraphProgram};
 ghost use Rattle.flow_graph.specs.WellFormed.{IsState, StatesAreStates, StepKeepsState};
-ghost use Rattle.graph_states.specs.Worked.{element_program, element_state};
+ghost use Rattle.pcc_base.specs.Outcome.{InFrame};
+ghost use Rattle.flow_graph.specs.States.{elements_of, with_array};
+ghost use Rattle.graph_states.specs.Worked.{element_program, element_state, frame_program, frame_state};
 
 /// The first state over a list of bytes keeps what every state keeps.
 pub fn first_is_state()
@@ -17,12 +20,12 @@ pub fn step_keeps_state()
     ensures { StepKeepsState }
 {}
 
-/// AllByRecursion state that comes over a list of bytes keeps it.
+/// Every state that comes over a list of bytes keeps it.
 pub fn states_are_states()
     ensures { StatesAreStates }
 {}
 
-/// AllByRecursion function of a program has a first point.
+/// Every function of a program has a first point.
 pub fn functions_begin()
     ensures { FunctionsBegin }
 {}
@@ -30,6 +33,11 @@ pub fn functions_begin()
 /// An array that a variable holds is there, and its elements fit their width.
 pub fn held_arrays()
     ensures { HeldArraysAreThere }
+{}
+
+/// A frame array that a variable holds is that of an active call: its depth isn't above theirs.
+pub fn held_frames()
+    ensures { HeldFramesAreActive }
 {}
 
 /// On a small program (`specs/Worked.antt`) a state is one where object 0 has the one element that it declares. The
@@ -44,4 +52,14 @@ pub fn worked_example()
     ensures long_step { step element_program (element_state 0 (pos 1) (pos 0) (pos 7 ∷ pos 8 ∷ []))
         ≡ Moves (element_state 1 (pos 1) (pos 8) (pos 7 ∷ pos 8 ∷ [])) }
     ensures long { IsState element_program (element_state 0 (pos 1) (pos 0) (pos 7 ∷ pos 8 ∷ [])) → ⊥ }
+{}
+
+/// Where one call waits for another, the depths 1 and 2 name them, and no call has depth 0 or 3: an array of such a
+/// depth has no elements, and giving it some changes nothing.
+pub fn worked_depths()
+    ensures older { elements_of frame_program frame_state (InFrame 0 1) ≡ Some (4, pos 5 ∷ []) }
+    ensures younger { elements_of frame_program frame_state (InFrame 0 2) ≡ Some (4, pos 6 ∷ []) }
+    ensures none { elements_of frame_program frame_state (InFrame 0 0) ≡ None }
+    ensures above { elements_of frame_program frame_state (InFrame 0 3) ≡ None }
+    ensures kept { with_array (InFrame 0 3) (pos 9 ∷ []) frame_state ≡ frame_state }
 {}

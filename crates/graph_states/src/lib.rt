@@ -5,6 +5,6 @@
 mod laws;
 
 pub use laws::{
-    first_is_state, functions_begin, held_arrays, states_are_states, step_keeps_state,
-    worked_example,
+    first_is_state, functions_begin, held_arrays, held_frames, states_are_states, step_keeps_state,
+    worked_depths, worked_example,
 };
