@@ -51,7 +51,7 @@ sizes xs = sizes-from 0 xs
 -- segments that fit and are apart are loadable where their memory is not too much
 pub loads-all : (entry : ℕ) (segments : List Segment) (few : Bool) → All IsPiece (map piece_of segments)
     → AllPairs AreApart (map piece_of segments)
-    → Decides few (sum_by (λ piece. piece.size) (map piece_of segments) ≤ 1342177280)
+    → Decides few (sum_by (λ piece. piece.size) (map piece_of segments) ≤ 0x50000000)
     → Decides few (IsLoadable (record { entry = entry; pieces = map piece_of segments }))
 loads-all entry segments few each apart memory =
     (λ e. record { each = each; apart = apart; memory = memory.0 e }, λ loadable. memory.1 loadable.memory)

@@ -15,10 +15,10 @@ use Rattle.elf_image.specs.Layout.{image_bytes}
 pub front : Parts → List ℕ
 front parts =
     elf_header parts.entry
-    ++ program_header 4096 text_address (length parts.text) (length parts.text) 5
-    ++ program_header (4096 + text_span parts) (text_address + text_span parts) (length parts.data_bytes)
+    ++ program_header 0x1000 text_address (length parts.text) (length parts.text) 5
+    ++ program_header (0x1000 + text_span parts) (text_address + text_span parts) (length parts.data_bytes)
         (data_memory parts) 6
-    ++ zeros (4096 - 116)
+    ++ zeros (0x1000 - 116)
 
 -- there are n zeros
 pub length-zeros : (n : ℕ) → length (zeros n) ≡ n
@@ -26,7 +26,7 @@ unfolding zeros
 length-zeros n = length-replicate n 0
 
 -- the text begins at the first page
-pub length-front : (parts : Parts) → length (front parts) ≡ 4096
+pub length-front : (parts : Parts) → length (front parts) ≡ 0x1000
 unfolding front
 length-front parts = let e = length-zeros 3980 in omega (arith, e)
 
@@ -37,7 +37,7 @@ unfolding front
 image-parts parts = simp append_assoc
 
 -- the length of an image
-pub length-image : (parts : Parts) → length (image_bytes parts) ≡ 4096 + text_span parts + length parts.data_bytes
+pub length-image : (parts : Parts) → length (image_bytes parts) ≡ 0x1000 + text_span parts + length parts.data_bytes
 length-image parts =
     let a = length-front parts in
     let z = length-zeros (text_span parts - length parts.text) in
@@ -54,21 +54,21 @@ text_length-reads parts fits = little_number-reads_back 4 (length parts.text) (d
     (omega (arith, fits.size))
 
 -- the text begins at the first page
-text-reads : (parts : Parts) → take (length parts.text) (drop 4096 (image_bytes parts)) ≡ parts.text
+text-reads : (parts : Parts) → take (length parts.text) (drop 0x1000 (image_bytes parts)) ≡ parts.text
 text-reads parts =
     let rest = zeros (text_span parts - length parts.text) ++ parts.data_bytes in
-    let at : drop 4096 (image_bytes parts) ≡ parts.text ++ rest =
+    let at : drop 0x1000 (image_bytes parts) ≡ parts.text ++ rest =
     ap (λ (n : ℕ). drop n (image_bytes parts)) (sym (length-front parts))
     ∙ ap (drop (length (front parts))) (image-parts parts)
     ∙ drop-append_seam (front parts) (parts.text ++ rest) in
     ap (take (length parts.text)) at ∙ take-append_seam parts.text rest
 
 -- the data begins at the next page
-data-reads : (parts : Parts) → drop (4096 + text_span parts) (image_bytes parts) ≡ parts.data_bytes
+data-reads : (parts : Parts) → drop (0x1000 + text_span parts) (image_bytes parts) ≡ parts.data_bytes
 data-reads parts =
     let pad = zeros (text_span parts - length parts.text) in
     let before = front parts ++ (parts.text ++ pad) in
-    let long : length before ≡ 4096 + text_span parts =
+    let long : length before ≡ 0x1000 + text_span parts =
     simp length-append (omega (arith, length-front parts, length-zeros (text_span parts - length parts.text))) in
     let whole : image_bytes parts ≡ before ++ parts.data_bytes = image-parts parts ∙ simp append_assoc in
     ap (λ (n : ℕ). drop n (image_bytes parts)) (sym long)
@@ -86,27 +86,28 @@ parts_in-image parts fits =
     let n = text_length-reads parts fits in
     parts-equal
     (entry-reads parts fits)
-    (ap (λ (k : ℕ). take k (drop 4096 (image_bytes parts))) n ∙ text-reads parts)
-    (ap (λ (k : ℕ). drop (4096 + next_multiple_of k 4096) (image_bytes parts)) n ∙ data-reads parts)
+    (ap (λ (k : ℕ). take k (drop 0x1000 (image_bytes parts))) n ∙ text-reads parts)
+    (ap (λ (k : ℕ). drop (0x1000 + next_multiple_of k 0x1000) (image_bytes parts)) n ∙ data-reads parts)
 
 -- a file of these bytes has room for a text of n bytes, and is no larger than an image may be
 pub record HasRoom (bytes : List ℕ) (n : ℕ) : Type 0 where
-  pub headers : 4096 ≤ length bytes
-  pub text : 4096 + next_multiple_of n 4096 ≤ length bytes
-  pub size : n + (length bytes - (4096 + next_multiple_of n 4096)) ≤ 1200000000
+  pub headers : 0x1000 ≤ length bytes
+  pub text : 0x1000 + next_multiple_of n 0x1000 ≤ length bytes
+  pub size : n + (length bytes - (0x1000 + next_multiple_of n 0x1000)) ≤ 1200000000
 
 -- an image has room for a text of as many bytes as its field says
 pub image-room : (bytes : List ℕ) (parts : Parts) (n : ℕ) → Fits parts → bytes ≡ image_bytes parts → n
     ≡ text_length bytes → HasRoom bytes n
 image-room bytes parts n fits same is =
-    let long : length bytes ≡ 4096 + text_span parts + length parts.data_bytes = ap length same ∙ length-image parts in
+    let long : length bytes ≡ 0x1000 + text_span parts + length parts.data_bytes = ap length same
+        ∙ length-image parts in
     let count : length parts.text ≡ n = sym (text_length-reads parts fits) ∙ sym (ap text_length same) ∙ sym is in
-    let span : text_span parts ≡ next_multiple_of n 4096 = ap (λ (k : ℕ). next_multiple_of k 4096) count in
+    let span : text_span parts ≡ next_multiple_of n 0x1000 = ap (λ (k : ℕ). next_multiple_of k 0x1000) count in
     let size = fits.size in
     record { headers = omega arith; text = omega arith; size = omega arith }
 
 -- what is read from a place within the first page is the number in the four bytes there
-pub field-reads : (at n : ℕ) (bytes : List ℕ) → 4096 ≤ length bytes → at ≤ 4092 → n
+pub field-reads : (at n : ℕ) (bytes : List ℕ) → 0x1000 ≤ length bytes → at ≤ 4092 → n
     ≡ little_number 4 (take (length bytes - at) (drop at bytes)) → n ≡ little_number 4 (drop at bytes)
 field-reads at n bytes long within is = is ∙ little_from-take 0 4 (length bytes - at) (drop at bytes) (omega arith)
 

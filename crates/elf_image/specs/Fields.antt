@@ -13,6 +13,6 @@ abbrev pub parts_in : List ℕ → Parts
 parts_in bytes =
     record {
       entry = little_number 4 (drop 24 bytes);
-      text = take (text_length bytes) (drop 4096 bytes);
-      data_bytes = drop (4096 + next_multiple_of (text_length bytes) 4096) bytes;
+      text = take (text_length bytes) (drop 0x1000 bytes);
+      data_bytes = drop (0x1000 + next_multiple_of (text_length bytes) 0x1000) bytes;
     }

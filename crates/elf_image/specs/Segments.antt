@@ -68,4 +68,4 @@ AreApart a b = (address : ℕ) → HasAddress a address → HasAddress b address
 pub record IsLoadable (segments : Segments) : Type 0 where
   pub each : All IsPiece segments.pieces
   pub apart : AllPairs AreApart segments.pieces
-  pub memory : sum_by (λ piece. piece.size) segments.pieces ≤ 1342177280
+  pub memory : sum_by (λ piece. piece.size) segments.pieces ≤ 0x50000000

@@ -88,13 +88,13 @@ objects_bound address (o ∷ objects) (suc k) x e =
     omega (arith, objects_bound (address + 4 + elements_size o) objects k x e)
 
 -- the depth word is behind the text, below this bound
-depth_bound : (n : ℕ) → n < 1073741824 → text_start + round_up 4096 (n + 104) < 1300000000
+depth_bound : (n : ℕ) → n < 0x40000000 → text_start + round_up 0x1000 (n + 104) < 1300000000
 depth_bound n h = omega arith
 
 -- each target that is there has an address
 there_has : (sections : List Section) (objects : List Object) (a : Addresses)
     → IsOrder (length sections) (order_of sections) → AreAddresses sections objects a → sections_size sections < 2 ^ 30
-    → objects_size objects ≤ 16777216
+    → objects_size objects ≤ 0x01000000
     → (t : Target) → IsThere (length sections) (length objects) t → HasAddress (symbols_of a) t
 there_has sections objects a order laid code held (target.Function f) h =
     let (x, found, bound) = function_found sections a f order laid.in_text h in
@@ -383,10 +383,10 @@ linked_is sections objects main a linked can laid code data_same entry points_ma
     let gets_long : length code.gets.bytes ≡ 33 = code.gets.size in
     let exits_long : length code.exits.bytes ≡ 11 = code.exits.size in
     let long : length text ≡ sections_size sections + 104 = length-linked sections main a text can.each code in
-    let depth : a.depth ≡ data_start text = laid.depth ∙ ap (λ (n : ℕ). text_start + round_up 4096 n) (sym long) in
+    let depth : a.depth ≡ data_start text = laid.depth ∙ ap (λ (n : ℕ). text_start + round_up 0x1000 n) (sym long) in
     let stack : a.stack ≡ stack_end text objects =
-    laid.stack ∙ ap (λ (n : ℕ). n + (round_up 4 (4 + objects_size objects) + 67112960)) depth
-    ∙ ap (λ (n : ℕ). data_start text + (round_up 4 n + 67112960)) (sym (length-data objects))
+    laid.stack ∙ ap (λ (n : ℕ). n + (round_up 4 (4 + objects_size objects) + 0x04001000)) depth
+    ∙ ap (λ (n : ℕ). data_start text + (round_up 4 n + 0x04001000)) (sym (length-data objects))
     in
     let low : a.depth < 1300000000 = omega (arith, laid.depth, depth_bound (sections_size sections) can.code) in
     let high : a.stack < 2 ^ 32 = omega (arith, laid.stack, low, held, round_bound (objects_size objects) held) in
@@ -431,7 +431,7 @@ linked_is sections objects main a linked can laid code data_same entry points_ma
       objects_are = objects_same;
     }
   where
-    round_bound : (n : ℕ) → n ≤ 16777216 → round_up 4 (4 + n) ≤ 16777300
+    round_bound : (n : ℕ) → n ≤ 0x01000000 → round_up 4 (4 + n) ≤ 16777300
     round_bound n h = omega arith
 
 -- there are as many addresses as sections and objects

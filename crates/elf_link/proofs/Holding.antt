@@ -27,7 +27,7 @@ object_part (x ∷ xs) (suc k) o e = omega (arith, object_part xs k o e)
 
 -- an object among those that are held
 pub record IsHeld (o : DataObject) : Type 0 where
-  pub size : elements_size (object_of o) ≤ 16777216
+  pub size : elements_size (object_of o) ≤ 0x01000000
   pub narrow : 1 ≤ o.width
   pub wide : o.width ≤ 4
 

@@ -97,13 +97,13 @@ any_places symbols p q address (x ∷ xs) bytes h a =
 
 -- a word to a register
 pub word_to : (r : Reg32) (n : ℕ) → n < 2 ^ 32 → HasSpelling (insn.MovImm (rm.Reg r) (cast_signed w32 n))
-word_to r n h = ((184 + number32 r) ∷ little_bytes 4 n, inl (little_bytes 4 n, refl, reads_word n h))
+word_to r n h = ((0xb8 + number32 r) ∷ little_bytes 4 n, inl (little_bytes 4 n, refl, reads_word n h))
 
 one_to_depth : (depth : ℕ) → depth < 2 ^ 32 → HasSpelling (insn.MovImm (rm.Mem (absolute depth)) (pos 1))
 one_to_depth depth h =
     let place : IsAddress 0 5 None (absolute depth) (little_bytes 4 depth) =
         record { base_is = refl; index_is = refl; displacement = reads_word depth h } in (
-      199 ∷ 5 ∷ little_bytes 4 depth ++ little_bytes 4 1,
+      0xc7 ∷ 0x05 ∷ little_bytes 4 depth ++ little_bytes 4 1,
       (5 ∷ little_bytes 4 depth, little_bytes 4 1, refl,
           (5, little_bytes 4 depth, refl, omega arith, refl, inl (λ e. absurd (omega (arith, e)), place)),
           reads_word 1 (omega arith)),
@@ -112,36 +112,36 @@ one_to_depth depth h =
 near_stack : (n : ℕ) → ReadsSigned 1 (n ∷ []) (pos n) → IsAddress 1 4 None (near Esp n) (n ∷ [])
 near_stack n h = record { base_is = refl; index_is = refl; displacement = h }
 
-interrupt : HasSpelling (insn.Int 128)
-interrupt = (205 ∷ 128 ∷ [], refl)
+interrupt : HasSpelling (insn.Int 0x80)
+interrupt = (0xcd ∷ 0x80 ∷ [], refl)
 
 push_ebx : HasSpelling (insn.Push (rm.Reg Ebx))
-push_ebx = (83 ∷ [], inl refl)
+push_ebx = (0x53 ∷ [], inl refl)
 
 pop_ebx : HasSpelling (insn.Pop Ebx)
-pop_ebx = (91 ∷ [], refl)
+pop_ebx = (0x5b ∷ [], refl)
 
 pub returned : HasSpelling insn.Ret
-returned = (195 ∷ [], refl)
+returned = (0xc3 ∷ [], refl)
 
 argument_address : HasSpelling (insn.Lea Ecx (near Esp 8))
 argument_address = (
-  141 ∷ 76 ∷ 36 ∷ 8 ∷ [],
-  (76 ∷ 36 ∷ 8 ∷ [], refl, (76, 36 ∷ 8 ∷ [], refl, omega arith, refl,
+  0x8d ∷ 0x4c ∷ 0x24 ∷ 0x08 ∷ [],
+  (0x4c ∷ 0x24 ∷ 0x08 ∷ [], refl, (0x4c, 0x24 ∷ 0x08 ∷ [], refl, omega arith, refl,
       inr (refl, (36, 8 ∷ [], refl, omega arith, near_stack 8 (record { count = refl; reads = refl }))))),
 )
 
 argument_byte : HasSpelling (insn.MovZx8 Eax (rm8.Mem (near Esp 8)))
 argument_byte = (
-  15 ∷ 182 ∷ 68 ∷ 36 ∷ 8 ∷ [],
-  (68 ∷ 36 ∷ 8 ∷ [], refl, (68, 36 ∷ 8 ∷ [], refl, omega arith, refl,
+  0x0f ∷ 0xb6 ∷ 0x44 ∷ 0x24 ∷ 0x08 ∷ [],
+  (0x44 ∷ 0x24 ∷ 0x08 ∷ [], refl, (0x44, 0x24 ∷ 0x08 ∷ [], refl, omega arith, refl,
       inr (refl, (36, 8 ∷ [], refl, omega arith, near_stack 8 (record { count = refl; reads = refl }))))),
 )
 
 argument_word : HasSpelling (insn.MovLoad Ebx (near Esp 4))
 argument_word = (
-  139 ∷ 92 ∷ 36 ∷ 4 ∷ [],
-  (92 ∷ 36 ∷ 4 ∷ [], refl, (92, 36 ∷ 4 ∷ [], refl, omega arith, refl,
+  0x8b ∷ 0x5c ∷ 0x24 ∷ 0x04 ∷ [],
+  (0x5c ∷ 0x24 ∷ 0x04 ∷ [], refl, (0x5c, 0x24 ∷ 0x04 ∷ [], refl, omega arith, refl,
       inr (refl, (36, 4 ∷ [], refl, omega arith, near_stack 4 (record { count = refl; reads = refl }))))),
 )
 
@@ -153,7 +153,7 @@ start_plainly stack depth main s d = (
     (
       tt,
       (
-        (137 ∷ 195 ∷ [], inl (195 ∷ [], refl, (195, refl, refl, refl, refl))),
+        (0x89 ∷ 0xc3 ∷ [], inl (0xc3 ∷ [], refl, (0xc3, refl, refl, refl, refl))),
         (word_to Eax 1 (omega arith), (interrupt, tt)),
       ),
     ),
@@ -176,23 +176,24 @@ pub getchar_plainly : ArePlainly getchar_items
 getchar_plainly = (
   push_ebx,
   (
-    (104 ∷ little_bytes 4 0, (little_bytes 4 0, refl, reads_word 0 (omega arith))),
+    (0x68 ∷ little_bytes 4 0, (little_bytes 4 0, refl, reads_word 0 (omega arith))),
     (
       word_to Eax 3 (omega arith),
       (
         word_to Ebx 0 (omega arith),
         (
-          (137 ∷ 225 ∷ [], inl (225 ∷ [], refl, (225, refl, refl, refl, refl))),
+          (0x89 ∷ 0xe1 ∷ [], inl (0xe1 ∷ [], refl, (0xe1, refl, refl, refl, refl))),
           (
             word_to Edx 1 (omega arith),
             (
               interrupt,
               (
-                (131 ∷ 232 ∷ 1 ∷ [], inl (232 ∷ [], 1 ∷ [], refl, (232, refl, refl, refl, refl),
+                (0x83 ∷ 0xe8 ∷ 0x01 ∷ [], inl (0xe8 ∷ [], 1 ∷ [], refl, (0xe8, refl, refl, refl, refl),
                     record { count = refl; reads = refl })),
                 (
-                  (89 ∷ [], refl),
-                  ((9 ∷ 200 ∷ [], inl (200 ∷ [], refl, (200, refl, refl, refl, refl))), (pop_ebx, (returned, tt))),
+                  (0x59 ∷ [], refl),
+                  ((0x09 ∷ 0xc8 ∷ [], inl (0xc8 ∷ [], refl, (0xc8, refl, refl, refl, refl))),
+                      (pop_ebx, (returned, tt))),
                 ),
               ),
             ),
@@ -207,4 +208,4 @@ pub exit_plainly : ArePlainly exit_items
 exit_plainly = (argument_word, (word_to Eax 1 (omega arith), (interrupt, tt)))
 
 pub check_plainly : ArePlainly check_items
-check_plainly = ((15 ∷ 11 ∷ [], refl), tt)
+check_plainly = ((0x0f ∷ 0x0b ∷ [], refl), tt)

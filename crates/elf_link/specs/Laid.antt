@@ -56,9 +56,9 @@ pub record AreInText (sections : List Section) (a : Addresses) : Type 0 where
 -- the data begin on the page behind the text, with the depth word, and the stack ends behind their memory
 pub record AreAddresses (sections : List Section) (objects : List Object) (a : Addresses) : Type 0 where
   pub in_text : AreInText sections a
-  pub depth : a.depth ≡ text_start + round_up 4096 (sections_size sections + 104)
+  pub depth : a.depth ≡ text_start + round_up 0x1000 (sections_size sections + 104)
   pub objects_are : a.objects.items ≡ object_addresses (a.depth + 4) objects
-  pub stack : a.stack ≡ a.depth + (round_up 4 (4 + objects_size objects) + 67112960)
+  pub stack : a.stack ≡ a.depth + (round_up 4 (4 + objects_size objects) + 0x04001000)
 
 -- the targets that items name are there, and have addresses
 abbrev pub AreNamed : Addresses → List Item → Type 0

@@ -50,7 +50,7 @@ pub record FitsIn (functions objects : ℕ) (section : Section) : Type 0 where
 -- objects of elements of 1, 2 or 4 bytes, whose bytes are at most 2^24
 pub record CanHold (objects : List Object) : Type 0 where
   pub widths : (k : ℕ) (o : Object) → slice_get objects k ≡ Some o → (o.width ≡ 1) ⊎ ((o.width ≡ 2) ⊎ (o.width ≡ 4))
-  pub size : objects_size objects ≤ 16777216
+  pub size : objects_size objects ≤ 0x01000000
 
 -- The sections are those of the functions from 0 on, each once, in any order.
 pub record CanLink (sections : List Section) (objects : List Object) (main : ℕ) : Type 0 where

@@ -9,7 +9,8 @@ use Rattle.ia32_insn.specs.declared.insn.Insn.TheVariants as insn
 use Rattle.ia32_insn.specs.declared.item.Item.{Item}
 use Rattle.ia32_insn.specs.declared.item.Item.TheVariants as item
 use Rattle.ia32_insn.specs.State.{State, at_address}
-use Rattle.ia32_insn.specs.Meaning.{Halts, and_then, load, load_bytes, read_call, write_call, system_call, word_of}
+use Rattle.ia32_insn.specs.Meaning.{Halts, and_then, load, load_bytes, call_of, make_call, write_call, system_call}
+use Rattle.ia32_insn.specs.Meaning.{word_of}
 use Rattle.ia32_insn.specs.Meaning.{with_word}
 use Rattle.ia32_insn.specs.Runs.{Steps}
 use Rattle.ia32_shows.proofs.Sound.{one-byte, sound-with_word, sound-at, word-same, word-other}
@@ -18,12 +19,6 @@ use Rattle.ia32_shows.proofs.Steps.{IsAt, IsClear, Comes, at-front, clear-at, st
 use Rattle.ia32_calls.proofs.Pushes.{Sets}
 use Rattle.ia32_shows.specs.Sites.{Site, SoundAt, ReadyAt}
 
--- the system call by the four registers that it reads
-abbrev call_of : State → ℕ → ℕ → ℕ → ℕ → Result State End
-call_of s eax ebx ecx edx =
-    if eax == 1 then Err (Ended (ebx % 256)) else if eax == 3 && ebx == 0 then read_call edx ecx s else if eax == 4
-        && ebx == 1 then write_call edx ecx s else Err (Stopped NoCall s.eip)
-
 -- the state behind a `write` of a byte
 abbrev written_state : ℕ → State → State
 written_state y s = with_word Eax 1 (record s { written = s.written ++ y ∷ [] })
@@ -31,16 +26,16 @@ written_state y s = with_word Eax 1 (record s { written = s.written ++ y ∷ [] 
 write-does : (y a : ℕ) (s : State) → word_of Eax s ≡ 4 → word_of Ebx s ≡ 1 → word_of Ecx s ≡ a → word_of Edx s ≡ 1
     → load_bytes 1 a s ≡ Ok (y ∷ []) → system_call s ≡ Ok (written_state y s)
 write-does y a s eax ebx ecx edx held =
-    ap (λ (k : ℕ). call_of s k (word_of Ebx s) (word_of Ecx s) (word_of Edx s)) eax
-    ∙ ap (λ (k : ℕ). call_of s 4 k (word_of Ecx s) (word_of Edx s)) ebx
-    ∙ ap (λ (k : ℕ). call_of s 4 1 k (word_of Edx s)) ecx
-    ∙ ap (λ (k : ℕ). call_of s 4 1 a k) edx
+    ap (λ (k : ℕ). make_call (call_of k (word_of Ebx s)) s) eax
+    ∙ ap (λ (k : ℕ). make_call (call_of 4 k) s) ebx
+    ∙ ap (λ (k : ℕ). write_call (word_of Edx s) k s) ecx
+    ∙ ap (λ (k : ℕ). write_call k a s) edx
     ∙ ap (λ (x : Result (List ℕ) End). and_then x
         (λ bytes. let r : Result State End = Ok (with_word Eax 1 (record s { written = s.written ++ bytes })) in r))
         held
 
 exit-does : (s : State) → word_of Eax s ≡ 1 → system_call s ≡ Err (Ended (word_of Ebx s % 256))
-exit-does s eax = ap (λ (k : ℕ). call_of s k (word_of Ebx s) (word_of Ecx s) (word_of Edx s)) eax
+exit-does s eax = ap (λ (k : ℕ). make_call (call_of k (word_of Ebx s)) s) eax
 
 -- INT 0x80 that writes the byte at an address
 pub write-goes : (site : Site) (items : List Item) (y a : ℕ) (s : State) → SoundAt site s

@@ -84,14 +84,14 @@ with-spells opcode reg o n z immediate below range h reads =
 
 -- an immediate of one byte or four
 alu-spells : (reg : ℕ) (o : Operand) (z : ℤ) → reg < 8 → IsOperand o → IsSpelled o → FitsSigned w32 z
-    → RowWith (131 ∷ []) reg o 1 z (if fits_byte z then 131 ∷ fields_for reg o ++ byte_bytes z
-    else 129 ∷ fields_for reg o ++ word_bytes z)
-    ⊎ RowWith (129 ∷ []) reg o 4 z (if fits_byte z then 131 ∷ fields_for reg o ++ byte_bytes z
-    else 129 ∷ fields_for reg o ++ word_bytes z)
+    → RowWith (0x83 ∷ []) reg o 1 z (if fits_byte z then 0x83 ∷ fields_for reg o ++ byte_bytes z
+    else 0x81 ∷ fields_for reg o ++ word_bytes z)
+    ⊎ RowWith (0x81 ∷ []) reg o 4 z (if fits_byte z then 0x83 ∷ fields_for reg o ++ byte_bytes z
+    else 0x81 ∷ fields_for reg o ++ word_bytes z)
 alu-spells reg o z below range h fits =
     elim (cases_Bool (fits_byte z)) [
-      | inl t ↦ inl (rw t (with-spells (131 ∷ []) reg o 1 z (byte_bytes z) below range h (reads-byte z t)))
-      | inr f ↦ inr (rw f (with-spells (129 ∷ []) reg o 4 z (word_bytes z) below range h (reads-word z fits)))
+      | inl t ↦ inl (rw t (with-spells (0x83 ∷ []) reg o 1 z (byte_bytes z) below range h (reads-byte z t)))
+      | inr f ↦ inr (rw f (with-spells (0x81 ∷ []) reg o 4 z (word_bytes z) below range h (reads-word z fits)))
     ]
 
 immediate-spells : (opcode : List ℕ) (z : ℤ) → FitsSigned w32 z → Immediate opcode 4 z (opcode ++ word_bytes z)
@@ -101,43 +101,43 @@ immediate-spells opcode z fits = (word_bytes z, refl, reads-word z fits)
 
 -- what is spelled has indices that can be named
 indexed-spelled : (i : Insn) → HasSpelling i → IsIndexed i
-indexed-spelled (insn.Mov operand r) h = either-index (137 ∷ []) (139 ∷ []) (number32 r) (operand32 operand) h.0 h.1
-indexed-spelled (insn.MovLoad r m) h = row-index (139 ∷ []) (number32 r) (InMemory m) h.0 h.1
+indexed-spelled (insn.Mov operand r) h = either-index (0x89 ∷ []) (0x8b ∷ []) (number32 r) (operand32 operand) h.0 h.1
+indexed-spelled (insn.MovLoad r m) h = row-index (0x8b ∷ []) (number32 r) (InMemory m) h.0 h.1
 indexed-spelled (insn.MovImm (rm.Reg r) z) h = (tt, tt)
-indexed-spelled (insn.MovImm (rm.Mem m) z) h = (with-index (199 ∷ []) 0 (InMemory m) 4 z h.0 h.1, tt)
-indexed-spelled (insn.Mov8 operand r) h = either-index (136 ∷ []) (138 ∷ []) (number8 r) (operand8 operand) h.0 h.1
-indexed-spelled (insn.Mov8Load r m) h = row-index (138 ∷ []) (number8 r) (InMemory m) h.0 h.1
+indexed-spelled (insn.MovImm (rm.Mem m) z) h = (with-index (0xc7 ∷ []) 0 (InMemory m) 4 z h.0 h.1, tt)
+indexed-spelled (insn.Mov8 operand r) h = either-index (0x88 ∷ []) (0x8a ∷ []) (number8 r) (operand8 operand) h.0 h.1
+indexed-spelled (insn.Mov8Load r m) h = row-index (0x8a ∷ []) (number8 r) (InMemory m) h.0 h.1
 indexed-spelled (insn.Mov8Imm r n) h = tt
-indexed-spelled (insn.Mov16 operand r) h = row-index (102 ∷ 137 ∷ []) (number32 r) (operand32 operand) h.0 h.1
-indexed-spelled (insn.MovZx8 r operand) h = row-index (15 ∷ 182 ∷ []) (number32 r) (operand8 operand) h.0 h.1
-indexed-spelled (insn.MovZx16 r operand) h = row-index (15 ∷ 183 ∷ []) (number32 r) (operand32 operand) h.0 h.1
-indexed-spelled (insn.MovSx8 r operand) h = row-index (15 ∷ 190 ∷ []) (number32 r) (operand8 operand) h.0 h.1
-indexed-spelled (insn.MovSx16 r operand) h = row-index (15 ∷ 191 ∷ []) (number32 r) (operand32 operand) h.0 h.1
-indexed-spelled (insn.Xchg8 operand r) h = row-index (134 ∷ []) (number8 r) (operand8 operand) h.0 h.1
-indexed-spelled (insn.Xchg operand r) h = row-index (135 ∷ []) (number32 r) (operand32 operand) h.0 h.1
-indexed-spelled (insn.Lea r m) h = row-index (141 ∷ []) (number32 r) (InMemory m) h.0 h.1
+indexed-spelled (insn.Mov16 operand r) h = row-index (0x66 ∷ 0x89 ∷ []) (number32 r) (operand32 operand) h.0 h.1
+indexed-spelled (insn.MovZx8 r operand) h = row-index (0x0f ∷ 0xb6 ∷ []) (number32 r) (operand8 operand) h.0 h.1
+indexed-spelled (insn.MovZx16 r operand) h = row-index (0x0f ∷ 0xb7 ∷ []) (number32 r) (operand32 operand) h.0 h.1
+indexed-spelled (insn.MovSx8 r operand) h = row-index (0x0f ∷ 0xbe ∷ []) (number32 r) (operand8 operand) h.0 h.1
+indexed-spelled (insn.MovSx16 r operand) h = row-index (0x0f ∷ 0xbf ∷ []) (number32 r) (operand32 operand) h.0 h.1
+indexed-spelled (insn.Xchg8 operand r) h = row-index (0x86 ∷ []) (number8 r) (operand8 operand) h.0 h.1
+indexed-spelled (insn.Xchg operand r) h = row-index (0x87 ∷ []) (number32 r) (operand32 operand) h.0 h.1
+indexed-spelled (insn.Lea r m) h = row-index (0x8d ∷ []) (number32 r) (InMemory m) h.0 h.1
 indexed-spelled (insn.Alu op operand r) h =
     either-index ((8 * alu_number op + 1) ∷ []) ((8 * alu_number op + 3) ∷ []) (number32 r) (operand32 operand) h.0 h.1
 indexed-spelled (insn.AluLoad op r m) h = row-index ((8 * alu_number op + 3) ∷ []) (number32 r) (InMemory m) h.0 h.1
 indexed-spelled (insn.AluImm op operand z) h = (
   elim h.1 [
-    | inl short ↦ with-index (131 ∷ []) (alu_number op) (operand32 operand) 1 z h.0 short
+    | inl short ↦ with-index (0x83 ∷ []) (alu_number op) (operand32 operand) 1 z h.0 short
     | inr long ↦
-        with-index (129 ∷ []) (alu_number op) (operand32 operand) 4 z h.0 long
+        with-index (0x81 ∷ []) (alu_number op) (operand32 operand) 4 z h.0 long
   ],
   tt,
 )
-indexed-spelled (insn.Test operand r) h = row-index (133 ∷ []) (number32 r) (operand32 operand) h.0 h.1
-indexed-spelled (insn.IMul r operand) h = row-index (15 ∷ 175 ∷ []) (number32 r) (operand32 operand) h.0 h.1
-indexed-spelled (insn.Not operand) h = row-index (247 ∷ []) 2 (operand32 operand) h.0 h.1
-indexed-spelled (insn.Neg operand) h = row-index (247 ∷ []) 3 (operand32 operand) h.0 h.1
-indexed-spelled (insn.Div operand) h = row-index (247 ∷ []) 6 (operand32 operand) h.0 h.1
-indexed-spelled (insn.IDiv operand) h = row-index (247 ∷ []) 7 (operand32 operand) h.0 h.1
+indexed-spelled (insn.Test operand r) h = row-index (0x85 ∷ []) (number32 r) (operand32 operand) h.0 h.1
+indexed-spelled (insn.IMul r operand) h = row-index (0x0f ∷ 0xaf ∷ []) (number32 r) (operand32 operand) h.0 h.1
+indexed-spelled (insn.Not operand) h = row-index (0xf7 ∷ []) 2 (operand32 operand) h.0 h.1
+indexed-spelled (insn.Neg operand) h = row-index (0xf7 ∷ []) 3 (operand32 operand) h.0 h.1
+indexed-spelled (insn.Div operand) h = row-index (0xf7 ∷ []) 6 (operand32 operand) h.0 h.1
+indexed-spelled (insn.IDiv operand) h = row-index (0xf7 ∷ []) 7 (operand32 operand) h.0 h.1
 indexed-spelled insn.Cdq h = tt
-indexed-spelled (insn.ShiftCl op operand) h = row-index (211 ∷ []) (shift_number op) (operand32 operand) h.0 h.1
+indexed-spelled (insn.ShiftCl op operand) h = row-index (0xd3 ∷ []) (shift_number op) (operand32 operand) h.0 h.1
 indexed-spelled (insn.ShiftImm op operand n) h = fields-index (shift_number op) (operand32 operand) h.1.0 h.1.2
 indexed-spelled (insn.Push (rm.Reg r)) h = tt
-indexed-spelled (insn.Push (rm.Mem m)) h = row-index (255 ∷ []) 6 (InMemory m) h.0 h.1
+indexed-spelled (insn.Push (rm.Mem m)) h = row-index (0xff ∷ []) 6 (InMemory m) h.0 h.1
 indexed-spelled (insn.PushImm z) h = tt
 indexed-spelled (insn.Pop r) h = tt
 indexed-spelled (insn.Call distance) h = tt
@@ -153,33 +153,33 @@ indexed-spelled insn.Nop h = tt
 -- the preferred spelling is one, where the indices can be named
 pub preferred-indexed : (i : Insn) → IsInRange i → IsIndexed i → Spells i (preferred i)
 preferred-indexed (insn.Mov operand r) range index =
-    inl (row-spells (137 ∷ []) (number32 r) (operand32 operand) (number32-lt r) range (spelled32 operand index))
+    inl (row-spells (0x89 ∷ []) (number32 r) (operand32 operand) (number32-lt r) range (spelled32 operand index))
 preferred-indexed (insn.MovLoad r m) range index =
-    row-spells (139 ∷ []) (number32 r) (InMemory m) (number32-lt r) range index
-preferred-indexed (insn.MovImm (rm.Reg r) z) range index = inl (immediate-spells ((184 + number32 r) ∷ []) z range.1)
+    row-spells (0x8b ∷ []) (number32 r) (InMemory m) (number32-lt r) range index
+preferred-indexed (insn.MovImm (rm.Reg r) z) range index = inl (immediate-spells ((0xb8 + number32 r) ∷ []) z range.1)
 preferred-indexed (insn.MovImm (rm.Mem m) z) range index =
-    with-spells (199 ∷ []) 0 (InMemory m) 4 z (word_bytes z) (lit< tt) range.0 index.0 (reads-word z range.1)
+    with-spells (0xc7 ∷ []) 0 (InMemory m) 4 z (word_bytes z) (lit< tt) range.0 index.0 (reads-word z range.1)
 preferred-indexed (insn.Mov8 operand r) range index =
-    inl (row-spells (136 ∷ []) (number8 r) (operand8 operand) (number8-lt r) range (spelled8 operand index))
+    inl (row-spells (0x88 ∷ []) (number8 r) (operand8 operand) (number8-lt r) range (spelled8 operand index))
 preferred-indexed (insn.Mov8Load r m) range index =
-    row-spells (138 ∷ []) (number8 r) (InMemory m) (number8-lt r) range index
+    row-spells (0x8a ∷ []) (number8 r) (InMemory m) (number8-lt r) range index
 preferred-indexed (insn.Mov8Imm r n) range index = refl
 preferred-indexed (insn.Mov16 operand r) range index =
-    row-spells (102 ∷ 137 ∷ []) (number32 r) (operand32 operand) (number32-lt r) range (spelled32 operand index)
+    row-spells (0x66 ∷ 0x89 ∷ []) (number32 r) (operand32 operand) (number32-lt r) range (spelled32 operand index)
 preferred-indexed (insn.MovZx8 r operand) range index =
-    row-spells (15 ∷ 182 ∷ []) (number32 r) (operand8 operand) (number32-lt r) range (spelled8 operand index)
+    row-spells (0x0f ∷ 0xb6 ∷ []) (number32 r) (operand8 operand) (number32-lt r) range (spelled8 operand index)
 preferred-indexed (insn.MovZx16 r operand) range index =
-    row-spells (15 ∷ 183 ∷ []) (number32 r) (operand32 operand) (number32-lt r) range (spelled32 operand index)
+    row-spells (0x0f ∷ 0xb7 ∷ []) (number32 r) (operand32 operand) (number32-lt r) range (spelled32 operand index)
 preferred-indexed (insn.MovSx8 r operand) range index =
-    row-spells (15 ∷ 190 ∷ []) (number32 r) (operand8 operand) (number32-lt r) range (spelled8 operand index)
+    row-spells (0x0f ∷ 0xbe ∷ []) (number32 r) (operand8 operand) (number32-lt r) range (spelled8 operand index)
 preferred-indexed (insn.MovSx16 r operand) range index =
-    row-spells (15 ∷ 191 ∷ []) (number32 r) (operand32 operand) (number32-lt r) range (spelled32 operand index)
+    row-spells (0x0f ∷ 0xbf ∷ []) (number32 r) (operand32 operand) (number32-lt r) range (spelled32 operand index)
 preferred-indexed (insn.Xchg8 operand r) range index =
-    row-spells (134 ∷ []) (number8 r) (operand8 operand) (number8-lt r) range (spelled8 operand index)
+    row-spells (0x86 ∷ []) (number8 r) (operand8 operand) (number8-lt r) range (spelled8 operand index)
 preferred-indexed (insn.Xchg operand r) range index =
-    row-spells (135 ∷ []) (number32 r) (operand32 operand) (number32-lt r) range (spelled32 operand index)
+    row-spells (0x87 ∷ []) (number32 r) (operand32 operand) (number32-lt r) range (spelled32 operand index)
 preferred-indexed (insn.Lea r m) range index =
-    row-spells (141 ∷ []) (number32 r) (InMemory m) (number32-lt r) range index
+    row-spells (0x8d ∷ []) (number32 r) (InMemory m) (number32-lt r) range index
 preferred-indexed (insn.Alu op operand r) range index =
     inl (row-spells ((8 * alu_number op + 1) ∷ []) (number32 r) (operand32 operand) (number32-lt r) range
     (spelled32 operand index))
@@ -188,37 +188,37 @@ preferred-indexed (insn.AluLoad op r m) range index =
 preferred-indexed (insn.AluImm op operand z) range index =
     alu-spells (alu_number op) (operand32 operand) z (alu_number-lt op) range.0 (spelled32 operand index.0) range.1
 preferred-indexed (insn.Test operand r) range index =
-    row-spells (133 ∷ []) (number32 r) (operand32 operand) (number32-lt r) range (spelled32 operand index)
+    row-spells (0x85 ∷ []) (number32 r) (operand32 operand) (number32-lt r) range (spelled32 operand index)
 preferred-indexed (insn.IMul r operand) range index =
-    row-spells (15 ∷ 175 ∷ []) (number32 r) (operand32 operand) (number32-lt r) range (spelled32 operand index)
+    row-spells (0x0f ∷ 0xaf ∷ []) (number32 r) (operand32 operand) (number32-lt r) range (spelled32 operand index)
 preferred-indexed (insn.Not operand) range index =
-    row-spells (247 ∷ []) 2 (operand32 operand) (lit< tt) range (spelled32 operand index)
+    row-spells (0xf7 ∷ []) 2 (operand32 operand) (lit< tt) range (spelled32 operand index)
 preferred-indexed (insn.Neg operand) range index =
-    row-spells (247 ∷ []) 3 (operand32 operand) (lit< tt) range (spelled32 operand index)
+    row-spells (0xf7 ∷ []) 3 (operand32 operand) (lit< tt) range (spelled32 operand index)
 preferred-indexed (insn.Div operand) range index =
-    row-spells (247 ∷ []) 6 (operand32 operand) (lit< tt) range (spelled32 operand index)
+    row-spells (0xf7 ∷ []) 6 (operand32 operand) (lit< tt) range (spelled32 operand index)
 preferred-indexed (insn.IDiv operand) range index =
-    row-spells (247 ∷ []) 7 (operand32 operand) (lit< tt) range (spelled32 operand index)
+    row-spells (0xf7 ∷ []) 7 (operand32 operand) (lit< tt) range (spelled32 operand index)
 preferred-indexed insn.Cdq range index = refl
 preferred-indexed (insn.ShiftCl op operand) range index =
-    row-spells (211 ∷ []) (shift_number op) (operand32 operand) (shift_number-lt op) range (spelled32 operand index)
+    row-spells (0xd3 ∷ []) (shift_number op) (operand32 operand) (shift_number-lt op) range (spelled32 operand index)
 preferred-indexed (insn.ShiftImm op operand n) range index = (
   fields_for (shift_number op) (operand32 operand),
   refl,
   fields-preferred (shift_number op) (operand32 operand) (shift_number-lt op) (spelled32 operand index) range,
 )
 preferred-indexed (insn.Push (rm.Reg r)) range index = inl refl
-preferred-indexed (insn.Push (rm.Mem m)) range index = row-spells (255 ∷ []) 6 (InMemory m) (lit< tt) range index
-preferred-indexed (insn.PushImm z) range index = immediate-spells (104 ∷ []) z range
+preferred-indexed (insn.Push (rm.Mem m)) range index = row-spells (0xff ∷ []) 6 (InMemory m) (lit< tt) range index
+preferred-indexed (insn.PushImm z) range index = immediate-spells (0x68 ∷ []) z range
 preferred-indexed (insn.Pop r) range index = refl
-preferred-indexed (insn.Call distance) range index = immediate-spells (232 ∷ []) distance range
+preferred-indexed (insn.Call distance) range index = immediate-spells (0xe8 ∷ []) distance range
 preferred-indexed insn.Ret range index = refl
 preferred-indexed insn.Leave range index = refl
-preferred-indexed (insn.Jmp distance) range index = inl (immediate-spells (233 ∷ []) distance range)
+preferred-indexed (insn.Jmp distance) range index = inl (immediate-spells (0xe9 ∷ []) distance range)
 preferred-indexed (insn.Jcc c distance) range index =
-    inl (immediate-spells (15 ∷ (128 + cond_number c) ∷ []) distance range)
+    inl (immediate-spells (0x0f ∷ (0x80 + cond_number c) ∷ []) distance range)
 preferred-indexed (insn.SetCc c operand) range index =
-    (0, row-spells (15 ∷ (144 + cond_number c) ∷ []) 0 (operand8 operand) (lit< tt) range (spelled8 operand index))
+    (0, row-spells (0x0f ∷ (0x90 + cond_number c) ∷ []) 0 (operand8 operand) (lit< tt) range (spelled8 operand index))
 preferred-indexed (insn.Int n) range index = refl
 preferred-indexed insn.Ud2 range index = refl
 preferred-indexed insn.Nop range index = refl

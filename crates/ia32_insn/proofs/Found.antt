@@ -151,26 +151,26 @@ immediate_found opcode n rest few spells =
     })))
 
 -- fields, and then a byte
-shift_found : (rest : List ℕ) → IfSome (read_shift rest) (Found (193 ∷ rest))
+shift_found : (rest : List ℕ) → IfSome (read_shift rest) (Found (0xc1 ∷ rest))
 unfolding read_shift
 shift_found rest =
     then_holds (read_fields32 rest) (λ f. read_byte (drop f.2 rest)
     >>= (λ n. shift_at f.0 >>= (λ op. Some (insn.ShiftImm op f.1 n, 2 + f.2))))
-    (λ f. Fielded rest f.0 (operand32 f.1) f.2) (Found (193 ∷ rest)) (read_fields32-part rest)
+    (λ f. Fielded rest f.0 (operand32 f.1) f.2) (Found (0xc1 ∷ rest)) (read_fields32-part rest)
     (λ f s.
     let p = s.part in
     then_holds (read_byte (drop f.2 rest)) (λ n. shift_at f.0 >>= (λ op. Some (insn.ShiftImm op f.1 n, 2 + f.2)))
-    (λ n. Part (λ xs. xs ≡ n ∷ []) 1 (drop f.2 rest)) (Found (193 ∷ rest)) (read_byte-part (drop f.2 rest))
+    (λ n. Part (λ xs. xs ≡ n ∷ []) 1 (drop f.2 rest)) (Found (0xc1 ∷ rest)) (read_byte-part (drop f.2 rest))
     (λ n q.
     then_holds (shift_at f.0) (λ op. Some (insn.ShiftImm op f.1 n, 2 + f.2)) (λ op. shift_number op
-    ≡ f.0) (Found (193 ∷ rest)) (number-shift_at f.0 s.below)
+    ≡ f.0) (Found (0xc1 ∷ rest)) (number-shift_at f.0 s.below)
     (λ op e.
-    let Ends : List ℕ → Type 0 = λ xs. Spells (insn.ShiftImm op f.1 n) (193 ∷ p.front ++ xs) in
+    let Ends : List ℕ → Type 0 = λ xs. Spells (insn.ShiftImm op f.1 n) (0xc1 ∷ p.front ++ xs) in
     record {
       part = record {
-        front = 193 ∷ p.front ++ q.front;
+        front = 0xc1 ∷ p.front ++ q.front;
         after = q.after;
-        bytes_are = ap (λ bs. 193 ∷ bs) (two_parts f.2 1 rest p q);
+        bytes_are = ap (λ bs. 0xc1 ∷ bs) (two_parts f.2 1 rest p q);
         count = omega (arith, length-append p.front q.front, p.count, q.count);
         holds = subst Ends (sym q.holds) (shift_spells f.0 n op f.1 p.front e p.holds);
       };
@@ -210,52 +210,53 @@ known a b rest read e h =
     let Holds : ℕ → Type 0 = λ n. IfSome (read n) (Found (n ∷ rest)) in
     subst Holds (sym e) h
 
-extended_found : (opcode : ℕ) (rest : List ℕ) → IfSome (read_extended opcode rest) (Found (15 ∷ opcode ∷ rest))
+extended_found : (opcode : ℕ) (rest : List ℕ) → IfSome (read_extended opcode rest) (Found (0x0f ∷ opcode ∷ rest))
 unfolding read_extended
 extended_found opcode rest =
-    let Holds : Option (Insn × ℕ) → Type 0 = λ o. IfSome o (Found (15 ∷ opcode ∷ rest)) in
+    let Holds : Option (Insn × ℕ) → Type 0 = λ o. IfSome o (Found (0x0f ∷ opcode ∷ rest)) in
     cond_both (opcode == 11) _ _ Holds
     (λ e.
-    let Spelt : ℕ → Type 0 = λ n. Found (15 ∷ n ∷ rest) (insn.Ud2, 2) in
+    let Spelt : ℕ → Type 0 = λ n. Found (0x0f ∷ n ∷ rest) (insn.Ud2, 2) in
     subst Spelt (sym (eqb-true opcode 11 e)) (record {
       part =
-          record { front = 15 ∷ 11 ∷ []; after = rest; bytes_are = refl; count = refl; holds = refl };
+          record { front = 0x0f ∷ 0x0b ∷ []; after = rest; bytes_are = refl; count = refl; holds = refl };
       some =
           omega arith;
       short = omega arith;
     }))
-    (λ e. cond_both (nat_le 128 opcode && nat_lt opcode 144) _ _ Holds
+    (λ e. cond_both (nat_le 0x80 opcode && nat_lt opcode 0x90) _ _ Holds
     (λ e.
-    let parts = and_parts (nat_le 128 opcode) (nat_lt opcode 144) e in
-    with_signed_found (15 ∷ opcode ∷ []) 2 4 (λ z. Some (insn.Jcc (condition_at (opcode - 128)) z)) rest refl
+    let parts = and_parts (nat_le 0x80 opcode) (nat_lt opcode 0x90) e in
+    with_signed_found (0x0f ∷ opcode ∷ []) 2 4 (λ z. Some (insn.Jcc (condition_at (opcode - 0x80)) z)) rest refl
     (omega arith) (omega arith) (omega arith)
-    (λ z xs h. near_spells opcode z xs (leb-true 128 opcode parts.0) (ltb-true opcode 144 parts.1) h))
-    (λ e. cond_both (nat_le 144 opcode && nat_lt opcode 160 || opcode == 182 || opcode == 190) _ _ Holds
-    (λ e. with8_found (15 ∷ opcode ∷ []) 2 (extended8_insn opcode) rest refl (omega arith) (extended8_spells opcode))
-    (λ e. cond_both (opcode == 175 || opcode == 183 || opcode == 191) _ _ Holds
-    (λ e. with32_found (15 ∷ opcode ∷ []) 2 (extended32_insn opcode) rest refl (omega arith) (extended32_spells opcode))
+    (λ z xs h. near_spells opcode z xs (leb-true 0x80 opcode parts.0) (ltb-true opcode 0x90 parts.1) h))
+    (λ e. cond_both (nat_le 0x90 opcode && nat_lt opcode 0xa0 || opcode == 0xb6 || opcode == 0xbe) _ _ Holds
+    (λ e. with8_found (0x0f ∷ opcode ∷ []) 2 (extended8_insn opcode) rest refl (omega arith) (extended8_spells opcode))
+    (λ e. cond_both (opcode == 0xaf || opcode == 0xb7 || opcode == 0xbf) _ _ Holds
+    (λ e. with32_found (0x0f ∷ opcode ∷ []) 2 (extended32_insn opcode) rest refl (omega arith)
+        (extended32_spells opcode))
     (λ e. tt))))
 
-two_byte_found : (rest : List ℕ) → IfSome (read_two_byte rest) (Found (15 ∷ rest))
+two_byte_found : (rest : List ℕ) → IfSome (read_two_byte rest) (Found (0x0f ∷ rest))
 unfolding read_two_byte
 two_byte_found [] = tt
 two_byte_found (opcode ∷ rest) = extended_found opcode rest
 
-sixteen_found : (rest : List ℕ) → IfSome (read_sixteen rest) (Found (102 ∷ rest))
+sixteen_found : (rest : List ℕ) → IfSome (read_sixteen rest) (Found (0x66 ∷ rest))
 unfolding read_sixteen
 sixteen_found [] = tt
 sixteen_found (opcode ∷ rest) =
-    with32_found (102 ∷ opcode ∷ []) 2 (sixteen_insn opcode) rest refl (omega arith) (sixteen_spells opcode)
+    with32_found (0x66 ∷ opcode ∷ []) 2 (sixteen_insn opcode) rest refl (omega arith) (sixteen_spells opcode)
 
 -- 81 and C7
-long_immediate_found : (opcode : ℕ) (rest : List ℕ) → (opcode ≡ 129) ⊎ (opcode ≡ 199)
+long_immediate_found : (opcode : ℕ) (rest : List ℕ) → (opcode ≡ 0x81) ⊎ (opcode ≡ 0xc7)
     → IfSome (read_immediate 4 (immediate_insn opcode) rest) (Found (opcode ∷ rest))
 long_immediate_found opcode rest (inl e) =
-    known opcode 129 rest (λ n. read_immediate 4 (immediate_insn n) rest) e
-    (immediate_found 129 4 rest (omega arith) long_immediate_spells)
+    known opcode 0x81 rest (λ n. read_immediate 4 (immediate_insn n) rest) e
+    (immediate_found 0x81 4 rest (omega arith) long_immediate_spells)
 long_immediate_found opcode rest (inr e) =
-    known opcode 199 rest (λ n. read_immediate 4 (immediate_insn n) rest) e
-    (immediate_found 199 4 rest (omega arith) mov_immediate_spells)
+    known opcode 0xc7 rest (λ n. read_immediate 4 (immediate_insn n) rest) e
+    (immediate_found 0xc7 4 rest (omega arith) mov_immediate_spells)
 
 one_or_other : (opcode a b : ℕ) → (opcode == a || opcode == b) ≡ true → (opcode ≡ a) ⊎ (opcode ≡ b)
 one_or_other opcode a b e =
@@ -270,19 +271,19 @@ opcode_found opcode rest =
     let Holds : Option (Insn × ℕ) → Type 0 = λ o. IfSome o (Found (opcode ∷ rest)) in
     cond_both (opcode == 15) _ _ Holds
     (λ e. known opcode 15 rest (λ n. read_two_byte rest) (eqb-true opcode 15 e) (two_byte_found rest))
-    (λ e. cond_both (opcode == 102) _ _ Holds
-    (λ e. known opcode 102 rest (λ n. read_sixteen rest) (eqb-true opcode 102 e) (sixteen_found rest))
+    (λ e. cond_both (opcode == 0x66) _ _ Holds
+    (λ e. known opcode 0x66 rest (λ n. read_sixteen rest) (eqb-true opcode 0x66 e) (sixteen_found rest))
     (λ e. cond_both (has_fields32 opcode) _ _ Holds
     (λ e. with32_found (opcode ∷ []) 1 (fields32_insn opcode) rest refl (omega arith) (fields32_spells opcode))
     (λ e. cond_both (has_fields8 opcode) _ _ Holds
     (λ e. with8_found (opcode ∷ []) 1 (fields8_insn opcode) rest refl (omega arith) (fields8_spells opcode))
-    (λ e. cond_both (opcode == 129
-    || opcode == 199) _ _ Holds (λ e. long_immediate_found opcode rest (one_or_other opcode 129 199 e))
-    (λ e. cond_both (opcode == 131) _ _ Holds
-    (λ e. known opcode 131 rest (λ n. read_immediate 1 (immediate_insn n) rest) (eqb-true opcode 131 e)
-    (immediate_found 131 1 rest (omega arith) short_immediate_spells))
-    (λ e. cond_both (opcode == 193) _ _ Holds
-    (λ e. known opcode 193 rest (λ n. read_shift rest) (eqb-true opcode 193 e) (shift_found rest))
+    (λ e. cond_both (opcode == 0x81
+    || opcode == 0xc7) _ _ Holds (λ e. long_immediate_found opcode rest (one_or_other opcode 0x81 0xc7 e))
+    (λ e. cond_both (opcode == 0x83) _ _ Holds
+    (λ e. known opcode 0x83 rest (λ n. read_immediate 1 (immediate_insn n) rest) (eqb-true opcode 0x83 e)
+    (immediate_found 0x83 1 rest (omega arith) short_immediate_spells))
+    (λ e. cond_both (opcode == 0xc1) _ _ Holds
+    (λ e. known opcode 0xc1 rest (λ n. read_shift rest) (eqb-true opcode 0xc1 e) (shift_found rest))
     (λ e. cond_both (has_long opcode) _ _ Holds
     (λ e. with_signed_found (opcode ∷ []) 1 4 (long_insn opcode) rest refl (omega arith) (omega arith) (omega arith)
     (long_spells opcode))

@@ -1,5 +1,5 @@
 -- What instructions keep: one walk over all of them, for any property of states that the kinds of change keep.
-use Rattle.std.specs.Prelude.{◌≡◌, ℕ, ◌+◌, ◌==◌, ◌&&◌, ◌++◌, Bool, true, false, List, [], ◌∷◌, Option, Some, None}
+use Rattle.std.specs.Prelude.{◌≡◌, ℕ, ◌+◌, ◌==◌, ◌++◌, Bool, true, false, List, [], ◌∷◌, Option, Some, None}
 use Rattle.std.specs.Prelude.{Result, Ok, Err, IfOk, map, if◌then◌else◌, refl}
 use Rattle.std.specs.List.{AllByRecursion}
 use Rattle.std.proofs.Common.{sym, ◌∙◌, ap}
@@ -23,6 +23,7 @@ use Rattle.ia32_insn.specs.Meaning.{and_then, address_of, store_bytes, store, wr
 use Rattle.ia32_insn.specs.Meaning.{read8, load, load_bytes, write_result, operate, change, take_quotient, dividend}
 use Rattle.ia32_insn.specs.Meaning.{push, pop, decided, bit, word_of, byte_of, with_word, take_byte, read_call}
 use Rattle.ia32_insn.specs.Meaning.{write_call, interrupt, effect}
+use Rattle.ia32_insn.specs.Meaning.{SystemCall, Exit, Read, Write, Other, call_of, make_call}
 use Rattle.ia32_insn.specs.Keeps.{IsCodeOrData, KeepsAreas, KeepsStreams, in_memory32, in_memory8, may_write, may_call}
 use Rattle.ia32_insn.proofs.Access.{store-keeps_areas, store-keeps_rest}
 
@@ -138,15 +139,16 @@ write_call-kept P count address s k h =
     (then-kept P (load_bytes count address s) _
     (λ bytes. k.registers _ _ (k.streams refl s s.left s.taken (s.written ++ bytes) h)))
 
+make_call-kept : (P : State → Type 0) (call : SystemCall) (s : State) → IsKept P true true → P s
+    → IfOk (make_call call s) P
+make_call-kept P (Exit status) s k h = tt
+make_call-kept P Read s k h = read_call-kept P (word_of Edx s) (word_of Ecx s) s k h
+make_call-kept P Write s k h = write_call-kept P (word_of Edx s) (word_of Ecx s) s k h
+make_call-kept P Other s k h = tt
+
 interrupt-kept : (P : State → Type 0) (n : ℕ) (s : State) → IsKept P true true → P s → IfOk (interrupt n s) P
 interrupt-kept P n s k h =
-    choice-kept P (n == 128) _ _
-    (choice-kept P (word_of Eax s == 1) _ _ tt
-    (choice-kept P (word_of Eax s == 3
-    && word_of Ebx s == 0) _ _ (read_call-kept P (word_of Edx s) (word_of Ecx s) s k h)
-    (choice-kept P (word_of Eax s == 4
-    && word_of Ebx s == 1) _ _ (write_call-kept P (word_of Edx s) (word_of Ecx s) s k h) tt)))
-    tt
+    choice-kept P (n == 0x80) _ _ (make_call-kept P (call_of (word_of Eax s) (word_of Ebx s)) s k h) tt
 
 -- every instruction that goes on keeps it
 pub effect-kept : (P : State → Type 0) (i : Insn) (after : ℕ) (s : State) → IsKept P (may_write i) (may_call i) → P s

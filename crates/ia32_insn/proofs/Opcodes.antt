@@ -14,67 +14,67 @@ use Rattle.ia32_insn.specs.Reading.{read_lone, read_with_byte, read_with_signed,
 use Rattle.ia32_insn.specs.Reading.{read_opcode}
 
 -- 50+rd, 58+rd
-pub push_opcode : (k : ℕ) (rest : List ℕ) → k < 8 → read_opcode (80 + k) rest ≡ read_lone (lone_insn (80 + k))
+pub push_opcode : (k : ℕ) (rest : List ℕ) → k < 8 → read_opcode (0x50 + k) rest ≡ read_lone (lone_insn (0x50 + k))
 unfolding read_opcode
 push_opcode k rest h = grind (arith, nat_tests)
 
-pub push_made : (k : ℕ) → k < 8 → lone_insn (80 + k) ≡ Some (insn.Push (rm.Reg (register_at k)))
+pub push_made : (k : ℕ) → k < 8 → lone_insn (0x50 + k) ≡ Some (insn.Push (rm.Reg (register_at k)))
 unfolding lone_insn
 push_made k h = grind (arith, nat_tests)
 
-pub pop_opcode : (k : ℕ) (rest : List ℕ) → k < 8 → read_opcode (88 + k) rest ≡ read_lone (lone_insn (88 + k))
+pub pop_opcode : (k : ℕ) (rest : List ℕ) → k < 8 → read_opcode (0x58 + k) rest ≡ read_lone (lone_insn (0x58 + k))
 unfolding read_opcode
 pop_opcode k rest h = grind (arith, nat_tests)
 
-pub pop_made : (k : ℕ) → k < 8 → lone_insn (88 + k) ≡ Some (insn.Pop (register_at k))
+pub pop_made : (k : ℕ) → k < 8 → lone_insn (0x58 + k) ≡ Some (insn.Pop (register_at k))
 unfolding lone_insn
 pop_made k h = grind (arith, nat_tests)
 
 -- B0+rb
-pub mov8_opcode : (k : ℕ) (rest : List ℕ) → k < 8 → read_opcode (176 + k) rest
-    ≡ read_with_byte (byte_insn (176 + k)) rest
+pub mov8_opcode : (k : ℕ) (rest : List ℕ) → k < 8 → read_opcode (0xb0 + k) rest
+    ≡ read_with_byte (byte_insn (0xb0 + k)) rest
 unfolding read_opcode
 mov8_opcode k rest h = grind (arith, nat_tests)
 
-pub mov8_made : (k n : ℕ) → k < 8 → byte_insn (176 + k) n ≡ Some (insn.Mov8Imm (byte_register_at k) n)
+pub mov8_made : (k n : ℕ) → k < 8 → byte_insn (0xb0 + k) n ≡ Some (insn.Mov8Imm (byte_register_at k) n)
 unfolding byte_insn
 mov8_made k n h = grind (arith, nat_tests)
 
 -- B8+rd
-pub mov_opcode : (k : ℕ) (rest : List ℕ) → k < 8 → read_opcode (184 + k) rest
-    ≡ read_with_signed 1 4 (long_insn (184 + k)) rest
+pub mov_opcode : (k : ℕ) (rest : List ℕ) → k < 8 → read_opcode (0xb8 + k) rest
+    ≡ read_with_signed 1 4 (long_insn (0xb8 + k)) rest
 unfolding read_opcode
 mov_opcode k rest h = grind (arith, nat_tests)
 
-pub mov_made : (k : ℕ) (z : ℤ) → k < 8 → long_insn (184 + k) z ≡ Some (insn.MovImm (rm.Reg (register_at k)) z)
+pub mov_made : (k : ℕ) (z : ℤ) → k < 8 → long_insn (0xb8 + k) z ≡ Some (insn.MovImm (rm.Reg (register_at k)) z)
 unfolding long_insn
 mov_made k z h = grind (arith, nat_tests)
 
 -- 70+cc
-pub short_opcode : (k : ℕ) (rest : List ℕ) → k < 16 → read_opcode (112 + k) rest
-    ≡ read_with_signed 1 1 (short_insn (112 + k)) rest
+pub short_opcode : (k : ℕ) (rest : List ℕ) → k < 16 → read_opcode (0x70 + k) rest
+    ≡ read_with_signed 1 1 (short_insn (0x70 + k)) rest
 unfolding read_opcode
 short_opcode k rest h = grind (arith, nat_tests)
 
-pub short_made : (k : ℕ) (z : ℤ) → k < 16 → short_insn (112 + k) z ≡ Some (insn.Jcc (condition_at k) z)
+pub short_made : (k : ℕ) (z : ℤ) → k < 16 → short_insn (0x70 + k) z ≡ Some (insn.Jcc (condition_at k) z)
 unfolding short_insn
 short_made k z h = grind (arith, nat_tests)
 
 -- 0F 80+cc
-pub near_opcode : (k : ℕ) (rest : List ℕ) → k < 16 → read_extended (128 + k) rest
+pub near_opcode : (k : ℕ) (rest : List ℕ) → k < 16 → read_extended (0x80 + k) rest
     ≡ read_with_signed 2 4 (λ z. Some (insn.Jcc (condition_at k) z)) rest
 unfolding read_extended
 near_opcode k rest h =
-    let same : 128 + k - 128 ≡ k = omega arith in
+    let same : 0x80 + k - 0x80 ≡ k = omega arith in
     rw (← same) (grind (arith, nat_tests))
 
 -- 0F 90+cc
-pub set_opcode : (k : ℕ) (rest : List ℕ) → k < 16 → read_extended (144 + k) rest
-    ≡ read_with8 2 (extended8_insn (144 + k)) rest
+pub set_opcode : (k : ℕ) (rest : List ℕ) → k < 16 → read_extended (0x90 + k) rest
+    ≡ read_with8 2 (extended8_insn (0x90 + k)) rest
 unfolding read_extended
 set_opcode k rest h = grind (arith, nat_tests)
 
-pub set_made : (k reg : ℕ) (x : Rm8) → k < 16 → extended8_insn (144 + k) reg x ≡ Some (insn.SetCc (condition_at k) x)
+pub set_made : (k reg : ℕ) (x : Rm8) → k < 16 → extended8_insn (0x90 + k) reg x ≡ Some (insn.SetCc (condition_at k) x)
 unfolding extended8_insn
 set_made k reg x h = grind (arith, nat_tests)
 
@@ -90,4 +90,4 @@ unfolding fields32_insn
 alu_made k way reg x h w =
     let number : (8 * k + way) / 8 ≡ k = omega arith in
     let low : (8 * k + way) % 8 ≡ way = omega arith in
-    rw (lt-ltb (8 * k + way) 64 (omega arith), number, low) refl
+    rw (lt-ltb (8 * k + way) 0x40 (omega arith), number, low) refl

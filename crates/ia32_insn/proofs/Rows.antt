@@ -1,6 +1,5 @@
--- AllByRecursion spelling is read, row by row.
+-- Every spelling is read, row by row.
 use Rattle.std.specs.Prelude.{◌≡◌, ◌⊎◌, ℕ, ◌+◌, ◌*◌, ◌<◌, ℤ, List, [], ◌∷◌, ◌++◌, length, drop, Option, Some, refl}
-use Rattle.std.specs.List.{AllByRecursion}
 use Rattle.std.proofs.Common.{sym, ◌∙◌, ap, arith, inl, inr, append_assoc}
 use Rattle.std.proofs.Math.Seq.{drop-append_seam}
 use Rattle.std.proofs.lemmas.List.{length-append}
@@ -184,14 +183,14 @@ row_lone opcode made i xs map made_is xs_are after =
     ∙ counted i 1 (length xs) (sym (ap length xs_are))
 
 -- fields, and then a byte
-row_shift : (op : ShiftOp) (x : Rm32) (n : ℕ) (xs : List ℕ) → (fields : List ℕ) × (xs ≡ 193 ∷ fields ++ n ∷ [])
+row_shift : (op : ShiftOp) (x : Rm32) (n : ℕ) (xs : List ℕ) → (fields : List ℕ) × (xs ≡ 0xc1 ∷ fields ++ n ∷ [])
     × HasFields (shift_number op) (operand32 x) fields → Reads (insn.ShiftImm op x n) xs
 unfolding read_insn read_opcode read_shift read_byte
 row_shift op x n xs (fields, xs_are, h) after =
     let finish : ShiftOp → Option (Insn × ℕ) = λ o. Some (insn.ShiftImm o x n, 2 + length fields) in
     let made : ℕ → Option (Insn × ℕ) =
     λ k. shift_at (shift_number op) >>= (λ o. Some (insn.ShiftImm o x k, 2 + length fields)) in
-    ap read_insn (ap (λ bs. bs ++ after) xs_are ∙ ap (λ bs. 193 ∷ bs) (append_assoc fields (n ∷ []) after))
+    ap read_insn (ap (λ bs. bs ++ after) xs_are ∙ ap (λ bs. 0xc1 ∷ bs) (append_assoc fields (n ∷ []) after))
     ∙ then_reads (read_fields32 (fields ++ (n ∷ after))) (λ f. read_byte (drop f.2 (fields ++ (n ∷ after)))
     >>= (λ k. shift_at f.0 >>= (λ o. Some (insn.ShiftImm o f.1 k, 2 + f.2)))) (
       shift_number op,
@@ -218,32 +217,32 @@ of_byte_register make r = ap make (byte_register_at-number r)
 of_condition : (make : Cond → Option Insn) (c : Cond) → make (condition_at (cond_number c)) ≡ make c
 of_condition make c = ap make (condition_at-number c)
 
-mov_reads : (x : Rm32) (r : Reg32) (xs : List ℕ) → Row (137 ∷ []) (number32 r) (operand32 x) xs
-    ⊎ Reversed (139 ∷ []) (operand32 x) (number32 r) xs → Reads (insn.Mov x r) xs
+mov_reads : (x : Rm32) (r : Reg32) (xs : List ℕ) → Row (0x89 ∷ []) (number32 r) (operand32 x) xs
+    ⊎ Reversed (0x8b ∷ []) (operand32 x) (number32 r) xs → Reads (insn.Mov x r) xs
 unfolding read_insn read_opcode fields32_insn
 mov_reads x r xs (inl row) =
-    row32 (137 ∷ []) 1 (fields32_insn 137) (number32 r) x (insn.Mov x r) xs refl (λ rest. refl)
+    row32 (0x89 ∷ []) 1 (fields32_insn 0x89) (number32 r) x (insn.Mov x r) xs refl (λ rest. refl)
     (of_register (λ v. Some (insn.Mov x v)) r) row
 mov_reads (rm.Reg d) r xs (inr row) =
-    row32 (139 ∷ []) 1 (fields32_insn 139) (number32 d) (rm.Reg r) (insn.Mov (rm.Reg d) r) xs refl (λ rest. refl)
+    row32 (0x8b ∷ []) 1 (fields32_insn 0x8b) (number32 d) (rm.Reg r) (insn.Mov (rm.Reg d) r) xs refl (λ rest. refl)
     (of_register (λ v. Some (insn.Mov (rm.Reg v) r)) d) row
 mov_reads (rm.Mem m) r xs (inr row) = elim row [ ]
 
-mov8_reads : (x : Rm8) (r : Reg8) (xs : List ℕ) → Row (136 ∷ []) (number8 r) (operand8 x) xs
-    ⊎ Reversed (138 ∷ []) (operand8 x) (number8 r) xs → Reads (insn.Mov8 x r) xs
+mov8_reads : (x : Rm8) (r : Reg8) (xs : List ℕ) → Row (0x88 ∷ []) (number8 r) (operand8 x) xs
+    ⊎ Reversed (0x8a ∷ []) (operand8 x) (number8 r) xs → Reads (insn.Mov8 x r) xs
 unfolding read_insn read_opcode fields8_insn
 mov8_reads x r xs (inl row) =
-    row8 (136 ∷ []) 1 (fields8_insn 136) (number8 r) x (insn.Mov8 x r) xs refl (λ rest. refl)
+    row8 (0x88 ∷ []) 1 (fields8_insn 0x88) (number8 r) x (insn.Mov8 x r) xs refl (λ rest. refl)
     (of_byte_register (λ v. Some (insn.Mov8 x v)) r) row
 mov8_reads (rm8.Reg d) r xs (inr row) =
-    row8 (138 ∷ []) 1 (fields8_insn 138) (number8 d) (rm8.Reg r) (insn.Mov8 (rm8.Reg d) r) xs refl (λ rest. refl)
+    row8 (0x8a ∷ []) 1 (fields8_insn 0x8a) (number8 d) (rm8.Reg r) (insn.Mov8 (rm8.Reg d) r) xs refl (λ rest. refl)
     (of_byte_register (λ v. Some (insn.Mov8 (rm8.Reg v) r)) d) row
 mov8_reads (rm8.Mem m) r xs (inr row) = elim row [ ]
 
-mov_imm_reads : (x : Rm32) (z : ℤ) (xs : List ℕ) → RowWith (199 ∷ []) 0 (operand32 x) 4 z xs
+mov_imm_reads : (x : Rm32) (z : ℤ) (xs : List ℕ) → RowWith (0xc7 ∷ []) 0 (operand32 x) 4 z xs
     → Reads (insn.MovImm x z) xs
 unfolding read_insn read_opcode immediate_insn
-mov_imm_reads x z xs row = row_with 199 4 (immediate_insn 199) 0 x z (insn.MovImm x z) xs (λ rest. refl) refl row
+mov_imm_reads x z xs row = row_with 0xc7 4 (immediate_insn 0xc7) 0 x z (insn.MovImm x z) xs (λ rest. refl) refl row
 
 -- what the operations of two operands make
 alu_makes : (op : AluOp) (way : ℕ) (reg : ℕ) (x : Rm32) → way < 4 → fields32_insn (8 * alu_number op + way) reg x
@@ -279,14 +278,14 @@ alu_load_reads op r m xs row =
     (insn.AluLoad op r m) xs refl (λ rest. alu_map op 3 rest (omega arith))
     (alu_makes op 3 (number32 r) (rm.Mem m) (omega arith) ∙ of_register (λ v. Some (insn.AluLoad op v m)) r) row
 
-alu_imm_reads : (op : AluOp) (x : Rm32) (z : ℤ) (xs : List ℕ) → RowWith (131 ∷ []) (alu_number op) (operand32 x) 1 z xs
-    ⊎ RowWith (129 ∷ []) (alu_number op) (operand32 x) 4 z xs → Reads (insn.AluImm op x z) xs
+alu_imm_reads : (op : AluOp) (x : Rm32) (z : ℤ) (xs : List ℕ) → RowWith (0x83 ∷ []) (alu_number op) (operand32 x) 1 z xs
+    ⊎ RowWith (0x81 ∷ []) (alu_number op) (operand32 x) 4 z xs → Reads (insn.AluImm op x z) xs
 unfolding read_insn read_opcode immediate_insn
 alu_imm_reads op x z xs (inl row) =
-    row_with 131 1 (immediate_insn 131) (alu_number op) x z (insn.AluImm op x z) xs (λ rest. refl)
+    row_with 0x83 1 (immediate_insn 0x83) (alu_number op) x z (insn.AluImm op x z) xs (λ rest. refl)
     (then_reads (operation_at (alu_number op)) (λ o. Some (insn.AluImm o x z)) op (operation_at-number op)) row
 alu_imm_reads op x z xs (inr row) =
-    row_with 129 4 (immediate_insn 129) (alu_number op) x z (insn.AluImm op x z) xs (λ rest. refl)
+    row_with 0x81 4 (immediate_insn 0x81) (alu_number op) x z (insn.AluImm op x z) xs (λ rest. refl)
     (then_reads (operation_at (alu_number op)) (λ o. Some (insn.AluImm o x z)) op (operation_at-number op)) row
 
 -- F7, D3 and FF, with the number after / in the reg field
@@ -297,20 +296,20 @@ number_reads opcode number x i xs map made row =
     row32 (opcode ∷ []) 1 (fields32_insn opcode) number x i xs refl map made row
 
 unary_reads : (number : ℕ) (x : Rm32) (i : Insn) (xs : List ℕ) → unary_insn number x ≡ Some i
-    → Row (247 ∷ []) number (operand32 x) xs → Reads i xs
+    → Row (0xf7 ∷ []) number (operand32 x) xs → Reads i xs
 unfolding read_insn read_opcode fields32_insn
-unary_reads number x i xs made row = number_reads 247 number x i xs (λ rest. refl) made row
+unary_reads number x i xs made row = number_reads 0xf7 number x i xs (λ rest. refl) made row
 
-shift_reads : (op : ShiftOp) (x : Rm32) (xs : List ℕ) → Row (211 ∷ []) (shift_number op) (operand32 x) xs
+shift_reads : (op : ShiftOp) (x : Rm32) (xs : List ℕ) → Row (0xd3 ∷ []) (shift_number op) (operand32 x) xs
     → Reads (insn.ShiftCl op x) xs
 unfolding read_insn read_opcode fields32_insn
 shift_reads op x xs row =
-    number_reads 211 (shift_number op) x (insn.ShiftCl op x) xs (λ rest. refl)
+    number_reads 0xd3 (shift_number op) x (insn.ShiftCl op x) xs (λ rest. refl)
     (then_reads (shift_at (shift_number op)) (λ o. Some (insn.ShiftCl o x)) op (shift_at-number op)) row
 
-push_operand_reads : (x : Rm32) (xs : List ℕ) → Row (255 ∷ []) 6 (operand32 x) xs → Reads (insn.Push x) xs
+push_operand_reads : (x : Rm32) (xs : List ℕ) → Row (0xff ∷ []) 6 (operand32 x) xs → Reads (insn.Push x) xs
 unfolding read_insn read_opcode fields32_insn
-push_operand_reads x xs row = number_reads 255 6 x (insn.Push x) xs (λ rest. refl) refl row
+push_operand_reads x xs row = number_reads 0xff 6 x (insn.Push x) xs (λ rest. refl) refl row
 
 -- one register in the reg field, and an operand of 32 bits
 plain32_reads : (opcode : ℕ) (r : Reg32) (x : Rm32) (make : Reg32 → Insn) (xs : List ℕ)
@@ -326,79 +325,79 @@ one_byte_reads : (opcode : ℕ) (i : Insn) (xs : List ℕ)
     → xs ≡ opcode ∷ [] → Reads i xs
 one_byte_reads opcode i xs map made xs_are = row_lone opcode (lone_insn opcode) i xs map made xs_are
 
-push_reads : (r : Reg32) (xs : List ℕ) → (xs ≡ (80 + number32 r) ∷ []) → Reads (insn.Push (rm.Reg r)) xs
+push_reads : (r : Reg32) (xs : List ℕ) → (xs ≡ (0x50 + number32 r) ∷ []) → Reads (insn.Push (rm.Reg r)) xs
 unfolding read_insn
 push_reads r xs xs_are =
-    one_byte_reads (80 + number32 r) (insn.Push (rm.Reg r)) xs
+    one_byte_reads (0x50 + number32 r) (insn.Push (rm.Reg r)) xs
     (λ rest. push_opcode (number32 r) rest (number32_below r))
     (push_made (number32 r) (number32_below r) ∙ of_register (λ v. Some (insn.Push (rm.Reg v))) r) xs_are
 
-pop_reads : (r : Reg32) (xs : List ℕ) → (xs ≡ (88 + number32 r) ∷ []) → Reads (insn.Pop r) xs
+pop_reads : (r : Reg32) (xs : List ℕ) → (xs ≡ (0x58 + number32 r) ∷ []) → Reads (insn.Pop r) xs
 unfolding read_insn
 pop_reads r xs xs_are =
-    one_byte_reads (88 + number32 r) (insn.Pop r) xs (λ rest. pop_opcode (number32 r) rest (number32_below r))
+    one_byte_reads (0x58 + number32 r) (insn.Pop r) xs (λ rest. pop_opcode (number32 r) rest (number32_below r))
     (pop_made (number32 r) (number32_below r) ∙ of_register (λ v. Some (insn.Pop v)) r) xs_are
 
-mov_register_reads : (r : Reg32) (z : ℤ) (xs : List ℕ) → Immediate ((184 + number32 r) ∷ []) 4 z xs
+mov_register_reads : (r : Reg32) (z : ℤ) (xs : List ℕ) → Immediate ((0xb8 + number32 r) ∷ []) 4 z xs
     → Reads (insn.MovImm (rm.Reg r) z) xs
 unfolding read_insn
 mov_register_reads r z xs row =
-    row_signed ((184 + number32 r) ∷ []) 1 4 (long_insn (184 + number32 r)) z (insn.MovImm (rm.Reg r) z) xs refl
+    row_signed ((0xb8 + number32 r) ∷ []) 1 4 (long_insn (0xb8 + number32 r)) z (insn.MovImm (rm.Reg r) z) xs refl
     (λ rest. mov_opcode (number32 r) rest (number32_below r))
     (mov_made (number32 r) z (number32_below r) ∙ of_register (λ v. Some (insn.MovImm (rm.Reg v) z)) r) row
 
-mov8_imm_reads : (r : Reg8) (n : ℕ) (xs : List ℕ) → xs ≡ (176 + number8 r) ∷ n ∷ [] → Reads (insn.Mov8Imm r n) xs
+mov8_imm_reads : (r : Reg8) (n : ℕ) (xs : List ℕ) → xs ≡ (0xb0 + number8 r) ∷ n ∷ [] → Reads (insn.Mov8Imm r n) xs
 unfolding read_insn
 mov8_imm_reads r n xs xs_are =
-    row_byte (176 + number8 r) n (byte_insn (176 + number8 r)) (insn.Mov8Imm r n) xs
+    row_byte (0xb0 + number8 r) n (byte_insn (0xb0 + number8 r)) (insn.Mov8Imm r n) xs
     (λ rest. mov8_opcode (number8 r) rest (number8_below r))
     (mov8_made (number8 r) n (number8_below r) ∙ of_byte_register (λ v. Some (insn.Mov8Imm v n)) r) xs_are
 
-jcc_reads : (c : Cond) (z : ℤ) (xs : List ℕ) → Immediate (15 ∷ (128 + cond_number c) ∷ []) 4 z xs
-    ⊎ Immediate ((112 + cond_number c) ∷ []) 1 z xs → Reads (insn.Jcc c z) xs
+jcc_reads : (c : Cond) (z : ℤ) (xs : List ℕ) → Immediate (0x0f ∷ (0x80 + cond_number c) ∷ []) 4 z xs
+    ⊎ Immediate ((0x70 + cond_number c) ∷ []) 1 z xs → Reads (insn.Jcc c z) xs
 unfolding read_insn read_opcode read_two_byte
 jcc_reads c z xs (inl row) =
-    row_signed (15 ∷ (128 + cond_number c) ∷ []) 2 4 (λ v. Some (insn.Jcc (condition_at (cond_number c)) v)) z
+    row_signed (0x0f ∷ (0x80 + cond_number c) ∷ []) 2 4 (λ v. Some (insn.Jcc (condition_at (cond_number c)) v)) z
     (insn.Jcc c z) xs refl
     (λ rest. near_opcode (cond_number c) rest (cond_below c)) (of_condition (λ v. Some (insn.Jcc v z)) c) row
 jcc_reads c z xs (inr row) =
-    row_signed ((112 + cond_number c) ∷ []) 1 1 (short_insn (112 + cond_number c)) z (insn.Jcc c z) xs refl
+    row_signed ((0x70 + cond_number c) ∷ []) 1 1 (short_insn (0x70 + cond_number c)) z (insn.Jcc c z) xs refl
     (λ rest. short_opcode (cond_number c) rest (cond_below c))
     (short_made (cond_number c) z (cond_below c) ∙ of_condition (λ v. Some (insn.Jcc v z)) c) row
 
-set_reads : (c : Cond) (x : Rm8) (reg : ℕ) (xs : List ℕ) → Row (15 ∷ (144 + cond_number c) ∷ []) reg (operand8 x) xs
+set_reads : (c : Cond) (x : Rm8) (reg : ℕ) (xs : List ℕ) → Row (0x0f ∷ (0x90 + cond_number c) ∷ []) reg (operand8 x) xs
     → Reads (insn.SetCc c x) xs
 unfolding read_insn read_opcode read_two_byte
 set_reads c x reg xs row =
-    row8 (15 ∷ (144 + cond_number c) ∷ []) 2 (extended8_insn (144 + cond_number c)) reg x (insn.SetCc c x) xs refl
+    row8 (0x0f ∷ (0x90 + cond_number c) ∷ []) 2 (extended8_insn (0x90 + cond_number c)) reg x (insn.SetCc c x) xs refl
     (λ rest. set_opcode (cond_number c) rest (cond_below c))
     (set_made (cond_number c) reg x (cond_below c) ∙ of_condition (λ v. Some (insn.SetCc v x)) c) row
 
 -- after 0F and 66
 extended32_reads : (opcode : ℕ) (r : Reg32) (x : Rm32) (make : Reg32 → Insn) (xs : List ℕ)
-    → ((rest : List ℕ) → read_insn (15 ∷ opcode ∷ rest) ≡ read_with32 2 (extended32_insn opcode) rest)
+    → ((rest : List ℕ) → read_insn (0x0f ∷ opcode ∷ rest) ≡ read_with32 2 (extended32_insn opcode) rest)
     → extended32_insn opcode (number32 r) x ≡ Some (make (register_at (number32 r)))
-    → Row (15 ∷ opcode ∷ []) (number32 r) (operand32 x) xs → Reads (make r) xs
+    → Row (0x0f ∷ opcode ∷ []) (number32 r) (operand32 x) xs → Reads (make r) xs
 extended32_reads opcode r x make xs map made row =
-    row32 (15 ∷ opcode ∷ []) 2 (extended32_insn opcode) (number32 r) x (make r) xs refl map
+    row32 (0x0f ∷ opcode ∷ []) 2 (extended32_insn opcode) (number32 r) x (make r) xs refl map
     (made ∙ of_register (λ v. Some (make v)) r) row
 
 extended8_reads : (opcode : ℕ) (r : Reg32) (x : Rm8) (make : Reg32 → Insn) (xs : List ℕ)
-    → ((rest : List ℕ) → read_insn (15 ∷ opcode ∷ rest) ≡ read_with8 2 (extended8_insn opcode) rest)
+    → ((rest : List ℕ) → read_insn (0x0f ∷ opcode ∷ rest) ≡ read_with8 2 (extended8_insn opcode) rest)
     → extended8_insn opcode (number32 r) x ≡ Some (make (register_at (number32 r)))
-    → Row (15 ∷ opcode ∷ []) (number32 r) (operand8 x) xs → Reads (make r) xs
+    → Row (0x0f ∷ opcode ∷ []) (number32 r) (operand8 x) xs → Reads (make r) xs
 extended8_reads opcode r x make xs map made row =
-    row8 (15 ∷ opcode ∷ []) 2 (extended8_insn opcode) (number32 r) x (make r) xs refl map
+    row8 (0x0f ∷ opcode ∷ []) 2 (extended8_insn opcode) (number32 r) x (make r) xs refl map
     (made ∙ of_register (λ v. Some (make v)) r) row
 
-sixteen_reads : (x : Rm32) (r : Reg32) (xs : List ℕ) → Row (102 ∷ 137 ∷ []) (number32 r) (operand32 x) xs
+sixteen_reads : (x : Rm32) (r : Reg32) (xs : List ℕ) → Row (0x66 ∷ 0x89 ∷ []) (number32 r) (operand32 x) xs
     → Reads (insn.Mov16 x r) xs
 unfolding read_insn read_opcode read_sixteen sixteen_insn
 sixteen_reads x r xs row =
-    row32 (102 ∷ 137 ∷ []) 2 (sixteen_insn 137) (number32 r) x (insn.Mov16 x r) xs refl (λ rest. refl)
+    row32 (0x66 ∷ 0x89 ∷ []) 2 (sixteen_insn 0x89) (number32 r) x (insn.Mov16 x r) xs refl (λ rest. refl)
     (of_register (λ v. Some (insn.Mov16 x v)) r) row
 
-ud2_reads : (xs : List ℕ) → xs ≡ 15 ∷ 11 ∷ [] → Reads insn.Ud2 xs
+ud2_reads : (xs : List ℕ) → xs ≡ 0x0f ∷ 0x0b ∷ [] → Reads insn.Ud2 xs
 unfolding read_insn read_opcode read_two_byte read_extended
 ud2_reads xs xs_are after =
     ap read_insn (ap (λ bs. bs ++ after) xs_are) ∙ counted insn.Ud2 2 (length xs) (sym (ap length xs_are))
@@ -408,53 +407,54 @@ pub spelling_reads : (i : Insn) (xs : List ℕ) → Spells i xs → Reads i xs
 unfolding read_insn read_opcode read_two_byte read_extended fields32_insn fields8_insn unary_insn extended32_insn
     extended8_insn long_insn short_insn byte_insn lone_insn
 spelling_reads (insn.Mov x r) xs h = mov_reads x r xs h
-spelling_reads (insn.MovLoad r m) xs h = plain32_reads 139 r (rm.Mem m) (λ v. insn.MovLoad v m) xs (λ rest. refl) refl h
+spelling_reads (insn.MovLoad r m) xs h = plain32_reads 0x8b r (rm.Mem m) (λ v. insn.MovLoad v m) xs (λ rest. refl) refl
+    h
 spelling_reads (insn.MovImm (rm.Reg r) z) xs (inl h) = mov_register_reads r z xs h
 spelling_reads (insn.MovImm (rm.Reg r) z) xs (inr h) = mov_imm_reads (rm.Reg r) z xs h
 spelling_reads (insn.MovImm (rm.Mem m) z) xs h = mov_imm_reads (rm.Mem m) z xs h
 spelling_reads (insn.Mov8 x r) xs h = mov8_reads x r xs h
 spelling_reads (insn.Mov8Load r m) xs h =
-    row8 (138 ∷ []) 1 (fields8_insn 138) (number8 r) (rm8.Mem m) (insn.Mov8Load r m) xs refl (λ rest. refl)
+    row8 (0x8a ∷ []) 1 (fields8_insn 0x8a) (number8 r) (rm8.Mem m) (insn.Mov8Load r m) xs refl (λ rest. refl)
     (of_byte_register (λ v. Some (insn.Mov8Load v m)) r) h
 spelling_reads (insn.Mov8Imm r n) xs h = mov8_imm_reads r n xs h
 spelling_reads (insn.Mov16 x r) xs h = sixteen_reads x r xs h
-spelling_reads (insn.MovZx8 r x) xs h = extended8_reads 182 r x (λ v. insn.MovZx8 v x) xs (λ rest. refl) refl h
-spelling_reads (insn.MovZx16 r x) xs h = extended32_reads 183 r x (λ v. insn.MovZx16 v x) xs (λ rest. refl) refl h
-spelling_reads (insn.MovSx8 r x) xs h = extended8_reads 190 r x (λ v. insn.MovSx8 v x) xs (λ rest. refl) refl h
-spelling_reads (insn.MovSx16 r x) xs h = extended32_reads 191 r x (λ v. insn.MovSx16 v x) xs (λ rest. refl) refl h
+spelling_reads (insn.MovZx8 r x) xs h = extended8_reads 0xb6 r x (λ v. insn.MovZx8 v x) xs (λ rest. refl) refl h
+spelling_reads (insn.MovZx16 r x) xs h = extended32_reads 0xb7 r x (λ v. insn.MovZx16 v x) xs (λ rest. refl) refl h
+spelling_reads (insn.MovSx8 r x) xs h = extended8_reads 0xbe r x (λ v. insn.MovSx8 v x) xs (λ rest. refl) refl h
+spelling_reads (insn.MovSx16 r x) xs h = extended32_reads 0xbf r x (λ v. insn.MovSx16 v x) xs (λ rest. refl) refl h
 spelling_reads (insn.Xchg8 x r) xs h =
-    row8 (134 ∷ []) 1 (fields8_insn 134) (number8 r) x (insn.Xchg8 x r) xs refl (λ rest. refl)
+    row8 (0x86 ∷ []) 1 (fields8_insn 0x86) (number8 r) x (insn.Xchg8 x r) xs refl (λ rest. refl)
     (of_byte_register (λ v. Some (insn.Xchg8 x v)) r) h
-spelling_reads (insn.Xchg x r) xs h = plain32_reads 135 r x (λ v. insn.Xchg x v) xs (λ rest. refl) refl h
-spelling_reads (insn.Lea r m) xs h = plain32_reads 141 r (rm.Mem m) (λ v. insn.Lea v m) xs (λ rest. refl) refl h
+spelling_reads (insn.Xchg x r) xs h = plain32_reads 0x87 r x (λ v. insn.Xchg x v) xs (λ rest. refl) refl h
+spelling_reads (insn.Lea r m) xs h = plain32_reads 0x8d r (rm.Mem m) (λ v. insn.Lea v m) xs (λ rest. refl) refl h
 spelling_reads (insn.Alu op x r) xs h = alu_reads op x r xs h
 spelling_reads (insn.AluLoad op r m) xs h = alu_load_reads op r m xs h
 spelling_reads (insn.AluImm op x z) xs h = alu_imm_reads op x z xs h
-spelling_reads (insn.Test x r) xs h = plain32_reads 133 r x (λ v. insn.Test x v) xs (λ rest. refl) refl h
-spelling_reads (insn.IMul r x) xs h = extended32_reads 175 r x (λ v. insn.IMul v x) xs (λ rest. refl) refl h
+spelling_reads (insn.Test x r) xs h = plain32_reads 0x85 r x (λ v. insn.Test x v) xs (λ rest. refl) refl h
+spelling_reads (insn.IMul r x) xs h = extended32_reads 0xaf r x (λ v. insn.IMul v x) xs (λ rest. refl) refl h
 spelling_reads (insn.Not x) xs h = unary_reads 2 x (insn.Not x) xs refl h
 spelling_reads (insn.Neg x) xs h = unary_reads 3 x (insn.Neg x) xs refl h
 spelling_reads (insn.Div x) xs h = unary_reads 6 x (insn.Div x) xs refl h
 spelling_reads (insn.IDiv x) xs h = unary_reads 7 x (insn.IDiv x) xs refl h
-spelling_reads insn.Cdq xs h = one_byte_reads 153 insn.Cdq xs (λ rest. refl) refl h
+spelling_reads insn.Cdq xs h = one_byte_reads 0x99 insn.Cdq xs (λ rest. refl) refl h
 spelling_reads (insn.ShiftCl op x) xs h = shift_reads op x xs h
 spelling_reads (insn.ShiftImm op x n) xs h = row_shift op x n xs h
 spelling_reads (insn.Push (rm.Reg r)) xs (inl h) = push_reads r xs h
 spelling_reads (insn.Push (rm.Reg r)) xs (inr h) = push_operand_reads (rm.Reg r) xs h
 spelling_reads (insn.Push (rm.Mem m)) xs h = push_operand_reads (rm.Mem m) xs h
 spelling_reads (insn.PushImm z) xs h =
-    row_signed (104 ∷ []) 1 4 (long_insn 104) z (insn.PushImm z) xs refl (λ rest. refl) refl h
+    row_signed (0x68 ∷ []) 1 4 (long_insn 0x68) z (insn.PushImm z) xs refl (λ rest. refl) refl h
 spelling_reads (insn.Pop r) xs h = pop_reads r xs h
 spelling_reads (insn.Call z) xs h =
-    row_signed (232 ∷ []) 1 4 (long_insn 232) z (insn.Call z) xs refl (λ rest. refl) refl h
-spelling_reads insn.Ret xs h = one_byte_reads 195 insn.Ret xs (λ rest. refl) refl h
-spelling_reads insn.Leave xs h = one_byte_reads 201 insn.Leave xs (λ rest. refl) refl h
+    row_signed (0xe8 ∷ []) 1 4 (long_insn 0xe8) z (insn.Call z) xs refl (λ rest. refl) refl h
+spelling_reads insn.Ret xs h = one_byte_reads 0xc3 insn.Ret xs (λ rest. refl) refl h
+spelling_reads insn.Leave xs h = one_byte_reads 0xc9 insn.Leave xs (λ rest. refl) refl h
 spelling_reads (insn.Jmp z) xs (inl h) =
-    row_signed (233 ∷ []) 1 4 (long_insn 233) z (insn.Jmp z) xs refl (λ rest. refl) refl h
+    row_signed (0xe9 ∷ []) 1 4 (long_insn 0xe9) z (insn.Jmp z) xs refl (λ rest. refl) refl h
 spelling_reads (insn.Jmp z) xs (inr h) =
-    row_signed (235 ∷ []) 1 1 (short_insn 235) z (insn.Jmp z) xs refl (λ rest. refl) refl h
+    row_signed (0xeb ∷ []) 1 1 (short_insn 0xeb) z (insn.Jmp z) xs refl (λ rest. refl) refl h
 spelling_reads (insn.Jcc c z) xs h = jcc_reads c z xs h
 spelling_reads (insn.SetCc c x) xs (reg, h) = set_reads c x reg xs h
-spelling_reads (insn.Int n) xs h = row_byte 205 n (byte_insn 205) (insn.Int n) xs (λ rest. refl) refl h
+spelling_reads (insn.Int n) xs h = row_byte 0xcd n (byte_insn 0xcd) (insn.Int n) xs (λ rest. refl) refl h
 spelling_reads insn.Ud2 xs h = ud2_reads xs h
-spelling_reads insn.Nop xs h = one_byte_reads 144 insn.Nop xs (λ rest. refl) refl h
+spelling_reads insn.Nop xs h = one_byte_reads 0x90 insn.Nop xs (λ rest. refl) refl h

@@ -80,16 +80,16 @@ pub begins_short : (i : Insn) (n : ℕ) (bytes : List ℕ) → Begins i n bytes 
 begins_short i n bytes h = (found_at bytes i n (read_insn-complete i n bytes h)).short
 
 -- NOP is spelled by its opcode
-pub nop_begins : (rest : List ℕ) → Begins insn.Nop 1 (144 ∷ rest)
+pub nop_begins : (rest : List ℕ) → Begins insn.Nop 1 (0x90 ∷ rest)
 nop_begins rest = (omega arith, refl)
 
 -- INT is spelled by its opcode and a byte
-pub int_begins : (n : ℕ) (rest : List ℕ) → Begins (insn.Int n) 2 (205 ∷ n ∷ rest)
+pub int_begins : (n : ℕ) (rest : List ℕ) → Begins (insn.Int n) 2 (0xcd ∷ n ∷ rest)
 int_begins n rest = (omega arith, refl)
 
 -- MOV r32, imm32 is spelled by its opcode and four bytes
 pub mov_begins : (r : Reg32) (z : ℤ) (rest : List ℕ) → 4 ≤ length rest → twos_complement 4 (little_number 4 rest) ≡ z
-    → Begins (insn.MovImm (rm.Reg r) z) 5 ((184 + number32 r) ∷ rest)
+    → Begins (insn.MovImm (rm.Reg r) z) 5 ((0xb8 + number32 r) ∷ rest)
 mov_begins r z rest h e = (
   omega arith,
   inl (

@@ -1,11 +1,11 @@
 -- How a step treats the input and the output: it adds to what was taken and written, depends on neither, and
 -- takes bytes from the input's front. Only `int 0x80` uses them.
-use Rattle.std.specs.Prelude.{◌≡◌, ◌≢◌, ℕ, ◌+◌, ◌%◌, ◌&&◌, ◌==◌, Bool, true, false, List, [], ◌∷◌, ◌++◌, drop, Option}
+use Rattle.std.specs.Prelude.{◌≡◌, ◌≢◌, ℕ, ◌+◌, ◌%◌, ◌==◌, Bool, true, false, List, [], ◌∷◌, ◌++◌, drop, Option}
 use Rattle.std.specs.Prelude.{Some, None, Result, Ok, Err, if◌then◌else◌, refl}
 use Rattle.std.proofs.Common.{sym, ◌∙◌, ap, subst, add-zero, add_assoc, append_assoc, inl, inr}
 use Rattle.byteorder.specs.Endian.{little_bytes}
 use Rattle.std.proofs.lemmas.Bool.Decides.{Decides-eqb}
-use Rattle.pcc_base.specs.Outcome.{End, Ended, Stopped}
+use Rattle.pcc_base.specs.Outcome.{End, Stopped}
 use Rattle.pcc_base.specs.declared.run.Stop.TheVariants.{Instruction, Call, Access}
 use Rattle.ia32_regs.specs.declared.names.Reg32.{Reg32}
 use Rattle.ia32_regs.specs.declared.names.Reg32.TheVariants.{Eax, Ecx, Edx, Ebx, Esp, Ebp}
@@ -27,6 +27,7 @@ use Rattle.ia32_insn.specs.Meaning.{with_byte, with_flags, base_value, index_val
 use Rattle.ia32_insn.specs.Meaning.{load_bytes, store, store_bytes, read32, write32, read16, write16, read8, write8}
 use Rattle.ia32_insn.specs.Meaning.{write_result, operate, change, take_quotient, dividend, push, decided, bit}
 use Rattle.ia32_insn.specs.Meaning.{take_byte, read_call, write_call, system_call, interrupt, effect, target, perform}
+use Rattle.ia32_insn.specs.Meaning.{SystemCall, Exit, Read, Write, Other, call_of, make_call}
 use Rattle.ia32_insn.specs.Runs.{StepsAt, Steps}
 
 -- ---- states that differ in their streams
@@ -73,9 +74,10 @@ index-streamed p q w (Some i) s = refl
 address-streamed : (p : List ℕ → List ℕ) (q : ℕ → ℕ) (w : List ℕ → List ℕ) (m : Mem) (s : State)
     → address_of m (streamed p q w s) ≡ address_of m s
 address-streamed p q w m s =
-    ap (λ (n : ℕ). (n + index_value m.index (streamed p q w s) + cast_unsigned w32 m.disp) % 4294967296)
+    ap (λ (n : ℕ). (n + index_value m.index (streamed p q w s) + cast_unsigned w32 m.disp) % 0x1_0000_0000)
     (base-streamed p q w m.base s)
-    ∙ ap (λ (n : ℕ). (base_value m.base s + n + cast_unsigned w32 m.disp) % 4294967296) (index-streamed p q w m.index s)
+    ∙ ap (λ (n : ℕ). (base_value m.base s + n + cast_unsigned w32 m.disp) % 0x1_0000_0000)
+        (index-streamed p q w m.index s)
 
 read32-streamed : (p : List ℕ → List ℕ) (q : ℕ → ℕ) (w : List ℕ → List ℕ) (operand : Rm32) (s : State)
     → read32 operand (streamed p q w s) ≡ read32 operand s
@@ -181,7 +183,7 @@ pops f (Err end) t g same = refl
 
 -- all instructions but `int 0x80`
 abbrev pub UsesNoStreams : Insn → Type 0
-UsesNoStreams (insn.Int n) = n ≢ 128
+UsesNoStreams (insn.Int n) = n ≢ 0x80
 UsesNoStreams _ = Unit {0}
 
 -- a choice whose test fails
@@ -190,9 +192,9 @@ not_so true x y fails = absurd (fails refl)
 not_so false x y fails = refl
 
 -- another interrupt stops
-pub other-interrupt : (n : ℕ) (s : State) → n ≢ 128 → interrupt n s ≡ Err (Stopped Call s.eip)
+pub other-interrupt : (n : ℕ) (s : State) → n ≢ 0x80 → interrupt n s ≡ Err (Stopped Call s.eip)
 other-interrupt n s other =
-    not_so (n == 128) (system_call s) (Err (Stopped Call s.eip)) (λ same. other ((Decides-eqb n 128).0 same))
+    not_so (n == 0x80) (system_call s) (Err (Stopped Call s.eip)) (λ same. other ((Decides-eqb n 0x80).0 same))
 
 -- an instruction that uses no streams does the same whatever they are
 pub effect-streamed : (p : List ℕ → List ℕ) (q : ℕ → ℕ) (w : List ℕ → List ℕ) (i : Insn) (after : ℕ) (s : State)
@@ -205,7 +207,7 @@ effect-streamed p q w (insn.Mov8 operand r) after s none = write8-streamed p q w
 effect-streamed p q w (insn.Mov8Load r m) after s none =
     reads (streamed p q w) _ _ _ _ (read8-streamed p q w (rm8.Mem m) s) (λ v. refl)
 effect-streamed p q w (insn.Mov8Imm r n) after s none = refl
-effect-streamed p q w (insn.Mov16 operand r) after s none = write16-streamed p q w operand (word_of r s % 65536) s
+effect-streamed p q w (insn.Mov16 operand r) after s none = write16-streamed p q w operand (word_of r s % 0x10000) s
 effect-streamed p q w (insn.MovZx8 r operand) after s none =
     reads (streamed p q w) _ _ _ _ (read8-streamed p q w operand s) (λ v. refl)
 effect-streamed p q w (insn.MovZx16 r operand) after s none =
@@ -252,7 +254,7 @@ effect-streamed p q w (insn.PushImm z) after s none = push-streamed p q w (cast_
 effect-streamed p q w (insn.Pop r) after s none =
     pops (streamed p q w) (load 4 (word_of Esp s) s) (with_word Esp (word.sum (word_of Esp s) 4) s)
     (λ v t. with_word r v t) (λ v. refl)
-effect-streamed p q w (insn.Call distance) after s none = push-streamed p q w (after % 4294967296) s
+effect-streamed p q w (insn.Call distance) after s none = push-streamed p q w (after % 0x1_0000_0000) s
 effect-streamed p q w insn.Ret after s none =
     pops (streamed p q w) (load 4 (word_of Esp s) s) (with_word Esp (word.sum (word_of Esp s) 4) s) (λ v t. t)
     (λ v. refl)
@@ -345,20 +347,18 @@ write_call-since k written count address s =
     (λ bytes. ap (λ (l : List ℕ). with_word Eax count (record (f s) { written = l }))
     (append_assoc written s.written bytes)))
 
-system_call-since : (k : ℕ) (written : List ℕ) (s : State) → system_call (since k written s)
-    ≡ carried (since k written) (system_call s)
-system_call-since k written s =
-    let f : State → State = since k written in
-    choice f (word_of Eax s == 1) _ _ _ _ refl
-    (choice f (word_of Eax s == 3
-    && word_of Ebx s == 0) _ _ _ _ (read_call-since k written (word_of Edx s) (word_of Ecx s) s)
-    (choice f (word_of Eax s == 4 && word_of Ebx s == 1) _ (Err (Stopped Call s.eip)) _ _
-    (write_call-since k written (word_of Edx s) (word_of Ecx s) s) refl))
+make_call-since : (k : ℕ) (written : List ℕ) (call : SystemCall) (s : State) → make_call call (since k written s)
+    ≡ carried (since k written) (make_call call s)
+make_call-since k written (Exit status) s = refl
+make_call-since k written Read s = read_call-since k written (word_of Edx s) (word_of Ecx s) s
+make_call-since k written Write s = write_call-since k written (word_of Edx s) (word_of Ecx s) s
+make_call-since k written Other s = refl
 
 interrupt-since : (k : ℕ) (written : List ℕ) (n : ℕ) (s : State) → interrupt n (since k written s)
     ≡ carried (since k written) (interrupt n s)
 interrupt-since k written n s =
-    choice (since k written) (n == 128) _ (Err (Stopped Call s.eip)) _ _ (system_call-since k written s) refl
+    choice (since k written) (n == 0x80) _ (Err (Stopped Call s.eip)) _ _
+    (make_call-since k written (call_of (word_of Eax s) (word_of Ebx s)) s) refl
 
 -- what an instruction does depends on nothing that was taken or written before
 effect-since : (k : ℕ) (written : List ℕ) (i : Insn) (after : ℕ) (s : State) → effect i after (since k written s)
@@ -456,14 +456,16 @@ write-takes count address s =
     choice-takes s (count == 0) _ _ (takes_none s (with_word Eax 0 s) refl refl)
     (bytes-takes s count (load_bytes count address s))
 
+make_call-takes : (call : SystemCall) (s : State) → TakesTo s (make_call call s)
+make_call-takes (Exit status) s = tt
+make_call-takes Read s = read-takes (word_of Edx s) (word_of Ecx s) s
+make_call-takes Write s = write-takes (word_of Edx s) (word_of Ecx s) s
+make_call-takes Other s = tt
+
 interrupt-takes : (n : ℕ) (s : State) → TakesTo s (interrupt n s)
 interrupt-takes n s =
-    choice-takes s (n == 128) _ (Err (Stopped Call s.eip))
-    (choice-takes s (word_of Eax s == 1) (Err (Ended (word_of Ebx s % 256))) _ tt
-    (choice-takes s (word_of Eax s == 3 && word_of Ebx s == 0) _ _ (read-takes (word_of Edx s) (word_of Ecx s) s)
-    (choice-takes s (word_of Eax s == 4 && word_of Ebx s == 1) _ (Err (Stopped Call s.eip))
-    (write-takes (word_of Edx s) (word_of Ecx s) s) tt)))
-    tt
+    choice-takes s (n == 0x80) _ (Err (Stopped Call s.eip))
+    (make_call-takes (call_of (word_of Eax s) (word_of Ebx s)) s) tt
 
 effect-takes : (i : Insn) (after : ℕ) (s : State) → TakesTo s (effect i after s)
 effect-takes (insn.Int n) after s = interrupt-takes n s

@@ -48,7 +48,7 @@ stub_address symbols stub.Exit = symbols.exit
 
 -- the address is that of a static object, or for this number that of the depth word
 abbrev pub IsObject : Symbols → ℕ → ℕ → Type 0
-IsObject symbols k address = ((k ≡ 4294967295) × (address ≡ symbols.depth))
+IsObject symbols k address = ((k ≡ 0xffffffff) × (address ≡ symbols.depth))
     ⊎ (slice_get symbols.objects k ≡ Some address)
 
 -- an instruction that these bytes spell at an address leads to the target, by its distance
@@ -128,7 +128,7 @@ start_items stack depth main =
     ∷ item.CallFunction main
     ∷ plain (insn.Mov (rm.Reg Ebx) Eax)
     ∷ plain (insn.MovImm (rm.Reg Eax) (pos 1))
-    ∷ plain (insn.Int 128)
+    ∷ plain (insn.Int 0x80)
     ∷ []
 
 -- `putchar`: `write` of one byte, the lowest of the argument word, which is also the result
@@ -139,7 +139,7 @@ putchar_items =
     ∷ plain (insn.MovImm (rm.Reg Ebx) (pos 1))
     ∷ plain (insn.Lea Ecx (near Esp 8))
     ∷ plain (insn.MovImm (rm.Reg Edx) (pos 1))
-    ∷ plain (insn.Int 128)
+    ∷ plain (insn.Int 0x80)
     ∷ plain (insn.MovZx8 Eax (rm8.Mem (near Esp 8)))
     ∷ plain (insn.Pop Ebx)
     ∷ plain insn.Ret
@@ -155,7 +155,7 @@ getchar_items =
     ∷ plain (insn.MovImm (rm.Reg Ebx) (pos 0))
     ∷ plain (insn.Mov (rm.Reg Ecx) Esp)
     ∷ plain (insn.MovImm (rm.Reg Edx) (pos 1))
-    ∷ plain (insn.Int 128)
+    ∷ plain (insn.Int 0x80)
     ∷ plain (insn.AluImm Sub (rm.Reg Eax) (pos 1))
     ∷ plain (insn.Pop Ecx)
     ∷ plain (insn.Alu Or (rm.Reg Eax) Ecx)
@@ -168,7 +168,7 @@ abbrev pub exit_items : List Item
 exit_items =
     plain (insn.MovLoad Ebx (near Esp 4))
     ∷ plain (insn.MovImm (rm.Reg Eax) (pos 1))
-    ∷ plain (insn.Int 128)
+    ∷ plain (insn.Int 0x80)
     ∷ []
 
 -- the trap of a failed check
@@ -181,9 +181,9 @@ check_items = plain insn.Ud2 ∷ []
 abbrev pub round_up : ℕ → ℕ → ℕ
 round_up k n = k * ((n + (k - 1)) / k)
 
--- where the text begins, 0x08048000
+-- where the text begins
 abbrev pub text_start : ℕ
-text_start = 134512640
+text_start = 0x08048000
 
 -- the bytes of an object's elements, and how much memory they take
 abbrev pub element_bytes : Object → List ℕ
@@ -210,10 +210,10 @@ object_addresses address (object ∷ objects) =
 
 -- where the data of a text begins, and where their memory and the stack end
 abbrev pub data_start : List ℕ → ℕ
-data_start text = text_start + round_up 4096 (length text)
+data_start text = text_start + round_up 0x1000 (length text)
 
 abbrev pub data_memory : List Object → ℕ
-data_memory objects = round_up 4 (length (data_bytes objects)) + 67112960
+data_memory objects = round_up 4 (length (data_bytes objects)) + 0x04001000
 
 abbrev pub stack_end : List ℕ → List Object → ℕ
 stack_end text objects = data_start text + data_memory objects

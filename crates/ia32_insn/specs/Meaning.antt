@@ -192,15 +192,36 @@ write_call count address s =
     else and_then (load_bytes count address s)
     (λ bytes. Ok (with_word Eax count (record s { written = s.written ++ bytes })))
 
--- `exit` is call 1, with the low byte of EBX; `read` of file 0 is call 3, and `write` of file 1 call 4
+-- the system calls that there are, and any other one
+pub data SystemCall : Type 0 where
+  -- end with the low byte of this status
+  Exit : (status : ℕ) → SystemCall
+  -- read from the input, which is file 0
+  Read : SystemCall
+  -- write to the output, which is file 1
+  Write : SystemCall
+  Other : SystemCall
+
+-- the call with this number in EAX, and a status or the number of a file in EBX (Linux, `syscall_32.tbl`)
+abbrev pub call_of : ℕ → ℕ → SystemCall
+call_of number first =
+    if number == 1 then Exit first
+    else if number == 3 && first == 0 then Read
+    else if number == 4 && first == 1 then Write
+    else Other
+
+-- what a call does, with an address in ECX and a number of bytes in EDX
+abbrev pub make_call : SystemCall → State → Result State End
+make_call (Exit status) s = Err (Ended (status % 256))
+make_call Read s = read_call (word_of Edx s) (word_of Ecx s) s
+make_call Write s = write_call (word_of Edx s) (word_of Ecx s) s
+make_call Other s = Err (Stopped NoCall s.eip)
+
 abbrev pub system_call : State → Result State End
-system_call s =
-    if word_of Eax s == 1 then Err (Ended (word_of Ebx s % 256)) else if word_of Eax s == 3 && word_of Ebx s == 0
-    then read_call (word_of Edx s) (word_of Ecx s) s else if word_of Eax s == 4 && word_of Ebx s == 1
-    then write_call (word_of Edx s) (word_of Ecx s) s else Err (Stopped NoCall s.eip)
+system_call s = make_call (call_of (word_of Eax s) (word_of Ebx s)) s
 
 abbrev pub interrupt : ℕ → State → Result State End
-interrupt n s = if n == 128 then system_call s else Err (Stopped NoCall s.eip)
+interrupt n s = if n == 0x80 then system_call s else Err (Stopped NoCall s.eip)
 
 -- ---- instructions
 

@@ -8,7 +8,8 @@ use Rattle.pcc_base.specs.declared.run.Stop.TheVariants.{Access, Call}
 use Rattle.ia32_regs.specs.declared.names.Reg32.TheVariants.{Eax, Ecx, Edx, Ebx}
 use Rattle.ia32_insn.specs.State.{State, Area, bytes_at, may_store, stored}
 use Rattle.ia32_insn.specs.Meaning.{Moved, Moves, moved_of, and_then, or_end, word_of, with_word, denied, store_bytes}
-use Rattle.ia32_insn.specs.Meaning.{take_byte, read_call, write_call}
+use Rattle.ia32_insn.specs.Meaning.{take_byte, read_call, write_call, SystemCall, Exit, Read, Write, Other, call_of}
+use Rattle.ia32_insn.specs.Meaning.{make_call}
 use Rattle.ia32_machine.specs.First.{lent}
 use Rattle.ia32_machine.specs.Runs.{alone}
 use Rattle.ia32_machine.specs.Performs.{PartTold, read_moved, write_moved, call_moved}
@@ -215,8 +216,7 @@ pub call_exit : (old : State) (left taken : List ℕ) → old ≡ alone old → 
 unfolding call_moved PartTold
 call_exit old left taken bare exit =
     let s : State = lent old left in
-    (sym (ap moved_of (if_so (word_of Eax s == 1) (Err (outcome.Ended (word_of Ebx s % 256))) _
-        ((Decides-eqb (word_of Eax s) 1).1 exit))), bare, refl, refl)
+    (sym (ap (λ (n : ℕ). moved_of (make_call (call_of n (word_of Ebx s)) s)) exit), bare, refl, refl)
 
 -- `read`
 pub call_read : (old : State) (left : List ℕ) → word_of Eax old ≡ 3 → word_of Ebx old ≡ 0 → read_moved (lent old left)
@@ -224,10 +224,8 @@ pub call_read : (old : State) (left : List ℕ) → word_of Eax old ≡ 3 → wo
 unfolding call_moved read_moved
 call_read old left call file =
     let s : State = lent old left in
-    let not_one : (word_of Eax s == 1) ≡ false = not_is (word_of Eax s) 1 (λ one. absurd (omega (arith, one, call))) in
-    sym (ap moved_of (if_not (word_of Eax s == 1) (Err (outcome.Ended (word_of Ebx s % 256))) _ not_one
-    ∙ if_so (word_of Eax s == 3 && word_of Ebx s == 0) (read_call (word_of Edx s) (word_of Ecx s) s) _
-        (both_are (word_of Eax s) (word_of Ebx s) 3 0 call file)))
+    sym (ap (λ (n : ℕ). moved_of (make_call (call_of n (word_of Ebx s)) s)) call
+    ∙ ap (λ (n : ℕ). moved_of (make_call (call_of 3 n) s)) file)
 
 -- `write`
 pub call_write : (old : State) (left : List ℕ) → word_of Eax old ≡ 4 → word_of Ebx old ≡ 1 → write_moved (lent old left)
@@ -235,13 +233,8 @@ pub call_write : (old : State) (left : List ℕ) → word_of Eax old ≡ 4 → w
 unfolding call_moved write_moved
 call_write old left call file =
     let s : State = lent old left in
-    let not_one : (word_of Eax s == 1) ≡ false = not_is (word_of Eax s) 1 (λ one. absurd (omega (arith, one, call))) in
-    let not_three : (word_of Eax s == 3 && word_of Ebx s == 0) ≡ false =
-        not_both (word_of Eax s) (word_of Ebx s) 3 0 (λ three zero. absurd (omega (arith, three, call))) in
-    sym (ap moved_of (if_not (word_of Eax s == 1) (Err (outcome.Ended (word_of Ebx s % 256))) _ not_one
-    ∙ if_not (word_of Eax s == 3 && word_of Ebx s == 0) (read_call (word_of Edx s) (word_of Ecx s) s) _ not_three
-    ∙ if_so (word_of Eax s == 4 && word_of Ebx s == 1) (write_call (word_of Edx s) (word_of Ecx s) s)
-        (Err (outcome.Stopped Call s.eip)) (both_are (word_of Eax s) (word_of Ebx s) 4 1 call file)))
+    sym (ap (λ (n : ℕ). moved_of (make_call (call_of n (word_of Ebx s)) s)) call
+    ∙ ap (λ (n : ℕ). moved_of (make_call (call_of 4 n) s)) file)
 
 -- no call of the machine
 pub call_none : (old : State) (left taken : List ℕ) → old ≡ alone old → word_of Eax old ≢ 1
@@ -250,12 +243,12 @@ pub call_none : (old : State) (left taken : List ℕ) → old ≡ alone old → 
 unfolding call_moved PartTold
 call_none old left taken bare exit read write =
     let s : State = lent old left in (
-      sym (ap moved_of (if_not (word_of Eax s == 1) (Err (outcome.Ended (word_of Ebx s % 256))) _
-          (not_is (word_of Eax s) 1 exit)
-          ∙ if_not (word_of Eax s == 3 && word_of Ebx s == 0) (read_call (word_of Edx s) (word_of Ecx s) s) _
+      sym (ap (λ (call : SystemCall). moved_of (make_call call s))
+          (if_not (word_of Eax s == 1) (Exit (word_of Ebx s)) _ (not_is (word_of Eax s) 1 exit)
+          ∙ if_not (word_of Eax s == 3 && word_of Ebx s == 0) Read _
               (not_both (word_of Eax s) (word_of Ebx s) 3 0 read)
-          ∙ if_not (word_of Eax s == 4 && word_of Ebx s == 1) (write_call (word_of Edx s) (word_of Ecx s) s)
-              (Err (outcome.Stopped Call s.eip)) (not_both (word_of Eax s) (word_of Ebx s) 4 1 write))),
+          ∙ if_not (word_of Eax s == 4 && word_of Ebx s == 1) Write Other
+              (not_both (word_of Eax s) (word_of Ebx s) 4 1 write))),
       bare,
       refl,
       refl,

@@ -42,17 +42,18 @@ ends_on after (Ok t) end e = absurd (let no : Halts end ≡ Moves t = e in cc)
 ends_on after (Err other) end e = e
 
 -- a system call that goes on is the whole instruction once EIP is the next one's address
-pub call_goes : (i : Insn) (after : ℕ) (s mid : State) (left taken taken' : List ℕ) → i ≡ insn.Int 128
+pub call_goes : (i : Insn) (after : ℕ) (s mid : State) (left taken taken' : List ℕ) → i ≡ insn.Int 0x80
     → PartTold (call_moved s) s mid left taken taken' (Ok tt)
     → PartTold (insn_moved i after s) s (at_address after mid) left taken taken' (Ok tt)
 unfolding call_moved insn_moved PartTold
 call_goes i after s mid left taken taken' e h =
-    let moves : Moves (at_address after h.0) ≡ perform (insn.Int 128) after s = goes_on after (system_call s) h.0 h.1 in
+    let moves : Moves (at_address after h.0) ≡ perform (insn.Int 0x80) after s =
+        goes_on after (system_call s) h.0 h.1 in
     (at_address after h.0, moves ∙ ap (λ (j : Insn). perform j after s) (sym e), ap (at_address after) h.2, h.3, h.4)
 
 -- so is one that ends
 pub call_ends : (i : Insn) (after : ℕ) (s mid : State) (left taken taken' : List ℕ) (end : MachineEnd) → i
-    ≡ insn.Int 128 → PartTold (call_moved s) s mid left taken taken' (Err end)
+    ≡ insn.Int 0x80 → PartTold (call_moved s) s mid left taken taken' (Err end)
     → PartTold (insn_moved i after s) s mid left taken taken' (Err end)
 unfolding call_moved insn_moved PartTold
 call_ends i after s mid left taken taken' (Ended status) e h =
@@ -76,32 +77,32 @@ call_ends i after s mid left taken taken' NoMemory e h =
 -- ---- the other instructions
 
 -- an instruction that isn't `int 0x80` uses no streams
-uses_none : (i : Insn) → i ≢ insn.Int 128 → UsesNoStreams i
+uses_none : (i : Insn) → i ≢ insn.Int 0x80 → UsesNoStreams i
 uses_none (insn.Int n) other = λ e. other (ap (λ (m : ℕ). insn.Int m) e)
 uses_none _ other = tt
 
 -- it does the same to a machine that is lent an input
-lent_performs : (i : Insn) (after : ℕ) (old new : State) (left : List ℕ) → i ≢ insn.Int 128 → perform i after old
+lent_performs : (i : Insn) (after : ℕ) (old new : State) (left : List ℕ) → i ≢ insn.Int 0x80 → perform i after old
     ≡ Moves new → perform i after (lent old left) ≡ Moves (lent new left)
 lent_performs i after old new left other e =
     perform-streamed (λ l. left) (λ n. 0) (λ l. []) i after old (uses_none i other)
     ∙ ap (λ (m : Moved). elim m as (λ v. Moved) [ Moves t ↦ Moves (lent t left) | Halts end ↦ Halts end ]) e
 
-lent_halts : (i : Insn) (after : ℕ) (old : State) (left : List ℕ) (end : End) → i ≢ insn.Int 128 → perform i after old
+lent_halts : (i : Insn) (after : ℕ) (old : State) (left : List ℕ) (end : End) → i ≢ insn.Int 0x80 → perform i after old
     ≡ Halts end → perform i after (lent old left) ≡ Halts end
 lent_halts i after old left end other e = perform-streamed (λ l. left) (λ n. 0) (λ l. []) i after old
     (uses_none i other) ∙ ap (λ (m : Moved). elim m as (λ v. Moved)
     [ Moves t ↦ Moves (lent t left) | Halts end ↦ Halts end ]) e
 
 -- it leaves a machine without input and output
-stays_alone : (i : Insn) (after : ℕ) (old new : State) → old ≡ alone old → i ≢ insn.Int 128 → perform i after old
+stays_alone : (i : Insn) (after : ℕ) (old new : State) → old ≡ alone old → i ≢ insn.Int 0x80 → perform i after old
     ≡ Moves new → new ≡ alone new
 stays_alone i after old new bare other e =
     let there : perform i after (alone old) ≡ Moves (alone new) = lent_performs i after old new [] other e in
     let same : Moves new ≡ Moves (alone new) = sym e ∙ ap (λ (s : State). perform i after s) bare ∙ there in
     cc
 
-pub insn_goes : (i : Insn) (after : ℕ) (old new : State) (left taken : List ℕ) → old ≡ alone old → i ≢ insn.Int 128
+pub insn_goes : (i : Insn) (after : ℕ) (old new : State) (left taken : List ℕ) → old ≡ alone old → i ≢ insn.Int 0x80
     → perform i after old ≡ Moves new → PartTold (insn_moved i after (lent old left)) (lent old left) new left taken
     taken (Ok tt)
 unfolding insn_moved PartTold
@@ -110,7 +111,7 @@ insn_goes i after old new left taken bare other e =
     sym (append-nil taken))
 
 pub insn_ends : (i : Insn) (after : ℕ) (old : State) (left taken : List ℕ) (why : Halt) → old ≡ alone old
-    → i ≢ insn.Int 128 → perform i after old ≡ Halts (end_of why old)
+    → i ≢ insn.Int 0x80 → perform i after old ≡ Halts (end_of why old)
     → PartTold (insn_moved i after (lent old left)) (lent old left) old left taken taken (Err (end_at old.eip why))
 unfolding insn_moved PartTold
 insn_ends i after old left taken (halt.Trapped trap) bare other e =
@@ -127,51 +128,53 @@ halt_counts address faults counts (halt.Stopped cause) = (refl, refl)
 -- ---- the address of the next instruction
 
 -- two addresses that are the same once they are wrapped
-next_same : (x : Result State End) (y z : Result ℕ End) → and_then y (λ n. Ok (n % 4294967296))
-    ≡ and_then z (λ n. Ok (n % 4294967296)) → moved_of (and_then x (λ t. and_then y (λ n. Ok (at_address n t))))
+next_same : (x : Result State End) (y z : Result ℕ End) → and_then y (λ n. Ok (n % 0x1_0000_0000))
+    ≡ and_then z (λ n. Ok (n % 0x1_0000_0000)) → moved_of (and_then x (λ t. and_then y (λ n. Ok (at_address n t))))
     ≡ moved_of (and_then x (λ t. and_then z (λ n. Ok (at_address n t))))
 next_same (Err end) y z e = refl
 next_same (Ok t) (Ok m) (Ok n) e =
-    let same : m % 4294967296 ≡ n % 4294967296 = (let got : Ok (m % 4294967296) ≡ Ok (n % 4294967296) = e in cc) in
+    let same : m % 0x1_0000_0000 ≡ n % 0x1_0000_0000 =
+        (let got : Ok (m % 0x1_0000_0000) ≡ Ok (n % 0x1_0000_0000) = e in cc) in
     ap (λ (k : ℕ). Moves (record t { eip = k })) same
-next_same (Ok t) (Ok m) (Err end) e = absurd (let no : Ok (m % 4294967296) ≡ Err end = e in cc)
-next_same (Ok t) (Err end) (Ok n) e = absurd (let no : Err end ≡ Ok (n % 4294967296) = e in cc)
+next_same (Ok t) (Ok m) (Err end) e = absurd (let no : Ok (m % 0x1_0000_0000) ≡ Err end = e in cc)
+next_same (Ok t) (Err end) (Ok n) e = absurd (let no : Err end ≡ Ok (n % 0x1_0000_0000) = e in cc)
 next_same (Ok t) (Err a) (Err b) e = let same : a ≡ b = (let got : Err a ≡ Err b = e in cc) in ap Halts same
 
 -- a branch from a wrapped address
 branch_same : (a d : ℕ) (x : Result Bool End)
-    → and_then (and_then x (λ known. Ok (if known then a % 4294967296 + d else a % 4294967296)))
-    (λ n. Ok (n % 4294967296)) ≡ and_then (and_then x (λ known. Ok (if known then a + d else a)))
-    (λ n. Ok (n % 4294967296))
-branch_same a d (Ok true) = let e : (a % 4294967296 + d) % 4294967296 ≡ (a + d) % 4294967296 = omega arith in
+    → and_then (and_then x (λ known. Ok (if known then a % 0x1_0000_0000 + d else a % 0x1_0000_0000)))
+    (λ n. Ok (n % 0x1_0000_0000)) ≡ and_then (and_then x (λ known. Ok (if known then a + d else a)))
+    (λ n. Ok (n % 0x1_0000_0000))
+branch_same a d (Ok true) = let e : (a % 0x1_0000_0000 + d) % 0x1_0000_0000 ≡ (a + d) % 0x1_0000_0000 = omega arith in
     ap (λ (n : ℕ). Ok n) e
-branch_same a d (Ok false) = let e : a % 4294967296 % 4294967296 ≡ a % 4294967296 = omega arith in
+branch_same a d (Ok false) = let e : a % 0x1_0000_0000 % 0x1_0000_0000 ≡ a % 0x1_0000_0000 = omega arith in
     ap (λ (n : ℕ). Ok n) e
 branch_same a d (Err end) = refl
 
-target_same : (i : Insn) (a : ℕ) (s : State) → and_then (target i (a % 4294967296) s) (λ n. Ok (n % 4294967296))
-    ≡ and_then (target i a s) (λ n. Ok (n % 4294967296))
+target_same : (i : Insn) (a : ℕ) (s : State) → and_then (target i (a % 0x1_0000_0000) s) (λ n. Ok (n % 0x1_0000_0000))
+    ≡ and_then (target i a s) (λ n. Ok (n % 0x1_0000_0000))
 target_same (insn.Call distance) a s =
     let d : ℕ = cast_unsigned w32 distance in
-    let e : (a % 4294967296 + d) % 4294967296 ≡ (a + d) % 4294967296 = omega arith in ap (λ (n : ℕ). Ok n) e
+    let e : (a % 0x1_0000_0000 + d) % 0x1_0000_0000 ≡ (a + d) % 0x1_0000_0000 = omega arith in ap (λ (n : ℕ). Ok n) e
 target_same insn.Ret a s = refl
 target_same (insn.Jmp distance) a s =
     let d : ℕ = cast_unsigned w32 distance in
-    let e : (a % 4294967296 + d) % 4294967296 ≡ (a + d) % 4294967296 = omega arith in ap (λ (n : ℕ). Ok n) e
+    let e : (a % 0x1_0000_0000 + d) % 0x1_0000_0000 ≡ (a + d) % 0x1_0000_0000 = omega arith in ap (λ (n : ℕ). Ok n) e
 target_same (insn.Jcc c distance) a s = branch_same a (cast_unsigned w32 distance) (decided c s)
-target_same _ a s = let e : a % 4294967296 % 4294967296 ≡ a % 4294967296 = omega arith in ap (λ (n : ℕ). Ok n) e
+target_same _ a s = let e : a % 0x1_0000_0000 % 0x1_0000_0000 ≡ a % 0x1_0000_0000 = omega arith in
+    ap (λ (n : ℕ). Ok n) e
 
-effect_same : (i : Insn) (a : ℕ) (s : State) → effect i (a % 4294967296) s ≡ effect i a s
-effect_same (insn.Call distance) a s = let e : a % 4294967296 % 4294967296 ≡ a % 4294967296 = omega arith in
+effect_same : (i : Insn) (a : ℕ) (s : State) → effect i (a % 0x1_0000_0000) s ≡ effect i a s
+effect_same (insn.Call distance) a s = let e : a % 0x1_0000_0000 % 0x1_0000_0000 ≡ a % 0x1_0000_0000 = omega arith in
     ap (λ (n : ℕ). push n s) e
 effect_same _ a s = refl
 
 -- the address of the next instruction wraps
-perform_wrapped : (i : Insn) (a : ℕ) (s : State) → perform i (a % 4294967296) s ≡ perform i a s
+perform_wrapped : (i : Insn) (a : ℕ) (s : State) → perform i (a % 0x1_0000_0000) s ≡ perform i a s
 perform_wrapped i a s =
     ap (λ (r : Result State End). moved_of (and_then r
-        (λ t. and_then (target i (a % 4294967296) s) (λ n. Ok (at_address n t))))) (effect_same i a s)
-    ∙ next_same (effect i a s) (target i (a % 4294967296) s) (target i a s) (target_same i a s)
+        (λ t. and_then (target i (a % 0x1_0000_0000) s) (λ n. Ok (at_address n t))))) (effect_same i a s)
+    ∙ next_same (effect i a s) (target i (a % 0x1_0000_0000) s) (target i a s) (target_same i a s)
 
 -- ---- a step
 
@@ -212,7 +215,7 @@ unfetched-steps s left _ h = elim h [ ]
 
 -- a step whose instruction was fetched
 pub fetched : (s machine : State) (left left' taken taken' : List ℕ) (i : Insn) (n after : ℕ)
-    (result : Result Unit MachineEnd) → FetchTold s (Ok (i, n)) → after ≡ (s.eip + n) % 4294967296
+    (result : Result Unit MachineEnd) → FetchTold s (Ok (i, n)) → after ≡ (s.eip + n) % 0x1_0000_0000
     → PartTold (insn_moved i after (lent s left)) (lent s left) machine left' taken taken' result
     → AdvanceTold (lent s left) machine left' taken taken' result
 unfolding insn_moved PartTold AdvanceTold StepTold

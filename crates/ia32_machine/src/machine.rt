@@ -33,7 +33,7 @@ impl Model for Machine {
 
 /// The instruction is `int 0x80`.
 fn is_system_call(insn: Insn) -> bool
-    ensures { IsTrue result ↔ insn ≡ Insn.Int 128 }
+    ensures { IsTrue result ↔ insn ≡ Insn.Int 0x80 }
 {
     matches!(insn, Insn::Int(0x80))
 }

@@ -21,7 +21,7 @@ impl Processor {
     /// What an instruction does to all but EIP, where the next one in memory is at the address `after`. An
     /// interrupt stops: `int 0x80` is the machine's.
     fn effect(&mut self, insn: Insn, after: u32) -> Result<(), Halt>
-        requires { insn ≢ Insn.Int 128 }
+        requires { insn ≢ Insn.Int 0x80 }
         ensures { Leaves (effect_of insn after self.old) self.old self.new result }
     {
         match insn {
@@ -137,7 +137,7 @@ impl Processor {
     /// Performs an instruction, where the next one in memory is at the address `after`. An instruction that
     /// traps or stops changes nothing. `int 0x80` is the machine's, and every other interrupt stops.
     pub fn perform(&mut self, insn: Insn, after: u32) -> Result<(), Halt>
-        requires { insn ≢ Insn.Int 128 }
+        requires { insn ≢ Insn.Int 0x80 }
         ensures { Performs (performed insn after self.old) self.old self.new result }
     {
         let next = self.target(insn, after)?;

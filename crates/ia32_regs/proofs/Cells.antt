@@ -57,43 +57,43 @@ get_or-shifted k s p ws bs h (inr e) at same =
 
 -- what `set8` writes: the word with its lowest byte, or its second, masked out and v in its place
 abbrev pub merged : ℕ → ℕ → ℕ → ℕ
-merged w s v = bit_or (bit_and w (4294967295 - 255 * 2 ^ s % 4294967296)) (v * 2 ^ s % 4294967296)
+merged w s v = bit_or (bit_and w (0xffffffff - 255 * 2 ^ s % 0x1_0000_0000)) (v * 2 ^ s % 0x1_0000_0000)
 
 -- the lowest byte
 merged-low : (w v : ℕ) → w < 2 ^ 32 → v < 256 → merged w 0 v ≡ w / 256 * 256 + v
 merged-low w v h b =
-    let kept : bit_and w (4294967295 - 255 * 2 ^ 0 % 4294967296) ≡ w / 256 * 256 =
+    let kept : bit_and w (0xffffffff - 255 * 2 ^ 0 % 0x1_0000_0000) ≡ w / 256 * 256 =
     and_high_mask 32 8 (omega arith) w h in
-    let moved : v * 2 ^ 0 % 4294967296 ≡ v = omega arith in
-    ap (λ (x : ℕ). bit_or x (v * 2 ^ 0 % 4294967296)) kept
+    let moved : v * 2 ^ 0 % 0x1_0000_0000 ≡ v = omega arith in
+    ap (λ (x : ℕ). bit_or x (v * 2 ^ 0 % 0x1_0000_0000)) kept
     ∙ ap (λ (x : ℕ). bit_or (w / 256 * 256) x) moved
     ∙ or_shifted (w / 256) 8 v b
 
 -- the second byte
-merged-second : (w v : ℕ) → w < 2 ^ 32 → v < 256 → merged w 8 v ≡ w / 65536 * 65536 + (v * 256 + w % 256)
+merged-second : (w v : ℕ) → w < 2 ^ 32 → v < 256 → merged w 8 v ≡ w / 0x10000 * 0x10000 + (v * 256 + w % 256)
 merged-second w v h b =
-    let split : w ≡ w / 65536 * 65536 + w % 65536 = omega arith in
-    let high : bit_and (w / 65536) 65535 ≡ w / 65536 = and_mask (w / 65536) 16 ∙ omega arith in
-    let low : bit_and (w % 65536) 255 ≡ w % 256 = and_mask (w % 65536) 8 ∙ omega arith in
-    let block : bit_and (w / 65536 * 65536 + w % 65536) 4294902015
-    ≡ bit_and (w / 65536) 65535 * 65536 + bit_and (w % 65536) 255 =
-    and_block 16 (w / 65536) 65535 (w % 65536) 255 (omega arith) (omega arith) in
-    let kept : bit_and w 4294902015 ≡ w / 65536 * 65536 + w % 256 =
-    ap (λ (x : ℕ). bit_and x 4294902015) split ∙ block ∙ ap (λ (x : ℕ). x * 65536 + bit_and (w % 65536) 255) high
-    ∙ ap (λ (x : ℕ). w / 65536 * 65536 + x) low in
-    let moved : v * 2 ^ 8 % 4294967296 ≡ v * 256 = omega arith in
+    let split : w ≡ w / 0x10000 * 0x10000 + w % 0x10000 = omega arith in
+    let high : bit_and (w / 0x10000) 0xffff ≡ w / 0x10000 = and_mask (w / 0x10000) 16 ∙ omega arith in
+    let low : bit_and (w % 0x10000) 255 ≡ w % 256 = and_mask (w % 0x10000) 8 ∙ omega arith in
+    let block : bit_and (w / 0x10000 * 0x10000 + w % 0x10000) 0xffff00ff
+    ≡ bit_and (w / 0x10000) 0xffff * 0x10000 + bit_and (w % 0x10000) 255 =
+    and_block 16 (w / 0x10000) 0xffff (w % 0x10000) 255 (omega arith) (omega arith) in
+    let kept : bit_and w 0xffff00ff ≡ w / 0x10000 * 0x10000 + w % 256 =
+    ap (λ (x : ℕ). bit_and x 0xffff00ff) split ∙ block ∙ ap (λ (x : ℕ). x * 0x10000 + bit_and (w % 0x10000) 255) high
+    ∙ ap (λ (x : ℕ). w / 0x10000 * 0x10000 + x) low in
+    let moved : v * 2 ^ 8 % 0x1_0000_0000 ≡ v * 256 = omega arith in
     let lower : bit_or (w % 256) (v * 256) ≡ v * 256 + w % 256 =
     or_comm (w % 256) (v * 256) ∙ or_shifted v 8 (w % 256) (omega arith) in
-    let none : bit_or (w / 65536) 0 ≡ w / 65536 = or_zero_r (w / 65536) in
-    let joined : bit_or (w / 65536 * 65536 + w % 256) (0 * 65536 + v * 256)
-    ≡ bit_or (w / 65536) 0 * 65536 + bit_or (w % 256) (v * 256) =
-    or_block 16 (w / 65536) 0 (w % 256) (v * 256) (omega arith) (omega arith) in
-    let plain : 0 * 65536 + v * 256 ≡ v * 256 = omega arith in
-    ap (λ (x : ℕ). bit_or x (v * 2 ^ 8 % 4294967296)) kept
-    ∙ ap (λ (x : ℕ). bit_or (w / 65536 * 65536 + w % 256) x) (moved ∙ sym plain)
+    let none : bit_or (w / 0x10000) 0 ≡ w / 0x10000 = or_zero_r (w / 0x10000) in
+    let joined : bit_or (w / 0x10000 * 0x10000 + w % 256) (0 * 0x10000 + v * 256)
+    ≡ bit_or (w / 0x10000) 0 * 0x10000 + bit_or (w % 256) (v * 256) =
+    or_block 16 (w / 0x10000) 0 (w % 256) (v * 256) (omega arith) (omega arith) in
+    let plain : 0 * 0x10000 + v * 256 ≡ v * 256 = omega arith in
+    ap (λ (x : ℕ). bit_or x (v * 2 ^ 8 % 0x1_0000_0000)) kept
+    ∙ ap (λ (x : ℕ). bit_or (w / 0x10000 * 0x10000 + w % 256) x) (moved ∙ sym plain)
     ∙ joined
-    ∙ ap (λ (x : ℕ). x * 65536 + bit_or (w % 256) (v * 256)) none
-    ∙ ap (λ (x : ℕ). w / 65536 * 65536 + x) lower
+    ∙ ap (λ (x : ℕ). x * 0x10000 + bit_or (w % 256) (v * 256)) none
+    ∙ ap (λ (x : ℕ). w / 0x10000 * 0x10000 + x) lower
 
 -- lists of four that have the same items
 same_four : (a b c d x y z t : ℕ) → a ≡ x → b ≡ y → c ≡ z → d ≡ t → a ∷ b ∷ c ∷ d ∷ [] ≡ x ∷ y ∷ z ∷ t ∷ []
@@ -104,7 +104,7 @@ bytes-low : (w v : ℕ) → v < 256 → little_bytes 4 (w / 256 * 256 + v) ≡ s
 bytes-low w v b = same_four _ _ _ _ _ _ _ _ (omega arith) (omega arith) (omega arith) (omega arith)
 
 -- the bytes of a word with another second byte
-bytes-second : (w v : ℕ) → v < 256 → little_bytes 4 (w / 65536 * 65536 + (v * 256 + w % 256))
+bytes-second : (w v : ℕ) → v < 256 → little_bytes 4 (w / 0x10000 * 0x10000 + (v * 256 + w % 256))
     ≡ set (little_bytes 4 w) 1 v
 bytes-second w v b = same_four _ _ _ _ _ _ _ _ (omega arith) (omega arith) (omega arith) (omega arith)
 

@@ -16,7 +16,7 @@ use Rattle.image_start.specs.Begins.{SegmentsAreMemory, TextBegins, parts_of_tex
 round_up-words : (n : ℕ) → next_multiple_of n 4 ≡ round_up 4 n
 round_up-words n = omega arith
 
-round_up-pages : (n : ℕ) → next_multiple_of n 4096 ≡ round_up 4096 n
+round_up-pages : (n : ℕ) → next_multiple_of n 0x1000 ≡ round_up 0x1000 n
 round_up-pages n = omega arith
 
 -- no zeros follow what is whole
@@ -50,17 +50,17 @@ data_loaded text bytes address size address' size' a s =
 -- the segments of an image are the areas of its text
 pub areas_are : SegmentsAreMemory
 areas_are text objects input =
-    let address : text_start + next_multiple_of (length text) 4096 ≡ data_start text =
+    let address : text_start + next_multiple_of (length text) 0x1000 ≡ data_start text =
         ap (λ (n : ℕ). text_start + n) (round_up-pages (length text)) in
-    let size : next_multiple_of (length (data_bytes objects)) 4 + 67112960 ≡ data_memory objects =
-        ap (λ (n : ℕ). n + 67112960) (round_up-words (length (data_bytes objects))) in
+    let size : next_multiple_of (length (data_bytes objects)) 4 + 0x04001000 ≡ data_memory objects =
+        ap (λ (n : ℕ). n + 0x04001000) (round_up-words (length (data_bytes objects))) in
     ap (λ (area : Area). area ∷ area_of (record
-        { address = text_start + next_multiple_of (length text) 4096; bytes = data_bytes objects; size =
-        next_multiple_of (length (data_bytes objects)) 4 + 67112960; readable = true; writable = true; runnable =
+        { address = text_start + next_multiple_of (length text) 0x1000; bytes = data_bytes objects; size =
+        next_multiple_of (length (data_bytes objects)) 4 + 0x04001000; readable = true; writable = true; runnable =
         false }) ∷ []) (text_loaded text)
     ∙ ap (λ (area : Area). text_area text ∷ area ∷ [])
-    (data_loaded text (data_bytes objects) (text_start + next_multiple_of (length text) 4096)
-        (next_multiple_of (length (data_bytes objects)) 4 + 67112960) (data_start text) (data_memory objects) address
+    (data_loaded text (data_bytes objects) (text_start + next_multiple_of (length text) 0x1000)
+        (next_multiple_of (length (data_bytes objects)) 4 + 0x04001000) (data_start text) (data_memory objects) address
         size)
 
 -- the bytes of the image of a text have the text's state as their first

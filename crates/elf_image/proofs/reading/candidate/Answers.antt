@@ -35,17 +35,17 @@ pub returns-clause-parts : goal.returns-clause-parts
 returns-clause-parts c =
     let bytes = c.args.bytes.now in
     let n = c.read_u32-text_len.result in
-    let start = 4096 + c.next_multiple_of-data_start.result in
+    let start = 0x1000 + c.next_multiple_of-data_start.result in
     let entry = field-reads 24 c.read_u32-entry.result bytes (omega arith) (omega arith) c.read_u32-entry.ensures in
     let field = field-reads 68 n bytes (omega arith) (omega arith) c.read_u32-text_len.ensures in
-    let count : 4096 + n - 4096 ≡ n = omega arith in
-    let begins : start ≡ 4096 + next_multiple_of (text_length bytes) 4096 =
-    ap (λ (k : ℕ). 4096 + k) c.next_multiple_of-data_start.ensures.value
-    ∙ ap (λ (k : ℕ). 4096 + next_multiple_of k 4096) field in
+    let count : 0x1000 + n - 0x1000 ≡ n = omega arith in
+    let begins : start ≡ 0x1000 + next_multiple_of (text_length bytes) 0x1000 =
+    ap (λ (k : ℕ). 0x1000 + k) c.next_multiple_of-data_start.ensures.value
+    ∙ ap (λ (k : ℕ). 0x1000 + next_multiple_of k 0x1000) field in
     parts-equal
     entry
     (c.in_ok-text.ensures.items_if_clones_equal (λ _ _ same. same)
-        ∙ ap (λ (k : ℕ). take k (drop 4096 bytes)) (count ∙ field))
+        ∙ ap (λ (k : ℕ). take k (drop 0x1000 bytes)) (count ∙ field))
     (c.in_ok-data_bytes.ensures.items_if_clones_equal (λ _ _ same. same) ∙ take-rest start bytes
         ∙ ap (λ (k : ℕ). drop k bytes) begins)
 
@@ -62,16 +62,16 @@ returns-clause-fits c =
     let Below : ℕ → Type 0 = λ b. b < 256 in
     let all : AreBytes bytes = below-256 bytes c.type_inv.bytes in
     let parts = returns-clause-parts c in
-    let start = 4096 + c.next_multiple_of-data_start.result in
+    let start = 0x1000 + c.next_multiple_of-data_start.result in
     let text-length = ap length (c.in_ok-text.ensures.items_if_clones_equal (λ _ _ same. same))
-        ∙ length-take (4096 + c.read_u32-text_len.result - 4096) (drop 4096 bytes) in
+        ∙ length-take (0x1000 + c.read_u32-text_len.result - 0x1000) (drop 0x1000 bytes) in
     let data-length = ap length (c.in_ok-data_bytes.ensures.items_if_clones_equal (λ _ _ same. same)
         ∙ take-rest start bytes) ∙ length-drop start bytes in
     record {
       entry = search rules;
       text = subst Holds (sym (ap (λ (p : Parts). p.text) parts))
-          (All-take Below (text_length bytes) (drop 4096 bytes) (All-drop Below 4096 bytes all));
+          (All-take Below (text_length bytes) (drop 0x1000 bytes) (All-drop Below 0x1000 bytes all));
       data_bytes = subst Holds (sym (ap (λ (p : Parts). p.data_bytes) parts))
-          (All-drop Below (4096 + next_multiple_of (text_length bytes) 4096) bytes all);
+          (All-drop Below (0x1000 + next_multiple_of (text_length bytes) 0x1000) bytes all);
       size = omega (arith, text-length, data-length);
     }

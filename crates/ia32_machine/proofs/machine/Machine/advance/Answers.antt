@@ -13,9 +13,9 @@ pub returns-in-Ok-clause-told : goal.returns-in-Ok-clause-told
 returns-in-Ok-clause-told g c = λ i o.
     let s : State = c.args.self.now in
     let left : List ℕ = g.I.Source.left c.args.input.now in
-    let after : ℕ = (c.eip-address.result + c.in-Ok.length) % 4294967296 in
-    let same : after ≡ (s.eip + c.in-Ok.length) % 4294967296 =
-        ap (λ (n : ℕ). (n + c.in-Ok.length) % 4294967296) c.eip-address.ensures.value in
+    let after : ℕ = (c.eip-address.result + c.in-Ok.length) % 0x1_0000_0000 in
+    let same : after ≡ (s.eip + c.in-Ok.length) % 0x1_0000_0000 =
+        ap (λ (n : ℕ). (n + c.in-Ok.length) % 0x1_0000_0000) c.eip-address.ensures.value in
     fetched s c.perform.new.self left (g.I.Source.left c.perform.new.input) (g.O.Sink.taken c.args.out.now)
         (g.O.Sink.taken c.perform.new.out) c.in-Ok.insn c.in-Ok.length after c.perform.result
     c.in-Ok.ensures.told same (c.perform.ensures.told i o)

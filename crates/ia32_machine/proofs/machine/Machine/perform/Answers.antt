@@ -78,13 +78,13 @@ perform-requires g c = λ e. let no : false ≡ true = c.if-is_system_call.ensur
 
 -- an instruction that was performed, by the processor's answer
 told-ok : (i : Insn) (after : ℕ) (inside old new : State) (left taken : List ℕ) (result : Result Unit MachineEnd)
-    → inside ≡ old → old ≡ alone old → i ≢ insn.Int 128 → perform i after inside ≡ Moves new → result ≡ Ok tt
+    → inside ≡ old → old ≡ alone old → i ≢ insn.Int 0x80 → perform i after inside ≡ Moves new → result ≡ Ok tt
     → PartTold (insn_moved i after (lent old left)) (lent old left) new left taken taken result
 told-ok i after inside old new left taken result same bare other e is =
     rw is (insn_goes i after old new left taken bare other (ap (λ (s : State). perform i after s) (sym same) ∙ e))
 
 told-err : (i : Insn) (after : ℕ) (inside old new : State) (left taken : List ℕ) (why : Halt) (address : ℕ)
-    (result : Result Unit MachineEnd) → inside ≡ old → old ≡ alone old → i ≢ insn.Int 128 → perform i after inside
+    (result : Result Unit MachineEnd) → inside ≡ old → old ≡ alone old → i ≢ insn.Int 0x80 → perform i after inside
     ≡ Halts (end_of why inside) → new ≡ inside → address ≡ inside.eip → result ≡ Err (end_at address why)
     → PartTold (insn_moved i after (lent old left)) (lent old left) new left taken taken result
 told-err i after inside old new left taken why address result same bare other e kept at is =
@@ -97,7 +97,7 @@ pub returns-clause-told : goal.returns-clause-told
 returns-clause-told g c = λ _ _.
     let left : List ℕ = g.I.Source.left c.args.input.now in
     let taken : List ℕ = g.O.Sink.taken c.args.out.now in
-    let other : c.args.insn ≢ insn.Int 128 = λ e. let no : false ≡ true = c.if-is_system_call.ensures.1 e in cc in
+    let other : c.args.insn ≢ insn.Int 0x80 = λ e. let no : false ≡ true = c.if-is_system_call.ensures.1 e in cc in
     elim c.match-perform.branch [
       | in-Ok w ↦ told-ok c.args.insn c.args.after c.self.inside.processor c.args.self.now c.perform.new.self left taken
           c.match-perform.result c.self.view_is c.requires other w.in-Ok.ensures w.result-is
