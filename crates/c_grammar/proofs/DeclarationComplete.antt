@@ -1,4 +1,4 @@
--- AllByRecursion declaration is read, and each of its parts, whatever follows that does not go on with it.
+-- Every declaration is read, and each of its parts, whatever follows that does not go on with it.
 use Rattle.std.specs.List.{AllByRecursion}
 use Rattle.std.proofs.Common.{◌≡◌, ℕ, suc, ◌≤◌, ◌<◌, false, List, [], ◌∷◌, ◌++◌, length, length-append, Option, Some}
 use Rattle.std.proofs.Common.{None, refl, ap, sym, ◌∙◌, subst, arith, append_assoc}

@@ -1,4 +1,4 @@
--- AllByRecursion statement and every unit is read.
+-- Every statement and every unit is read.
 use Rattle.std.specs.List.{AllByRecursion}
 use Rattle.std.proofs.Common.{◌≡◌, ℕ, zero, suc, ◌+◌, ◌≤◌, ◌<◌, Bool, true, false, List, [], ◌∷◌, ◌++◌, length}
 use Rattle.std.proofs.Common.{length-append, Option, Some, None, refl, ap, sym, ◌∙◌, subst, arith, append_assoc}

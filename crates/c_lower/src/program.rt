@@ -51,7 +51,7 @@ fn lower_program(alloc: Global, program: &Program) -> Result<Graphs, NoMemory>
     })
 }
 
-/// The graphs of a program of the form that is lowered so far (`specs/SlotForm.antt` of `c_tree`). The only
+/// The graphs of a slot program (`specs/SlotForm.antt` of `c_tree`). The only
 /// refusal is want of memory. Nothing is folded or forwarded: each evaluated reading of a local is an op that
 /// uses its variable.
 pub fn lower(alloc: Global, program: &Program) -> Result<Graphs, NoMemory>
@@ -60,7 +60,7 @@ pub fn lower(alloc: Global, program: &Program) -> Result<Graphs, NoMemory>
     // For every input and number of turns the graphs do what the program does.
     ensures outcome { IfOk result (λ graphs. KeepsOutcome (program_of program.now) (graphs_of graphs)) }
 
-    // AllByRecursion state that comes has its next one or an end.
+    // Every state that comes has its next one or an end.
     ensures never_stuck { IfOk result (λ graphs. IsNeverStuck (graphs_of graphs)) }
 
     // Each graph is one, and each of its blocks is ended; ops name functions and objects of the graphs alone; each

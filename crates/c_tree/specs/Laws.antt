@@ -3,6 +3,6 @@ use Rattle.c_tree.specs.Program.{Program}
 use Rattle.c_tree.specs.SlotForm.{IsSlotProgram}
 use Rattle.c_tree.specs.WellTyped.{WellTyped}
 
--- the programs that are compiled so far are well typed
+-- slot programs are well typed
 abbrev pub SlotProgramsAreTyped : Type 0
 SlotProgramsAreTyped = (program : Program) → IsSlotProgram program → WellTyped program

@@ -54,7 +54,7 @@ pub fn worked_example()
     ensures parameters { function_size (takes_and_ignores 90) ≡ 91 }
 {}
 
-/// The programs that are compiled so far (`specs/SlotForm.antt`) are well typed (`specs/WellTyped.antt`).
+/// Slot programs (`specs/SlotForm.antt`) are well typed (`specs/WellTyped.antt`).
 pub fn slot_programs_are_typed()
     ensures { SlotProgramsAreTyped }
 {}

@@ -23,7 +23,7 @@ pub fn product(a: u32, b: u32) -> u32
     a.wrapping_mul(b)
 }
 
-/// AllByRecursion bit turned over (NOT).
+/// Every bit turned over (NOT).
 pub fn complement(a: u32) -> u32
     ensures { result ≡ arithmetic.complement a }
 {

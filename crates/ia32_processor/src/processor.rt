@@ -33,7 +33,7 @@ impl Model for Processor {
 }
 
 impl Processor {
-    /// AllByRecursion register is 0, the flags are unknown, and the next instruction is at the entry.
+    /// Every register is 0, the flags are unknown, and the next instruction is at the entry.
     pub fn new(entry: u32, memory: Memory) -> Processor
         ensures { result ≡ record { registers = zero_registers; flags = None; eip = entry; memory = memory; left = [];
             taken = 0; written = [] } }

@@ -30,7 +30,7 @@ impl Model for RegFile {
 }
 
 impl RegFile {
-    /// AllByRecursion register is 0.
+    /// Every register is 0.
     pub fn new() -> RegFile
         ensures { result ≡ zero_registers }
     {
