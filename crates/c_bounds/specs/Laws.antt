@@ -76,7 +76,7 @@ pub record TreesExtend (bound more : ℕ) (calls others : Calls) : Type 0 where
       → Extending bound more (returned result calls value) (returned result others value)
   pub statements : (loops other : ℕ) (listing : Listing) (types : Types) (result : ValueType) (x : Statement)
       → bound ≤ loops → bound + more ≤ other → Extending bound more
-          (execute (within calls loops listing types result) x)
+      (execute (within calls loops listing types result) x)
       (execute (within others other listing types result) x)
   pub bodies : (loops other : ℕ) (listing : Listing) (types : Types) (result : ValueType) (xs : Statements) (place : ℕ)
       → bound ≤ loops → bound + more ≤ other

@@ -380,8 +380,13 @@ enter f arguments body s =
 abbrev pub run_function : Calls → ℕ → Listing → Option Function → List Held → State → Evaluated Held
 run_function calls bound listing None arguments s = Gives (HoldsNumber (pos 0)) s
 run_function calls bound listing (Some f) arguments s =
-    let within : Setting = record { calls = calls; bound = bound; listing = listing; types = type_at f;
-        result = f.result } in
+    let within : Setting = record {
+      calls = calls;
+      bound = bound;
+      listing = listing;
+      types = type_at f;
+      result = f.result;
+    } in
     enter f arguments (execute_from within f.body 0) s
 
 -- Calls within calls go over a bound above the turns: what still goes has then no turn left, and every such bound makes

@@ -110,10 +110,10 @@ frame-of program s k depth (one, old, f, at, has) =
           }
       | inr n ↦
           let place : waiting_place s depth ≡ length s.waiting - depth =
-              place-of s depth (omega (arith, few, n, old)) in
+          place-of s depth (omega (arith, few, n, old)) in
           let there : length (functions_of (active_of s)) - depth ≡ suc (waiting_place s depth) =
-              (let plain : length (functions_of (active_of s)) - depth ≡ suc (length s.waiting - depth) =
-                  omega (arith, few, n, old, one) in plain) ∙ ap suc (sym place) in
+          (let plain : length (functions_of (active_of s)) - depth ≡ suc (length s.waiting - depth) =
+          omega (arith, few, n, old, one) in plain) ∙ ap suc (sym place) in
           let (w, is_w, same) =
           waiting-at s.waiting (waiting_place s depth) f
           (at-place (functions_of (active_of s)) f (length (functions_of (active_of s)) - depth)

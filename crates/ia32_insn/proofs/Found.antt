@@ -234,7 +234,7 @@ extended_found opcode rest =
     (λ e. with8_found (0x0f ∷ opcode ∷ []) 2 (extended8_insn opcode) rest refl (omega arith) (extended8_spells opcode))
     (λ e. cond_both (opcode == 0xaf || opcode == 0xb7 || opcode == 0xbf) _ _ Holds
     (λ e. with32_found (0x0f ∷ opcode ∷ []) 2 (extended32_insn opcode) rest refl (omega arith)
-        (extended32_spells opcode))
+    (extended32_spells opcode))
     (λ e. tt))))
 
 two_byte_found : (rest : List ℕ) → IfSome (read_two_byte rest) (Found (0x0f ∷ rest))

@@ -77,7 +77,7 @@ address-streamed p q w m s =
     ap (λ (n : ℕ). (n + index_value m.index (streamed p q w s) + cast_unsigned w32 m.disp) % 0x1_0000_0000)
     (base-streamed p q w m.base s)
     ∙ ap (λ (n : ℕ). (base_value m.base s + n + cast_unsigned w32 m.disp) % 0x1_0000_0000)
-        (index-streamed p q w m.index s)
+    (index-streamed p q w m.index s)
 
 read32-streamed : (p : List ℕ → List ℕ) (q : ℕ → ℕ) (w : List ℕ → List ℕ) (operand : Rm32) (s : State)
     → read32 operand (streamed p q w s) ≡ read32 operand s

@@ -55,7 +55,7 @@ IsObject symbols k address = ((k ≡ 0xffffffff) × (address ≡ symbols.depth))
 abbrev pub LeadsTo : (ℤ → Insn) → ℕ → ℕ → List ℕ → Type 0
 LeadsTo instruction address target bytes =
     (distance : ℤ) × Spells (instruction distance) bytes
-        × ((address + length bytes + cast_unsigned w32 distance) % 2 ^ 32 ≡ target)
+    × ((address + length bytes + cast_unsigned w32 distance) % 2 ^ 32 ≡ target)
 
 -- a jump, always or where a condition holds
 abbrev pub jump_if : Option Cond → ℤ → Insn
@@ -75,14 +75,14 @@ ItemAt symbols places address (item.CallStub s) bytes = LeadsTo insn.Call addres
 ItemAt symbols places address (item.JumpTrap c) bytes = LeadsTo (jump_if c) address symbols.check bytes
 ItemAt symbols places address (item.AddressOf r k) bytes =
     (target : ℕ) × (z : ℤ) × IsObject symbols k target × (cast_unsigned w32 z ≡ target)
-        × Spells (insn.MovImm (rm.Reg r) z) bytes
+    × Spells (insn.MovImm (rm.Reg r) z) bytes
 
 -- the items stand one after the other from the address on, and have these bytes
 abbrev pub ItemsAt : Symbols → Places → ℕ → List Item → List ℕ → Type 0
 ItemsAt symbols places address [] bytes = bytes ≡ []
 ItemsAt symbols places address (i ∷ items) bytes =
     (first : List ℕ) × (rest : List ℕ) × (bytes ≡ first ++ rest) × ItemAt symbols places address i first
-        × ItemsAt symbols places (address + length first) items rest
+    × ItemsAt symbols places (address + length first) items rest
 
 -- the numbers below n in some order: each stands at one place
 pub record IsOrder (n : ℕ) (order : List ℕ) : Type 0 where
@@ -196,7 +196,7 @@ elements_size object = round_up 4 (object.width * length object.elements)
 abbrev pub object_bytes : Object → List ℕ
 object_bytes object =
     little_bytes 4 (length object.elements) ++ element_bytes object
-        ++ zeros (elements_size object - object.width * length object.elements)
+    ++ zeros (elements_size object - object.width * length object.elements)
 
 -- the depth word, and then the static objects
 abbrev pub data_bytes : List Object → List ℕ
@@ -264,5 +264,13 @@ data_area text objects =
 -- or written
 abbrev pub text_state : List ℕ → List Object → List ℕ → State
 text_state text objects input =
-    record { registers = zero_registers; flags = None; eip = text_start; memory =
-        text_area text ∷ data_area text objects ∷ []; left = input; taken = 0; written = [] }
+    record {
+      registers = zero_registers;
+      flags = None;
+      eip = text_start;
+      memory =
+          text_area text ∷ data_area text objects ∷ [];
+      left = input;
+      taken = 0;
+      written = [];
+    }

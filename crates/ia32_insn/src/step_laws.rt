@@ -55,14 +55,14 @@ pub fn worked_steps()
     ensures divides_by_zero { perform (IDiv (Reg Ebx)) 2 (bare (with_register Eax 7 zero_registers))
         ≡ Halts (Trapped Divide) }
     ensures quotient_too_large { perform (IDiv (Reg Ebx)) 2
-        (bare (with_register Eax 2147483648 (with_register Edx 4294967295 (with_register Ebx 4294967295 zero_registers))))
+        (bare (with_register Eax 0x80000000 (with_register Edx 0xffffffff (with_register Ebx 0xffffffff zero_registers))))
         ≡ Halts (Trapped Divide) }
     ensures unknown_flags { perform (SetCc E (Reg8 Al)) 3 (bare zero_registers) ≡ Halts (Stopped UnknownFlags 0) }
     ensures sete_al { Spells (SetCc E (Reg8 Al)) (15 ∷ 148 ∷ 192 ∷ []) }
     ensures shift { perform (ShiftCl Shl (Reg Eax)) 2 (bare (with_register Eax 1 (with_register Ecx 33 zero_registers)))
         ≡ Moves (at_address 2 (bare (with_register Eax 2 (with_register Ecx 33 zero_registers)))) }
-    ensures overflow { perform (AluImm Add (Reg Eax) (pos 1)) 3 (bare (with_register Eax 2147483647 zero_registers))
-        ≡ Moves (at_address 3 (record (bare (with_register Eax 2147483648 zero_registers))
-            { flags = Some (record { cf = false; zf = false; sf = true; of = true }) })) }
-    ensures add_minus_one { Spells (AluImm Add (Reg Eax) (negsuc 0)) (131 ∷ 192 ∷ 255 ∷ []) }
+    ensures overflow { perform (AluImm Add (Reg Eax) (pos 1)) 3 (bare (with_register Eax 0x7fffffff zero_registers))
+        ≡ Moves (at_address 3 (record (bare (with_register Eax 0x80000000 zero_registers))
+        { flags = Some (record { cf = false; zf = false; sf = true; of = true }) })) }
+    ensures add_minus_one { Spells (AluImm Add (Reg Eax) (negsuc 0)) (0x83 ∷ 0xc0 ∷ 0xff ∷ []) }
 {}
