@@ -5,3 +5,4 @@ pub mod Agree
 pub mod RowsAgree
 pub mod ExpressionsAgree
 pub mod DeclarationsAgree
+pub mod StatementsAgree
