@@ -1,8 +1,9 @@
 -- Two outcomes of judging that agree: they have the same faults, or the same notes and trees that are related.
-use Rattle.std.proofs.Common.{arith, ◌≡◌, refl, sym, ap, subst, ◌∙◌, List, [], ◌∷◌, ◌++◌}
-use Rattle.std.specs.Prelude.{Option, Some, None}
+use Rattle.std.proofs.Common.{◌≡◌, refl, ap, subst, ◌∙◌, List, [], ◌∷◌, ◌++◌}
+use Rattle.std.specs.Prelude.{Some}
 use Rattle.pcc_base.specs.declared.fault.Fault.{Fault}
-use Rattle.c_typing.specs.Checked.{Checked, Fits, Fails, Note, faults_in, notes_in, value_in, noted, also, if_fits, pair}
+use Rattle.c_typing.specs.Checked.{Checked, Fits, Fails, Note, faults_in, notes_in, value_in, noted, also, if_fits}
+use Rattle.c_typing.specs.Checked.{pair}
 use Rattle.c_typing.specs.Checked.{both, fits}
 
 abbrev pub Agree : {A B : Type 0} → (A → B → Type 0) → Checked A → Checked B → Type 0

@@ -1,7 +1,7 @@
 -- Trees of expressions without the numbers of objects and functions, and what they have in common with those that have
 -- them.
-use Rattle.std.proofs.Common.{arith, ◌≡◌, refl, sym, ap, subst, ◌∙◌, ℕ, Bool, true, false, List, [], ◌∷◌}
-use Rattle.std.specs.Prelude.{Option, Some, None, option_map, ◌&&◌, if◌then◌else◌}
+use Rattle.std.proofs.Common.{arith, ◌≡◌, refl, sym, ap, ◌∙◌, Bool, true, false}
+use Rattle.std.specs.Prelude.{None, option_map, ◌&&◌, if◌then◌else◌}
 use Rattle.c_tree.specs.declared.expression.ArrayRef.{ArrayRef}
 use Rattle.c_tree.specs.declared.expression.ArrayRef.TheVariants as refs
 use Rattle.c_tree.specs.declared.types.ValueType.{ValueType}
@@ -9,7 +9,8 @@ use Rattle.c_tree.specs.Program.{value_type, Expression, Constant, Start, Read, 
 use Rattle.c_tree.specs.Program.{Conditional, Cast, Assign, Update, Step, Comma, Call, Putchar, Getchar, Exit, Place}
 use Rattle.c_tree.specs.Program.{LocalPlace, StaticPlace, Target, Element, Arguments, NoMore, Argument}
 use Rattle.c_tree.specs.Evaluation.{evaluate}
-use Rattle.c_typing.specs.Constants.{number_given, no_calls, no_state, has_constant_form, constant_value, is_integer_type, is_null}
+use Rattle.c_typing.specs.Constants.{number_given, no_calls, no_state, has_constant_form, constant_value}
+use Rattle.c_typing.specs.Constants.{is_integer_type}
 use Rattle.c_typing.specs.Rows.{place_named}
 
 abbrev pub bare_array : ArrayRef → ArrayRef
@@ -82,7 +83,8 @@ form-bare (And a b) = ap (λ t. t && has_constant_form (bare b)) (form-bare a)
     ∙ ap (λ t. has_constant_form a && t) (form-bare b)
 form-bare (Or a b) = ap (λ t. t && has_constant_form (bare b)) (form-bare a)
     ∙ ap (λ t. has_constant_form a && t) (form-bare b)
-form-bare (Conditional of t a b) = ap (λ x. x && (has_constant_form (bare a) && has_constant_form (bare b))) (form-bare t)
+form-bare (Conditional of t a b) = ap (λ x. x && (has_constant_form (bare a) && has_constant_form (bare b)))
+    (form-bare t)
     ∙ ap (λ x. has_constant_form t && (x && has_constant_form (bare b))) (form-bare a)
     ∙ ap (λ x. has_constant_form t && (has_constant_form a && x)) (form-bare b)
 form-bare (Cast to e) = ap (λ t. is_integer_type to && t) (form-bare e)
@@ -115,7 +117,8 @@ bare-constant (And a b) h = let p = both_true (has_constant_form a) (has_constan
     ap (λ x. And x (bare b)) (bare-constant a p.0) ∙ ap (And a) (bare-constant b p.1)
 bare-constant (Or a b) h = let p = both_true (has_constant_form a) (has_constant_form b) h in
     ap (λ x. Or x (bare b)) (bare-constant a p.0) ∙ ap (Or a) (bare-constant b p.1)
-bare-constant (Conditional of t a b) h = let p = both_true (has_constant_form t) (has_constant_form a && has_constant_form b) h in
+bare-constant (Conditional of t a b) h = let p =
+    both_true (has_constant_form t) (has_constant_form a && has_constant_form b) h in
     let q = both_true (has_constant_form a) (has_constant_form b) p.1 in
     ap (λ x. Conditional of x (bare a) (bare b)) (bare-constant t p.0)
     ∙ ap (λ x. Conditional of t x (bare b)) (bare-constant a q.0) ∙ ap (Conditional of t a) (bare-constant b q.1)

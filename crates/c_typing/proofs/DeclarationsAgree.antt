@@ -1,23 +1,23 @@
 -- Declarators, initialisers and declared items have the same faults and notes whatever numbers things have.
-use Rattle.std.proofs.Common.{arith, ◌≡◌, refl, sym, ap, subst, ◌∙◌, ℕ, zero, suc, Bool, true, false, List, [], ◌∷◌, length}
-use Rattle.std.specs.Prelude.{ℤ, nat_le, Option, Some, None, if◌then◌else◌, ◌++◌, option_map}
+use Rattle.std.proofs.Common.{◌≡◌, refl, sym, ap, subst, ◌∙◌, ℕ, zero, suc, Bool, true, false, List, [], ◌∷◌, length}
+use Rattle.std.specs.Prelude.{nat_le, Option, Some, None, if◌then◌else◌, ◌++◌, option_map}
 use Rattle.pcc_base.specs.declared.span.Span.{Span}
 use Rattle.pcc_base.specs.declared.fault.FaultKind.TheVariants as kinds
 use Rattle.c_syntax.specs.declared.expression.Identifier.{Identifier}
 use Rattle.c_syntax.specs.declared.expression.TextPiece.{TextPiece}
 use Rattle.c_grammar.specs.Expressions.{Expr, Exprs}
 use Rattle.c_grammar.specs.Declarations.{ArrayTree, ParameterTree, PartTree, Plain, Array, Function, DeclaratorTree}
-use Rattle.c_grammar.specs.Declarations.{InitialiserTree, ValueTree, ItemTree, DeclarationTree}
+use Rattle.c_grammar.specs.Declarations.{ValueTree, ItemTree, DeclarationTree}
 use Rattle.c_tree.specs.declared.types.IntegerType.{IntegerType}
 use Rattle.c_tree.specs.declared.types.ValueType.{ValueType}
-use Rattle.c_tree.specs.declared.types.ValueType.TheVariants.{Void, Integer, Pointer}
+use Rattle.c_tree.specs.declared.types.ValueType.TheVariants.{Integer, Pointer}
 use Rattle.c_tree.specs.Store.{converted}
 use Rattle.c_tree.specs.Program as tree
 use Rattle.c_tree.specs.Program.{Expression, Item, Initialiser, Elements, Text}
-use Rattle.c_typing.specs.Types.{Position, InParameters, Specified, specified, is_static, pointed, Declared, DeclaredValue}
+use Rattle.c_typing.specs.Types.{Position, InParameters, Specified, specified, is_static, pointed, Declared}
 use Rattle.c_typing.specs.Types.{DeclaredArray}
-use Rattle.c_typing.specs.Checked.{Checked, Fits, Fails, Contents, Zeros, Values, Stores, Note, fits, fails, also, if_fits}
-use Rattle.c_typing.specs.Checked.{both, or_fails, value_in}
+use Rattle.c_typing.specs.Checked.{Checked, Fits, Fails, Contents, Zeros, Values, Stores, fits, fails, also, if_fits}
+use Rattle.c_typing.specs.Checked.{or_fails, value_in}
 use Rattle.c_typing.specs.Constants.{constant_value}
 use Rattle.c_typing.specs.Declarators.{ArrayValues, Letters, Listed, NoValues, array_values, at_least_one, size_or}
 use Rattle.c_typing.specs.Declarators.{count_by_value, part_type, object_declared, ObjectType, IntegerObject}
@@ -34,11 +34,11 @@ use Rattle.c_typing.specs.Initialisers.{contents_for}
 use Rattle.c_typing.specs.Library.{Entity, At}
 use Rattle.c_typing.specs.Names.{Numbers, Scope, object_number}
 use Rattle.c_typing.specs.Rows.{assigned}
-use Rattle.c_typing.specs.Statements.{bound_object, bound_local, bound_item, after_item, after_items, after_specified}
+use Rattle.c_typing.specs.Statements.{bound_item, after_item, after_items, after_specified}
 use Rattle.c_typing.specs.Statements.{after_declaration, elements_of, size_of, stored, local_item, object_item}
 use Rattle.c_typing.specs.Statements.{scope_faults, typed_item, typed_items, typed_declaration}
 use Rattle.c_typing.proofs.Agree.{Agree, Any, Same, values_agree, agree_if_fits, agree_also, agree_both, same_itself}
-use Rattle.c_typing.proofs.Agree.{any_itself, agree_same, agree_any}
+use Rattle.c_typing.proofs.Agree.{agree_same, agree_any}
 use Rattle.c_typing.proofs.RowsAgree.{Twins, twin_constant, assigned_agree}
 use Rattle.c_typing.proofs.ExpressionsAgree.{renumbered, GivenAgree, typed_agree, given_agree}
 
@@ -261,10 +261,12 @@ contents_agree m s (ArrayObject element count) otherwise (Some v) =
 
 pub stored_agree : {A B : Type 0} (e : Entity) (type : ObjectType) (a : A) (b : B) (c d : Checked Contents)
     → Agree Same c d → Agree Any (stored e type a c) (stored e type b d)
-stored_agree e type a b (Fits x ns) (Fits y ms) h =
-    (tt, ap (λ z. Stores (record { entity = e; element = elements_of type; count = size_of type; contents = z }) ∷ ns)
-    h.0 ∙ ap (λ zs. Stores (record { entity = e; element = elements_of type; count = size_of type; contents = y }) ∷ zs)
-    h.1)
+stored_agree e type a b (Fits x ns) (Fits y ms) h = (
+  tt,
+  ap (λ z. Stores (record { entity = e; element = elements_of type; count = size_of type; contents = z }) ∷ ns)
+      h.0 ∙ ap (λ zs. Stores (record { entity = e; element = elements_of type; count = size_of type; contents = y }) ∷ zs)
+      h.1,
+)
 stored_agree e type a b (Fits x ns) (Fails g gs) h = absurd h
 stored_agree e type a b (Fails f fs) (Fits y ms) h = absurd h
 stored_agree e type a b (Fails f fs) (Fails g gs) h = h

@@ -1,5 +1,5 @@
 -- Expressions have the same faults and notes whatever numbers things have, and trees that differ in numbers alone.
-use Rattle.std.proofs.Common.{arith, ◌≡◌, refl, sym, ap, subst, ◌∙◌, ℕ, Bool, true, false, List, [], ◌∷◌, length}
+use Rattle.std.proofs.Common.{arith, ◌≡◌, refl, ap, subst, ◌∙◌, List, [], ◌∷◌, length}
 use Rattle.std.specs.Prelude.{Option, Some, None, ◌&&◌, ◌==◌, if◌then◌else◌, suc}
 use Rattle.pcc_base.specs.declared.span.Span.{Span}
 use Rattle.pcc_base.specs.declared.fault.Fault.{Fault}
@@ -19,8 +19,9 @@ use Rattle.c_typing.specs.Names.{Numbers, Meaning, Local, LocalArray, Object, Ob
 use Rattle.c_typing.specs.Names.{meaning_of}
 use Rattle.c_typing.specs.Rows.{assigned, unary_row, step_row, place_named, cast_row, binary_row, index_row}
 use Rattle.c_typing.specs.Rows.{conditional_row, assignment_row}
-use Rattle.c_typing.specs.Expressions.{first_token, type_name, text_literal, named, Given, arguments_for, has_type}
-use Rattle.c_typing.specs.Expressions.{have_types, count_faults, library_call, call_of, function_call, not_called, called}
+use Rattle.c_typing.specs.Expressions.{type_name, named, Given, arguments_for, has_type}
+use Rattle.c_typing.specs.Expressions.{have_types, count_faults, library_call, call_of, function_call, not_called}
+use Rattle.c_typing.specs.Expressions.{called}
 use Rattle.c_typing.specs.Expressions.{postfix_op, prefix_op, typed_expression, given, typed_if_any}
 use Rattle.c_typing.proofs.Bare.{bare, bare_arguments}
 use Rattle.c_typing.proofs.Agree.{Agree, Both, faults_agree, agree_itself, agree_if_fits, agree_pair, agree_also}

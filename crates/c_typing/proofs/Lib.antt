@@ -6,3 +6,4 @@ pub mod RowsAgree
 pub mod ExpressionsAgree
 pub mod DeclarationsAgree
 pub mod StatementsAgree
+pub mod FilesAgree

@@ -4,7 +4,7 @@ use Rattle.std.specs.Prelude.{Option, Some, None, option_map, unwrap_or, if◌th
 use Rattle.std.specs.List.{list_any}
 use Rattle.pcc_base.specs.declared.span.Span.{Span}
 use Rattle.pcc_base.specs.declared.fault.Fault.{Fault}
-use Rattle.pcc_base.specs.declared.fault.FaultKind.TheVariants.{TypeRule, NotAssignable, PointerUse}
+use Rattle.pcc_base.specs.declared.fault.FaultKind.TheVariants.{TypeRule, PointerUse}
 use Rattle.c_syntax.specs.declared.operator.BinaryOp as raw
 use Rattle.c_syntax.specs.declared.operator.BinaryOp.TheVariants as raw_binary
 use Rattle.c_syntax.specs.declared.operator.UnaryOp as raw_one
@@ -19,10 +19,10 @@ use Rattle.c_tree.specs.declared.expression.UnaryOp.TheVariants as ones
 use Rattle.c_tree.specs.declared.types.IntegerType.TheVariants.{Int}
 use Rattle.c_tree.specs.declared.types.ValueType.{ValueType}
 use Rattle.c_tree.specs.declared.types.ValueType.TheVariants.{Void, Integer, Pointer}
-use Rattle.c_tree.specs.Program.{int, value_type, Expression, Constant, Read, Address, Unary, Binary, And, Or}
-use Rattle.c_tree.specs.Program.{Conditional, Cast, Assign, Update, Step, Comma, Place, LocalPlace, StaticPlace}
+use Rattle.c_tree.specs.Program.{value_type, Expression, Read, Unary, Binary, And, Or}
+use Rattle.c_tree.specs.Program.{Conditional, Cast, Assign, Update, Comma, Place, LocalPlace, StaticPlace}
 use Rattle.c_tree.specs.Program.{Target, Element}
-use Rattle.c_typing.specs.Checked.{Checked, Fits, Fails, fits, fails, faults_in, notes_in}
+use Rattle.c_typing.specs.Checked.{Checked, Fits, Fails, fits, faults_in, notes_in}
 use Rattle.c_typing.specs.Constants.{constant_value, is_zero, is_null}
 use Rattle.c_typing.specs.Faults.{fault}
 use Rattle.c_typing.specs.Rows.{misfit, row_at, of_numbers, of_sum, of_difference, of_order, of_equality, of_choice}

@@ -1,19 +1,16 @@
 -- Statements have the same faults and notes whatever numbers things have.
 use Rattle.std.proofs.Common.{◌≡◌, refl, sym, ap, subst, ◌∙◌, ℕ, suc, Bool, true, false, List, [], ◌∷◌, ◌++◌, map}
-use Rattle.std.specs.Prelude.{ℤ, Option, Some, None, if◌then◌else◌}
-use Rattle.std.specs.List.{list_any}
+use Rattle.std.specs.Prelude.{ℤ, Option, Some, None}
 use Rattle.pcc_base.specs.declared.span.Span.{Span}
-use Rattle.pcc_base.specs.declared.fault.FaultKind.TheVariants.{CaseLabel}
 use Rattle.c_grammar.specs.Expressions.{Expr}
 use Rattle.c_grammar.specs.Statements as trees
 use Rattle.c_grammar.specs.Statements.{LabelTree, Stmt, Stmts, NoStmt, OneStmt}
-use Rattle.c_tree.specs.declared.statement.Label.{Label}
 use Rattle.c_tree.specs.declared.types.ValueType.{ValueType}
 use Rattle.c_tree.specs.declared.types.ValueType.TheVariants.{Void, Integer, Pointer}
 use Rattle.c_tree.specs.Program as tree
 use Rattle.c_tree.specs.Program.{value_type, Expression, Item, First, Statement, Statements}
 use Rattle.c_typing.specs.Types.{InBlock, InFor}
-use Rattle.c_typing.specs.Checked.{Checked, Fits, Fails, fits, fails, if_fits, pair, both, three, four}
+use Rattle.c_typing.specs.Checked.{Checked, Fits, Fails, fits, if_fits, pair, both, three}
 use Rattle.c_typing.specs.Constants.{constant_value}
 use Rattle.c_typing.specs.Expressions.{typed_expression, typed_if_any}
 use Rattle.c_typing.specs.Names.{Numbers, Scope, entered, left, numbered}
@@ -22,8 +19,9 @@ use Rattle.c_typing.specs.Statements.{after_declaration, typed_declaration, afte
 use Rattle.c_typing.specs.Statements.{GivenLabel, case_value, given_label, labels_before, given_labels, one_label}
 use Rattle.c_typing.specs.Statements.{with_value, typed_labels, Around, in_loop, in_switch, jump, returned, condition}
 use Rattle.c_typing.specs.Statements.{condition_if_any, first_part, alone, as_one, one, for_loop, row_before}
-use Rattle.c_typing.specs.Statements.{typed_statement, typed_statements, same_label}
-use Rattle.c_typing.proofs.Agree.{Agree, Any, Same, Both, agree_if_fits, agree_pair, agree_both, same_itself, any_itself}
+use Rattle.c_typing.specs.Statements.{typed_statement, typed_statements}
+use Rattle.c_typing.proofs.Agree.{Agree, Any, Same, Both, agree_if_fits, agree_pair, agree_both, same_itself}
+use Rattle.c_typing.proofs.Agree.{any_itself}
 use Rattle.c_typing.proofs.Agree.{agree_any}
 use Rattle.c_typing.proofs.RowsAgree.{Twins, twin_constant, assigned_agree, tested_agree, selected_agree}
 use Rattle.c_typing.proofs.ExpressionsAgree.{renumbered, typed_agree, TwinOptions, if_any_agree}
@@ -81,10 +79,13 @@ case_same at x y h =
 labels_with : (m : Numbers) (s : Scope) (before : ℕ) (ls : List LabelTree) (gs hs : List GivenLabel) → LabelsAgree gs hs
     → LabelsAgree (map (given_label (renumbered m s) before) ls ++ gs) (map (given_label s before) ls ++ hs)
 labels_with m s before [] gs hs h = h
-labels_with m s before (trees.Case at e colon ∷ ls) gs hs h =
-    (refl, refl, agree_if_fits Twins Same (typed_expression (renumbered m s) e) (typed_expression s e)
-    (λ x. case_value at (constant_value x)) (λ x. case_value at (constant_value x)) (typed_agree m s e) (case_same at),
-    labels_with m s before ls gs hs h)
+labels_with m s before (trees.Case at e colon ∷ ls) gs hs h = (
+  refl,
+  refl,
+  agree_if_fits Twins Same (typed_expression (renumbered m s) e) (typed_expression s e)
+      (λ x. case_value at (constant_value x)) (λ x. case_value at (constant_value x)) (typed_agree m s e) (case_same at),
+  labels_with m s before ls gs hs h,
+)
 labels_with m s before (trees.Default at colon ∷ ls) gs hs h =
     (refl, refl, (refl, refl), labels_with m s before ls gs hs h)
 

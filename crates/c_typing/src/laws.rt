@@ -5,7 +5,8 @@ ghost use Rattle.pcc_base.specs.declared.fault.FaultKind.TheVariants as kinds;
 ghost use Rattle.pcc_base.specs.declared.refusal.Limit.TheVariants.{Frame};
 ghost use Rattle.c_tree.specs.declared.types.IntegerType.TheVariants.{Int, Char};
 ghost use Rattle.c_typing.specs.Faults.{fault};
-ghost use Rattle.c_typing.specs.Laws.{LeastIsLeast, LeastOfBoth, OneTypedProgram, TypedWithoutFault};
+ghost use Rattle.c_typing.specs.Laws.{LeastIsLeast, LeastOfBoth, NumbersChangeNothing};
+ghost use Rattle.c_typing.specs.Laws.{OneTypedProgram, TypedWithoutFault};
 ghost use Rattle.c_typing.specs.Typed.{fault_of, limit_found, objects_found};
 ghost use Rattle.c_typing.specs.Worked.{
   at,
@@ -46,8 +47,8 @@ pub fn worked_faults()
 {}
 
 /// Small files have no fault where a reader expects none: a name that is shadowed, an object that is declared
-/// again, and in another file too, a string that fits without its zero, a null constant, and a constant whose evaluation
-/// doesn't come to a division by zero. A frame is too large by a word.
+/// again, and in another file too, a string that fits without its zero, a null constant, and a constant whose
+/// evaluation doesn't come to a division by zero. A frame is too large by a word.
 pub fn worked_programs()
     ensures shadowing { fault_of shadows (at 0 75) ≡ None }
     ensures again { fault_of declared_again (at 1 35) ≡ None }
@@ -71,4 +72,9 @@ pub fn least_fault()
 pub fn one_typed_program()
     ensures one { OneTypedProgram }
     ensures exactly { TypedWithoutFault }
+{}
+
+/// Which numbers objects and functions have changes no fault of files, and nothing that they note.
+pub fn numbers_change_nothing()
+    ensures { NumbersChangeNothing }
 {}

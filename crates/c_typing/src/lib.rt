@@ -7,4 +7,6 @@
 
 mod laws;
 
-pub use laws::{least_fault, one_typed_program, worked_faults, worked_programs};
+pub use laws::{
+    least_fault, numbers_change_nothing, one_typed_program, worked_faults, worked_programs,
+};
