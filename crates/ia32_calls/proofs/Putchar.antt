@@ -1,9 +1,10 @@
 -- A call of `putchar` over slots: the routine, and the row that calls it.
 use Rattle.std.proofs.Common.{◌≡◌, ℕ, ◌+◌, ◌-◌, ◌%◌, ◌^◌, ◌<◌, ◌≤◌, List, [], ◌∷◌, ◌++◌, length, pos, Ok, refl, sym, ap}
 use Rattle.std.proofs.Common.{subst, ◌∙◌, inl, arith}
-use Rattle.std.specs.Prelude.{slice_index_or, Result}
+use Rattle.std.specs.Prelude.{Result}
 use Rattle.pcc_base.specs.Outcome.{End}
-use Rattle.ia32_regs.specs.declared.names.Reg32.TheVariants.{Eax, Ecx, Edx, Ebx, Esp, Ebp, Esi, Edi}
+use Rattle.ia32_regs.specs.declared.names.Reg32.TheVariants.{Eax, Ecx, Edx, Ebx, Esp, Ebp, Edi}
+use Rattle.ia32_places.specs.Places.{InSlot}
 use Rattle.ia32_insn.specs.declared.operand.Rm32.TheVariants as rm
 use Rattle.ia32_insn.specs.declared.operand.Rm8.TheVariants as rm8
 use Rattle.ia32_insn.specs.declared.insn.Insn.TheVariants as insn
@@ -17,13 +18,13 @@ use Rattle.ia32_insn.specs.Items.{near, plain, putchar_items}
 use Rattle.ia32_shows.specs.Placements.{below}
 use Rattle.ia32_shows.proofs.Sound.{load-same, word-below}
 use Rattle.ia32_shows.proofs.Steps.{IsAt, Comes, comes-then}
-use Rattle.ia32_shows.proofs.Frames.{went-then, went-stricter, load-went, store-went}
+use Rattle.ia32_shows.proofs.Frames.{went-then, went-stricter, below-address, store-went}
 use Rattle.ia32_rows.specs.Rows.{putchar_row}
 use Rattle.ia32_calls.specs.Laws.{putchar_between, StandsFrom, OutsideCall, WroteByCall, PutcharRow}
 use Rattle.ia32_calls.proofs.Pushes.{ready-from, disjoint-part, unlike, one_fits, Sets, set-goes, Pushed, push-goes}
-use Rattle.ia32_calls.proofs.Pushes.{call-goes, pop-goes, ret-goes}
+use Rattle.ia32_calls.proofs.Pushes.{push-load-goes, call-goes, pop-goes, ret-goes}
 use Rattle.ia32_calls.proofs.Interrupts.{write-goes}
-use Rattle.ia32_shows.specs.Sites.{Site, SoundAt, ReadyAt, Framed, Went, IsInFrame, Anywhere}
+use Rattle.ia32_shows.specs.Sites.{Site, SoundAt, ReadyAt, Framed, Went, IsInFrame}
 
 -- ---- numbers
 
@@ -456,22 +457,32 @@ calls-behind site back x s top room routine (a, p, ready, q) =
         (room-two site.low e (word_of Esp a) room q.esp) (top-two e (word_of Esp a) site.high q.esp top) in
     called-by site back x (a.eip + length first) s a r.0 top room routine p q r.1 r.2 r.3 r.4 r.5
 
--- the word in ESI is passed to the routine
-calls : (site : Site) (back : List Item) (x : ℕ) (s : State) → SoundAt site s → word_of Esp s ≤ site.high
+-- a word of the frame is passed to the routine
+calls : (site : Site) (frame : ℕ) (back : List Item) (a x : ℕ) (s : State) → Framed site frame s
     → site.low + 12 ≤ word_of Esp s → StandsFrom site putchar_items site.symbols.putchar
-    → ReadyAt site (plain (insn.Push (rm.Reg Esi)) ∷ item.CallStub stub.Putchar ∷ back) s → word_of Esi s ≡ x
-        → (u : State) × Called site back x s u
-calls site back x s sound top room routine ready is =
-    let p = push-goes site (item.CallStub stub.Putchar ∷ back) Esi s sound ready
-        (room-one site.low (word_of Esp s) room) top in
-    calls-behind site back x s top room routine (p.0, p.1, p.2, subst (λ (k : ℕ). Pushed site k s p.0) is p.3)
+    → ReadyAt site (plain (insn.Push (rm.Mem (below a))) ∷ item.CallStub stub.Putchar ∷ back) s → IsInFrame frame a
+        → load 4 (word_of Ebp s - a) s ≡ Ok x → x < 2 ^ 32 → (u : State) × Called site back x s u
+calls site frame back a x s framed room routine ready from held fits =
+    let top : word_of Esp s ≤ site.high = frame-top (word_of Esp s) frame (word_of Ebp s) site.high framed.esp
+        framed.top in
+    let at = below-address a s (some-distance a from.low)
+        (in-frame a frame (word_of Esp s) (word_of Ebp s) from.high framed.esp)
+        (word-below site.text site.low site.high Ebp s framed.sound) in
+    let loaded : load 4 (address_of (below a) s) s ≡ Ok x = ap (λ (k : ℕ). load 4 k s) at ∙ held in
+    calls-behind site back x s top room routine
+        (push-load-goes site (item.CallStub stub.Putchar ∷ back) (below a) x s framed.sound ready loaded fits
+        (room-one site.low (word_of Esp s) room) top)
+  where
+    some-distance : (d : ℕ) → 20 ≤ d → 0 < d
+    some-distance d h = omega arith
+    in-frame : (d frame esp ebp : ℕ) → d ≤ frame → esp + frame ≡ ebp → d ≤ ebp
+    in-frame d frame esp ebp h e = omega arith
+    frame-top : (e f b h : ℕ) → e + f ≡ b → b + 8 ≤ h → e ≤ h
+    frame-top e f b h p q = omega arith
 
 -- places apart from the twelve bytes below an address
 abbrev Below : ℕ → ℕ → ℕ → Type 0
 Below esp b n = AreDisjoint (esp - 12) 12 b n
-
-frame-top : (e f b h : ℕ) → e + f ≡ b → b + 8 ≤ h → e ≤ h
-frame-top e f b h p q = omega arith
 
 pop-top : (u e f b h : ℕ) → u + 4 ≡ e → e + f ≡ b → b + 8 ≤ h → u + 4 ≤ h
 pop-top u e f b h p q r = omega arith
@@ -510,9 +521,6 @@ storing d back = plain (insn.Mov (rm.Mem (below d)) Eax) ∷ back
 some-room : (d : ℕ) → 20 ≤ d → 4 ≤ d
 some-room d h = omega arith
 
-some-distance : (d : ℕ) → 20 ≤ d → 0 < d
-some-distance d h = omega arith
-
 -- the result goes to its slot
 row-ends : (site : Site) (frame : ℕ) (back : List Item) (d y e : ℕ) (out : List ℕ) (s t : State) → IsInFrame frame d
     → Went site frame (storing d back) (Below e) out s t → word_of Eax t ≡ y
@@ -529,44 +537,22 @@ row-ends site frame back d y e out s t inside went value =
     (stored.0, went-then site frame (storing d back) back K out out s t stored.0 first second,
         subst (λ (a : ℕ). load 4 a stored.0 ≡ Ok y) same stored.2)
 
-row-called : (site : Site) (frame : ℕ) (back : List Item) (d y : ℕ) (s t : State) → IsInFrame frame d
-    → Went site frame (plain (insn.Push (rm.Reg Esi)) ∷ item.CallStub stub.Putchar ∷ plain (insn.Pop Edi)
-    ∷ storing d back) Anywhere s.written s t
-    → ((c : State) × Went site frame (storing d back) (Below (word_of Esp t)) (t.written ++ y ∷ []) t c
+row-called : (site : Site) (frame : ℕ) (back : List Item) (d y : ℕ) (s : State) → IsInFrame frame d
+    → ((c : State) × Went site frame (storing d back) (Below (word_of Esp s)) (s.written ++ y ∷ []) s c
         × (word_of Eax c ≡ y)) → (u : State) × WroteByCall site frame back (word_of Ebp s - d) y (s.written ++ y ∷ []) s
         u
-row-called site frame back d y s t inside went (c, w, eax) =
-    let calling : List Item = plain (insn.Push (rm.Reg Esi)) ∷ item.CallStub stub.Putchar ∷ plain (insn.Pop Edi)
-        ∷ storing d back in
-    let out : List ℕ = s.written ++ y ∷ [] in
-    let first = went-stricter site frame calling Anywhere (Below (word_of Esp s)) s.written s t (λ b n k. tt) went in
-    let written : t.written ++ y ∷ [] ≡ out = ap (λ (l : List ℕ). l ++ y ∷ []) went.written in
-    let esp_now : Went site frame (storing d back) (Below (word_of Esp s)) (t.written ++ y ∷ []) t c =
-        subst (λ (e : ℕ). Went site frame (storing d back) (Below e) (t.written ++ y ∷ []) t c) went.esp w in
-    let second : Went site frame (storing d back) (Below (word_of Esp s)) out t c =
-        subst (λ (o : List ℕ). Went site frame (storing d back) (Below (word_of Esp s)) o t c) written esp_now in
-    let all = went-then site frame calling (storing d back) (Below (word_of Esp s)) s.written out s t c first second in
-    let ends = row-ends site frame back d y (word_of Esp s) out s c inside all eax in
+row-called site frame back d y s inside (c, went, eax) =
+    let ends = row-ends site frame back d y (word_of Esp s) (s.written ++ y ∷ []) s c inside went eax in
     (ends.0, record { went = ends.1; same = ends.2 })
 
 -- the row that selection writes
-pub putchar_row-between : (slots : List ℕ) (d a : ℕ) (back : List Item) → putchar_row slots d a ++ back
-    ≡ putchar_between (slice_index_or slots d 0) (slice_index_or slots a 0) back
-putchar_row-between slots d a back = refl
+pub putchar_row-between : (d a : ℕ) (back : List Item) → putchar_row (InSlot d) (InSlot a) ++ back
+    ≡ putchar_between d a back
+putchar_row-between d a back = refl
 
 -- the low byte of the word in the one slot is written, and becomes the word in the other
 pub putchar-row : PutcharRow
 putchar-row site frame back d a x s framed room routine ready from to held fits =
-    let calling : List Item = plain (insn.Push (rm.Reg Esi)) ∷ item.CallStub stub.Putchar ∷ plain (insn.Pop Edi)
-        ∷ storing d back in
-    let one = load-went site frame calling Anywhere Esi a x s framed ready (unlike 5 6 refl) (unlike 4 6 refl)
-        (some-distance a from.low) from.high held fits in
-    let t : State = one.0 in
-    let w = one.1 in
-    let top : word_of Esp t ≤ site.high = frame-top (word_of Esp t) frame (word_of Ebp t) site.high w.framed.esp
-        w.framed.top in
-    let room_now : site.low + 12 ≤ word_of Esp t = subst (λ (k : ℕ). site.low + 12 ≤ k) (sym w.esp) room in
-    row-called site frame back d (x % 256) s t to w
-        (call-went site frame (storing d back) x t w.framed fits
-        (calls site (plain (insn.Pop Edi) ∷ storing d back) x t w.framed.sound top room_now routine w.ready
-        one.2.value))
+    row-called site frame back d (x % 256) s to
+        (call-went site frame (storing d back) x s framed fits
+        (calls site frame (plain (insn.Pop Edi) ∷ storing d back) a x s framed room routine ready from held fits))

@@ -1,11 +1,12 @@
 -- A return of the word in a slot.
 use Rattle.std.proofs.Common.{◌≡◌, ◌≢◌, ℕ, ◌+◌, ◌-◌, ◌^◌, ◌<◌, ◌≤◌, List, ◌∷◌, ◌++◌, Ok, Err, refl, sym, ap, subst, ◌∙◌}
 use Rattle.std.proofs.Common.{arith}
-use Rattle.std.specs.Prelude.{slice_index_or, Result}
+use Rattle.std.specs.Prelude.{Result}
 use Rattle.pcc_base.specs.Outcome.{End}
 use Rattle.ia32_regs.specs.declared.names.Reg32.{Reg32}
 use Rattle.ia32_regs.specs.declared.names.Reg32.TheVariants.{Eax, Ebx, Esp, Ebp, Esi, Edi}
 use Rattle.ia32_regs.specs.Registers.{number32}
+use Rattle.ia32_places.specs.Places.{InSlot}
 use Rattle.ia32_insn.specs.declared.insn.Insn.TheVariants as insn
 use Rattle.ia32_insn.specs.declared.item.Item.{Item}
 use Rattle.ia32_insn.specs.State.{State, at_address}
@@ -268,9 +269,8 @@ slot-some : (d : ℕ) → 20 ≤ d → 0 < d
 slot-some d h = omega arith
 
 -- the row that selection writes
-pub return_row-before : (slots : List ℕ) (a : ℕ) (back : List Item) → return_row slots a ++ back
-    ≡ return_before (slice_index_or slots a 0) back
-return_row-before slots a back = refl
+pub return_row-before : (a : ℕ) (back : List Item) → return_row (InSlot a) ++ back ≡ return_before a back
+return_row-before a back = refl
 
 -- a return comes to the return address, with the word in EAX and the caller's registers
 pub return-goes : ReturnGoes

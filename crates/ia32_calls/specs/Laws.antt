@@ -32,8 +32,7 @@ pub record StandsFrom (site : Site) (items : List Item) (address : ℕ) : Type 0
 -- the items of `putchar` over slots so far below EBP, where `selected` writes them, and what follows them
 abbrev pub putchar_between : ℕ → ℕ → List Item → List Item
 putchar_between d a back =
-    plain (insn.MovLoad Esi (below a))
-    ∷ plain (insn.Push (rm.Reg Esi))
+    plain (insn.Push (rm.Mem (below a)))
     ∷ item.CallStub stub.Putchar
     ∷ plain (insn.Pop Edi)
     ∷ plain (insn.Mov (rm.Mem (below d)) Eax)

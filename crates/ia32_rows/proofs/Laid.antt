@@ -17,10 +17,10 @@ use Rattle.flow_graph.specs.declared.op.Op.TheVariants as op
 use Rattle.flow_graph.specs.Graphs.{Flow, IsIn, Stands, points_of, following}
 use Rattle.flow_graph.specs.States.{GraphProgram, Waiting}
 use Rattle.flow_graph.proofs.Points.{choose}
-use Rattle.ia32_shows.specs.Placements.{Code, objects_of, address_in, point_address}
+use Rattle.ia32_shows.specs.Placements.{Placement, Code, objects_of, address_in, point_address}
 use Rattle.ia32_shows.specs.Shows.{ReturnsTo, StartReturns, startup, ending}
 use Rattle.ia32_shows.proofs.Steps.{IsAt, at-front, at-back, items-split, point-passed, label-passed}
-use Rattle.ia32_rows.specs.Rows.{frame_of, row, prologue, point_row, point_rows, block_rows, selected}
+use Rattle.ia32_rows.specs.Rows.{frame_of, over_slots, row, prologue, point_row, point_rows, block_rows, selected}
 use Rattle.ia32_rows.proofs.ItemKinds.{every-get, every-back, IsRowItem, selected-items, selected-room, one-address}
 use Rattle.ia32_rows.specs.Right.{IsSlotCode}
 use Rattle.ia32_shows.specs.Sites.{Ready, Site, ReadyAt}
@@ -176,31 +176,31 @@ address-of flow slots code p l = ap (λ (o : Option Places). address_in o p) l.p
 -- ---- points among the items
 
 -- The items of a point stand among these, and right behind them the next point of its block, if it has one.
-pub record HasRow (ops : List Op) (slots : List ℕ) (p : ℕ) (next : Option ℕ) (items : List Item) : Type 0 where
+pub record HasRow (placement : Placement) (ops : List Op) (p : ℕ) (next : Option ℕ) (items : List Item) : Type 0 where
   pub front : List Item
   pub rest : List Item
-  pub is : items ≡ front ++ (point_row ops slots p ++ rest)
+  pub is : items ≡ front ++ (point_row placement ops p ++ rest)
   pub follows : (q : ℕ) → next ≡ Some q → (more : List Item) × (rest ≡ item.Point q ∷ more)
 
 -- the row of the first point of a list
-first-row : (ops : List Op) (slots : List ℕ) (p : ℕ) (ps : List ℕ)
-    → HasRow ops slots p (slice_get ps 0) (point_rows ops slots (p ∷ ps))
-first-row ops slots p [] = record { front = []; rest = []; is = refl; follows = λ q e. absurd (cc) }
-first-row ops slots p (x ∷ ps) =
+first-row : (placement : Placement) (ops : List Op) (p : ℕ) (ps : List ℕ)
+    → HasRow placement ops p (slice_get ps 0) (point_rows placement ops (p ∷ ps))
+first-row placement ops p [] = record { front = []; rest = []; is = refl; follows = λ q e. absurd (cc) }
+first-row placement ops p (x ∷ ps) =
     record {
       front = [];
-      rest = point_rows ops slots (x ∷ ps);
+      rest = point_rows placement ops (x ∷ ps);
       is = refl;
-      follows = λ q e. (row slots (slice_index_or ops x op.Turn) ++ point_rows ops slots ps,
-          ap (λ (n : ℕ). item.Point n ∷ (row slots (slice_index_or ops x op.Turn) ++ point_rows ops slots ps))
+      follows = λ q e. (row placement x (slice_index_or ops x op.Turn) ++ point_rows placement ops ps,
+          ap (λ (n : ℕ). item.Point n ∷ (row placement x (slice_index_or ops x op.Turn) ++ point_rows placement ops ps))
           (same_Some x q e));
     }
 
 -- items before and behind
-row-between : (ops : List Op) (slots : List ℕ) (p : ℕ) (next : Option ℕ) (before items behind : List Item)
-    → HasRow ops slots p next items → HasRow ops slots p next (before ++ (items ++ behind))
-row-between ops slots p next before items behind h =
-    let mine : List Item = point_row ops slots p in
+row-between : (placement : Placement) (ops : List Op) (p : ℕ) (next : Option ℕ) (before items behind : List Item)
+    → HasRow placement ops p next items → HasRow placement ops p next (before ++ (items ++ behind))
+row-between placement ops p next before items behind h =
+    let mine : List Item = point_row placement ops p in
     record {
       front = before ++ h.front;
       rest = h.rest ++ behind;
@@ -212,56 +212,60 @@ row-between ops slots p next before items behind h =
     between a b c d e = simp append_assoc refl
 
 -- the row of a point of a list
-row-in-points : (ops : List Op) (slots points : List ℕ) (p : ℕ) → IsIn p points
-    → HasRow ops slots p (following p points) (point_rows ops slots points)
-row-in-points ops slots [] p h = absurd h
-row-in-points ops slots (x ∷ ps) p (inl e) =
-    let P : Bool → Type 0 = λ b. HasRow ops slots p (cond b (slice_get ps 0) (following p ps))
-        (point_rows ops slots (x ∷ ps)) in
-    subst P (sym (eq-eqb x p e)) (subst (λ (n : ℕ). HasRow ops slots n (slice_get ps 0) (point_rows ops slots (x ∷ ps)))
-        e (first-row ops slots x ps))
-row-in-points ops slots (x ∷ ps) p (inr i) =
-    let items : List Item = point_rows ops slots (x ∷ ps) in
-    let later : HasRow ops slots p (following p ps) (point_rows ops slots ps) = row-in-points ops slots ps p i in
-    let none : point_row ops slots x ++ (point_rows ops slots ps ++ []) ≡ items =
-        ap (λ (l : List Item). point_row ops slots x ++ l) (append-nil (point_rows ops slots ps)) in
-    choose x p (λ (n : Option ℕ). HasRow ops slots p n items) (slice_get ps 0) (following p ps)
-    (λ e. subst (λ (n : ℕ). HasRow ops slots n (slice_get ps 0) items) e (first-row ops slots x ps))
-    (subst (HasRow ops slots p (following p ps)) none
-        (row-between ops slots p (following p ps) (point_row ops slots x) (point_rows ops slots ps) [] later))
+row-in-points : (placement : Placement) (ops : List Op) (points : List ℕ) (p : ℕ) → IsIn p points
+    → HasRow placement ops p (following p points) (point_rows placement ops points)
+row-in-points placement ops [] p h = absurd h
+row-in-points placement ops (x ∷ ps) p (inl e) =
+    let P : Bool → Type 0 = λ b. HasRow placement ops p (cond b (slice_get ps 0) (following p ps))
+        (point_rows placement ops (x ∷ ps)) in
+    subst P (sym (eq-eqb x p e)) (subst (λ (n : ℕ).
+        HasRow placement ops n (slice_get ps 0) (point_rows placement ops (x ∷ ps)))
+        e (first-row placement ops x ps))
+row-in-points placement ops (x ∷ ps) p (inr i) =
+    let items : List Item = point_rows placement ops (x ∷ ps) in
+    let later : HasRow placement ops p (following p ps) (point_rows placement ops ps) =
+        row-in-points placement ops ps p i in
+    let none : point_row placement ops x ++ (point_rows placement ops ps ++ []) ≡ items =
+        ap (λ (l : List Item). point_row placement ops x ++ l) (append-nil (point_rows placement ops ps)) in
+    choose x p (λ (n : Option ℕ). HasRow placement ops p n items) (slice_get ps 0) (following p ps)
+    (λ e. subst (λ (n : ℕ). HasRow placement ops n (slice_get ps 0) items) e (first-row placement ops x ps))
+    (subst (HasRow placement ops p (following p ps)) none
+        (row-between placement ops p (following p ps) (point_row placement ops x) (point_rows placement ops ps) []
+            later))
 
 -- the row of a point of a block
-row-in-blocks : (ops : List Op) (slots : List ℕ) (k : ℕ) (blocks : List (List ℕ)) (p b : ℕ)
-    → IsIn p (slice_index_or blocks b []) → HasRow ops slots p (following p (slice_index_or blocks b []))
-    (block_rows ops slots k blocks)
-row-in-blocks ops slots k [] p zero h = absurd h
-row-in-blocks ops slots k [] p (suc b) h = absurd h
-row-in-blocks ops slots k (points ∷ blocks) p zero h =
-    row-between ops slots p (following p points) (item.Label k ∷ []) (point_rows ops slots points)
-        (block_rows ops slots (suc k) blocks) (row-in-points ops slots points p h)
-row-in-blocks ops slots k (points ∷ blocks) p (suc b) h =
+row-in-blocks : (placement : Placement) (ops : List Op) (k : ℕ) (blocks : List (List ℕ)) (p b : ℕ)
+    → IsIn p (slice_index_or blocks b []) → HasRow placement ops p (following p (slice_index_or blocks b []))
+    (block_rows placement ops k blocks)
+row-in-blocks placement ops k [] p zero h = absurd h
+row-in-blocks placement ops k [] p (suc b) h = absurd h
+row-in-blocks placement ops k (points ∷ blocks) p zero h =
+    row-between placement ops p (following p points) (item.Label k ∷ []) (point_rows placement ops points)
+        (block_rows placement ops (suc k) blocks) (row-in-points placement ops points p h)
+row-in-blocks placement ops k (points ∷ blocks) p (suc b) h =
     let next : Option ℕ = following p (slice_index_or blocks b []) in
-    let back : List Item = block_rows ops slots (suc k) blocks in
-    let front : List Item = item.Label k ∷ point_rows ops slots points in
+    let back : List Item = block_rows placement ops (suc k) blocks in
+    let front : List Item = item.Label k ∷ point_rows placement ops points in
     let none : front ++ (back ++ []) ≡ front ++ back = ap (λ (l : List Item). front ++ l) (append-nil back) in
-    subst (HasRow ops slots p next) none (row-between ops slots p next front back []
-        (row-in-blocks ops slots (suc k) blocks p b h))
+    subst (HasRow placement ops p next) none (row-between placement ops p next front back []
+        (row-in-blocks placement ops (suc k) blocks p b h))
 
 -- the row of a point of the graph
 row-in-graph : (flow : Flow) (slots : List ℕ) (p b : ℕ) → Stands flow p b
-    → HasRow flow.ops slots p (following p (points_of flow b)) (selected flow slots)
+    → HasRow (over_slots flow slots) flow.ops p (following p (points_of flow b)) (selected flow slots)
 row-in-graph flow slots p b h =
     let next : Option ℕ = following p (points_of flow b) in
     let front : List Item = prologue (frame_of flow) slots in
-    let back : List Item = block_rows flow.ops slots 0 flow.blocks in
+    let back : List Item = block_rows (over_slots flow slots) flow.ops 0 flow.blocks in
     let none : front ++ (back ++ []) ≡ front ++ back = ap (λ (l : List Item). front ++ l) (append-nil back) in
-    subst (HasRow flow.ops slots p next) none
-        (row-between flow.ops slots p next front back [] (row-in-blocks flow.ops slots 0 flow.blocks p b h))
+    subst (HasRow (over_slots flow slots) flow.ops p next) none
+        (row-between (over_slots flow slots) flow.ops p next front back []
+            (row-in-blocks (over_slots flow slots) flow.ops 0 flow.blocks p b h))
 
 -- where the items of a point stand
 record RowThere (flow : Flow) (slots : List ℕ) (code : Code) (p : ℕ) (next : Option ℕ) : Type 0 where
   rest : List Item
-  stands : StandsIn code (point_row flow.ops slots p ++ rest) (point_address code 0 p)
+  stands : StandsIn code (point_row (over_slots flow slots) flow.ops p ++ rest) (point_address code 0 p)
   follows : (q : ℕ) → next ≡ Some q → (more : List Item) × (rest ≡ item.Point q ∷ more)
 
 row-there : (flow : Flow) (slots : List ℕ) (code : Code) (p b : ℕ) → IsSlotCode flow slots (selected flow slots) code
@@ -269,12 +273,13 @@ row-there : (flow : Flow) (slots : List ℕ) (code : Code) (p b : ℕ) → IsSlo
 row-there flow slots code p b h stands =
     let l = laid flow slots code h in
     let r = row-in-graph flow slots p b stands in
-    let mine : List Item = point_row flow.ops slots p ++ r.rest in
+    let mine : List Item = point_row (over_slots flow slots) flow.ops p ++ r.rest in
     let whole : StandsIn code (r.front ++ mine) l.address =
         subst (λ (items : List Item). StandsIn code items l.address) r.is l.stands in
     let behind = back-there code.symbols (places_of code) code.text r.front mine l.address whole in
     let address : (places_of code).points p ≡ l.address + behind.0 =
-        point-there code.symbols (places_of code) code.text p (row slots (slice_index_or flow.ops p op.Turn) ++ r.rest)
+        point-there code.symbols (places_of code) code.text p
+            (row (over_slots flow slots) p (slice_index_or flow.ops p op.Turn) ++ r.rest)
         (l.address + behind.0) behind.1 in
     let same : l.address + behind.0 ≡ point_address code 0 p = sym (address-of flow slots code p l ∙ address) in
     record { rest = r.rest; stands = subst (StandsIn code mine) same behind.1; follows = r.follows }
@@ -286,67 +291,73 @@ op-of flow p o e = get_or_from_slice_get flow.ops p o op.Turn e
 -- A state at the first point of block 0 has come through the label to its row.
 pub first-ready : (flow : Flow) (slots : List ℕ) (code : Code) (low high p : ℕ) (s : State)
     → IsSlotCode flow slots (selected flow slots) code → slice_get (points_of flow 0) 0 ≡ Some p
-    → ReadyAt (site_of code low high) (block_rows flow.ops slots 0 flow.blocks) s
+    → ReadyAt (site_of code low high) (block_rows (over_slots flow slots) flow.ops 0 flow.blocks) s
     → (s.eip ≡ point_address code 0 p) × (rest : List Item)
-        × ReadyAt (site_of code low high) (point_row flow.ops slots p ++ rest) s
+        × ReadyAt (site_of code low high) (point_row (over_slots flow slots) flow.ops p ++ rest) s
 first-ready flow slots code low high p s h first ready =
     let l = laid flow slots code h in
     let r = begin flow.blocks first ready in
     let passed = point-passed code.symbols (places_of code) code.text p
-        (row slots (slice_index_or flow.ops p op.Turn) ++ r.0) s r.1 in
+        (row (over_slots flow slots) p (slice_index_or flow.ops p op.Turn) ++ r.0) s r.1 in
     (sym passed.0 ∙ sym (address-of flow slots code p l), r.0, r.1)
   where
     begin : (blocks : List (List ℕ)) → slice_get (slice_index_or blocks 0 []) 0 ≡ Some p
-        → ReadyAt (site_of code low high) (block_rows flow.ops slots 0 blocks) s
-        → (rest : List Item) × ReadyAt (site_of code low high) (point_row flow.ops slots p ++ rest) s
+        → ReadyAt (site_of code low high) (block_rows (over_slots flow slots) flow.ops 0 blocks) s
+        → (rest : List Item) × ReadyAt (site_of code low high) (point_row (over_slots flow slots) flow.ops p ++ rest) s
     begin [] e r = absurd (cc)
     begin ([] ∷ blocks) e r = absurd (cc)
     begin ((x ∷ points) ∷ blocks) e r =
-        let back : List Item = block_rows flow.ops slots 1 blocks in
-        let items : List Item = (point_row flow.ops slots x ++ point_rows flow.ops slots points) ++ back in
-        let rest : List Item = point_rows flow.ops slots points ++ back in
+        let back : List Item = block_rows (over_slots flow slots) flow.ops 1 blocks in
+        let items : List Item = (point_row (over_slots flow slots) flow.ops x
+            ++ point_rows (over_slots flow slots) flow.ops points) ++ back in
+        let rest : List Item = point_rows (over_slots flow slots) flow.ops points ++ back in
         let at : ReadyAt (site_of code low high) items s =
             label-passed code.symbols (places_of code) code.text 0 items s r in
-        let grouped : items ≡ point_row flow.ops slots x ++ rest =
-            append_assoc (point_row flow.ops slots x) (point_rows flow.ops slots points) back in
-        let here : ReadyAt (site_of code low high) (point_row flow.ops slots x ++ rest) s =
+        let grouped : items ≡ point_row (over_slots flow slots) flow.ops x ++ rest =
+            append_assoc (point_row (over_slots flow slots) flow.ops x)
+                (point_rows (over_slots flow slots) flow.ops points) back in
+        let here : ReadyAt (site_of code low high) (point_row (over_slots flow slots) flow.ops x ++ rest) s =
             subst (λ (i : List Item). ReadyAt (site_of code low high) i s) grouped at in
-        (rest, subst (λ (n : ℕ). ReadyAt (site_of code low high) (point_row flow.ops slots n ++ rest) s)
+        (rest, subst (λ (n : ℕ). ReadyAt (site_of code low high) (point_row (over_slots flow slots) flow.ops n ++ rest)
+            s)
             (same_Some x p e) here)
 
 -- what stands behind a point, and then the next point of its block
-pub record RowLaid (slots : List ℕ) (code : Code) (p : ℕ) (o : Op) (next : Option ℕ) : Type 0 where
+pub record RowLaid (placement : Placement) (code : Code) (p : ℕ) (o : Op) (next : Option ℕ) : Type 0 where
   pub rest : List Item
-  pub there : StandsIn code (row slots o ++ rest) (point_address code 0 p)
+  pub there : StandsIn code (row placement p o ++ rest) (point_address code 0 p)
   pub follows : (q : ℕ) → next ≡ Some q → (more : List Item) × (rest ≡ item.Point q ∷ more)
 
 -- The items of the op of a point stand at its address, and behind them the block's next point.
 pub point-laid : (flow : Flow) (slots : List ℕ) (code : Code) (p b : ℕ) (o : Op)
     → IsSlotCode flow slots (selected flow slots) code → Stands flow p b → slice_get flow.ops p ≡ Some o
-    → RowLaid slots code p o (following p (points_of flow b))
+    → RowLaid (over_slots flow slots) code p o (following p (points_of flow b))
 point-laid flow slots code p b o h stands has =
     let r = row-there flow slots code p b h stands in
-    let back : List Item = row slots o ++ r.rest in
+    let back : List Item = row (over_slots flow slots) p o ++ r.rest in
     let there : StandsIn code (item.Point p ∷ back) (point_address code 0 p) =
-        subst (λ (i : Op). StandsIn code (item.Point p ∷ row slots i ++ r.rest) (point_address code 0 p))
+        subst (λ (i : Op). StandsIn code (item.Point p ∷ row (over_slots flow slots) p i ++ r.rest)
+            (point_address code 0 p))
         (op-of flow p o has) r.stands in
     record { rest = r.rest; there = behind-there code.symbols (places_of code) code.text p back (point_address code 0 p)
         there; follows = r.follows }
 
 -- what is ready at a point, and behind it the next point of its block
-pub record RowReady (slots : List ℕ) (site : Site) (o : Op) (next : Option ℕ) (s : State) : Type 0 where
+pub record RowReady (placement : Placement) (site : Site) (p : ℕ) (o : Op) (next : Option ℕ) (s : State) : Type 0
+    where
   pub rest : List Item
-  pub ready : ReadyAt site (row slots o ++ rest) s
+  pub ready : ReadyAt site (row placement p o ++ rest) s
   pub follows : (q : ℕ) → next ≡ Some q → (more : List Item) × (rest ≡ item.Point q ∷ more)
 
 -- A state at the address of a point has the items of its op ready, and behind them the block's next point.
 pub point-ready : (flow : Flow) (slots : List ℕ) (code : Code) (low high p b : ℕ) (o : Op) (s : State)
     → IsSlotCode flow slots (selected flow slots) code → Stands flow p b → slice_get flow.ops p ≡ Some o → s.eip
     ≡ point_address code 0 p
-    → RowReady slots (site_of code low high) o (following p (points_of flow b)) s
+    → RowReady (over_slots flow slots) (site_of code low high) p o (following p (points_of flow b)) s
 point-ready flow slots code low high p b o s h stands has e =
     let r = point-laid flow slots code p b o h stands has in
-    record { rest = r.rest; ready = ready-there code.symbols (places_of code) code.text (row slots o ++ r.rest)
+    record { rest = r.rest; ready = ready-there code.symbols (places_of code) code.text
+        (row (over_slots flow slots) p o ++ r.rest)
         (point_address code 0 p) s e r.there; follows = r.follows }
 
 -- what the next point of a block is: a state with what stands behind the row ready is at its address
@@ -449,7 +460,7 @@ pub point-among : (flow : Flow) (slots : List ℕ) (p b : ℕ) → Stands flow p
     × (slice_get (selected flow slots) j ≡ Some (item.Point p))
 point-among flow slots p b h =
     let r = row-in-graph flow slots p b h in
-    let back : List Item = row slots (slice_index_or flow.ops p op.Turn) ++ r.rest in
+    let back : List Item = row (over_slots flow slots) p (slice_index_or flow.ops p op.Turn) ++ r.rest in
     (length r.front, ap (λ (l : List Item). slice_get l (length r.front)) r.is ∙ at-place r.front back (item.Point p))
 
 -- two points of the graph with one address are one point

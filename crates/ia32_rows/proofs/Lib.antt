@@ -1,2 +1,3 @@
 pub mod ItemKinds
 pub mod Laid
+pub mod OverSlots

@@ -7,8 +7,8 @@ use Rattle.flow_graph.specs.Graphs.{Flow, IsFlow}
 use Rattle.flow_graph.specs.States.{GraphProgram}
 use Rattle.flow_graph.specs.WellFormed.{IsGraphProgram}
 use Rattle.ia32_shows.specs.Follows.{IsRightCode}
-use Rattle.ia32_shows.specs.Placements.{Code, in_slots}
-use Rattle.ia32_rows.specs.Rows.{HasSlots, frame_of}
+use Rattle.ia32_shows.specs.Placements.{Code}
+use Rattle.ia32_rows.specs.Rows.{HasSlots, over_slots}
 
 -- a program of one graph without static objects
 abbrev pub one_graph : Flow → GraphProgram
@@ -23,7 +23,7 @@ pub record IsSlotCode (flow : Flow) (slots : List ℕ) (items : List Item) (code
   pub is_flow : IsFlow flow homes
   pub has_slots : HasSlots flow slots
   pub items_are : code.items ≡ items ∷ []
-  pub placements : code.placements ≡ in_slots (frame_of flow) [] slots ∷ []
+  pub placements : code.placements ≡ over_slots flow slots ∷ []
   pub text : IsText code.items code.order [] 0 code.places code.symbols code.text
   pub fits : length code.text < 2 ^ 30 + 1024
   pub bytes : AreBytes code.text

@@ -1,12 +1,16 @@
--- The items of a graph whose variables stand in slots of its frame: for each op the operands are read into ESI and
--- EDI, the core works on them, and the result is written to its slot.
-use Rattle.std.specs.Prelude.{◌≡◌, ◌<◌, ◌≤◌, ◌⊎◌, ◌+◌, ◌*◌, ⊤, ℕ, suc, pos, List, [], ◌∷◌, ◌++◌, length, slice_index_or}
-use Rattle.std.specs.Prelude.{Some}
+-- The items of a graph's points, by where its variables stand before and after each of them. A row works in one
+-- register, and takes its second operand where it stands.
+use Rattle.std.specs.Prelude.{◌≡◌, ◌<◌, ◌≤◌, ◌⊎◌, ◌+◌, ◌*◌, ◌%◌, ◌&&◌, ◌==◌, not, ⊤, ℕ, suc, ℤ, pos, Bool, false}
+use Rattle.std.specs.Prelude.{List, [], ◌∷◌, ◌++◌, length, slice_index_or, Some, None, unwrap_or, if◌then◌else◌}
+use Rattle.std.specs.Int.{w32, cast_unsigned}
 use Rattle.std.specs.List.{AllByRecursion}
 use Rattle.pcc_base.specs.declared.run.Width.TheVariants.{Two}
+use Rattle.ia32_regs.specs.declared.names.Reg32.{Reg32}
 use Rattle.ia32_regs.specs.declared.names.Reg32.TheVariants.{Eax, Ebx, Esp, Ebp, Esi, Edi}
-use Rattle.ia32_insn.specs.declared.operand.Mem.{Mem}
+use Rattle.ia32_regs.specs.Registers.{number32, number8}
+use Rattle.ia32_places.specs.Places.{Place, InWord, InByte, InSlot}
 use Rattle.ia32_insn.specs.declared.operand.Rm32.TheVariants as rm
+use Rattle.ia32_insn.specs.declared.operand.Rm8.TheVariants as rm8
 use Rattle.ia32_insn.specs.declared.insn.AluOp.{AluOp}
 use Rattle.ia32_insn.specs.declared.insn.AluOp.TheVariants as alu
 use Rattle.ia32_insn.specs.declared.insn.Insn.TheVariants as insn
@@ -18,7 +22,7 @@ use Rattle.flow_graph.specs.declared.op.Op.{Op}
 use Rattle.flow_graph.specs.declared.op.Op.TheVariants as op
 pub use Rattle.flow_graph.specs.SlotGraphs.{IsSlotOp}
 use Rattle.flow_graph.specs.Graphs.{Flow, IsEnded}
-use Rattle.ia32_shows.specs.Placements.{below}
+use Rattle.ia32_shows.specs.Placements.{Placement, below, in_slots}
 
 -- ---- the graphs that have code so far
 
@@ -51,56 +55,165 @@ pub record HasSlots (flow : Flow) (slots : List ℕ) : Type 0 where
   pub apart : AllApart slots
   pub small : frame_of flow ≤ 16384
 
+-- the placement of these slots
+abbrev pub over_slots : Flow → List ℕ → Placement
+over_slots flow slots = in_slots (frame_of flow) [] slots
+
+-- ---- registers and places
+
+-- The words of EAX, ECX, EDX and EBX are for variables; ESI and EDI are scratch, and so is the frame's word 16 below
+-- EBP.
+abbrev pub scratch : ℕ
+scratch = 16
+
+-- the place is the register, or a byte of it
+abbrev pub is_in : Reg32 → Place → Bool
+is_in t (InWord r) = number32 r == number32 t
+is_in t (InByte r) = number8 r % 4 == number32 t
+is_in t (InSlot k) = false
+
+-- the word of a place to a register, unless it stands there; a byte with its sign
+abbrev pub read : Reg32 → Place → List Item
+read t (InWord r) = if number32 r == number32 t then [] else plain (insn.Mov (rm.Reg t) r) ∷ []
+read t (InByte r) = plain (insn.MovSx8 t (rm8.Reg r)) ∷ []
+read t (InSlot k) = plain (insn.MovLoad t (below k)) ∷ []
+
+-- the word of a register to a place, unless it stands there; its low byte to a byte, by the word of scratch
+abbrev pub write : Place → Reg32 → List Item
+write (InWord r) t = if number32 r == number32 t then [] else plain (insn.Mov (rm.Reg r) t) ∷ []
+write (InByte r) t = plain (insn.Mov (rm.Mem (below scratch)) t) ∷ plain (insn.Mov8Load r (below scratch)) ∷ []
+write (InSlot k) t = plain (insn.Mov (rm.Mem (below k)) t) ∷ []
+
+-- an operation on a register, with the second operand where it stands
+abbrev pub operate : AluOp → Reg32 → Place → List Item
+operate how t (InWord r) = plain (insn.Alu how (rm.Reg t) r) ∷ []
+operate how t (InByte r) = plain (insn.MovSx8 Edi (rm8.Reg r)) ∷ plain (insn.Alu how (rm.Reg t) Edi) ∷ []
+operate how t (InSlot k) = plain (insn.AluLoad how t (below k)) ∷ []
+
+-- The register that an operation works in: the result's own, unless the second operand stands in it and the first would
+-- be read over it; else ESI.
+abbrev pub working : Place → Place → Place → Reg32
+working (InWord r) first second = if is_in r second && not (is_in r first) then Esi else r
+working (InByte r) first second = Esi
+working (InSlot k) first second = Esi
+
+-- the result's register has the operand
+abbrev pub has_operand : Place → Place → Bool
+has_operand (InWord r) operand = is_in r operand
+has_operand (InByte r) operand = false
+has_operand (InSlot k) operand = false
+
 -- ---- the items of an op
 
--- the slot of a variable
-abbrev pub slot_of : List ℕ → ℕ → Mem
-slot_of slots v = below (slice_index_or slots v 0)
+-- A number to a place; its low byte to a byte.
+abbrev pub number_row : Place → ℤ → List Item
+number_row (InWord r) n = plain (insn.MovImm (rm.Reg r) n) ∷ []
+number_row (InByte r) n = plain (insn.Mov8Imm r (cast_unsigned w32 n % 256)) ∷ []
+number_row (InSlot k) n = plain (insn.MovImm (rm.Mem (below k)) n) ∷ []
 
--- ESI to the slot of the result
-abbrev pub result_in : List ℕ → ℕ → List Item
-result_in slots d = plain (insn.Mov (rm.Mem (slot_of slots d)) Esi) ∷ []
+-- From a place to another. No row is empty, so that two points have two addresses.
+abbrev pub copy_row : Place → Place → List Item
+copy_row (InWord s) (InWord d) = plain (insn.Mov (rm.Reg d) s) ∷ []
+copy_row (InWord s) (InByte d) = write (InByte d) s
+copy_row (InWord s) (InSlot d) = plain (insn.Mov (rm.Mem (below d)) s) ∷ []
+copy_row (InByte s) (InWord d) = plain (insn.MovSx8 d (rm8.Reg s)) ∷ []
+copy_row (InByte s) (InByte d) = plain (insn.Mov8 (rm8.Reg d) s) ∷ []
+copy_row (InByte s) (InSlot d) = plain (insn.Mov8 (rm8.Mem (below d)) s) ∷ []
+copy_row (InSlot s) (InWord d) = plain (insn.MovLoad d (below s)) ∷ []
+copy_row (InSlot s) (InByte d) = plain (insn.Mov8Load d (below s)) ∷ []
+copy_row (InSlot s) (InSlot d) = plain (insn.MovLoad Esi (below s)) ∷ plain (insn.Mov (rm.Mem (below d)) Esi) ∷ []
 
--- EDI is added to ESI, or taken from it
-abbrev pub operation : List ℕ → AluOp → ℕ → ℕ → ℕ → List Item
-operation slots how d a b =
-    plain (insn.MovLoad Esi (slot_of slots a))
-    ∷ plain (insn.MovLoad Edi (slot_of slots b))
-    ∷ plain (insn.Alu how (rm.Reg Esi) Edi)
-    ∷ result_in slots d
+-- the first operand to a register, unless it stands there, the operation, and the result to its place, unless it is
+-- that register
+abbrev pub operation : AluOp → Place → Place → Place → List Item
+operation how result first second =
+    read (working result first second) first
+    ++ operate how (working result first second) second
+    ++ write result (working result first second)
+
+-- where the operands commute, the one that stands in the result's register is the first
+abbrev pub commuting : AluOp → Place → Place → Place → List Item
+commuting how result first second =
+    if has_operand result second then operation how result second first else operation how result first second
+
+-- the word of a place onto the stack
+abbrev pub pass : Place → List Item
+pass (InWord r) = plain (insn.Push (rm.Reg r)) ∷ []
+pass (InByte r) = plain (insn.MovSx8 Esi (rm8.Reg r)) ∷ plain (insn.Push (rm.Reg Esi)) ∷ []
+pass (InSlot k) = plain (insn.Push (rm.Mem (below k))) ∷ []
 
 -- the argument goes onto the stack, and off it again behind the call
-abbrev pub putchar_row : List ℕ → ℕ → ℕ → List Item
-putchar_row slots d s =
-    plain (insn.MovLoad Esi (slot_of slots s))
-    ∷ plain (insn.Push (rm.Reg Esi))
-    ∷ item.CallStub stub.Putchar
-    ∷ plain (insn.Pop Edi)
-    ∷ plain (insn.Mov (rm.Mem (slot_of slots d)) Eax)
-    ∷ []
+abbrev pub putchar_row : Place → Place → List Item
+putchar_row result argument =
+    pass argument ++ item.CallStub stub.Putchar ∷ plain (insn.Pop Edi) ∷ write result Eax
 
 -- the result to EAX, and the caller's registers as they were (System V ABI, Intel386 supplement, "Function Calling
 -- Sequence")
-abbrev pub return_row : List ℕ → ℕ → List Item
-return_row slots a =
-    plain (insn.MovLoad Eax (slot_of slots a))
-    ∷ plain (insn.MovLoad Ebx (below 4))
+abbrev pub return_row : Place → List Item
+return_row a =
+    read Eax a
+    ++ plain (insn.MovLoad Ebx (below 4))
     ∷ plain (insn.MovLoad Esi (below 8))
     ∷ plain (insn.MovLoad Edi (below 12))
     ∷ plain insn.Leave
     ∷ plain insn.Ret
     ∷ []
 
-abbrev pub row : List ℕ → Op → List Item
-row slots (op.Const d n) = plain (insn.MovImm (rm.Reg Esi) n) ∷ result_in slots d
-row slots (op.Copy d s) = plain (insn.MovLoad Esi (slot_of slots s)) ∷ result_in slots d
-row slots (op.Add d a b) = operation slots alu.Add d a b
-row slots (op.Sub d a b) = operation slots alu.Sub d a b
-row slots (op.Putchar d s) = putchar_row slots d s
-row slots (op.Mark s) = plain insn.Nop ∷ []
-row slots op.Turn = plain insn.Nop ∷ []
-row slots (op.Return (Some a)) = return_row slots a
-row slots _ = []
+-- the items of an op, by the places of variables before and after it
+abbrev pub items_between : (ℕ → Place) → (ℕ → Place) → Op → List Item
+items_between before after (op.Const d n) = number_row (after d) n
+items_between before after (op.Copy d s) = copy_row (before s) (after d)
+items_between before after (op.Add d a b) = commuting alu.Add (after d) (before a) (before b)
+items_between before after (op.Sub d a b) = operation alu.Sub (after d) (before a) (before b)
+items_between before after (op.Putchar d s) = putchar_row (after d) (before s)
+items_between before after (op.Mark s) = plain insn.Nop ∷ []
+items_between before after op.Turn = plain insn.Nop ∷ []
+items_between before after (op.Return (Some a)) = return_row (before a)
+-- these have none so far
+items_between before after (op.Return None) = []
+items_between before after (op.Wide d s) = []
+items_between before after (op.Low d s) = []
+items_between before after (op.Low16 d s) = []
+items_between before after (op.Neg d s) = []
+items_between before after (op.Not d s) = []
+items_between before after (op.Mul d a b) = []
+items_between before after (op.And d a b) = []
+items_between before after (op.Or d a b) = []
+items_between before after (op.Xor d a b) = []
+items_between before after (op.Shl d a b) = []
+items_between before after (op.Sar d a b) = []
+items_between before after (op.Div d a b) = []
+items_between before after (op.Rem d a b) = []
+items_between before after (op.Set how d a b) = []
+items_between before after (op.Frame d n) = []
+items_between before after (op.Static d n) = []
+items_between before after (op.Load bits d a i) = []
+items_between before after (op.Store bits a i s) = []
+items_between before after (op.Get bits d n) = []
+items_between before after (op.Put bits n s) = []
+items_between before after (op.Clear n) = []
+items_between before after (op.Param d n) = []
+items_between before after (op.Call d f arguments) = []
+items_between before after (op.Getchar d) = []
+items_between before after (op.Exit s) = []
+items_between before after (op.Same a b) = []
+items_between before after (op.Jump b) = []
+items_between before after (op.Branch how a b first second) = []
+
+-- where a variable stands before a point, and after it; one that stands nowhere is at EBP, where no variable stands
+abbrev pub place_before : Placement → ℕ → ℕ → Place
+place_before placement point v = unwrap_or (placement.before point v) (InSlot 0)
+
+abbrev pub place_after : Placement → ℕ → ℕ → Place
+place_after placement point v = unwrap_or (placement.after point v) (InSlot 0)
+
+-- over these slots a variable stands in its slot, at every point
+abbrev pub slot_place : List ℕ → ℕ → Place
+slot_place slots v = InSlot (slice_index_or slots v 0)
+
+-- the items of an op at a point
+abbrev pub row : Placement → ℕ → Op → List Item
+row placement point o = items_between (place_before placement point) (place_after placement point) o
 
 -- ---- the items of a graph
 
@@ -122,19 +235,20 @@ prologue frame slots =
     ∷ clears slots
 
 -- a point and the items of its op
-abbrev pub point_row : List Op → List ℕ → ℕ → List Item
-point_row ops slots point = item.Point point ∷ row slots (slice_index_or ops point op.Turn)
+abbrev pub point_row : Placement → List Op → ℕ → List Item
+point_row placement ops point = item.Point point ∷ row placement point (slice_index_or ops point op.Turn)
 
-abbrev pub point_rows : List Op → List ℕ → List ℕ → List Item
-point_rows ops slots [] = []
-point_rows ops slots (point ∷ points) = point_row ops slots point ++ point_rows ops slots points
+abbrev pub point_rows : Placement → List Op → List ℕ → List Item
+point_rows placement ops [] = []
+point_rows placement ops (point ∷ points) = point_row placement ops point ++ point_rows placement ops points
 
 -- the blocks from a number on, each behind its label
-abbrev pub block_rows : List Op → List ℕ → ℕ → List (List ℕ) → List Item
-block_rows ops slots k [] = []
-block_rows ops slots k (points ∷ blocks) =
-    (item.Label k ∷ point_rows ops slots points) ++ block_rows ops slots (suc k) blocks
+abbrev pub block_rows : Placement → List Op → ℕ → List (List ℕ) → List Item
+block_rows placement ops k [] = []
+block_rows placement ops k (points ∷ blocks) =
+    (item.Label k ∷ point_rows placement ops points) ++ block_rows placement ops (suc k) blocks
 
 -- the items of a graph
 abbrev pub selected : Flow → List ℕ → List Item
-selected flow slots = prologue (frame_of flow) slots ++ block_rows flow.ops slots 0 flow.blocks
+selected flow slots =
+    prologue (frame_of flow) slots ++ block_rows (over_slots flow slots) flow.ops 0 flow.blocks

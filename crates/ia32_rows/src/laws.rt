@@ -7,8 +7,9 @@ ghost use Rattle.flow_graph.specs.declared.op.Op.TheVariants as op;
 ghost use Rattle.flow_graph.specs.Graphs.{Flow, Stands, points_of, following};
 ghost use Rattle.ia32_shows.specs.Paths.{IsAt};
 ghost use Rattle.ia32_shows.specs.Placements.{Code, point_address};
-ghost use Rattle.ia32_rows.specs.Rows.{row, selected};
+ghost use Rattle.ia32_rows.specs.Rows.{over_slots, row, selected};
 ghost use Rattle.ia32_rows.specs.Right.{IsSlotCode};
+ghost use Rattle.ia32_rows.specs.Worked.{SumsAreRows, MovesAreRows};
 
 /// At the address of a point of a block the items of its op stand, and behind them the block's next point; no two
 /// points have one address.
@@ -17,7 +18,7 @@ pub fn points_are_laid()
         → IsSlotCode flow slots (selected flow slots) code → Stands flow p b → slice_get flow.ops p ≡ Some o
         → (places : Places) × (rest : List Item) × (bytes : List ℕ) × (slice_get code.places 0 ≡ Some places)
         × IsAt code.text (point_address code 0 p) bytes
-        × ItemsAt code.symbols places (point_address code 0 p) (row slots o ++ rest) bytes
+        × ItemsAt code.symbols places (point_address code 0 p) (row (over_slots flow slots) p o ++ rest) bytes
         × ((q : ℕ) → following p (points_of flow b) ≡ Some q → (more : List Item) × (rest ≡ item.Point q ∷ more)) }
     ensures apart { (flow : Flow) (slots : List ℕ) (code : Code) (p b q c : ℕ)
         → IsSlotCode flow slots (selected flow slots) code → Stands flow p b → Stands flow q c
@@ -32,4 +33,10 @@ pub fn marks_are_nops()
     ensures turns { (flow : Flow) (slots : List ℕ) (code : Code) (p b : ℕ)
         → IsSlotCode flow slots (selected flow slots) code → Stands flow p b → slice_get flow.ops p ≡ Some op.Turn
         → IsAt code.text (point_address code 0 p) (144 ∷ []) }
+{}
+
+/// A worked example of rows over slots and over registers.
+pub fn rows_are_short()
+    ensures sums { SumsAreRows }
+    ensures moves { MovesAreRows }
 {}

@@ -1,7 +1,7 @@
-//! The code of a graph whose variables stand in slots: which graphs have one so far, the items of each op
-//! (`specs/Rows.antt`), and what it means that they are right (`specs/Right.antt`).
+//! The items of each op of a graph, over any placement of its variables (`specs/Rows.antt`), which graphs have code so
+//! far, and what it means that this code over slots is right (`specs/Right.antt`).
 #![tactic(auto)]
 
 mod laws;
 
-pub use laws::{marks_are_nops, points_are_laid};
+pub use laws::{marks_are_nops, points_are_laid, rows_are_short};

@@ -1,7 +1,7 @@
 -- The items of a graph over slots can be assembled: they have spellings, and so many bytes.
 use Rattle.std.specs.List.{AllByRecursion}
 use Rattle.std.proofs.Common.{◌≡◌, ℕ, zero, suc, ◌+◌, ◌*◌, ◌≤◌, ℤ, pos, Bool, true, false, cond, List, [], ◌∷◌, length}
-use Rattle.std.proofs.Common.{Some, None, refl, inl, inr, arith, get_or, length-append}
+use Rattle.std.proofs.Common.{Some, None, refl, sym, subst, inl, inr, arith, get_or, length-append}
 use Rattle.std.specs.Prelude.{◌⊎◌, neg_ℤ, slice_index_or}
 use Rattle.std.specs.Int.{w32}
 use Rattle.std.specs.Int.RustNames.{FitsSigned}
@@ -25,9 +25,10 @@ use Rattle.flow_graph.specs.Graphs.{Flow, NumbersFit, IsFlow}
 use Rattle.ia32_asm.specs.declared.section.Target.TheVariants as target
 use Rattle.ia32_asm.specs.Sections.{CanAssemble, IsSpelled, HasLabel, items_size, target_of}
 use Rattle.ia32_asm.proofs.Laying.{items_size-append}
-use Rattle.ia32_shows.specs.Placements.{below}
-use Rattle.ia32_rows.specs.Rows.{IsSlot, HasSlots, frame_of, row, clears, prologue, point_row, point_rows, block_rows}
-use Rattle.ia32_rows.specs.Rows.{selected}
+use Rattle.ia32_shows.specs.Placements.{Placement, below}
+use Rattle.ia32_rows.specs.Rows.{IsSlot, HasSlots, frame_of, over_slots, slot_place, items_between, row, clears}
+use Rattle.ia32_rows.specs.Rows.{prologue, point_row, point_rows, block_rows, selected}
+use Rattle.ia32_rows.proofs.OverSlots.{row-over}
 use Rattle.ia32_rows.proofs.ItemKinds.{IsRowItem, every-join, every-get, selected-items}
 use Rattle.ia32_select.specs.Offsets.{NamesOnlyPutchar}
 use Rattle.ia32_select.proofs.Marked.{all_points, labels-once, points-once, few-points}
@@ -58,8 +59,14 @@ write-spelled r d h = spelling-indexed (insn.Mov (rm.Mem (below d)) r) (fits-bel
 move-spelled : (r q : Reg32) → HasSpelling (insn.Mov (rm.Reg r) q)
 move-spelled r q = spelling-indexed (insn.Mov (rm.Reg r) q) tt tt
 
-operation-spelled : (how : AluOp) → HasSpelling (insn.Alu how (rm.Reg Esi) Edi)
-operation-spelled how = spelling-indexed (insn.Alu how (rm.Reg Esi) Edi) tt tt
+operation-spelled : (how : AluOp) (r : Reg32) (d : ℕ) → d ≤ 16384 → HasSpelling (insn.AluLoad how r (below d))
+operation-spelled how r d h = spelling-indexed (insn.AluLoad how r (below d)) (fits-below d h) tt
+
+pass-spelled : (d : ℕ) → d ≤ 16384 → HasSpelling (insn.Push (rm.Mem (below d)))
+pass-spelled d h = spelling-indexed (insn.Push (rm.Mem (below d))) (fits-below d h) tt
+
+constant-spelled : (d : ℕ) (z : ℤ) → d ≤ 16384 → FitsSigned w32 z → HasSpelling (insn.MovImm (rm.Mem (below d)) z)
+constant-spelled d z h k = spelling-indexed (insn.MovImm (rm.Mem (below d)) z) (fits-below d h, k) (tt, tt)
 
 push-spelled : (r : Reg32) → HasSpelling (insn.Push (rm.Reg r))
 push-spelled r = ((80 + number32 r) ∷ [], inl refl)
@@ -67,17 +74,17 @@ push-spelled r = ((80 + number32 r) ∷ [], inl refl)
 number-spelled : (r : Reg32) (z : ℤ) → FitsSigned w32 z → HasSpelling (insn.MovImm (rm.Reg r) z)
 number-spelled r z h = spelling-indexed (insn.MovImm (rm.Reg r) z) (tt, h) (tt, tt)
 
-row-spelled : (slots : List ℕ) (o : Op) → AreSmall slots → NumbersFit o → AllByRecursion IsSpelled (row slots o)
-row-spelled slots (op.Const d n) small fits = (number-spelled Esi n fits, (write-spelled Esi _ (small d), tt))
+-- the items of an op over slots
+row-spelled : (slots : List ℕ) (o : Op) → AreSmall slots → NumbersFit o
+    → AllByRecursion IsSpelled (items_between (slot_place slots) (slot_place slots) o)
+row-spelled slots (op.Const d n) small fits = (constant-spelled _ n (small d) fits, tt)
 row-spelled slots (op.Copy d s) small fits = (read-spelled Esi _ (small s), (write-spelled Esi _ (small d), tt))
 row-spelled slots (op.Add d a b) small fits =
-    (read-spelled Esi _ (small a), (read-spelled Edi _ (small b),
-    (operation-spelled alu.Add, (write-spelled Esi _ (small d), tt))))
+    (read-spelled Esi _ (small a), (operation-spelled alu.Add Esi _ (small b), (write-spelled Esi _ (small d), tt)))
 row-spelled slots (op.Sub d a b) small fits =
-    (read-spelled Esi _ (small a), (read-spelled Edi _ (small b),
-    (operation-spelled alu.Sub, (write-spelled Esi _ (small d), tt))))
+    (read-spelled Esi _ (small a), (operation-spelled alu.Sub Esi _ (small b), (write-spelled Esi _ (small d), tt)))
 row-spelled slots (op.Putchar d s) small fits =
-    (read-spelled Esi _ (small s), (push-spelled Esi, (tt, ((95 ∷ [], refl), (write-spelled Eax _ (small d), tt)))))
+    (pass-spelled _ (small s), (tt, ((95 ∷ [], refl), (write-spelled Eax _ (small d), tt))))
 row-spelled slots (op.Mark s) small fits = ((144 ∷ [], refl), tt)
 row-spelled slots op.Turn small fits = ((144 ∷ [], refl), tt)
 row-spelled slots (op.Return (Some a)) small fits = (
@@ -120,29 +127,41 @@ word-at [] (suc p) h = tt
 word-at (o ∷ ops) zero h = h.0
 word-at (o ∷ ops) (suc p) h = word-at ops p h.1
 
-points-spelled : (ops : List Op) (slots points : List ℕ) → AreSmall slots → AllByRecursion NumbersFit ops
-    → AllByRecursion IsSpelled (point_rows ops slots points)
-points-spelled ops slots [] small h = tt
-points-spelled ops slots (p ∷ ps) small h =
-    every-join IsSpelled (point_row ops slots p) (point_rows ops slots ps)
-        (tt, row-spelled slots (slice_index_or ops p op.Turn) small (word-at ops p h))
-        (points-spelled ops slots ps small h)
+-- every row of a placement has spellings
+abbrev AreSpelledRows : Placement → List Op → Type 0
+AreSpelledRows placement ops =
+    (p : ℕ) → AllByRecursion IsSpelled (row placement p (slice_index_or ops p op.Turn))
 
-blocks-spelled : (ops : List Op) (slots : List ℕ) (k : ℕ) (blocks : List (List ℕ)) → AreSmall slots
-    → AllByRecursion NumbersFit ops → AllByRecursion IsSpelled (block_rows ops slots k blocks)
-blocks-spelled ops slots k [] small h = tt
-blocks-spelled ops slots k (points ∷ blocks) small h =
-    every-join IsSpelled (item.Label k ∷ point_rows ops slots points) (block_rows ops slots (suc k) blocks)
-        (tt, points-spelled ops slots points small h) (blocks-spelled ops slots (suc k) blocks small h)
+points-spelled : (placement : Placement) (ops : List Op) (points : List ℕ) → AreSpelledRows placement ops
+    → AllByRecursion IsSpelled (point_rows placement ops points)
+points-spelled placement ops [] rows = tt
+points-spelled placement ops (p ∷ ps) rows =
+    every-join IsSpelled (point_row placement ops p) (point_rows placement ops ps) (tt, rows p)
+        (points-spelled placement ops ps rows)
+
+blocks-spelled : (placement : Placement) (ops : List Op) (k : ℕ) (blocks : List (List ℕ))
+    → AreSpelledRows placement ops → AllByRecursion IsSpelled (block_rows placement ops k blocks)
+blocks-spelled placement ops k [] rows = tt
+blocks-spelled placement ops k (points ∷ blocks) rows =
+    every-join IsSpelled (item.Label k ∷ point_rows placement ops points) (block_rows placement ops (suc k) blocks)
+        (tt, points-spelled placement ops points rows) (blocks-spelled placement ops (suc k) blocks rows)
+
+-- those over slots have
+slots-spelled : (flow : Flow) (slots : List ℕ) → AreSmall slots → AllByRecursion NumbersFit flow.ops
+    → AreSpelledRows (over_slots flow slots) flow.ops
+slots-spelled flow slots small words p =
+    let o : Op = slice_index_or flow.ops p op.Turn in
+    subst (AllByRecursion IsSpelled) (sym (row-over flow slots p o))
+        (row-spelled slots o small (word-at flow.ops p words))
 
 selected-spelled : (flow : Flow) (slots : List ℕ) → HasSlots flow slots → AllByRecursion NumbersFit flow.ops
     → AllByRecursion IsSpelled (selected flow slots)
 selected-spelled flow slots h words =
     let small : AreSmall slots = λ v. let in_frame = slot-small (frame_of flow) slots v h.within in let frame =
         h.small in omega arith in
-    every-join IsSpelled (prologue (frame_of flow) slots) (block_rows flow.ops slots 0 flow.blocks)
+    every-join IsSpelled (prologue (frame_of flow) slots) (block_rows (over_slots flow slots) flow.ops 0 flow.blocks)
         (prologue-spelled (frame_of flow) slots h.small h.within)
-        (blocks-spelled flow.ops slots 0 flow.blocks small words)
+        (blocks-spelled (over_slots flow slots) flow.ops 0 flow.blocks (slots-spelled flow slots small words))
 
 -- ---- no jumps, and no names but putchar
 
@@ -190,20 +209,33 @@ fields-size reg d =
         choice _ _ (byte_bytes z) (word_bytes z) (omega arith) (omega arith) in
     omega arith
 
-row-size : (slots : List ℕ) (o : Op) → items_size (row slots o) ≤ 64
-row-size slots (op.Const d n) = let one = fields-size 6 (slice_index_or slots d 0) in omega arith
+row-size : (slots : List ℕ) (o : Op) → items_size (items_between (slot_place slots) (slot_place slots) o) ≤ 64
+row-size slots (op.Const d n) =
+    let slot : ℕ = slice_index_or slots d 0 in
+    let one = fields-size 0 slot in
+    let whole = length-append (displacement_for (Some Ebp) (neg_ℤ (pos slot))) (word_bytes n) in
+    omega (arith, whole)
 row-size slots (op.Copy d s) = let one = fields-size 6 (slice_index_or slots d 0) in let two =
     fields-size 6 (slice_index_or slots s 0) in omega arith
 row-size slots (op.Add d a b) = let one = fields-size 6 (slice_index_or slots d 0) in let two =
-    fields-size 6 (slice_index_or slots a 0) in let three = fields-size 7 (slice_index_or slots b 0) in omega arith
+    fields-size 6 (slice_index_or slots a 0) in let three = fields-size 6 (slice_index_or slots b 0) in omega arith
 row-size slots (op.Sub d a b) = let one = fields-size 6 (slice_index_or slots d 0) in let two =
-    fields-size 6 (slice_index_or slots a 0) in let three = fields-size 7 (slice_index_or slots b 0) in omega arith
+    fields-size 6 (slice_index_or slots a 0) in let three = fields-size 6 (slice_index_or slots b 0) in omega arith
 row-size slots (op.Putchar d s) = let one = fields-size 0 (slice_index_or slots d 0) in let two =
     fields-size 6 (slice_index_or slots s 0) in omega arith
 row-size slots (op.Mark s) = omega arith
 row-size slots op.Turn = omega arith
 row-size slots (op.Return (Some a)) = let one = fields-size 0 (slice_index_or slots a 0) in omega arith
 row-size slots o = omega arith
+
+-- every row of a placement has at most so many bytes
+abbrev AreSmallRows : Placement → List Op → Type 0
+AreSmallRows placement ops = (p : ℕ) → items_size (row placement p (slice_index_or ops p op.Turn)) ≤ 64
+
+slots-small : (flow : Flow) (slots : List ℕ) → AreSmallRows (over_slots flow slots) flow.ops
+slots-small flow slots p =
+    let o : Op = slice_index_or flow.ops p op.Turn in
+    subst (λ (items : List Item). items_size items ≤ 64) (sym (row-over flow slots p o)) (row-size slots o)
 
 clears-size : (slots : List ℕ) → items_size (clears slots) ≤ 8 * length slots
 clears-size [] = omega arith
@@ -212,22 +244,24 @@ clears-size (s ∷ slots) = let one = fields-size 6 s in let rest = clears-size 
 prologue-size : (frame : ℕ) (slots : List ℕ) → items_size (prologue frame slots) ≤ 8 * length slots + 64
 prologue-size frame slots = let one = fields-size 4 frame in let rest = clears-size slots in omega arith
 
-points-size : (ops : List Op) (slots points : List ℕ) → items_size (point_rows ops slots points) ≤ 64 * length points
-points-size ops slots [] = omega arith
-points-size ops slots (p ∷ ps) =
-    let mine : List Item = row slots (slice_index_or ops p op.Turn) in
-    let one = row-size slots (slice_index_or ops p op.Turn) in
-    let rest = points-size ops slots ps in
-    let whole = items_size-append mine (point_rows ops slots ps) in
+points-size : (placement : Placement) (ops : List Op) (points : List ℕ) → AreSmallRows placement ops
+    → items_size (point_rows placement ops points) ≤ 64 * length points
+points-size placement ops [] rows = omega arith
+points-size placement ops (p ∷ ps) rows =
+    let mine : List Item = row placement p (slice_index_or ops p op.Turn) in
+    let one = rows p in
+    let rest = points-size placement ops ps rows in
+    let whole = items_size-append mine (point_rows placement ops ps) in
     omega arith
 
-blocks-size : (ops : List Op) (slots : List ℕ) (k : ℕ) (blocks : List (List ℕ))
-    → items_size (block_rows ops slots k blocks) ≤ 64 * length (all_points blocks)
-blocks-size ops slots k [] = omega arith
-blocks-size ops slots k (points ∷ blocks) =
-    let one = points-size ops slots points in
-    let rest = blocks-size ops slots (suc k) blocks in
-    let whole = items_size-append (item.Label k ∷ point_rows ops slots points) (block_rows ops slots (suc k) blocks) in
+blocks-size : (placement : Placement) (ops : List Op) (k : ℕ) (blocks : List (List ℕ)) → AreSmallRows placement ops
+    → items_size (block_rows placement ops k blocks) ≤ 64 * length (all_points blocks)
+blocks-size placement ops k [] rows = omega arith
+blocks-size placement ops k (points ∷ blocks) rows =
+    let one = points-size placement ops points rows in
+    let rest = blocks-size placement ops (suc k) blocks rows in
+    let whole = items_size-append (item.Label k ∷ point_rows placement ops points)
+        (block_rows placement ops (suc k) blocks) in
     let long = length-append points (all_points blocks) in
     omega arith
 
@@ -236,8 +270,9 @@ pub selected-size : (flow : Flow) (homes slots : List ℕ) → IsFlow flow homes
     → items_size (selected flow slots) ≤ 800 * length flow.ops + 8 * length flow.widths + 64
 selected-size flow homes slots f h =
     let one = prologue-size (frame_of flow) slots in
-    let rest = blocks-size flow.ops slots 0 flow.blocks in
-    let whole = items_size-append (prologue (frame_of flow) slots) (block_rows flow.ops slots 0 flow.blocks) in
+    let rest = blocks-size (over_slots flow slots) flow.ops 0 flow.blocks (slots-small flow slots) in
+    let whole = items_size-append (prologue (frame_of flow) slots)
+        (block_rows (over_slots flow slots) flow.ops 0 flow.blocks) in
     let few = few-points flow homes f in
     let many = h.as_many in
     omega arith

@@ -12,7 +12,8 @@ use Rattle.flow_graph.specs.declared.op.Op.{Op}
 use Rattle.flow_graph.specs.declared.op.Op.TheVariants as op
 use Rattle.flow_graph.specs.Graphs.{Flow, HasFittingOp, IsFlow, IsIn, IsPlaced, points_of, FitsOp}
 use Rattle.flow_graph.proofs.Points.{every-in}
-use Rattle.ia32_rows.specs.Rows.{IsSlot, IsSlotOp, HasSlots, row, point_row}
+use Rattle.ia32_rows.specs.Rows.{IsSlot, IsSlotOp, HasSlots, over_slots, slot_place, items_between, row, point_row}
+use Rattle.ia32_rows.proofs.OverSlots.{row-over}
 use Rattle.ia32_rows.proofs.ItemKinds.{every-get}
 use Rattle.ia32_select.specs.Offsets.{distance, slots_of, AreBelow, IsSlotOpOver}
 
@@ -66,13 +67,16 @@ over-offsets flow homes offsets p o f h (block, stands) has =
         (every-get IsSlotOp flow.ops p o h.ops has) fits
 
 -- a point and the items of its op behind others
-pub point-emitted : (old pushed new : List Item) (ops : List Op) (slots : List ℕ) (p : ℕ) (o : Op) → pushed
-    ≡ old ++ item.Point p ∷ [] → slice_get ops p ≡ Some o → new ≡ pushed ++ row slots o → new
-    ≡ old ++ point_row ops slots p
-point-emitted old pushed new ops slots p o one has e =
-    let is : o ≡ slice_index_or ops p op.Turn = sym (get_or_from_slice_get ops p o op.Turn has) in
-    e ∙ ap (λ (l : List Item). l ++ row slots o) one ∙ append_assoc old (item.Point p ∷ []) (row slots o)
-        ∙ ap (λ (i : Op). old ++ item.Point p ∷ row slots i) is
+pub point-emitted : (old pushed new : List Item) (flow : Flow) (slots : List ℕ) (p : ℕ) (o : Op) → pushed
+    ≡ old ++ item.Point p ∷ [] → slice_get flow.ops p ≡ Some o
+    → new ≡ pushed ++ items_between (slot_place slots) (slot_place slots) o
+    → new ≡ old ++ point_row (over_slots flow slots) flow.ops p
+point-emitted old pushed new flow slots p o one has e =
+    let mine : List Item = row (over_slots flow slots) p o in
+    let is : o ≡ slice_index_or flow.ops p op.Turn = sym (get_or_from_slice_get flow.ops p o op.Turn has) in
+    e ∙ ap (λ (l : List Item). pushed ++ l) (sym (row-over flow slots p o)) ∙ ap (λ (l : List Item). l ++ mine) one
+        ∙ append_assoc old (item.Point p ∷ []) mine
+        ∙ ap (λ (i : Op). old ++ item.Point p ∷ row (over_slots flow slots) p i) is
 
 -- a point at a place is among the points
 pub in-at : (ps : List ℕ) (i : ℕ) → i < length ps → IsIn (get_or ps i 0) ps

@@ -13,7 +13,9 @@ use Rattle.flow_graph.specs.declared.op.Op.TheVariants as op
 use Rattle.flow_graph.specs.Graphs.{Flow, IsIn, IsDistinct, IsFlow, IsPlaced, points_of, without}
 use Rattle.flow_graph.proofs.Points.{every-in, every-map, every-without, distinct-without, choose}
 use Rattle.ia32_asm.specs.Sections.{Stands, StandOnce}
-use Rattle.ia32_rows.specs.Rows.{frame_of, row, clears, prologue, point_rows, block_rows, selected}
+use Rattle.ia32_shows.specs.Placements.{Placement}
+use Rattle.ia32_rows.specs.Rows.{frame_of, over_slots, row, clears, prologue, point_rows, block_rows, selected}
+use Rattle.ia32_rows.proofs.ItemKinds.{AreRowInsns, row-insns}
 
 -- ---- numbers of items
 
@@ -98,27 +100,30 @@ once f (z ∷ zs) (suc i) (suc j) n x y d a b one two =
 
 -- ---- the numbers of rows
 
-row-points : (slots : List ℕ) (o : Op) → numbers point_of (row slots o) ≡ []
-row-points slots (op.Const d n) = refl
-row-points slots (op.Copy d s) = refl
-row-points slots (op.Add d a b) = refl
-row-points slots (op.Sub d a b) = refl
-row-points slots (op.Putchar d s) = refl
-row-points slots (op.Mark s) = refl
-row-points slots op.Turn = refl
-row-points slots (op.Return (Some a)) = refl
-row-points slots o = refl
+-- instructions of a row are no points and no labels
+insns-points : (items : List Item) → AreRowInsns items → numbers point_of items ≡ []
+insns-points [] h = refl
+insns-points (item.Plain i ∷ items) h = insns-points items h.1
+insns-points (item.Label l ∷ items) h = absurd h.0
+insns-points (item.Point p ∷ items) h = absurd h.0
+insns-points (item.JumpTo l ∷ items) h = absurd h.0
+insns-points (item.JumpIf c l ∷ items) h = absurd h.0
+insns-points (item.CallFunction f ∷ items) h = absurd h.0
+insns-points (item.CallStub t ∷ items) h = insns-points items h.1
+insns-points (item.JumpTrap c ∷ items) h = absurd h.0
+insns-points (item.AddressOf r k ∷ items) h = absurd h.0
 
-row-labels : (slots : List ℕ) (o : Op) → numbers label_of (row slots o) ≡ []
-row-labels slots (op.Const d n) = refl
-row-labels slots (op.Copy d s) = refl
-row-labels slots (op.Add d a b) = refl
-row-labels slots (op.Sub d a b) = refl
-row-labels slots (op.Putchar d s) = refl
-row-labels slots (op.Mark s) = refl
-row-labels slots op.Turn = refl
-row-labels slots (op.Return (Some a)) = refl
-row-labels slots o = refl
+insns-labels : (items : List Item) → AreRowInsns items → numbers label_of items ≡ []
+insns-labels [] h = refl
+insns-labels (item.Plain i ∷ items) h = insns-labels items h.1
+insns-labels (item.Label l ∷ items) h = absurd h.0
+insns-labels (item.Point p ∷ items) h = absurd h.0
+insns-labels (item.JumpTo l ∷ items) h = absurd h.0
+insns-labels (item.JumpIf c l ∷ items) h = absurd h.0
+insns-labels (item.CallFunction f ∷ items) h = absurd h.0
+insns-labels (item.CallStub t ∷ items) h = insns-labels items h.1
+insns-labels (item.JumpTrap c ∷ items) h = absurd h.0
+insns-labels (item.AddressOf r k ∷ items) h = absurd h.0
 
 clears-points : (slots : List ℕ) → numbers point_of (clears slots) ≡ []
 clears-points [] = refl
@@ -128,21 +133,23 @@ clears-labels : (slots : List ℕ) → numbers label_of (clears slots) ≡ []
 clears-labels [] = refl
 clears-labels (slot ∷ slots) = clears-labels slots
 
-point_rows-points : (ops : List Op) (slots points : List ℕ) → numbers point_of (point_rows ops slots points) ≡ points
-point_rows-points ops slots [] = refl
-point_rows-points ops slots (p ∷ ps) =
-    let mine : List Item = row slots (slice_index_or ops p op.Turn) in
-    ap (λ (l : List ℕ). p ∷ l) (numbers-append point_of mine (point_rows ops slots ps)
-        ∙ ap (λ (l : List ℕ). l ++ numbers point_of (point_rows ops slots ps))
-        (row-points slots (slice_index_or ops p op.Turn)) ∙ point_rows-points ops slots ps)
+point_rows-points : (placement : Placement) (ops : List Op) (points : List ℕ)
+    → numbers point_of (point_rows placement ops points) ≡ points
+point_rows-points placement ops [] = refl
+point_rows-points placement ops (p ∷ ps) =
+    let mine : List Item = row placement p (slice_index_or ops p op.Turn) in
+    ap (λ (l : List ℕ). p ∷ l) (numbers-append point_of mine (point_rows placement ops ps)
+        ∙ ap (λ (l : List ℕ). l ++ numbers point_of (point_rows placement ops ps))
+        (insns-points mine (row-insns placement p (slice_index_or ops p op.Turn))) ∙ point_rows-points placement ops ps)
 
-point_rows-labels : (ops : List Op) (slots points : List ℕ) → numbers label_of (point_rows ops slots points) ≡ []
-point_rows-labels ops slots [] = refl
-point_rows-labels ops slots (p ∷ ps) =
-    let mine : List Item = row slots (slice_index_or ops p op.Turn) in
-    numbers-append label_of mine (point_rows ops slots ps)
-        ∙ ap (λ (l : List ℕ). l ++ numbers label_of (point_rows ops slots ps))
-        (row-labels slots (slice_index_or ops p op.Turn)) ∙ point_rows-labels ops slots ps
+point_rows-labels : (placement : Placement) (ops : List Op) (points : List ℕ)
+    → numbers label_of (point_rows placement ops points) ≡ []
+point_rows-labels placement ops [] = refl
+point_rows-labels placement ops (p ∷ ps) =
+    let mine : List Item = row placement p (slice_index_or ops p op.Turn) in
+    numbers-append label_of mine (point_rows placement ops ps)
+        ∙ ap (λ (l : List ℕ). l ++ numbers label_of (point_rows placement ops ps))
+        (insns-labels mine (row-insns placement p (slice_index_or ops p op.Turn))) ∙ point_rows-labels placement ops ps
 
 -- the points of all blocks, and the numbers of blocks from one on
 abbrev pub all_points : List (List ℕ) → List ℕ
@@ -153,37 +160,37 @@ abbrev labels_from : ℕ → List (List ℕ) → List ℕ
 labels_from k [] = []
 labels_from k (points ∷ blocks) = k ∷ labels_from (suc k) blocks
 
-block_rows-points : (ops : List Op) (slots : List ℕ) (k : ℕ) (blocks : List (List ℕ))
-    → numbers point_of (block_rows ops slots k blocks) ≡ all_points blocks
-block_rows-points ops slots k [] = refl
-block_rows-points ops slots k (points ∷ blocks) =
-    numbers-append point_of (item.Label k ∷ point_rows ops slots points) (block_rows ops slots (suc k) blocks)
-    ∙ ap (λ (l : List ℕ). l ++ numbers point_of (block_rows ops slots (suc k) blocks))
-        (point_rows-points ops slots points)
-    ∙ ap (λ (l : List ℕ). points ++ l) (block_rows-points ops slots (suc k) blocks)
+block_rows-points : (placement : Placement) (ops : List Op) (k : ℕ) (blocks : List (List ℕ))
+    → numbers point_of (block_rows placement ops k blocks) ≡ all_points blocks
+block_rows-points placement ops k [] = refl
+block_rows-points placement ops k (points ∷ blocks) =
+    numbers-append point_of (item.Label k ∷ point_rows placement ops points) (block_rows placement ops (suc k) blocks)
+    ∙ ap (λ (l : List ℕ). l ++ numbers point_of (block_rows placement ops (suc k) blocks))
+        (point_rows-points placement ops points)
+    ∙ ap (λ (l : List ℕ). points ++ l) (block_rows-points placement ops (suc k) blocks)
 
-block_rows-labels : (ops : List Op) (slots : List ℕ) (k : ℕ) (blocks : List (List ℕ))
-    → numbers label_of (block_rows ops slots k blocks) ≡ labels_from k blocks
-block_rows-labels ops slots k [] = refl
-block_rows-labels ops slots k (points ∷ blocks) =
-    numbers-append label_of (item.Label k ∷ point_rows ops slots points) (block_rows ops slots (suc k) blocks)
-    ∙ ap (λ (l : List ℕ). (k ∷ l) ++ numbers label_of (block_rows ops slots (suc k) blocks))
-        (point_rows-labels ops slots points)
-    ∙ ap (λ (l : List ℕ). k ∷ l) (block_rows-labels ops slots (suc k) blocks)
+block_rows-labels : (placement : Placement) (ops : List Op) (k : ℕ) (blocks : List (List ℕ))
+    → numbers label_of (block_rows placement ops k blocks) ≡ labels_from k blocks
+block_rows-labels placement ops k [] = refl
+block_rows-labels placement ops k (points ∷ blocks) =
+    numbers-append label_of (item.Label k ∷ point_rows placement ops points) (block_rows placement ops (suc k) blocks)
+    ∙ ap (λ (l : List ℕ). (k ∷ l) ++ numbers label_of (block_rows placement ops (suc k) blocks))
+        (point_rows-labels placement ops points)
+    ∙ ap (λ (l : List ℕ). k ∷ l) (block_rows-labels placement ops (suc k) blocks)
 
 selected-points : (flow : Flow) (slots : List ℕ) → numbers point_of (selected flow slots) ≡ all_points flow.blocks
 selected-points flow slots =
-    let back : List Item = block_rows flow.ops slots 0 flow.blocks in
+    let back : List Item = block_rows (over_slots flow slots) flow.ops 0 flow.blocks in
     numbers-append point_of (prologue (frame_of flow) slots) back
         ∙ ap (λ (l : List ℕ). l ++ numbers point_of back) (clears-points slots)
-        ∙ block_rows-points flow.ops slots 0 flow.blocks
+        ∙ block_rows-points (over_slots flow slots) flow.ops 0 flow.blocks
 
 selected-labels : (flow : Flow) (slots : List ℕ) → numbers label_of (selected flow slots) ≡ labels_from 0 flow.blocks
 selected-labels flow slots =
-    let back : List Item = block_rows flow.ops slots 0 flow.blocks in
+    let back : List Item = block_rows (over_slots flow slots) flow.ops 0 flow.blocks in
     numbers-append label_of (prologue (frame_of flow) slots) back
         ∙ ap (λ (l : List ℕ). l ++ numbers label_of back) (clears-labels slots)
-        ∙ block_rows-labels flow.ops slots 0 flow.blocks
+        ∙ block_rows-labels (over_slots flow slots) flow.ops 0 flow.blocks
 
 -- ---- none twice
 

@@ -31,7 +31,35 @@ IsSlotOpOver n (op.Putchar d s) = (d < n) × (s < n)
 IsSlotOpOver n (op.Mark s) = ⊤
 IsSlotOpOver n op.Turn = ⊤
 IsSlotOpOver n (op.Return (Some a)) = a < n
-IsSlotOpOver n _ = ⊥
+IsSlotOpOver n (op.Return None) = ⊥
+IsSlotOpOver n (op.Wide d s) = ⊥
+IsSlotOpOver n (op.Low d s) = ⊥
+IsSlotOpOver n (op.Low16 d s) = ⊥
+IsSlotOpOver n (op.Neg d s) = ⊥
+IsSlotOpOver n (op.Not d s) = ⊥
+IsSlotOpOver n (op.Mul d a b) = ⊥
+IsSlotOpOver n (op.And d a b) = ⊥
+IsSlotOpOver n (op.Or d a b) = ⊥
+IsSlotOpOver n (op.Xor d a b) = ⊥
+IsSlotOpOver n (op.Shl d a b) = ⊥
+IsSlotOpOver n (op.Sar d a b) = ⊥
+IsSlotOpOver n (op.Div d a b) = ⊥
+IsSlotOpOver n (op.Rem d a b) = ⊥
+IsSlotOpOver n (op.Set how d a b) = ⊥
+IsSlotOpOver n (op.Frame d k) = ⊥
+IsSlotOpOver n (op.Static d k) = ⊥
+IsSlotOpOver n (op.Load bits d a i) = ⊥
+IsSlotOpOver n (op.Store bits a i s) = ⊥
+IsSlotOpOver n (op.Get bits d k) = ⊥
+IsSlotOpOver n (op.Put bits k s) = ⊥
+IsSlotOpOver n (op.Clear k) = ⊥
+IsSlotOpOver n (op.Param d k) = ⊥
+IsSlotOpOver n (op.Call d f arguments) = ⊥
+IsSlotOpOver n (op.Getchar d) = ⊥
+IsSlotOpOver n (op.Exit s) = ⊥
+IsSlotOpOver n (op.Same a b) = ⊥
+IsSlotOpOver n (op.Jump b) = ⊥
+IsSlotOpOver n (op.Branch how a b first second) = ⊥
 
 -- the items name no function and no object: only `putchar`
 abbrev pub NamesOnlyPutchar : List Item → Type 0

@@ -3,7 +3,7 @@
 ghost use Rattle.std.specs.Prelude.{◌≡◌, ◌<◌, ◌∷◌, ◌++◌, length, OnOk};
 ghost use Rattle.ia32_insn.specs.declared.item.Item.TheVariants as item;
 ghost use Rattle.flow_graph.specs.Graphs.{IsPlaced, points_of};
-ghost use Rattle.ia32_rows.specs.Rows.{HasSlots, point_row, point_rows, block_rows};
+ghost use Rattle.ia32_rows.specs.Rows.{HasSlots, over_slots, point_row, point_rows, block_rows};
 ghost use Rattle.ia32_select.specs.Offsets.{slots_of};
 
 use crate::ops::emit_op;
@@ -22,7 +22,7 @@ fn emit_point(
     requires slots { HasSlots graph.now (slots_of offsets.now) }
     requires placed { IsPlaced graph.now point }
     ensures { OnOk result (items.new.items
-        ≡ items.old.items ++ point_row graph.now.ops (slots_of offsets.now) point) }
+        ≡ items.old.items ++ point_row (over_slots graph.now (slots_of offsets.now)) graph.now.ops point) }
 {
     graph.is_flow();
     items.push(Item::Point(point))?;
@@ -40,7 +40,8 @@ fn emit_block(
     requires slots { HasSlots graph.now (slots_of offsets.now) }
     requires in_range { block < length graph.now.blocks }
     ensures { OnOk result (items.new.items ≡ items.old.items
-        ++ item.Label block ∷ point_rows graph.now.ops (slots_of offsets.now) (points_of graph.now block)) }
+        ++ item.Label block
+        ∷ point_rows (over_slots graph.now (slots_of offsets.now)) graph.now.ops (points_of graph.now block)) }
 {
     items.push(Item::Label(block))?;
     let points = graph.points_in(alloc, block)?;
@@ -59,7 +60,8 @@ pub fn emit_blocks(
 ) -> Result<(), NoMemory>
     requires { HasSlots graph.now (slots_of offsets.now) }
     ensures { OnOk result (items.new.items
-        ≡ items.old.items ++ block_rows graph.now.ops (slots_of offsets.now) 0 graph.now.blocks) }
+        ≡ items.old.items
+        ++ block_rows (over_slots graph.now (slots_of offsets.now)) graph.now.ops 0 graph.now.blocks) }
 {
     for block in 0..graph.blocks() {
         emit_block(alloc, items, graph, offsets, block)?;

@@ -1,6 +1,6 @@
 //! Instructions on slots and registers.
 
-ghost use Rattle.std.specs.Prelude.{◌≡◌, ◌<◌, ◌∷◌, [], ◌++◌, length, neg_ℤ, pos, OnOk};
+ghost use Rattle.std.specs.Prelude.{◌≡◌, ◌<◌, ◌∷◌, [], ◌++◌, length, slice_index_or, neg_ℤ, pos, OnOk};
 ghost use Rattle.std.specs.Int.{w32};
 ghost use Rattle.std.specs.Int.RustNames.{FitsSigned};
 ghost use Rattle.ia32_insn.specs.Items.{plain};
@@ -8,10 +8,10 @@ ghost use Rattle.ia32_insn.specs.declared.insn.Insn.TheVariants as insn;
 ghost use Rattle.ia32_insn.specs.declared.operand.Rm32.TheVariants as rm;
 ghost use Rattle.ia32_regs.specs.declared.names.Reg32.TheVariants.{Esi};
 ghost use Rattle.ia32_shows.specs.Placements.{below};
-ghost use Rattle.ia32_rows.specs.Rows.{slot_of, result_in};
+ghost use Rattle.ia32_rows.specs.Rows.{slot_place, read, write, operate, number_row, pass};
 ghost use Rattle.ia32_select.specs.Offsets.{distance, slots_of, AreBelow};
 
-use ia32_insn::{Insn, Item, Mem, Rm32};
+use ia32_insn::{AluOp, Insn, Item, Mem, Rm32};
 use ia32_regs::Reg32;
 use pcc_base::NoMemory;
 
@@ -39,7 +39,7 @@ pub fn at_offset(offset: i32) -> Mem
 fn slot(offsets: &[i32], variable: u32) -> Mem
     requires known { variable < length offsets.now }
     requires below { AreBelow offsets.now }
-    ensures { result ≡ slot_of (slots_of offsets.now) variable }
+    ensures { result ≡ below (slice_index_or (slots_of offsets.now) variable 0) }
 {
     at_offset(offsets[variable as usize])
 }
@@ -54,7 +54,7 @@ pub fn emit_read(
     requires known { variable < length offsets.now }
     requires below { AreBelow offsets.now }
     ensures { OnOk result (items.new.items
-        ≡ items.old.items ++ plain (insn.MovLoad register (slot_of (slots_of offsets.now) variable)) ∷ []) }
+        ≡ items.old.items ++ read register (slot_place (slots_of offsets.now) variable)) }
 {
     emit(items, Insn::MovLoad(register, slot(offsets, variable)))
 }
@@ -69,12 +69,56 @@ pub fn emit_write(
     requires known { variable < length offsets.now }
     requires below { AreBelow offsets.now }
     ensures { OnOk result (items.new.items
-        ≡ items.old.items ++ plain (insn.Mov (rm.Mem (slot_of (slots_of offsets.now) variable)) register) ∷ []) }
+        ≡ items.old.items ++ write (slot_place (slots_of offsets.now) variable) register) }
 {
     emit(
         items,
         Insn::Mov(Rm32::Mem(slot(offsets, variable)), register),
     )
+}
+
+/// Puts a number into a variable.
+pub fn emit_constant(
+    items: &mut Vec<Item>,
+    offsets: &[i32],
+    variable: u32,
+    number: i32,
+) -> Result<(), NoMemory>
+    requires known { variable < length offsets.now }
+    requires below { AreBelow offsets.now }
+    ensures { OnOk result (items.new.items
+        ≡ items.old.items ++ number_row (slot_place (slots_of offsets.now) variable) number) }
+{
+    emit(
+        items,
+        Insn::MovImm(Rm32::Mem(slot(offsets, variable)), number),
+    )
+}
+
+/// Works on a register with a variable, which is the second operand.
+pub fn emit_operand(
+    items: &mut Vec<Item>,
+    offsets: &[i32],
+    how: AluOp,
+    register: Reg32,
+    variable: u32,
+) -> Result<(), NoMemory>
+    requires known { variable < length offsets.now }
+    requires below { AreBelow offsets.now }
+    ensures { OnOk result (items.new.items
+        ≡ items.old.items ++ operate how register (slot_place (slots_of offsets.now) variable)) }
+{
+    emit(items, Insn::AluLoad(how, register, slot(offsets, variable)))
+}
+
+/// Puts a variable onto the stack.
+pub fn emit_pass(items: &mut Vec<Item>, offsets: &[i32], variable: u32) -> Result<(), NoMemory>
+    requires known { variable < length offsets.now }
+    requires below { AreBelow offsets.now }
+    ensures { OnOk result (items.new.items
+        ≡ items.old.items ++ pass (slot_place (slots_of offsets.now) variable)) }
+{
+    emit(items, Insn::Push(Rm32::Mem(slot(offsets, variable))))
 }
 
 /// Puts a number into ESI. The number is of 32 bits, by its type.

@@ -1,8 +1,8 @@
 -- Rows over slots: a number, a copy, and an operation on two words.
-use Rattle.std.proofs.Common.{◌≡◌, ℕ, ◌-◌, ◌^◌, ◌<◌, ℤ, List, ◌∷◌, Ok, sym, ap, subst, ◌∙◌, arith}
+use Rattle.std.proofs.Common.{◌≡◌, ℕ, ◌-◌, ◌^◌, ◌<◌, ℤ, List, ◌∷◌, Ok, sym, ap, subst, arith}
 use Rattle.std.specs.Int.{w32, cast_unsigned}
 use Rattle.ia32_regs.specs.declared.names.Reg32.{Reg32}
-use Rattle.ia32_regs.specs.declared.names.Reg32.TheVariants.{Ebp, Esi, Edi}
+use Rattle.ia32_regs.specs.declared.names.Reg32.TheVariants.{Ebp, Esi}
 use Rattle.ia32_insn.specs.declared.operand.Rm32.TheVariants as rm
 use Rattle.ia32_insn.specs.declared.insn.AluOp.{AluOp}
 use Rattle.ia32_insn.specs.declared.insn.Insn.TheVariants as insn
@@ -13,7 +13,7 @@ use Rattle.ia32_insn.specs.Arithmetic.{alu_value}
 use Rattle.ia32_insn.specs.Meaning.{load, word_of}
 use Rattle.ia32_insn.specs.Keeps.{AreDisjoint}
 use Rattle.ia32_shows.specs.Placements.{below}
-use Rattle.ia32_shows.proofs.Frames.{went-then, went-stricter, load-went, number-went, store-went, operation-went}
+use Rattle.ia32_shows.proofs.Frames.{went-then, went-stricter, load-went, store-went, number-stored, operation-went}
 use Rattle.ia32_shows.proofs.Frames.{Operates}
 use Rattle.ia32_shows.specs.Sites.{Site, ReadyAt, Framed, Went, IsInFrame, Anywhere, ApartFrom}
 
@@ -46,13 +46,15 @@ write-ends site frame items r distance v out s t inside went value =
     )
 
 pub const-row : (site : Site) (frame : ℕ) (back : List Item) (n : ℤ) (d : ℕ) (s : State) → Framed site frame s
-    → ReadyAt site (item.Plain (insn.MovImm (rm.Reg Esi) n) ∷ item.Plain (insn.Mov (rm.Mem (below d)) Esi) ∷ back) s
-    → IsInFrame frame d → cast_unsigned w32 n < 2 ^ 32 → (u : State)
-        × Wrote site frame back (word_of Ebp s - d) (cast_unsigned w32 n) s.written s u
+    → ReadyAt site (item.Plain (insn.MovImm (rm.Mem (below d)) n) ∷ back) s → IsInFrame frame d
+    → cast_unsigned w32 n < 2 ^ 32
+    → (u : State) × Wrote site frame back (word_of Ebp s - d) (cast_unsigned w32 n) s.written s u
 const-row site frame back n d s framed ready inside fits =
-    let rest : List Item = item.Plain (insn.Mov (rm.Mem (below d)) Esi) ∷ back in
-    let one = number-went site frame rest Anywhere Esi n s framed ready (λ e. omega arith) (λ e. omega arith) fits in
-    write-ends site frame back Esi d (cast_unsigned w32 n) s.written s one.0 inside one.1 one.2.value
+    let low = inside.low in
+    let slot : ℕ = word_of Ebp s - d in
+    let stored = number-stored site frame back (ApartFrom slot) n d s framed ready (omega arith) inside.high fits
+        (λ n b k. k) in
+    (stored.0, record { went = stored.1; same = stored.2 })
 
 pub copy-row : (site : Site) (frame : ℕ) (back : List Item) (a d x : ℕ) (s : State) → Framed site frame s
     → ReadyAt site (item.Plain (insn.MovLoad Esi (below a)) ∷ item.Plain (insn.Mov (rm.Mem (below d)) Esi) ∷ back) s
@@ -67,16 +69,15 @@ copy-row site frame back a d x s framed ready source inside held fits =
 
 pub operation-row : (site : Site) (frame : ℕ) (back : List Item) (op : AluOp) (a b d x y : ℕ) (s : State)
     → Framed site frame s
-    → ReadyAt site (item.Plain (insn.MovLoad Esi (below a)) ∷ item.Plain (insn.MovLoad Edi (below b))
-        ∷ item.Plain (insn.Alu op (rm.Reg Esi) Edi) ∷ item.Plain (insn.Mov (rm.Mem (below d)) Esi) ∷ back) s
+    → ReadyAt site (item.Plain (insn.MovLoad Esi (below a)) ∷ item.Plain (insn.AluLoad op Esi (below b))
+        ∷ item.Plain (insn.Mov (rm.Mem (below d)) Esi) ∷ back) s
     → IsInFrame frame a → IsInFrame frame b → IsInFrame frame d → load 4 (word_of Ebp s - a) s ≡ Ok x
-        → load 4 (word_of Ebp s - b) s ≡ Ok y → x < 2 ^ 32 → y < 2 ^ 32 → alu_value op x y < 2 ^ 32
-        → ((t : State) → Operates op t)
+        → load 4 (word_of Ebp s - b) s ≡ Ok y → x < 2 ^ 32 → alu_value op x y < 2 ^ 32
+        → ((t : State) → Operates op Esi t)
     → (u : State) × Wrote site frame back (word_of Ebp s - d) (alu_value op x y) s.written s u
-operation-row site frame back op a b d x y s framed ready first second inside held other x_fits y_fits fits does =
-    let three : List Item = item.Plain (insn.Mov (rm.Mem (below d)) Esi) ∷ back in
-    let two : List Item = item.Plain (insn.Alu op (rm.Reg Esi) Edi) ∷ three in
-    let one : List Item = item.Plain (insn.MovLoad Edi (below b)) ∷ two in
+operation-row site frame back op a b d x y s framed ready first second inside held other x_fits fits does =
+    let two : List Item = item.Plain (insn.Mov (rm.Mem (below d)) Esi) ∷ back in
+    let one : List Item = item.Plain (insn.AluLoad op Esi (below b)) ∷ two in
     let a_low = first.low in
     let b_low = second.low in
     let p = load-went site frame one Anywhere Esi a x s framed ready (λ e. omega arith) (λ e. omega arith) (omega arith)
@@ -84,13 +85,8 @@ operation-row site frame back op a b d x y s framed ready first second inside he
     let t : State = p.0 in
     let there : load 4 (word_of Ebp t - b) t ≡ Ok y =
         subst (λ (k : ℕ). load 4 (k - b) t ≡ Ok y) (sym p.1.ebp) (p.1.kept 4 (word_of Ebp s - b) y tt other) in
-    let q = load-went site frame two Anywhere Edi b y t p.1.framed p.1.ready (λ e. omega arith) (λ e. omega arith)
-        (omega arith) second.high there y_fits in
-    let v : State = q.0 in
-    let esi : word_of Esi v ≡ x = q.2.others Esi (λ e. omega arith) ∙ p.2.value in
-    let r = operation-went site frame three Anywhere op x y v q.1.framed q.1.ready (does v) esi q.2.value fits in
-    let pq = went-then site frame one two Anywhere s.written t.written s t v p.1 q.1 in
-    let all = went-then site frame two three Anywhere t.written v.written s v r.0 pq r.1 in
-    let out : v.written ≡ s.written = q.1.written ∙ p.1.written in
-    write-ends site frame back Esi d (alu_value op x y) s.written s r.0 inside
-        (subst (λ (o : List ℕ). Went site frame three Anywhere o s r.0) out all) r.2
+    let q = operation-went site frame two Anywhere op Esi b x y t p.1.framed p.1.ready (λ e. omega arith)
+        (λ e. omega arith) (omega arith) second.high (does t) p.2.value there fits in
+    let all = went-then site frame one two Anywhere s.written t.written s t q.0 p.1 q.1 in
+    write-ends site frame back Esi d (alu_value op x y) s.written s q.0 inside
+        (subst (λ (o : List ℕ). Went site frame two Anywhere o s q.0) p.1.written all) q.2.value

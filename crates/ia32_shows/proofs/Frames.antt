@@ -5,7 +5,7 @@ use Rattle.std.specs.Prelude.{Result}
 use Rattle.std.specs.Int.{w32, cast_unsigned}
 use Rattle.pcc_base.specs.Outcome.{End}
 use Rattle.ia32_regs.specs.declared.names.Reg32.{Reg32}
-use Rattle.ia32_regs.specs.declared.names.Reg32.TheVariants.{Esp, Ebp, Esi, Edi}
+use Rattle.ia32_regs.specs.declared.names.Reg32.TheVariants.{Esp, Ebp}
 use Rattle.ia32_regs.specs.Registers.{number32, register}
 use Rattle.ia32_insn.specs.declared.operand.Rm32.TheVariants as rm
 use Rattle.ia32_insn.specs.declared.insn.AluOp.{AluOp}
@@ -16,7 +16,8 @@ use Rattle.ia32_insn.specs.declared.item.Item.TheVariants as item
 use Rattle.ia32_insn.specs.declared.flags.Flags.{Flags}
 use Rattle.ia32_insn.specs.State.{State, at_address}
 use Rattle.ia32_insn.specs.Arithmetic.{alu_value, alu_flags}
-use Rattle.ia32_insn.specs.Meaning.{and_then, address_of, load, store, word_of, with_word, with_flags, effect, target}
+use Rattle.ia32_insn.specs.Meaning.{and_then, address_of, load, store, word_of, with_word, with_flags, operate, effect}
+use Rattle.ia32_insn.specs.Meaning.{target}
 use Rattle.ia32_insn.specs.Keeps.{AreDisjoint}
 use Rattle.ia32_shows.specs.Placements.{below}
 use Rattle.ia32_shows.proofs.Sound.{store-in, load-same, sound-with_word, sound-at, sound-with_flags, word-same}
@@ -118,29 +119,26 @@ number-went site frame items K r z s framed ready b p fits =
     (at_address went.0 (with_result r (cast_unsigned w32 z) s.flags s), went.1,
         changed-word site frame went.0 r (cast_unsigned w32 z) s.flags s framed fits)
 
--- a register to a word of the frame
-pub store-went : (site : Site) (frame : ℕ) (items : List Item) (K : ℕ → ℕ → Type 0) (r : Reg32) (distance v : ℕ)
-    (s : State) → Framed site frame s → ReadyAt site (item.Plain (insn.Mov (rm.Mem (below distance)) r) ∷ items) s
-    → 4 ≤ distance → distance ≤ frame → word_of r s ≡ v
-        → ((n b : ℕ) → K b n → AreDisjoint (word_of Ebp s - distance) 4 b n)
+-- an instruction that writes a word to the frame
+pub word-went : (site : Site) (frame : ℕ) (items : List Item) (K : ℕ → ℕ → Type 0) (i : Insn) (distance v : ℕ)
+    (s : State) → Framed site frame s → ReadyAt site (item.Plain i ∷ items) s → IsCommon i → 4 ≤ distance
+    → distance ≤ frame → v < 2 ^ 32 → ((n b : ℕ) → K b n → AreDisjoint (word_of Ebp s - distance) 4 b n)
+    → ((after : ℕ) → effect i after s ≡ store 4 (address_of (below distance) s) v s)
+    → ((after : ℕ) → target i after s ≡ Ok after)
     → (u : State) × Went site frame items K s.written s u × (load 4 (word_of Ebp s - distance) u ≡ Ok v)
-store-went site frame items K r distance v s framed ready some within held apart =
+word-went site frame items K i distance v s framed ready common some within fits apart e k =
     let esp = framed.esp in
     let room = framed.room in
     let top = framed.top in
     let at = below-address distance s (omega arith) (omega arith)
         (word-below site.text site.low site.high Ebp s framed.sound) in
-    let fits : v < 2 ^ 32 = subst (λ (k : ℕ). k < 2 ^ 32) held
-        (word-below site.text site.low site.high r s framed.sound) in
     let stored = store-in site.text site.low site.high (word_of Ebp s - distance) v s framed.sound (omega arith)
         (omega arith) fits in
     let t : State = stored.0 in
     let rest = stored.1.rest in
-    let does : store 4 (address_of (below distance) s) (word_of r s) s ≡ Ok t =
-        ap (λ (a : ℕ). store 4 a (word_of r s) s) at ∙ ap (λ (w : ℕ). store 4 (word_of Ebp s - distance) w s) held
-        ∙ stored.1.is in
-    let went = plain-goes site.symbols site.places site.text site.low site.high (insn.Mov (rm.Mem (below distance)) r)
-        items s t framed.sound ready tt (λ after. does) (λ after. refl) in
+    let does : store 4 (address_of (below distance) s) v s ≡ Ok t = ap (λ (a : ℕ). store 4 a v s) at ∙ stored.1.is in
+    let went = plain-goes site.symbols site.places site.text site.low site.high i items s t framed.sound ready common
+        (λ after. e after ∙ does) k in
     let word : (q : Reg32) → word_of q t ≡ word_of q s =
         λ q. ap (λ (registers : List ℕ). register q registers) rest.registers in (
       at_address went.0 t,
@@ -161,25 +159,55 @@ store-went site frame items K r distance v s framed ready some within held apart
       load-same 4 (word_of Ebp s - distance) v t (at_address went.0 t) refl stored.1.same,
     )
 
--- what an operation of EDI on ESI does, as each of ADD and SUB does it
-abbrev pub Operates : AluOp → State → Type 0
-Operates op s =
-    (after : ℕ) → effect (insn.Alu op (rm.Reg Esi) Edi) after s
-        ≡ Ok (with_result Esi (alu_value op (word_of Esi s) (word_of Edi s))
-        (Some (alu_flags op (word_of Esi s) (word_of Edi s))) s)
+-- a register to a word of the frame
+pub store-went : (site : Site) (frame : ℕ) (items : List Item) (K : ℕ → ℕ → Type 0) (r : Reg32) (distance v : ℕ)
+    (s : State) → Framed site frame s → ReadyAt site (item.Plain (insn.Mov (rm.Mem (below distance)) r) ∷ items) s
+    → 4 ≤ distance → distance ≤ frame → word_of r s ≡ v
+        → ((n b : ℕ) → K b n → AreDisjoint (word_of Ebp s - distance) 4 b n)
+    → (u : State) × Went site frame items K s.written s u × (load 4 (word_of Ebp s - distance) u ≡ Ok v)
+store-went site frame items K r distance v s framed ready some within held apart =
+    let fits : v < 2 ^ 32 = subst (λ (k : ℕ). k < 2 ^ 32) held
+        (word-below site.text site.low site.high r s framed.sound) in
+    word-went site frame items K (insn.Mov (rm.Mem (below distance)) r) distance v s framed ready tt some within fits
+        apart (λ after. ap (λ (w : ℕ). store 4 (address_of (below distance) s) w s) held) (λ after. refl)
 
-pub operation-went : (site : Site) (frame : ℕ) (items : List Item) (K : ℕ → ℕ → Type 0) (op : AluOp) (a b : ℕ)
-    (s : State) → Framed site frame s → ReadyAt site (item.Plain (insn.Alu op (rm.Reg Esi) Edi) ∷ items) s
-    → Operates op s → word_of Esi s ≡ a → word_of Edi s ≡ b → alu_value op a b < 2 ^ 32
-    → (u : State) × Went site frame items K s.written s u × (word_of Esi u ≡ alu_value op a b)
-operation-went site frame items K op a b s framed ready does first second fits =
-    let v : ℕ = alu_value op (word_of Esi s) (word_of Edi s) in
-    let flags : Option Flags = Some (alu_flags op (word_of Esi s) (word_of Edi s)) in
-    let is : v ≡ alu_value op a b = ap (λ (x : ℕ). alu_value op x (word_of Edi s)) first ∙ ap (alu_value op a) second in
-    let went = register-went site frame items K (insn.Alu op (rm.Reg Esi) Edi) Esi v flags s framed ready tt
-        (λ e. omega arith) (λ e. omega arith) does (λ after. refl) in
-    let changed = changed-word site frame went.0 Esi v flags s framed (subst (λ (k : ℕ). k < 2 ^ 32) (sym is) fits) in
-    (at_address went.0 (with_result Esi v flags s), went.1, changed.value ∙ is)
+-- a number to a word of the frame
+pub number-stored : (site : Site) (frame : ℕ) (items : List Item) (K : ℕ → ℕ → Type 0) (z : ℤ) (distance : ℕ)
+    (s : State) → Framed site frame s → ReadyAt site (item.Plain (insn.MovImm (rm.Mem (below distance)) z) ∷ items) s
+    → 4 ≤ distance → distance ≤ frame → cast_unsigned w32 z < 2 ^ 32
+        → ((n b : ℕ) → K b n → AreDisjoint (word_of Ebp s - distance) 4 b n)
+    → (u : State) × Went site frame items K s.written s u
+        × (load 4 (word_of Ebp s - distance) u ≡ Ok (cast_unsigned w32 z))
+number-stored site frame items K z distance s framed ready some within fits apart =
+    word-went site frame items K (insn.MovImm (rm.Mem (below distance)) z) distance (cast_unsigned w32 z) s framed
+        ready tt some within fits apart (λ after. refl) (λ after. refl)
+
+-- what an operation of a number on a register does, as each but CMP does it
+abbrev pub Operates : AluOp → Reg32 → State → Type 0
+Operates op r s =
+    (b : ℕ) → operate op (rm.Reg r) b s
+        ≡ Ok (with_result r (alu_value op (word_of r s) b) (Some (alu_flags op (word_of r s) b)) s)
+
+-- an operation of a word of the frame on a register
+pub operation-went : (site : Site) (frame : ℕ) (items : List Item) (K : ℕ → ℕ → Type 0) (op : AluOp) (r : Reg32)
+    (distance a b : ℕ) (s : State) → Framed site frame s
+    → ReadyAt site (item.Plain (insn.AluLoad op r (below distance)) ∷ items) s → number32 Ebp ≢ number32 r
+        → number32 Esp ≢ number32 r → 0 < distance → distance ≤ frame → Operates op r s → word_of r s ≡ a
+        → load 4 (word_of Ebp s - distance) s ≡ Ok b → alu_value op a b < 2 ^ 32
+    → (u : State) × Went site frame items K s.written s u × Changed r (alu_value op a b) s u
+operation-went site frame items K op r distance a b s framed ready not_ebp not_esp some within does first held fits =
+    let esp = framed.esp in
+    let v : ℕ = alu_value op (word_of r s) b in
+    let flags : Option Flags = Some (alu_flags op (word_of r s) b) in
+    let is : v ≡ alu_value op a b = ap (λ (x : ℕ). alu_value op x b) first in
+    let at = below-address distance s some (omega arith) (word-below site.text site.low site.high Ebp s framed.sound) in
+    let loaded : load 4 (address_of (below distance) s) s ≡ Ok b = ap (λ (k : ℕ). load 4 k s) at ∙ held in
+    let went = register-went site frame items K (insn.AluLoad op r (below distance)) r v flags s framed ready tt not_ebp
+        not_esp (λ after. ap (λ (x : Result ℕ End). and_then x (λ value. operate op (rm.Reg r) value s)) loaded
+        ∙ does b) (λ after. refl) in
+    let changed = changed-word site frame went.0 r v flags s framed (subst (λ (k : ℕ). k < 2 ^ 32) (sym is) fits) in
+    (at_address went.0 (with_result r v flags s), went.1,
+        record { value = changed.value ∙ is; others = changed.others })
 
 -- places that pass a stricter test are kept too
 pub went-stricter : (site : Site) (frame : ℕ) (items : List Item) (K L : ℕ → ℕ → Type 0) (out : List ℕ) (s u : State)

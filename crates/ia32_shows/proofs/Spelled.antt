@@ -1,7 +1,7 @@
 -- How spellings begin: with a byte at least, which is that of NOP for NOP alone.
 use Rattle.std.proofs.Common.{◌≡◌, ◌≢◌, ℕ, ◌+◌, ◌*◌, ◌<◌, ℤ, List, [], ◌∷◌, ◌++◌, ap, ◌∙◌, inl, inr, arith}
 use Rattle.std.proofs.Common.{append_assoc}
-use Rattle.ia32_regs.specs.Registers.{number32}
+use Rattle.ia32_regs.specs.Registers.{number32, number8}
 use Rattle.ia32_regs.proofs.Registers.{number32_below}
 use Rattle.ia32_insn.specs.declared.operand.Rm32.TheVariants as rm
 use Rattle.ia32_insn.specs.declared.insn.AluOp.{AluOp}
@@ -39,9 +39,14 @@ abbrev pub IsCommon : Insn → Type 0
 IsCommon (insn.Mov operand r) = Unit {0}
 IsCommon (insn.MovLoad r m) = Unit {0}
 IsCommon (insn.MovImm operand z) = Unit {0}
+IsCommon (insn.Mov8 operand r) = Unit {0}
+IsCommon (insn.Mov8Load r m) = Unit {0}
+IsCommon (insn.Mov8Imm r n) = Unit {0}
 IsCommon (insn.MovZx8 r operand) = Unit {0}
+IsCommon (insn.MovSx8 r operand) = Unit {0}
 IsCommon (insn.Lea r m) = Unit {0}
 IsCommon (insn.Alu op operand r) = Unit {0}
+IsCommon (insn.AluLoad op r m) = Unit {0}
 IsCommon (insn.AluImm op operand z) = Unit {0}
 IsCommon (insn.Push operand) = Unit {0}
 IsCommon (insn.Pop r) = Unit {0}
@@ -71,13 +76,23 @@ common-begins (insn.MovImm (rm.Reg r) z) bytes c (inr h) =
     row_with-begins 199 [] 0 (InRegister (number32 r)) 4 z bytes (λ e. omega arith) h
 common-begins (insn.MovImm (rm.Mem m) z) bytes c h =
     row_with-begins 199 [] 0 (InMemory m) 4 z bytes (λ e. omega arith) h
+common-begins (insn.Mov8 operand r) bytes c (inl h) =
+    row-begins 136 [] (number8 r) (operand8 operand) bytes (λ e. omega arith) h
+common-begins (insn.Mov8 operand r) bytes c (inr h) =
+    reversed-begins 138 [] (operand8 operand) (number8 r) bytes (λ e. omega arith) h
+common-begins (insn.Mov8Load r m) bytes c h = row-begins 138 [] (number8 r) (InMemory m) bytes (λ e. omega arith) h
+common-begins (insn.Mov8Imm r n) bytes c h = (176 + number8 r, n ∷ [], h, λ e. omega arith)
 common-begins (insn.MovZx8 r operand) bytes c h =
     row-begins 15 (182 ∷ []) (number32 r) (operand8 operand) bytes (λ e. omega arith) h
+common-begins (insn.MovSx8 r operand) bytes c h =
+    row-begins 15 (190 ∷ []) (number32 r) (operand8 operand) bytes (λ e. omega arith) h
 common-begins (insn.Lea r m) bytes c h = row-begins 141 [] (number32 r) (InMemory m) bytes (λ e. omega arith) h
 common-begins (insn.Alu op operand r) bytes c (inl h) =
     row-begins (8 * alu_number op + 1) [] (number32 r) (operand32 operand) bytes (alu_other op 1 (omega arith)) h
 common-begins (insn.Alu op operand r) bytes c (inr h) =
     reversed-begins (8 * alu_number op + 3) [] (operand32 operand) (number32 r) bytes (alu_other op 3 (omega arith)) h
+common-begins (insn.AluLoad op r m) bytes c h =
+    row-begins (8 * alu_number op + 3) [] (number32 r) (InMemory m) bytes (alu_other op 3 (omega arith)) h
 common-begins (insn.AluImm op operand z) bytes c (inl h) =
     row_with-begins 131 [] (alu_number op) (operand32 operand) 1 z bytes (λ e. omega arith) h
 common-begins (insn.AluImm op operand z) bytes c (inr h) =

@@ -6,7 +6,7 @@ use Rattle.std.proofs.lemmas.Int.{ints, fits_signed_from_abs}
 use Rattle.std.proofs.lemmas.Bool.{cases_lt, lt-ltb, le-ltb}
 use Rattle.byteorder.specs.Endian.{little_number, twos_complement}
 use Rattle.byteorder.specs.Numbers.{little_from-lt}
-use Rattle.ia32_regs.specs.declared.names.Reg32.{Reg32}
+use Rattle.ia32_insn.specs.declared.operand.Rm32.{Rm32}
 use Rattle.ia32_insn.specs.declared.operand.Rm32.TheVariants as rm
 use Rattle.ia32_insn.specs.declared.insn.Insn.TheVariants as insn
 use Rattle.ia32_insn.specs.declared.item.Item.{Item}
@@ -51,20 +51,23 @@ reads-fits z bytes each h = subst (FitsSigned w32) h.reads
     (complement-fits (little_number 4 bytes) (little_from-lt 0 4 bytes each))
 
 -- the number of a MOV that these bytes spell
-mov-fits : (r : Reg32) (z : ℤ) (bytes : List ℕ) → EachByte bytes → Spells (insn.MovImm (rm.Reg r) z) bytes
+mov-fits : (operand : Rm32) (z : ℤ) (bytes : List ℕ) → EachByte bytes → Spells (insn.MovImm operand z) bytes
     → FitsSigned w32 z
-mov-fits r z bytes each (inl (rest, whole, reads)) =
+mov-fits (rm.Reg r) z bytes each (inl (rest, whole, reads)) =
     reads-fits z rest (bytes-back (_ ∷ []) rest (subst EachByte whole each)) reads
-mov-fits r z bytes each (inr (fields, rest, whole, has, reads)) =
+mov-fits (rm.Reg r) z bytes each (inr (fields, rest, whole, has, reads)) =
+    reads-fits z rest (bytes-back fields rest (bytes-back (199 ∷ []) (fields ++ rest) (subst EachByte whole each)))
+    reads
+mov-fits (rm.Mem m) z bytes each (fields, rest, whole, has, reads) =
     reads-fits z rest (bytes-back fields rest (bytes-back (199 ∷ []) (fields ++ rest) (subst EachByte whole each)))
     reads
 
 -- the number of a MOV that is ready
-pub ready-fits : (site : Site) (r : Reg32) (z : ℤ) (items : List Item) (s : machine.State) → AreBytes site.text
-    → ReadyAt site (item.Plain (insn.MovImm (rm.Reg r) z) ∷ items) s → FitsSigned w32 z
-ready-fits site r z items s each ready =
+pub ready-fits : (site : Site) (operand : Rm32) (z : ℤ) (items : List Item) (s : machine.State) → AreBytes site.text
+    → ReadyAt site (item.Plain (insn.MovImm operand z) ∷ items) s → FitsSigned w32 z
+ready-fits site operand z items s each ready =
     let first : List ℕ = ready.stand.0 in
     let here : EachByte ready.bytes = bytes-front ready.bytes ready.here.rest
         (bytes-back ready.here.done (ready.bytes ++ ready.here.rest)
         (subst EachByte ready.here.whole (each-byte site.text each))) in
-    mov-fits r z first (bytes-front first ready.stand.1 (subst EachByte ready.stand.2 here)) ready.stand.3
+    mov-fits operand z first (bytes-front first ready.stand.1 (subst EachByte ready.stand.2 here)) ready.stand.3

@@ -1,7 +1,7 @@
 -- A code over slots by its parts, and the laws for every such code.
-use Rattle.std.proofs.Common.{◌≡◌, ℕ, ◌+◌, List, [], ◌∷◌, ◌++◌, length, Some, refl, sym, ap, ◌∙◌, subst, arith}
+use Rattle.std.proofs.Common.{◌≡◌, ℕ, List, [], ◌∷◌, length, Some, refl, sym, ap, ◌∙◌, subst, arith}
 use Rattle.std.specs.Prelude.{slice_index_or}
-use Rattle.ia32_regs.specs.declared.names.Reg32.TheVariants.{Esi}
+use Rattle.ia32_insn.specs.declared.operand.Rm32.TheVariants as rm
 use Rattle.ia32_insn.specs.declared.item.Item.{Item}
 use Rattle.ia32_insn.specs.State as machine
 use Rattle.ia32_insn.specs.Items.{Symbols, Places, IsOrder, IsText, text_state}
@@ -11,10 +11,10 @@ use Rattle.flow_graph.specs.Running.{first_state}
 use Rattle.flow_graph.specs.States as graph
 use Rattle.flow_graph.specs.States.{GraphProgram, op_at}
 use Rattle.flow_graph.specs.WellFormed.{IsGraphProgram}
-use Rattle.ia32_shows.specs.Placements.{Placement, Code, objects_of}
+use Rattle.ia32_shows.specs.Placements.{Placement, Code, below, objects_of}
 use Rattle.ia32_shows.specs.Shows.{Shows}
 use Rattle.ia32_calls.specs.Laws.{StartGoes, PrologueGoes}
-use Rattle.ia32_rows.specs.Rows.{selected, result_in}
+use Rattle.ia32_rows.specs.Rows.{selected}
 use Rattle.ia32_shows.specs.Follows.{Starts, FollowsAll, ComesTo, Follows, is_nop}
 use Rattle.ia32_rows.specs.Right.{IsSlotCode, AreRight}
 use Rattle.ia32_rows.proofs.Laid.{no_places, order-one, places_of}
@@ -95,8 +95,8 @@ follows-by laws flow slots code h words input g s =
 pub code-follows : Laws → (flow : Flow) (slots : List ℕ) (code : Code)
     → IsSlotCode flow slots (selected flow slots) code → FollowsAll code
 code-follows laws flow slots code h input g s is_state =
-    follows-by laws flow slots code h (λ g t d n has r. ready-fits (site_in (setup_of flow slots code)) Esi n
-    (result_in slots d ++ r.rest) t h.bytes r.ready) input g s
+    follows-by laws flow slots code h (λ g t d n has r. ready-fits (site_in (setup_of flow slots code))
+        (rm.Mem (below (slice_index_or slots d 0))) n r.rest t h.bytes r.ready) input g s
 
 -- code over slots is right
 pub slots-right : (laws : Laws) → StartGoes → PrologueGoes → (flow : Flow) (slots : List ℕ)

@@ -19,7 +19,8 @@ use Rattle.ia32_rows.specs.Rows.{IsSlotOp}
 use Rattle.ia32_shows.specs.Follows.{Follows, is_nop}
 use Rattle.ia32_rows.specs.Right.{one_graph}
 use Rattle.ia32_rows.proofs.Laid.{point-ready, no-calls}
-use Rattle.ia32_simulation.proofs.Setup.{Setup, IsSetup, code_in, main_state}
+use Rattle.ia32_rows.proofs.OverSlots.{over-ready}
+use Rattle.ia32_simulation.proofs.Setup.{Setup, IsSetup, code_in, site_in, main_state}
 use Rattle.ia32_simulation.proofs.Main.{AtMain, shown-main}
 use Rattle.ia32_simulation.proofs.Slots.{every-at}
 use Rattle.ia32_simulation.proofs.Sets.{RowAt, const-follows, copy-follows, add-follows, sub-follows}
@@ -69,10 +70,12 @@ main-follows laws x input g s h at words =
     let o : Op = found.0 in
     let r = point-ready x.flow x.slots (code_in x) (data_start x.text) (stack_end x.text []) g.point g.block o s
         h.is_code at.placed found.1 at.eip in
+    let mine : RowAt x g o s = over-ready x.flow x.slots (site_in x) g.point o
+        (following g.point (points_of x.flow g.block)) s r in
     let slot_op : IsSlotOp o = every-at IsSlotOp x.flow.ops g.point o h.has_slots.ops found.1 in
     subst (λ (p : Option Op). Follows (code_in x) input s (main_state g) (is_nop p)
         (given p (act (one_graph x.flow) (main_state g)))) (sym found.1)
-    (op-follows laws x input g s o h at words slot_op found.1 found.2 r)
+    (op-follows laws x input g s o h at words slot_op found.1 found.2 mine)
 
 -- ---- every state that is shown
 

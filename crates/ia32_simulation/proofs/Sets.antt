@@ -7,7 +7,7 @@ use Rattle.std.proofs.lemmas.Int.{SFits-int_wrap}
 use Rattle.pcc_base.specs.Outcome.{Null, Static, InFrame, Unknown, Value, Number, Array}
 use Rattle.pcc_base.specs.declared.run.Width.{Width}
 use Rattle.pcc_base.specs.declared.run.Width.TheVariants.{Two}
-use Rattle.ia32_regs.specs.declared.names.Reg32.TheVariants.{Esp, Ebp}
+use Rattle.ia32_regs.specs.declared.names.Reg32.TheVariants.{Esp, Ebp, Esi}
 use Rattle.ia32_insn.specs.declared.insn.AluOp.{AluOp}
 use Rattle.ia32_insn.specs.declared.insn.AluOp.TheVariants as alu
 use Rattle.ia32_insn.specs.declared.item.Item.{Item}
@@ -23,10 +23,10 @@ use Rattle.flow_graph.specs.States as graph
 use Rattle.flow_graph.specs.States.{number_of, with_value, fitted}
 use Rattle.ia32_shows.proofs.Frames.{Operates}
 use Rattle.ia32_shows.proofs.Cores.{Wrote, const-row, copy-row, operation-row}
-use Rattle.ia32_rows.specs.Rows.{frame_of, operation}
+use Rattle.ia32_rows.specs.Rows.{frame_of, operation, slot_place}
 use Rattle.ia32_shows.specs.Follows.{Follows}
 use Rattle.ia32_rows.specs.Right.{one_graph}
-use Rattle.ia32_rows.proofs.Laid.{RowReady}
+use Rattle.ia32_rows.proofs.OverSlots.{RowOver}
 use Rattle.ia32_simulation.proofs.Setup.{Setup, IsSetup, code_in, site_in, main_state}
 use Rattle.ia32_simulation.proofs.Main.{AtMain, IsPlainWord, main-shown}
 use Rattle.ia32_simulation.proofs.Slots.{slot_at, HasSlot, slot-there, every-at}
@@ -40,7 +40,7 @@ FollowsMain x input s g moved = Follows (code_in x) input s (main_state g) false
 
 -- the row of the op at the state's point is ready
 abbrev pub RowAt : Setup → graph.State → Op → machine.State → Type 0
-RowAt x g o s = RowReady x.slots (site_in x) o (following g.point (points_of x.flow g.block)) s
+RowAt x g o s = RowOver x.slots (site_in x) o (following g.point (points_of x.flow g.block)) s
 
 -- ---- variables
 
@@ -150,8 +150,9 @@ IsComputedBy how f = (y z : ℤ) → FitsSigned w32 y → FitsSigned w32 z → F
 operation-follows : (x : Setup) (input : List ℕ) (g : graph.State) (s : machine.State) (o : Op) (how : AluOp)
     (d a b : ℕ) (f : ℤ → ℤ → ℤ) → IsSetup x → AtMain x input g s
     → HasWidth x.flow d Two → HasWidth x.flow a Two → HasWidth x.flow b Two → (r : RowAt x g o s)
-        → ReadyAt (site_in x) (operation x.slots how d a b ++ r.rest) s
-    → ((t : machine.State) → Operates how t) → ((m n : ℕ) → alu_value how m n < 2 ^ 32) → IsComputedBy how f
+        → ReadyAt (site_in x)
+        (operation how (slot_place x.slots d) (slot_place x.slots a) (slot_place x.slots b) ++ r.rest) s
+    → ((t : machine.State) → Operates how Esi t) → ((m n : ℕ) → alu_value how m n < 2 ^ 32) → IsComputedBy how f
     → FollowsMain x input s g (given (number_of (slice_get g.current.variables a))
         (λ y. given (number_of (slice_get g.current.variables b))
         (λ z. sets (one_graph x.flow) (main_state g) d (Number (f y z)))))
@@ -170,7 +171,7 @@ operation-follows x input g s o how d a b f h at wd wa wb r ready operates below
     let word : ℕ = alu_value how one.0 two.0 in
     let wrote = operation-row (site_in x) (frame_of x.flow) r.rest how (slot_at x.slots a) (slot_at x.slots b)
         (slot_at x.slots d) one.0 two.0 s at.framed ready first.inside second.inside to.inside one.1 two.1
-    (plain-fits (Number y) one.0 one.2) (plain-fits (Number z) two.0 two.2) (below one.0 two.0) operates in
+    (plain-fits (Number y) one.0 one.2) (below one.0 two.0) operates in
     let result = computed y z one.2.0 two.2.0 in
     let is : word ≡ cast_unsigned w32 (f y z) = ap (λ (m : ℕ). alu_value how m two.0) one.2.1
         ∙ ap (λ (n : ℕ). alu_value how (cast_unsigned w32 y) n) two.2.1 ∙ sym result.1 in
@@ -182,7 +183,7 @@ pub add-follows : (x : Setup) (input : List ℕ) (g : graph.State) (s : machine.
     → FollowsMain x input s g (act (one_graph x.flow) (main_state g) (op.Add d a b))
 add-follows x input g s d a b h at fits r =
     operation-follows x input g s (op.Add d a b) alu.Add d a b (λ y z. int_wrap w32 (y +ℤ z)) h at fits.0 fits.1.0
-        fits.1.1.0 r r.ready (λ t after. refl) (λ m n. omega arith)
+        fits.1.1.0 r r.ready (λ t c. refl) (λ m n. omega arith)
         (λ y z p q. (SFits-int_wrap w32 (y +ℤ z), word-sum y z p q))
 
 -- the step of a difference
@@ -191,5 +192,5 @@ pub sub-follows : (x : Setup) (input : List ℕ) (g : graph.State) (s : machine.
     → FollowsMain x input s g (act (one_graph x.flow) (main_state g) (op.Sub d a b))
 sub-follows x input g s d a b h at fits r =
     operation-follows x input g s (op.Sub d a b) alu.Sub d a b (λ y z. int_wrap w32 (y -ℤ z)) h at fits.0 fits.1.0
-        fits.1.1.0 r r.ready (λ t after. refl) (λ m n. omega arith)
+        fits.1.1.0 r r.ready (λ t c. refl) (λ m n. omega arith)
         (λ y z p q. (SFits-int_wrap w32 (y -ℤ z), word-difference y z p q))

@@ -5,8 +5,8 @@ use Rattle.pcc_base.specs.Bytes.{zeros}
 use Rattle.ia32_insn.specs.Items.{Symbols, Places, text_start, round_up, data_bytes, data_memory, data_start, stack_end}
 use Rattle.flow_graph.specs.Graphs.{Flow}
 use Rattle.flow_graph.specs.States as graph
-use Rattle.ia32_shows.specs.Placements.{Code, in_slots}
-use Rattle.ia32_rows.specs.Rows.{HasSlots, frame_of, selected}
+use Rattle.ia32_shows.specs.Placements.{Code}
+use Rattle.ia32_rows.specs.Rows.{HasSlots, over_slots, selected}
 use Rattle.ia32_rows.specs.Right.{one_graph, IsSlotCode}
 use Rattle.ia32_shows.specs.Sites.{Site}
 
@@ -23,7 +23,7 @@ abbrev pub code_in : Setup → Code
 code_in x =
     record {
       program = one_graph x.flow;
-      placements = in_slots (frame_of x.flow) [] x.slots ∷ [];
+      placements = over_slots x.flow x.slots ∷ [];
       items = selected x.flow x.slots ∷ [];
       order = 0 ∷ [];
       places = x.places ∷ [];

@@ -17,7 +17,7 @@ use Rattle.flow_graph.specs.States.{first_array, first_state_at}
 use Rattle.ia32_shows.specs.Shows.{IsOldArray}
 use Rattle.ia32_shows.proofs.Steps.{comes-then}
 use Rattle.ia32_calls.specs.Laws.{StartGoes, PrologueGoes, Started, Entered}
-use Rattle.ia32_rows.specs.Rows.{frame_of, block_rows}
+use Rattle.ia32_rows.specs.Rows.{frame_of, over_slots, block_rows}
 use Rattle.ia32_shows.specs.Follows.{ComesTo}
 use Rattle.ia32_rows.specs.Right.{one_graph}
 use Rattle.ia32_rows.proofs.Laid.{laid, entry-ready, first-ready}
@@ -45,7 +45,8 @@ first-point x input g (Some p) e = (p, refl, same_Some (first_state_at (one_grap
 -- behind the prologue the machine is at the first state
 entered-main : (x : Setup) (input : List ℕ) (p l : ℕ) (t u : machine.State) → IsSetup x
     → slice_get (points_of x.flow 0) 0 ≡ Some p → Started x.symbols x.text 0 l input t
-    → Entered (site_in x) (frame_of x.flow) x.slots (block_rows x.flow.ops x.slots 0 x.flow.blocks) t u
+    → Entered (site_in x) (frame_of x.flow) x.slots (block_rows (over_slots x.flow x.slots) x.flow.ops 0 x.flow.blocks)
+        t u
         → AtMain x input (first_state_at (one_graph x.flow) input p) u
 entered-main x input p l t u h first start enter =
     let b = bounds x h in
@@ -100,7 +101,8 @@ setup-starts starts enters x input g h first =
     let size = b.size in
     let small = h.has_slots.small in
     let esp = start.1.esp in
-    let enter = enters site (frame_of x.flow) x.slots (block_rows x.flow.ops x.slots 0 x.flow.blocks) t start.1.sound
+    let enter = enters site (frame_of x.flow) x.slots
+        (block_rows (over_slots x.flow x.slots) x.flow.ops 0 x.flow.blocks) t start.1.sound
         ready (omega arith) (omega arith) (omega arith) h.has_slots.within h.has_slots.apart in
     let u : machine.State = enter.0 in
     let at = entered-main x input point.0 l.address t u h point.1 start.1 enter.1 in

@@ -1,7 +1,7 @@
 //! The items of small graphs, by hand: what each instruction is to do in the frame.
 
 use flow_graph::{Graph, Op};
-use ia32_insn::Insn::{Alu, Lea, Leave, Mov, MovImm, MovLoad, Nop, Pop, Push, Ret};
+use ia32_insn::Insn::{AluLoad, Lea, Leave, Mov, MovImm, MovLoad, Nop, Pop, Push, Ret};
 use ia32_insn::Item::{self, CallStub, Label, Plain, Point};
 use ia32_insn::Rm32::{Mem as Memory, Reg};
 use ia32_insn::{AluOp, Mem, Stub};
@@ -42,12 +42,11 @@ macro_rules! items {
     };
 }
 
-/// The first operand is in the slot of variable 2, from which that of variable 0 is taken.
-const DIFFERENCE: [Item; 23] = items! { -28 [-20 -24 -28] -24;
+/// The first operand is in the slot of variable 2, from which that of variable 0 is taken where it stands.
+const DIFFERENCE: [Item; 22] = items! { -28 [-20 -24 -28] -24;
     Point(0);
     Plain(MovLoad(Esi, word!(-28)));
-    Plain(MovLoad(Edi, word!(-20)));
-    Plain(Alu(AluOp::Sub, Reg(Esi), Edi));
+    Plain(AluLoad(AluOp::Sub, Esi, word!(-20)));
     Plain(Mov(Memory(word!(-24)), Esi));
     Point(1);
 };
@@ -66,10 +65,9 @@ fn difference(rt: HostRuntime) -> Result<(), Fail> {
 }
 
 /// The slots stand in any order.
-const PUTCHAR_AND_COPY: [Item; 26] = items! { -24 [-24 -20] -24;
+const PUTCHAR_AND_COPY: [Item; 25] = items! { -24 [-24 -20] -24;
     Point(0);
-    Plain(MovLoad(Esi, word!(-20)));
-    Plain(Push(Reg(Esi)));
+    Plain(Push(Memory(word!(-20))));
     CallStub(Stub::Putchar);
     Plain(Pop(Edi));
     Plain(Mov(Memory(word!(-24)), Eax));
@@ -114,10 +112,9 @@ fn mark_and_turn(rt: HostRuntime) -> Result<(), Fail> {
 }
 
 /// `return 7;` over one variable: the frame has the four words and one slot.
-const RETURN_OF_SEVEN: [Item; 19] = items! { -20 [-20] -20;
+const RETURN_OF_SEVEN: [Item; 18] = items! { -20 [-20] -20;
     Point(0);
-    Plain(MovImm(Reg(Esi), 7));
-    Plain(Mov(Memory(word!(-20)), Esi));
+    Plain(MovImm(Memory(word!(-20)), 7));
     Point(1);
 };
 

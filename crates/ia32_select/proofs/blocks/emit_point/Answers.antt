@@ -15,6 +15,6 @@ emit_op-requires-clause-below c = below-slots c.args.graph.now c.args.offsets.no
 pub returns : goal.returns
 returns c =
     on_ok_weaker c.emit_op.result
-    (point-emitted c.args.items.now.items c.push.new.self.items c.emit_op.new.items.items c.args.graph.now.ops
+    (point-emitted c.args.items.now.items c.push.new.self.items c.emit_op.new.items.items c.args.graph.now
         (slots_of c.args.offsets.now) c.args.point c.op.result.now (search rules) c.op.ensures)
     c.emit_op.ensures
