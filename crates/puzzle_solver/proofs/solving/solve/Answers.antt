@@ -1,0 +1,28 @@
+use Rattle.std.proofs.Common.{List, ap, arith, length}
+use Rattle.puzzle_board.specs.declared.area.Area.{Area}
+use Rattle.puzzle_solver.proofs.Ends.{all-placed, counted-bounded, few-pieces}
+use Rattle.puzzle_solver.proofs.Onward.{onward-more}
+use Rattle.puzzle_solver.proofs.solving.solve.Goals as goal
+
+pub returns-then-not-is_bounded-clause-unsolvable : goal.returns-then-not-is_bounded-clause-unsolvable
+returns-then-not-is_bounded-clause-unsolvable g c = λ solvable.
+    let bounded = counted-bounded c.args.board.now c.of-areas.result c.of-pieces.result c.requires
+    c.of-areas.ensures.value c.of-pieces.ensures.value solvable in
+    let holds = c.is_bounded.ensures.1 bounded in
+    cc
+
+pub returns-clause-solved : goal.returns-clause-solved
+returns-clause-solved g c =
+    all-placed c.args.board.now c.place_narrow.new.board
+    (onward-more c.args.board.now c.place_wide.new.board c.place_narrow.new.board c.place_wide.ensures.onward
+    c.place_narrow.ensures.onward)
+    c.place_narrow.ensures.all
+    c.is_board.ensures
+
+pub returns-clause-few : goal.returns-clause-few
+returns-clause-few g c =
+    let bounded = c.is_bounded.ensures.0 cc in
+    let few = few-pieces c.args.board.now c.of-areas.result c.of-pieces.result c.requires c.of-areas.ensures.value
+    bounded in
+    let areas = ap (λ (areas : List Area). length areas) c.place_wide.ensures.onward.areas in
+    omega (arith, few, areas)
