@@ -15,8 +15,8 @@ use Rattle.flow_graph.specs.declared.op.Op.TheVariants as op
 use Rattle.flow_graph.specs.Graphs.{Flow, HasFittingOp, IsFlow, points_of}
 use Rattle.flow_graph.proofs.Points.{every-map}
 use Rattle.ia32_shows.proofs.Spelled.{IsCommon, common-begins}
-use Rattle.ia32_rows.specs.Rows.{IsSlotOp, HasSlots, frame_of, row, clears, prologue, point_row, point_rows, block_rows}
-use Rattle.ia32_rows.specs.Rows.{selected}
+use Rattle.ia32_rows.specs.Rows.{IsSlotOp, HasSlots, frame_of, entry_label, row, prologue, point_row, point_rows}
+use Rattle.ia32_rows.specs.Rows.{block_rows, selected}
 
 -- what holds of each of two lists holds of each of both
 pub every-join : {X : Type 0} (P : X → Type 0) (xs ys : List X) → AllByRecursion P xs → AllByRecursion P ys
@@ -38,13 +38,13 @@ every-get P (y ∷ xs) (suc i) x h e = every-get P xs i x h.1 e
 
 -- ---- the kinds of items
 
--- a common instruction or NOP, a label, a point, or a call of putchar
+-- a common instruction or NOP, a label, a point, a jump to a label, or a call of putchar
 abbrev pub IsRowItem : Item → Type 0
 IsRowItem (item.Plain i) = IsCommon i ⊎ (i ≡ insn.Nop)
 IsRowItem (item.Label l) = ⊤
 IsRowItem (item.Point p) = ⊤
-IsRowItem (item.JumpTo l) = ⊥
-IsRowItem (item.JumpIf c l) = ⊥
+IsRowItem (item.JumpTo l) = ⊤
+IsRowItem (item.JumpIf c l) = ⊤
 IsRowItem (item.CallFunction f) = ⊥
 IsRowItem (item.CallStub stub.Putchar) = ⊤
 IsRowItem (item.CallStub stub.Getchar) = ⊥
@@ -63,12 +63,11 @@ row-items slots op.Turn = (inr refl, tt)
 row-items slots (op.Return (Some a)) = (inl tt, (inl tt, (inl tt, (inl tt, (inl tt, (inl tt, tt))))))
 row-items slots o = tt
 
-clear-items : (slots : List ℕ) → AllByRecursion IsRowItem (clears slots)
-clear-items [] = tt
-clear-items (slot ∷ slots) = (inl tt, clear-items slots)
-
-prologue-items : (frame : ℕ) (slots : List ℕ) → AllByRecursion IsRowItem (prologue frame slots)
-prologue-items frame slots = (inl tt, (inl tt, (inl tt, (inl tt, (inl tt, (inl tt, (inl tt, clear-items slots)))))))
+prologue-items : (frame label : ℕ) → AllByRecursion IsRowItem (prologue frame label)
+prologue-items frame label = (
+  inl tt,
+  (inl tt, (inl tt, (inl tt, (inl tt, (inl tt, (inl tt, (inl tt, (tt, (inl tt, (inl tt, (inl tt, (tt, tt)))))))))))),
+)
 
 point_rows-items : (ops : List Op) (slots points : List ℕ) → AllByRecursion IsRowItem (point_rows ops slots points)
 point_rows-items ops slots [] = tt
@@ -86,8 +85,8 @@ block_rows-items ops slots k (points ∷ blocks) =
 -- every item of a graph's code is of these kinds
 pub selected-items : (flow : Flow) (slots : List ℕ) → AllByRecursion IsRowItem (selected flow slots)
 selected-items flow slots =
-    every-join IsRowItem (prologue (frame_of flow) slots) (block_rows flow.ops slots 0 flow.blocks)
-        (prologue-items (frame_of flow) slots) (block_rows-items flow.ops slots 0 flow.blocks)
+    every-join IsRowItem (prologue (frame_of flow) (entry_label flow)) (block_rows flow.ops slots 0 flow.blocks)
+        (prologue-items (frame_of flow) (entry_label flow)) (block_rows-items flow.ops slots 0 flow.blocks)
 
 -- ---- points are followed by instructions
 
@@ -184,16 +183,16 @@ blocks-room ops slots k (points ∷ blocks) h =
     room-join (item.Label k ∷ point_rows ops slots points) (block_rows ops slots (suc k) blocks)
         (tt, points-room ops slots points (h 0)) (blocks-room ops slots (suc k) blocks (λ b. h (suc b)))
 
-clears-room : (slots : List ℕ) → PointsTakeRoom (clears slots)
-clears-room [] = tt
-clears-room (slot ∷ slots) = (tt, clears-room slots)
+prologue-room : (frame label : ℕ) → PointsTakeRoom (prologue frame label)
+prologue-room frame label =
+    (tt, (tt, (tt, (tt, (tt, (tt, (tt, (tt, (tt, (tt, (tt, (tt, (tt, tt)))))))))))))
 
 -- behind every point of a graph's code comes an instruction
 pub selected-room : (flow : Flow) (slots homes : List ℕ) → IsFlow flow homes → HasSlots flow slots
     → PointsTakeRoom (selected flow slots)
 selected-room flow slots homes f h =
-    room-join (prologue (frame_of flow) slots) (block_rows flow.ops slots 0 flow.blocks)
-        (tt, (tt, (tt, (tt, (tt, (tt, (tt, clears-room slots)))))))
+    room-join (prologue (frame_of flow) (entry_label flow)) (block_rows flow.ops slots 0 flow.blocks)
+        (prologue-room (frame_of flow) (entry_label flow))
     (blocks-room flow.ops slots 0 flow.blocks (λ b. points-have flow slots homes b f h))
 
 -- ---- so two points have two addresses
@@ -208,8 +207,10 @@ item-room symbols places address (item.Plain i) bytes (inr e) room at =
     let l = ap length nop in omega (arith, l)
 item-room symbols places address (item.Label l) bytes kind room at = absurd room
 item-room symbols places address (item.Point p) bytes kind room at = absurd room
-item-room symbols places address (item.JumpTo l) bytes kind room at = absurd kind
-item-room symbols places address (item.JumpIf c l) bytes kind room at = absurd kind
+item-room symbols places address (item.JumpTo l) bytes kind room (distance, spelled, leads) =
+    let l = ap length (common-begins (insn.Jmp distance) bytes tt spelled).2 in omega (arith, l)
+item-room symbols places address (item.JumpIf c l) bytes kind room (distance, spelled, leads) =
+    let l = ap length (common-begins (insn.Jcc c distance) bytes tt spelled).2 in omega (arith, l)
 item-room symbols places address (item.CallFunction f) bytes kind room at = absurd kind
 item-room symbols places address (item.CallStub stub.Putchar) bytes kind room (distance, spelled, leads) =
     let l = ap length (common-begins (insn.Call distance) bytes tt spelled).2 in omega (arith, l)

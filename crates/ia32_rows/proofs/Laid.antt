@@ -20,7 +20,7 @@ use Rattle.flow_graph.proofs.Points.{choose}
 use Rattle.ia32_shows.specs.Placements.{Code, objects_of, address_in, point_address}
 use Rattle.ia32_shows.specs.Shows.{ReturnsTo, StartReturns, startup, ending}
 use Rattle.ia32_shows.proofs.Steps.{IsAt, at-front, at-back, items-split, point-passed, label-passed}
-use Rattle.ia32_rows.specs.Rows.{frame_of, row, prologue, point_row, point_rows, block_rows, selected}
+use Rattle.ia32_rows.specs.Rows.{frame_of, entry_label, row, prologue, point_row, point_rows, block_rows, selected}
 use Rattle.ia32_rows.proofs.ItemKinds.{every-get, every-back, IsRowItem, selected-items, selected-room, one-address}
 use Rattle.ia32_rows.specs.Right.{IsSlotCode}
 use Rattle.ia32_shows.specs.Sites.{Ready, Site, ReadyAt}
@@ -252,7 +252,7 @@ row-in-graph : (flow : Flow) (slots : List ℕ) (p b : ℕ) → Stands flow p b
     → HasRow flow.ops slots p (following p (points_of flow b)) (selected flow slots)
 row-in-graph flow slots p b h =
     let next : Option ℕ = following p (points_of flow b) in
-    let front : List Item = prologue (frame_of flow) slots in
+    let front : List Item = prologue (frame_of flow) (entry_label flow) in
     let back : List Item = block_rows flow.ops slots 0 flow.blocks in
     let none : front ++ (back ++ []) ≡ front ++ back = ap (λ (l : List Item). front ++ l) (append-nil back) in
     subst (HasRow flow.ops slots p next) none

@@ -1,6 +1,6 @@
 -- The items of a graph over slots can be assembled: they have spellings, and so many bytes.
 use Rattle.std.specs.List.{AllByRecursion}
-use Rattle.std.proofs.Common.{◌≡◌, ℕ, zero, suc, ◌+◌, ◌*◌, ◌≤◌, ℤ, pos, Bool, true, false, cond, List, [], ◌∷◌, length}
+use Rattle.std.proofs.Common.{◌≡◌, ℕ, zero, suc, ◌+◌, ◌*◌, ◌^◌, ◌<◌, ◌≤◌, ℤ, pos, Bool, true, false, cond, List, [], ◌∷◌, length}
 use Rattle.std.proofs.Common.{Some, None, refl, inl, inr, arith, get_or, length-append}
 use Rattle.std.specs.Prelude.{◌⊎◌, neg_ℤ, slice_index_or}
 use Rattle.std.specs.Int.{w32}
@@ -16,6 +16,7 @@ use Rattle.ia32_insn.specs.declared.insn.Insn.TheVariants as insn
 use Rattle.ia32_insn.specs.declared.item.Item.{Item}
 use Rattle.ia32_insn.specs.declared.item.Item.TheVariants as item
 use Rattle.ia32_insn.specs.declared.item.Stub.TheVariants as stub
+use Rattle.ia32_insn.specs.Items.{near}
 use Rattle.ia32_insn.specs.Spelling.{HasSpelling, InMemory}
 use Rattle.ia32_insn.specs.Preferred.{fields_for, displacement_for, word_bytes, byte_bytes}
 use Rattle.ia32_encode.proofs.Spelled.{spelling-indexed}
@@ -23,14 +24,16 @@ use Rattle.flow_graph.specs.declared.op.Op.{Op}
 use Rattle.flow_graph.specs.declared.op.Op.TheVariants as op
 use Rattle.flow_graph.specs.Graphs.{Flow, NumbersFit, IsFlow}
 use Rattle.ia32_asm.specs.declared.section.Target.TheVariants as target
-use Rattle.ia32_asm.specs.Sections.{CanAssemble, IsSpelled, HasLabel, items_size, target_of}
+use Rattle.ia32_asm.specs.Sections.{CanAssemble, IsSpelled, HasLabel, Stands, items_size, target_of}
 use Rattle.ia32_asm.proofs.Laying.{items_size-append}
+use Rattle.ia32_shows.specs.Filling.{fill}
 use Rattle.ia32_shows.specs.Placements.{below}
-use Rattle.ia32_rows.specs.Rows.{IsSlot, HasSlots, frame_of, row, clears, prologue, point_row, point_rows, block_rows}
-use Rattle.ia32_rows.specs.Rows.{selected}
+use Rattle.ia32_rows.specs.Rows.{IsSlot, HasSlots, frame_of, entry_label, row, prologue, point_row, point_rows}
+use Rattle.ia32_rows.specs.Rows.{block_rows, selected}
 use Rattle.ia32_rows.proofs.ItemKinds.{IsRowItem, every-join, every-get, selected-items}
 use Rattle.ia32_select.specs.Offsets.{NamesOnlyPutchar}
-use Rattle.ia32_select.proofs.Marked.{all_points, labels-once, points-once, few-points}
+use Rattle.ia32_select.specs.Sizes.{most_bytes}
+use Rattle.ia32_select.proofs.Marked.{all_points, labels-once, entry-stands, points-once, few-points, some-points}
 
 -- ---- spellings
 
@@ -87,15 +90,20 @@ row-spelled slots (op.Return (Some a)) small fits = (
 )
 row-spelled slots o small fits = tt
 
-clears-spelled : (frame : ℕ) (slots : List ℕ) → frame ≤ 16384 → AllByRecursion (IsSlot frame) slots
-    → AllByRecursion IsSpelled (clears slots)
-clears-spelled frame [] h small = tt
-clears-spelled frame (s ∷ slots) h small = let high = small.0.high in
-    (write-spelled Esi s (omega arith), clears-spelled frame slots h small.1)
+fill-spelled : (label : ℕ) → AllByRecursion IsSpelled (fill Edi Esi Esp label)
+fill-spelled label = (
+  tt,
+  (
+    spelling-indexed (insn.AluImm alu.Sub (rm.Reg Edi) (pos 4)) (tt, omega (arith, ints)) (tt, tt),
+    (
+      spelling-indexed (insn.Mov (rm.Mem (near Edi 0)) Esi) (omega (arith, ints)) tt,
+      (spelling-indexed (insn.Alu alu.Cmp (rm.Reg Edi) Esp) tt tt, (tt, tt)),
+    ),
+  ),
+)
 
-prologue-spelled : (frame : ℕ) (slots : List ℕ) → frame ≤ 16384 → AllByRecursion (IsSlot frame) slots
-    → AllByRecursion IsSpelled (prologue frame slots)
-prologue-spelled frame slots h small = (
+prologue-spelled : (frame label : ℕ) → frame ≤ 16384 → AllByRecursion IsSpelled (prologue frame label)
+prologue-spelled frame label h = (
   push-spelled Ebp,
   (
     move-spelled Ebp Esp,
@@ -106,7 +114,8 @@ prologue-spelled frame slots h small = (
         (
           push-spelled Edi,
           (spelling-indexed (insn.Lea Esp (below frame)) (fits-below frame h) tt,
-              (number-spelled Esi (pos 0) (omega (arith, ints)), clears-spelled frame slots h small)),
+              (number-spelled Esi (pos 0) (omega (arith, ints)),
+              (spelling-indexed (insn.Lea Edi (below 12)) (fits-below 12 (omega arith)) tt, fill-spelled label))),
         ),
       ),
     ),
@@ -140,22 +149,52 @@ selected-spelled : (flow : Flow) (slots : List ℕ) → HasSlots flow slots → 
 selected-spelled flow slots h words =
     let small : AreSmall slots = λ v. let in_frame = slot-small (frame_of flow) slots v h.within in let frame =
         h.small in omega arith in
-    every-join IsSpelled (prologue (frame_of flow) slots) (block_rows flow.ops slots 0 flow.blocks)
-        (prologue-spelled (frame_of flow) slots h.small h.within)
+    every-join IsSpelled (prologue (frame_of flow) (entry_label flow)) (block_rows flow.ops slots 0 flow.blocks)
+        (prologue-spelled (frame_of flow) (entry_label flow) h.small)
         (blocks-spelled flow.ops slots 0 flow.blocks small words)
 
--- ---- no jumps, and no names but putchar
+-- ---- labels
 
-kind-labelled : (items : List Item) (i : Item) → IsRowItem i → HasLabel items i
-kind-labelled items (item.Plain i) h = tt
-kind-labelled items (item.Label l) h = tt
-kind-labelled items (item.Point p) h = tt
-kind-labelled items (item.JumpTo l) h = absurd h
-kind-labelled items (item.JumpIf c l) h = absurd h
-kind-labelled items (item.CallFunction f) h = tt
-kind-labelled items (item.CallStub s) h = tt
-kind-labelled items (item.JumpTrap c) h = tt
-kind-labelled items (item.AddressOf r k) h = tt
+row-labelled : (items : List Item) (slots : List ℕ) (o : Op) → AllByRecursion (HasLabel items) (row slots o)
+row-labelled items slots (op.Const d n) = (tt, (tt, tt))
+row-labelled items slots (op.Copy d s) = (tt, (tt, tt))
+row-labelled items slots (op.Add d a b) = (tt, (tt, (tt, (tt, tt))))
+row-labelled items slots (op.Sub d a b) = (tt, (tt, (tt, (tt, tt))))
+row-labelled items slots (op.Putchar d s) = (tt, (tt, (tt, (tt, (tt, tt)))))
+row-labelled items slots (op.Mark s) = (tt, tt)
+row-labelled items slots op.Turn = (tt, tt)
+row-labelled items slots (op.Return (Some a)) = (tt, (tt, (tt, (tt, (tt, (tt, tt))))))
+row-labelled items slots o = tt
+
+points-labelled : (items : List Item) (ops : List Op) (slots points : List ℕ)
+    → AllByRecursion (HasLabel items) (point_rows ops slots points)
+points-labelled items ops slots [] = tt
+points-labelled items ops slots (p ∷ ps) =
+    every-join (HasLabel items) (point_row ops slots p) (point_rows ops slots ps)
+        (tt, row-labelled items slots (slice_index_or ops p op.Turn)) (points-labelled items ops slots ps)
+
+blocks-labelled : (items : List Item) (ops : List Op) (slots : List ℕ) (k : ℕ) (blocks : List (List ℕ))
+    → AllByRecursion (HasLabel items) (block_rows ops slots k blocks)
+blocks-labelled items ops slots k [] = tt
+blocks-labelled items ops slots k (points ∷ blocks) =
+    every-join (HasLabel items) (item.Label k ∷ point_rows ops slots points) (block_rows ops slots (suc k) blocks)
+        (tt, points-labelled items ops slots points) (blocks-labelled items ops slots (suc k) blocks)
+
+prologue-labelled : (items : List Item) (frame label : ℕ) → Stands (item.Label label) items
+    → AllByRecursion (HasLabel items) (prologue frame label)
+prologue-labelled items frame label stands =
+    (tt, (tt, (tt, (tt, (tt, (tt, (tt, (tt, (tt, (tt, (tt, (tt, (stands, tt)))))))))))))
+
+-- the label that an item jumps to stands among the items
+selected-labelled : (flow : Flow) (slots : List ℕ)
+    → AllByRecursion (HasLabel (selected flow slots)) (selected flow slots)
+selected-labelled flow slots =
+    let items : List Item = selected flow slots in
+    every-join (HasLabel items) (prologue (frame_of flow) (entry_label flow)) (block_rows flow.ops slots 0 flow.blocks)
+        (prologue-labelled items (frame_of flow) (entry_label flow) (entry-stands flow slots))
+        (blocks-labelled items flow.ops slots 0 flow.blocks)
+
+-- ---- no names but putchar
 
 kind-named : (i : Item) → IsRowItem i → (target_of i ≡ None) ⊎ (target_of i ≡ Some (target.Stub stub.Putchar))
 kind-named (item.Plain i) h = inl refl
@@ -205,12 +244,8 @@ row-size slots op.Turn = omega arith
 row-size slots (op.Return (Some a)) = let one = fields-size 0 (slice_index_or slots a 0) in omega arith
 row-size slots o = omega arith
 
-clears-size : (slots : List ℕ) → items_size (clears slots) ≤ 8 * length slots
-clears-size [] = omega arith
-clears-size (s ∷ slots) = let one = fields-size 6 s in let rest = clears-size slots in omega arith
-
-prologue-size : (frame : ℕ) (slots : List ℕ) → items_size (prologue frame slots) ≤ 8 * length slots + 64
-prologue-size frame slots = let one = fields-size 4 frame in let rest = clears-size slots in omega arith
+prologue-size : (frame label : ℕ) → items_size (prologue frame label) ≤ 64
+prologue-size frame label = let one = fields-size 4 frame in let two = fields-size 7 12 in omega arith
 
 points-size : (ops : List Op) (slots points : List ℕ) → items_size (point_rows ops slots points) ≤ 64 * length points
 points-size ops slots [] = omega arith
@@ -231,29 +266,29 @@ blocks-size ops slots k (points ∷ blocks) =
     let long = length-append points (all_points blocks) in
     omega arith
 
--- the bytes of the items, by the graph's points and variables
+-- The bytes of the items, by the graph's points, of which there is one at least: those of the prologue are fewer than
+-- what is left of its share.
 pub selected-size : (flow : Flow) (homes slots : List ℕ) → IsFlow flow homes → HasSlots flow slots
-    → items_size (selected flow slots) ≤ 800 * length flow.ops + 8 * length flow.widths + 64
+    → items_size (selected flow slots) ≤ most_bytes flow
 selected-size flow homes slots f h =
-    let one = prologue-size (frame_of flow) slots in
+    let one = prologue-size (frame_of flow) (entry_label flow) in
     let rest = blocks-size flow.ops slots 0 flow.blocks in
-    let whole = items_size-append (prologue (frame_of flow) slots) (block_rows flow.ops slots 0 flow.blocks) in
+    let whole = items_size-append (prologue (frame_of flow) (entry_label flow))
+        (block_rows flow.ops slots 0 flow.blocks) in
     let few = few-points flow homes f in
-    let many = h.as_many in
+    let some = some-points flow h.begins (h.ended 0 h.begins) in
     omega arith
 
 -- ---- all of it
 
 pub selected-assembles : (flow : Flow) (homes slots : List ℕ) → IsFlow flow homes → HasSlots flow slots
-    → length flow.ops ≤ 1310720 → CanAssemble (selected flow slots)
+    → items_size (selected flow slots) < 2 ^ 30 → CanAssemble (selected flow slots)
 selected-assembles flow homes slots f h bound =
-    let size = selected-size flow homes slots f h in
-    let frame = h.small in
     record {
       spelled = λ j i e. every-get IsSpelled (selected flow slots) j i (selected-spelled flow slots h f.numbers) e;
-      labelled = λ j i e. kind-labelled (selected flow slots) i
-          (every-get IsRowItem (selected flow slots) j i (selected-items flow slots) e);
+      labelled = λ j i e. every-get (HasLabel (selected flow slots)) (selected flow slots) j i
+          (selected-labelled flow slots) e;
       labels_once = labels-once flow slots;
       points_once = points-once flow homes slots f;
-      size = omega arith;
+      size = bound;
     }

@@ -2,7 +2,7 @@
 -- blocks.
 use Rattle.std.specs.List.{AllByRecursion}
 use Rattle.std.proofs.Common.{◌≡◌, ◌≢◌, ℕ, zero, suc, ◌+◌, ◌<◌, ◌≤◌, Bool, List, [], ◌∷◌, ◌++◌, length, Option, Some}
-use Rattle.std.proofs.Common.{None, refl, sym, ap, subst, ◌∙◌, inl, inr, arith, eqb, cond}
+use Rattle.std.proofs.Common.{None, refl, sym, ap, subst, ◌∙◌, inl, inr, arith, eqb, cond, length-append}
 use Rattle.std.specs.Prelude.{◌⊎◌, slice_get, slice_index_or}
 use Rattle.std.proofs.lemmas.Bool.Decides.{eqb_tells}
 use Rattle.std.proofs.lemmas.Option.{same_Some, slice_get_within}
@@ -10,10 +10,10 @@ use Rattle.ia32_insn.specs.declared.item.Item.{Item}
 use Rattle.ia32_insn.specs.declared.item.Item.TheVariants as item
 use Rattle.flow_graph.specs.declared.op.Op.{Op}
 use Rattle.flow_graph.specs.declared.op.Op.TheVariants as op
-use Rattle.flow_graph.specs.Graphs.{Flow, IsIn, IsDistinct, IsFlow, IsPlaced, points_of, without}
+use Rattle.flow_graph.specs.Graphs.{Flow, IsIn, IsDistinct, IsEnded, IsFlow, IsPlaced, LastIsEnd, points_of, without}
 use Rattle.flow_graph.proofs.Points.{every-in, every-map, every-without, distinct-without, choose}
 use Rattle.ia32_asm.specs.Sections.{Stands, StandOnce}
-use Rattle.ia32_rows.specs.Rows.{frame_of, row, clears, prologue, point_rows, block_rows, selected}
+use Rattle.ia32_rows.specs.Rows.{frame_of, entry_label, row, prologue, point_rows, block_rows, selected}
 
 -- ---- numbers of items
 
@@ -120,14 +120,6 @@ row-labels slots op.Turn = refl
 row-labels slots (op.Return (Some a)) = refl
 row-labels slots o = refl
 
-clears-points : (slots : List ℕ) → numbers point_of (clears slots) ≡ []
-clears-points [] = refl
-clears-points (slot ∷ slots) = clears-points slots
-
-clears-labels : (slots : List ℕ) → numbers label_of (clears slots) ≡ []
-clears-labels [] = refl
-clears-labels (slot ∷ slots) = clears-labels slots
-
 point_rows-points : (ops : List Op) (slots points : List ℕ) → numbers point_of (point_rows ops slots points) ≡ points
 point_rows-points ops slots [] = refl
 point_rows-points ops slots (p ∷ ps) =
@@ -173,17 +165,15 @@ block_rows-labels ops slots k (points ∷ blocks) =
 
 selected-points : (flow : Flow) (slots : List ℕ) → numbers point_of (selected flow slots) ≡ all_points flow.blocks
 selected-points flow slots =
-    let back : List Item = block_rows flow.ops slots 0 flow.blocks in
-    numbers-append point_of (prologue (frame_of flow) slots) back
-        ∙ ap (λ (l : List ℕ). l ++ numbers point_of back) (clears-points slots)
+    numbers-append point_of (prologue (frame_of flow) (entry_label flow)) (block_rows flow.ops slots 0 flow.blocks)
         ∙ block_rows-points flow.ops slots 0 flow.blocks
 
-selected-labels : (flow : Flow) (slots : List ℕ) → numbers label_of (selected flow slots) ≡ labels_from 0 flow.blocks
+-- the label of the prologue's loop, and those of the blocks
+selected-labels : (flow : Flow) (slots : List ℕ) → numbers label_of (selected flow slots)
+    ≡ entry_label flow ∷ labels_from 0 flow.blocks
 selected-labels flow slots =
-    let back : List Item = block_rows flow.ops slots 0 flow.blocks in
-    numbers-append label_of (prologue (frame_of flow) slots) back
-        ∙ ap (λ (l : List ℕ). l ++ numbers label_of back) (clears-labels slots)
-        ∙ block_rows-labels flow.ops slots 0 flow.blocks
+    numbers-append label_of (prologue (frame_of flow) (entry_label flow)) (block_rows flow.ops slots 0 flow.blocks)
+        ∙ ap (λ (l : List ℕ). entry_label flow ∷ l) (block_rows-labels flow.ops slots 0 flow.blocks)
 
 -- ---- none twice
 
@@ -195,11 +185,23 @@ labels-distinct : (k : ℕ) (blocks : List (List ℕ)) → IsDistinct (labels_fr
 labels-distinct k [] = tt
 labels-distinct k (points ∷ blocks) = (above k (suc k) blocks (omega arith), labels-distinct (suc k) blocks)
 
+-- the number behind those of the blocks is none of theirs
+behind-labels : (n k : ℕ) (blocks : List (List ℕ)) → k + length blocks ≤ n
+    → AllByRecursion (λ q. q ≢ n) (labels_from k blocks)
+behind-labels n k [] h = tt
+behind-labels n k (points ∷ blocks) h = (λ e. omega arith, behind-labels n (suc k) blocks (omega arith))
+
 -- no label of a graph's code stands twice
 pub labels-once : (flow : Flow) (slots : List ℕ) → StandOnce item.Label (selected flow slots)
 labels-once flow slots i j n a b =
+    let all : IsDistinct (entry_label flow ∷ labels_from 0 flow.blocks) =
+        (behind-labels (entry_label flow) 0 flow.blocks (omega arith), labels-distinct 0 flow.blocks) in
     once label_of (selected flow slots) i j n (item.Label n) (item.Label n)
-        (subst IsDistinct (sym (selected-labels flow slots)) (labels-distinct 0 flow.blocks)) a b refl refl
+        (subst IsDistinct (sym (selected-labels flow slots)) all) a b refl refl
+
+-- the label of the prologue's loop stands behind eight instructions
+pub entry-stands : (flow : Flow) (slots : List ℕ) → Stands (item.Label (entry_label flow)) (selected flow slots)
+entry-stands flow slots = (8, refl)
 
 in-front : (xs ys : List ℕ) (n : ℕ) → IsIn n xs → IsIn n (xs ++ ys)
 in-front [] ys n h = absurd h
@@ -344,6 +346,22 @@ few (suc n) (p ∷ ps) d h =
 every-from : (P : ℕ → Type 0) (ps : List ℕ) → ((n : ℕ) → IsIn n ps → P n) → AllByRecursion P ps
 every-from P [] h = tt
 every-from P (p ∷ ps) h = (h p (inl refl), every-from P ps (λ n i. h n (inr i)))
+
+-- the first block of a graph has a point, which is its end
+some-in : (ops : List Op) (points : List ℕ) → LastIsEnd ops points → 0 < length points
+some-in ops [] h = absurd h
+some-in ops (p ∷ ps) h = omega arith
+
+pub some-points : (flow : Flow) → 0 < length flow.blocks → IsEnded flow 0 → 0 < length (all_points flow.blocks)
+some-points flow some ended = at flow.blocks some ended
+  where
+    at : (blocks : List (List ℕ)) → 0 < length blocks → LastIsEnd flow.ops (slice_index_or blocks 0 [])
+        → 0 < length (all_points blocks)
+    at [] k h = absurd (omega arith)
+    at (points ∷ blocks) k h =
+        let first = some-in flow.ops points h in
+        let whole = length-append points (all_points blocks) in
+        omega arith
 
 -- the blocks have no more points than there are ops
 pub few-points : (flow : Flow) (homes : List ℕ) → IsFlow flow homes → length (all_points flow.blocks) ≤ length flow.ops

@@ -1,5 +1,5 @@
 -- What holds of the items that the definitions name.
-use Rattle.std.proofs.Common.{◌≡◌, ◌≤◌, ◌+◌, ◌*◌, ◌↔◌, ℕ, List, length, sym, subst}
+use Rattle.std.proofs.Common.{◌≡◌, ◌<◌, ◌≤◌, ◌^◌, ◌↔◌, ℕ, List, sym, subst}
 use Rattle.std.proofs.lemmas.Result.{IfOk-weaker}
 use Rattle.ia32_insn.specs.declared.item.Item.{Item}
 use Rattle.ia32_insn.specs.declared.item.Item.TheVariants as item
@@ -8,6 +8,7 @@ use Rattle.ia32_asm.specs.Sections.{CanAssemble, Stands, items_size}
 use Rattle.ia32_rows.specs.Right.{AreRight}
 use Rattle.ia32_rows.specs.Rows.{selected}
 use Rattle.ia32_select.specs.Offsets.{slots_of, NamesOnlyPutchar}
+use Rattle.ia32_select.specs.Sizes.{most_bytes}
 use Rattle.ia32_select.proofs.Marked.{stands-placed, placed-stands}
 use Rattle.ia32_select.proofs.Assembled.{selected-size, selected-names, selected-assembles}
 use Rattle.ia32_select.proofs.selection.select_slots.Goals as goal
@@ -24,19 +25,19 @@ pub returns-clause-assembles : goal.returns-clause-assembles
 returns-clause-assembles c =
     let flow : Flow = c.args.graph.now in
     let slots : List ℕ = slots_of c.args.offsets.now in
-    IfOk-weaker c.select_items.result (λ v. v.items ≡ selected flow slots) (λ v. CanAssemble v.items)
-    (λ v e. subst CanAssemble (sym e) (selected-assembles flow c.is_flow.ensures.0 slots c.is_flow.ensures.1
-        c.requires.slots c.requires.few_points))
+    IfOk-weaker c.select_items.result (λ v. v.items ≡ selected flow slots)
+        (λ v. items_size v.items < 2 ^ 30 → CanAssemble v.items)
+    (λ v e. subst (λ (items : List Item). items_size items < 2 ^ 30 → CanAssemble items) (sym e)
+        (selected-assembles flow c.is_flow.ensures.0 slots c.is_flow.ensures.1 c.requires))
     c.select_items.ensures
 
 pub returns-clause-size : goal.returns-clause-size
 returns-clause-size c =
     let flow : Flow = c.args.graph.now in
     let slots : List ℕ = slots_of c.args.offsets.now in
-    IfOk-weaker c.select_items.result (λ v. v.items ≡ selected flow slots)
-        (λ v. items_size v.items ≤ 800 * length flow.ops + 8 * length flow.widths + 64)
-    (λ v e. subst (λ (items : List Item). items_size items ≤ 800 * length flow.ops + 8 * length flow.widths + 64)
-        (sym e) (selected-size flow c.is_flow.ensures.0 slots c.is_flow.ensures.1 c.requires.slots))
+    IfOk-weaker c.select_items.result (λ v. v.items ≡ selected flow slots) (λ v. items_size v.items ≤ most_bytes flow)
+    (λ v e. subst (λ (items : List Item). items_size items ≤ most_bytes flow) (sym e)
+        (selected-size flow c.is_flow.ensures.0 slots c.is_flow.ensures.1 c.requires))
     c.select_items.ensures
 
 pub returns-clause-points : goal.returns-clause-points
