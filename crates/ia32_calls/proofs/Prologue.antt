@@ -14,7 +14,7 @@ use Rattle.ia32_insn.specs.Keeps.{AreDisjoint}
 use Rattle.ia32_insn.specs.Items.{plain}
 use Rattle.ia32_shows.specs.Placements.{below}
 use Rattle.ia32_shows.proofs.Sound.{load-same, word-below}
-use Rattle.ia32_shows.proofs.Steps.{Comes, comes-not, comes-then}
+use Rattle.ia32_shows.proofs.Steps.{Comes, comes-then}
 use Rattle.ia32_shows.proofs.Filling.{fill-goes, zeros-load}
 use Rattle.ia32_shows.proofs.Frames.{below-address}
 use Rattle.ia32_shows.specs.Filling.{fill, Filled}
@@ -80,7 +80,7 @@ saved : (site : Site) (t a b c d f : State) → 16 ≤ word_of Esp t → Comes s
     → Comes site.text a b → Sets site Ebp (word_of Esp a) a.written a b → Comes site.text b c
     → Pushed site (word_of Ebx b) b c
     → Comes site.text c d → Pushed site (word_of Esi c) c d → Comes site.text d f → Pushed site (word_of Edi d) d f
-        → Saved site t f
+    → Saved site t f
 saved site t a b c d f room pa qa pb qb pc qc pd qd pf qf =
     let A : ℕ = word_of Esp a in
     let C : ℕ = word_of Esp c in
@@ -88,27 +88,27 @@ saved site t a b c d f room pa qa pb qb pc qc pd qd pf qf =
     let F : ℕ = word_of Esp f in
     let E : ℕ = word_of Ebp f in
     let base : E ≡ A = qf.others Ebp (unlike 5 4 refl) ∙ qd.others Ebp (unlike 5 4 refl)
-        ∙ qc.others Ebp (unlike 5 4 refl) ∙ qb.value in
+    ∙ qc.others Ebp (unlike 5 4 refl) ∙ qb.value in
     let ca : C + 4 ≡ A = qc.esp ∙ qb.others Esp (unlike 4 5 refl) in
     let dc : D + 4 ≡ C = qd.esp in
     let fd : F + 4 ≡ D = qf.esp in
     let ebx : word_of Ebx b ≡ word_of Ebx t = qb.others Ebx (unlike 3 5 refl) ∙ qa.others Ebx (unlike 3 4 refl) in
     let esi : word_of Esi c ≡ word_of Esi t = qc.others Esi (unlike 6 4 refl) ∙ qb.others Esi (unlike 6 5 refl)
-        ∙ qa.others Esi (unlike 6 4 refl) in
+    ∙ qa.others Esi (unlike 6 4 refl) in
     let edi : word_of Edi d ≡ word_of Edi t = qd.others Edi (unlike 7 4 refl) ∙ qc.others Edi (unlike 7 4 refl)
-        ∙ qb.others Edi (unlike 7 5 refl) ∙ qa.others Edi (unlike 7 4 refl) in
+    ∙ qb.others Edi (unlike 7 5 refl) ∙ qa.others Edi (unlike 7 4 refl) in
     let first : load 4 A f ≡ Ok (word_of Ebp t) =
     qf.apart 4 A (word_of Ebp t) (under F A 4 (three-under F D C A fd dc ca))
-        (qd.apart 4 A (word_of Ebp t) (under D A 4 (two-under D C A dc ca))
-        (qc.apart 4 A (word_of Ebp t) (under C A 4 (just-under C A ca))
-        (load-same 4 A (word_of Ebp t) a b qb.memory qa.word))) in
+    (qd.apart 4 A (word_of Ebp t) (under D A 4 (two-under D C A dc ca))
+    (qc.apart 4 A (word_of Ebp t) (under C A 4 (just-under C A ca))
+    (load-same 4 A (word_of Ebp t) a b qb.memory qa.word))) in
     let second : load 4 C f ≡ Ok (word_of Ebx t) =
-        subst (λ (k : ℕ). load 4 C f ≡ Ok k) ebx
-        (qf.apart 4 C (word_of Ebx b) (under F C 4 (two-under F D C fd dc))
-        (qd.apart 4 C (word_of Ebx b) (under D C 4 (just-under D C dc)) qc.word)) in
+    subst (λ (k : ℕ). load 4 C f ≡ Ok k) ebx
+    (qf.apart 4 C (word_of Ebx b) (under F C 4 (two-under F D C fd dc))
+    (qd.apart 4 C (word_of Ebx b) (under D C 4 (just-under D C dc)) qc.word)) in
     let third : load 4 D f ≡ Ok (word_of Esi t) =
-        subst (λ (k : ℕ). load 4 D f ≡ Ok k) esi
-        (qf.apart 4 D (word_of Esi c) (under F D 4 (just-under F D fd)) qd.word) in
+    subst (λ (k : ℕ). load 4 D f ≡ Ok k) esi
+    (qf.apart 4 D (word_of Esi c) (under F D 4 (just-under F D fd)) qd.word) in
     let fourth : load 4 F f ≡ Ok (word_of Edi t) = subst (λ (k : ℕ). load 4 F f ≡ Ok k) edi qf.word in
     record {
       comes = comes-then site.text t a f pa (comes-then site.text a b f pb
@@ -169,38 +169,38 @@ saves-two : (site : Site) (frame : ℕ) (items : List Item) (t a b : State) → 
     → word_of Esp t + 4 ≤ site.high → Comes site.text t a → Pushed site (word_of Ebp t) t a → Comes site.text a b
     → Sets site Ebp (word_of Esp a) a.written a b
     → ((c : State) × Comes site.text b c × ReadyAt site
-        (plain (insn.Push (rm.Reg Esi)) ∷ plain (insn.Push (rm.Reg Edi)) ∷ items) c × Pushed site (word_of Ebx b) b c)
-        → (f : State) × Saved site t f × ReadyAt site items f
+    (plain (insn.Push (rm.Reg Esi)) ∷ plain (insn.Push (rm.Reg Edi)) ∷ items) c × Pushed site (word_of Ebx b) b c)
+    → (f : State) × Saved site t f × ReadyAt site items f
 saves-two site frame items t a b room top pa qa pb qb (c, pc, ready, qc) =
     let e : ℕ = word_of Esp t in
     let ba : word_of Esp b ≡ word_of Esp a = qb.others Esp (unlike 4 5 refl) in
     let c_top : word_of Esp c ≤ site.high = top-lower (word_of Esp c) (word_of Esp b) site.high qc.esp
-        (top-second e site.high (word_of Esp a) (word_of Esp b) top qa.esp ba) in
+    (top-second e site.high (word_of Esp a) (word_of Esp b) top qa.esp ba) in
     let p = push-goes site (plain (insn.Push (rm.Reg Edi)) ∷ items) Esi c qc.sound ready
-        (room-third site.low e frame (word_of Esp a) (word_of Esp b) (word_of Esp c) room qa.esp ba qc.esp) c_top in
+    (room-third site.low e frame (word_of Esp a) (word_of Esp b) (word_of Esp c) room qa.esp ba qc.esp) c_top in
     let d : State = p.0 in
     let q = push-goes site items Edi d p.3.sound p.2
-        (room-fourth site.low e frame (word_of Esp a) (word_of Esp b) (word_of Esp c) (word_of Esp d) room qa.esp ba
-        qc.esp p.3.esp) (top-lower (word_of Esp d) (word_of Esp c) site.high p.3.esp c_top) in
+    (room-fourth site.low e frame (word_of Esp a) (word_of Esp b) (word_of Esp c) (word_of Esp d) room qa.esp ba
+    qc.esp p.3.esp) (top-lower (word_of Esp d) (word_of Esp c) site.high p.3.esp c_top) in
     (q.0, saved site t a b c d q.0 (sixteen site.low e frame room) pa qa pb qb pc qc p.1 p.3 q.1 q.3, q.2)
 
 saves-ebp : (site : Site) (frame : ℕ) (items : List Item) (t : State) → site.low + frame + 64 ≤ word_of Esp t
     → word_of Esp t + 4 ≤ site.high
     → ((a : State) × Comes site.text t a × ReadyAt site
-        (plain (insn.Mov (rm.Reg Ebp) Esp) ∷ plain (insn.Push (rm.Reg Ebx)) ∷ plain (insn.Push (rm.Reg Esi))
-        ∷ plain (insn.Push (rm.Reg Edi)) ∷ items) a × Pushed site (word_of Ebp t) t a)
+    (plain (insn.Mov (rm.Reg Ebp) Esp) ∷ plain (insn.Push (rm.Reg Ebx)) ∷ plain (insn.Push (rm.Reg Esi))
+    ∷ plain (insn.Push (rm.Reg Edi)) ∷ items) a × Pushed site (word_of Ebp t) t a)
     → (f : State) × Saved site t f × ReadyAt site items f
 saves-ebp site frame items t room top (a, pa, ready, qa) =
     let e : ℕ = word_of Esp t in
     let two : List Item = plain (insn.Push (rm.Reg Esi)) ∷ plain (insn.Push (rm.Reg Edi)) ∷ items in
     let one : List Item = plain (insn.Push (rm.Reg Ebx)) ∷ two in
     let p = set-goes site one (insn.Mov (rm.Reg Ebp) Esp) Ebp (word_of Esp a) a.flags a qa.sound ready tt
-        (word-below site.text site.low site.high Esp a qa.sound) (λ after. refl) (λ after. refl) in
+    (word-below site.text site.low site.high Esp a qa.sound) (λ after. refl) (λ after. refl) in
     let b : State = p.0 in
     let ba : word_of Esp b ≡ word_of Esp a = p.3.others Esp (unlike 4 5 refl) in
     saves-two site frame items t a b room top pa qa p.1 p.3
-        (push-goes site two Ebx b p.3.sound p.2 (room-second site.low e frame (word_of Esp a) (word_of Esp b) room
-        qa.esp ba) (top-second e site.high (word_of Esp a) (word_of Esp b) top qa.esp ba))
+    (push-goes site two Ebx b p.3.sound p.2 (room-second site.low e frame (word_of Esp a) (word_of Esp b) room
+    qa.esp ba) (top-second e site.high (word_of Esp a) (word_of Esp b) top qa.esp ba))
 
 -- ---- the whole
 
@@ -288,7 +288,7 @@ word-saved : (site : Site) (frame : ℕ) (f i u : State) (c v : ℕ)
 word-saved site frame f i u c v end few now memory r held =
     let base : ℕ = word_of Ebp f in
     subst (λ (k : ℕ). load 4 (k - c) u ≡ Ok v) (sym now)
-        (r.kept 4 (base - c) v (saved-above base frame c end few) (load-same 4 (base - c) v f i memory held))
+    (r.kept 4 (base - c) v (saved-above base frame c end few) (load-same 4 (base - c) v f i memory held))
 
 -- the state in which the words below the saved ones are to be filled
 record Made (site : Site) (frame : ℕ) (f i : State) : Type 0 where
@@ -313,9 +313,9 @@ entered site frame back t f i u room top some words p q comes ready r =
     let now : word_of Ebp u ≡ base = r.others Ebp (unlike 5 7 refl) ∙ q.ebp in
     let esp : word_of Esp u ≡ base - frame = r.others Esp (unlike 4 7 refl) ∙ q.esp in
     let end : base - frame + 4 * words_below frame ≡ base - 12 =
-        words-end site.low e frame base room p.ebp some words in
+    words-end site.low e frame base room p.ebp some words in
     let first : load 4 (base - 0) f ≡ Ok (word_of Ebp t) =
-        subst (λ (k : ℕ). load 4 k f ≡ Ok (word_of Ebp t)) (sym (minus-none base)) p.old_ebp in
+    subst (λ (k : ℕ). load 4 k f ≡ Ok (word_of Ebp t)) (sym (minus-none base)) p.old_ebp in
     record {
       comes = comes-then site.text t f u p.comes (comes-then site.text f i u q.comes comes);
       ready = ready;
@@ -335,7 +335,8 @@ entered site frame back t f i u room top some words p q comes ready r =
       zeros = λ n a from to more.
           zeros-load site (base - frame) (words_below frame) n a u r.sound
           (words-low site.low e frame base room p.ebp)
-          (subst (λ (k : ℕ). k ≤ site.high) (sym end) (words-high base site.high (frame-high e base site.high top p.ebp)))
+          (subst (λ (k : ℕ). k ≤ site.high) (sym end)
+              (words-high base site.high (frame-high e base site.high top p.ebp)))
           r.words (subst (λ (k : ℕ). k ≤ a) esp from)
           (subst (λ (k : ℕ). a + n ≤ k) (ap (λ (k : ℕ). k - 12) now ∙ sym end) to) more;
       kept = λ n b w k held.
@@ -372,8 +373,8 @@ lea-goes site items r d s sound ready some within =
     let fits = word-below site.text site.low site.high Ebp s sound in
     let at = below-address d s some within fits in
     set-goes site items (insn.Lea r (below d)) r (word_of Ebp s - d) s.flags s sound ready tt
-        (difference-below (word_of Ebp s) d 4294967296 fits)
-        (λ after. ap (λ (k : ℕ). let o : Result State End = Ok (with_word r k s) in o) at) (λ after. refl)
+    (difference-below (word_of Ebp s) d 4294967296 fits)
+    (λ after. ap (λ (k : ℕ). let o : Result State End = Ok (with_word r k s) in o) at) (λ after. refl)
 
 twelve-within : (f b c : ℕ) → 16 ≤ f → f ≤ b → c ≡ b → 12 ≤ c
 twelve-within f b c h k p = omega arith
@@ -392,21 +393,21 @@ makes-frame site frame label back t room top some words (f, p, ready) =
     let q = lea-goes site one Esp frame f p.sound ready (frame-some frame some) within in
     let g : State = q.0 in
     let r = set-goes site two (insn.MovImm (rm.Reg Esi) (pos 0)) Esi 0 g.flags g q.3.sound q.2 tt zero_fits
-        (λ after. refl) (λ after. refl) in
+    (λ after. refl) (λ after. refl) in
     let h : State = r.0 in
     let same : word_of Ebp h ≡ base = r.3.others Ebp (unlike 5 6 refl) ∙ q.3.others Ebp (unlike 5 4 refl) in
     let v = lea-goes site three Edi 12 h r.3.sound r.2 some-twelve
-        (twelve-within frame base (word_of Ebp h) some within same) in
+    (twelve-within frame base (word_of Ebp h) some within same) in
     let i : State = v.0 in
     let m : Made site frame f i = made site frame f g h i q.1 q.3 r.1 r.3 v.1 v.3 in
     let end : base - frame + 4 * words_below frame ≡ base - 12 =
-        words-end site.low e frame base room p.ebp some words in
+    words-end site.low e frame base room p.ebp some words in
     let w = fill-goes site Edi Esi Esp label (base - frame) (words_below frame) back i (unlike 6 7 refl)
-        (unlike 4 7 refl) v.3.sound v.2 (words-some frame some) (words-low site.low e frame base room p.ebp)
-        (subst (λ (k : ℕ). k ≤ site.high) (sym end) (words-high base site.high (frame-high e base site.high top p.ebp)))
-        (m.edi ∙ sym end) m.esp in
+    (unlike 4 7 refl) v.3.sound v.2 (words-some frame some) (words-low site.low e frame base room p.ebp)
+    (subst (λ (k : ℕ). k ≤ site.high) (sym end) (words-high base site.high (frame-high e base site.high top p.ebp)))
+    (m.edi ∙ sym end) m.esp in
     let filled : Filled site Edi (base - frame) (words_below frame) 0 i w.0 =
-        subst (λ (k : ℕ). Filled site Edi (base - frame) (words_below frame) k i w.0) m.esi w.3 in
+    subst (λ (k : ℕ). Filled site Edi (base - frame) (words_below frame) k i w.0) m.esi w.3 in
     (w.0, entered site frame back t f i w.0 room top some words p m w.1 w.2 filled)
 
 -- the prologue makes the frame, with the caller's registers in its first words and 0 in all others
@@ -415,7 +416,7 @@ prologue-goes site frame label back t sound ready room top some words =
     let e : ℕ = word_of Esp t in
     let items : List Item = making frame label back in
     let one : List Item = plain (insn.Mov (rm.Reg Ebp) Esp) ∷ plain (insn.Push (rm.Reg Ebx))
-        ∷ plain (insn.Push (rm.Reg Esi)) ∷ plain (insn.Push (rm.Reg Edi)) ∷ items in
+    ∷ plain (insn.Push (rm.Reg Esi)) ∷ plain (insn.Push (rm.Reg Edi)) ∷ items in
     makes-frame site frame label back t room top some words
-        (saves-ebp site frame items t room top (push-goes site one Ebp t sound ready (room-first site.low e frame room)
-        (top-first e site.high top)))
+    (saves-ebp site frame items t room top (push-goes site one Ebp t sound ready (room-first site.low e frame room)
+    (top-first e site.high top)))

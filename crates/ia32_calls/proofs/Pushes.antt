@@ -1,8 +1,7 @@
 -- What one instruction does to a sound state: a change of a register, pushes, pops, calls, returns and leaves.
-use Rattle.std.proofs.Common.{◌≡◌, ◌≢◌, ℕ, ◌+◌, ◌-◌, ◌%◌, ◌^◌, ◌<◌, ◌≤◌, List, ◌∷◌, ◌++◌, length, Option, Ok, refl, sym}
-use Rattle.std.proofs.Common.{ap, subst, ◌∙◌, inl, inr, arith}
-use Rattle.std.specs.Prelude.{◌==◌, false, Result}
-use Rattle.std.proofs.lemmas.Bool.Decides.{nat_tests}
+use Rattle.std.proofs.Common.{◌≡◌, ◌≢◌, ℕ, ◌+◌, ◌-◌, ◌%◌, ◌^◌, ◌<◌, ◌≤◌, List, ◌∷◌, ◌++◌, length, Ok, refl, sym}
+use Rattle.std.proofs.Common.{ap, subst, ◌∙◌, arith}
+use Rattle.std.specs.Prelude.{Result}
 use Rattle.std.specs.Int.{w32, cast_unsigned}
 use Rattle.std.proofs.Math.Nat.{mod-eq_of_lt}
 use Rattle.pcc_base.specs.Outcome.{End}
@@ -10,21 +9,17 @@ use Rattle.ia32_regs.specs.declared.names.Reg32.{Reg32}
 use Rattle.ia32_regs.specs.declared.names.Reg32.TheVariants.{Esp, Ebp}
 use Rattle.ia32_regs.specs.Registers.{number32, register}
 use Rattle.ia32_insn.specs.declared.operand.Rm32.TheVariants as rm
-use Rattle.ia32_insn.specs.declared.insn.Insn.{Insn}
 use Rattle.ia32_insn.specs.declared.insn.Insn.TheVariants as insn
 use Rattle.ia32_insn.specs.declared.item.Item.{Item}
 use Rattle.ia32_insn.specs.declared.item.Item.TheVariants as item
-use Rattle.ia32_insn.specs.declared.flags.Flags.{Flags}
 use Rattle.ia32_insn.specs.State.{State, at_address}
 use Rattle.ia32_insn.specs.Arithmetic.{sum, difference}
-use Rattle.ia32_insn.specs.Meaning.{and_then, load, store, push, pop, word_of, with_word, effect, target}
+use Rattle.ia32_insn.specs.Meaning.{and_then, load, store, push, pop, word_of, with_word, effect}
 use Rattle.ia32_insn.specs.Keeps.{AreDisjoint}
 use Rattle.ia32_insn.specs.Items.{ItemsAt, LeadsTo}
-use Rattle.ia32_shows.proofs.Sound.{store-in, load-same, sound-with_word, sound-at, sound-with_flags, word-same}
+use Rattle.ia32_shows.proofs.Sound.{store-in, load-same, sound-with_word, sound-at, word-same}
 use Rattle.ia32_shows.proofs.Sound.{word-other, word-below}
-use Rattle.ia32_shows.proofs.Spelled.{IsCommon}
 use Rattle.ia32_shows.proofs.Steps.{IsAt, Comes, at-front, at-back, after-fits, step-goes, plain-goes}
-use Rattle.ia32_shows.proofs.Frames.{with_result}
 use Rattle.ia32_shows.proofs.Sets.{Sets, set-word}
 use Rattle.ia32_shows.specs.Sites.{Site, SoundAt, ReadyAt, StandsFrom}
 

@@ -15,7 +15,7 @@ use Rattle.ia32_insn.specs.Keeps.{AreDisjoint}
 use Rattle.ia32_insn.specs.Runs.{Steps}
 use Rattle.ia32_insn.specs.Items.{Object, Symbols, Places, ItemsAt, IsText, plain, text_start, text_state, data_start}
 use Rattle.ia32_insn.specs.Items.{stack_end, start_items, putchar_items}
-use Rattle.ia32_shows.specs.Paths.{IsAt, IsClear, Comes}
+use Rattle.ia32_shows.specs.Paths.{IsClear, Comes}
 use Rattle.ia32_shows.specs.Placements.{below}
 use Rattle.ia32_rows.specs.Rows.{prologue}
 use Rattle.ia32_shows.specs.Sites.{IsSound, Site, SoundAt, ReadyAt, StandsFrom, Framed, Went, IsInFrame, ApartFrom}

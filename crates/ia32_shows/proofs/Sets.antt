@@ -71,5 +71,5 @@ pub set-goes : (site : Site) (items : List Item) (i : Insn) (r : Reg32) (v : ℕ
     → (u : State) × Comes site.text s u × ReadyAt site items u × Sets site r v s.written s u
 set-goes site items i r v flags s sound ready common fits e k =
     let went = plain-goes site.symbols site.places site.text site.low site.high i items s (with_result r v flags s)
-        sound ready common e k in
+    sound ready common e k in
     (at_address went.0 (with_result r v flags s), went.1, went.2, set-word site went.0 r v flags s sound fits)

@@ -47,5 +47,5 @@ store-goes site items i a v s sound ready common from to fits e k =
     let stored = store-in site.text site.low site.high a v s sound from to fits in
     let t : State = stored.0 in
     let went = plain-goes site.symbols site.places site.text site.low site.high i items s t sound ready common
-        (λ after. e after ∙ stored.1.is) k in
+    (λ after. e after ∙ stored.1.is) k in
     (at_address went.0 t, went.1, went.2, stored-at site went.0 a v s t stored.1)

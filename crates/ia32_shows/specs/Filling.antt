@@ -45,7 +45,7 @@ FillGoes =
     → ReadyAt site (fill pointer word limit label ++ back) s → 0 < count → site.low ≤ first
     → first + 4 * count ≤ site.high → word_of pointer s ≡ first + 4 * count → word_of limit s ≡ first
     → (u : State) × Comes site.text s u × ReadyAt site back u
-        × Filled site pointer first count (word_of word s) s u
+    × Filled site pointer first count (word_of word s) s u
 
 -- where words are 0, so is what is loaded from any place among them
 abbrev pub ZerosLoad : Type 0

@@ -17,8 +17,8 @@ macro_rules! word {
     };
 }
 
-/// The items of a graph of one block, whose frame ends at the first offset: those that make the frame and clear it, by a
-/// loop whose label is the number of blocks; those of the points; and those that return the variable at the last
+/// The items of a graph of one block, whose frame ends at the first offset: those that make the frame and clear it, by
+/// a loop whose label is the number of blocks; those of the points; and those that return the variable at the last
 /// offset.
 macro_rules! items {
     ($end:literal $returned:literal; $($item:expr;)*) => {
