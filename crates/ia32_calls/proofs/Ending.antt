@@ -15,7 +15,8 @@ use Rattle.flow_graph.specs.Graphs.{Flow}
 use Rattle.flow_graph.specs.States.{GraphProgram}
 use Rattle.ia32_rows.specs.Right.{one_graph}
 use Rattle.ia32_calls.specs.Laws.{return_before, ReturnsToStart, Ending, EndingHalts}
-use Rattle.ia32_calls.proofs.Pushes.{unlike, one_fits, set-goes}
+use Rattle.ia32_shows.proofs.Sets.{unlike, set-goes}
+use Rattle.ia32_calls.proofs.Pushes.{one_fits}
 use Rattle.ia32_calls.proofs.Interrupts.{exit-halts}
 use Rattle.ia32_calls.proofs.Return.{return-goes}
 use Rattle.ia32_shows.specs.Sites.{IsSound, Site, SoundAt, ReadyAt, Framed, IsInFrame}

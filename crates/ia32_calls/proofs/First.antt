@@ -13,8 +13,7 @@ use Rattle.ia32_insn.specs.Items.{text_start, text_state, data_bytes, data_start
 use Rattle.ia32_insn.specs.declared.item.Item.{Item}
 use Rattle.ia32_shows.specs.Paths.{IsAt}
 use Rattle.ia32_shows.proofs.Steps.{at-front, at-back}
-use Rattle.ia32_calls.specs.Laws.{StandsFrom}
-use Rattle.ia32_shows.specs.Sites.{IsSound, Site}
+use Rattle.ia32_shows.specs.Sites.{IsSound, Site, StandsFrom}
 
 -- ---- the registers
 

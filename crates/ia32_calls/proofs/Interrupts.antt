@@ -16,7 +16,7 @@ use Rattle.ia32_insn.specs.Runs.{Steps}
 use Rattle.ia32_shows.proofs.Sound.{one-byte, sound-with_word, sound-at, word-same, word-other}
 use Rattle.ia32_shows.proofs.Spelled.{common-begins}
 use Rattle.ia32_shows.proofs.Steps.{IsAt, IsClear, Comes, at-front, clear-at, step-at, perform-halts, plain-goes}
-use Rattle.ia32_calls.proofs.Pushes.{Sets}
+use Rattle.ia32_shows.proofs.Sets.{Sets}
 use Rattle.ia32_shows.specs.Sites.{Site, SoundAt, ReadyAt}
 
 -- the state behind a `write` of a byte

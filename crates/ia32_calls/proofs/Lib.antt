@@ -1,5 +1,4 @@
 pub mod Pushes
-pub mod Stores
 pub mod Interrupts
 pub mod Putchar
 pub mod Return

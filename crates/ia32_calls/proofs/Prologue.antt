@@ -1,7 +1,6 @@
--- The prologue: the caller's registers are saved, the frame is made, and every slot becomes 0.
-use Rattle.std.specs.List.{AllByRecursion}
-use Rattle.std.proofs.Common.{◌≡◌, ℕ, ◌+◌, ◌-◌, ◌^◌, ◌<◌, ◌≤◌, List, [], ◌∷◌, ◌++◌, pos, Ok, refl, sym, ap, subst, ◌∙◌}
-use Rattle.std.proofs.Common.{inl, inr, arith}
+-- The prologue: the caller's registers are saved, the frame is made, and every word below them becomes 0.
+use Rattle.std.proofs.Common.{◌≡◌, ℕ, ◌+◌, ◌-◌, ◌*◌, ◌/◌, ◌%◌, ◌^◌, ◌<◌, ◌≤◌, List, ◌∷◌, ◌++◌, pos, Ok, refl, sym, ap}
+use Rattle.std.proofs.Common.{subst, ◌∙◌, inl, arith}
 use Rattle.std.specs.Prelude.{Result}
 use Rattle.pcc_base.specs.Outcome.{End}
 use Rattle.ia32_regs.specs.declared.names.Reg32.{Reg32}
@@ -10,119 +9,19 @@ use Rattle.ia32_insn.specs.declared.operand.Rm32.TheVariants as rm
 use Rattle.ia32_insn.specs.declared.insn.Insn.TheVariants as insn
 use Rattle.ia32_insn.specs.declared.item.Item.{Item}
 use Rattle.ia32_insn.specs.State.{State}
-use Rattle.ia32_insn.specs.Meaning.{load, store, word_of, with_word, effect}
+use Rattle.ia32_insn.specs.Meaning.{load, word_of, with_word}
 use Rattle.ia32_insn.specs.Keeps.{AreDisjoint}
 use Rattle.ia32_insn.specs.Items.{plain}
 use Rattle.ia32_shows.specs.Placements.{below}
 use Rattle.ia32_shows.proofs.Sound.{load-same, word-below}
-use Rattle.ia32_shows.proofs.Steps.{Comes, comes-not, comes-then}
+use Rattle.ia32_shows.proofs.Steps.{Comes, comes-then}
+use Rattle.ia32_shows.proofs.Filling.{fill-goes, zeros-load}
 use Rattle.ia32_shows.proofs.Frames.{below-address}
-use Rattle.ia32_rows.specs.Rows.{IsSlot, AreApart, AllApart, clears}
+use Rattle.ia32_shows.specs.Filling.{fill, Filled}
 use Rattle.ia32_calls.specs.Laws.{Entered, PrologueGoes}
-use Rattle.ia32_calls.proofs.Pushes.{disjoint-part, unlike, Sets, set-goes, Pushed, push-goes}
-use Rattle.ia32_calls.proofs.Stores.{Stores, store-goes}
+use Rattle.ia32_shows.proofs.Sets.{disjoint-part, unlike, Sets, set-goes}
+use Rattle.ia32_calls.proofs.Pushes.{Pushed, push-goes}
 use Rattle.ia32_shows.specs.Sites.{Site, SoundAt, ReadyAt}
-
--- ---- the slots
-
--- the frame's bytes below EBP are in the data
-record HasRoom (site : Site) (frame : ℕ) (s : State) : Type 0 where
-  pub sound : SoundAt site s
-  pub low : site.low + frame ≤ word_of Ebp s
-  pub high : word_of Ebp s ≤ site.high
-
--- places apart from the slots below an address
-abbrev OutsideSlots : ℕ → List ℕ → ℕ → ℕ → Type 0
-OutsideSlots e slots b n = AllByRecursion (λ (slot : ℕ). AreDisjoint (e - slot) 4 b n) slots
-
--- each slot below the address is 0
-abbrev AreZero : ℕ → List ℕ → State → Type 0
-AreZero e slots u = AllByRecursion (λ (slot : ℕ). load 4 (e - slot) u ≡ Ok 0) slots
-
-record Cleared (site : Site) (back : List Item) (slots : List ℕ) (s u : State) : Type 0 where
-  pub comes : Comes site.text s u
-  pub ready : ReadyAt site back u
-  pub sound : SoundAt site u
-  pub words : (q : Reg32) → word_of q u ≡ word_of q s
-  pub zeros : AreZero (word_of Ebp s) slots u
-  pub kept : (n b w : ℕ) → OutsideSlots (word_of Ebp s) slots b n → load n b s ≡ Ok w → load n b u ≡ Ok w
-  pub left : u.left ≡ s.left
-  pub taken : u.taken ≡ s.taken
-  pub written : u.written ≡ s.written
-
-slot-within : (low f e d : ℕ) → low + f ≤ e → d ≤ f → d ≤ e
-slot-within low f e d h k = omega arith
-
-slot-low : (low f e d : ℕ) → low + f ≤ e → d ≤ f → low ≤ e - d
-slot-low low f e d h k = omega arith
-
-slot-high : (e d h : ℕ) → e ≤ h → 20 ≤ d → d ≤ e → e - d + 4 ≤ h
-slot-high e d h k l m = omega arith
-
-slot-some : (d : ℕ) → 20 ≤ d → 0 < d
-slot-some d h = omega arith
-
-zero_fits : 0 < 2 ^ 32
-zero_fits = omega arith
-
--- two slots that are apart, as places
-slots-disjoint : (e d c : ℕ) → d ≤ e → c ≤ e → AreApart d c → AreDisjoint (e - c) 4 (e - d) 4
-slots-disjoint e d c h k (inl before) = inl (omega arith)
-slots-disjoint e d c h k (inr after) = inr (omega arith)
-
-outside-slots : (low f e d : ℕ) (slots : List ℕ) → low + f ≤ e → d ≤ f → AllByRecursion (IsSlot f) slots
-    → AllByRecursion (AreApart d) slots → OutsideSlots e slots (e - d) 4
-outside-slots low f e d [] h k each apart = tt
-outside-slots low f e d (c ∷ slots) h k each apart =
-    (slots-disjoint e d c (slot-within low f e d h k) (slot-within low f e c h each.0.high) apart.0,
-        outside-slots low f e d slots h k each.1 apart.1)
-
--- one slot before others
-clears-one : (site : Site) (back : List Item) (slot : ℕ) (slots : List ℕ) (s t u : State) → Comes site.text s t
-    → Stores site (word_of Ebp s - slot) 0 s t → Cleared site back slots t u
-    → OutsideSlots (word_of Ebp s) slots (word_of Ebp s - slot) 4
-    → Cleared site back (slot ∷ slots) s u
-clears-one site back slot slots s t u p q r outside =
-    let e : ℕ = word_of Ebp s in
-    let same : word_of Ebp t ≡ e = q.words Ebp in
-    record {
-      comes = comes-then site.text s t u p r.comes;
-      ready = r.ready;
-      sound = r.sound;
-      words = λ w. r.words w ∙ q.words w;
-      zeros = (r.kept 4 (e - slot) 0 (subst (λ (k : ℕ). OutsideSlots k slots (e - slot) 4) (sym same) outside) q.same,
-          subst (λ (k : ℕ). AreZero k slots u) same r.zeros);
-      kept = λ n b w k h. r.kept n b w (subst (λ (m : ℕ). OutsideSlots m slots b n) (sym same) k.1)
-          (q.apart n b w k.0 h);
-      left = r.left ∙ q.left;
-      taken = r.taken ∙ q.taken;
-      written = r.written ∙ q.written;
-    }
-
-clears-goes : (site : Site) (frame : ℕ) (slots : List ℕ) (back : List Item) (s : State) → HasRoom site frame s
-    → ReadyAt site (clears slots ++ back) s → AllByRecursion (IsSlot frame) slots → AllApart slots → word_of Esi s ≡ 0
-    → (u : State) × Cleared site back slots s u
-clears-goes site frame [] back s has ready each apart zero =
-    (s, record { comes = comes-not site.text s; ready = ready; sound = has.sound; words = λ q. refl; zeros = tt; kept =
-        λ n b w k h. h; left = refl; taken = refl; written = refl })
-clears-goes site frame (slot ∷ slots) back s has ready each apart zero =
-    let e : ℕ = word_of Ebp s in
-    let within : slot ≤ e = slot-within site.low frame e slot has.low each.0.high in
-    let at = below-address slot s (slot-some slot each.0.low) within
-        (word-below site.text site.low site.high Ebp s has.sound) in
-    let does : (after : ℕ) → effect (insn.Mov (rm.Mem (below slot)) Esi) after s ≡ store 4 (e - slot) 0 s =
-        λ after. ap (λ (a : ℕ). store 4 a (word_of Esi s) s) at ∙ ap (λ (v : ℕ). store 4 (e - slot) v s) zero in
-    let p = store-goes site (clears slots ++ back) (insn.Mov (rm.Mem (below slot)) Esi) (e - slot) 0 s has.sound ready
-        tt (slot-low site.low frame e slot has.low each.0.high) (slot-high e slot site.high has.high each.0.low within)
-        zero_fits does (λ after. refl) in
-    let t : State = p.0 in
-    let same : word_of Ebp t ≡ e = p.3.words Ebp in
-    let has_t : HasRoom site frame t = record
-        { sound = p.3.sound; low = subst (λ (k : ℕ). site.low + frame ≤ k) (sym same) has.low; high =
-        subst (λ (k : ℕ). k ≤ site.high) (sym same) has.high } in
-    let r = clears-goes site frame slots back t has_t p.2 each.1 apart.1 (p.3.words Esi ∙ zero) in
-    (r.0, clears-one site back slot slots s t r.0 p.1 p.3 r.1
-        (outside-slots site.low frame e slot slots has.low each.0.high each.1 apart.0))
 
 -- ---- the caller's registers
 
@@ -181,7 +80,7 @@ saved : (site : Site) (t a b c d f : State) → 16 ≤ word_of Esp t → Comes s
     → Comes site.text a b → Sets site Ebp (word_of Esp a) a.written a b → Comes site.text b c
     → Pushed site (word_of Ebx b) b c
     → Comes site.text c d → Pushed site (word_of Esi c) c d → Comes site.text d f → Pushed site (word_of Edi d) d f
-        → Saved site t f
+    → Saved site t f
 saved site t a b c d f room pa qa pb qb pc qc pd qd pf qf =
     let A : ℕ = word_of Esp a in
     let C : ℕ = word_of Esp c in
@@ -189,27 +88,27 @@ saved site t a b c d f room pa qa pb qb pc qc pd qd pf qf =
     let F : ℕ = word_of Esp f in
     let E : ℕ = word_of Ebp f in
     let base : E ≡ A = qf.others Ebp (unlike 5 4 refl) ∙ qd.others Ebp (unlike 5 4 refl)
-        ∙ qc.others Ebp (unlike 5 4 refl) ∙ qb.value in
+    ∙ qc.others Ebp (unlike 5 4 refl) ∙ qb.value in
     let ca : C + 4 ≡ A = qc.esp ∙ qb.others Esp (unlike 4 5 refl) in
     let dc : D + 4 ≡ C = qd.esp in
     let fd : F + 4 ≡ D = qf.esp in
     let ebx : word_of Ebx b ≡ word_of Ebx t = qb.others Ebx (unlike 3 5 refl) ∙ qa.others Ebx (unlike 3 4 refl) in
     let esi : word_of Esi c ≡ word_of Esi t = qc.others Esi (unlike 6 4 refl) ∙ qb.others Esi (unlike 6 5 refl)
-        ∙ qa.others Esi (unlike 6 4 refl) in
+    ∙ qa.others Esi (unlike 6 4 refl) in
     let edi : word_of Edi d ≡ word_of Edi t = qd.others Edi (unlike 7 4 refl) ∙ qc.others Edi (unlike 7 4 refl)
-        ∙ qb.others Edi (unlike 7 5 refl) ∙ qa.others Edi (unlike 7 4 refl) in
+    ∙ qb.others Edi (unlike 7 5 refl) ∙ qa.others Edi (unlike 7 4 refl) in
     let first : load 4 A f ≡ Ok (word_of Ebp t) =
     qf.apart 4 A (word_of Ebp t) (under F A 4 (three-under F D C A fd dc ca))
-        (qd.apart 4 A (word_of Ebp t) (under D A 4 (two-under D C A dc ca))
-        (qc.apart 4 A (word_of Ebp t) (under C A 4 (just-under C A ca))
-        (load-same 4 A (word_of Ebp t) a b qb.memory qa.word))) in
+    (qd.apart 4 A (word_of Ebp t) (under D A 4 (two-under D C A dc ca))
+    (qc.apart 4 A (word_of Ebp t) (under C A 4 (just-under C A ca))
+    (load-same 4 A (word_of Ebp t) a b qb.memory qa.word))) in
     let second : load 4 C f ≡ Ok (word_of Ebx t) =
-        subst (λ (k : ℕ). load 4 C f ≡ Ok k) ebx
-        (qf.apart 4 C (word_of Ebx b) (under F C 4 (two-under F D C fd dc))
-        (qd.apart 4 C (word_of Ebx b) (under D C 4 (just-under D C dc)) qc.word)) in
+    subst (λ (k : ℕ). load 4 C f ≡ Ok k) ebx
+    (qf.apart 4 C (word_of Ebx b) (under F C 4 (two-under F D C fd dc))
+    (qd.apart 4 C (word_of Ebx b) (under D C 4 (just-under D C dc)) qc.word)) in
     let third : load 4 D f ≡ Ok (word_of Esi t) =
-        subst (λ (k : ℕ). load 4 D f ≡ Ok k) esi
-        (qf.apart 4 D (word_of Esi c) (under F D 4 (just-under F D fd)) qd.word) in
+    subst (λ (k : ℕ). load 4 D f ≡ Ok k) esi
+    (qf.apart 4 D (word_of Esi c) (under F D 4 (just-under F D fd)) qd.word) in
     let fourth : load 4 F f ≡ Ok (word_of Edi t) = subst (λ (k : ℕ). load 4 F f ≡ Ok k) edi qf.word in
     record {
       comes = comes-then site.text t a f pa (comes-then site.text a b f pb
@@ -258,47 +157,50 @@ sixteen : (low e f : ℕ) → low + f + 64 ≤ e → 16 ≤ e
 sixteen low e f h = omega arith
 
 -- the items behind the pushes
-abbrev making : ℕ → List ℕ → List Item → List Item
-making frame slots back = plain (insn.Lea Esp (below frame)) ∷ plain (insn.MovImm (rm.Reg Esi) (pos 0))
-    ∷ (clears slots ++ back)
+abbrev making : ℕ → ℕ → List Item → List Item
+making frame label back =
+    plain (insn.Lea Esp (below frame))
+    ∷ plain (insn.MovImm (rm.Reg Esi) (pos 0))
+    ∷ plain (insn.Lea Edi (below 12))
+    ∷ (fill Edi Esi Esp label ++ back)
 
 -- the last two registers, behind EBX
 saves-two : (site : Site) (frame : ℕ) (items : List Item) (t a b : State) → site.low + frame + 64 ≤ word_of Esp t
     → word_of Esp t + 4 ≤ site.high → Comes site.text t a → Pushed site (word_of Ebp t) t a → Comes site.text a b
     → Sets site Ebp (word_of Esp a) a.written a b
     → ((c : State) × Comes site.text b c × ReadyAt site
-        (plain (insn.Push (rm.Reg Esi)) ∷ plain (insn.Push (rm.Reg Edi)) ∷ items) c × Pushed site (word_of Ebx b) b c)
-        → (f : State) × Saved site t f × ReadyAt site items f
+    (plain (insn.Push (rm.Reg Esi)) ∷ plain (insn.Push (rm.Reg Edi)) ∷ items) c × Pushed site (word_of Ebx b) b c)
+    → (f : State) × Saved site t f × ReadyAt site items f
 saves-two site frame items t a b room top pa qa pb qb (c, pc, ready, qc) =
     let e : ℕ = word_of Esp t in
     let ba : word_of Esp b ≡ word_of Esp a = qb.others Esp (unlike 4 5 refl) in
     let c_top : word_of Esp c ≤ site.high = top-lower (word_of Esp c) (word_of Esp b) site.high qc.esp
-        (top-second e site.high (word_of Esp a) (word_of Esp b) top qa.esp ba) in
+    (top-second e site.high (word_of Esp a) (word_of Esp b) top qa.esp ba) in
     let p = push-goes site (plain (insn.Push (rm.Reg Edi)) ∷ items) Esi c qc.sound ready
-        (room-third site.low e frame (word_of Esp a) (word_of Esp b) (word_of Esp c) room qa.esp ba qc.esp) c_top in
+    (room-third site.low e frame (word_of Esp a) (word_of Esp b) (word_of Esp c) room qa.esp ba qc.esp) c_top in
     let d : State = p.0 in
     let q = push-goes site items Edi d p.3.sound p.2
-        (room-fourth site.low e frame (word_of Esp a) (word_of Esp b) (word_of Esp c) (word_of Esp d) room qa.esp ba
-        qc.esp p.3.esp) (top-lower (word_of Esp d) (word_of Esp c) site.high p.3.esp c_top) in
+    (room-fourth site.low e frame (word_of Esp a) (word_of Esp b) (word_of Esp c) (word_of Esp d) room qa.esp ba
+    qc.esp p.3.esp) (top-lower (word_of Esp d) (word_of Esp c) site.high p.3.esp c_top) in
     (q.0, saved site t a b c d q.0 (sixteen site.low e frame room) pa qa pb qb pc qc p.1 p.3 q.1 q.3, q.2)
 
 saves-ebp : (site : Site) (frame : ℕ) (items : List Item) (t : State) → site.low + frame + 64 ≤ word_of Esp t
     → word_of Esp t + 4 ≤ site.high
     → ((a : State) × Comes site.text t a × ReadyAt site
-        (plain (insn.Mov (rm.Reg Ebp) Esp) ∷ plain (insn.Push (rm.Reg Ebx)) ∷ plain (insn.Push (rm.Reg Esi))
-        ∷ plain (insn.Push (rm.Reg Edi)) ∷ items) a × Pushed site (word_of Ebp t) t a)
+    (plain (insn.Mov (rm.Reg Ebp) Esp) ∷ plain (insn.Push (rm.Reg Ebx)) ∷ plain (insn.Push (rm.Reg Esi))
+    ∷ plain (insn.Push (rm.Reg Edi)) ∷ items) a × Pushed site (word_of Ebp t) t a)
     → (f : State) × Saved site t f × ReadyAt site items f
 saves-ebp site frame items t room top (a, pa, ready, qa) =
     let e : ℕ = word_of Esp t in
     let two : List Item = plain (insn.Push (rm.Reg Esi)) ∷ plain (insn.Push (rm.Reg Edi)) ∷ items in
     let one : List Item = plain (insn.Push (rm.Reg Ebx)) ∷ two in
     let p = set-goes site one (insn.Mov (rm.Reg Ebp) Esp) Ebp (word_of Esp a) a.flags a qa.sound ready tt
-        (word-below site.text site.low site.high Esp a qa.sound) (λ after. refl) (λ after. refl) in
+    (word-below site.text site.low site.high Esp a qa.sound) (λ after. refl) (λ after. refl) in
     let b : State = p.0 in
     let ba : word_of Esp b ≡ word_of Esp a = p.3.others Esp (unlike 4 5 refl) in
     saves-two site frame items t a b room top pa qa p.1 p.3
-        (push-goes site two Ebx b p.3.sound p.2 (room-second site.low e frame (word_of Esp a) (word_of Esp b) room
-        qa.esp ba) (top-second e site.high (word_of Esp a) (word_of Esp b) top qa.esp ba))
+    (push-goes site two Ebx b p.3.sound p.2 (room-second site.low e frame (word_of Esp a) (word_of Esp b) room
+    qa.esp ba) (top-second e site.high (word_of Esp a) (word_of Esp b) top qa.esp ba))
 
 -- ---- the whole
 
@@ -326,31 +228,42 @@ esp-room low e f b p h k l = omega arith
 frame-top : (e b c h : ℕ) → e + 4 ≤ h → b + 4 ≡ e → c ≡ b → c + 8 ≤ h
 frame-top e b c h k p q = omega arith
 
--- the saved words are part of the frame and of the word above it, and so is each slot
+zero_fits : 0 < 2 ^ 32
+zero_fits = omega arith
+
+some-twelve : 0 < 12
+some-twelve = omega arith
+
+-- how many words of a frame are below the saved ones
+abbrev words_below : ℕ → ℕ
+words_below frame = (frame - 12) / 4
+
+words-some : (f : ℕ) → 16 ≤ f → 0 < words_below f
+words-some f h = omega arith
+
+words-end : (low e f b : ℕ) → low + f + 64 ≤ e → b + 4 ≡ e → 16 ≤ f → f % 4 ≡ 0 → b - f + 4 * words_below f ≡ b - 12
+words-end low e f b h p some words = omega arith
+
+words-low : (low e f b : ℕ) → low + f + 64 ≤ e → b + 4 ≡ e → low ≤ b - f
+words-low low e f b h p = omega arith
+
+words-high : (b h : ℕ) → b ≤ h → b - 12 ≤ h
+words-high b h p = omega arith
+
+-- the saved words are part of the frame and of the word above it, and so are the words below them
 saved-part : (low e f n b : ℕ) → low + f + 64 ≤ e → 16 ≤ f → AreDisjoint (e - (f + 4)) (f + 4) b n
     → AreDisjoint (e - 16) 16 b n
-saved-part low e f n b h k d = disjoint-part (e - (f + 4)) (f + 4) (e - 16) 16 b n (omega arith) (omega arith) d
+saved-part low e f n b h p d = disjoint-part (e - (f + 4)) (f + 4) (e - 16) 16 b n (omega arith) (omega arith) d
 
-slot-part : (low e f base d n b : ℕ) → low + f + 64 ≤ e → base + 4 ≡ e → 20 ≤ d → d ≤ f
-    → AreDisjoint (e - (f + 4)) (f + 4) b n → AreDisjoint (base - d) 4 b n
-slot-part low e f base d n b h p l m k = disjoint-part (e - (f + 4)) (f + 4) (base - d) 4 b n (omega arith)
-    (omega arith) k
+words-part : (low e f base n b : ℕ) → low + f + 64 ≤ e → base + 4 ≡ e → 16 ≤ f → f % 4 ≡ 0
+    → AreDisjoint (e - (f + 4)) (f + 4) b n → AreDisjoint (base - f) (4 * words_below f) b n
+words-part low e f base n b h p some words k =
+    disjoint-part (e - (f + 4)) (f + 4) (base - f) (4 * words_below f) b n (omega arith) (omega arith) k
 
-slots-part : (low e f base n b : ℕ) (slots : List ℕ) → low + f + 64 ≤ e → base + 4 ≡ e → AllByRecursion (IsSlot f) slots
-    → AreDisjoint (e - (f + 4)) (f + 4) b n → OutsideSlots base slots b n
-slots-part low e f base n b [] h p each k = tt
-slots-part low e f base n b (d ∷ slots) h p each k =
-    (slot-part low e f base d n b h p each.0.low each.0.high k, slots-part low e f base n b slots h p each.1 k)
-
--- the saved words are apart from the slots
-saved-word : (low f base c d : ℕ) → low + f ≤ base → c ≤ 12 → 20 ≤ d → d ≤ f → AreDisjoint (base - d) 4 (base - c) 4
-saved-word low f base c d h k l m = inl (omega arith)
-
-saved-words : (low f base c : ℕ) (slots : List ℕ) → low + f ≤ base → c ≤ 12 → AllByRecursion (IsSlot f) slots
-    → OutsideSlots base slots (base - c) 4
-saved-words low f base c [] h k each = tt
-saved-words low f base c (d ∷ slots) h k each =
-    (saved-word low f base c d h k each.0.low each.0.high, saved-words low f base c slots h k each.1)
+-- a saved word is above them
+saved-above : (base f c : ℕ) → base - f + 4 * words_below f ≡ base - 12 → c ≤ 12
+    → AreDisjoint (base - f) (4 * words_below f) (base - c) 4
+saved-above base f c e h = inl (omega arith)
 
 minus-none : (b : ℕ) → b - 0 ≡ b
 minus-none b = omega arith
@@ -367,38 +280,45 @@ few-eight = omega arith
 few-twelve : 12 ≤ 12
 few-twelve = omega arith
 
--- a saved word so far below EBP is kept while the slots become 0
-word-saved : (site : Site) (frame : ℕ) (back : List Item) (slots : List ℕ) (f h u : State) (c v : ℕ)
-    → site.low + frame ≤ word_of Ebp f → AllByRecursion (IsSlot frame) slots → c ≤ 12 → word_of Ebp h ≡ word_of Ebp f
-    → word_of Ebp u ≡ word_of Ebp f → h.memory ≡ f.memory
-    → Cleared site back slots h u → load 4 (word_of Ebp f - c) f ≡ Ok v → load 4 (word_of Ebp u - c) u ≡ Ok v
-word-saved site frame back slots f h u c v low each few same now memory r held =
+-- a saved word so far below EBP is kept while the others become 0
+word-saved : (site : Site) (frame : ℕ) (f i u : State) (c v : ℕ)
+    → word_of Ebp f - frame + 4 * words_below frame ≡ word_of Ebp f - 12 → c ≤ 12 → word_of Ebp u ≡ word_of Ebp f
+    → i.memory ≡ f.memory → Filled site Edi (word_of Ebp f - frame) (words_below frame) 0 i u
+    → load 4 (word_of Ebp f - c) f ≡ Ok v → load 4 (word_of Ebp u - c) u ≡ Ok v
+word-saved site frame f i u c v end few now memory r held =
     let base : ℕ = word_of Ebp f in
-    let outside : OutsideSlots (word_of Ebp h) slots (base - c) 4 =
-        subst (λ (k : ℕ). OutsideSlots k slots (base - c) 4) (sym same)
-        (saved-words site.low frame base c slots low few each) in
     subst (λ (k : ℕ). load 4 (k - c) u ≡ Ok v) (sym now)
-        (r.kept 4 (base - c) v outside (load-same 4 (base - c) v f h memory held))
+    (r.kept 4 (base - c) v (saved-above base frame c end few) (load-same 4 (base - c) v f i memory held))
 
-entered : (site : Site) (frame : ℕ) (slots : List ℕ) (back : List Item) (t f g h u : State)
-    → site.low + frame + 64 ≤ word_of Esp t → word_of Esp t + 4 ≤ site.high → 16 ≤ frame
-    → AllByRecursion (IsSlot frame) slots
-    → Saved site t f → Comes site.text f g → Sets site Esp (word_of Ebp f - frame) f.written f g → Comes site.text g h
-        → Sets site Esi 0 g.written g h → Cleared site back slots h u → Entered site frame slots back t u
-entered site frame slots back t f g h u room top some each p pg qg ph qh r =
+-- the state in which the words below the saved ones are to be filled
+record Made (site : Site) (frame : ℕ) (f i : State) : Type 0 where
+  pub comes : Comes site.text f i
+  pub sound : SoundAt site i
+  pub ebp : word_of Ebp i ≡ word_of Ebp f
+  pub esp : word_of Esp i ≡ word_of Ebp f - frame
+  pub esi : word_of Esi i ≡ 0
+  pub edi : word_of Edi i ≡ word_of Ebp f - 12
+  pub memory : i.memory ≡ f.memory
+  pub left : i.left ≡ f.left
+  pub taken : i.taken ≡ f.taken
+  pub written : i.written ≡ f.written
+
+entered : (site : Site) (frame : ℕ) (back : List Item) (t f i u : State)
+    → site.low + frame + 64 ≤ word_of Esp t → word_of Esp t + 4 ≤ site.high → 16 ≤ frame → frame % 4 ≡ 0
+    → Saved site t f → Made site frame f i → Comes site.text i u → ReadyAt site back u
+    → Filled site Edi (word_of Ebp f - frame) (words_below frame) 0 i u → Entered site frame back t u
+entered site frame back t f i u room top some words p q comes ready r =
     let e : ℕ = word_of Esp t in
     let base : ℕ = word_of Ebp f in
-    let same : word_of Ebp h ≡ base = qh.others Ebp (unlike 5 6 refl) ∙ qg.others Ebp (unlike 5 4 refl) in
-    let now : word_of Ebp u ≡ base = r.words Ebp ∙ same in
-    let esp : word_of Esp u ≡ base - frame = r.words Esp ∙ qh.others Esp (unlike 4 6 refl) ∙ qg.value in
-    let memory : h.memory ≡ f.memory = qh.memory ∙ qg.memory in
-    let low : site.low + frame ≤ base = frame-room site.low e frame base room p.ebp in
+    let now : word_of Ebp u ≡ base = r.others Ebp (unlike 5 7 refl) ∙ q.ebp in
+    let esp : word_of Esp u ≡ base - frame = r.others Esp (unlike 4 7 refl) ∙ q.esp in
+    let end : base - frame + 4 * words_below frame ≡ base - 12 =
+    words-end site.low e frame base room p.ebp some words in
     let first : load 4 (base - 0) f ≡ Ok (word_of Ebp t) =
-        subst (λ (k : ℕ). load 4 k f ≡ Ok (word_of Ebp t)) (sym (minus-none base)) p.old_ebp in
+    subst (λ (k : ℕ). load 4 k f ≡ Ok (word_of Ebp t)) (sym (minus-none base)) p.old_ebp in
     record {
-      comes = comes-then site.text t f u p.comes
-          (comes-then site.text f g u pg (comes-then site.text g h u ph r.comes));
-      ready = r.ready;
+      comes = comes-then site.text t f u p.comes (comes-then site.text f i u q.comes comes);
+      ready = ready;
       framed = record {
         sound = r.sound;
         esp = esp-below (word_of Esp u) (word_of Ebp u) frame base esp (frame-within site.low e frame base room p.ebp)
@@ -408,53 +328,95 @@ entered site frame slots back t f g h u room top some each p pg qg ph qh r =
       };
       ebp = ap (λ (k : ℕ). k + 4) now ∙ p.ebp;
       old_ebp = subst (λ (k : ℕ). load 4 k u ≡ Ok (word_of Ebp t)) (minus-none (word_of Ebp u))
-          (word-saved site frame back slots f h u 0 (word_of Ebp t) low each few-none same now memory r first);
-      old_ebx = word-saved site frame back slots f h u 4 (word_of Ebx t) low each few-four same now memory r p.old_ebx;
-      old_esi = word-saved site frame back slots f h u 8 (word_of Esi t) low each few-eight same now memory r p.old_esi;
-      old_edi = word-saved site frame back slots f h u 12 (word_of Edi t) low each few-twelve same now memory r
-          p.old_edi;
-      zeros = subst (λ (k : ℕ). AreZero k slots u) (same ∙ sym now) r.zeros;
+          (word-saved site frame f i u 0 (word_of Ebp t) end few-none now q.memory r first);
+      old_ebx = word-saved site frame f i u 4 (word_of Ebx t) end few-four now q.memory r p.old_ebx;
+      old_esi = word-saved site frame f i u 8 (word_of Esi t) end few-eight now q.memory r p.old_esi;
+      old_edi = word-saved site frame f i u 12 (word_of Edi t) end few-twelve now q.memory r p.old_edi;
+      zeros = λ n a from to more.
+          zeros-load site (base - frame) (words_below frame) n a u r.sound
+          (words-low site.low e frame base room p.ebp)
+          (subst (λ (k : ℕ). k ≤ site.high) (sym end)
+              (words-high base site.high (frame-high e base site.high top p.ebp)))
+          r.words (subst (λ (k : ℕ). k ≤ a) esp from)
+          (subst (λ (k : ℕ). a + n ≤ k) (ap (λ (k : ℕ). k - 12) now ∙ sym end) to) more;
       kept = λ n b w k held.
-          r.kept n b w (subst (λ (m : ℕ). OutsideSlots m slots b n) (sym same)
-              (slots-part site.low e frame base n b slots room p.ebp each k))
-          (load-same n b w f h memory (p.kept n b w (saved-part site.low e frame n b room some k) held));
-      left = r.left ∙ qh.left ∙ qg.left ∙ p.left;
-      taken = r.taken ∙ qh.taken ∙ qg.taken ∙ p.taken;
-      written = r.written ∙ qh.written ∙ qg.written ∙ p.written;
+          r.kept n b w (words-part site.low e frame base n b room p.ebp some words k)
+          (load-same n b w f i q.memory (p.kept n b w (saved-part site.low e frame n b room some k) held));
+      left = r.left ∙ q.left ∙ p.left;
+      taken = r.taken ∙ q.taken ∙ p.taken;
+      written = r.written ∙ q.written ∙ p.written;
     }
 
-makes-frame : (site : Site) (frame : ℕ) (slots : List ℕ) (back : List Item) (t : State)
-    → site.low + frame + 64 ≤ word_of Esp t → word_of Esp t + 4 ≤ site.high → 16 ≤ frame
-    → AllByRecursion (IsSlot frame) slots → AllApart slots
-    → ((f : State) × Saved site t f × ReadyAt site (making frame slots back) f) → (u : State)
-        × Entered site frame slots back t u
-makes-frame site frame slots back t room top some each apart (f, p, ready) =
+made : (site : Site) (frame : ℕ) (f g h i : State) → Comes site.text f g
+    → Sets site Esp (word_of Ebp f - frame) f.written f g → Comes site.text g h → Sets site Esi 0 g.written g h
+    → Comes site.text h i → Sets site Edi (word_of Ebp h - 12) h.written h i → Made site frame f i
+made site frame f g h i pg qg ph qh pi qi =
+    let same : word_of Ebp h ≡ word_of Ebp f = qh.others Ebp (unlike 5 6 refl) ∙ qg.others Ebp (unlike 5 4 refl) in
+    record {
+      comes = comes-then site.text f g i pg (comes-then site.text g h i ph pi);
+      sound = qi.sound;
+      ebp = qi.others Ebp (unlike 5 7 refl) ∙ same;
+      esp = qi.others Esp (unlike 4 7 refl) ∙ qh.others Esp (unlike 4 6 refl) ∙ qg.value;
+      esi = qi.others Esi (unlike 6 7 refl) ∙ qh.value;
+      edi = qi.value ∙ ap (λ (k : ℕ). k - 12) same;
+      memory = qi.memory ∙ qh.memory ∙ qg.memory;
+      left = qi.left ∙ qh.left ∙ qg.left;
+      taken = qi.taken ∙ qh.taken ∙ qg.taken;
+      written = qi.written ∙ qh.written ∙ qg.written;
+    }
+
+-- LEA of an address below EBP
+lea-goes : (site : Site) (items : List Item) (r : Reg32) (d : ℕ) (s : State) → SoundAt site s
+    → ReadyAt site (plain (insn.Lea r (below d)) ∷ items) s → 0 < d → d ≤ word_of Ebp s
+    → (u : State) × Comes site.text s u × ReadyAt site items u × Sets site r (word_of Ebp s - d) s.written s u
+lea-goes site items r d s sound ready some within =
+    let fits = word-below site.text site.low site.high Ebp s sound in
+    let at = below-address d s some within fits in
+    set-goes site items (insn.Lea r (below d)) r (word_of Ebp s - d) s.flags s sound ready tt
+    (difference-below (word_of Ebp s) d 4294967296 fits)
+    (λ after. ap (λ (k : ℕ). let o : Result State End = Ok (with_word r k s) in o) at) (λ after. refl)
+
+twelve-within : (f b c : ℕ) → 16 ≤ f → f ≤ b → c ≡ b → 12 ≤ c
+twelve-within f b c h k p = omega arith
+
+makes-frame : (site : Site) (frame label : ℕ) (back : List Item) (t : State)
+    → site.low + frame + 64 ≤ word_of Esp t → word_of Esp t + 4 ≤ site.high → 16 ≤ frame → frame % 4 ≡ 0
+    → ((f : State) × Saved site t f × ReadyAt site (making frame label back) f)
+    → (u : State) × Entered site frame back t u
+makes-frame site frame label back t room top some words (f, p, ready) =
     let e : ℕ = word_of Esp t in
     let base : ℕ = word_of Ebp f in
-    let zeroing : List Item = clears slots ++ back in
-    let fits = word-below site.text site.low site.high Ebp f p.sound in
-    let at = below-address frame f (frame-some frame some) (frame-within site.low e frame base room p.ebp) fits in
-    let q = set-goes site (plain (insn.MovImm (rm.Reg Esi) (pos 0)) ∷ zeroing) (insn.Lea Esp (below frame)) Esp
-        (base - frame) f.flags f p.sound ready tt (difference-below base frame 4294967296 fits)
-        (λ after. ap (λ (k : ℕ). let o : Result State End = Ok (with_word Esp k f) in o) at) (λ after. refl) in
+    let three : List Item = fill Edi Esi Esp label ++ back in
+    let two : List Item = plain (insn.Lea Edi (below 12)) ∷ three in
+    let one : List Item = plain (insn.MovImm (rm.Reg Esi) (pos 0)) ∷ two in
+    let within : frame ≤ base = frame-within site.low e frame base room p.ebp in
+    let q = lea-goes site one Esp frame f p.sound ready (frame-some frame some) within in
     let g : State = q.0 in
-    let r = set-goes site zeroing (insn.MovImm (rm.Reg Esi) (pos 0)) Esi 0 g.flags g q.3.sound q.2 tt zero_fits
-        (λ after. refl) (λ after. refl) in
+    let r = set-goes site two (insn.MovImm (rm.Reg Esi) (pos 0)) Esi 0 g.flags g q.3.sound q.2 tt zero_fits
+    (λ after. refl) (λ after. refl) in
     let h : State = r.0 in
     let same : word_of Ebp h ≡ base = r.3.others Ebp (unlike 5 6 refl) ∙ q.3.others Ebp (unlike 5 4 refl) in
-    let has : HasRoom site frame h = record { sound = r.3.sound; low =
-        subst (λ (k : ℕ). site.low + frame ≤ k) (sym same) (frame-room site.low e frame base room p.ebp); high =
-        subst (λ (k : ℕ). k ≤ site.high) (sym same) (frame-high e base site.high top p.ebp) } in
-    let v = clears-goes site frame slots back h has r.2 each apart r.3.value in
-    (v.0, entered site frame slots back t f g h v.0 room top some each p q.1 q.3 r.1 r.3 v.1)
+    let v = lea-goes site three Edi 12 h r.3.sound r.2 some-twelve
+    (twelve-within frame base (word_of Ebp h) some within same) in
+    let i : State = v.0 in
+    let m : Made site frame f i = made site frame f g h i q.1 q.3 r.1 r.3 v.1 v.3 in
+    let end : base - frame + 4 * words_below frame ≡ base - 12 =
+    words-end site.low e frame base room p.ebp some words in
+    let w = fill-goes site Edi Esi Esp label (base - frame) (words_below frame) back i (unlike 6 7 refl)
+    (unlike 4 7 refl) v.3.sound v.2 (words-some frame some) (words-low site.low e frame base room p.ebp)
+    (subst (λ (k : ℕ). k ≤ site.high) (sym end) (words-high base site.high (frame-high e base site.high top p.ebp)))
+    (m.edi ∙ sym end) m.esp in
+    let filled : Filled site Edi (base - frame) (words_below frame) 0 i w.0 =
+    subst (λ (k : ℕ). Filled site Edi (base - frame) (words_below frame) k i w.0) m.esi w.3 in
+    (w.0, entered site frame back t f i w.0 room top some words p m w.1 w.2 filled)
 
--- the prologue makes the frame, with the caller's registers in its first words and 0 in each slot
+-- the prologue makes the frame, with the caller's registers in its first words and 0 in all others
 pub prologue-goes : PrologueGoes
-prologue-goes site frame slots back t sound ready room top some each apart =
+prologue-goes site frame label back t sound ready room top some words =
     let e : ℕ = word_of Esp t in
-    let items : List Item = making frame slots back in
+    let items : List Item = making frame label back in
     let one : List Item = plain (insn.Mov (rm.Reg Ebp) Esp) ∷ plain (insn.Push (rm.Reg Ebx))
-        ∷ plain (insn.Push (rm.Reg Esi)) ∷ plain (insn.Push (rm.Reg Edi)) ∷ items in
-    makes-frame site frame slots back t room top some each apart
-        (saves-ebp site frame items t room top (push-goes site one Ebp t sound ready (room-first site.low e frame room)
-        (top-first e site.high top)))
+    ∷ plain (insn.Push (rm.Reg Esi)) ∷ plain (insn.Push (rm.Reg Edi)) ∷ items in
+    makes-frame site frame label back t room top some words
+    (saves-ebp site frame items t room top (push-goes site one Ebp t sound ready (room-first site.low e frame room)
+    (top-first e site.high top)))

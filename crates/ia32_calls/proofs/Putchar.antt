@@ -20,11 +20,12 @@ use Rattle.ia32_shows.proofs.Sound.{load-same, word-below}
 use Rattle.ia32_shows.proofs.Steps.{IsAt, Comes, comes-then}
 use Rattle.ia32_shows.proofs.Frames.{went-then, went-stricter, below-address, store-went}
 use Rattle.ia32_rows.specs.Rows.{putchar_row}
-use Rattle.ia32_calls.specs.Laws.{putchar_between, StandsFrom, OutsideCall, WroteByCall, PutcharRow}
-use Rattle.ia32_calls.proofs.Pushes.{ready-from, disjoint-part, unlike, one_fits, Sets, set-goes, Pushed, push-goes}
+use Rattle.ia32_calls.specs.Laws.{putchar_between, OutsideCall, WroteByCall, PutcharRow}
+use Rattle.ia32_shows.proofs.Sets.{ready-from, disjoint-part, unlike, Sets, set-goes}
+use Rattle.ia32_calls.proofs.Pushes.{one_fits, Pushed, push-goes}
 use Rattle.ia32_calls.proofs.Pushes.{push-load-goes, call-goes, pop-goes, ret-goes}
 use Rattle.ia32_calls.proofs.Interrupts.{write-goes}
-use Rattle.ia32_shows.specs.Sites.{Site, SoundAt, ReadyAt, Framed, Went, IsInFrame}
+use Rattle.ia32_shows.specs.Sites.{Site, SoundAt, ReadyAt, StandsFrom, Framed, Went, IsInFrame}
 
 -- ---- numbers
 

@@ -18,7 +18,8 @@ use Rattle.ia32_shows.proofs.Steps.{Comes, comes-then, plain-goes}
 use Rattle.ia32_shows.proofs.Frames.{below-address}
 use Rattle.ia32_rows.specs.Rows.{return_row}
 use Rattle.ia32_calls.specs.Laws.{return_before, HasWordFrom, Returned, ReturnGoes}
-use Rattle.ia32_calls.proofs.Pushes.{unlike, Sets, set-goes, Leaves, leave-goes, ret-goes}
+use Rattle.ia32_shows.proofs.Sets.{unlike, Sets, set-goes}
+use Rattle.ia32_calls.proofs.Pushes.{Leaves, leave-goes, ret-goes}
 use Rattle.ia32_shows.specs.Sites.{Site, SoundAt, ReadyAt}
 
 -- ---- words of the frame to registers

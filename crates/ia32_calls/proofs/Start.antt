@@ -22,8 +22,9 @@ use Rattle.ia32_shows.proofs.Spelled.{IsCommon}
 use Rattle.ia32_shows.proofs.Steps.{IsAt, Comes, comes-then, at-front, items-split, plain-measured}
 use Rattle.ia32_shows.proofs.Frames.{with_result}
 use Rattle.ia32_calls.specs.Laws.{ReturnsToStart, Started, StartGoes}
-use Rattle.ia32_calls.proofs.Pushes.{one_fits, Sets, set-word, Pushed, call-goes}
-use Rattle.ia32_calls.proofs.Stores.{Stores, stored-at}
+use Rattle.ia32_shows.proofs.Sets.{Sets, set-word}
+use Rattle.ia32_calls.proofs.Pushes.{one_fits, Pushed, call-goes}
+use Rattle.ia32_shows.proofs.Stores.{Stores, stored-at}
 use Rattle.ia32_calls.proofs.First.{first-sound, length-memory, start-here}
 use Rattle.ia32_shows.specs.Sites.{Site, SoundAt, ReadyAt}
 

@@ -1,7 +1,6 @@
 -- What calls and leaves do to the machine. Each law leads from a state to a later one, and passes no NOP on the way.
 use Rattle.std.specs.Prelude.{◌≡◌, ℕ, ◌+◌, ◌-◌, ◌%◌, ◌^◌, ◌<◌, ◌≤◌, List, [], ◌∷◌, ◌++◌, length, take, drop, slice_get}
 use Rattle.std.specs.Prelude.{Some, Ok}
-use Rattle.std.specs.List.{AllByRecursion}
 use Rattle.pcc_base.specs.Outcome.{Ended}
 use Rattle.ia32_regs.specs.declared.names.Reg32.{Reg32}
 use Rattle.ia32_regs.specs.declared.names.Reg32.TheVariants.{Eax, Ebx, Esp, Ebp, Esi, Edi}
@@ -16,16 +15,10 @@ use Rattle.ia32_insn.specs.Keeps.{AreDisjoint}
 use Rattle.ia32_insn.specs.Runs.{Steps}
 use Rattle.ia32_insn.specs.Items.{Object, Symbols, Places, ItemsAt, IsText, plain, text_start, text_state, data_start}
 use Rattle.ia32_insn.specs.Items.{stack_end, start_items, putchar_items}
-use Rattle.ia32_shows.specs.Paths.{IsAt, IsClear, Comes}
+use Rattle.ia32_shows.specs.Paths.{IsClear, Comes}
 use Rattle.ia32_shows.specs.Placements.{below}
-use Rattle.ia32_rows.specs.Rows.{IsSlot, AllApart, prologue}
-use Rattle.ia32_shows.specs.Sites.{IsSound, Site, SoundAt, ReadyAt, Framed, Went, IsInFrame, ApartFrom}
-
--- items stand in the site's text from an address on
-pub record StandsFrom (site : Site) (items : List Item) (address : ℕ) : Type 0 where
-  pub bytes : List ℕ
-  pub here : IsAt site.text address bytes
-  pub stand : ItemsAt site.symbols site.places address items bytes
+use Rattle.ia32_rows.specs.Rows.{prologue}
+use Rattle.ia32_shows.specs.Sites.{IsSound, Site, SoundAt, ReadyAt, StandsFrom, Framed, Went, IsInFrame, ApartFrom}
 
 -- ---- a call of `putchar`
 
@@ -94,8 +87,9 @@ StartGoes =
 
 -- ---- a function's first items
 
--- the state behind the prologue
-pub record Entered (site : Site) (frame : ℕ) (slots : List ℕ) (back : List Item) (t u : State) : Type 0 where
+-- The state behind the prologue: the caller's registers are in the frame's first words, and what is loaded from below
+-- these is 0.
+pub record Entered (site : Site) (frame : ℕ) (back : List Item) (t u : State) : Type 0 where
   pub comes : Comes site.text t u
   pub ready : ReadyAt site back u
   pub framed : Framed site frame u
@@ -104,21 +98,20 @@ pub record Entered (site : Site) (frame : ℕ) (slots : List ℕ) (back : List I
   pub old_ebx : load 4 (word_of Ebp u - 4) u ≡ Ok (word_of Ebx t)
   pub old_esi : load 4 (word_of Ebp u - 8) u ≡ Ok (word_of Esi t)
   pub old_edi : load 4 (word_of Ebp u - 12) u ≡ Ok (word_of Edi t)
-  pub zeros : AllByRecursion (λ (slot : ℕ). load 4 (word_of Ebp u - slot) u ≡ Ok 0) slots
+  pub zeros : (n a : ℕ) → word_of Esp u ≤ a → a + n ≤ word_of Ebp u - 12 → 0 < n → load n a u ≡ Ok 0
   pub kept : (n b w : ℕ) → AreDisjoint (word_of Esp t - (frame + 4)) (frame + 4) b n → load n b t ≡ Ok w → load n b u
       ≡ Ok w
   pub left : u.left ≡ t.left
   pub taken : u.taken ≡ t.taken
   pub written : u.written ≡ t.written
 
--- the prologue makes the frame, with the caller's registers in its first words and 0 in each slot
+-- the prologue makes a frame of words, with the caller's registers in its first ones and 0 in all others
 abbrev pub PrologueGoes : Type 0
 PrologueGoes =
-    (site : Site) (frame : ℕ) (slots : List ℕ) (back : List Item) (t : State) → SoundAt site t
-        → ReadyAt site (prologue frame slots ++ back) t
-    → site.low + frame + 64 ≤ word_of Esp t → word_of Esp t + 4 ≤ site.high → 16 ≤ frame
-        → AllByRecursion (IsSlot frame) slots → AllApart slots
-    → (u : State) × Entered site frame slots back t u
+    (site : Site) (frame label : ℕ) (back : List Item) (t : State) → SoundAt site t
+        → ReadyAt site (prologue frame label ++ back) t
+    → site.low + frame + 64 ≤ word_of Esp t → word_of Esp t + 4 ≤ site.high → 16 ≤ frame → frame % 4 ≡ 0
+    → (u : State) × Entered site frame back t u
 
 -- ---- a return
 

@@ -23,10 +23,9 @@ use Rattle.flow_graph.specs.Graphs.{Flow, HasFittingOp, IsFlow, points_of}
 use Rattle.flow_graph.proofs.Points.{every-map}
 use Rattle.ia32_shows.proofs.Spelled.{IsCommon, common-begins}
 use Rattle.ia32_shows.specs.Placements.{Placement}
-use Rattle.ia32_rows.specs.Rows.{IsSlotOp, HasSlots, frame_of, over_slots, read, write, operate, working, has_operand}
-use Rattle.ia32_rows.specs.Rows.{number_row, copy_row, operation, commuting, pass, putchar_row, return_row, row}
-use Rattle.ia32_rows.specs.Rows.{place_before, place_after, clears, prologue, point_row, point_rows, block_rows}
-use Rattle.ia32_rows.specs.Rows.{selected}
+use Rattle.ia32_rows.specs.Rows.{IsSlotOp, HasSlots, frame_of, entry_label, over_slots, read, write, operate, working}
+use Rattle.ia32_rows.specs.Rows.{has_operand, number_row, copy_row, operation, commuting, pass, putchar_row, return_row}
+use Rattle.ia32_rows.specs.Rows.{row, place_before, place_after, prologue, point_row, point_rows, block_rows, selected}
 
 -- what holds of each of two lists holds of each of both
 pub every-join : {X : Type 0} (P : X → Type 0) (xs ys : List X) → AllByRecursion P xs → AllByRecursion P ys
@@ -48,13 +47,13 @@ every-get P (y ∷ xs) (suc i) x h e = every-get P xs i x h.1 e
 
 -- ---- the kinds of items
 
--- a common instruction or NOP, a label, a point, or a call of putchar
+-- a common instruction or NOP, a label, a point, a jump to a label, or a call of putchar
 abbrev pub IsRowItem : Item → Type 0
 IsRowItem (item.Plain i) = IsCommon i ⊎ (i ≡ insn.Nop)
 IsRowItem (item.Label l) = ⊤
 IsRowItem (item.Point p) = ⊤
-IsRowItem (item.JumpTo l) = ⊥
-IsRowItem (item.JumpIf c l) = ⊥
+IsRowItem (item.JumpTo l) = ⊤
+IsRowItem (item.JumpIf c l) = ⊤
 IsRowItem (item.CallFunction f) = ⊥
 IsRowItem (item.CallStub stub.Putchar) = ⊤
 IsRowItem (item.CallStub stub.Getchar) = ⊥
@@ -215,12 +214,11 @@ insn-items (i ∷ items) h = (insn-item i h.0, insn-items items h.1)
 row-items : (placement : Placement) (p : ℕ) (o : Op) → AllByRecursion IsRowItem (row placement p o)
 row-items placement p o = insn-items (row placement p o) (row-insns placement p o)
 
-clear-items : (slots : List ℕ) → AllByRecursion IsRowItem (clears slots)
-clear-items [] = tt
-clear-items (slot ∷ slots) = (inl tt, clear-items slots)
-
-prologue-items : (frame : ℕ) (slots : List ℕ) → AllByRecursion IsRowItem (prologue frame slots)
-prologue-items frame slots = (inl tt, (inl tt, (inl tt, (inl tt, (inl tt, (inl tt, (inl tt, clear-items slots)))))))
+prologue-items : (frame label : ℕ) → AllByRecursion IsRowItem (prologue frame label)
+prologue-items frame label = (
+  inl tt,
+  (inl tt, (inl tt, (inl tt, (inl tt, (inl tt, (inl tt, (inl tt, (tt, (inl tt, (inl tt, (inl tt, (tt, tt)))))))))))),
+)
 
 point_rows-items : (placement : Placement) (ops : List Op) (points : List ℕ)
     → AllByRecursion IsRowItem (point_rows placement ops points)
@@ -237,10 +235,11 @@ block_rows-items placement ops k (points ∷ blocks) =
         (tt, point_rows-items placement ops points) (block_rows-items placement ops (suc k) blocks)
 
 -- every item of a graph's code is of these kinds
-pub selected-items : (flow : Flow) (slots : List ℕ) → AllByRecursion IsRowItem (selected flow slots)
+pub selected-items : (flow : Flow) (slots : List ℕ) → AllByRecursion IsRowItem (selected flow (over_slots flow slots))
 selected-items flow slots =
-    every-join IsRowItem (prologue (frame_of flow) slots) (block_rows (over_slots flow slots) flow.ops 0 flow.blocks)
-        (prologue-items (frame_of flow) slots) (block_rows-items (over_slots flow slots) flow.ops 0 flow.blocks)
+    every-join IsRowItem (prologue (frame_of flow) (entry_label flow))
+        (block_rows (over_slots flow slots) flow.ops 0 flow.blocks) (prologue-items (frame_of flow) (entry_label flow))
+        (block_rows-items (over_slots flow slots) flow.ops 0 flow.blocks)
 
 -- ---- points are followed by instructions
 
@@ -364,16 +363,16 @@ blocks-room placement ops k (points ∷ blocks) h =
     room-join (item.Label k ∷ point_rows placement ops points) (block_rows placement ops (suc k) blocks)
         (tt, points-room placement ops points (h 0)) (blocks-room placement ops (suc k) blocks (λ b. h (suc b)))
 
-clears-room : (slots : List ℕ) → PointsTakeRoom (clears slots)
-clears-room [] = tt
-clears-room (slot ∷ slots) = (tt, clears-room slots)
+prologue-room : (frame label : ℕ) → PointsTakeRoom (prologue frame label)
+prologue-room frame label =
+    (tt, (tt, (tt, (tt, (tt, (tt, (tt, (tt, (tt, (tt, (tt, (tt, (tt, tt)))))))))))))
 
 -- behind every point of a graph's code comes an instruction
 pub selected-room : (flow : Flow) (slots homes : List ℕ) → IsFlow flow homes → HasSlots flow slots
-    → PointsTakeRoom (selected flow slots)
+    → PointsTakeRoom (selected flow (over_slots flow slots))
 selected-room flow slots homes f h =
-    room-join (prologue (frame_of flow) slots) (block_rows (over_slots flow slots) flow.ops 0 flow.blocks)
-        (tt, (tt, (tt, (tt, (tt, (tt, (tt, clears-room slots)))))))
+    room-join (prologue (frame_of flow) (entry_label flow)) (block_rows (over_slots flow slots) flow.ops 0 flow.blocks)
+        (prologue-room (frame_of flow) (entry_label flow))
     (blocks-room (over_slots flow slots) flow.ops 0 flow.blocks (λ b. points-have flow slots homes b f h))
 
 -- ---- so two points have two addresses
@@ -388,8 +387,10 @@ item-room symbols places address (item.Plain i) bytes (inr e) room at =
     let l = ap length nop in omega (arith, l)
 item-room symbols places address (item.Label l) bytes kind room at = absurd room
 item-room symbols places address (item.Point p) bytes kind room at = absurd room
-item-room symbols places address (item.JumpTo l) bytes kind room at = absurd kind
-item-room symbols places address (item.JumpIf c l) bytes kind room at = absurd kind
+item-room symbols places address (item.JumpTo l) bytes kind room (distance, spelled, leads) =
+    let l = ap length (common-begins (insn.Jmp distance) bytes tt spelled).2 in omega (arith, l)
+item-room symbols places address (item.JumpIf c l) bytes kind room (distance, spelled, leads) =
+    let l = ap length (common-begins (insn.Jcc c distance) bytes tt spelled).2 in omega (arith, l)
 item-room symbols places address (item.CallFunction f) bytes kind room at = absurd kind
 item-room symbols places address (item.CallStub stub.Putchar) bytes kind room (distance, spelled, leads) =
     let l = ap length (common-begins (insn.Call distance) bytes tt spelled).2 in omega (arith, l)

@@ -20,7 +20,8 @@ use Rattle.flow_graph.proofs.Points.{choose}
 use Rattle.ia32_shows.specs.Placements.{Placement, Code, objects_of, address_in, point_address}
 use Rattle.ia32_shows.specs.Shows.{ReturnsTo, StartReturns, startup, ending}
 use Rattle.ia32_shows.proofs.Steps.{IsAt, at-front, at-back, items-split, point-passed, label-passed}
-use Rattle.ia32_rows.specs.Rows.{frame_of, over_slots, row, prologue, point_row, point_rows, block_rows, selected}
+use Rattle.ia32_rows.specs.Rows.{frame_of, entry_label, over_slots, row, prologue, point_row, point_rows, block_rows}
+use Rattle.ia32_rows.specs.Rows.{selected}
 use Rattle.ia32_rows.proofs.ItemKinds.{every-get, every-back, IsRowItem, selected-items, selected-room, one-address}
 use Rattle.ia32_rows.specs.Right.{IsSlotCode}
 use Rattle.ia32_shows.specs.Sites.{Ready, Site, ReadyAt}
@@ -129,9 +130,10 @@ pub record IsLaid (flow : Flow) (slots : List ℕ) (code : Code) : Type 0 where
   pub behind : address ≡ text_start + length start
   pub placed : slice_get code.places 0 ≡ Some (places_of code)
   pub named : slice_get code.symbols.functions 0 ≡ Some address
-  pub stands : StandsIn code (selected flow slots) address
+  pub stands : StandsIn code (selected flow (over_slots flow slots)) address
 
-pub laid : (flow : Flow) (slots : List ℕ) (code : Code) → IsSlotCode flow slots (selected flow slots) code
+pub laid : (flow : Flow) (slots : List ℕ) (code : Code)
+    → IsSlotCode flow slots (selected flow (over_slots flow slots)) code
     → IsLaid flow slots code
 laid flow slots code h =
     let t : IsText code.items code.order [] 0 code.places code.symbols code.text = h.text in
@@ -140,8 +142,8 @@ laid flow slots code h =
         (subst (λ (fs : List (List Item)). IsOrder (length fs) code.order) h.items_are t.order_is) in
     let one = function-one code.symbols code.items code.places code.order address t.code order t.code_at in
     let same : one.place ≡ places_of code = sym (get_or_from_slice_get code.places 0 one.place no_places one.placed) in
-    let items : one.items ≡ selected flow slots =
-        same_Some one.items (selected flow slots)
+    let items : one.items ≡ selected flow (over_slots flow slots) =
+        same_Some one.items (selected flow (over_slots flow slots))
         (sym one.is ∙ ap (λ (fs : List (List Item)). slice_get fs 0) h.items_are) in
     record {
       address = address;
@@ -153,20 +155,23 @@ laid flow slots code h =
         bytes = t.code;
         here = record { done = t.start; rest = t.putchar ++ t.getchar ++ t.exit ++ t.check; whole = t.whole
             ∙ grouped t.start t.code t.putchar t.getchar t.exit t.check; place = refl };
-        stand = subst (λ (p : Places). ItemsAt code.symbols p address (selected flow slots) t.code) same
+        stand = subst (λ (p : Places). ItemsAt code.symbols p address (selected flow (over_slots flow slots)) t.code)
+            same
             (subst (λ (is : List Item). ItemsAt code.symbols one.place address is t.code) items one.stands);
       };
     }
 
 -- the items of a function that starts at the address stand at EIP, once a state came to that
 pub entry-ready : (flow : Flow) (slots : List ℕ) (code : Code) (low high address : ℕ) (s : State)
-    → IsSlotCode flow slots (selected flow slots) code → slice_get code.symbols.functions 0 ≡ Some address → s.eip
+    → IsSlotCode flow slots (selected flow (over_slots flow slots)) code → slice_get code.symbols.functions 0
+        ≡ Some address → s.eip
     ≡ address
-    → ReadyAt (site_of code low high) (selected flow slots) s
+    → ReadyAt (site_of code low high) (selected flow (over_slots flow slots)) s
 entry-ready flow slots code low high address s h named e =
     let l = laid flow slots code h in
     let same : address ≡ l.address = same_Some address l.address (sym named ∙ l.named) in
-    ready-there code.symbols (places_of code) code.text (selected flow slots) l.address s (e ∙ same) l.stands
+    ready-there code.symbols (places_of code) code.text (selected flow (over_slots flow slots)) l.address s (e ∙ same)
+        l.stands
 
 -- the address of a point is that of its places
 address-of : (flow : Flow) (slots : List ℕ) (code : Code) (p : ℕ) → IsLaid flow slots code → point_address code 0 p
@@ -252,10 +257,10 @@ row-in-blocks placement ops k (points ∷ blocks) p (suc b) h =
 
 -- the row of a point of the graph
 row-in-graph : (flow : Flow) (slots : List ℕ) (p b : ℕ) → Stands flow p b
-    → HasRow (over_slots flow slots) flow.ops p (following p (points_of flow b)) (selected flow slots)
+    → HasRow (over_slots flow slots) flow.ops p (following p (points_of flow b)) (selected flow (over_slots flow slots))
 row-in-graph flow slots p b h =
     let next : Option ℕ = following p (points_of flow b) in
-    let front : List Item = prologue (frame_of flow) slots in
+    let front : List Item = prologue (frame_of flow) (entry_label flow) in
     let back : List Item = block_rows (over_slots flow slots) flow.ops 0 flow.blocks in
     let none : front ++ (back ++ []) ≡ front ++ back = ap (λ (l : List Item). front ++ l) (append-nil back) in
     subst (HasRow (over_slots flow slots) flow.ops p next) none
@@ -268,7 +273,8 @@ record RowThere (flow : Flow) (slots : List ℕ) (code : Code) (p : ℕ) (next :
   stands : StandsIn code (point_row (over_slots flow slots) flow.ops p ++ rest) (point_address code 0 p)
   follows : (q : ℕ) → next ≡ Some q → (more : List Item) × (rest ≡ item.Point q ∷ more)
 
-row-there : (flow : Flow) (slots : List ℕ) (code : Code) (p b : ℕ) → IsSlotCode flow slots (selected flow slots) code
+row-there : (flow : Flow) (slots : List ℕ) (code : Code) (p b : ℕ)
+    → IsSlotCode flow slots (selected flow (over_slots flow slots)) code
     → Stands flow p b → RowThere flow slots code p (following p (points_of flow b))
 row-there flow slots code p b h stands =
     let l = laid flow slots code h in
@@ -290,7 +296,7 @@ op-of flow p o e = get_or_from_slice_get flow.ops p o op.Turn e
 
 -- A state at the first point of block 0 has come through the label to its row.
 pub first-ready : (flow : Flow) (slots : List ℕ) (code : Code) (low high p : ℕ) (s : State)
-    → IsSlotCode flow slots (selected flow slots) code → slice_get (points_of flow 0) 0 ≡ Some p
+    → IsSlotCode flow slots (selected flow (over_slots flow slots)) code → slice_get (points_of flow 0) 0 ≡ Some p
     → ReadyAt (site_of code low high) (block_rows (over_slots flow slots) flow.ops 0 flow.blocks) s
     → (s.eip ≡ point_address code 0 p) × (rest : List Item)
         × ReadyAt (site_of code low high) (point_row (over_slots flow slots) flow.ops p ++ rest) s
@@ -330,7 +336,8 @@ pub record RowLaid (placement : Placement) (code : Code) (p : ℕ) (o : Op) (nex
 
 -- The items of the op of a point stand at its address, and behind them the block's next point.
 pub point-laid : (flow : Flow) (slots : List ℕ) (code : Code) (p b : ℕ) (o : Op)
-    → IsSlotCode flow slots (selected flow slots) code → Stands flow p b → slice_get flow.ops p ≡ Some o
+    → IsSlotCode flow slots (selected flow (over_slots flow slots)) code → Stands flow p b → slice_get flow.ops p
+        ≡ Some o
     → RowLaid (over_slots flow slots) code p o (following p (points_of flow b))
 point-laid flow slots code p b o h stands has =
     let r = row-there flow slots code p b h stands in
@@ -351,7 +358,8 @@ pub record RowReady (placement : Placement) (site : Site) (p : ℕ) (o : Op) (ne
 
 -- A state at the address of a point has the items of its op ready, and behind them the block's next point.
 pub point-ready : (flow : Flow) (slots : List ℕ) (code : Code) (low high p b : ℕ) (o : Op) (s : State)
-    → IsSlotCode flow slots (selected flow slots) code → Stands flow p b → slice_get flow.ops p ≡ Some o → s.eip
+    → IsSlotCode flow slots (selected flow (over_slots flow slots)) code → Stands flow p b → slice_get flow.ops p
+        ≡ Some o → s.eip
     ≡ point_address code 0 p
     → RowReady (over_slots flow slots) (site_of code low high) p o (following p (points_of flow b)) s
 point-ready flow slots code low high p b o s h stands has e =
@@ -362,7 +370,7 @@ point-ready flow slots code low high p b o s h stands has e =
 
 -- what the next point of a block is: a state with what stands behind the row ready is at its address
 pub next-passed : (flow : Flow) (slots : List ℕ) (code : Code) (low high q : ℕ) (rest : List Item) (s : State)
-    → IsSlotCode flow slots (selected flow slots) code
+    → IsSlotCode flow slots (selected flow (over_slots flow slots)) code
     → ((more : List Item) × (rest ≡ item.Point q ∷ more)) → ReadyAt (site_of code low high) rest s → s.eip
         ≡ point_address code 0 q
 next-passed flow slots code low high q rest s h (more, is) ready =
@@ -373,13 +381,15 @@ next-passed flow slots code low high q rest s h (more, is) ready =
 
 -- a mark and a turn have the byte of NOP
 pub mark-at : (flow : Flow) (slots : List ℕ) (code : Code) (p b n : ℕ)
-    → IsSlotCode flow slots (selected flow slots) code → Stands flow p b → slice_get flow.ops p ≡ Some (op.Mark n)
+    → IsSlotCode flow slots (selected flow (over_slots flow slots)) code → Stands flow p b → slice_get flow.ops p
+        ≡ Some (op.Mark n)
     → IsAt code.text (point_address code 0 p) (144 ∷ [])
 mark-at flow slots code p b n h stands has =
     let r = point-laid flow slots code p b (op.Mark n) h stands has in
     nop-there code.symbols (places_of code) code.text r.rest (point_address code 0 p) r.there
 
-pub turn-at : (flow : Flow) (slots : List ℕ) (code : Code) (p b : ℕ) → IsSlotCode flow slots (selected flow slots) code
+pub turn-at : (flow : Flow) (slots : List ℕ) (code : Code) (p b : ℕ)
+    → IsSlotCode flow slots (selected flow (over_slots flow slots)) code
     → Stands flow p b → slice_get flow.ops p ≡ Some op.Turn → IsAt code.text (point_address code 0 p) (144 ∷ [])
 turn-at flow slots code p b h stands has =
     let r = point-laid flow slots code p b op.Turn h stands has in
@@ -457,7 +467,7 @@ at-place (x ∷ front) back i = at-place front back i
 
 -- a point of the graph stands among the items
 pub point-among : (flow : Flow) (slots : List ℕ) (p b : ℕ) → Stands flow p b → (j : ℕ)
-    × (slice_get (selected flow slots) j ≡ Some (item.Point p))
+    × (slice_get (selected flow (over_slots flow slots)) j ≡ Some (item.Point p))
 point-among flow slots p b h =
     let r = row-in-graph flow slots p b h in
     let back : List Item = row (over_slots flow slots) p (slice_index_or flow.ops p op.Turn) ++ r.rest in
@@ -465,7 +475,8 @@ point-among flow slots p b h =
 
 -- two points of the graph with one address are one point
 pub apart : (flow : Flow) (slots : List ℕ) (code : Code) (p b q c : ℕ)
-    → IsSlotCode flow slots (selected flow slots) code → Stands flow p b → Stands flow q c → point_address code 0 p
+    → IsSlotCode flow slots (selected flow (over_slots flow slots)) code → Stands flow p b → Stands flow q c
+        → point_address code 0 p
     ≡ point_address code 0 q → p ≡ q
 apart flow slots code p b q c h one two e =
     let l = laid flow slots code h in
@@ -473,7 +484,8 @@ apart flow slots code p b q c h one two e =
     let j = point-among flow slots q c two in
     let same : (places_of code).points p ≡ (places_of code).points q = sym (address-of flow slots code p l) ∙ e
         ∙ address-of flow slots code q l in
-    one-address code.symbols (places_of code) l.address (selected flow slots) l.stands.bytes i.0 j.0 p q
+    one-address code.symbols (places_of code) l.address (selected flow (over_slots flow slots)) l.stands.bytes i.0 j.0 p
+        q
         (selected-items flow slots) (selected-room flow slots h.homes h.is_flow h.has_slots) l.stands.stand i.1 j.1 same
 
 -- a point and the items up to a call, with the call at the end of them or at the head of what follows
@@ -483,16 +495,16 @@ call-grouped front middle one back p = simp append_assoc refl
 
 -- no call waits: none of the items calls a function
 pub no-calls : (flow : Flow) (slots : List ℕ) (code : Code) (w : Waiting) (f r : ℕ)
-    → IsSlotCode flow slots (selected flow slots) code → ReturnsTo code w f r → ⊥
+    → IsSlotCode flow slots (selected flow (over_slots flow slots)) code → ReturnsTo code w f r → ⊥
 no-calls flow slots code w f r h (items, places, address, has, placed, named, returns) =
     let front : List Item = returns.0 in
     let middle : List Item = returns.1 in
     let back : List Item = returns.2 in
     let is : items ≡ (front ++ item.Point w.point ∷ middle ++ item.CallFunction f ∷ []) ++ back = returns.5 in
-    let of-one : slice_get (selected flow slots ∷ []) w.activation.function ≡ Some items =
+    let of-one : slice_get (selected flow (over_slots flow slots) ∷ []) w.activation.function ≡ Some items =
         subst (λ (fs : List (List Item)). slice_get fs w.activation.function ≡ Some items) h.items_are has in
     let mine : AllByRecursion IsRowItem items =
-        every-get (AllByRecursion IsRowItem) (selected flow slots ∷ []) w.activation.function items
+        every-get (AllByRecursion IsRowItem) (selected flow (over_slots flow slots) ∷ []) w.activation.function items
         (selected-items flow slots, tt) of-one in
     let one : List Item = item.CallFunction f ∷ [] in
     let e = call-grouped front middle one back (item.Point w.point) in

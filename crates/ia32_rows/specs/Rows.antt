@@ -22,6 +22,7 @@ use Rattle.flow_graph.specs.declared.op.Op.{Op}
 use Rattle.flow_graph.specs.declared.op.Op.TheVariants as op
 pub use Rattle.flow_graph.specs.SlotGraphs.{IsSlotOp}
 use Rattle.flow_graph.specs.Graphs.{Flow, IsEnded}
+use Rattle.ia32_shows.specs.Filling.{fill}
 use Rattle.ia32_shows.specs.Placements.{Placement, below, in_slots}
 
 -- ---- the graphs that have code so far
@@ -44,11 +45,12 @@ abbrev pub AllApart : List ℕ → Type 0
 AllApart [] = ⊤
 AllApart (slot ∷ slots) = AllByRecursion (AreApart slot) slots × AllApart slots
 
--- a graph of such ops over variables of width Two without frame arrays, with a slot for each variable
+-- a graph of such ops over variables of width Two without frame arrays, with a first block and a slot for each variable
 pub record HasSlots (flow : Flow) (slots : List ℕ) : Type 0 where
   pub widths : AllByRecursion (λ width. width ≡ Two) flow.widths
   pub no_arrays : flow.arrays ≡ []
   pub ops : AllByRecursion IsSlotOp flow.ops
+  pub begins : 0 < length flow.blocks
   pub ended : (block : ℕ) → block < length flow.blocks → IsEnded flow block
   pub as_many : length slots ≡ length flow.widths
   pub within : AllByRecursion (IsSlot (frame_of flow)) slots
@@ -217,14 +219,10 @@ row placement point o = items_between (place_before placement point) (place_afte
 
 -- ---- the items of a graph
 
--- every slot becomes 0, from ESI
-abbrev pub clears : List ℕ → List Item
-clears [] = []
-clears (slot ∷ slots) = plain (insn.Mov (rm.Mem (below slot)) Esi) ∷ clears slots
-
--- the frame is made: the caller's registers are kept in its first words, and every variable is 0
-abbrev pub prologue : ℕ → List ℕ → List Item
-prologue frame slots =
+-- The frame is made: the caller's registers are kept in its first words, and every word below these is 0. The last of
+-- these items is a loop, whose label this is.
+abbrev pub prologue : ℕ → ℕ → List Item
+prologue frame label =
     plain (insn.Push (rm.Reg Ebp))
     ∷ plain (insn.Mov (rm.Reg Ebp) Esp)
     ∷ plain (insn.Push (rm.Reg Ebx))
@@ -232,7 +230,12 @@ prologue frame slots =
     ∷ plain (insn.Push (rm.Reg Edi))
     ∷ plain (insn.Lea Esp (below frame))
     ∷ plain (insn.MovImm (rm.Reg Esi) (pos 0))
-    ∷ clears slots
+    ∷ plain (insn.Lea Edi (below 12))
+    ∷ fill Edi Esi Esp label
+
+-- the label of the loop is the number behind those of the blocks
+abbrev pub entry_label : Flow → ℕ
+entry_label flow = length flow.blocks
 
 -- a point and the items of its op
 abbrev pub point_row : Placement → List Op → ℕ → List Item
@@ -248,7 +251,7 @@ block_rows placement ops k [] = []
 block_rows placement ops k (points ∷ blocks) =
     (item.Label k ∷ point_rows placement ops points) ++ block_rows placement ops (suc k) blocks
 
--- the items of a graph
-abbrev pub selected : Flow → List ℕ → List Item
-selected flow slots =
-    prologue (frame_of flow) slots ++ block_rows (over_slots flow slots) flow.ops 0 flow.blocks
+-- the items of a graph whose variables stand in these places
+abbrev pub selected : Flow → Placement → List Item
+selected flow placement =
+    prologue placement.frame (entry_label flow) ++ block_rows placement flow.ops 0 flow.blocks

@@ -15,23 +15,26 @@ ghost use Rattle.ia32_rows.specs.Worked.{SumsAreRows, MovesAreRows};
 /// points have one address.
 pub fn points_are_laid()
     ensures row { (flow : Flow) (slots : List ℕ) (code : Code) (p b : ℕ) (o : Op)
-        → IsSlotCode flow slots (selected flow slots) code → Stands flow p b → slice_get flow.ops p ≡ Some o
+        → IsSlotCode flow slots (selected flow (over_slots flow slots)) code → Stands flow p b
+        → slice_get flow.ops p ≡ Some o
         → (places : Places) × (rest : List Item) × (bytes : List ℕ) × (slice_get code.places 0 ≡ Some places)
         × IsAt code.text (point_address code 0 p) bytes
         × ItemsAt code.symbols places (point_address code 0 p) (row (over_slots flow slots) p o ++ rest) bytes
         × ((q : ℕ) → following p (points_of flow b) ≡ Some q → (more : List Item) × (rest ≡ item.Point q ∷ more)) }
     ensures apart { (flow : Flow) (slots : List ℕ) (code : Code) (p b q c : ℕ)
-        → IsSlotCode flow slots (selected flow slots) code → Stands flow p b → Stands flow q c
+        → IsSlotCode flow slots (selected flow (over_slots flow slots)) code → Stands flow p b → Stands flow q c
         → point_address code 0 p ≡ point_address code 0 q → p ≡ q }
 {}
 
 /// At the address of a mark or a turn the byte of NOP stands.
 pub fn marks_are_nops()
     ensures marks { (flow : Flow) (slots : List ℕ) (code : Code) (p b n : ℕ)
-        → IsSlotCode flow slots (selected flow slots) code → Stands flow p b → slice_get flow.ops p ≡ Some (op.Mark n)
+        → IsSlotCode flow slots (selected flow (over_slots flow slots)) code → Stands flow p b
+        → slice_get flow.ops p ≡ Some (op.Mark n)
         → IsAt code.text (point_address code 0 p) (144 ∷ []) }
     ensures turns { (flow : Flow) (slots : List ℕ) (code : Code) (p b : ℕ)
-        → IsSlotCode flow slots (selected flow slots) code → Stands flow p b → slice_get flow.ops p ≡ Some op.Turn
+        → IsSlotCode flow slots (selected flow (over_slots flow slots)) code → Stands flow p b
+        → slice_get flow.ops p ≡ Some op.Turn
         → IsAt code.text (point_address code 0 p) (144 ∷ []) }
 {}
 

@@ -1,6 +1,7 @@
 -- The items of a graph over slots can be assembled: they have spellings, and so many bytes.
 use Rattle.std.specs.List.{AllByRecursion}
-use Rattle.std.proofs.Common.{◌≡◌, ℕ, zero, suc, ◌+◌, ◌*◌, ◌≤◌, ℤ, pos, Bool, true, false, cond, List, [], ◌∷◌, length}
+use Rattle.std.proofs.Common.{◌≡◌, ℕ, zero, suc, ◌+◌, ◌*◌, ◌^◌, ◌<◌, ◌≤◌, ℤ, pos, Bool, true, false, cond, List, []}
+use Rattle.std.proofs.Common.{◌∷◌, length}
 use Rattle.std.proofs.Common.{Some, None, refl, sym, subst, inl, inr, arith, get_or, length-append}
 use Rattle.std.specs.Prelude.{◌⊎◌, neg_ℤ, slice_index_or}
 use Rattle.std.specs.Int.{w32}
@@ -16,6 +17,7 @@ use Rattle.ia32_insn.specs.declared.insn.Insn.TheVariants as insn
 use Rattle.ia32_insn.specs.declared.item.Item.{Item}
 use Rattle.ia32_insn.specs.declared.item.Item.TheVariants as item
 use Rattle.ia32_insn.specs.declared.item.Stub.TheVariants as stub
+use Rattle.ia32_insn.specs.Items.{near}
 use Rattle.ia32_insn.specs.Spelling.{HasSpelling, InMemory}
 use Rattle.ia32_insn.specs.Preferred.{fields_for, displacement_for, word_bytes, byte_bytes}
 use Rattle.ia32_encode.proofs.Spelled.{spelling-indexed}
@@ -23,15 +25,17 @@ use Rattle.flow_graph.specs.declared.op.Op.{Op}
 use Rattle.flow_graph.specs.declared.op.Op.TheVariants as op
 use Rattle.flow_graph.specs.Graphs.{Flow, NumbersFit, IsFlow}
 use Rattle.ia32_asm.specs.declared.section.Target.TheVariants as target
-use Rattle.ia32_asm.specs.Sections.{CanAssemble, IsSpelled, HasLabel, items_size, target_of}
+use Rattle.ia32_asm.specs.Sections.{CanAssemble, IsSpelled, HasLabel, Stands, items_size, target_of}
 use Rattle.ia32_asm.proofs.Laying.{items_size-append}
+use Rattle.ia32_shows.specs.Filling.{fill}
 use Rattle.ia32_shows.specs.Placements.{Placement, below}
-use Rattle.ia32_rows.specs.Rows.{IsSlot, HasSlots, frame_of, over_slots, slot_place, items_between, row, clears}
+use Rattle.ia32_rows.specs.Rows.{IsSlot, HasSlots, frame_of, entry_label, over_slots, slot_place, items_between, row}
 use Rattle.ia32_rows.specs.Rows.{prologue, point_row, point_rows, block_rows, selected}
 use Rattle.ia32_rows.proofs.OverSlots.{row-over}
-use Rattle.ia32_rows.proofs.ItemKinds.{IsRowItem, every-join, every-get, selected-items}
+use Rattle.ia32_rows.proofs.ItemKinds.{IsRowItem, AreRowInsns, row-insns, every-join, every-get, selected-items}
 use Rattle.ia32_select.specs.Offsets.{NamesOnlyPutchar}
-use Rattle.ia32_select.proofs.Marked.{all_points, labels-once, points-once, few-points}
+use Rattle.ia32_select.specs.Sizes.{most_bytes}
+use Rattle.ia32_select.proofs.Marked.{all_points, labels-once, entry-stands, points-once, few-points, some-points}
 
 -- ---- spellings
 
@@ -94,15 +98,20 @@ row-spelled slots (op.Return (Some a)) small fits = (
 )
 row-spelled slots o small fits = tt
 
-clears-spelled : (frame : ℕ) (slots : List ℕ) → frame ≤ 16384 → AllByRecursion (IsSlot frame) slots
-    → AllByRecursion IsSpelled (clears slots)
-clears-spelled frame [] h small = tt
-clears-spelled frame (s ∷ slots) h small = let high = small.0.high in
-    (write-spelled Esi s (omega arith), clears-spelled frame slots h small.1)
+fill-spelled : (label : ℕ) → AllByRecursion IsSpelled (fill Edi Esi Esp label)
+fill-spelled label = (
+  tt,
+  (
+    spelling-indexed (insn.AluImm alu.Sub (rm.Reg Edi) (pos 4)) (tt, omega (arith, ints)) (tt, tt),
+    (
+      spelling-indexed (insn.Mov (rm.Mem (near Edi 0)) Esi) (omega (arith, ints)) tt,
+      (spelling-indexed (insn.Alu alu.Cmp (rm.Reg Edi) Esp) tt tt, (tt, tt)),
+    ),
+  ),
+)
 
-prologue-spelled : (frame : ℕ) (slots : List ℕ) → frame ≤ 16384 → AllByRecursion (IsSlot frame) slots
-    → AllByRecursion IsSpelled (prologue frame slots)
-prologue-spelled frame slots h small = (
+prologue-spelled : (frame label : ℕ) → frame ≤ 16384 → AllByRecursion IsSpelled (prologue frame label)
+prologue-spelled frame label h = (
   push-spelled Ebp,
   (
     move-spelled Ebp Esp,
@@ -113,7 +122,8 @@ prologue-spelled frame slots h small = (
         (
           push-spelled Edi,
           (spelling-indexed (insn.Lea Esp (below frame)) (fits-below frame h) tt,
-              (number-spelled Esi (pos 0) (omega (arith, ints)), clears-spelled frame slots h small)),
+              (number-spelled Esi (pos 0) (omega (arith, ints)),
+              (spelling-indexed (insn.Lea Edi (below 12)) (fits-below 12 (omega arith)) tt, fill-spelled label))),
         ),
       ),
     ),
@@ -155,26 +165,62 @@ slots-spelled flow slots small words p =
         (row-spelled slots o small (word-at flow.ops p words))
 
 selected-spelled : (flow : Flow) (slots : List ℕ) → HasSlots flow slots → AllByRecursion NumbersFit flow.ops
-    → AllByRecursion IsSpelled (selected flow slots)
+    → AllByRecursion IsSpelled (selected flow (over_slots flow slots))
 selected-spelled flow slots h words =
     let small : AreSmall slots = λ v. let in_frame = slot-small (frame_of flow) slots v h.within in let frame =
         h.small in omega arith in
-    every-join IsSpelled (prologue (frame_of flow) slots) (block_rows (over_slots flow slots) flow.ops 0 flow.blocks)
-        (prologue-spelled (frame_of flow) slots h.small h.within)
+    every-join IsSpelled (prologue (frame_of flow) (entry_label flow))
+        (block_rows (over_slots flow slots) flow.ops 0 flow.blocks)
+        (prologue-spelled (frame_of flow) (entry_label flow) h.small)
         (blocks-spelled (over_slots flow slots) flow.ops 0 flow.blocks (slots-spelled flow slots small words))
 
--- ---- no jumps, and no names but putchar
+-- ---- labels
 
-kind-labelled : (items : List Item) (i : Item) → IsRowItem i → HasLabel items i
-kind-labelled items (item.Plain i) h = tt
-kind-labelled items (item.Label l) h = tt
-kind-labelled items (item.Point p) h = tt
-kind-labelled items (item.JumpTo l) h = absurd h
-kind-labelled items (item.JumpIf c l) h = absurd h
-kind-labelled items (item.CallFunction f) h = tt
-kind-labelled items (item.CallStub s) h = tt
-kind-labelled items (item.JumpTrap c) h = tt
-kind-labelled items (item.AddressOf r k) h = tt
+insns-labelled : (items back : List Item) → AreRowInsns back → AllByRecursion (HasLabel items) back
+insns-labelled items [] h = tt
+insns-labelled items (item.Plain i ∷ back) h = (tt, insns-labelled items back h.1)
+insns-labelled items (item.Label l ∷ back) h = absurd h.0
+insns-labelled items (item.Point p ∷ back) h = absurd h.0
+insns-labelled items (item.JumpTo l ∷ back) h = absurd h.0
+insns-labelled items (item.JumpIf c l ∷ back) h = absurd h.0
+insns-labelled items (item.CallFunction f ∷ back) h = absurd h.0
+insns-labelled items (item.CallStub t ∷ back) h = (tt, insns-labelled items back h.1)
+insns-labelled items (item.JumpTrap c ∷ back) h = absurd h.0
+insns-labelled items (item.AddressOf r k ∷ back) h = absurd h.0
+
+points-labelled : (items : List Item) (placement : Placement) (ops : List Op) (points : List ℕ)
+    → AllByRecursion (HasLabel items) (point_rows placement ops points)
+points-labelled items placement ops [] = tt
+points-labelled items placement ops (p ∷ ps) =
+    let mine : List Item = row placement p (slice_index_or ops p op.Turn) in
+    every-join (HasLabel items) (point_row placement ops p) (point_rows placement ops ps)
+        (tt, insns-labelled items mine (row-insns placement p (slice_index_or ops p op.Turn)))
+        (points-labelled items placement ops ps)
+
+blocks-labelled : (items : List Item) (placement : Placement) (ops : List Op) (k : ℕ) (blocks : List (List ℕ))
+    → AllByRecursion (HasLabel items) (block_rows placement ops k blocks)
+blocks-labelled items placement ops k [] = tt
+blocks-labelled items placement ops k (points ∷ blocks) =
+    every-join (HasLabel items) (item.Label k ∷ point_rows placement ops points)
+        (block_rows placement ops (suc k) blocks)
+        (tt, points-labelled items placement ops points) (blocks-labelled items placement ops (suc k) blocks)
+
+prologue-labelled : (items : List Item) (frame label : ℕ) → Stands (item.Label label) items
+    → AllByRecursion (HasLabel items) (prologue frame label)
+prologue-labelled items frame label stands =
+    (tt, (tt, (tt, (tt, (tt, (tt, (tt, (tt, (tt, (tt, (tt, (tt, (stands, tt)))))))))))))
+
+-- the label that an item jumps to stands among the items
+selected-labelled : (flow : Flow) (slots : List ℕ)
+    → AllByRecursion (HasLabel (selected flow (over_slots flow slots))) (selected flow (over_slots flow slots))
+selected-labelled flow slots =
+    let items : List Item = selected flow (over_slots flow slots) in
+    every-join (HasLabel items) (prologue (frame_of flow) (entry_label flow))
+        (block_rows (over_slots flow slots) flow.ops 0 flow.blocks)
+        (prologue-labelled items (frame_of flow) (entry_label flow) (entry-stands flow slots))
+        (blocks-labelled items (over_slots flow slots) flow.ops 0 flow.blocks)
+
+-- ---- no names but putchar
 
 kind-named : (i : Item) → IsRowItem i → (target_of i ≡ None) ⊎ (target_of i ≡ Some (target.Stub stub.Putchar))
 kind-named (item.Plain i) h = inl refl
@@ -190,9 +236,9 @@ kind-named (item.JumpTrap c) h = absurd h
 kind-named (item.AddressOf r k) h = absurd h
 
 -- the items name no function and no object
-pub selected-names : (flow : Flow) (slots : List ℕ) → NamesOnlyPutchar (selected flow slots)
+pub selected-names : (flow : Flow) (slots : List ℕ) → NamesOnlyPutchar (selected flow (over_slots flow slots))
 selected-names flow slots j i e = kind-named i
-    (every-get IsRowItem (selected flow slots) j i (selected-items flow slots) e)
+    (every-get IsRowItem (selected flow (over_slots flow slots)) j i (selected-items flow slots) e)
 
 -- ---- bytes
 
@@ -237,12 +283,8 @@ slots-small flow slots p =
     let o : Op = slice_index_or flow.ops p op.Turn in
     subst (λ (items : List Item). items_size items ≤ 64) (sym (row-over flow slots p o)) (row-size slots o)
 
-clears-size : (slots : List ℕ) → items_size (clears slots) ≤ 8 * length slots
-clears-size [] = omega arith
-clears-size (s ∷ slots) = let one = fields-size 6 s in let rest = clears-size slots in omega arith
-
-prologue-size : (frame : ℕ) (slots : List ℕ) → items_size (prologue frame slots) ≤ 8 * length slots + 64
-prologue-size frame slots = let one = fields-size 4 frame in let rest = clears-size slots in omega arith
+prologue-size : (frame label : ℕ) → items_size (prologue frame label) ≤ 64
+prologue-size frame label = let one = fields-size 4 frame in let two = fields-size 7 12 in omega arith
 
 points-size : (placement : Placement) (ops : List Op) (points : List ℕ) → AreSmallRows placement ops
     → items_size (point_rows placement ops points) ≤ 64 * length points
@@ -265,30 +307,31 @@ blocks-size placement ops k (points ∷ blocks) rows =
     let long = length-append points (all_points blocks) in
     omega arith
 
--- the bytes of the items, by the graph's points and variables
+-- The bytes of the items, by the graph's points, of which there is one at least: those of the prologue are fewer than
+-- what is left of its share.
 pub selected-size : (flow : Flow) (homes slots : List ℕ) → IsFlow flow homes → HasSlots flow slots
-    → items_size (selected flow slots) ≤ 800 * length flow.ops + 8 * length flow.widths + 64
+    → items_size (selected flow (over_slots flow slots)) ≤ most_bytes flow
 selected-size flow homes slots f h =
-    let one = prologue-size (frame_of flow) slots in
+    let one = prologue-size (frame_of flow) (entry_label flow) in
     let rest = blocks-size (over_slots flow slots) flow.ops 0 flow.blocks (slots-small flow slots) in
-    let whole = items_size-append (prologue (frame_of flow) slots)
+    let whole = items_size-append (prologue (frame_of flow) (entry_label flow))
         (block_rows (over_slots flow slots) flow.ops 0 flow.blocks) in
     let few = few-points flow homes f in
-    let many = h.as_many in
+    let some = some-points flow h.begins (h.ended 0 h.begins) in
     omega arith
 
 -- ---- all of it
 
 pub selected-assembles : (flow : Flow) (homes slots : List ℕ) → IsFlow flow homes → HasSlots flow slots
-    → length flow.ops ≤ 1310720 → CanAssemble (selected flow slots)
+    → items_size (selected flow (over_slots flow slots)) < 2 ^ 30 → CanAssemble (selected flow (over_slots flow slots))
 selected-assembles flow homes slots f h bound =
-    let size = selected-size flow homes slots f h in
-    let frame = h.small in
     record {
-      spelled = λ j i e. every-get IsSpelled (selected flow slots) j i (selected-spelled flow slots h f.numbers) e;
-      labelled = λ j i e. kind-labelled (selected flow slots) i
-          (every-get IsRowItem (selected flow slots) j i (selected-items flow slots) e);
+      spelled = λ j i e. every-get IsSpelled (selected flow (over_slots flow slots)) j i
+          (selected-spelled flow slots h f.numbers) e;
+      labelled = λ j i e. every-get (HasLabel (selected flow (over_slots flow slots)))
+          (selected flow (over_slots flow slots)) j i
+          (selected-labelled flow slots) e;
       labels_once = labels-once flow slots;
       points_once = points-once flow homes slots f;
-      size = omega arith;
+      size = bound;
     }

@@ -83,3 +83,17 @@ pub in-at : (ps : List ℕ) (i : ℕ) → i < length ps → IsIn (get_or ps i 0)
 in-at [] i h = absurd (omega arith)
 in-at (p ∷ ps) zero h = inl refl
 in-at (p ∷ ps) (suc i) h = inr (in-at ps i (omega arith))
+
+-- items pushed in turn behind others
+pub four-emitted : (old saved first second third new saves back : List Item) (a b c : Item) → saved ≡ old ++ saves
+    → first ≡ saved ++ a ∷ [] → second ≡ first ++ b ∷ [] → third ≡ second ++ c ∷ [] → new ≡ third ++ back
+    → new ≡ old ++ (saves ++ (a ∷ b ∷ c ∷ back))
+four-emitted old saved first second third new saves back a b c p q r s t =
+    t ∙ ap (λ (l : List Item). l ++ back)
+        (s ∙ ap (λ (l : List Item). l ++ c ∷ []) (r ∙ ap (λ (l : List Item). l ++ b ∷ [])
+        (q ∙ ap (λ (l : List Item). l ++ a ∷ []) p)))
+    ∙ grouped old saves back a b c
+  where
+    grouped : (xs ys zs : List Item) (a b c : Item) → (xs ++ ys ++ a ∷ [] ++ b ∷ [] ++ c ∷ []) ++ zs
+        ≡ xs ++ (ys ++ (a ∷ b ∷ c ∷ zs))
+    grouped xs ys zs a b c = simp append_assoc refl

@@ -2,7 +2,7 @@
 -- blocks.
 use Rattle.std.specs.List.{AllByRecursion}
 use Rattle.std.proofs.Common.{◌≡◌, ◌≢◌, ℕ, zero, suc, ◌+◌, ◌<◌, ◌≤◌, Bool, List, [], ◌∷◌, ◌++◌, length, Option, Some}
-use Rattle.std.proofs.Common.{None, refl, sym, ap, subst, ◌∙◌, inl, inr, arith, eqb, cond}
+use Rattle.std.proofs.Common.{None, refl, sym, ap, subst, ◌∙◌, inl, inr, arith, eqb, cond, length-append}
 use Rattle.std.specs.Prelude.{◌⊎◌, slice_get, slice_index_or}
 use Rattle.std.proofs.lemmas.Bool.Decides.{eqb_tells}
 use Rattle.std.proofs.lemmas.Option.{same_Some, slice_get_within}
@@ -10,11 +10,11 @@ use Rattle.ia32_insn.specs.declared.item.Item.{Item}
 use Rattle.ia32_insn.specs.declared.item.Item.TheVariants as item
 use Rattle.flow_graph.specs.declared.op.Op.{Op}
 use Rattle.flow_graph.specs.declared.op.Op.TheVariants as op
-use Rattle.flow_graph.specs.Graphs.{Flow, IsIn, IsDistinct, IsFlow, IsPlaced, points_of, without}
+use Rattle.flow_graph.specs.Graphs.{Flow, IsIn, IsDistinct, IsEnded, IsFlow, IsPlaced, LastIsEnd, points_of, without}
 use Rattle.flow_graph.proofs.Points.{every-in, every-map, every-without, distinct-without, choose}
 use Rattle.ia32_asm.specs.Sections.{Stands, StandOnce}
 use Rattle.ia32_shows.specs.Placements.{Placement}
-use Rattle.ia32_rows.specs.Rows.{frame_of, over_slots, row, clears, prologue, point_rows, block_rows, selected}
+use Rattle.ia32_rows.specs.Rows.{frame_of, entry_label, over_slots, row, prologue, point_rows, block_rows, selected}
 use Rattle.ia32_rows.proofs.ItemKinds.{AreRowInsns, row-insns}
 
 -- ---- numbers of items
@@ -125,14 +125,6 @@ insns-labels (item.CallStub t ∷ items) h = insns-labels items h.1
 insns-labels (item.JumpTrap c ∷ items) h = absurd h.0
 insns-labels (item.AddressOf r k ∷ items) h = absurd h.0
 
-clears-points : (slots : List ℕ) → numbers point_of (clears slots) ≡ []
-clears-points [] = refl
-clears-points (slot ∷ slots) = clears-points slots
-
-clears-labels : (slots : List ℕ) → numbers label_of (clears slots) ≡ []
-clears-labels [] = refl
-clears-labels (slot ∷ slots) = clears-labels slots
-
 point_rows-points : (placement : Placement) (ops : List Op) (points : List ℕ)
     → numbers point_of (point_rows placement ops points) ≡ points
 point_rows-points placement ops [] = refl
@@ -178,19 +170,20 @@ block_rows-labels placement ops k (points ∷ blocks) =
         (point_rows-labels placement ops points)
     ∙ ap (λ (l : List ℕ). k ∷ l) (block_rows-labels placement ops (suc k) blocks)
 
-selected-points : (flow : Flow) (slots : List ℕ) → numbers point_of (selected flow slots) ≡ all_points flow.blocks
+selected-points : (flow : Flow) (slots : List ℕ) → numbers point_of (selected flow (over_slots flow slots))
+    ≡ all_points flow.blocks
 selected-points flow slots =
-    let back : List Item = block_rows (over_slots flow slots) flow.ops 0 flow.blocks in
-    numbers-append point_of (prologue (frame_of flow) slots) back
-        ∙ ap (λ (l : List ℕ). l ++ numbers point_of back) (clears-points slots)
+    numbers-append point_of (prologue (frame_of flow) (entry_label flow))
+        (block_rows (over_slots flow slots) flow.ops 0 flow.blocks)
         ∙ block_rows-points (over_slots flow slots) flow.ops 0 flow.blocks
 
-selected-labels : (flow : Flow) (slots : List ℕ) → numbers label_of (selected flow slots) ≡ labels_from 0 flow.blocks
+-- the label of the prologue's loop, and those of the blocks
+selected-labels : (flow : Flow) (slots : List ℕ) → numbers label_of (selected flow (over_slots flow slots))
+    ≡ entry_label flow ∷ labels_from 0 flow.blocks
 selected-labels flow slots =
-    let back : List Item = block_rows (over_slots flow slots) flow.ops 0 flow.blocks in
-    numbers-append label_of (prologue (frame_of flow) slots) back
-        ∙ ap (λ (l : List ℕ). l ++ numbers label_of back) (clears-labels slots)
-        ∙ block_rows-labels (over_slots flow slots) flow.ops 0 flow.blocks
+    numbers-append label_of (prologue (frame_of flow) (entry_label flow))
+        (block_rows (over_slots flow slots) flow.ops 0 flow.blocks)
+        ∙ ap (λ (l : List ℕ). entry_label flow ∷ l) (block_rows-labels (over_slots flow slots) flow.ops 0 flow.blocks)
 
 -- ---- none twice
 
@@ -202,11 +195,24 @@ labels-distinct : (k : ℕ) (blocks : List (List ℕ)) → IsDistinct (labels_fr
 labels-distinct k [] = tt
 labels-distinct k (points ∷ blocks) = (above k (suc k) blocks (omega arith), labels-distinct (suc k) blocks)
 
+-- the number behind those of the blocks is none of theirs
+behind-labels : (n k : ℕ) (blocks : List (List ℕ)) → k + length blocks ≤ n
+    → AllByRecursion (λ q. q ≢ n) (labels_from k blocks)
+behind-labels n k [] h = tt
+behind-labels n k (points ∷ blocks) h = (λ e. omega arith, behind-labels n (suc k) blocks (omega arith))
+
 -- no label of a graph's code stands twice
-pub labels-once : (flow : Flow) (slots : List ℕ) → StandOnce item.Label (selected flow slots)
+pub labels-once : (flow : Flow) (slots : List ℕ) → StandOnce item.Label (selected flow (over_slots flow slots))
 labels-once flow slots i j n a b =
-    once label_of (selected flow slots) i j n (item.Label n) (item.Label n)
-        (subst IsDistinct (sym (selected-labels flow slots)) (labels-distinct 0 flow.blocks)) a b refl refl
+    let all : IsDistinct (entry_label flow ∷ labels_from 0 flow.blocks) =
+        (behind-labels (entry_label flow) 0 flow.blocks (omega arith), labels-distinct 0 flow.blocks) in
+    once label_of (selected flow (over_slots flow slots)) i j n (item.Label n) (item.Label n)
+        (subst IsDistinct (sym (selected-labels flow slots)) all) a b refl refl
+
+-- the label of the prologue's loop stands behind eight instructions
+pub entry-stands : (flow : Flow) (slots : List ℕ)
+    → Stands (item.Label (entry_label flow)) (selected flow (over_slots flow slots))
+entry-stands flow slots = (8, refl)
 
 in-front : (xs ys : List ℕ) (n : ℕ) → IsIn n xs → IsIn n (xs ++ ys)
 in-front [] ys n h = absurd h
@@ -279,9 +285,10 @@ flow-distinct flow homes f = points-distinct homes 0 flow.blocks (λ b. (f.each_
     (λ (h : ℕ). AllByRecursion (λ p. slice_get homes p ≡ Some h) (points_of flow b)) e (f.each_block b).at_home)
 
 -- no point of a graph's code stands twice
-pub points-once : (flow : Flow) (homes slots : List ℕ) → IsFlow flow homes → StandOnce item.Point (selected flow slots)
+pub points-once : (flow : Flow) (homes slots : List ℕ) → IsFlow flow homes
+    → StandOnce item.Point (selected flow (over_slots flow slots))
 points-once flow homes slots f i j n a b =
-    once point_of (selected flow slots) i j n (item.Point n) (item.Point n)
+    once point_of (selected flow (over_slots flow slots)) i j n (item.Point n) (item.Point n)
         (subst IsDistinct (sym (selected-points flow slots)) (flow-distinct flow homes f)) a b refl refl
 
 -- ---- a point stands among the items exactly where it stands in a block
@@ -297,16 +304,17 @@ point-is (item.CallStub s) n e = absurd (cc)
 point-is (item.JumpTrap c) n e = absurd (cc)
 point-is (item.AddressOf r k) n e = absurd (cc)
 
-pub stands-placed : (flow : Flow) (slots : List ℕ) (p : ℕ) → Stands (item.Point p) (selected flow slots)
+pub stands-placed : (flow : Flow) (slots : List ℕ) (p : ℕ)
+    → Stands (item.Point p) (selected flow (over_slots flow slots))
     → IsPlaced flow p
 stands-placed flow slots p (j, e) =
     block-in flow.blocks p (subst (IsIn p) (selected-points flow slots)
-        (numbers-in point_of (selected flow slots) j p (item.Point p) e refl))
+        (numbers-in point_of (selected flow (over_slots flow slots)) j p (item.Point p) e refl))
 
 pub placed-stands : (flow : Flow) (slots : List ℕ) (p : ℕ) → IsPlaced flow p
-    → Stands (item.Point p) (selected flow slots)
+    → Stands (item.Point p) (selected flow (over_slots flow slots))
 placed-stands flow slots p (b, h) =
-    let m = numbers-from point_of (selected flow slots) p
+    let m = numbers-from point_of (selected flow (over_slots flow slots)) p
         (subst (IsIn p) (sym (selected-points flow slots)) (in-block flow.blocks p b h)) in
     (m.0, m.2 ∙ ap Some (point-is m.1 p m.3))
 
@@ -351,6 +359,22 @@ few (suc n) (p ∷ ps) d h =
 every-from : (P : ℕ → Type 0) (ps : List ℕ) → ((n : ℕ) → IsIn n ps → P n) → AllByRecursion P ps
 every-from P [] h = tt
 every-from P (p ∷ ps) h = (h p (inl refl), every-from P ps (λ n i. h n (inr i)))
+
+-- the first block of a graph has a point, which is its end
+some-in : (ops : List Op) (points : List ℕ) → LastIsEnd ops points → 0 < length points
+some-in ops [] h = absurd h
+some-in ops (p ∷ ps) h = omega arith
+
+pub some-points : (flow : Flow) → 0 < length flow.blocks → IsEnded flow 0 → 0 < length (all_points flow.blocks)
+some-points flow some ended = at flow.blocks some ended
+  where
+    at : (blocks : List (List ℕ)) → 0 < length blocks → LastIsEnd flow.ops (slice_index_or blocks 0 [])
+        → 0 < length (all_points blocks)
+    at [] k h = absurd (omega arith)
+    at (points ∷ blocks) k h =
+        let first = some-in flow.ops points h in
+        let whole = length-append points (all_points blocks) in
+        omega arith
 
 -- the blocks have no more points than there are ops
 pub few-points : (flow : Flow) (homes : List ℕ) → IsFlow flow homes → length (all_points flow.blocks) ≤ length flow.ops

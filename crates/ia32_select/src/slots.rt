@@ -3,7 +3,7 @@
 ghost use Rattle.std.specs.Prelude.{◌≡◌, ◌<◌, ◌∷◌, [], ◌++◌, length, slice_index_or, neg_ℤ, pos, OnOk};
 ghost use Rattle.std.specs.Int.{w32};
 ghost use Rattle.std.specs.Int.RustNames.{FitsSigned};
-ghost use Rattle.ia32_insn.specs.Items.{plain};
+ghost use Rattle.ia32_insn.specs.Items.{near, plain};
 ghost use Rattle.ia32_insn.specs.declared.insn.Insn.TheVariants as insn;
 ghost use Rattle.ia32_insn.specs.declared.operand.Rm32.TheVariants as rm;
 ghost use Rattle.ia32_regs.specs.declared.names.Reg32.TheVariants.{Esi};
@@ -32,6 +32,17 @@ pub fn at_offset(offset: i32) -> Mem
         base: Some(Reg32::Ebp),
         index: None,
         disp: offset,
+    }
+}
+
+/// The memory at the address in a register.
+pub fn at_register(register: Reg32) -> Mem
+    ensures { result ≡ near register 0 }
+{
+    Mem {
+        base: Some(register),
+        index: None,
+        disp: 0,
     }
 }
 
@@ -136,4 +147,13 @@ pub fn emit_restore(items: &mut Vec<Item>, register: Reg32, offset: i32) -> Resu
         ≡ items.old.items ++ plain (insn.MovLoad register (below (distance offset))) ∷ []) }
 {
     emit(items, Insn::MovLoad(register, at_offset(offset)))
+}
+
+/// Puts the address at an offset from EBP into a register.
+pub fn emit_address(items: &mut Vec<Item>, register: Reg32, offset: i32) -> Result<(), NoMemory>
+    requires { 0 < distance offset }
+    ensures { OnOk result (items.new.items
+        ≡ items.old.items ++ plain (insn.Lea register (below (distance offset))) ∷ []) }
+{
+    emit(items, Insn::Lea(register, at_offset(offset)))
 }

@@ -1,7 +1,11 @@
 pub mod Along
 pub mod Cores
+pub mod Filling
 pub mod Frames
+pub mod Jumps
+pub mod Sets
 pub mod Sound
 pub mod Spelled
 pub mod Steps
+pub mod Stores
 pub mod Worked

@@ -6,10 +6,12 @@ use Rattle.ia32_regs.proofs.Registers.{number32_below}
 use Rattle.ia32_insn.specs.declared.operand.Rm32.TheVariants as rm
 use Rattle.ia32_insn.specs.declared.insn.AluOp.{AluOp}
 use Rattle.ia32_insn.specs.declared.insn.AluOp.TheVariants as alu
+use Rattle.ia32_insn.specs.declared.insn.Cond.{Cond}
+use Rattle.ia32_insn.specs.declared.insn.Cond.TheVariants as cond
 use Rattle.ia32_insn.specs.declared.insn.Insn.{Insn}
 use Rattle.ia32_insn.specs.declared.insn.Insn.TheVariants as insn
 use Rattle.ia32_insn.specs.Spelling.{Spells, Operand, InRegister, InMemory, operand32, operand8, Row, RowWith}
-use Rattle.ia32_insn.specs.Spelling.{Immediate, Reversed, alu_number}
+use Rattle.ia32_insn.specs.Spelling.{Immediate, Reversed, alu_number, cond_number}
 
 -- the bytes begin with a byte that isn't 144
 abbrev pub BeginsOther : List ℕ → Type 0
@@ -53,6 +55,8 @@ IsCommon (insn.Pop r) = Unit {0}
 IsCommon (insn.Call distance) = Unit {0}
 IsCommon insn.Ret = Unit {0}
 IsCommon insn.Leave = Unit {0}
+IsCommon (insn.Jmp distance) = Unit {0}
+IsCommon (insn.Jcc c distance) = Unit {0}
 IsCommon (insn.Int n) = Unit {0}
 IsCommon _ = ⊥
 
@@ -63,6 +67,24 @@ alu_other alu.And k h e = omega arith
 alu_other alu.Sub k h e = omega arith
 alu_other alu.Xor k h e = omega arith
 alu_other alu.Cmp k h e = omega arith
+
+cond_other : (c : Cond) → 112 + cond_number c ≢ 144
+cond_other cond.O e = omega arith
+cond_other cond.No e = omega arith
+cond_other cond.B e = omega arith
+cond_other cond.Ae e = omega arith
+cond_other cond.E e = omega arith
+cond_other cond.Ne e = omega arith
+cond_other cond.Be e = omega arith
+cond_other cond.A e = omega arith
+cond_other cond.S e = omega arith
+cond_other cond.Ns e = omega arith
+cond_other cond.P e = omega arith
+cond_other cond.Np e = omega arith
+cond_other cond.L e = omega arith
+cond_other cond.Ge e = omega arith
+cond_other cond.Le e = omega arith
+cond_other cond.G e = omega arith
 
 pub common-begins : (i : Insn) (bytes : List ℕ) → IsCommon i → Spells i bytes → BeginsOther bytes
 common-begins (insn.Mov operand r) bytes c (inl h) =
@@ -106,5 +128,11 @@ common-begins (insn.Pop r) bytes c h = (88 + number32 r, [], h, λ e. let below 
 common-begins (insn.Call distance) bytes c h = immediate-begins 232 [] 4 distance bytes (λ e. omega arith) h
 common-begins insn.Ret bytes c h = (195, [], h, λ e. omega arith)
 common-begins insn.Leave bytes c h = (201, [], h, λ e. omega arith)
+common-begins (insn.Jmp distance) bytes c (inl h) = immediate-begins 233 [] 4 distance bytes (λ e. omega arith) h
+common-begins (insn.Jmp distance) bytes c (inr h) = immediate-begins 235 [] 1 distance bytes (λ e. omega arith) h
+common-begins (insn.Jcc k distance) bytes c (inl h) =
+    immediate-begins 15 ((128 + cond_number k) ∷ []) 4 distance bytes (λ e. omega arith) h
+common-begins (insn.Jcc k distance) bytes c (inr h) =
+    immediate-begins (112 + cond_number k) [] 1 distance bytes (cond_other k) h
 common-begins (insn.Int n) bytes c h = (205, n ∷ [], h, λ e. omega arith)
 common-begins i bytes c h = absurd c

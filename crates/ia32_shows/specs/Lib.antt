@@ -1,6 +1,8 @@
+pub mod Filling
 pub mod Follows
+pub mod Jumps
 pub mod Paths
 pub mod Placements
 pub mod Shows
-pub mod Worked
 pub mod Sites
+pub mod Worked

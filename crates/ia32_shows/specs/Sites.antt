@@ -48,6 +48,12 @@ SoundAt site s = IsSound site.text site.low site.high s
 abbrev pub ReadyAt : Site → List Item → State → Type 0
 ReadyAt site items s = Ready site.symbols site.places site.text items s
 
+-- items stand in the site's text from an address on
+pub record StandsFrom (site : Site) (items : List Item) (address : ℕ) : Type 0 where
+  pub bytes : List ℕ
+  pub here : IsAt site.text address bytes
+  pub stand : ItemsAt site.symbols site.places address items bytes
+
 -- a state within a function: ESP is the frame's bytes below EBP, with room for a word more
 pub record Framed (site : Site) (frame : ℕ) (s : State) : Type 0 where
   pub sound : SoundAt site s

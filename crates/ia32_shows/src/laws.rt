@@ -1,6 +1,8 @@
 //! Laws of code that follows a program of graphs: each function's contract is one, and the function does nothing.
 
+ghost use Rattle.ia32_shows.specs.Filling.{FillGoes, ZerosLoad};
 ghost use Rattle.ia32_shows.specs.Follows.{WholeRuns};
+ghost use Rattle.ia32_shows.specs.Jumps.{BranchLeads, BranchPasses, JumpLeads};
 ghost use Rattle.ia32_shows.specs.Worked.{InputsAreBytes, NoneAboveTheStack, NoneBeyondTheArrays, NoneBeyondTheObjects};
 ghost use Rattle.ia32_shows.specs.Worked.{OldestIsMain, WaitingCalls};
 
@@ -25,4 +27,18 @@ pub fn arrays_are_there()
 pub fn calls_wait()
     ensures waiting { WaitingCalls }
     ensures oldest { OldestIsMain }
+{}
+
+/// Where the jumps of a function lead: to what stands behind their label, or, where a condition doesn't hold, to what
+/// stands behind them.
+pub fn jumps_lead()
+    ensures jump { JumpLeads }
+    ensures taken { BranchLeads }
+    ensures passed { BranchPasses }
+{}
+
+/// What a loop does that fills words with a register's word, and what is loaded from words of 0.
+pub fn loops_fill()
+    ensures fills { FillGoes }
+    ensures zeros { ZerosLoad }
 {}

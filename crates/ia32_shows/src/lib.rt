@@ -8,4 +8,6 @@
 
 mod laws;
 
-pub use laws::{arrays_are_there, calls_wait, inputs_are_bytes, whole_runs};
+pub use laws::{
+    arrays_are_there, calls_wait, inputs_are_bytes, jumps_lead, loops_fill, whole_runs,
+};

@@ -14,7 +14,7 @@ use Rattle.flow_graph.specs.WellFormed.{IsGraphProgram}
 use Rattle.ia32_shows.specs.Placements.{Placement, Code, below, objects_of}
 use Rattle.ia32_shows.specs.Shows.{Shows}
 use Rattle.ia32_calls.specs.Laws.{StartGoes, PrologueGoes}
-use Rattle.ia32_rows.specs.Rows.{selected}
+use Rattle.ia32_rows.specs.Rows.{over_slots, selected}
 use Rattle.ia32_shows.specs.Follows.{Starts, FollowsAll, ComesTo, Follows, is_nop}
 use Rattle.ia32_rows.specs.Right.{IsSlotCode, AreRight}
 use Rattle.ia32_rows.proofs.Laid.{no_places, order-one, places_of}
@@ -44,7 +44,8 @@ code-equal : (p q : GraphProgram) (ps qs : List Placement) (i j : List (List Ite
 code-equal p q ps qs i j o u a b symbols text e f g h k = cc
 
 -- a code over slots is the one of its parts
-code-is : (flow : Flow) (slots : List ℕ) (code : Code) → IsSlotCode flow slots (selected flow slots) code → code
+code-is : (flow : Flow) (slots : List ℕ) (code : Code)
+    → IsSlotCode flow slots (selected flow (over_slots flow slots)) code → code
     ≡ code_in (setup_of flow slots code)
 code-is flow slots code h =
     let made : Code = code_in (setup_of flow slots code) in
@@ -56,11 +57,12 @@ code-is flow slots code h =
         code.places made.places code.symbols code.text h.program h.placements h.items_are order places
 
 -- what is known of its parts
-setup-known : (flow : Flow) (slots : List ℕ) (code : Code) → IsSlotCode flow slots (selected flow slots) code
+setup-known : (flow : Flow) (slots : List ℕ) (code : Code)
+    → IsSlotCode flow slots (selected flow (over_slots flow slots)) code
     → IsSetup (setup_of flow slots code)
 setup-known flow slots code h =
     record {
-      is_code = subst (IsSlotCode flow slots (selected flow slots)) (code-is flow slots code h) h;
+      is_code = subst (IsSlotCode flow slots (selected flow (over_slots flow slots))) (code-is flow slots code h) h;
       has_slots = h.has_slots;
       no_objects = h.text.objects_are;
       depth_is = h.text.depth_is;
@@ -70,7 +72,7 @@ setup-known flow slots code h =
 
 -- from the first state the machine comes to one that shows the program's first
 pub code-starts : StartGoes → PrologueGoes → (flow : Flow) (slots : List ℕ) (code : Code)
-    → IsSlotCode flow slots (selected flow slots) code → Starts code
+    → IsSlotCode flow slots (selected flow (over_slots flow slots)) code → Starts code
 code-starts starts enters flow slots code h input g bytes =
     let P : Code → Type 0 = λ (c : Code). first_state c.program input ≡ Some g
     → ComesTo c input (text_state c.text (objects_of c.program) input) g in
@@ -83,7 +85,8 @@ FollowsAt code input g s = Shows code input g s
     → Follows code input s g (is_nop (op_at code.program g)) (step code.program g)
 
 -- it does where the numbers of the ops fit
-follows-by : Laws → (flow : Flow) (slots : List ℕ) (code : Code) → IsSlotCode flow slots (selected flow slots) code
+follows-by : Laws → (flow : Flow) (slots : List ℕ) (code : Code)
+    → IsSlotCode flow slots (selected flow (over_slots flow slots)) code
     → ((h : graph.State) (t : machine.State) → NumberFits (setup_of flow slots code) h t)
     → (input : List ℕ) (g : graph.State) (s : machine.State)
     → FollowsAt code input g s
@@ -93,14 +96,14 @@ follows-by laws flow slots code h words input g s =
 
 -- they fit, since the text is one of bytes
 pub code-follows : Laws → (flow : Flow) (slots : List ℕ) (code : Code)
-    → IsSlotCode flow slots (selected flow slots) code → FollowsAll code
+    → IsSlotCode flow slots (selected flow (over_slots flow slots)) code → FollowsAll code
 code-follows laws flow slots code h input g s is_state =
     follows-by laws flow slots code h (λ g t d n has r. ready-fits (site_in (setup_of flow slots code))
         (rm.Mem (below (slice_index_or slots d 0))) n r.rest t h.bytes r.ready) input g s
 
 -- code over slots is right
 pub slots-right : (laws : Laws) → StartGoes → PrologueGoes → (flow : Flow) (slots : List ℕ)
-    → AreRight flow slots (selected flow slots)
+    → AreRight flow slots (selected flow (over_slots flow slots))
 slots-right laws starts enters flow slots code h =
     let first = code-starts starts enters flow slots code h in
     let next = code-follows laws flow slots code h in

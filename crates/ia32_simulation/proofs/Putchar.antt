@@ -13,8 +13,8 @@ use Rattle.flow_graph.specs.declared.op.Op.TheVariants as op
 use Rattle.flow_graph.specs.Graphs.{FitsOp, points_of, following}
 use Rattle.flow_graph.specs.Meaning.{low_byte, puts, act}
 use Rattle.flow_graph.specs.States as graph
-use Rattle.ia32_calls.specs.Laws.{StandsFrom, OutsideCall, PutcharRow}
-use Rattle.ia32_rows.specs.Rows.{frame_of, selected}
+use Rattle.ia32_calls.specs.Laws.{OutsideCall, PutcharRow}
+use Rattle.ia32_rows.specs.Rows.{frame_of, over_slots, selected}
 use Rattle.ia32_rows.specs.Right.{one_graph}
 use Rattle.ia32_rows.proofs.Laid.{stub-at}
 use Rattle.ia32_simulation.proofs.Setup.{Setup, IsSetup, bounds, code_in, site_in, main_state}
@@ -22,13 +22,14 @@ use Rattle.ia32_simulation.proofs.Main.{AtMain}
 use Rattle.ia32_simulation.proofs.Slots.{slot_at}
 use Rattle.ia32_simulation.proofs.Writes.{KeepsWords}
 use Rattle.ia32_simulation.proofs.Sets.{FollowsMain, RowAt, has-slot, plain-fits, given-number, write-follows}
-use Rattle.ia32_shows.specs.Sites.{Went}
+use Rattle.ia32_shows.specs.Sites.{StandsFrom, Went}
 
 -- where `putchar` stands
 routine-stands : (x : Setup) (s : machine.State) → IsSetup x → StandsFrom (site_in x) putchar_items x.symbols.putchar
 routine-stands x s h =
     let t : machine.State = record s { eip = x.symbols.putchar } in
-    let ready = stub-at x.flow x.slots (selected x.flow x.slots) (code_in x) x.places t h.is_code refl in
+    let ready = stub-at x.flow x.slots (selected x.flow (over_slots x.flow x.slots)) (code_in x) x.places t h.is_code
+        refl in
     record { bytes = ready.bytes; here = ready.here; stand = ready.stand }
 
 -- what the call leaves of the stack

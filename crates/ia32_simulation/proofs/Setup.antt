@@ -24,7 +24,7 @@ code_in x =
     record {
       program = one_graph x.flow;
       placements = over_slots x.flow x.slots ∷ [];
-      items = selected x.flow x.slots ∷ [];
+      items = selected x.flow (over_slots x.flow x.slots) ∷ [];
       order = 0 ∷ [];
       places = x.places ∷ [];
       symbols = x.symbols;
@@ -47,7 +47,7 @@ main_state g =
 
 -- what is known of such a code
 pub record IsSetup (x : Setup) : Type 0 where
-  pub is_code : IsSlotCode x.flow x.slots (selected x.flow x.slots) (code_in x)
+  pub is_code : IsSlotCode x.flow x.slots (selected x.flow (over_slots x.flow x.slots)) (code_in x)
   pub has_slots : HasSlots x.flow x.slots
   pub no_objects : x.symbols.objects ≡ []
   pub depth_is : x.symbols.depth ≡ data_start x.text

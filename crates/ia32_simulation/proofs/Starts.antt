@@ -1,5 +1,6 @@
 -- From the first state the machine comes to one that shows the program's first state.
-use Rattle.std.proofs.Common.{◌≡◌, ℕ, zero, suc, ◌+◌, ◌-◌, List, [], ◌∷◌, Option, Some, None, Ok, refl, sym, ap, subst}
+use Rattle.std.proofs.Common.{◌≡◌, ℕ, zero, suc, ◌+◌, ◌-◌, ◌*◌, ◌%◌, List, length, [], ◌∷◌, Option, Some, None, Ok}
+use Rattle.std.proofs.Common.{refl, sym, ap, subst}
 use Rattle.std.proofs.Common.{◌∙◌, inl, inr, arith}
 use Rattle.std.specs.Prelude.{pos, map, drop, option_map, slice_get, FitsSigned}
 use Rattle.std.specs.Int.{w32}
@@ -7,6 +8,7 @@ use Rattle.std.proofs.lemmas.Option.{same_Some}
 use Rattle.std.proofs.lemmas.Int.{fits_signed_from_abs}
 use Rattle.pcc_base.specs.Outcome.{Value, Number}
 use Rattle.ia32_regs.specs.declared.names.Reg32.TheVariants.{Esp, Ebp}
+use Rattle.ia32_insn.specs.declared.item.Item.{Item}
 use Rattle.ia32_insn.specs.State as machine
 use Rattle.ia32_insn.specs.Meaning.{load, word_of}
 use Rattle.ia32_insn.specs.Items.{data_start, stack_end, text_state}
@@ -17,7 +19,8 @@ use Rattle.flow_graph.specs.States.{first_array, first_state_at}
 use Rattle.ia32_shows.specs.Shows.{IsOldArray}
 use Rattle.ia32_shows.proofs.Steps.{comes-then}
 use Rattle.ia32_calls.specs.Laws.{StartGoes, PrologueGoes, Started, Entered}
-use Rattle.ia32_rows.specs.Rows.{frame_of, over_slots, block_rows}
+use Rattle.ia32_rows.specs.Rows.{IsSlot, frame_of, entry_label, over_slots, block_rows}
+use Rattle.ia32_shows.specs.Sites.{Site}
 use Rattle.ia32_shows.specs.Follows.{ComesTo}
 use Rattle.ia32_rows.specs.Right.{one_graph}
 use Rattle.ia32_rows.proofs.Laid.{laid, entry-ready, first-ready}
@@ -42,11 +45,19 @@ first-point : (x : Setup) (input : List ℕ) (g : graph.State) (o : Option ℕ)
 first-point x input g None e = absurd (none-some g e)
 first-point x input g (Some p) e = (p, refl, same_Some (first_state_at (one_graph x.flow) input p) g e)
 
+-- a slot is 0 behind the prologue
+slot-zero : {site : Site} (frame : ℕ) (back : List Item) (slot : ℕ) (t u : machine.State) → IsSlot frame slot
+    → Entered site frame back t u → load 4 (word_of Ebp u - slot) u ≡ Ok 0
+slot-zero frame back slot t u inside enter =
+    let low = inside.low in
+    let high = inside.high in
+    let esp = enter.framed.esp in
+    enter.zeros 4 (word_of Ebp u - slot) (omega arith) (omega arith) (omega arith)
+
 -- behind the prologue the machine is at the first state
 entered-main : (x : Setup) (input : List ℕ) (p l : ℕ) (t u : machine.State) → IsSetup x
     → slice_get (points_of x.flow 0) 0 ≡ Some p → Started x.symbols x.text 0 l input t
-    → Entered (site_in x) (frame_of x.flow) x.slots (block_rows (over_slots x.flow x.slots) x.flow.ops 0 x.flow.blocks)
-        t u
+    → Entered (site_in x) (frame_of x.flow) (block_rows (over_slots x.flow x.slots) x.flow.ops 0 x.flow.blocks) t u
         → AtMain x input (first_state_at (one_graph x.flow) input p) u
 entered-main x input p l t u h first start enter =
     let b = bounds x h in
@@ -72,7 +83,8 @@ entered-main x input p l t u h first start enter =
       returns_to = start.returns_to;
       variables = λ v value slot e f.
           let is : Number (pos 0) ≡ value = mapped x.flow.widths (Number (pos 0)) value v e in
-          (0, every-at (λ (k : ℕ). load 4 (word_of Ebp u - k) u ≡ Ok 0) x.slots v slot enter.zeros f,
+          (0, slot-zero (frame_of x.flow) (block_rows (over_slots x.flow x.slots) x.flow.ops 0 x.flow.blocks) slot t u
+              (every-at (IsSlot (frame_of x.flow)) x.slots v slot h.has_slots.within f) enter,
               subst (λ (z : Value). IsPlainWord z 0) is (zero_fits, refl));
       no_arguments = refl;
       no_arrays = ap (map first_array) h.has_slots.no_arrays;
@@ -84,6 +96,10 @@ entered-main x input p l t u h first start enter =
       written = enter.written ∙ start.written;
       of_input = enter.left ∙ start.left ∙ ap (λ (k : ℕ). drop k input) (sym taken);
     }
+
+-- a frame is one of words
+words-whole : (n : ℕ) → (16 + 4 * n) % 4 ≡ 0
+words-whole n = omega arith
 
 -- the start, and then the prologue
 pub setup-starts : StartGoes → PrologueGoes → (x : Setup) (input : List ℕ) (g : graph.State) → IsSetup x
@@ -101,9 +117,9 @@ setup-starts starts enters x input g h first =
     let size = b.size in
     let small = h.has_slots.small in
     let esp = start.1.esp in
-    let enter = enters site (frame_of x.flow) x.slots
-        (block_rows (over_slots x.flow x.slots) x.flow.ops 0 x.flow.blocks) t start.1.sound
-        ready (omega arith) (omega arith) (omega arith) h.has_slots.within h.has_slots.apart in
+    let enter = enters site (frame_of x.flow) (entry_label x.flow)
+        (block_rows (over_slots x.flow x.slots) x.flow.ops 0 x.flow.blocks) t start.1.sound ready (omega arith)
+        (omega arith) (omega arith) (words-whole (length x.flow.widths)) in
     let u : machine.State = enter.0 in
     let at = entered-main x input point.0 l.address t u h point.1 start.1 enter.1 in
     let first_g : graph.State = first_state_at (one_graph x.flow) input point.0 in

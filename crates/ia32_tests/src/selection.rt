@@ -1,10 +1,10 @@
 //! The items of small graphs, by hand: what each instruction is to do in the frame.
 
 use flow_graph::{Graph, Op};
-use ia32_insn::Insn::{AluLoad, Lea, Leave, Mov, MovImm, MovLoad, Nop, Pop, Push, Ret};
-use ia32_insn::Item::{self, CallStub, Label, Plain, Point};
+use ia32_insn::Insn::{Alu, AluImm, AluLoad, Lea, Leave, Mov, MovImm, MovLoad, Nop, Pop, Push, Ret};
+use ia32_insn::Item::{self, CallStub, JumpIf, Label, Plain, Point};
 use ia32_insn::Rm32::{Mem as Memory, Reg};
-use ia32_insn::{AluOp, Mem, Stub};
+use ia32_insn::{AluOp, Cond, Mem, Stub};
 use ia32_regs::Reg32::{Eax, Ebp, Ebx, Edi, Esi, Esp};
 use ia32_select::select_slots;
 use pcc_base::Width;
@@ -17,10 +17,11 @@ macro_rules! word {
     };
 }
 
-/// The items of a graph of one block, whose frame ends at the first offset and has these slots: those that make the
-/// frame and clear the slots; those of the points; and those that return the variable at the last offset.
+/// The items of a graph of one block, whose frame ends at the first offset: those that make the frame and clear it, by
+/// a loop whose label is the number of blocks; those of the points; and those that return the variable at the last
+/// offset.
 macro_rules! items {
-    ($end:literal [$($slot:literal)*] $returned:literal; $($item:expr;)*) => {
+    ($end:literal $returned:literal; $($item:expr;)*) => {
         [
             Plain(Push(Reg(Ebp))),
             Plain(Mov(Reg(Ebp), Esp)),
@@ -29,7 +30,12 @@ macro_rules! items {
             Plain(Push(Reg(Edi))),
             Plain(Lea(Esp, word!($end))),
             Plain(MovImm(Reg(Esi), 0)),
-            $(Plain(Mov(Memory(word!($slot)), Esi)),)*
+            Plain(Lea(Edi, word!(-12))),
+            Label(1),
+            Plain(AluImm(AluOp::Sub, Reg(Edi), 4)),
+            Plain(Mov(Memory(Mem { base: Some(Edi), index: None, disp: 0 }), Esi)),
+            Plain(Alu(AluOp::Cmp, Reg(Edi), Esp)),
+            JumpIf(Cond::Ne, 1),
             Label(0),
             $($item,)*
             Plain(MovLoad(Eax, word!($returned))),
@@ -43,7 +49,7 @@ macro_rules! items {
 }
 
 /// The first operand is in the slot of variable 2, from which that of variable 0 is taken where it stands.
-const DIFFERENCE: [Item; 22] = items! { -28 [-20 -24 -28] -24;
+const DIFFERENCE: [Item; 25] = items! { -28 -24;
     Point(0);
     Plain(MovLoad(Esi, word!(-28)));
     Plain(AluLoad(AluOp::Sub, Esi, word!(-20)));
@@ -65,7 +71,7 @@ fn difference(rt: HostRuntime) -> Result<(), Fail> {
 }
 
 /// The slots stand in any order.
-const PUTCHAR_AND_COPY: [Item; 25] = items! { -24 [-24 -20] -24;
+const PUTCHAR_AND_COPY: [Item; 29] = items! { -24 -24;
     Point(0);
     Plain(Push(Memory(word!(-20))));
     CallStub(Stub::Putchar);
@@ -91,7 +97,7 @@ fn putchar_and_copy(rt: HostRuntime) -> Result<(), Fail> {
 }
 
 /// A mark is one NOP, and so is a turn.
-const MARK_AND_TURN: [Item; 20] = items! { -20 [-20] -20;
+const MARK_AND_TURN: [Item; 25] = items! { -20 -20;
     Point(0);
     Plain(Nop);
     Point(1);
@@ -112,7 +118,7 @@ fn mark_and_turn(rt: HostRuntime) -> Result<(), Fail> {
 }
 
 /// `return 7;` over one variable: the frame has the four words and one slot.
-const RETURN_OF_SEVEN: [Item; 18] = items! { -20 [-20] -20;
+const RETURN_OF_SEVEN: [Item; 23] = items! { -20 -20;
     Point(0);
     Plain(MovImm(Memory(word!(-20)), 7));
     Point(1);

@@ -1,5 +1,6 @@
 -- The frame of a function: a slot for each variable of its graph.
-use Rattle.std.proofs.Common.{◌≡◌, ℕ, zero, suc, pos, neg_ℤ, ◌+◌, ◌*◌, ◌≤◌, List, [], ◌∷◌, length, map, refl, ap, ◌∙◌}
+use Rattle.std.proofs.Common.{◌≡◌, ℕ, zero, suc, pos, neg_ℤ, ◌+◌, ◌*◌, ◌^◌, ◌<◌, ◌≤◌, List, [], ◌∷◌, length, map, refl}
+use Rattle.std.proofs.Common.{ap, ◌∙◌}
 use Rattle.std.proofs.Common.{subst, arith, inl}
 use Rattle.std.specs.Prelude.{sum_by}
 use Rattle.std.specs.List.{AllByRecursion, range_with_len}
@@ -9,12 +10,14 @@ use Rattle.c_tree.specs.Sizes.{frame_bound}
 use Rattle.c_tree.specs.SlotForm.{IsSlotFunction, IsSlotProgram}
 use Rattle.flow_graph.specs.Graphs.{Flow}
 use Rattle.flow_graph.specs.SlotGraphs.{IsSlotFlow}
-use Rattle.c_lower.specs.Lowering.{AreSmall, IsLowered, array_of, points_in}
+use Rattle.c_lower.specs.Lowering.{AreSmall, IsLowered, array_of}
 use Rattle.ia32_rows.specs.Right.{one_graph}
 use Rattle.ia32_rows.specs.Rows.{AllApart, AreApart, HasSlots, IsSlot}
 use Rattle.pcc_compile.specs.Products.{IsSmallFrame}
 use Rattle.ia32_select.specs.Offsets.{distance}
+use Rattle.ia32_select.specs.Sizes.{most_bytes}
 use Rattle.pcc_compile.specs.Slots.{offset_at, slot_at, slots_for}
+use Rattle.pcc_compile.proofs.Sizes.{code_bound}
 
 -- ---- slots
 
@@ -45,18 +48,19 @@ length-slots a (suc n) = ap suc (length-slots (a + 1) n)
 -- what the back end takes of a graph
 pub record HasFrame (flow : Flow) : Type 0 where
   pub slots : HasSlots flow (slots_for (length flow.widths))
-  pub points : length flow.ops ≤ 1310720
+  pub code : most_bytes flow < 2 ^ 30
   pub few : length flow.widths ≤ 4096
 
 -- the graph of a function within the frame's limit has a slot for each variable
 function_slots : (f : Function) (flow : Flow) → IsSlotFunction f → IsLowered f flow → IsSlotFlow flow
-    → frame_bound f ≤ 16384 → HasSlots flow (slots_for (length flow.widths))
-function_slots f flow form low slot frame =
+    → 0 < length flow.blocks → frame_bound f ≤ 16384 → HasSlots flow (slots_for (length flow.widths))
+function_slots f flow form low slot begins frame =
     let n = length flow.widths in
     record {
       widths = slot.widths;
       no_arrays = low.arrays ∙ ap (map array_of) form.no_arrays;
       ops = slot.ops;
+      begins = begins;
       ended = low.ended;
       as_many = length-slots 0 n;
       within = slots_within (16 + 4 * n) 0 n (omega arith);
@@ -66,16 +70,17 @@ function_slots f flow form low slot frame =
 
 -- the graph of the function of a program that is compiled has a frame
 pub has_frame : (program : Program) (slot : IsSlotProgram program) (flow : Flow) → IsLowered slot.function flow
-    → IsSlotFlow flow → AreSmall program (one_graph flow) → AllByRecursion IsSmallFrame program.functions
-    → HasFrame flow
-has_frame program slot flow low slots small frames =
+    → IsSlotFlow flow → 0 < length flow.blocks → AreSmall program (one_graph flow)
+    → AllByRecursion IsSmallFrame program.functions → HasFrame flow
+has_frame program slot flow low slots begins small frames =
     let f = slot.function in
     let frame : AllByRecursion IsSmallFrame (f ∷ []) =
         subst (λ (fs : List Function). AllByRecursion IsSmallFrame fs) slot.one_function frames in
-    let points : sum_by points_in (flow ∷ []) ≡ points_in flow + 0 = sum_by-cons points_in flow [] in
+    let bound = code_bound program (one_graph flow) small slot.small in
+    let one : sum_by most_bytes (flow ∷ []) ≡ most_bytes flow + 0 = sum_by-cons most_bytes flow [] in
     record {
-      slots = function_slots f flow slot.accepted low slots frame.0;
-      points = omega (arith, points, small.points, slot.small);
+      slots = function_slots f flow slot.accepted low slots begins frame.0;
+      code = omega (arith, bound, one);
       few = omega (arith, low.frame, frame.0);
     }
 

@@ -3,3 +3,4 @@ pub mod Frames
 pub mod Headline
 pub mod Passes
 pub mod Placed
+pub mod Sizes

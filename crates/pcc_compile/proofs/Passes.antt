@@ -11,6 +11,7 @@ use Rattle.c_tree.specs.Program.{Function, Program}
 use Rattle.c_tree.specs.SlotForm.{IsSlotProgram}
 use Rattle.flow_graph.specs.Graphs.{Flow, IsDistinct, IsPlaced}
 use Rattle.flow_graph.specs.States.{GraphProgram}
+use Rattle.flow_graph.specs.WellFormed.{IsGraphProgram}
 use Rattle.c_lower.specs.declared.graphs.Graphs.{Graphs}
 use Rattle.c_lower.specs.Lowering.{AreLowered, AreSlotGraphs, AreSmall, HasObjects, HaveMarks, IsLowered, MarksOnce}
 use Rattle.c_lower.specs.Lowering.{MarksStatements, first_statement, graphs_of, marks_in}
@@ -68,9 +69,9 @@ pub record IsLow (program : Program) (form : IsCompiledForm program) (graphs : G
 pub is_low : (program : Program) (form : IsCompiledForm program) (graphs : Graphs) (flow : Flow)
     → AreLowered program (graphs_of graphs) → HasObjects program (graphs_of graphs)
     → MarksOnce (graphs_of graphs) → HaveMarks program (graphs_of graphs) → AreSlotGraphs (graphs_of graphs)
-        → AreSmall program (graphs_of graphs)
+    → IsGraphProgram (graphs_of graphs) → AreSmall program (graphs_of graphs)
     → flow ≡ slice_index_or graphs.functions.items 0 flow → IsLow program form graphs flow
-is_low program form graphs flow low objects once marks slots small first =
+is_low program form graphs flow low objects once marks slots formed small first =
     let slot = form.form in
     let f = slot.function in
     let same = one-program program slot (graphs_of graphs) flow low objects first in
@@ -83,12 +84,14 @@ is_low program form graphs flow low objects once marks slots small first =
         (marks 0 f flow here there) in
     let slotted = subst (λ (g : GraphProgram). AreSlotGraphs g) same slots in
     let each = subst (λ (g : GraphProgram). MarksOnce g) same once in
+    let begins : 0 < length flow.blocks =
+        ((subst (λ (g : GraphProgram). IsGraphProgram g) same formed).functions 0 flow (omega arith)).begins in
     record {
       graphs_are = same;
       lowered = lowered;
       marks = marked;
       once = subst IsDistinct (append-nil (marks_in flow.ops)) each;
-      frame = has_frame program slot flow lowered slotted.0
+      frame = has_frame program slot flow lowered slotted.0 begins
           (subst (λ (g : GraphProgram). AreSmall program g) same small) form.frames;
     }
 

@@ -22,7 +22,7 @@ use Rattle.elf_link.proofs.Numbered.{number-alone, order-alone}
 use Rattle.elf_link.proofs.Placing.{follow_inside}
 use Rattle.flow_graph.specs.Graphs.{Flow, IsFlow}
 use Rattle.ia32_shows.specs.Placements.{Code, address_in, in_slots, point_address}
-use Rattle.ia32_rows.specs.Rows.{HasSlots, frame_of, selected}
+use Rattle.ia32_rows.specs.Rows.{HasSlots, frame_of, over_slots, selected}
 use Rattle.pcc_base.specs.Bytes.{AreBytes}
 use Rattle.flow_graph.specs.WellFormed.{IsGraphProgram}
 use Rattle.ia32_rows.specs.Right.{IsSlotCode, one_graph}
@@ -43,9 +43,10 @@ linked_code flow slots items linked is = record {
 -- it is code over slots
 pub slot_code : (flow : Flow) (slots : List ℕ) (items : List Item) (linked : Linked)
     (is : IsLinked (items ∷ []) (0 ∷ []) [] 0 linked)
-    → items ≡ selected flow slots → IsGraphProgram (one_graph flow) → (homes : List ℕ) × IsFlow flow homes
+    → items ≡ selected flow (over_slots flow slots) → IsGraphProgram (one_graph flow) → (homes : List ℕ)
+        × IsFlow flow homes
         → HasSlots flow slots → length linked.image.text.items < 2 ^ 30 + 1024 → AreBytes linked.image.text.items
-    → IsSlotCode flow slots (selected flow slots) (linked_code flow slots items linked is)
+    → IsSlotCode flow slots (selected flow (over_slots flow slots)) (linked_code flow slots items linked is)
 slot_code flow slots items linked is same program flows has fits bytes =
     record {
       program = refl;

@@ -26,7 +26,7 @@ use Rattle.c_lower.specs.Shown.{declared_before, locals_at, variable_part, varia
 use Rattle.ia32_shows.specs.Paths.{IsAt, IsClear}
 use Rattle.ia32_shows.specs.Placements.{Code, Placement, in_slots, no_placement, placement_of, point_address}
 use Rattle.ia32_shows.specs.Shows.{Shows, InSlotOf}
-use Rattle.ia32_rows.specs.Rows.{IsSlot, frame_of, selected}
+use Rattle.ia32_rows.specs.Rows.{IsSlot, frame_of, over_slots, selected}
 use Rattle.ia32_rows.specs.Right.{IsSlotCode, one_graph}
 use Rattle.ia32_rows.proofs.Laid.{apart, mark-at}
 use Rattle.ia32_places.specs.Places.{InSlot}
@@ -55,11 +55,13 @@ register-small r bytes h =
         rw (get_or-drop (word_place r) bytes k 0) below in
     little_from-lt 0 4 (drop (word_place r) bytes) each
 
-pub code-placement : (flow : Flow) (slots : List ℕ) (code : Code) → IsSlotCode flow slots (selected flow slots) code
+pub code-placement : (flow : Flow) (slots : List ℕ) (code : Code)
+    → IsSlotCode flow slots (selected flow (over_slots flow slots)) code
     → placement_of code 0 ≡ in_slots (frame_of flow) [] slots
 code-placement flow slots code h = ap (λ (ps : List Placement). slice_index_or ps 0 no_placement) h.placements
 
-code-arrays : (flow : Flow) (slots : List ℕ) (code : Code) → IsSlotCode flow slots (selected flow slots) code
+code-arrays : (flow : Flow) (slots : List ℕ) (code : Code)
+    → IsSlotCode flow slots (selected flow (over_slots flow slots)) code
     → (function : ℕ) → (placement_of code function).arrays ≡ []
 code-arrays flow slots code h function = ap (λ (ps : List Placement). (slice_index_or ps function no_placement).arrays)
     h.placements ∙ none function
@@ -84,7 +86,7 @@ function-main flow (suc k) point o e = absurd (none-some o e)
 
 -- the slot of a variable shows its value
 slot-shown : (flow : Flow) (slots : List ℕ) (code : Code) (input : List ℕ) (g : graph.State) (s : machine.State)
-    (v slot : ℕ) → IsSlotCode flow slots (selected flow slots) code → Shows code input g s
+    (v slot : ℕ) → IsSlotCode flow slots (selected flow (over_slots flow slots)) code → Shows code input g s
     → g.current.function ≡ 0 → length g.current.variables ≡ length flow.widths → All IsNumber g.current.variables
         → slice_get slots v ≡ Some slot → ShowsSlot s g v slot
 slot-shown flow slots code input g s v slot h shows main values numbers there =
@@ -126,7 +128,7 @@ record AtPoint (flow : Flow) (code : Code) (g : graph.State) (s : machine.State)
   stands : Stands flow g.point g.block
 
 at-point : (flow : Flow) (slots : List ℕ) (code : Code) (input : List ℕ) (g : graph.State) (s : machine.State) (o : Op)
-    → IsSlotCode flow slots (selected flow slots) code → Shows code input g s
+    → IsSlotCode flow slots (selected flow (over_slots flow slots)) code → Shows code input g s
     → op_at code.program g ≡ Some o → (g.current.function ≡ 0) × AtPoint flow code g s o
 at-point flow slots code input g s o h shows at =
     let here : op_at (one_graph flow) g ≡ Some o = ap (λ (p : GraphProgram). op_at p g) (sym h.program) ∙ at in
@@ -142,7 +144,8 @@ at-point flow slots code input g s o h shows at =
     )
 
 -- two points of blocks with one address are one
-same-point : (flow : Flow) (slots : List ℕ) (code : Code) (p q b : ℕ) → IsSlotCode flow slots (selected flow slots) code
+same-point : (flow : Flow) (slots : List ℕ) (code : Code) (p q b : ℕ)
+    → IsSlotCode flow slots (selected flow (over_slots flow slots)) code
     → IsIn p (all_points flow) → Stands flow q b
     → point_address code 0 p ≡ point_address code 0 q → p ≡ q
 same-point flow slots code p q b h within stands e =

@@ -11,7 +11,7 @@ use Rattle.flow_graph.specs.Running.{GraphOutcome}
 use Rattle.c_lower.specs.Lowering.{IsLowered, MarksStatements, marks_in}
 use Rattle.c_lower.specs.Shown.{ListsLocals, variables_shown}
 use Rattle.ia32_shows.specs.Placements.{Code, point_address}
-use Rattle.ia32_rows.specs.Rows.{selected}
+use Rattle.ia32_rows.specs.Rows.{over_slots, selected}
 use Rattle.ia32_shows.specs.Follows.{ShowsVisits}
 use Rattle.ia32_rows.specs.Right.{IsSlotCode}
 use Rattle.pcc_listing.specs.Maps.{Map, IsMap}
@@ -24,7 +24,7 @@ pub record IsCodeOf (f : Function) (flow : Flow) (slots : List ℕ) (code : Code
   pub lowered : IsLowered f flow
   pub marks : MarksStatements 0 f flow
   pub once : IsDistinct (marks_in flow.ops)
-  pub laid : IsSlotCode flow slots (selected flow slots) code
+  pub laid : IsSlotCode flow slots (selected flow (over_slots flow slots)) code
 
 -- the map of the function, where the code has its points
 abbrev pub map_in : Function → Flow → List ℕ → Code → Map

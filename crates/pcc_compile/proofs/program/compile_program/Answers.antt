@@ -25,38 +25,45 @@ pub offsets_for-requires : goal.offsets_for-requires
 offsets_for-requires c =
     let g = c.in_ok-graphs.ensures in
     let low = is_low (program_of c.args.program.now) c.requires c.in_ok-graphs.graphs c.index-graph.result.now
-        g.functions g.has_objects g.marks g.statements g.slots g.small c.index-graph.ensures in
+        g.functions g.has_objects g.marks g.statements g.slots g.well_formed g.small c.index-graph.ensures in
     few_variables c.vars.result low c.vars.ensures
 
-pub select_slots-requires-clause-slots : goal.select_slots-requires-clause-slots
-select_slots-requires-clause-slots c =
+pub select_slots-requires : goal.select_slots-requires
+select_slots-requires c =
     let g = c.in_ok-graphs.ensures in
     let low = is_low (program_of c.args.program.now) c.requires c.in_ok-graphs.graphs c.index-graph.result.now
-        g.functions g.has_objects g.marks g.statements g.slots g.small c.index-graph.ensures in
+        g.functions g.has_objects g.marks g.statements g.slots g.well_formed g.small c.index-graph.ensures in
     framed c.deref.result.now c.vars.result low c.vars.ensures (c.deref.ensures.value ∙ c.in_ok-offsets.ensures)
+
+pub assemble-requires : goal.assemble-requires
+assemble-requires c =
+    let g = c.in_ok-graphs.ensures in
+    let low = is_low (program_of c.args.program.now) c.requires c.in_ok-graphs.graphs c.index-graph.result.now
+        g.functions g.has_objects g.marks g.statements g.slots g.well_formed g.small c.index-graph.ensures in
+    c.in_ok-items.ensures.assembles (omega (arith, c.in_ok-items.ensures.size, low.frame.code))
 
 pub link-requires : goal.link-requires
 link-requires c =
     let g = c.in_ok-graphs.ensures in
     let low = is_low (program_of c.args.program.now) c.requires c.in_ok-graphs.graphs c.index-graph.result.now
-        g.functions g.has_objects g.marks g.statements g.slots g.small c.index-graph.ensures in
+        g.functions g.has_objects g.marks g.statements g.slots g.well_formed g.small c.index-graph.ensures in
     links c.in_ok-graphs.graphs c.index-graph.result.now c.in_ok-items.items.items c.in_ok-section.section
         c.in_ok-sections.sections.items
     low.graphs_are c.in_ok-sections.ensures.items c.in_ok-section.ensures.section
         (omega (arith, c.in_ok-section.section.bytes.ok.0, c.in_ok-section.ensures.size,
-        c.in_ok-items.ensures.assembles.size))
+        c.in_ok-items.ensures.size, low.frame.code))
     c.in_ok-items.ensures.names
 
 pub index-addresses-requires : goal.index-addresses-requires
 index-addresses-requires c =
     let g = c.in_ok-graphs.ensures in
     let low = is_low (program_of c.args.program.now) c.requires c.in_ok-graphs.graphs c.index-graph.result.now
-        g.functions g.has_objects g.marks g.statements g.slots g.small c.index-graph.ensures in
+        g.functions g.has_objects g.marks g.statements g.slots g.well_formed g.small c.index-graph.ensures in
     let one = one_linked c.in_ok-graphs.graphs c.index-graph.result.now c.in_ok-items.items.items
         c.in_ok-section.section c.in_ok-sections.sections.items c.in_ok-linked.linked
     low.graphs_are c.in_ok-sections.ensures.items c.in_ok-section.ensures.section
         (omega (arith, c.in_ok-section.section.bytes.ok.0, c.in_ok-section.ensures.size,
-        c.in_ok-items.ensures.assembles.size))
+        c.in_ok-items.ensures.size, low.frame.code))
     c.in_ok-linked.ensures.program c.in_ok-linked.ensures.size
     in
     omega (arith, one.is.points_are, c.in_ok-linked.linked.points.ok.0)
@@ -65,7 +72,7 @@ pub map_lines-requires-clause-lowered : goal.map_lines-requires-clause-lowered
 map_lines-requires-clause-lowered c =
     let g = c.in_ok-graphs.ensures in
     let low = is_low (program_of c.args.program.now) c.requires c.in_ok-graphs.graphs c.index-graph.result.now
-        g.functions g.has_objects g.marks g.statements g.slots g.small c.index-graph.ensures in
+        g.functions g.has_objects g.marks g.statements g.slots g.well_formed g.small c.index-graph.ensures in
     let same = first_function c.args.program.now.functions.items c.index.result.now c.requires.form.function
         c.requires.form.one_function c.index.ensures in
     subst (λ (x : Function). IsLowered x c.index-graph.result.now) (sym same) low.lowered
@@ -74,7 +81,7 @@ pub map_lines-requires-clause-marks : goal.map_lines-requires-clause-marks
 map_lines-requires-clause-marks c =
     let g = c.in_ok-graphs.ensures in
     let low = is_low (program_of c.args.program.now) c.requires c.in_ok-graphs.graphs c.index-graph.result.now
-        g.functions g.has_objects g.marks g.statements g.slots g.small c.index-graph.ensures in
+        g.functions g.has_objects g.marks g.statements g.slots g.well_formed g.small c.index-graph.ensures in
     let same = first_function c.args.program.now.functions.items c.index.result.now c.requires.form.function
         c.requires.form.one_function c.index.ensures in
     subst (λ (x : Function). MarksStatements 0 x c.index-graph.result.now) (sym same) low.marks
@@ -83,7 +90,7 @@ pub map_lines-requires-clause-slots : goal.map_lines-requires-clause-slots
 map_lines-requires-clause-slots c =
     let g = c.in_ok-graphs.ensures in
     let low = is_low (program_of c.args.program.now) c.requires c.in_ok-graphs.graphs c.index-graph.result.now
-        g.functions g.has_objects g.marks g.statements g.slots g.small c.index-graph.ensures in
+        g.functions g.has_objects g.marks g.statements g.slots g.well_formed g.small c.index-graph.ensures in
     framed c.deref-2.result.now c.vars.result low c.vars.ensures (c.deref-2.ensures.value ∙ c.in_ok-offsets.ensures)
 
 pub map_lines-requires-clause-addresses : goal.map_lines-requires-clause-addresses
@@ -92,12 +99,12 @@ map_lines-requires-clause-addresses c = λ p placed.
     let flow = c.index-graph.result.now in
     let slots = slots_of c.deref.result.now in
     let low = is_low (program_of c.args.program.now) c.requires c.in_ok-graphs.graphs c.index-graph.result.now
-        g.functions g.has_objects g.marks g.statements g.slots g.small c.index-graph.ensures in
+        g.functions g.has_objects g.marks g.statements g.slots g.well_formed g.small c.index-graph.ensures in
     let one = one_linked c.in_ok-graphs.graphs c.index-graph.result.now c.in_ok-items.items.items
         c.in_ok-section.section c.in_ok-sections.sections.items c.in_ok-linked.linked
     low.graphs_are c.in_ok-sections.ensures.items c.in_ok-section.ensures.section
         (omega (arith, c.in_ok-section.section.bytes.ok.0, c.in_ok-section.ensures.size,
-        c.in_ok-items.ensures.assembles.size))
+        c.in_ok-items.ensures.size, low.frame.code))
     c.in_ok-linked.ensures.program c.in_ok-linked.ensures.size
     in
     let has = has_entries flow slots c.in_ok-items.items.items c.in_ok-linked.linked one.is c.index-addresses.result.now
@@ -110,12 +117,12 @@ pub write_image-requires : goal.write_image-requires
 write_image-requires c =
     let g = c.in_ok-graphs.ensures in
     let low = is_low (program_of c.args.program.now) c.requires c.in_ok-graphs.graphs c.index-graph.result.now
-        g.functions g.has_objects g.marks g.statements g.slots g.small c.index-graph.ensures in
+        g.functions g.has_objects g.marks g.statements g.slots g.well_formed g.small c.index-graph.ensures in
     let one = one_linked c.in_ok-graphs.graphs c.index-graph.result.now c.in_ok-items.items.items
         c.in_ok-section.section c.in_ok-sections.sections.items c.in_ok-linked.linked
     low.graphs_are c.in_ok-sections.ensures.items c.in_ok-section.ensures.section
         (omega (arith, c.in_ok-section.section.bytes.ok.0, c.in_ok-section.ensures.size,
-        c.in_ok-items.ensures.assembles.size))
+        c.in_ok-items.ensures.size, low.frame.code))
     c.in_ok-linked.ensures.program c.in_ok-linked.ensures.size
     in
     omega (arith, image_size c.in_ok-items.items.items c.in_ok-linked.linked one.is one.small,
@@ -133,14 +140,14 @@ returns c =
     let table = c.index-addresses.result.now.items in
     let lines : List Line = map line_of c.in_ok-lines.lines.items in
     let low = is_low (program_of c.args.program.now) c.requires c.in_ok-graphs.graphs c.index-graph.result.now
-        g.functions g.has_objects g.marks g.statements g.slots g.small c.index-graph.ensures in
+        g.functions g.has_objects g.marks g.statements g.slots g.well_formed g.small c.index-graph.ensures in
     let has-slots = framed c.deref.result.now c.vars.result low c.vars.ensures
         (c.deref.ensures.value ∙ c.in_ok-offsets.ensures) in
     let one = one_linked c.in_ok-graphs.graphs c.index-graph.result.now c.in_ok-items.items.items
         c.in_ok-section.section c.in_ok-sections.sections.items c.in_ok-linked.linked
     low.graphs_are c.in_ok-sections.ensures.items c.in_ok-section.ensures.section
         (omega (arith, c.in_ok-section.section.bytes.ok.0, c.in_ok-section.ensures.size,
-        c.in_ok-items.ensures.assembles.size))
+        c.in_ok-items.ensures.size, low.frame.code))
     c.in_ok-linked.ensures.program c.in_ok-linked.ensures.size
     in
     let code = linked_code flow slots items linked one.is in
