@@ -1,4 +1,4 @@
-ghost use Rattle.std.specs.Prelude.{◌≡◌, ◌<◌, ◌∷◌, [], IfOk, slice_get};
+ghost use Rattle.std.specs.Prelude.{◌≡◌, ◌<◌, ◌∷◌, [], IfOk, length, slice_get};
 ghost use Rattle.std.specs.Int.{w32};
 ghost use Rattle.std.specs.Int.RustNames.{FitsSigned};
 ghost use Rattle.flow_graph.specs.Graphs.{NumbersFit};
@@ -204,6 +204,28 @@ impl Op {
             Op::Call(_, _, words) => words.at(place),
             Op::Return(Some(from)) => first(place, *from),
             Op::Return(None) => None,
+        }
+    }
+
+    /// How many variables the op reads, one that it reads twice counted twice.
+    pub fn use_count(&self) -> usize
+        ensures { result ≡ length (uses self.now) }
+    {
+        match self {
+            Op::Const(_, _) | Op::Frame(_, _) | Op::Static(_, _) | Op::Get(_, _, _) => 0,
+            Op::Clear(_) | Op::Param(_, _) | Op::Getchar(_) => 0,
+            Op::Mark(_) | Op::Turn | Op::Jump(_) => 0,
+            Op::Copy(_, _) | Op::Wide(_, _) | Op::Low(_, _) | Op::Low16(_, _) => 1,
+            Op::Neg(_, _) | Op::Not(_, _) | Op::Put(_, _, _) | Op::Putchar(_, _) | Op::Exit(_) => 1,
+            Op::Add(_, _, _) | Op::Sub(_, _, _) | Op::Mul(_, _, _) => 2,
+            Op::And(_, _, _) | Op::Or(_, _, _) | Op::Xor(_, _, _) => 2,
+            Op::Shl(_, _, _) | Op::Sar(_, _, _) | Op::Div(_, _, _) | Op::Rem(_, _, _) => 2,
+            Op::Set(_, _, _, _) | Op::Load(_, _, _, _) => 2,
+            Op::Same(_, _) | Op::Branch(_, _, _, _, _) => 2,
+            Op::Store(_, _, _, _) => 3,
+            Op::Call(_, _, words) => words.len(),
+            Op::Return(Some(_)) => 1,
+            Op::Return(None) => 0,
         }
     }
 

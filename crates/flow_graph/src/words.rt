@@ -1,6 +1,6 @@
 //! The argument words of a call.
 
-ghost use Rattle.std.specs.Prelude.{◌≡◌, IfOk, slice_get};
+ghost use Rattle.std.specs.Prelude.{◌≡◌, IfOk, length, slice_get};
 
 use pcc_base::NoMemory;
 use std::alloc::Global;
@@ -34,6 +34,13 @@ impl Words {
         ensures { result.now ≡ self.now }
     {
         self.list.as_slice()
+    }
+
+    /// How many variables there are.
+    pub fn len(&self) -> usize
+        ensures { result ≡ length self.now }
+    {
+        self.list.len()
     }
 
     /// The variable at a place, if there are so many.

@@ -1,0 +1,37 @@
+use Rattle.std.proofs.Common.{ℕ, ◌≡◌, ◌<◌, length, Some, sym, ◌∙◌, arith}
+use Rattle.std.specs.List.{slice_get}
+use Rattle.flow_graph.specs.Liveness.{uses}
+use Rattle.liveness.proofs.SameWay.{used-within}
+use Rattle.liveness.proofs.Using.{used-here, uses-end, uses-more, uses-past, uses-start}
+use Rattle.liveness.proofs.uses.add_uses.Goals.{in-Some+in_ok-push, in_default}
+use Rattle.liveness.proofs.uses.add_uses.Goals as goal
+
+pub loop-place-init : goal.loop-place-init
+loop-place-init c = uses-start c.args.point (uses c.op-op.result.now) c.args.uses.now
+
+pub push-requires : goal.push-requires
+push-requires c =
+    let within = used-within c.args.graph.now c.is_flow.ensures.0 c.is_flow.ensures.1 c.in-Some.var c.args.point
+    (used-here c.args.graph.now c.args.point c.op-op.result.now c.requires.placed c.op-op.ensures c.loop-place.place
+    c.in-Some.var (sym c.use_at.ensures ∙ c.in-Some.is)) in
+    rw (c.loop-place.invariant.as_many ∙ c.requires.variables) within
+
+pub loop-place-preserved : goal.loop-place-preserved
+loop-place-preserved c =
+    let here : (v : ℕ) → slice_get (uses c.op-op.result.now) c.loop-place.place ≡ Some v
+    → v < length c.loop-place.uses =
+    λ v e. rw (c.loop-place.invariant.as_many ∙ c.requires.variables) (used-within c.args.graph.now
+    c.is_flow.ensures.0 c.is_flow.ensures.1 v c.args.point (used-here c.args.graph.now c.args.point
+    c.op-op.result.now c.requires.placed c.op-op.ensures c.loop-place.place v e)) in
+    elim c.match-use_at.branch [
+      | in-Some+in_ok-push w ↦ rw (w.uses-is, w.in_ok-push.ensures) (uses-more c.args.point (uses c.op-op.result.now)
+          c.loop-place.place w.in-Some.var c.args.uses.now c.loop-place.uses (sym c.use_at.ensures ∙ w.in-Some.is)
+          (here w.in-Some.var (sym c.use_at.ensures ∙ w.in-Some.is)) c.loop-place.invariant)
+      | in_default w ↦ rw w.uses-is (uses-past c.args.point (uses c.op-op.result.now) c.loop-place.place c.args.uses.now
+          c.loop-place.uses (λ v e. w.in_default.not-Some v (c.use_at.ensures ∙ e)) c.loop-place.invariant)
+    ]
+
+pub returns : goal.returns
+returns c =
+    uses-end c.args.graph.now c.args.point c.op-op.result.now c.requires.placed c.op-op.ensures c.loop-place.place _ _
+    (omega arith) c.loop-place.invariant
