@@ -18,7 +18,7 @@ use Rattle.c_grammar.specs.Statements.{ExternalTree}
 use Rattle.c_grammar.specs.Grammar.{Tree}
 use Rattle.c_grammar.proofs.StatementComplete.{one_tree}
 use Rattle.c_tree.specs.Program.{Program}
-use Rattle.c_locals.specs.Form.{IsLocalsProgram}
+use Rattle.c_locals.specs.Form.{HasSlotProgram}
 use Rattle.c_locals.proofs.Exact.{one_read}
 use Rattle.c_parser.specs.Refusals.{is_outside, NoneUnsupported}
 use Rattle.c_front.specs.Accepted.{HasProgram, IsProgram}
@@ -37,11 +37,11 @@ leads_fewer (suc k) zero from to other a b p q stuck =
 leads_fewer (suc k) (suc l) from to other a b p q stuck =
     let once = begins_once from.fresh from.rest p.0 q.0 p.1 q.1 p.2 q.2 in
     let place : behind from q.0 q.1 ≡ behind from p.0 p.1 =
-        ap₂ (λ (n : ℕ) (x : Piece). behind from n x) (sym once.0) (sym once.1) in
+    ap₂ (λ (n : ℕ) (x : Piece). behind from n x) (sym once.0) (sym once.1) in
     let again : Leads l (behind from p.0 p.1) q.3 other = subst (λ (r : Reached). Leads l r q.3 other) place q.5 in
     let rest : length p.3 ≤ length q.3 = leads_fewer k l (behind from p.0 p.1) to other p.3 q.3 p.5 again stuck in
     let same : length (tokens_of p.1 from.at) ≡ length (tokens_of q.1 from.at) =
-        ap (λ (x : Piece). length (tokens_of x from.at)) once.1 in
+    ap (λ (x : Piece). length (tokens_of x from.at)) once.1 in
     omega (
       arith,
       ap length p.4,
@@ -83,13 +83,13 @@ tokens_fault tokens p Syntax at has fault = fault.1 has.height has.unit has.low 
 tokens_fault tokens p TooDeep at has fault = fault.1 has.height has.unit has.low has.tree
 tokens_fault tokens p (Unsupported keyword) at has (before, after, none, outside, same) =
     let inside : NoneUnsupported (before ++ word keyword at ∷ after) =
-        subst NoneUnsupported same (tree_inside tokens has.height has.unit has.tree) in
+    subst NoneUnsupported same (tree_inside tokens has.height has.unit has.tree) in
     false≢true (sym (first_outside before after keyword at inside) ∙ outside)
 tokens_fault tokens p NotYet at has (place, (height, unit, low, tree, inl many)) = let few = has.few in
     omega (arith, few, many)
 tokens_fault tokens p NotYet at has (place, (height, unit, low, tree, inr none)) =
-    none p (subst (λ (u : List ExternalTree). IsLocalsProgram u p)
-        (one_tree tokens has.height height has.unit unit has.tree tree).1 has.form)
+    none p (subst (λ (u : List ExternalTree). HasSlotProgram u p)
+    (one_tree tokens has.height height has.unit unit has.tree tree).1 has.form)
 tokens_fault tokens p kind at has fault = absurd fault
 
 -- ---- texts
@@ -98,16 +98,16 @@ tokens_fault tokens p kind at has fault = absurd fault
 pub one_program_text : (text : List ℕ) (p q : Program) → IsProgram text p → IsProgram text q → p ≡ q
 one_program_text text p q (a, lexed, has) (b, again, other) =
     let same : HasProgram a q = subst (λ (tokens : List Token). HasProgram tokens q)
-        (sym (one_list 0 text a b lexed again)) other in
+    (sym (one_list 0 text a b lexed again)) other in
     let unit : has.unit ≡ same.unit = (one_tree a has.height same.height has.unit same.unit has.tree same.tree).1 in
-    one_read same.unit p q (subst (λ (u : List ExternalTree). IsLocalsProgram u p) unit has.form) same.form
+    one_read same.unit p q (subst (λ (u : List ExternalTree). HasSlotProgram u p) unit has.form) same.form
 
 -- a program's text has none of these faults
 with_tokens : (text : List ℕ) (p : Program) (kind : FaultKind) (at : Span) → IsProgram text p
     → WithTokens text (λ tokens. IsTreeFault tokens kind at) → ⊥
 with_tokens text p kind at (a, lexed, has) (b, again, few, fault) =
     tokens_fault a p kind at has (subst (λ (tokens : List Token). IsTreeFault tokens kind at)
-        (sym (one_list 0 text a b lexed again)) fault)
+    (sym (one_list 0 text a b lexed again)) fault)
 
 -- a program's text has no lexical fault
 lexical : (text : List ℕ) (p : Program) (fault : Fault) → IsProgram text p → HasLexicalFault text fault → ⊥

@@ -26,7 +26,7 @@ use Rattle.c_tree.specs.Program.{Local, Statement, Statements, Program}
 use Rattle.c_locals.specs.Shapes.{only, Rule, Declares, Assigns, Puts, Returns, Other, value_rule, part_rule, item_rule}
 use Rattle.c_locals.specs.Shapes.{is_int, variable, assigns, is_plain, one_argument, puts, expression_rule, rule_of}
 use Rattle.c_locals.specs.Shapes.{block_items, main_items}
-use Rattle.c_locals.specs.Form.{int_local, IsItem, IsBody, IsLocalsProgram}
+use Rattle.c_locals.specs.Form.{int_local, IsItem, IsBody, HasSlotProgram}
 use Rattle.pcc_base.specs.Names.{IsDigit, IsNameByte, IsName}
 use Rattle.c_front.specs.Accepted.{IsProgram, IsNamed}
 
@@ -150,7 +150,7 @@ item_named : (i : ItemTree) (others : List Token) → AllByRecursion IsSpelled (
     → IsNamedRule (item_rule (Some i))
 item_named i others h =
     let declarator : AllByRecursion IsSpelled (declarator_tokens i.declarator) =
-        front (declarator_tokens i.declarator) _ (front (item_tokens i) others h) in
+    front (declarator_tokens i.declarator) _ (front (item_tokens i) others h) in
     let name : IsName i.declarator.name.name = (back (pointer_tokens i.declarator.pointer) _ declarator).0 in
     where_false (is_some i.declarator.pointer) (part_rule i.declarator.name.name i.declarator.part i.initialiser)
     (part_named i.declarator.name.name i.declarator.part i.initialiser name)
@@ -217,7 +217,7 @@ item_names names n Other after t h named all = absurd h
 -- all that a body declares are names
 body_names : (ss : Stmts) (names : List (List ℕ)) (n : ℕ) (all : List (List ℕ)) (body : Statements)
     → IsBody names n ss all body → AllByRecursion IsSpelled (stmts_tokens ss) → AllByRecursion IsName names
-        → AllByRecursion IsName all
+    → AllByRecursion IsName all
 body_names NoStmt names n all body h spelled named = absurd h
 body_names (OneStmt s ss) names n all body (inl h) spelled named = subst (AllByRecursion IsName) (sym h.3) named
 body_names (OneStmt s ss) names n all body (inr h) spelled named =
@@ -261,7 +261,7 @@ main_name : IsName (codes "main")
 main_name = name_of_word 109 (97 ∷ 105 ∷ 110 ∷ []) refl (refl, (refl, (refl, tt)))
 
 -- the names of a program of the form are those of its tokens
-unit_names : (unit : List ExternalTree) (p : Program) → IsLocalsProgram unit p
+unit_names : (unit : List ExternalTree) (p : Program) → HasSlotProgram unit p
     → AllByRecursion IsSpelled (unit_tokens unit)
     → AllByRecursion IsNamed p.functions
 unit_names unit p h spelled =
@@ -272,4 +272,4 @@ unit_names unit p h spelled =
 pub program_names : (text : List ℕ) (p : Program) → IsProgram text p → AllByRecursion IsNamed p.functions
 program_names text p (tokens, lexed, has) =
     unit_names has.unit p has.form (subst (AllByRecursion IsSpelled) has.tree.tokens_are
-        (leads_spelled lexed.0 (start_of 0 text) tokens lexed.1 lexed.2))
+    (leads_spelled lexed.0 (start_of 0 text) tokens lexed.1 lexed.2))

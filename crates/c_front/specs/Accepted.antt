@@ -6,18 +6,18 @@ use Rattle.c_lexer.specs.Tokens.{HasTokens}
 use Rattle.c_grammar.specs.Statements.{ExternalTree}
 use Rattle.c_grammar.specs.Grammar.{Tree}
 use Rattle.c_tree.specs.Program.{Local, Function, Program}
-use Rattle.c_locals.specs.Form.{IsLocalsProgram}
+use Rattle.c_locals.specs.Form.{HasSlotProgram}
 use Rattle.pcc_base.specs.Names.{IsName}
 
--- these tokens, of which there are at most 10,000, have a raw tree of height at most 256, which is of the form
--- with locals and has this program
+-- these tokens, of which there are at most 10,000, have a raw tree of height at most 256, which is that of
+-- a slot program, and this is the program
 pub record HasProgram (tokens : List Token) (program : Program) : Type 0 where
   pub few : length tokens ≤ 10000
   pub height : ℕ
   pub low : height ≤ 256
   pub unit : List ExternalTree
   pub tree : Tree tokens height unit
-  pub form : IsLocalsProgram unit program
+  pub form : HasSlotProgram unit program
 
 -- the text is a program's
 abbrev pub IsProgram : List ℕ → Program → Type 0

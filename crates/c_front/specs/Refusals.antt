@@ -13,7 +13,7 @@ use Rattle.c_lexer.specs.Tokens.{HasTokens, HasFault, BeginsWith}
 use Rattle.c_grammar.specs.Statements.{ExternalTree}
 use Rattle.c_grammar.specs.Grammar.{Tree}
 use Rattle.c_tree.specs.Program.{Program}
-use Rattle.c_locals.specs.Form.{IsLocalsProgram}
+use Rattle.c_locals.specs.Form.{HasSlotProgram}
 use Rattle.c_parser.specs.Refusals.{NoneUnsupported, FirstUnsupported, NoTree}
 
 -- more than 65,536 tokens stand before any lexical fault
@@ -28,11 +28,11 @@ HasLexicalFault text fault = (before : List Token) × HasFault 0 text before fau
 abbrev pub WithTokens : List ℕ → (List Token → Type 0) → Type 0
 WithTokens text P = (tokens : List Token) × HasTokens 0 text tokens × (length tokens ≤ 65536) × P tokens
 
--- the tokens have a raw tree of height at most 256, but are too many, or the tree is not of the form
+-- the tokens have a raw tree of height at most 256, but are too many, or the tree is of no slot program
 abbrev pub IsOtherForm : List Token → Type 0
 IsOtherForm tokens =
     (height : ℕ) × (unit : List ExternalTree) × (height ≤ 256) × Tree tokens height unit
-    × ((10000 < length tokens) ⊎ ((program : Program) → IsLocalsProgram unit program → ⊥))
+    × ((10000 < length tokens) ⊎ ((program : Program) → HasSlotProgram unit program → ⊥))
 
 -- the first line and column of the source
 abbrev pub first_place : Span

@@ -9,7 +9,7 @@ ghost use Rattle.c_front.specs.Accepted.{HasProgram, IsProgram, IsNamed};
 ghost use Rattle.c_front.specs.Refusals.{AreRefused, IsSourceRefused, IsOtherForm, IsTreeFault};
 
 use c_lexer::{Token, advance, lex};
-use c_locals::locals_program;
+use c_locals::slot_program;
 use c_parser::parse;
 use c_tree::Program;
 use pcc_base::{Fault, FaultKind, Refusal, Span};
@@ -45,7 +45,7 @@ fn program_of_tokens(alloc: Global, tokens: &Vec<Token>, end: Span) -> Result<Pr
     if FEW_TOKENS < tokens.len() {
         return Err(NOT_YET);
     }
-    match locals_program(alloc, &unit) {
+    match slot_program(alloc, &unit) {
         Ok(Some(program)) => Ok(program),
         Ok(None) => Err(NOT_YET),
         Err(_) => Err(Refusal::NoMemory),

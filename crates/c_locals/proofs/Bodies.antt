@@ -163,7 +163,7 @@ pub return_last : {xs : List Raw} {i : ℕ} {x : Raw} {ts : List Built} {n : ℕ
 return_last {xs} {i} {x} {ts} {n} {names} {all} a rule value t new same v h le pushed =
     let made : Statements → Option Body = λ (s : Statements). some_body names s in
     let none : stmts_of (map stmt_of (drop (i + 1) xs)) ≡ NoStmt =
-        ap (λ (ys : List Raw). stmts_of (map stmt_of ys)) (drop_all (i + 1) xs le) in
+    ap (λ (ys : List Raw). stmts_of (map stmt_of ys)) (drop_all (i + 1) xs le) in
     ap (λ (us : List Built). made (statements_of us)) pushed
     ∙ ap made (sym (appended_statements (ts ++ t ∷ []))
     ∙ ap (λ (us : List Statement). appended us Done) (map-push statement_of ts t)

@@ -9,7 +9,7 @@ use Rattle.c_tree.specs.Program.{int, Expression, Read, Binary, Assign, Putchar,
 use Rattle.c_tree.specs.Program.{Statement, Declare, Evaluate, Return, Statements, Done, Next, Program}
 use Rattle.c_locals.specs.Shapes.{Rule, Declares, Assigns, Puts, Returns, Other, rule_of, main_items}
 use Rattle.c_locals.specs.Form.{local_named, may_declare, sign_of, atoms, count, main_program, IsAtom, IsSum}
-use Rattle.c_locals.specs.Form.{IsShortSum, IsItem, IsLast, IsBody, IsLocalsProgram}
+use Rattle.c_locals.specs.Form.{IsShortSum, IsItem, IsLast, IsBody, HasSlotProgram}
 use Rattle.c_locals.specs.Reading.{read_local, read_atom, read_binary, read_sum, read_short, Item, some_item, some_body}
 use Rattle.c_locals.specs.Reading.{declared, assigned, put, read_item, returned, Body, ends, before, goes_on, read_rule}
 use Rattle.c_locals.specs.Reading.{read_body, program_from, read_items, read_unit}
@@ -116,8 +116,8 @@ item_begins : (names : List (List ℕ)) (n : ℕ) (rule : Rule) (ss : Stmts) (re
 item_begins names n rule ss rest b behind h =
     let t = goes_on_reads (read_item names n rule) rest b h in
     let others : IsBody t.0.names (suc n) ss b.names t.1.statements =
-        subst (λ (all : List (List ℕ)). IsBody t.0.names (suc n) ss all t.1.statements) (sym t.4)
-        (behind t.0.names t.1 t.3) in
+    subst (λ (all : List (List ℕ)). IsBody t.0.names (suc n) ss all t.1.statements) (sym t.4)
+    (behind t.0.names t.1 t.3) in
     inr (t.0.names, t.0.statement, t.1.statements, item_reads names n rule t.0 t.2, others, t.5)
 
 rule_begins : (names : List (List ℕ)) (n : ℕ) (rule : Rule) (ss : Stmts) (rest : List (List ℕ) → Option Body) (b : Body)
@@ -146,7 +146,7 @@ program_reads None p e = absurd (cc)
 program_reads (Some b) p e = (b, refl, cc)
 
 items_read : (unit : List ExternalTree) (o : Option Stmts) (p : Program) → main_items unit ≡ o → read_items o ≡ Some p
-    → IsLocalsProgram unit p
+    → HasSlotProgram unit p
 items_read unit None p m e = absurd (cc)
 items_read unit (Some items) p m e =
     let few = if_some (nat_lt (count items) 10001) (program_from (read_body [] 0 items)) p e in
@@ -154,7 +154,7 @@ items_read unit (Some items) p m e =
     (items, t.0.names, t.0.statements, m, few.0, body_reads items [] 0 t.0 t.1, t.2)
 
 -- a program that is read is the unit's
-pub unit_reads : (unit : List ExternalTree) (p : Program) → read_unit unit ≡ Some p → IsLocalsProgram unit p
+pub unit_reads : (unit : List ExternalTree) (p : Program) → read_unit unit ≡ Some p → HasSlotProgram unit p
 unit_reads unit p e = items_read unit (main_items unit) p refl e
 
 -- ---- what is of the form is read
@@ -217,7 +217,7 @@ goes_read names n Other ss rest i h = absurd (cc)
 
 last_read : (names : List (List ℕ)) (n : ℕ) (rule : Rule) (ss : Stmts) (rest : List (List ℕ) → Option Body)
     (t : Statement) → ss ≡ NoStmt → IsLast names n rule t → read_rule names n rule ss rest
-        ≡ some_body names (Next t Done)
+    ≡ some_body names (Next t Done)
 last_read names n (Returns value) ss rest t e h =
     ap (λ (q : Stmts). ends names q (returned n (read_short names value))) e
     ∙ ap (λ (o : Option Expression). ends names NoStmt (returned n o)) (short_read names value h.0 h.1)
@@ -239,16 +239,16 @@ body_read (OneStmt s ss) names n all body (inr h) =
     ∙ ap (before h.1) (body_read ss h.0 (suc n) all h.2 h.4) ∙ same_body all all body (Next h.1 h.2) refl h.5
 
 -- the unit's program is read
-pub unit_read : (unit : List ExternalTree) (p : Program) → IsLocalsProgram unit p → read_unit unit ≡ Some p
+pub unit_read : (unit : List ExternalTree) (p : Program) → HasSlotProgram unit p → read_unit unit ≡ Some p
 unit_read unit p h =
     ap read_items h.3
     ∙ if_true (nat_lt (count h.0) 10001) (program_from (read_body [] 0 h.0)) p h.4
     (ap program_from (body_read h.0 [] 0 h.1 h.2 h.5) ∙ ap Some (sym h.6))
 
 -- where nothing is read there is no program
-pub none_read : (unit : List ExternalTree) → read_unit unit ≡ None → (p : Program) → ¬ IsLocalsProgram unit p
+pub none_read : (unit : List ExternalTree) → read_unit unit ≡ None → (p : Program) → ¬ HasSlotProgram unit p
 none_read unit e p h = let f = unit_read unit p h in cc
 
 -- a unit is of one program at most
-pub one_read : (unit : List ExternalTree) (p q : Program) → IsLocalsProgram unit p → IsLocalsProgram unit q → p ≡ q
+pub one_read : (unit : List ExternalTree) (p q : Program) → HasSlotProgram unit p → HasSlotProgram unit q → p ≡ q
 one_read unit p q h k = let f = unit_read unit p h in let g = unit_read unit q k in cc

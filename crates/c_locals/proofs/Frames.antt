@@ -11,7 +11,7 @@ use Rattle.c_tree.specs.Program.{Expression, Statement, Statements, Function, Pr
 use Rattle.c_tree.specs.Sizes.{height, statement_height, statements_height, frame_bound}
 use Rattle.c_locals.specs.Shapes.{Rule, Declares, Assigns, Puts, Returns, Other, rule_of, is_reserved}
 use Rattle.c_locals.specs.Form.{local_named, IsAtom, IsSum, IsItem, IsLast, IsBody}
-use Rattle.c_locals.specs.Form.{IsLocalsProgram}
+use Rattle.c_locals.specs.Form.{HasSlotProgram}
 use Rattle.c_locals.proofs.Slots.{length-locals}
 
 -- an atom takes one temporary
@@ -103,10 +103,10 @@ body_names (OneStmt s ss) names n all body (inr h) few = body_names ss h.0 (suc 
     (item_names names n (rule_of s) h.0 h.1 h.3 few)
 
 -- the frame of the program's function is within its limit
-pub small_frames : (unit : List ExternalTree) (p : Program) → IsLocalsProgram unit p
+pub small_frames : (unit : List ExternalTree) (p : Program) → HasSlotProgram unit p
     → AllByRecursion (λ (f : Function). frame_bound f ≤ 16384) p.functions
 small_frames unit p h =
     let few : length h.1 ≤ 1000 = body_names h.0 [] 0 h.1 h.2 h.5 (omega arith) in
     let low : statements_height h.2 ≤ 4 = body_height h.0 [] 0 h.1 h.2 h.5 in
     subst (λ (q : Program). AllByRecursion (λ (f : Function). frame_bound f ≤ 16384) q.functions) (sym h.6)
-        (omega (arith, length-locals h.1), tt)
+    (omega (arith, length-locals h.1), tt)

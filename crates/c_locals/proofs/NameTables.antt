@@ -35,7 +35,7 @@ none_here p x xs true e ih le = absurd (let z : position_or_len p (x ∷ xs) ≡
     ap (λ b. cond (not b) (1 + position_or_len p xs) 0) e in omega (arith, le, z))
 none_here p x xs false e ih le =
     let s : position_or_len p (x ∷ xs) ≡ 1 + position_or_len p xs =
-        ap (λ b. cond (not b) (1 + position_or_len p xs) 0) e in
+    ap (λ b. cond (not b) (1 + position_or_len p xs) 0) e in
     ap (λ b. b || list_any p xs) e ∙ ih (omega (arith, le, s))
 
 none_passes : {X : Type 0} (p : X → Bool) (xs : List X) → length xs ≤ position_or_len p xs → list_any p xs ≡ false
@@ -68,12 +68,12 @@ pub inserted : {V : Type 0} (ks new : List V) (items : V → List ℕ) (k : V) (
     → local_named names name ≡ None → map items new ≡ names ++ name ∷ []
 inserted {V} ks new items k names name put e view none =
     let absent : position (λ (v : V). pointwise nat_eq name (items v)) ks ≡ None =
-        sym (position-map items (λ (n : List ℕ). pointwise nat_eq name n) ks)
-        ∙ ap (λ (ns : List (List ℕ)). local_named ns name) (sym view) ∙ none in
+    sym (position-map items (λ (n : List ℕ). pointwise nat_eq name n) ks)
+    ∙ ap (λ (ns : List (List ℕ)). local_named ns name) (sym view) ∙ none in
     let absent_key : position (λ (v : V). pointwise nat_eq (items k) (items v)) ks ≡ None =
-        ap (λ (n : List ℕ). position (λ (v : V). pointwise nat_eq n (items v)) ks) e ∙ absent in
+    ap (λ (n : List ℕ). position (λ (v : V). pointwise nat_eq n (items v)) ks) e ∙ absent in
     let pushed : new ≡ ks ++ k ∷ [] = put ∙ ap (λ b. if b then ks else ks ++ k ∷ [])
-        (none_found (λ (v : V). pointwise nat_eq (items k) (items v)) ks absent_key) in
+    (none_found (λ (v : V). pointwise nat_eq (items k) (items v)) ks absent_key) in
     ap (map items) pushed ∙ map-push items ks k ∙ ap (λ n. map items ks ++ n ∷ []) e
     ∙ ap (λ ns. ns ++ name ∷ []) (sym view)
 
@@ -86,8 +86,8 @@ one_more_local ks items i k ls new l lt at push same before =
     let t : take (i + 1) ks ≡ take i ks ++ k ∷ [] = take_more ks i k lt ∙ ap (λ x. take i ks ++ x ∷ []) (sym at) in
     let a : map local_of new ≡ map local_of ls ++ local_of l ∷ [] = ap (map local_of) push ∙ map-push local_of ls l in
     let b : map int_local (map items (take (i + 1) ks))
-        ≡ map int_local (map items (take i ks)) ++ int_local (items k) ∷ [] = ap (λ z. map int_local (map items z)) t
-        ∙ ap (map int_local) (map-push items (take i ks) k) ∙ map-push int_local (map items (take i ks)) (items k) in
+    ≡ map int_local (map items (take i ks)) ++ int_local (items k) ∷ [] = ap (λ z. map int_local (map items z)) t
+    ∙ ap (map int_local) (map-push items (take i ks) k) ∙ map-push int_local (map items (take i ks)) (items k) in
     a ∙ ap (λ z. z ++ local_of l ∷ []) before ∙ ap (λ z. map int_local (map items (take i ks)) ++ z ∷ []) same ∙ sym b
 
 -- the locals of all names

@@ -17,7 +17,7 @@ use Rattle.c_tree.specs.Sizes.{expression_size, statement_size, statements_size,
 use Rattle.c_locals.specs.Shapes.{only, Rule, Declares, Assigns, Puts, Returns, Other, value_rule}
 use Rattle.c_locals.specs.Shapes.{part_rule, item_rule, is_int, variable, assigns, is_plain, one_argument, puts}
 use Rattle.c_locals.specs.Shapes.{expression_rule, rule_of, block_items, main_items}
-use Rattle.c_locals.specs.Form.{IsAtom, IsSum, IsItem, IsLast, IsBody, IsLocalsProgram}
+use Rattle.c_locals.specs.Form.{IsAtom, IsSum, IsItem, IsLast, IsBody, HasSlotProgram}
 
 atom_size : (names : List (List ℕ)) (e : Expr) (x : Expression) → IsAtom names e x
     → expression_size x ≤ length (expr_tokens e)
@@ -65,7 +65,7 @@ value_length name (Function p) value = omega arith
 item_length : (i : ItemTree) → rule_length (item_rule (Some i)) ≤ length (item_tokens i)
 item_length i =
     let v : rule_length (part_rule i.declarator.name.name i.declarator.part i.initialiser)
-        ≤ length (value_tokens i.initialiser) = value_length i.declarator.name.name i.declarator.part i.initialiser in
+    ≤ length (value_tokens i.initialiser) = value_length i.declarator.name.name i.declarator.part i.initialiser in
     where_false (is_some i.declarator.pointer) (part_rule i.declarator.name.name i.declarator.part i.initialiser)
     (length (item_tokens i)) (omega (
       arith,
@@ -168,6 +168,6 @@ unit_length (DeclaredTree d ∷ []) items e = absurd (cc)
 unit_length (x ∷ (y ∷ ys)) items e = absurd (cc)
 
 -- the size of a unit's program is at most the number of its tokens
-pub program_size : (unit : List ExternalTree) (p : Program) → IsLocalsProgram unit p
+pub program_size : (unit : List ExternalTree) (p : Program) → HasSlotProgram unit p
     → size_of p ≤ length (unit_tokens unit)
 program_size unit p h = omega (arith, ap size_of h.6, body_size h.0 [] 0 h.1 h.2 h.5, unit_length unit h.0 h.3)

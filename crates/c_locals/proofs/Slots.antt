@@ -16,7 +16,7 @@ use Rattle.c_tree.specs.SlotForm as slots
 use Rattle.c_tree.specs.SlotForm.{IsSlotProgram}
 use Rattle.c_locals.specs.Shapes.{same, Rule, Declares, Assigns, Puts, Returns, Other, rule_of}
 use Rattle.c_locals.specs.Form.{local_named, sign_of, int_local, IsAtom, IsSum, IsItem}
-use Rattle.c_locals.specs.Form.{IsLast, IsBody, IsLocalsProgram}
+use Rattle.c_locals.specs.Form.{IsLast, IsBody, HasSlotProgram}
 
 local_within : (names : List (List ℕ)) (name : List ℕ) (v : ℕ) → local_named names name ≡ Some v → v < length names
 local_within names name v e = (position-Some (λ (n : List ℕ). same name n) names v [] e).0
@@ -40,8 +40,8 @@ slot_binary d o a b (inr e) f g = subst (λ (p : BinaryOp). slots.IsSum d (Binar
 slot_sum : (names : List (List ℕ)) (e : Expr) (x : Expression) → IsSum names e x → slots.IsSum (length names) x
 slot_sum names (trees.Binary op l at r) x h =
     subst (λ (y : Expression). slots.IsSum (length names) y) (sym h.6)
-        (slot_binary (length names) h.0 h.1 h.2 (two_signs op h.0 h.3) (slot_sum names l h.1 h.4)
-        (slot_atom names r h.2 h.5))
+    (slot_binary (length names) h.0 h.1 h.2 (two_signs op h.0 h.3) (slot_sum names l h.1 h.4)
+    (slot_atom names r h.2 h.5))
 slot_sum names e x h = slot_atom names e x h
 
 item_grows : (names : List (List ℕ)) (n : ℕ) (rule : Rule) (after : List (List ℕ)) (t : Statement)
@@ -68,19 +68,19 @@ slot_item : (names : List (List ℕ)) (n : ℕ) (rule : Rule) (after : List (Lis
 slot_item names n (Declares name value) after t all others h le rest =
     let grown : length after ≡ suc (length names) = omega (arith, ap length h.3, length-append names (name ∷ [])) in
     let behind : slots.IsBody all (suc (length names)) (suc n) others =
-        subst (λ (m : ℕ). slots.IsBody all m (suc n) others) grown rest in
+    subst (λ (m : ℕ). slots.IsBody all m (suc n) others) grown rest in
     subst (λ (u : Statement). slots.IsBody all (length names) n (Next u others)) (sym h.4)
-        (refl, refl, omega arith, slot_sum names value h.0 h.2.1, behind)
+    (refl, refl, omega arith, slot_sum names value h.0 h.2.1, behind)
 slot_item names n (Assigns name value) after t all others h le rest =
     let behind : slots.IsBody all (length names) (suc n) others =
-        subst (λ (m : List (List ℕ)). slots.IsBody all (length m) (suc n) others) h.4 rest in
+    subst (λ (m : List (List ℕ)). slots.IsBody all (length m) (suc n) others) h.4 rest in
     subst (λ (u : Statement). slots.IsBody all (length names) n (Next u others)) (sym h.5)
-        (refl, local_within names name h.0 h.2, slot_sum names value h.1 h.3.1, behind)
+    (refl, local_within names name h.0 h.2, slot_sum names value h.1 h.3.1, behind)
 slot_item names n (Puts value) after t all others h le rest =
     let behind : slots.IsBody all (length names) (suc n) others =
-        subst (λ (m : List (List ℕ)). slots.IsBody all (length m) (suc n) others) h.2 rest in
+    subst (λ (m : List (List ℕ)). slots.IsBody all (length m) (suc n) others) h.2 rest in
     subst (λ (u : Statement). slots.IsBody all (length names) n (Next u others)) (sym h.3)
-        (refl, slot_sum names value h.0 h.1.1, behind)
+    (refl, slot_sum names value h.0 h.1.1, behind)
 slot_item names n (Returns value) after t all others h le rest = absurd h
 slot_item names n Other after t all others h le rest = absurd h
 
@@ -99,8 +99,8 @@ slot_body : (ss : Stmts) (names : List (List ℕ)) (n : ℕ) (all : List (List �
 slot_body NoStmt names n all body h = absurd h
 slot_body (OneStmt s ss) names n all body (inl h) =
     let alone : slots.IsBody (length all) (length names) n (Next h.0 Done) =
-        subst (λ (m : List (List ℕ)). slots.IsBody (length m) (length names) n (Next h.0 Done)) (sym h.3)
-        (slot_last names n (rule_of s) h.0 h.2) in
+    subst (λ (m : List (List ℕ)). slots.IsBody (length m) (length names) n (Next h.0 Done)) (sym h.3)
+    (slot_last names n (rule_of s) h.0 h.2) in
     subst (λ (b : Statements). slots.IsBody (length all) (length names) n b) (sym h.4) alone
 slot_body (OneStmt s ss) names n all body (inr h) =
     subst (λ (b : Statements). slots.IsBody (length all) (length names) n b) (sym h.5)
@@ -116,9 +116,9 @@ length-locals [] = refl
 length-locals (name ∷ names) = ap suc (length-locals names)
 
 -- a unit's program of at most so many parts
-pub slot_program : (unit : List ExternalTree) (p : Program) → IsLocalsProgram unit p
+pub is_slot_program : (unit : List ExternalTree) (p : Program) → HasSlotProgram unit p
     → size_of p ≤ 65536 → IsSlotProgram p
-slot_program unit p h small =
+is_slot_program unit p h small =
     let Small : Program → Type 0 = λ (q : Program). size_of q ≤ 65536 → IsSlotProgram q in
     subst (λ (q : Program). size_of q ≤ 65536 → IsSlotProgram q) (sym h.6) (λ few. record {
       function = _;

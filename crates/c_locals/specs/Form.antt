@@ -1,4 +1,4 @@
--- The form of programs that is compiled next: one function `main` whose locals are of type `int`, each
+-- Slot programs, which are those that are compiled so far: one function `main` whose locals are of type `int`, each
 -- declared with its first value, assigned, written or returned; values are sums of names and numbers.
 --
 --   file : 'int' 'main' '(' 'void' ')' '{' item* 'return' sum ';' '}'
@@ -122,9 +122,9 @@ main_program names body = record {
   main = 0;
 }
 
--- The unit is of the form, and this is its program. No file of at most 10,000 tokens has more than 10,000
+-- The unit is a slot program, and this is its typed program. No file of at most 10,000 tokens has more than 10,000
 -- statements.
-abbrev pub IsLocalsProgram : List ExternalTree → Program → Type 0
-IsLocalsProgram unit program =
+abbrev pub HasSlotProgram : List ExternalTree → Program → Type 0
+HasSlotProgram unit program =
     (items : Stmts) × (names : List (List ℕ)) × (body : Statements) × (main_items unit ≡ Some items)
     × (nat_lt (count items) 10001 ≡ true) × IsBody [] 0 items names body × (program ≡ main_program names body)

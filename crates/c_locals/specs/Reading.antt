@@ -1,4 +1,4 @@
--- The one program that a unit of the form has, by a function.
+-- The one program that a unit has which is a slot program, by a function.
 use Rattle.std.specs.Prelude.{ℕ, suc, List, [], ◌∷◌, ◌++◌, length, Option, Some, None}
 use Rattle.std.specs.Prelude.{if◌then◌else◌, nat_lt}
 use Rattle.c_grammar.specs.Expressions as trees

@@ -1,4 +1,4 @@
--- Which rule of the form a raw tree is of, and the parts of it that the rule names.
+-- Which rule of slot programs a raw tree is of, and the parts of it that the rule names.
 use Rattle.std.specs.Prelude.{ℕ, List, [], ◌∷◌, Bool, true, false, ◌&&◌, ◌||◌, if◌then◌else◌, Option, Some, None}
 use Rattle.std.specs.Prelude.{nat_eq, codes, is_some, not}
 use Rattle.std.specs.Cmp.Lexicographic.{pointwise}
@@ -43,7 +43,7 @@ is_int specifiers = has_word is_int_word (only specifiers)
 abbrev pub is_void : List Specifier → Bool
 is_void specifiers = has_word is_void_word (only specifiers)
 
--- the rule of a statement of the form
+-- the rule of a statement of a slot program
 pub data Rule : Type 0 where
   -- 'int' name '=' value ';'
   Declares : (name : List ℕ) (value : Expr) → Rule

@@ -8,7 +8,7 @@ ghost use Rattle.c_tree.specs.Erased.{program_of};
 ghost use Rattle.c_tree.specs.Sizes.{frame_bound, size_of};
 ghost use Rattle.c_tree.specs.SlotForm.{IsSlotProgram};
 ghost use Rattle.c_tree.specs.Program.{Program as Typed};
-ghost use Rattle.c_locals.specs.Form.{IsLocalsProgram, main_program};
+ghost use Rattle.c_locals.specs.Form.{HasSlotProgram, main_program};
 ghost use Rattle.c_locals.specs.Reading.{read_items, read_unit};
 ghost use Rattle.c_locals.specs.Views.{body_view};
 
@@ -69,11 +69,11 @@ fn read_program(alloc: Global, unit: &RawUnit) -> Result<Option<Program>, NoMemo
     }
 }
 
-/// The program of a unit of the form, and None where the unit is of no program. The only refusal is want of
+/// The program of a unit that is a slot program, and else None. The only refusal is want of
 /// memory.
-pub fn locals_program(alloc: Global, unit: &RawUnit) -> Result<Option<Program>, NoMemory>
-    ensures found { IfOk result (λ o. IfSome o (λ p. IsLocalsProgram (unit_of unit.now) (program_of p))) }
-    ensures none { IfOk result (λ o. IfNone o ((p : Typed) → ¬ IsLocalsProgram (unit_of unit.now) p)) }
+pub fn slot_program(alloc: Global, unit: &RawUnit) -> Result<Option<Program>, NoMemory>
+    ensures found { IfOk result (λ o. IfSome o (λ p. HasSlotProgram (unit_of unit.now) (program_of p))) }
+    ensures none { IfOk result (λ o. IfNone o ((p : Typed) → ¬ HasSlotProgram (unit_of unit.now) p)) }
     ensures sized { IfOk result (λ o. IfSome o
         (λ p. size_of (program_of p) ≤ length (unit_tokens (unit_of unit.now)))) }
     ensures frames { IfOk result (λ o. IfSome o

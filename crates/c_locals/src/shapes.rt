@@ -1,4 +1,4 @@
-//! The rules of the form that trees are of, with the parts that the rules name.
+//! The rules of slot programs that trees are of, with the parts that the rules name.
 
 ghost use Rattle.std.specs.Prelude.{◌≡◌, option_copied, option_map, codes, map};
 ghost use Rattle.c_grammar.specs.Expressions.{expr_of, exprs_of};
@@ -14,7 +14,7 @@ use c_syntax::{
 };
 use pcc_base::Name;
 
-/// A statement of the form by its rule, or `Other`.
+/// A statement of a slot program by its rule, or `Other`.
 #[derive(Clone, Copy)]
 pub(crate) enum Rule<'a> {
     /// `'int' name '=' value ';'`
@@ -205,7 +205,7 @@ fn expression_rule(e: &Expression) -> Rule<'_>
     }
 }
 
-/// The rule of the form that a statement is of.
+/// The rule of slot programs that a statement is of.
 pub(crate) fn rule_of(s: &Statement) -> Rule<'_>
     ensures { rule_view result ≡ shapes.rule_of (stmt_of s.now) }
 {

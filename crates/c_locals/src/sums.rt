@@ -12,7 +12,7 @@ use c_tree::{BinaryOp, Expression, IntegerType, Place, ValueType};
 use pcc_base::NoMemory;
 use std::alloc::Global;
 
-/// The type of each value of the form.
+/// The type of each value of a slot program.
 pub(crate) const INT: ValueType = ValueType::Integer(IntegerType::Int);
 
 /// The most atoms of a sum.

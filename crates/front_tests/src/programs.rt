@@ -1,8 +1,8 @@
 //! `int main(void){int x=10;return SUM;}` for a few sums, with the exit status that C gives, or None where
-//! the file isn't of the form.
+//! the file is no slot program.
 
 use crate::trees::parsed;
-use c_locals::locals_program;
+use c_locals::slot_program;
 use c_tree::{BinaryOp, Expression, Program, Statement};
 use std::alloc::Global;
 use std::process::Abort;
@@ -31,7 +31,7 @@ fn returned(program: &Program) -> Option<i32> {
     }
 }
 
-/// `x * 2` and `y` are of no program of the form.
+/// `x * 2` and `y` are of no slot program.
 const SUMS: [(&str, Option<i32>); 4] = [
     ("int main(void){int x=10;return x-3-2;}", Some(5)),
     ("int main(void){int x=10;return x;}", Some(10)),
@@ -46,7 +46,7 @@ fn expect_sums(rt: &impl Abort, alloc: Global, rows: &[(&str, Option<i32>)]) -> 
             Some(Ok(unit)) => unit,
             Some(Err(_)) | None => return Err(Fail::new(source)),
         };
-        let found = match locals_program(alloc, &unit)? {
+        let found = match slot_program(alloc, &unit)? {
             Some(program) => returned(&program),
             None => None,
         };

@@ -4,6 +4,13 @@ use Rattle.c_grammar.specs.Statements.{unit_of}
 use Rattle.c_front.proofs.program.program_of_tokens.Goals as goal
 
 pub returns-in-Ok-None-clause-refused : goal.returns-in-Ok-None-clause-refused
-returns-in-Ok-None-clause-refused c = (refl,
-    (c.in_ok-unit.ensures.tree.0, unit_of c.in_ok-unit.unit, c.in_ok-unit.ensures.tree.1, c.in_ok-unit.ensures.tree.2,
-    inr (rw c.in-Ok-None.field-0-is at c.in-Ok-None.ensures.none)))
+returns-in-Ok-None-clause-refused c = (
+  refl,
+  (
+    c.in_ok-unit.ensures.tree.0,
+    unit_of c.in_ok-unit.unit,
+    c.in_ok-unit.ensures.tree.1,
+    c.in_ok-unit.ensures.tree.2,
+    inr (rw c.in-Ok-None.field-0-is at c.in-Ok-None.ensures.none),
+  ),
+)

@@ -1,6 +1,6 @@
 use Rattle.c_grammar.specs.Statements.{unit_of}
 use Rattle.c_locals.proofs.Answered.{found_program, no_program, sized_program, accepted_program, framed_program}
-use Rattle.c_locals.proofs.program.locals_program.Goals as goal
+use Rattle.c_locals.proofs.program.slot_program.Goals as goal
 
 pub returns-clause-found : goal.returns-clause-found
 returns-clause-found c = found_program c.read_program.result (unit_of c.args.unit.now) c.read_program.ensures
