@@ -83,11 +83,11 @@ const MAP: &[u8] = b"pcc map 1\n\
     var 2 2 -\n\
     point 1 0804803c mark 0\n\
     before\n\
-    point 5 08048053 mark 1\n\
+    point 5 08048051 mark 1\n\
     before 0=[ebp-20]\n\
-    point 10 08048073 mark 2\n\
+    point 10 0804806e mark 2\n\
     before 0=[ebp-20]\n\
-    point 13 08048087 mark 3\n\
+    point 13 08048081 mark 3\n\
     before 0=[ebp-20]\n\
     end\n";
 
