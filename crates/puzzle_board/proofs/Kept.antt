@@ -72,7 +72,7 @@ kept-length board free kept = ap length kept.left ∙ length-clear_all board.are
 -- ---- what stands
 
 -- a new piece stands nowhere
-standing_in-more :
+pub standing_in-more :
     (pieces : List Piece) (states : List State) (p : Piece) → length states ≡ length pieces
     → standing_in (pieces ++ p ∷ []) (states ++ Unplaced ∷ []) ≡ standing_in pieces states
 standing_in-more [] [] p same = refl
@@ -97,7 +97,7 @@ removed-removed pieces states p true = refl
 removed-removed pieces states p false = refl
 
 -- what stands where no piece of the variable does
-standing_in-removed :
+pub standing_in-removed :
     (pieces : List Piece) (states : List State) (v : ℕ)
     → AllByRecursion (λ s. s.piece.var ≢ v) (standing_in pieces states)
     → standing_in pieces (removed_in pieces states v) ≡ standing_in pieces states
@@ -111,7 +111,7 @@ standing_in-removed (p ∷ pieces) (At spot ∷ states) v others =
 standing_in-removed (p ∷ pieces) (Removed ∷ states) v others =
     removed-removed pieces (removed_in pieces states v) p (p.var == v) ∙ standing_in-removed pieces states v others
 
-standing_in-lifted : (pieces : List Piece) (states : List State) → standing_in pieces (map lifted states) ≡ []
+pub standing_in-lifted : (pieces : List Piece) (states : List State) → standing_in pieces (map lifted states) ≡ []
 standing_in-lifted [] states = refl
 standing_in-lifted (p ∷ pieces) [] = refl
 standing_in-lifted (p ∷ pieces) (Unplaced ∷ states) = standing_in-lifted pieces states

@@ -1,5 +1,5 @@
 ghost use Rattle.std.specs.Prelude.{◌≡◌, ◌≢◌, ◌<◌, ◌≤◌, ◌+◌, length, map, slice_get, Some, MatchOption, MatchResult, ⊤};
-ghost use Rattle.std.specs.Prelude.{◌&&◌};
+ghost use Rattle.std.specs.Prelude.{◌&&◌, []};
 ghost use Rattle.std.specs.List.{AllByRecursion};
 ghost use Rattle.puzzle_board.specs.Areas.{kind_of};
 ghost use Rattle.puzzle_board.specs.Boards.{IsAreaOf, IsBoard, IsPlaceable, IsUnplacedIn, IsUnplacedOf, area_count};
@@ -135,9 +135,10 @@ impl Board {
     /// Adds a piece, which is unplaced, and answers its number.
     pub fn add_piece(&mut self, piece: Piece) -> Result<u32, NoMemory>
         requires { length self.old.pieces < 4294967295 }
-        ensures { MatchResult result
+        ensures added { MatchResult result
             (λ number. (number ≡ length self.old.pieces) × (self.new ≡ with_piece self.old piece))
             (λ _. self.new ≡ self.old) }
+        ensures stands { standing self.new ≡ standing self.old }
     {
         self.pieces.reserve(1)?;
         self.states.reserve(1)?;
@@ -150,14 +151,16 @@ impl Board {
     /// Removes the variable's pieces from the puzzle. The numbers of the others stay.
     pub fn remove_var(&mut self, var: u32)
         requires { AllByRecursion (λ s. s.piece.var ≢ var) (standing self.old) }
-        ensures { self.new ≡ without_variable self.old var }
+        ensures removed { self.new ≡ without_variable self.old var }
+        ensures stands { standing self.new ≡ standing self.old }
     {
         remove_pieces(&self.pieces, &mut self.states, var);
     }
 
     /// Makes every piece unplaced that isn't removed.
     pub fn reset(&mut self)
-        ensures { self.new ≡ with_none_placed self.old }
+        ensures lifted { self.new ≡ with_none_placed self.old }
+        ensures stands { standing self.new ≡ [] }
     {
         lift_pieces(&mut self.states);
         self.free.copy_from_slice(&self.areas);

@@ -1,0 +1,10 @@
+//! Tests of the public calls of `puzzle_board` and `puzzle_solver`: rows worked by hand (`rows`), and every small board
+//! compared with a plain search (`search`).
+#![tactic(auto)]
+
+#[cfg(test)]
+mod rows;
+#[cfg(test)]
+mod search;
+#[cfg(test)]
+mod solving;
