@@ -264,7 +264,8 @@ pub stored_agree : {A B : Type 0} (e : Entity) (type : ObjectType) (a : A) (b : 
 stored_agree e type a b (Fits x ns) (Fits y ms) h = (
   tt,
   ap (λ z. Stores (record { entity = e; element = elements_of type; count = size_of type; contents = z }) ∷ ns)
-      h.0 ∙ ap (λ zs. Stores (record { entity = e; element = elements_of type; count = size_of type; contents = y }) ∷ zs)
+      h.0 ∙ ap (λ zs. Stores (record { entity = e; element = elements_of type; count = size_of type; contents = y })
+      ∷ zs)
       h.1,
 )
 stored_agree e type a b (Fits x ns) (Fails g gs) h = absurd h

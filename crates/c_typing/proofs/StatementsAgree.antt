@@ -83,7 +83,8 @@ labels_with m s before (trees.Case at e colon ∷ ls) gs hs h = (
   refl,
   refl,
   agree_if_fits Twins Same (typed_expression (renumbered m s) e) (typed_expression s e)
-      (λ x. case_value at (constant_value x)) (λ x. case_value at (constant_value x)) (typed_agree m s e) (case_same at),
+      (λ x. case_value at (constant_value x)) (λ x. case_value at (constant_value x)) (typed_agree m s e)
+      (case_same at),
   labels_with m s before ls gs hs h,
 )
 labels_with m s before (trees.Default at colon ∷ ls) gs hs h =

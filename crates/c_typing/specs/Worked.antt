@@ -3,16 +3,20 @@ use Rattle.std.specs.Prelude.{ℕ, ◌+◌, pos, List, [], ◌∷◌, codes, Opt
 use Rattle.pcc_base.specs.declared.span.Span.{Span}
 use Rattle.c_syntax.specs.declared.operator.AssignOp.TheVariants as asg
 use Rattle.c_syntax.specs.declared.operator.BinaryOp.TheVariants as ops
+use Rattle.c_syntax.specs.declared.operator.StepOp.TheVariants as steps
+use Rattle.c_syntax.specs.declared.operator.UnaryOp.TheVariants as ones
 use Rattle.c_syntax.specs.declared.operator.SpecifierWord.{SpecifierWord}
 use Rattle.c_syntax.specs.declared.operator.SpecifierWord.TheVariants as words
 use Rattle.c_syntax.specs.declared.expression.Identifier.{Identifier as Ident}
 use Rattle.c_syntax.specs.declared.expression.Specifier.{Specifier}
 use Rattle.c_syntax.specs.declared.expression.TextPiece.{TextPiece}
-use Rattle.c_grammar.specs.Expressions.{Star, Expr, Identifier, Number, Text, Call, Binary, Assignment, NoExpr, OneExpr}
+use Rattle.c_grammar.specs.Expressions.{Star, Expr, Identifier, Number, Text, Call, Index, Postfix, Unary}
+use Rattle.c_grammar.specs.Expressions.{Binary, Assignment, NoExpr, OneExpr}
 use Rattle.c_grammar.specs.Declarations.{ArrayTree, ParameterTree, ParametersTree, PartTree, Plain, Array, Function}
 use Rattle.c_grammar.specs.Declarations.{DeclaratorTree, InitialiserTree, Single, Braces, ValueTree, ItemTree}
 use Rattle.c_grammar.specs.Declarations.{DeclarationTree}
-use Rattle.c_grammar.specs.Statements.{Case, Declared, Labelled, Block, Simple, Switch, Return, Stmts, NoStmt, OneStmt}
+use Rattle.c_grammar.specs.Statements.{Case, Default, Declared, Labelled, Block, Simple, Switch, While, Break}
+use Rattle.c_grammar.specs.Statements.{Return, Stmts, NoStmt, OneStmt}
 use Rattle.c_grammar.specs.Statements.{ExternalTree, FunctionTree, DeclaredTree}
 
 -- a column of a file
@@ -202,6 +206,58 @@ two_faults =
     (main_at 0 1 32 (OneStmt (Simple (Some (Assignment asg.Assign (Number (pos 5) (at 0 16)) (at 0 17) (Number (pos
     7) (at 0 18)))) (at 0 19)) (OneStmt (Return (at 0 21) (Some (Assignment asg.Assign (Number (pos 3) (at 0 28))
     (at 0 29) (Number (pos 4) (at 0 30)))) (at 0 31)) NoStmt)) ∷ []) ∷ []
+
+-- `int f(char *p){while(*p) p++; return 1;} int main(void){char a[3]="ab"; switch(f(a)){case 1: break; default: return
+-- 0;} return f(0);}`
+abbrev pub pointer_and_switch : List (List ExternalTree)
+pointer_and_switch =
+    (FunctionTree (word words.Int 0 1 ∷ []) (declarator None (named (codes "f") 0 5) (Function (parameters (at 0 6)
+    (parameter (word words.Char 0 7 ∷ []) (Some (star (at 0 12))) (Some (named (codes "p") 0 13)) ∷ []) (at 0 14))))
+    (Block (at 0 15) (OneStmt (While (at 0 16) (at 0 21) (Unary ones.Dereference (at 0 22) (Identifier (named (codes
+    "p") 0 23))) (at 0 24) (Simple (Some (Postfix (Identifier (named (codes "p") 0 26)) steps.Increment (at 0 27)))
+    (at 0 29))) (OneStmt (Return (at 0 31) (Some (Number (pos 1) (at 0 38))) (at 0 39)) NoStmt)) (at 0 40)) ∷
+    main_at 0 42 133 (OneStmt (Declared (declaration (word words.Char 0 57 ∷ []) (item (declarator None (named
+    (codes "a") 0 62) (Array (array (at 0 63) (Some (Number (pos 3) (at 0 64))) (at 0 65)))) (Some (given (at 0 66)
+    (Single (Text (piece (codes "ab") 0 67 ∷ [])))))) (at 0 71))) (OneStmt (Switch (at 0 73) (at 0 79) (Call (named
+    (codes "f") 0 80) (at 0 81) (OneExpr (Identifier (named (codes "a") 0 82)) NoExpr) [] (at 0 83)) (at 0 84) (at 0
+    85) (OneStmt (Labelled ((Case (at 0 86) (Number (pos 1) (at 0 91)) (at 0 92)) ∷ []) (Break (at 0 94) (at 0 99)))
+    (OneStmt (Labelled ((Default (at 0 101) (at 0 108)) ∷ []) (Return (at 0 110) (Some (Number (pos 0) (at 0 117)))
+    (at 0 118))) NoStmt)) (at 0 119)) (OneStmt (Return (at 0 121) (Some (Call (named (codes "f") 0 128) (at 0 129)
+    (OneExpr (Number (pos 0) (at 0 130)) NoExpr) [] (at 0 131))) (at 0 132)) NoStmt))) ∷ []) ∷ []
+
+-- `int main(void){char a[1]={200}; return a[0]<0;}`
+abbrev pub char_from_200 : List (List ExternalTree)
+char_from_200 =
+    (main_at 0 1 47 (OneStmt (Declared (declaration (word words.Char 0 16 ∷ []) (item (declarator None (named (codes
+    "a") 0 21) (Array (array (at 0 22) (Some (Number (pos 1) (at 0 23))) (at 0 24)))) (Some (given (at 0 25) (Braces
+    (at 0 26) (OneExpr (Number (pos 200) (at 0 27)) NoExpr) [] None (at 0 30))))) (at 0 31))) (OneStmt (Return (at 0
+    33) (Some (Binary ops.Less (Index (Identifier (named (codes "a") 0 40)) (at 0 41) (Number (pos 0) (at 0 42)) (at
+    0 43)) (at 0 44) (Number (pos 0) (at 0 45)))) (at 0 46)) NoStmt)) ∷ []) ∷ []
+
+-- the files `extern int x; char s[]="hi"; extern int unused; int f(void){static short k=7; return x;}` and `short
+-- z[3]={1,2}; int x=5; static int y; int f(void); int main(void){return f()+y;}`
+abbrev pub objects_in_files : List (List ExternalTree)
+objects_in_files =
+    (DeclaredTree (declaration (word words.Extern 0 1 ∷ word words.Int 0 8 ∷ []) (item (declarator None (named
+    (codes "x") 0 12) Plain) None) (at 0 13)) ∷ DeclaredTree (declaration (word words.Char 0 15 ∷ []) (item
+    (declarator None (named (codes "s") 0 20) (Array (array (at 0 21) None (at 0 22)))) (Some (given (at 0 23)
+    (Single (Text (piece (codes "hi") 0 24 ∷ [])))))) (at 0 28)) ∷ DeclaredTree (declaration (word words.Extern 0 30
+    ∷ word words.Int 0 37 ∷ []) (item (declarator None (named (codes "unused") 0 41) Plain) None) (at 0 47)) ∷
+    FunctionTree (word words.Int 0 49 ∷ []) (declarator None (named (codes "f") 0 53) (Function (parameters (at 0
+    54) (parameter (word words.Void 0 55 ∷ []) None None ∷ []) (at 0 59)))) (Block (at 0 60) (OneStmt (Declared
+    (declaration (word words.Static 0 61 ∷ word words.Short 0 68 ∷ []) (item (declarator None (named (codes "k") 0
+    74) Plain) (Some (given (at 0 75) (Single (Number (pos 7) (at 0 76)))))) (at 0 77))) (OneStmt (Return (at 0 79)
+    (Some (Identifier (named (codes "x") 0 86))) (at 0 87)) NoStmt)) (at 0 88)) ∷ []) ∷ (DeclaredTree (declaration
+    (word words.Short 1 1 ∷ []) (item (declarator None (named (codes "z") 1 7) (Array (array (at 1 8) (Some (Number
+    (pos 3) (at 1 9))) (at 1 10)))) (Some (given (at 1 11) (Braces (at 1 12) (OneExpr (Number (pos 1) (at 1 13))
+    (OneExpr (Number (pos 2) (at 1 15)) NoExpr)) (at 1 14 ∷ []) None (at 1 16))))) (at 1 17)) ∷ DeclaredTree
+    (declaration (word words.Int 1 19 ∷ []) (item (declarator None (named (codes "x") 1 23) Plain) (Some (given (at
+    1 24) (Single (Number (pos 5) (at 1 25)))))) (at 1 26)) ∷ DeclaredTree (declaration (word words.Static 1 28 ∷
+    word words.Int 1 35 ∷ []) (item (declarator None (named (codes "y") 1 39) Plain) None) (at 1 40)) ∷ DeclaredTree
+    (declaration (word words.Int 1 42 ∷ []) (item (declarator None (named (codes "f") 1 46) (Function (parameters
+    (at 1 47) (parameter (word words.Void 1 48 ∷ []) None None ∷ []) (at 1 52)))) None) (at 1 53)) ∷ main_at 1 55 83
+    (OneStmt (Return (at 1 70) (Some (Binary ops.Add (Call (named (codes "f") 1 77) (at 1 78) NoExpr [] (at 1 79))
+    (at 1 80) (Identifier (named (codes "y") 1 81)))) (at 1 82)) NoStmt) ∷ []) ∷ []
 
 -- `int main(void){char a[16221]; return 0;}`
 abbrev pub large_frame : List (List ExternalTree)

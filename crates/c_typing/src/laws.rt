@@ -3,14 +3,16 @@
 ghost use Rattle.std.specs.Prelude.{◌≡◌, [], ◌∷◌, pos, Some, None};
 ghost use Rattle.pcc_base.specs.declared.fault.FaultKind.TheVariants as kinds;
 ghost use Rattle.pcc_base.specs.declared.refusal.Limit.TheVariants.{Frame};
-ghost use Rattle.c_tree.specs.declared.types.IntegerType.TheVariants.{Int, Char};
+ghost use Rattle.c_tree.specs.declared.types.IntegerType.TheVariants.{Int, Char, Short};
+ghost use Rattle.c_tree.specs.Worked.{converts_200, two_functions};
 ghost use Rattle.c_typing.specs.Faults.{fault};
 ghost use Rattle.c_typing.specs.Laws.{LeastIsLeast, LeastOfBoth, NumbersChangeNothing};
 ghost use Rattle.c_typing.specs.Laws.{OneTypedProgram, TypedWithoutFault};
-ghost use Rattle.c_typing.specs.Typed.{fault_of, limit_found, objects_found};
+ghost use Rattle.c_typing.specs.Typed.{elaborated, fault_of, limit_found, objects_found};
 ghost use Rattle.c_typing.specs.Worked.{
   at,
   case_twice,
+  char_from_200,
   declared_again,
   defined_twice,
   extern_inside,
@@ -21,6 +23,8 @@ ghost use Rattle.c_typing.specs.Worked.{
   no_value,
   nothing,
   null_constant,
+  objects_in_files,
+  pointer_and_switch,
   shadows,
   short_cut,
   static_apart,
@@ -57,6 +61,22 @@ pub fn worked_programs()
     ensures null { fault_of null_constant (at 0 41) ≡ None }
     ensures constant { objects_found short_cut ≡ record { element = Int; elements = pos 1 ∷ [] } ∷ [] }
     ensures frame { limit_found large_frame ≡ Some (Frame 0 16388) }
+{}
+
+/// The typed programs of small files are those that a reader writes by hand: a pointer parameter, a loop, a text that
+/// initialises an array, a switch and a null constant; and a value that is converted to `char`. Static objects are numbered
+/// by their first places in the text, over all files: an `extern` object by the place that declares it first, a string
+/// literal behind the array that it initialises, and one that is never defined not at all.
+pub fn worked_trees()
+    ensures switch { elaborated pointer_and_switch ≡ Some (two_functions 1) }
+    ensures converts { elaborated char_from_200 ≡ Some converts_200 }
+    ensures objects { objects_found objects_in_files
+        ≡ record { element = Int; elements = pos 5 ∷ [] }
+        ∷ record { element = Char; elements = pos 104 ∷ pos 105 ∷ pos 0 ∷ [] }
+        ∷ record { element = Char; elements = pos 104 ∷ pos 105 ∷ pos 0 ∷ [] }
+        ∷ record { element = Short; elements = pos 7 ∷ [] }
+        ∷ record { element = Short; elements = pos 1 ∷ pos 2 ∷ pos 0 ∷ [] }
+        ∷ record { element = Int; elements = pos 0 ∷ [] } ∷ [] }
 {}
 
 /// The least of faults is one of them, and none precedes it; the least of two lists is the earlier one of the least of
