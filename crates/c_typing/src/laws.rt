@@ -63,10 +63,10 @@ pub fn worked_programs()
     ensures frame { limit_found large_frame ≡ Some (Frame 0 16388) }
 {}
 
-/// The typed programs of small files are those that a reader writes by hand: a pointer parameter, a loop, a text that
-/// initialises an array, a switch and a null constant; and a value that is converted to `char`. Static objects are numbered
-/// by their first places in the text, over all files: an `extern` object by the place that declares it first, a string
-/// literal behind the array that it initialises, and one that is never defined not at all.
+/// The typed programs of small files are those that a reader writes by hand: a pointer parameter, a loop, a text
+/// that initialises an array, a switch and a null constant; and a value that is converted to `char`. Static objects
+/// are numbered by their first places in the text, over all files: an `extern` object by the place that declares it
+/// first, a string literal behind the array that it initialises, and one that is never defined not at all.
 pub fn worked_trees()
     ensures switch { elaborated pointer_and_switch ≡ Some (two_functions 1) }
     ensures converts { elaborated char_from_200 ≡ Some converts_200 }
