@@ -39,14 +39,14 @@ first-has : (x : ℕ) (blocks : List (List ℕ)) (b : ℕ) → IsIn x (get_or bl
 first-has x [] b h = absurd h
 first-has x (ps ∷ blocks) zero h =
     (elim (has_point x ps) as (λ v. has_point x ps ≡ v
-        → IsIn x (get_or (ps ∷ blocks) (cond (not v) (1 + position_or_len (has_point x) blocks) 0) [])) [
+    → IsIn x (get_or (ps ∷ blocks) (cond (not v) (1 + position_or_len (has_point x) blocks) 0) [])) [
       | true ↦ λ e. tells-in x ps e
       | false ↦ λ e. absurd (true-false (sym (in-tells x ps h) ∙ e))
     ]) refl
 first-has x (ps ∷ blocks) (suc b) h =
     let step : 1 + position_or_len (has_point x) blocks ≡ suc (position_or_len (has_point x) blocks) = omega arith in
     (elim (has_point x ps) as (λ v. has_point x ps ≡ v
-        → IsIn x (get_or (ps ∷ blocks) (cond (not v) (1 + position_or_len (has_point x) blocks) 0) [])) [
+    → IsIn x (get_or (ps ∷ blocks) (cond (not v) (1 + position_or_len (has_point x) blocks) 0) [])) [
       | true ↦ λ e. tells-in x ps e
       | false ↦ λ e. rw step (first-has x blocks b h)
     ]) refl
@@ -59,8 +59,8 @@ block-has f p s = first-has p f.blocks s.0 s.1
 pub one_block : OneBlock
 one_block flow homes is point block stands =
     same_Some (block_of flow point) block (sym
-        (home flow homes point (block_of flow point) is (block-has flow point (block, stands)))
-        ∙ home flow homes point block is stands)
+    (home flow homes point (block_of flow point) is (block-has flow point (block, stands)))
+    ∙ home flow homes point block is stands)
 
 pub next_in_block : NextInBlock
 next_in_block flow homes is point block stands =

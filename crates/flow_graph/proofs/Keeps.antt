@@ -5,13 +5,13 @@ use Rattle.std.proofs.Common.{Some, refl, sym, subst, arith, length-append, get_
 use Rattle.std.proofs.Math.ListN.{set, length-set}
 use Rattle.std.specs.List.{AllByRecursion, slice_get}
 use Rattle.std.proofs.lemmas.Bool.{cases_eq}
-use Rattle.std.proofs.lemmas.Option.{slice_get_within, get_or_from_slice_get}
+use Rattle.std.proofs.lemmas.Option.{slice_get_within}
 use Rattle.pcc_base.specs.declared.run.Width.{Width}
 use Rattle.flow_graph.specs.declared.op.Op.{Op}
 use Rattle.flow_graph.specs.Graphs.{Flow, IsIn, FitsOp, HasFittingOp, NumbersFit, IsPlainAt, IsEnded, IsArray, IsBlock}
 use Rattle.flow_graph.specs.Graphs.{IsFlow, IsPlaced, Stands, points_of, insert_after, is_end, with_variable}
 use Rattle.flow_graph.specs.Graphs.{with_array, with_block, with_points, with_op, with_op_after, without}
-use Rattle.flow_graph.specs.Graphs.{without_point_of}
+use Rattle.flow_graph.specs.Graphs.{empty_flow, without_point_of}
 use Rattle.flow_graph.proofs.Points.{every-map, every-push, every-insert, every-without, every-in, distinct-push}
 use Rattle.flow_graph.proofs.Points.{distinct-insert, distinct-without, all_plain, ends-push, ends-insert, ends-without}
 use Rattle.flow_graph.proofs.Growth.{Grows, keeps-append, keeps-same, slice_get-last, fits_op-grows, plain-grows}
@@ -34,12 +34,27 @@ get_or-empty [] (suc b) = refl
 get_or-empty (x ∷ xs) zero = refl
 get_or-empty (x ∷ xs) (suc b) = get_or-empty xs b
 
+-- the graph that nothing was added to
+pub flow-empty : IsFlow empty_flow []
+flow-empty = record {
+  one_home = refl;
+  each_block = λ b. subst (λ (ps : List ℕ). IsBlock empty_flow [] b ps) (get_or-empty [] b)
+      (record { at_home = tt; fits = tt; once = tt; ends = tt });
+  arrays_fit = tt;
+  few_elements = tt;
+  numbers = tt;
+  few_variables = omega arith;
+  few_arrays = omega arith;
+  few_blocks = omega arith;
+  few_points = omega arith;
+}
+
 -- one element more
-length-push : {X : Type 0} (xs : List X) (x : X) → length (xs ++ x ∷ []) ≡ length xs + 1
+pub length-push : {X : Type 0} (xs : List X) (x : X) → length (xs ++ x ∷ []) ≡ length xs + 1
 length-push xs x = omega (arith, length-append xs (x ∷ []))
 
 -- a block that has a point is there
-has_block : (blocks : List (List ℕ)) (b p : ℕ) → IsIn p (get_or blocks b []) → b < length blocks
+pub has_block : (blocks : List (List ℕ)) (b p : ℕ) → IsIn p (get_or blocks b []) → b < length blocks
 has_block [] b p h = absurd h
 has_block (x ∷ xs) zero p h = omega arith
 has_block (x ∷ xs) (suc b) p h = omega (arith, has_block xs b p h)
@@ -49,8 +64,13 @@ pub flow-variable : (f : Flow) (homes : List ℕ) (w : Width) → IsFlow f homes
     → IsFlow (with_variable f w) homes
 flow-variable f homes w i h =
     let grows : Grows f (with_variable f w) =
-        record { widths = keeps-append f.widths (w ∷ []); arrays = omega arith; blocks = omega arith; ops =
-        keeps-same f.ops } in
+    record {
+      widths = keeps-append f.widths (w ∷ []);
+      arrays = omega arith;
+      blocks = omega arith;
+      ops =
+          keeps-same f.ops;
+    } in
     record {
       one_home = i.one_home;
       each_block = λ b. block-grows f (with_variable f w) homes homes grows (keeps-same homes) b
@@ -71,7 +91,7 @@ pub flow-array : (f : Flow) (homes : List ℕ) (w n : ℕ) → IsFlow f homes �
 flow-array f homes w n i fit few h =
     let more = length-push f.arrays (w, n) in
     let grows : Grows f (with_array f w n) = record
-        { widths = keeps-same f.widths; arrays = omega (arith, more); blocks = omega arith; ops = keeps-same f.ops } in
+    { widths = keeps-same f.widths; arrays = omega (arith, more); blocks = omega arith; ops = keeps-same f.ops } in
     record {
       one_home = i.one_home;
       each_block = λ b. block-grows f (with_array f w n) homes homes grows (keeps-same homes) b
@@ -91,7 +111,7 @@ pub flow-block : (f : Flow) (homes : List ℕ) → IsFlow f homes → length f.b
 flow-block f homes i h =
     let more : length (f.blocks ++ [] ∷ []) ≡ length f.blocks + 1 = length-push f.blocks [] in
     let grows : Grows f (with_block f) = record
-        { widths = keeps-same f.widths; arrays = omega arith; blocks = omega (arith, more); ops = keeps-same f.ops } in
+    { widths = keeps-same f.widths; arrays = omega arith; blocks = omega (arith, more); ops = keeps-same f.ops } in
     record {
       one_home = i.one_home;
       each_block = λ b. subst (λ (ps : List ℕ). IsBlock (with_block f) homes b ps) (get_or-empty f.blocks b)
@@ -140,7 +160,7 @@ flow-points f homes b ps op i h room word w =
 fresh : (f : Flow) (ps : List ℕ) → AllByRecursion (HasFittingOp f) ps → AllByRecursion (λ q. q ≢ length f.ops) ps
 fresh f ps h =
     every-map (HasFittingOp f) (λ q. q ≢ length f.ops)
-        (λ q m e. let below = slice_get_within f.ops q m.0 m.1 in absurd (omega (arith, below, e))) ps h
+    (λ q m e. let below = slice_get_within f.ops q m.0 m.1 in absurd (omega (arith, below, e))) ps h
 
 -- the new point is at home
 new_home : (f : Flow) (homes : List ℕ) (b : ℕ) → IsFlow f homes → slice_get (homes ++ b ∷ []) (length f.ops) ≡ Some b
@@ -149,7 +169,7 @@ new_home f homes b i = subst (λ (n : ℕ). slice_get (homes ++ b ∷ []) n ≡ 
 -- with a new point at the end of a block
 pub flow-append : (f : Flow) (homes : List ℕ) (b : ℕ) (op : Op) → IsFlow f homes → b < length f.blocks
     → length f.ops < 4294967295 → (IsEnded f b → ⊥) → FitsOp f op → NumbersFit op
-        → IsFlow (with_op f b op) (homes ++ b ∷ [])
+    → IsFlow (with_op f b op) (homes ++ b ∷ [])
 flow-append f homes b op i h room open_block fit word =
     let ps : List ℕ = points_of f b in
     let x : ℕ = length f.ops in
@@ -158,7 +178,7 @@ flow-append f homes b op i h room open_block fit word =
     let grows : Grows f g = points-grow f b qs op in
     let old : IsBlock f homes b ps = i.each_block b in
     let grown : IsBlock g (homes ++ b ∷ []) b ps =
-        block-grows f g homes (homes ++ b ∷ []) grows (keeps-append homes (b ∷ [])) b ps old in
+    block-grows f g homes (homes ++ b ∷ []) grows (keeps-append homes (b ∷ [])) b ps old in
     flow-points f homes b qs op i h room word (record {
       at_home = every-push (λ p. slice_get (homes ++ b ∷ []) p ≡ Some b) ps x grown.at_home (new_home f homes b i);
       fits = every-push (HasFittingOp g) ps x grown.fits (op, slice_get-last f.ops op, fits_op-grows f g grows op fit);
@@ -181,7 +201,7 @@ flow-insert f homes b point op i h room plain no_end fit word =
     let grows : Grows f g = points-grow f b qs op in
     let old : IsBlock f homes b ps = i.each_block b in
     let grown : IsBlock g (homes ++ b ∷ []) b ps =
-        block-grows f g homes (homes ++ b ∷ []) grows (keeps-append homes (b ∷ [])) b ps old in
+    block-grows f g homes (homes ++ b ∷ []) grows (keeps-append homes (b ∷ [])) b ps old in
     flow-points f homes b qs op i h room word (record {
       at_home = every-insert (λ p. slice_get (homes ++ b ∷ []) p ≡ Some b) point x ps grown.at_home
           (new_home f homes b i);
@@ -205,8 +225,13 @@ flow-remove f homes b point i h =
     let ps : List ℕ = points_of f b in
     let qs : List ℕ = without point ps in
     let g : Flow = without_point_of f b point in
-    let grows : Grows f g = record { widths = keeps-same f.widths; arrays = omega arith; blocks =
-        omega (arith, length-set f.blocks b qs); ops = keeps-same f.ops } in
+    let grows : Grows f g = record {
+      widths = keeps-same f.widths;
+      arrays = omega arith;
+      blocks =
+          omega (arith, length-set f.blocks b qs);
+      ops = keeps-same f.ops;
+    } in
     let grown : IsBlock g homes b ps = block-grows f g homes homes grows (keeps-same homes) b ps (i.each_block b) in
     let left : IsBlock g homes b qs = record {
       at_home = every-without (λ p. slice_get homes p ≡ Some b) point ps grown.at_home;
@@ -230,29 +255,6 @@ flow-remove f homes b point i h =
 -- the home of a point of a block is that block
 pub home : (f : Flow) (homes : List ℕ) (p b : ℕ) → IsFlow f homes → Stands f p b → slice_get homes p ≡ Some b
 home f homes p b i s = every-in (λ q. slice_get homes q ≡ Some b) p (points_of f b) (i.each_block b).at_home s
-
--- a point of a block has a home
-pub home-within : (v f : Flow) (homes : List ℕ) (p : ℕ) → v ≡ f → IsFlow v homes → IsPlaced f p → p < length homes
-home-within v f homes p e i s =
-    let t : IsPlaced v p = subst (λ (g : Flow). IsPlaced g p) (sym e) s in
-    slice_get_within homes p t.0 (home v homes p t.0 i t.1)
-
--- the home that is read of a point of a block is that block
-pub home-is : (v f : Flow) (homes : List ℕ) (p b h : ℕ) → v ≡ f → IsFlow v homes → Stands f p b
-    → h ≡ get_or homes p h → h ≡ b
-home-is v f homes p b h e i s r =
-    let t : Stands v p b = subst (λ (g : Flow). Stands g p b) (sym e) s in
-    let at : get_or homes p h ≡ b = get_or_from_slice_get homes p b h (home v homes p b i t) in
-    cc
-
--- the home that is read of a point is a block of the graph
-pub home-block : (v f : Flow) (homes : List ℕ) (p h : ℕ) → v ≡ f → IsFlow v homes → IsPlaced f p
-    → h ≡ get_or homes p h → h < length v.blocks
-home-block v f homes p h e i s r =
-    let same = home-is v f homes p s.0 h e i s.1 r in
-    let t : Stands v p s.0 = subst (λ (g : Flow). Stands g p s.0) (sym e) s.1 in
-    let within = has_block v.blocks s.0 p t in
-    omega (arith, same, within)
 
 -- a point of a block has an op
 pub has_op : (v f : Flow) (homes : List ℕ) (p : ℕ) → v ≡ f → IsFlow v homes → IsPlaced f p → p < length v.ops

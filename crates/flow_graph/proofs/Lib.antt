@@ -4,4 +4,5 @@ pub mod Growth
 pub mod Keeps
 pub mod LivePaths
 pub mod OneRun
+pub mod Parted
 pub mod Points

@@ -49,7 +49,7 @@ pub one_outcome : OneOutcome
 one_outcome program listing input turns a b (s, first, k, run) (t, other, j, run') =
     let same : t ≡ s = same_Some t s (sym other ∙ first) in
     runs-agree program listing k j turns s a b run
-        (subst (λ (u : State). run_within program listing j turns u ≡ Some b) same run')
+    (subst (λ (u : State). run_within program listing j turns u ≡ Some b) same run')
 
 pub one_state : OneState
 one_state program input k a b (s, first, run) (t, other, run') =
@@ -76,7 +76,7 @@ none-from Stuck s t after go e h = absurd (none-some t e)
 -- a run that comes to a stuck state has no outcome in more turns than steps
 stuck-none : (program : GraphProgram) (listing : Listing) (k j turns : ℕ) (s t : State)
     → state_after program k s ≡ Some t → step program t ≡ Stuck → k < turns → run_within program listing j turns s
-        ≡ None
+    ≡ None
 stuck-none program listing k zero turns s t after stuck more = refl
 stuck-none program listing zero (suc j) turns s t after stuck more =
     let same : s ≡ t = same_Some s t after in
@@ -93,7 +93,7 @@ never_stuck program listing outcomes input k t (s, first, after) stuck =
     let (o, (u, other, j, run)) = outcomes input (k + 1) in
     let same : u ≡ s = same_Some u s (sym other ∙ first) in
     let run' : run_within program listing j (k + 1) s ≡ Some o =
-        subst (λ (v : State). run_within program listing j (k + 1) v ≡ Some o) same run in
+    subst (λ (v : State). run_within program listing j (k + 1) v ≡ Some o) same run in
     let none : run_within program listing j (k + 1) s ≡ None =
-        stuck-none program listing k j (k + 1) s t after stuck (omega arith) in
+    stuck-none program listing k j (k + 1) s t after stuck (omega arith) in
     absurd (none-some o (sym none ∙ run'))

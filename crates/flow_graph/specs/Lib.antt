@@ -3,6 +3,7 @@ pub mod Kinds
 pub mod Liveness
 pub mod Lives
 pub mod Meaning
+pub mod Ordered
 pub mod Running
 pub mod Sizes
 pub mod SlotGraphs

@@ -3,54 +3,32 @@ ghost use Rattle.flow_graph.specs.Graphs.{empty_flow, with_variable, with_array,
 ghost use Rattle.flow_graph.specs.Graphs.{without_point, FitsOp, IsEnded, IsPlaced, IsPlainAt, IsFlow, is_end};
 ghost use Rattle.flow_graph.specs.Graphs.{next_in, points_of};
 
-use crate::block::Block;
 use crate::op::Op;
+use crate::order;
+use index_lists::IndexLists;
 use pcc_base::{NoMemory, Width};
 use std::alloc::Global;
-use std::marker::Model;
+use std::marker::{Brand, Model};
+use std::sync::ledger::Blank;
 
 /// The three-address graph of one function. A contract sees a `Flow`.
 #[derive(Drop)]
 pub struct Graph {
-    alloc: Global,
     widths: Vec<Width>,
     arrays: Vec<(u8, u32)>,
-    blocks: Vec<Block>,
+    order: IndexLists,
     ops: Vec<Op>,
-    homes: Vec<u32>,
 }
 
 impl Model for Graph {
-    ghost use Rattle.flow_graph.specs.Graphs.{Flow, IsFlow};
+    ghost use Rattle.flow_graph.specs.Graphs.{Flow};
+    ghost use Rattle.flow_graph.specs.Ordered.{ordered, IsOrdered};
 
     ghost Value = { Flow };
 
-    ghost view = { λ g. record {
-      widths = g.widths.items;
-      arrays = g.arrays.items;
-      blocks = g.blocks.items;
-      ops = g.ops.items;
-    } };
+    ghost view = { λ g. ordered g.widths.items g.arrays.items g.order g.ops.items };
 
-    ghost invariant = { λ g. IsFlow
-        (record {
-          widths = g.widths.items;
-          arrays = g.arrays.items;
-          blocks = g.blocks.items;
-          ops = g.ops.items;
-        })
-        g.homes.items };
-}
-
-/// The blocks once more.
-fn copy_blocks(alloc: Global, blocks: &[Block]) -> Result<Vec<Block>, NoMemory>
-    ensures { IfOk result (λ copies. copies.items ≡ blocks.now) }
-{
-    let mut copies = Vec::new(alloc);
-    for block in blocks {
-        copies.push(block.copy(alloc)?)?;
-    }
-    Ok(copies)
+    ghost invariant = { λ g. IsOrdered (ordered g.widths.items g.arrays.items g.order g.ops.items) g.order.nodes };
 }
 
 /// The ops once more.
@@ -69,15 +47,11 @@ impl Graph {
     pub fn new(alloc: Global) -> Result<Graph, NoMemory>
         ensures { MatchResult result (λ graph. graph ≡ empty_flow) (λ _. ⊤) }
     {
-        let mut blocks = Vec::new(alloc);
-        blocks.push(Block::new(alloc))?;
         Ok(Graph {
-            alloc,
             widths: Vec::new(alloc),
             arrays: Vec::new(alloc),
-            blocks,
+            order: IndexLists::new(alloc, 0, 1)?,
             ops: Vec::new(alloc),
-            homes: Vec::new(alloc),
         })
     }
 
@@ -114,8 +88,7 @@ impl Graph {
             (λ block. (block ≡ length self.old.blocks) × (self.new ≡ with_block self.old))
             (λ _. self.new ≡ self.old) }
     {
-        let block = self.blocks.len() as u32;
-        self.blocks.push(Block::new(self.alloc))?;
+        let block = self.order.add_list()?;
         Ok(block)
     }
 
@@ -131,12 +104,10 @@ impl Graph {
     {
         op.numbers_fit();
         self.ops.reserve(1)?;
-        self.homes.reserve(1)?;
         let point = self.ops.len() as u32;
-        let points = &mut self.blocks[block as usize];
-        points.push(point)?;
+        self.order.grow(point + 1)?;
+        order::push_back::<Brand>(&mut self.order, block, point, Blank::new(1));
         self.ops.push_reserved(op);
-        self.homes.push_reserved(block);
         Ok(point)
     }
 
@@ -153,13 +124,10 @@ impl Graph {
     {
         op.numbers_fit();
         self.ops.reserve(1)?;
-        self.homes.reserve(1)?;
         let new = self.ops.len() as u32;
-        let block = self.homes[point as usize];
-        let points = &mut self.blocks[block as usize];
-        points.insert_after(point, new)?;
+        self.order.grow(new + 1)?;
+        order::push_after::<Brand>(&mut self.order, point, new, Blank::new(1));
         self.ops.push_reserved(op);
-        self.homes.push_reserved(block);
         Ok(new)
     }
 
@@ -169,9 +137,7 @@ impl Graph {
         requires plain { IsPlainAt self.old.ops point }
         ensures { self.new ≡ without_point self.old point }
     {
-        let block = self.homes[point as usize];
-        let points = &mut self.blocks[block as usize];
-        points.remove(point);
+        order::unlink::<Brand>(&mut self.order, point, Blank::new(1));
     }
 
     /// The op of a point that is in a block.
@@ -187,8 +153,7 @@ impl Graph {
         requires { block < length self.now.blocks }
         ensures { result ≡ slice_get (points_of self.now block) 0 }
     {
-        let points = &self.blocks[block as usize];
-        points.first()
+        order::first::<Brand>(&self.order, block, Blank::new(1))
     }
 
     /// The points of a block, in order.
@@ -196,8 +161,7 @@ impl Graph {
         requires { block < length self.now.blocks }
         ensures { IfOk result (λ points. points.items ≡ points_of self.now block) }
     {
-        let points = &self.blocks[block as usize];
-        points.list(alloc)
+        order::points_in::<Brand>(&self.order, alloc, block, Blank::new(1))
     }
 
     /// The point right after a point of a block, if that isn't the last.
@@ -205,16 +169,14 @@ impl Graph {
         requires { IsPlaced self.now point }
         ensures { result ≡ next_in self.now point }
     {
-        let block = self.homes[point as usize];
-        let points = &self.blocks[block as usize];
-        points.next(point)
+        order::next::<Brand>(&self.order, point, Blank::new(1))
     }
 
     /// How many blocks there are.
     pub fn blocks(&self) -> u32
         ensures { result ≡ length self.now.blocks }
     {
-        self.blocks.len() as u32
+        self.order.lists() as u32
     }
 
     /// How many variables there are.
@@ -258,7 +220,7 @@ impl Graph {
     pub fn is_flow(&self)
         ensures { (homes : List ℕ) × IsFlow self.now homes }
     {
-        let _ = &self.homes;
+        let _ = &self.order;
     }
 
     /// The same graph once more.
@@ -266,12 +228,10 @@ impl Graph {
         ensures { IfOk result (λ copy. copy ≡ self.now) }
     {
         Ok(Graph {
-            alloc,
             widths: self.widths.to_vec(alloc)?,
             arrays: self.arrays.to_vec(alloc)?,
-            blocks: copy_blocks(alloc, self.blocks.as_slice())?,
+            order: self.order.copy(alloc)?,
             ops: copy_ops(alloc, self.ops.as_slice())?,
-            homes: self.homes.to_vec(alloc)?,
         })
     }
 }

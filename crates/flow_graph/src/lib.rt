@@ -10,11 +10,11 @@
 //! live, by paths (`specs/Liveness.antt`). The laws say that a run has one outcome.
 #![tactic(auto)]
 
-mod block;
 mod graph;
 mod laws;
 mod live_sets;
 mod op;
+mod order;
 mod words;
 
 pub use graph::Graph;

@@ -1,9 +1,12 @@
 -- Links and ends that stand for lists, and what they stand for after each call.
-use Rattle.std.proofs.Common.{ℕ, zero, suc, ◌≡◌, ◌≢◌, ◌⊎◌, ◌<◌, ◌≤◌, ◌+◌, ◌-◌, List, [], ◌∷◌, ◌++◌, length, set, map, get_or}
-use Rattle.std.proofs.Common.{Option, Some, None, inl, inr, true, false, eqb, refl, sym, ap, subst, arith, ◌∙◌, length-append}
+use Rattle.std.proofs.Common.{ℕ, zero, suc, ◌≡◌, ◌≢◌, ◌⊎◌, ◌<◌, ◌≤◌, ◌+◌, ◌-◌, List, [], ◌∷◌, ◌++◌, length, set, map}
+use Rattle.std.proofs.Common.{get_or}
+use Rattle.std.proofs.Common.{Option, Some, None, inl, inr, true, false, eqb, refl, sym, ap, subst, arith, ◌∙◌}
+use Rattle.std.proofs.Common.{length-append}
 use Rattle.std.proofs.Common.{take, drop, replicate, append_assoc}
 use Rattle.std.specs.List.{AllByRecursion, slice_get, IsDistinct, list_any}
-use Rattle.std.proofs.lemmas.List.{length-set, length-map, same_lists, get_or-map, append-nil, length_push, length-replicate}
+use Rattle.std.proofs.lemmas.List.{length-set, length-map, same_lists, get_or-map, append-nil, length_push}
+use Rattle.std.proofs.lemmas.List.{length-replicate}
 use Rattle.std.proofs.lemmas.List.{take_all}
 use Rattle.std.proofs.lemmas.Option.{slice_get_within, slice_get-get_or, get_or_from_slice_get, same_Some}
 use Rattle.std.proofs.lemmas.Bool.{cases_eq}
@@ -281,7 +284,8 @@ pushed-back links ends lists l xs node e k h got w n there same =
     rw (link, are) (indexed-insert links ends lists l xs node [] h (got ∙ ap Some (sym whole)) w n)
 
 -- a node comes in right after another
-pub pushed-after : (links : List Link) (ends : List Ends) (lists : List (List ℕ)) (l : ℕ) (before : List ℕ) (at node : ℕ)
+pub pushed-after : (links : List Link) (ends : List Ends) (lists : List (List ℕ)) (l : ℕ) (before : List ℕ)
+    (at node : ℕ)
     (after : List ℕ) (e : Ends) (k : Link) → AreIndexed links ends lists
     → slice_get lists l ≡ Some (before ++ at ∷ after) → node < length links
     → ((m : ℕ) (ys : List ℕ) → slice_get lists m ≡ Some ys → IsAbsent node ys) → slice_get ends l ≡ Some e

@@ -1,5 +1,6 @@
 -- How links stand for lists: each node has the nodes right before and right after it, and each list its first and last.
-use Rattle.std.specs.Prelude.{ℕ, zero, suc, ◌≡◌, ◌<◌, ◌≤◌, ◌+◌, ◌-◌, List, [], ◌∷◌, length, map, Option, Some, None, slice_get}
+use Rattle.std.specs.Prelude.{ℕ, zero, suc, ◌≡◌, ◌<◌, ◌≤◌, ◌+◌, ◌-◌, List, [], ◌∷◌, length, map, Option, Some, None}
+use Rattle.std.specs.Prelude.{slice_get}
 use Rattle.std.specs.Prelude.{slice_set}
 use Rattle.index_lists.specs.declared.link.Link.{Link}
 use Rattle.index_lists.specs.declared.link.Ends.{Ends}

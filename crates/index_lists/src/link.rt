@@ -2,8 +2,8 @@ ghost use Rattle.std.specs.Prelude.{◌≡◌, ◌<◌, length};
 ghost use Rattle.index_lists.specs.Links.{IsOneOf, with_next, with_previous, with_first, with_last};
 ghost use Rattle.index_lists.specs.Links.{with_node, ends_with_node, without_node, ends_without_node};
 
-/// The list that a node is in, and the nodes right before and right after it there. Of a node that is in no list it says
-/// nothing.
+/// The list that a node is in, and the nodes right before and right after it there. Of a node that is in no list it
+/// says nothing.
 #[derive(Clone, Copy, Debug)]
 pub struct Link {
     pub list: u32,

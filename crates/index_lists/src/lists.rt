@@ -1,4 +1,5 @@
-ghost use Rattle.std.specs.Prelude.{ℕ, List, ◌≡◌, ◌<◌, ◌≤◌, ◌+◌, [], ◌∷◌, ◌++◌, length, slice_get, IfOk, OnOk, MatchResult};
+ghost use Rattle.std.specs.Prelude.{ℕ, List, ◌≡◌, ◌<◌, ◌≤◌, ◌+◌, [], ◌∷◌, ◌++◌, length, slice_get};
+ghost use Rattle.std.specs.Prelude.{IfOk, OnOk, MatchResult};
 ghost use Rattle.index_lists.specs.Lists.{empty_lists, with_nodes, with_empty_list, with_list, nodes_of, StandsIn};
 ghost use Rattle.index_lists.specs.Lists.{IsListed, IsLists};
 
@@ -178,6 +179,13 @@ impl IndexLists {
             at = self.next(node, steps);
         }
         Ok(nodes)
+    }
+
+    /// How many lists there are. It asks nothing of a list or a node, and takes no step.
+    pub fn lists(&self) -> usize
+        ensures { result ≡ length self.now.lists }
+    {
+        self.ends.len()
     }
 
     /// What index lists always keep, as a fact for callers.

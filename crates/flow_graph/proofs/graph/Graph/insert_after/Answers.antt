@@ -1,61 +1,91 @@
-use Rattle.std.proofs.Common.{◌<◌, ◌≡◌, length, rules, sym, subst, ◌∙◌, [], ◌∷◌, ◌++◌, get_or, refl}
-use Rattle.std.proofs.lemmas.List.{get_or_default}
-use Rattle.flow_graph.specs.Graphs.{Flow, FitsOp, IsPlainAt, Stands, block_of, insert_after}
-use Rattle.flow_graph.proofs.Blocks.{block-has}
-use Rattle.flow_graph.proofs.Keeps.{home-block, home-is, flow-insert}
+use Rattle.std.proofs.Common.{ℕ, ◌≡◌, ◌<◌, ◌+◌, ◌∷◌, ◌++◌, [], length, rules, refl, sym, ap, subst, arith, ◌∙◌}
+use Rattle.index_lists.specs.Lists.{Lists, StandsIn, with_list, with_nodes}
+use Rattle.flow_graph.specs.Graphs.{Flow, FitsOp, IsPlaced, IsPlainAt, block_of, points_of, insert_after}
+use Rattle.flow_graph.specs.Ordered.{ordered}
+use Rattle.std.proofs.lemmas.List.{length_push}
+use Rattle.flow_graph.proofs.Keeps.{flow-insert}
+use Rattle.flow_graph.proofs.Parted.{Found, found, found-insert, unmade}
 use Rattle.flow_graph.proofs.graph.Graph.insert_after.Goals as goal
 
-pub index_mut-points-requires : goal.index_mut-points-requires
-index_mut-points-requires c =
-    let read : c.index-block.result.now ≡ get_or c.self.inside.homes.items c.args.point c.index-block.result.now =
-        rw (← c.in_ok-reserve-2.ensures.items) c.index-block.ensures in
-    let h : c.index-block.result.now < length c.self.inside.blocks.items =
-        home-block _ c.args.self.now _ c.args.point _ c.self.view_is c.self.invariant c.requires.placed read in
-    search rules
+pub push_after-requires-clause-at : goal.push_after-requires-clause-at
+push_after-requires-clause-at c =
+    let order : Lists = c.self.inside.order in
+    let v : Flow = ordered c.self.inside.widths.items c.self.inside.arrays.items order c.self.inside.ops.items in
+    let i = c.self.invariant in
+    let placed : IsPlaced v c.args.point = subst (λ (f : Flow). IsPlaced f c.args.point) (sym c.self.view_is)
+    c.requires.placed in
+    let h : Found v order c.args.point = found v order c.args.point refl placed in
+    let b = block_of v c.args.point in
+    let count : c.len-new.result ≡ length v.ops = search rules in
+    let grown : c.grow.new.self ≡ with_nodes order (c.len-new.result + 1) = c.in_ok-grow.ensures in
+    let stands : StandsIn c.grow.new.self b h.before c.args.point h.after =
+    subst (λ (s : Lists). StandsIn s b h.before c.args.point h.after) (sym grown) h.stands in
+    (b, h.before, h.after, stands)
+
+pub push_after-requires-clause-in_none : goal.push_after-requires-clause-in_none
+push_after-requires-clause-in_none c =
+    let order : Lists = c.self.inside.order in
+    let v : Flow = ordered c.self.inside.widths.items c.self.inside.arrays.items order c.self.inside.ops.items in
+    let i = c.self.invariant in
+    let placed : IsPlaced v c.args.point = subst (λ (f : Flow). IsPlaced f c.args.point) (sym c.self.view_is)
+    c.requires.placed in
+    let h : Found v order c.args.point = found v order c.args.point refl placed in
+    let b = block_of v c.args.point in
+    let count : c.len-new.result ≡ length v.ops = search rules in
+    let grown : c.grow.new.self ≡ with_nodes order (c.len-new.result + 1) = c.in_ok-grow.ensures in
+    let stands : StandsIn c.grow.new.self b h.before c.args.point h.after =
+    subst (λ (s : Lists). StandsIn s b h.before c.args.point h.after) (sym grown) h.stands in
+    unmade v i.0 c.grow.new.self c.len-new.result i.1 (ap (λ (s : Lists). s.lists) grown) count
 
 pub invariant_of-self-2 : goal.invariant_of-self-2
 invariant_of-self-2 c =
-    let read : c.index-block.result.now ≡ get_or c.self.inside.homes.items c.args.point c.index-block.result.now =
-        rw (← c.in_ok-reserve-2.ensures.items) c.index-block.ensures in
-    let h : c.index-block.result.now < length c.self.inside.blocks.items =
-        home-block _ c.args.self.now _ c.args.point _ c.self.view_is c.self.invariant c.requires.placed read in
+    let order : Lists = c.self.inside.order in
+    let v : Flow = ordered c.self.inside.widths.items c.self.inside.arrays.items order c.self.inside.ops.items in
+    let i = c.self.invariant in
+    let placed : IsPlaced v c.args.point = subst (λ (f : Flow). IsPlaced f c.args.point) (sym c.self.view_is)
+    c.requires.placed in
+    let h : Found v order c.args.point = found v order c.args.point refl placed in
+    let b = block_of v c.args.point in
+    let count : c.len-new.result ≡ length v.ops = search rules in
+    let grown : c.grow.new.self ≡ with_nodes order (c.len-new.result + 1) = c.in_ok-grow.ensures in
+    let stands : StandsIn c.grow.new.self b h.before c.args.point h.after =
+    subst (λ (s : Lists). StandsIn s b h.before c.args.point h.after) (sym grown) h.stands in
     let ops_are : c.push_reserved.new.self.items ≡ c.self.inside.ops.items ++ c.args.op ∷ [] = cc in
-    let homes_are : c.push_reserved-2.new.self.items ≡ c.self.inside.homes.items ++ c.index-block.result.now ∷ [] =
-        cc in
-    let points_are : c.insert_after.new.self ≡ insert_after c.args.point (length c.self.inside.ops.items)
-        (get_or c.self.inside.blocks.items c.index-block.result.now []) =
-    (let element : c.index_mut-points.result.now ≡ get_or c.self.inside.blocks.items c.index-block.result.now [] =
-        c.index_mut-points.ensures.value ∙ get_or_default c.self.inside.blocks.items c.index-block.result.now
-        c.index_mut-points.result.now [] h in
-    let count : c.len-new.result ≡ length c.self.inside.ops.items = search rules in
-    let put : c.insert_after.new.self ≡ insert_after c.args.point c.len-new.result c.index_mut-points.result.now =
-        c.in_ok-insert_after.ensures in
-    put ∙ rw (element, count) refl) in
-    rw (ops_are, homes_are, points_are)
-    (flow-insert _ _ c.index-block.result.now c.args.point c.args.op c.self.invariant h
-    (subst (λ (f : Flow). length f.ops < 4294967295) (sym c.self.view_is) c.requires.room)
-    (subst (λ (f : Flow). IsPlainAt f.ops c.args.point) (sym c.self.view_is) c.requires.plain)
-    c.requires.no_end
-    (subst (λ (f : Flow). FitsOp f c.args.op) (sym c.self.view_is) c.requires.fits)
-    c.numbers_fit.ensures)
+    let nodes = c.len-new.result + 1 in
+    let whole : c.push_after.new.order
+    ≡ with_list (with_nodes order nodes) b (insert_after c.args.point (length v.ops) (points_of v b)) =
+    c.push_after.ensures b h.before h.after stands
+    ∙ (ap (λ (s : Lists). with_list s b (h.before ++ c.args.point ∷ c.len-new.result ∷ h.after)) grown
+    ∙ (ap (λ (n : ℕ). with_list (with_nodes order nodes) b (h.before ++ c.args.point ∷ n ∷ h.after)) count
+    ∙ ap (with_list (with_nodes order nodes) b) (sym (found-insert v order c.args.point (length v.ops) h)))) in
+    let room = subst (λ (f : Flow). length f.ops < 4294967295) (sym c.self.view_is) c.requires.room in
+    let plain = subst (λ (f : Flow). IsPlainAt f.ops c.args.point) (sym c.self.view_is) c.requires.plain in
+    let fits = subst (λ (f : Flow). FitsOp f c.args.op) (sym c.self.view_is) c.requires.fits in
+    rw (whole, ops_are) (
+      i.0 ++ b ∷ [],
+      flow-insert v i.0 b c.args.point c.args.op i.1 h.block room plain c.requires.no_end fits c.numbers_fit.ensures,
+      omega (arith, count, length_push v.ops c.args.op),
+    )
 
 pub returns : goal.returns
 returns c =
-    let read : c.index-block.result.now ≡ get_or c.self.inside.homes.items c.args.point c.index-block.result.now =
-        rw (← c.in_ok-reserve-2.ensures.items) c.index-block.ensures in
-    let h : c.index-block.result.now < length c.self.inside.blocks.items =
-        home-block _ c.args.self.now _ c.args.point _ c.self.view_is c.self.invariant c.requires.placed read in
+    let order : Lists = c.self.inside.order in
+    let v : Flow = ordered c.self.inside.widths.items c.self.inside.arrays.items order c.self.inside.ops.items in
+    let i = c.self.invariant in
+    let placed : IsPlaced v c.args.point = subst (λ (f : Flow). IsPlaced f c.args.point) (sym c.self.view_is)
+    c.requires.placed in
+    let h : Found v order c.args.point = found v order c.args.point refl placed in
+    let b = block_of v c.args.point in
+    let count : c.len-new.result ≡ length v.ops = search rules in
+    let grown : c.grow.new.self ≡ with_nodes order (c.len-new.result + 1) = c.in_ok-grow.ensures in
+    let stands : StandsIn c.grow.new.self b h.before c.args.point h.after =
+    subst (λ (s : Lists). StandsIn s b h.before c.args.point h.after) (sym grown) h.stands in
     let ops_are : c.push_reserved.new.self.items ≡ c.self.inside.ops.items ++ c.args.op ∷ [] = cc in
-    let element : c.index_mut-points.result.now ≡ get_or c.self.inside.blocks.items c.index-block.result.now [] =
-        c.index_mut-points.ensures.value ∙ get_or_default c.self.inside.blocks.items c.index-block.result.now
-        c.index_mut-points.result.now [] h in
-    let count : c.len-new.result ≡ length c.self.inside.ops.items = search rules in
-    let put : c.insert_after.new.self ≡ insert_after c.args.point c.len-new.result c.index_mut-points.result.now =
-        c.in_ok-insert_after.ensures in
-    let points_are : c.insert_after.new.self ≡ insert_after c.args.point (length c.self.inside.ops.items)
-        (get_or c.self.inside.blocks.items c.index-block.result.now []) = put ∙ rw (element, count) refl in
-    let stands : Stands c.args.self.now c.args.point (block_of c.args.self.now c.args.point) =
-        block-has c.args.self.now c.args.point c.requires.placed in
-    let same : c.index-block.result.now ≡ block_of c.args.self.now c.args.point =
-        home-is _ c.args.self.now _ c.args.point _ _ c.self.view_is c.self.invariant stands read in
-    rw (← same) (rw (← c.self.view_is) (count, rw (ops_are, points_are) refl))
+    let nodes = c.len-new.result + 1 in
+    let whole : c.push_after.new.order
+    ≡ with_list (with_nodes order nodes) b (insert_after c.args.point (length v.ops) (points_of v b)) =
+    c.push_after.ensures b h.before h.after stands
+    ∙ (ap (λ (s : Lists). with_list s b (h.before ++ c.args.point ∷ c.len-new.result ∷ h.after)) grown
+    ∙ (ap (λ (n : ℕ). with_list (with_nodes order nodes) b (h.before ++ c.args.point ∷ n ∷ h.after)) count
+    ∙ ap (with_list (with_nodes order nodes) b) (sym (found-insert v order c.args.point (length v.ops) h)))) in
+    rw (← c.self.view_is) (count, rw (whole, ops_are) refl)

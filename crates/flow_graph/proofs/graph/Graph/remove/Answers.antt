@@ -1,41 +1,47 @@
-use Rattle.std.proofs.Common.{◌<◌, ◌≡◌, length, rules, ap, ◌∙◌, [], get_or, refl}
-use Rattle.std.proofs.lemmas.List.{get_or_default}
-use Rattle.flow_graph.specs.Graphs.{Stands, block_of, without}
-use Rattle.flow_graph.proofs.Blocks.{block-has}
-use Rattle.flow_graph.proofs.Keeps.{home-block, home-is, flow-remove}
+use Rattle.std.proofs.Common.{◌≡◌, refl, sym, ap, subst, ◌∙◌}
+use Rattle.index_lists.specs.Lists.{Lists, with_list}
+use Rattle.flow_graph.specs.Graphs.{Flow, IsPlaced, block_of, points_of}
+use Rattle.flow_graph.specs.Graphs.{without}
+use Rattle.flow_graph.specs.Ordered.{ordered}
+use Rattle.flow_graph.proofs.Keeps.{flow-remove}
+use Rattle.flow_graph.proofs.Parted.{Found, found, listed, found-without}
 use Rattle.flow_graph.proofs.graph.Graph.remove.Goals as goal
 
-pub index_mut-points-requires : goal.index_mut-points-requires
-index_mut-points-requires c =
-    let h : c.index-block.result.now < length c.self.inside.blocks.items =
-        home-block _ c.args.self.now _ c.args.point _ c.self.view_is c.self.invariant c.requires.placed
-        c.index-block.ensures in
-    search rules
+pub unlink-requires-clause-at : goal.unlink-requires-clause-at
+unlink-requires-clause-at c =
+    let order : Lists = c.self.inside.order in
+    let v : Flow = ordered c.self.inside.widths.items c.self.inside.arrays.items order c.self.inside.ops.items in
+    let i = c.self.invariant in
+    let placed : IsPlaced v c.args.point = subst (λ (f : Flow). IsPlaced f c.args.point) (sym c.self.view_is)
+    c.requires.placed in
+    let h : Found v order c.args.point = found v order c.args.point refl placed in
+    let b = block_of v c.args.point in
+    listed v order c.args.point h
 
 pub invariant_of-self : goal.invariant_of-self
 invariant_of-self c =
-    let h : c.index-block.result.now < length c.self.inside.blocks.items =
-        home-block _ c.args.self.now _ c.args.point _ c.self.view_is c.self.invariant c.requires.placed
-        c.index-block.ensures in
-    let left : c.remove.new.self ≡ without c.args.point
-        (get_or c.self.inside.blocks.items c.index-block.result.now []) =
-    c.remove.ensures ∙ ap (without c.args.point)
-        (c.index_mut-points.ensures.value ∙ get_or_default c.self.inside.blocks.items c.index-block.result.now
-        c.index_mut-points.result.now [] h) in
-    rw left (flow-remove _ _ c.index-block.result.now c.args.point c.self.invariant h)
+    let order : Lists = c.self.inside.order in
+    let v : Flow = ordered c.self.inside.widths.items c.self.inside.arrays.items order c.self.inside.ops.items in
+    let i = c.self.invariant in
+    let placed : IsPlaced v c.args.point = subst (λ (f : Flow). IsPlaced f c.args.point) (sym c.self.view_is)
+    c.requires.placed in
+    let h : Found v order c.args.point = found v order c.args.point refl placed in
+    let b = block_of v c.args.point in
+    let left : c.unlink.new.order ≡ with_list order b (without c.args.point (points_of v b)) =
+    c.unlink.ensures b h.before h.after h.stands
+    ∙ ap (with_list order b) (sym (found-without v order c.args.point h)) in
+    rw left (i.0, flow-remove v i.0 b c.args.point i.1 h.block, i.2)
 
 pub returns : goal.returns
 returns c =
-    let stands : Stands c.args.self.now c.args.point (block_of c.args.self.now c.args.point) =
-        block-has c.args.self.now c.args.point c.requires.placed in
-    let same : c.index-block.result.now ≡ block_of c.args.self.now c.args.point =
-        home-is _ c.args.self.now _ c.args.point _ _ c.self.view_is c.self.invariant stands c.index-block.ensures in
-    let h : c.index-block.result.now < length c.self.inside.blocks.items =
-        home-block _ c.args.self.now _ c.args.point _ c.self.view_is c.self.invariant c.requires.placed
-        c.index-block.ensures in
-    let left : c.remove.new.self ≡ without c.args.point
-        (get_or c.self.inside.blocks.items c.index-block.result.now []) =
-    c.remove.ensures ∙ ap (without c.args.point)
-        (c.index_mut-points.ensures.value ∙ get_or_default c.self.inside.blocks.items c.index-block.result.now
-        c.index_mut-points.result.now [] h) in
-    rw (← same) (rw (← c.self.view_is, left) refl)
+    let order : Lists = c.self.inside.order in
+    let v : Flow = ordered c.self.inside.widths.items c.self.inside.arrays.items order c.self.inside.ops.items in
+    let i = c.self.invariant in
+    let placed : IsPlaced v c.args.point = subst (λ (f : Flow). IsPlaced f c.args.point) (sym c.self.view_is)
+    c.requires.placed in
+    let h : Found v order c.args.point = found v order c.args.point refl placed in
+    let b = block_of v c.args.point in
+    let left : c.unlink.new.order ≡ with_list order b (without c.args.point (points_of v b)) =
+    c.unlink.ensures b h.before h.after h.stands
+    ∙ ap (with_list order b) (sym (found-without v order c.args.point h)) in
+    rw (← c.self.view_is, left) refl
