@@ -56,7 +56,7 @@ alu_below alu.Sub = omega arith
 alu_below alu.Xor = omega arith
 alu_below alu.Cmp = omega arith
 
-cond_below : (c : Cond) → cond_number c < 16
+pub cond_below : (c : Cond) → cond_number c < 16
 cond_below cond.O = omega arith
 cond_below cond.No = omega arith
 cond_below cond.B = omega arith

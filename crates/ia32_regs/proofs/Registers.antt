@@ -47,7 +47,7 @@ drop-with_four p v bs h =
     ∙ ap (λ (l : List ℕ). l ++ (little_bytes 4 v ++ drop (p + 4) bs)) (drop_all p (take p bs) (omega arith))
 
 -- a cell before the four, or after them, is as before
-get_or-with_four : (p v i : ℕ) (bs : List ℕ) → p + 4 ≤ length bs → (i < p) ⊎ (p + 4 ≤ i)
+pub get_or-with_four : (p v i : ℕ) (bs : List ℕ) → p + 4 ≤ length bs → (i < p) ⊎ (p + 4 ≤ i)
     → get_or (with_four p v bs) i 0 ≡ get_or bs i 0
 get_or-with_four p v i bs h (inl before) =
     let front : length (take p bs) ≡ p = length-take-le p bs (omega arith) in
@@ -65,7 +65,7 @@ get_or-with_four p v i bs h (inr after) =
     ∙ ap (λ (m : ℕ). get_or bs m 0) same
 
 -- the number in four cells is that of the same four elsewhere
-little_from-same : (p : ℕ) (xs ys : List ℕ) → ((m : ℕ) → m < 4 → get_or xs (p + m) 0 ≡ get_or ys (p + m) 0)
+pub little_from-same : (p : ℕ) (xs ys : List ℕ) → ((m : ℕ) → m < 4 → get_or xs (p + m) 0 ≡ get_or ys (p + m) 0)
     → little_from 0 4 (drop p xs) ≡ little_from 0 4 (drop p ys)
 little_from-same p xs ys same =
     let at : (m : ℕ) → m < 4 → get_or (drop p xs) m 0 ≡ get_or (drop p ys) m 0 =

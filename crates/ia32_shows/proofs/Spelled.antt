@@ -6,12 +6,11 @@ use Rattle.ia32_regs.proofs.Registers.{number32_below}
 use Rattle.ia32_insn.specs.declared.operand.Rm32.TheVariants as rm
 use Rattle.ia32_insn.specs.declared.insn.AluOp.{AluOp}
 use Rattle.ia32_insn.specs.declared.insn.AluOp.TheVariants as alu
-use Rattle.ia32_insn.specs.declared.insn.Cond.{Cond}
-use Rattle.ia32_insn.specs.declared.insn.Cond.TheVariants as cond
 use Rattle.ia32_insn.specs.declared.insn.Insn.{Insn}
 use Rattle.ia32_insn.specs.declared.insn.Insn.TheVariants as insn
+use Rattle.ia32_insn.proofs.Rows.{cond_below}
 use Rattle.ia32_insn.specs.Spelling.{Spells, Operand, InRegister, InMemory, operand32, operand8, Row, RowWith}
-use Rattle.ia32_insn.specs.Spelling.{Immediate, Reversed, alu_number, cond_number}
+use Rattle.ia32_insn.specs.Spelling.{Immediate, Reversed, alu_number, shift_number, cond_number}
 
 -- the bytes begin with a byte that isn't 144
 abbrev pub BeginsOther : List ℕ → Type 0
@@ -36,7 +35,7 @@ reversed-begins first more (InRegister number) source bytes other h =
     row-begins first more number (InRegister source) bytes other h
 reversed-begins first more (InMemory m) source bytes other h = absurd h
 
--- the instructions that selection and the routines are made of
+-- an instruction that is no NOP
 abbrev pub IsCommon : Insn → Type 0
 IsCommon (insn.Mov operand r) = Unit {0}
 IsCommon (insn.MovLoad r m) = Unit {0}
@@ -44,21 +43,38 @@ IsCommon (insn.MovImm operand z) = Unit {0}
 IsCommon (insn.Mov8 operand r) = Unit {0}
 IsCommon (insn.Mov8Load r m) = Unit {0}
 IsCommon (insn.Mov8Imm r n) = Unit {0}
+IsCommon (insn.Mov16 operand r) = Unit {0}
 IsCommon (insn.MovZx8 r operand) = Unit {0}
+IsCommon (insn.MovZx16 r operand) = Unit {0}
 IsCommon (insn.MovSx8 r operand) = Unit {0}
+IsCommon (insn.MovSx16 r operand) = Unit {0}
+IsCommon (insn.Xchg8 operand r) = Unit {0}
+IsCommon (insn.Xchg operand r) = Unit {0}
 IsCommon (insn.Lea r m) = Unit {0}
 IsCommon (insn.Alu op operand r) = Unit {0}
 IsCommon (insn.AluLoad op r m) = Unit {0}
 IsCommon (insn.AluImm op operand z) = Unit {0}
+IsCommon (insn.Test operand r) = Unit {0}
+IsCommon (insn.IMul r operand) = Unit {0}
+IsCommon (insn.Not operand) = Unit {0}
+IsCommon (insn.Neg operand) = Unit {0}
+IsCommon (insn.Div operand) = Unit {0}
+IsCommon (insn.IDiv operand) = Unit {0}
+IsCommon insn.Cdq = Unit {0}
+IsCommon (insn.ShiftCl op operand) = Unit {0}
+IsCommon (insn.ShiftImm op operand n) = Unit {0}
 IsCommon (insn.Push operand) = Unit {0}
+IsCommon (insn.PushImm z) = Unit {0}
 IsCommon (insn.Pop r) = Unit {0}
 IsCommon (insn.Call distance) = Unit {0}
 IsCommon insn.Ret = Unit {0}
 IsCommon insn.Leave = Unit {0}
 IsCommon (insn.Jmp distance) = Unit {0}
 IsCommon (insn.Jcc c distance) = Unit {0}
+IsCommon (insn.SetCc c operand) = Unit {0}
 IsCommon (insn.Int n) = Unit {0}
-IsCommon _ = ⊥
+IsCommon insn.Ud2 = Unit {0}
+IsCommon insn.Nop = ⊥
 
 alu_other : (op : AluOp) (k : ℕ) → k < 4 → 8 * alu_number op + k ≢ 144
 alu_other alu.Add k h e = omega arith
@@ -67,24 +83,6 @@ alu_other alu.And k h e = omega arith
 alu_other alu.Sub k h e = omega arith
 alu_other alu.Xor k h e = omega arith
 alu_other alu.Cmp k h e = omega arith
-
-cond_other : (c : Cond) → 112 + cond_number c ≢ 144
-cond_other cond.O e = omega arith
-cond_other cond.No e = omega arith
-cond_other cond.B e = omega arith
-cond_other cond.Ae e = omega arith
-cond_other cond.E e = omega arith
-cond_other cond.Ne e = omega arith
-cond_other cond.Be e = omega arith
-cond_other cond.A e = omega arith
-cond_other cond.S e = omega arith
-cond_other cond.Ns e = omega arith
-cond_other cond.P e = omega arith
-cond_other cond.Np e = omega arith
-cond_other cond.L e = omega arith
-cond_other cond.Ge e = omega arith
-cond_other cond.Le e = omega arith
-cond_other cond.G e = omega arith
 
 pub common-begins : (i : Insn) (bytes : List ℕ) → IsCommon i → Spells i bytes → BeginsOther bytes
 common-begins (insn.Mov operand r) bytes c (inl h) =
@@ -128,11 +126,38 @@ common-begins (insn.Pop r) bytes c h = (88 + number32 r, [], h, λ e. let below 
 common-begins (insn.Call distance) bytes c h = immediate-begins 232 [] 4 distance bytes (λ e. omega arith) h
 common-begins insn.Ret bytes c h = (195, [], h, λ e. omega arith)
 common-begins insn.Leave bytes c h = (201, [], h, λ e. omega arith)
+common-begins (insn.Int n) bytes c h = (205, n ∷ [], h, λ e. omega arith)
+common-begins (insn.Mov16 operand r) bytes c h =
+    row-begins 102 (137 ∷ []) (number32 r) (operand32 operand) bytes (λ e. omega arith) h
+common-begins (insn.MovZx16 r operand) bytes c h =
+    row-begins 15 (183 ∷ []) (number32 r) (operand32 operand) bytes (λ e. omega arith) h
+common-begins (insn.MovSx16 r operand) bytes c h =
+    row-begins 15 (191 ∷ []) (number32 r) (operand32 operand) bytes (λ e. omega arith) h
+common-begins (insn.Xchg8 operand r) bytes c h =
+    row-begins 134 [] (number8 r) (operand8 operand) bytes (λ e. omega arith) h
+common-begins (insn.Xchg operand r) bytes c h =
+    row-begins 135 [] (number32 r) (operand32 operand) bytes (λ e. omega arith) h
+common-begins (insn.Test operand r) bytes c h =
+    row-begins 133 [] (number32 r) (operand32 operand) bytes (λ e. omega arith) h
+common-begins (insn.IMul r operand) bytes c h =
+    row-begins 15 (175 ∷ []) (number32 r) (operand32 operand) bytes (λ e. omega arith) h
+common-begins (insn.Not operand) bytes c h = row-begins 247 [] 2 (operand32 operand) bytes (λ e. omega arith) h
+common-begins (insn.Neg operand) bytes c h = row-begins 247 [] 3 (operand32 operand) bytes (λ e. omega arith) h
+common-begins (insn.Div operand) bytes c h = row-begins 247 [] 6 (operand32 operand) bytes (λ e. omega arith) h
+common-begins (insn.IDiv operand) bytes c h = row-begins 247 [] 7 (operand32 operand) bytes (λ e. omega arith) h
+common-begins insn.Cdq bytes c h = (153, [], h, λ e. omega arith)
+common-begins (insn.ShiftCl op operand) bytes c h =
+    row-begins 211 [] (shift_number op) (operand32 operand) bytes (λ e. omega arith) h
+common-begins (insn.ShiftImm op operand n) bytes c (fields, whole, has) =
+    (193, fields ++ n ∷ [], whole, λ e. omega arith)
+common-begins (insn.PushImm z) bytes c h = immediate-begins 104 [] 4 z bytes (λ e. omega arith) h
 common-begins (insn.Jmp distance) bytes c (inl h) = immediate-begins 233 [] 4 distance bytes (λ e. omega arith) h
 common-begins (insn.Jmp distance) bytes c (inr h) = immediate-begins 235 [] 1 distance bytes (λ e. omega arith) h
 common-begins (insn.Jcc k distance) bytes c (inl h) =
     immediate-begins 15 ((128 + cond_number k) ∷ []) 4 distance bytes (λ e. omega arith) h
 common-begins (insn.Jcc k distance) bytes c (inr h) =
-    immediate-begins (112 + cond_number k) [] 1 distance bytes (cond_other k) h
-common-begins (insn.Int n) bytes c h = (205, n ∷ [], h, λ e. omega arith)
-common-begins i bytes c h = absurd c
+    immediate-begins (112 + cond_number k) [] 1 distance bytes (λ e. let below = cond_below k in omega arith) h
+common-begins (insn.SetCc k operand) bytes c (reg, h) =
+    row-begins 15 ((144 + cond_number k) ∷ []) reg (operand8 operand) bytes (λ e. omega arith) h
+common-begins insn.Ud2 bytes c h = (15, 11 ∷ [], h, λ e. omega arith)
+common-begins insn.Nop bytes c h = absurd c

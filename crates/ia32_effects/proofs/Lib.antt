@@ -1,0 +1,5 @@
+pub mod Straight
+pub mod Instructions
+pub mod Kept
+pub mod Moves
+pub mod Sums

@@ -1,0 +1,11 @@
+use Rattle.ia32_effects.proofs.Sums.{operate-gives, operation-puts, commuting-puts}
+use Rattle.ia32_effects.proofs.laws.rows_compute_words.Goals as goal
+
+pub returns-clause-in_register : goal.returns-clause-in_register
+returns-clause-in_register c = operate-gives
+
+pub returns-clause-operation : goal.returns-clause-operation
+returns-clause-operation c = operation-puts
+
+pub returns-clause-commuting : goal.returns-clause-commuting
+returns-clause-commuting c = commuting-puts
