@@ -1,14 +1,14 @@
 -- Where the statuses come from that the outside or the limit on tokens causes.
-use Rattle.std.proofs.Common.{◌≡◌, ℕ, List, Result, Ok, Err, sym, ap, ◌∙◌, inl, inr, refl, arith}
+use Rattle.std.proofs.Common.{◌≡◌, ℕ, Result, Ok, Err, sym, ap, ◌∙◌, inl, inr, refl, arith}
 use Rattle.std.specs.Prelude.{◌⊎◌}
 use Rattle.pcc_base.specs.Counts.{Rose}
 use Rattle.pcc_outside.specs.Streams.{SinkCounts, CountsPut}
 use Rattle.pcc_outside.specs.declared.sink.WriteRefusal.{WriteRefusal}
 use Rattle.pcc_outside.specs.declared.sink.WriteRefusal.TheVariants as put
-use Rattle.pcc_driver.specs.Answers.{Counts, Streams, HasCause, CommandTold, Ends, IsShown, status_after}
+use Rattle.pcc_driver.specs.Answers.{HasCause, CommandTold, Ends, IsShown, status_after}
 use Rattle.pcc_driver.specs.Commands as commands
 use Rattle.pcc_driver.specs.Commands.{Command}
-use Rattle.pcc_driver.specs.Headline.{Files}
+use Rattle.pcc_driver.specs.Outside.{Outside, Output, Work}
 use Rattle.pcc_driver.specs.Promises.{TokensCause, HasCauses}
 use Rattle.pcc_driver.specs.Reports.{status_of}
 use Rattle.pcc_driver.specs.declared.report.Report.{Report}
@@ -29,11 +29,11 @@ shown_status report shown status (inl same) e = inr (e ∙ ap status_of same)
 shown_status report shown status (inr none) e = inl (e ∙ ap status_of none)
 
 -- a status that is neither 5 nor 11 is the report's
-pub ended_status : (command : Command) (report : Report) (counts counts' : SinkCounts) (tells : Type 0)
-    (taken taken' : List ℕ) (result : ℕ) → Ends command report counts counts' tells taken taken' result → (result ≡ 11)
-    ⊎ (((result ≡ 5) × Rose counts.faults counts'.faults) ⊎ (result ≡ status_of report))
-ended_status command report counts counts' tells taken taken' result ends =
-    elim (put_status (status_of ends.0) ends.2.0 counts counts' ends.2.1) [
+pub ended_status : (command : Command) (report : Report) (old new : Output) (result : ℕ)
+    → Ends command report old new result → (result ≡ 11)
+    ⊎ (((result ≡ 5) × Rose old.counts.faults new.counts.faults) ⊎ (result ≡ status_of report))
+ended_status command report old new result ends =
+    elim (put_status (status_of ends.0) ends.2.0 old.counts new.counts ends.2.1) [
       | inl e ↦ inl (ends.2.3 ∙ e)
       | inr (inl (e, rose)) ↦ inr (inl (ends.2.3 ∙ e, rose))
       | inr (inr e) ↦ elim (shown_status report ends.0 result ends.1 (ends.2.3 ∙ e)) [
@@ -43,59 +43,49 @@ ended_status command report counts counts' tells taken taken' result ends =
     ]
 
 -- too many tokens are told of a source that is compiled
-many_told : (command : Command) (files_tell streams_tell : Type 0) (old new : Files) (streams streams' : Streams)
-    (tokens : ℕ) → CommandTold command files_tell streams_tell old new streams streams' (reports.TooManyTokens tokens)
-    → TokensCause command files_tell old
-many_told (commands.Compile name source) files_tell streams_tell old new streams streams' tokens told =
-    λ f. (told.0 f).1
-many_told (commands.Run image) files_tell streams_tell old new streams streams' tokens told = absurd told.0
-many_told commands.Usage files_tell streams_tell old new streams streams' tokens told =
+many_told : (command : Command) (old new : Work) (tokens : ℕ)
+    → CommandTold command old new (reports.TooManyTokens tokens) → TokensCause command old.files
+many_told (commands.Compile name source) old new tokens told = λ f. (told.0 f).1
+many_told (commands.Run image) old new tokens told = absurd told.0
+many_told commands.Usage old new tokens told =
     let other : 3 ≡ 2 = ap status_of told.0 in
     absurd (omega (arith, other))
 
 -- a report of status 3 is of a file that is too long, or of too many tokens
-limit_report : (report : Report) (command : Command) (files_tell streams_tell : Type 0) (old new : Files)
-    (streams streams' : Streams) (before after : Counts) → HasCause report before after
-    → CommandTold command files_tell streams_tell old new streams streams' report → status_of report ≡ 3
-    → Rose before.files.too_long after.files.too_long ⊎ TokensCause command files_tell old
-limit_report (reports.TooLong file) command files_tell streams_tell old new streams streams' before after cause told e =
-    inl cause.files.0
-limit_report (reports.TooManyTokens tokens) command files_tell streams_tell old new streams streams' before after cause
-    told e =
-    inr (many_told command files_tell streams_tell old new streams streams' tokens told)
-limit_report report command files_tell streams_tell old new streams streams' before after cause told e =
-    absurd (omega (arith, e))
+limit_report : (report : Report) (command : Command) (old new : Work) → HasCause report old new
+    → CommandTold command old new report → status_of report ≡ 3
+    → Rose old.files.counts.too_long new.files.counts.too_long ⊎ TokensCause command old.files
+limit_report (reports.TooLong file) command old new cause told e = inl cause.files.0
+limit_report (reports.TooManyTokens tokens) command old new cause told e = inr (many_told command old new tokens told)
+limit_report report command old new cause told e = absurd (omega (arith, e))
 
 -- a report of status 4 is of a fault of reading
-read_report : (report : Report) (before after : Counts) → HasCause report before after → status_of report ≡ 4
-    → Rose before.files.read_faults after.files.read_faults ⊎ Rose before.input after.input
-read_report (reports.ReadFault file) before after cause e = inl cause.files.0
-read_report reports.InputFault before after cause e = inr cause.streams.0
-read_report report before after cause e = absurd (omega (arith, e))
+read_report : (report : Report) (old new : Work) → HasCause report old new → status_of report ≡ 4
+    → Rose old.files.counts.read_faults new.files.counts.read_faults ⊎ Rose old.input.faults new.input.faults
+read_report (reports.ReadFault file) old new cause e = inl cause.files.0
+read_report reports.InputFault old new cause e = inr cause.streams.0
+read_report report old new cause e = absurd (omega (arith, e))
 
 -- a report of status 5 is of a fault of writing
-write_report : (report : Report) (before after : Counts) → HasCause report before after → status_of report ≡ 5
-    → Rose before.files.write_faults after.files.write_faults ⊎ Rose before.out.faults after.out.faults
-write_report (reports.WriteFault file) before after cause e = inl cause.files.0
-write_report reports.OutputFault before after cause e = inr cause.streams.1
-write_report report before after cause e = absurd (omega (arith, e))
+write_report : (report : Report) (old new : Work) → HasCause report old new → status_of report ≡ 5
+    → Rose old.files.counts.write_faults new.files.counts.write_faults
+    ⊎ Rose old.out.counts.faults new.out.counts.faults
+write_report (reports.WriteFault file) old new cause e = inl cause.files.0
+write_report reports.OutputFault old new cause e = inr cause.streams.1
+write_report report old new cause e = absurd (omega (arith, e))
 
 -- a report of status 6 is of a missing file
-missing_report : (report : Report) (before after : Counts) → HasCause report before after → status_of report ≡ 6
-    → Rose before.files.missing after.files.missing
-missing_report (reports.NoFile file) before after cause e = cause.files.0
-missing_report report before after cause e = absurd (omega (arith, e))
+missing_report : (report : Report) (old new : Work) → HasCause report old new → status_of report ≡ 6
+    → Rose old.files.counts.missing new.files.counts.missing
+missing_report (reports.NoFile file) old new cause e = cause.files.0
+missing_report report old new cause e = absurd (omega (arith, e))
 
 -- what a status that is the report's comes from
-pub status_causes : (command : Command) (report : Report) (files_tell streams_tell : Type 0) (old new : Files)
-    (streams streams' : Streams) (before after : Counts) (err err' : SinkCounts) (err_tells : Type 0)
-    (taken taken' : List ℕ) (result : ℕ) → HasCause report before after
-    → CommandTold command files_tell streams_tell old new streams streams' report
-    → Ends command report err err' err_tells taken taken' result
-    → HasCauses command old files_tell before after err err' result
-status_causes command report files_tell streams_tell old new streams streams' before after err err' err_tells taken
-    taken' result cause told ends =
-    elim (ended_status command report err err' err_tells taken taken' result ends) [
+pub status_causes : (command : Command) (report : Report) (old new : Outside) (result : ℕ)
+    → HasCause report old.work new.work → CommandTold command old.work new.work report
+    → Ends command report old.err new.err result → HasCauses command old new result
+status_causes command report old new result cause told ends =
+    elim (ended_status command report old.err new.err result ends) [
       | inl e ↦ record {
         limit = λ h. absurd (omega (arith, e, h));
         read_fault = λ h. absurd (omega (arith, e, h));
@@ -109,13 +99,12 @@ status_causes command report files_tell streams_tell old new streams streams' be
         no_file = λ h. absurd (omega (arith, e, h));
       }
       | inr (inr e) ↦ record {
-        limit = λ h. limit_report report command files_tell streams_tell old new streams streams' before after cause
-            told (sym e ∙ h);
-        read_fault = λ h. read_report report before after cause (sym e ∙ h);
-        write_fault = λ h. elim (write_report report before after cause (sym e ∙ h)) [
+        limit = λ h. limit_report report command old.work new.work cause told (sym e ∙ h);
+        read_fault = λ h. read_report report old.work new.work cause (sym e ∙ h);
+        write_fault = λ h. elim (write_report report old.work new.work cause (sym e ∙ h)) [
           | inl rose ↦ inl rose
           | inr rose ↦ inr (inl rose)
         ];
-        no_file = λ h. missing_report report before after cause (sym e ∙ h);
+        no_file = λ h. missing_report report old.work new.work cause (sym e ∙ h);
       }
     ]

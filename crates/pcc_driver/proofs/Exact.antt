@@ -4,7 +4,6 @@ use Rattle.std.specs.Prelude.{◌⊎◌}
 use Rattle.pcc_base.specs.Counts.{Rose}
 use Rattle.pcc_base.specs.Outcome as outcome
 use Rattle.pcc_base.specs.Outcome.{Outcome, End}
-use Rattle.pcc_outside.specs.Streams.{SinkCounts}
 use Rattle.ia32_insn.specs.State.{State}
 use Rattle.ia32_insn.specs.Runs.{Runs, no_visits}
 use Rattle.ia32_insn.proofs.Runs.{run_once}
@@ -13,11 +12,12 @@ use Rattle.pcc_base.specs.declared.fault.Fault.{Fault}
 use Rattle.c_front.specs.Refusals.{HasManyTokens, IsSourceFault}
 use Rattle.c_front.proofs.Exact.{no_fault, no_limit, either}
 use Rattle.pcc_driver.proofs.Causes.{ended_status}
-use Rattle.pcc_driver.specs.Answers.{Counts, Streams, HasCause, CommandTold, CompileTold, RunTold, RunGives, Holds}
+use Rattle.pcc_driver.specs.Answers.{HasCause, CommandTold, CompileTold, RunTold, RunGives, Holds}
 use Rattle.pcc_driver.specs.Answers.{IsTooLong, IsNoImage, Ends, run_steps}
 use Rattle.pcc_driver.specs.Commands as commands
 use Rattle.pcc_driver.specs.Commands.{Command}
 use Rattle.pcc_driver.specs.Headline.{Files, IsCompiled}
+use Rattle.pcc_driver.specs.Outside.{Outside, Output, Work}
 use Rattle.pcc_driver.specs.Promises.{IsQuiet, CompileStatus, RunStatus, HasStatus, end_status}
 use Rattle.pcc_driver.specs.Reports.{status_of}
 use Rattle.pcc_driver.specs.declared.report.Named.TheVariants.{Source, Map, Image}
@@ -28,11 +28,11 @@ use Rattle.ia32_machine.proofs.First.{first-one}
 -- ---- the line
 
 -- where standard error didn't fail the status is the report's, or says that memory was wanting
-ends_status : (command : Command) (report : Report) (counts counts' : SinkCounts) (tells : Type 0)
-    (taken taken' : List ℕ) (result : ℕ) → Ends command report counts counts' tells taken taken' result
-    → (Rose counts.faults counts'.faults → ⊥) → (result ≡ 11) ⊎ (result ≡ status_of report)
-ends_status command report counts counts' tells taken taken' result ends quiet =
-    elim (ended_status command report counts counts' tells taken taken' result ends) [
+ends_status : (command : Command) (report : Report) (old new : Output) (result : ℕ)
+    → Ends command report old new result → (Rose old.counts.faults new.counts.faults → ⊥)
+    → (result ≡ 11) ⊎ (result ≡ status_of report)
+ends_status command report old new result ends quiet =
+    elim (ended_status command report old new result ends) [
       | inl none ↦ inl none
       | inr (inl (e, rose)) ↦ absurd (quiet rose)
       | inr (inr same) ↦ inr same
@@ -45,8 +45,12 @@ none_status content e = rw e refl
 
 long_status : (content : Option (List ℕ)) → IsTooLong content → CompileStatus content 3
 long_status content long =
-    rw long.1 (λ h. refl, λ h program is. absurd (omega (arith, long.2, h)), λ h many. refl,
-        λ h none few. absurd (omega (arith, long.2, h)))
+    rw long.1 (
+      λ h. refl,
+      λ h program is. absurd (omega (arith, long.2, h)),
+      λ h many. refl,
+      λ h none few. absurd (omega (arith, long.2, h)),
+    )
 
 fault_status : (content : Option (List ℕ)) (fault : Fault) → Holds content (λ text. IsSourceFault text fault)
     → CompileStatus content 1
@@ -60,8 +64,12 @@ fault_status content fault held =
 
 many_status : (content : Option (List ℕ)) → Holds content HasManyTokens → CompileStatus content 3
 many_status content held =
-    rw held.1 (λ h. refl, λ h program is. absurd (no_limit held.0 program is held.3), λ h many. refl,
-        λ h none few. absurd (few held.3))
+    rw held.1 (
+      λ h. refl,
+      λ h program is. absurd (no_limit held.0 program is held.3),
+      λ h many. refl,
+      λ h none few. absurd (few held.3),
+    )
 
 compiled_status : (old new : Files) (name source : List ℕ) → IsCompiled old new name source
     → CompileStatus (old source) 0
@@ -74,36 +82,36 @@ compiled_status old new name source made =
     )
 
 -- the report of a compilation has the status of the file
-compile_status : (name source : List ℕ) (old new : Files) (report : Report) (before after : Counts)
-    (err err' : SinkCounts) → HasCause report before after → CompileTold name source old new report
-    → IsQuiet before after err err' → (status_of report ≡ 11) ⊎ CompileStatus (old source) (status_of report)
-compile_status name source old new reports.Compiled before after err err' cause told quiet =
-    inr (compiled_status old new name source told)
-compile_status name source old new (reports.SourceFault fault) before after err err' cause told quiet =
-    inr (fault_status (old source) fault told.0)
-compile_status name source old new (reports.TooManyTokens tokens) before after err err' cause told quiet =
-    inr (many_status (old source) told.1)
-compile_status name source old new (reports.TooLong Source) before after err err' cause told quiet =
-    inr (long_status (old source) told.0)
-compile_status name source old new (reports.NoFile Source) before after err err' cause told quiet =
-    inr (none_status (old source) told.0)
-compile_status name source old new (reports.ReadFault file) before after err err' cause told quiet =
+compile_status : (name source : List ℕ) (old new : Outside) (report : Report) → HasCause report old.work new.work
+    → CompileTold name source old.work.files.content new.work.files.content report → IsQuiet old new
+    → (status_of report ≡ 11) ⊎ CompileStatus (old.work.files.content source) (status_of report)
+compile_status name source old new reports.Compiled cause told quiet =
+    inr (compiled_status old.work.files.content new.work.files.content name source told)
+compile_status name source old new (reports.SourceFault fault) cause told quiet =
+    inr (fault_status (old.work.files.content source) fault told.0)
+compile_status name source old new (reports.TooManyTokens tokens) cause told quiet =
+    inr (many_status (old.work.files.content source) told.1)
+compile_status name source old new (reports.TooLong Source) cause told quiet =
+    inr (long_status (old.work.files.content source) told.0)
+compile_status name source old new (reports.NoFile Source) cause told quiet =
+    inr (none_status (old.work.files.content source) told.0)
+compile_status name source old new (reports.ReadFault file) cause told quiet =
     absurd (quiet.reads cause.files.0)
-compile_status name source old new (reports.WriteFault file) before after err err' cause told quiet =
+compile_status name source old new (reports.WriteFault file) cause told quiet =
     absurd (quiet.writes cause.files.0)
-compile_status name source old new reports.NoMemory before after err err' cause told quiet = inl refl
-compile_status name source old new (reports.TooLong Map) before after err err' cause told quiet = absurd told
-compile_status name source old new (reports.TooLong Image) before after err err' cause told quiet = absurd told
-compile_status name source old new (reports.NoFile Map) before after err err' cause told quiet = absurd told
-compile_status name source old new (reports.NoFile Image) before after err err' cause told quiet = absurd told
-compile_status name source old new (reports.Exited status) before after err err' cause told quiet = absurd told
-compile_status name source old new reports.Usage before after err err' cause told quiet = absurd told
-compile_status name source old new reports.InputFault before after err err' cause told quiet = absurd told
-compile_status name source old new reports.OutputFault before after err err' cause told quiet = absurd told
-compile_status name source old new reports.NotImage before after err err' cause told quiet = absurd told
-compile_status name source old new (reports.Trapped trap) before after err err' cause told quiet = absurd told
-compile_status name source old new (reports.Stopped at address) before after err err' cause told quiet = absurd told
-compile_status name source old new (reports.BudgetSpent steps) before after err err' cause told quiet = absurd told
+compile_status name source old new reports.NoMemory cause told quiet = inl refl
+compile_status name source old new (reports.TooLong Map) cause told quiet = absurd told
+compile_status name source old new (reports.TooLong Image) cause told quiet = absurd told
+compile_status name source old new (reports.NoFile Map) cause told quiet = absurd told
+compile_status name source old new (reports.NoFile Image) cause told quiet = absurd told
+compile_status name source old new (reports.Exited status) cause told quiet = absurd told
+compile_status name source old new reports.Usage cause told quiet = absurd told
+compile_status name source old new reports.InputFault cause told quiet = absurd told
+compile_status name source old new reports.OutputFault cause told quiet = absurd told
+compile_status name source old new reports.NotImage cause told quiet = absurd told
+compile_status name source old new (reports.Trapped trap) cause told quiet = absurd told
+compile_status name source old new (reports.Stopped at address) cause told quiet = absurd told
+compile_status name source old new (reports.BudgetSpent steps) cause told quiet = absurd told
 
 -- ---- run
 
@@ -112,8 +120,11 @@ no_file_status input content e = rw e refl
 
 too_long_status : (input : List ℕ) (content : Option (List ℕ)) → IsTooLong content → RunStatus input content 3
 too_long_status input content long =
-    rw long.1 (λ h. refl, λ h none. absurd (omega (arith, long.2, h)),
-        λ h s o first runs. absurd (omega (arith, long.2, h)))
+    rw long.1 (
+      λ h. refl,
+      λ h none. absurd (omega (arith, long.2, h)),
+      λ h s o first runs. absurd (omega (arith, long.2, h)),
+    )
 
 no_image_status : (input : List ℕ) (content : Option (List ℕ)) → Holds content (IsNoImage input)
     → RunStatus input content 7
@@ -125,87 +136,74 @@ same_end : (image input : List ℕ) (s t : State) (a b : Outcome) → First imag
     → Runs no_visits run_steps s a → Runs no_visits run_steps t b → b.end ≡ a.end
 same_end image input s t a b first other runs others =
     let at_t : Runs no_visits run_steps t a =
-        subst (λ (u : State). Runs no_visits run_steps u a) (first-one image input s t first other) runs in
+    subst (λ (u : State). Runs no_visits run_steps u a) (first-one image input s t first other) runs in
     ap (λ (o : Outcome). o.end) (run_once no_visits run_steps t b a others at_t)
 
-run_gives_status : (before after : Streams) (content : Option (List ℕ)) (end : End)
-    → Holds content (RunGives before after end) → RunStatus before.left content (end_status end)
-run_gives_status before after content end held =
+run_gives_status : (old new : Work) (content : Option (List ℕ)) (end : End)
+    → Holds content (RunGives old new end) → RunStatus old.input.left content (end_status end)
+run_gives_status old new content end held =
     rw held.1 (
       λ h. absurd (omega (arith, held.2, h)),
       λ h none. absurd (none held.3.0 held.3.1),
       λ h s o first runs.
-          sym (ap end_status (same_end held.0 before.left held.3.0 s held.3.2 o held.3.1 first held.3.3 runs
-              ∙ held.3.4)),
+          sym (ap end_status (same_end held.0 old.input.left held.3.0 s held.3.2 o held.3.1 first held.3.3 runs
+          ∙ held.3.4)),
     )
 
 -- the report of a run has the status of the file
-run_status : (content : Option (List ℕ)) (report : Report) (streams streams' : Streams) (before after : Counts)
-    (err err' : SinkCounts) → HasCause report before after → RunTold content streams streams' report
-    → IsQuiet before after err err' → (status_of report ≡ 11) ⊎ RunStatus streams.left content (status_of report)
-run_status content (reports.Exited status) streams streams' before after err err' cause told quiet =
-    inr (run_gives_status streams streams' content (outcome.Ended status) told)
-run_status content (reports.Trapped trap) streams streams' before after err err' cause told quiet =
-    inr (run_gives_status streams streams' content (outcome.Trapped trap) told)
-run_status content (reports.Stopped at address) streams streams' before after err err' cause told quiet =
-    inr (run_gives_status streams streams' content (outcome.Stopped at address) told)
-run_status content (reports.BudgetSpent steps) streams streams' before after err err' cause told quiet =
-    inr (run_gives_status streams streams' content outcome.Goes told.1)
-run_status content reports.NotImage streams streams' before after err err' cause told quiet =
-    inr (no_image_status streams.left content told.0)
-run_status content (reports.TooLong Image) streams streams' before after err err' cause told quiet =
-    inr (too_long_status streams.left content told.0)
-run_status content (reports.NoFile Image) streams streams' before after err err' cause told quiet =
-    inr (no_file_status streams.left content told.0)
-run_status content (reports.ReadFault file) streams streams' before after err err' cause told quiet =
-    absurd (quiet.reads cause.files.0)
-run_status content reports.InputFault streams streams' before after err err' cause told quiet =
-    absurd (quiet.input cause.streams.0)
-run_status content reports.OutputFault streams streams' before after err err' cause told quiet =
-    absurd (quiet.output cause.streams.1)
-run_status content (reports.WriteFault file) streams streams' before after err err' cause told quiet =
-    absurd (quiet.writes cause.files.0)
-run_status content reports.NoMemory streams streams' before after err err' cause told quiet = inl refl
-run_status content (reports.TooManyTokens tokens) streams streams' before after err err' cause told quiet = absurd told
-run_status content (reports.TooLong Source) streams streams' before after err err' cause told quiet = absurd told
-run_status content (reports.TooLong Map) streams streams' before after err err' cause told quiet = absurd told
-run_status content (reports.NoFile Source) streams streams' before after err err' cause told quiet = absurd told
-run_status content (reports.NoFile Map) streams streams' before after err err' cause told quiet = absurd told
-run_status content reports.Compiled streams streams' before after err err' cause told quiet = absurd told
-run_status content (reports.SourceFault fault) streams streams' before after err err' cause told quiet = absurd told
-run_status content reports.Usage streams streams' before after err err' cause told quiet = absurd told
+run_status : (content : Option (List ℕ)) (report : Report) (old new : Outside) → HasCause report old.work new.work
+    → RunTold content old.work new.work report → IsQuiet old new
+    → (status_of report ≡ 11) ⊎ RunStatus old.work.input.left content (status_of report)
+run_status content (reports.Exited status) old new cause told quiet =
+    inr (run_gives_status old.work new.work content (outcome.Ended status) told)
+run_status content (reports.Trapped trap) old new cause told quiet =
+    inr (run_gives_status old.work new.work content (outcome.Trapped trap) told)
+run_status content (reports.Stopped at address) old new cause told quiet =
+    inr (run_gives_status old.work new.work content (outcome.Stopped at address) told)
+run_status content (reports.BudgetSpent steps) old new cause told quiet =
+    inr (run_gives_status old.work new.work content outcome.Goes told.1)
+run_status content reports.NotImage old new cause told quiet =
+    inr (no_image_status old.work.input.left content told.0)
+run_status content (reports.TooLong Image) old new cause told quiet =
+    inr (too_long_status old.work.input.left content told.0)
+run_status content (reports.NoFile Image) old new cause told quiet =
+    inr (no_file_status old.work.input.left content told.0)
+run_status content (reports.ReadFault file) old new cause told quiet = absurd (quiet.reads cause.files.0)
+run_status content reports.InputFault old new cause told quiet = absurd (quiet.input cause.streams.0)
+run_status content reports.OutputFault old new cause told quiet = absurd (quiet.output cause.streams.1)
+run_status content (reports.WriteFault file) old new cause told quiet = absurd (quiet.writes cause.files.0)
+run_status content reports.NoMemory old new cause told quiet = inl refl
+run_status content (reports.TooManyTokens tokens) old new cause told quiet = absurd told
+run_status content (reports.TooLong Source) old new cause told quiet = absurd told
+run_status content (reports.TooLong Map) old new cause told quiet = absurd told
+run_status content (reports.NoFile Source) old new cause told quiet = absurd told
+run_status content (reports.NoFile Map) old new cause told quiet = absurd told
+run_status content reports.Compiled old new cause told quiet = absurd told
+run_status content (reports.SourceFault fault) old new cause told quiet = absurd told
+run_status content reports.Usage old new cause told quiet = absurd told
 
 -- ---- every command
 
 -- the report of a command has the status that the command has
-report_status : (command : Command) (report : Report) (files_tell streams_tell : Type 0) (old new : Files)
-    (streams streams' : Streams) (before after : Counts) (err err' : SinkCounts) → HasCause report before after
-    → CommandTold command files_tell streams_tell old new streams streams' report → files_tell → streams_tell
-    → IsQuiet before after err err' → (status_of report ≡ 11) ⊎ HasStatus command old streams.left (status_of report)
-report_status (commands.Compile name source) report files_tell streams_tell old new streams streams' before after err
-    err' cause told f s quiet =
-    compile_status name source old new report before after err err' cause (told.0 f) quiet
-report_status (commands.Run image) report files_tell streams_tell old new streams streams' before after err err' cause
-    told f s quiet =
-    run_status (old image) report streams streams' before after err err' cause (told.3 f s) quiet
-report_status commands.Usage report files_tell streams_tell old new streams streams' before after err err' cause told f
-    s quiet =
-    inr (ap status_of told.0)
+report_status : (command : Command) (report : Report) (old new : Outside) → HasCause report old.work new.work
+    → CommandTold command old.work new.work report → old.work.files.tells → old.work.input.tells → old.work.out.tells
+    → IsQuiet old new → (status_of report ≡ 11) ⊎ HasStatus command old.work (status_of report)
+report_status (commands.Compile name source) report old new cause told f i o quiet =
+    compile_status name source old new report cause (told.0 f) quiet
+report_status (commands.Run image) report old new cause told f i o quiet =
+    run_status (old.work.files.content image) report old new cause (told.3 f i o) quiet
+report_status commands.Usage report old new cause told f i o quiet = inr (ap status_of told.0)
 
 -- the status of a command where nothing fails
-pub exact_status : (command : Command) (report : Report) (files_tell streams_tell : Type 0) (old new : Files)
-    (streams streams' : Streams) (before after : Counts) (err err' : SinkCounts) (err_tells : Type 0)
-    (taken taken' : List ℕ) (result : ℕ) → HasCause report before after
-    → CommandTold command files_tell streams_tell old new streams streams' report
-    → Ends command report err err' err_tells taken taken' result → files_tell → streams_tell
-    → IsQuiet before after err err' → (result ≡ 11) ⊎ HasStatus command old streams.left result
-exact_status command report files_tell streams_tell old new streams streams' before after err err' err_tells taken
-    taken' result cause told ends f s quiet =
-    elim (ends_status command report err err' err_tells taken taken' result ends quiet.errors) [
+pub exact_status : (command : Command) (report : Report) (old new : Outside) (result : ℕ)
+    → HasCause report old.work new.work → CommandTold command old.work new.work report
+    → Ends command report old.err new.err result → old.work.files.tells → old.work.input.tells → old.work.out.tells
+    → IsQuiet old new → (result ≡ 11) ⊎ HasStatus command old.work result
+exact_status command report old new result cause told ends f i o quiet =
+    elim (ends_status command report old.err new.err result ends quiet.errors) [
       | inl none ↦ inl none
-      | inr same ↦ elim (report_status command report files_tell streams_tell old new streams streams' before after err
-          err' cause told f s quiet) [
+      | inr same ↦ elim (report_status command report old new cause told f i o quiet) [
         | inl none ↦ inl (same ∙ none)
-        | inr has ↦ inr (subst (λ (n : ℕ). HasStatus command old streams.left n) (sym same) has)
+        | inr has ↦ inr (subst (λ (n : ℕ). HasStatus command old.work n) (sym same) has)
       ]
     ]

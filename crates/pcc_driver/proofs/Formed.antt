@@ -21,5 +21,9 @@ every_named (f ∷ fs) h = (record { name = h.0.0; locals = every IsNamedLocal f
 pub compiled_form : (program : Program) → IsSlotProgram program → AllByRecursion IsNamed program.functions
     → AllByRecursion (λ (f : Function). frame_bound f ≤ 16384) program.functions → IsCompiledForm program
 compiled_form program form names frames =
-    record { form = form; names = every_named program.functions names; frames =
-        every IsSmallFrame program.functions frames }
+    record {
+      form = form;
+      names = every_named program.functions names;
+      frames =
+          every IsSmallFrame program.functions frames;
+    }

@@ -10,9 +10,10 @@ use Rattle.ia32_machine.specs.Runs.{Gives, GivesSoFar, GivesPart, WritesNext}
 use Rattle.ia32_machine.specs.declared.ends.MachineEnd.{MachineEnd}
 use Rattle.ia32_machine.specs.declared.ends.MachineEnd.TheVariants as machine
 use Rattle.pcc_driver.specs.declared.report.Named.TheVariants.{Source, Map, Image}
-use Rattle.pcc_driver.specs.Answers.{Streams, ImageTold, RunTold, RunGives, RunGivesSoFar, RunGivesPart, Holds}
+use Rattle.pcc_driver.specs.Answers.{SameStreams, ImageTold, RunTold, RunGives, RunGivesSoFar, RunGivesPart, Holds}
 use Rattle.pcc_driver.specs.Answers.{GivesNoMachine, IsNoImage, report_of_end, run_steps}
 use Rattle.pcc_driver.specs.Headline.{file_limit}
+use Rattle.pcc_driver.specs.Outside.{Work}
 use Rattle.pcc_driver.specs.declared.report.Report.{Report}
 use Rattle.pcc_driver.specs.declared.report.Report.TheVariants as reports
 
@@ -21,25 +22,26 @@ pub no_image : (image input : List ℕ) → ((segments : Segments) → Loads ima
 no_image image input none s first = none first.0 first.1
 
 -- the report of bytes that give no machine
-pub no_machine_told : (report : Report) (content : Option (List ℕ)) (image : List ℕ) (streams : Streams) → content
-    ≡ Some image → length image ≤ file_limit → GivesNoMachine image report → RunTold content streams streams report
-no_machine_told reports.NotImage content image streams read small none =
-    ((image, read, small, no_image image streams.left none), refl)
-no_machine_told reports.NoMemory content image streams read small none = inl refl
-no_machine_told reports.Compiled content image streams read small none = none
-no_machine_told (reports.Exited status) content image streams read small none = absurd none
-no_machine_told (reports.SourceFault fault) content image streams read small none = absurd none
-no_machine_told reports.Usage content image streams read small none = absurd none
-no_machine_told (reports.TooLong file) content image streams read small none = absurd none
-no_machine_told (reports.TooManyTokens tokens) content image streams read small none = absurd none
-no_machine_told (reports.ReadFault file) content image streams read small none = absurd none
-no_machine_told reports.InputFault content image streams read small none = absurd none
-no_machine_told (reports.WriteFault file) content image streams read small none = absurd none
-no_machine_told reports.OutputFault content image streams read small none = absurd none
-no_machine_told (reports.NoFile file) content image streams read small none = absurd none
-no_machine_told (reports.Trapped trap) content image streams read small none = absurd none
-no_machine_told (reports.Stopped cause address) content image streams read small none = absurd none
-no_machine_told (reports.BudgetSpent steps) content image streams read small none = absurd none
+pub no_machine_told : (report : Report) (content : Option (List ℕ)) (image : List ℕ) (old new : Work)
+    → SameStreams old new → content ≡ Some image → length image ≤ file_limit → GivesNoMachine image report
+    → RunTold content old new report
+no_machine_told reports.NotImage content image old new same read small none =
+    ((image, read, small, no_image image old.input.left none), same)
+no_machine_told reports.NoMemory content image old new same read small none = inl same
+no_machine_told reports.Compiled content image old new same read small none = none
+no_machine_told (reports.Exited status) content image old new same read small none = absurd none
+no_machine_told (reports.SourceFault fault) content image old new same read small none = absurd none
+no_machine_told reports.Usage content image old new same read small none = absurd none
+no_machine_told (reports.TooLong file) content image old new same read small none = absurd none
+no_machine_told (reports.TooManyTokens tokens) content image old new same read small none = absurd none
+no_machine_told (reports.ReadFault file) content image old new same read small none = absurd none
+no_machine_told reports.InputFault content image old new same read small none = absurd none
+no_machine_told (reports.WriteFault file) content image old new same read small none = absurd none
+no_machine_told reports.OutputFault content image old new same read small none = absurd none
+no_machine_told (reports.NoFile file) content image old new same read small none = absurd none
+no_machine_told (reports.Trapped trap) content image old new same read small none = absurd none
+no_machine_told (reports.Stopped cause address) content image old new same read small none = absurd none
+no_machine_told (reports.BudgetSpent steps) content image old new same read small none = absurd none
 
 -- such a report says what the file holds
 pub no_machine_file : (report : Report) (content : Option (List ℕ)) (image : List ℕ) → content ≡ Some image
@@ -69,44 +71,63 @@ pub lent_first : (image : List ℕ) (segments : Segments) (machine : State) (lef
 lent_first image segments machine left loads same = (segments, loads, ap (λ (m : State). lent m left) same)
 
 -- the end of a run is told by its report
-gives_told : (content : Option (List ℕ)) (image : List ℕ) (s : State) (streams streams' : Streams) (end : outcome.End)
-    → content ≡ Some image → length image ≤ file_limit → First image streams.left s
-    → Gives run_steps s streams.left streams'.left streams.taken streams'.taken end
-    → Holds content (RunGives streams streams' end)
-gives_told content image s streams streams' end read small first told =
+gives_told : (content : Option (List ℕ)) (image : List ℕ) (s : State) (old new : Work) (end : outcome.End)
+    → content ≡ Some image → length image ≤ file_limit → First image old.input.left s
+    → Gives run_steps s old.input.left new.input.left old.out.taken new.out.taken end
+    → Holds content (RunGives old new end)
+gives_told content image s old new end read small first told =
     (image, read, small, (s, first, told.0, told.1, told.2, told.3, told.4))
 
-so_far_told : (content : Option (List ℕ)) (image : List ℕ) (s left : State) (streams streams' : Streams)
-    (IsLeft : State → Type 0) → content ≡ Some image → length image ≤ file_limit → First image streams.left s
-    → GivesSoFar run_steps s left streams.left streams'.left streams.taken streams'.taken IsLeft
-    → Holds content (RunGivesSoFar streams streams')
-so_far_told content image s left streams streams' IsLeft read small first told =
-    let gives = told.2 in (image, read, small, (s, first, told.0, told.1, gives.0, gives.1, gives.2, gives.3, gives.4))
+so_far_told : (content : Option (List ℕ)) (image : List ℕ) (s left : State) (old new : Work)
+    (IsLeft : State → Type 0) → content ≡ Some image → length image ≤ file_limit → First image old.input.left s
+    → GivesSoFar run_steps s left old.input.left new.input.left old.out.taken new.out.taken IsLeft
+    → Holds content (RunGivesSoFar IsLeft old new)
+so_far_told content image s left old new IsLeft read small first told =
+    let gives = told.2 in
+    let last = told.3 in (
+      image,
+      read,
+      small,
+      (
+        s,
+        first,
+        told.0,
+        told.1,
+        gives.0,
+        gives.1,
+        gives.2,
+        gives.3,
+        gives.4,
+        last.0,
+        last.1,
+        last.2,
+      ),
+    )
 
-part_told : (content : Option (List ℕ)) (image : List ℕ) (s left : State) (streams streams' : Streams)
-    → content ≡ Some image → length image ≤ file_limit → First image streams.left s
-    → GivesPart run_steps s left streams.left streams'.left streams.taken streams'.taken
-    → Holds content (RunGivesPart streams streams')
-part_told content image s left streams streams' read small first told =
+part_told : (content : Option (List ℕ)) (image : List ℕ) (s left : State) (old new : Work)
+    → content ≡ Some image → length image ≤ file_limit → First image old.input.left s
+    → GivesPart run_steps s left old.input.left new.input.left old.out.taken new.out.taken
+    → Holds content (RunGivesPart old new)
+part_told content image s left old new read small first told =
     (image, read, small, (s, first, told.0, told.1, told.2, told.3, told.4, told.5, told.6, told.7, told.8))
 
 -- the report of a run of the machine, which was left in some state, tells what the machine does
 pub machine_told : (end : MachineEnd) (content : Option (List ℕ)) (image : List ℕ) (s left : State)
-    (streams streams' : Streams) → content ≡ Some image → length image ≤ file_limit → First image streams.left s
-    → runs.RunTold run_steps s left streams.left streams'.left streams.taken streams'.taken end
-    → RunTold content streams streams' (report_of_end end)
+    (old new : Work) → content ≡ Some image → length image ≤ file_limit → First image old.input.left s
+    → runs.RunTold run_steps s left old.input.left new.input.left old.out.taken new.out.taken end
+    → RunTold content old new (report_of_end end)
 unfolding runs.RunTold
-machine_told (machine.Ended status) content image s left streams streams' read small first told =
-    gives_told content image s streams streams' (outcome.Ended status) read small first told.0
-machine_told (machine.Trapped trap) content image s left streams streams' read small first told =
-    gives_told content image s streams streams' (outcome.Trapped trap) read small first told.0
-machine_told (machine.Stopped cause address) content image s left streams streams' read small first told =
-    gives_told content image s streams streams' (outcome.Stopped cause address) read small first told.0
-machine_told machine.BudgetSpent content image s left streams streams' read small first told =
-    (refl, gives_told content image s streams streams' outcome.Goes read small first told.0)
-machine_told machine.ReadFault content image s left streams streams' read small first told =
-    so_far_told content image s left streams streams' (λ t. ⊤) read small first told
-machine_told machine.WriteFault content image s left streams streams' read small first told =
-    part_told content image s left streams streams' read small first told
-machine_told machine.NoMemory content image s left streams streams' read small first told =
-    inr (so_far_told content image s left streams streams' WritesNext read small first told)
+machine_told (machine.Ended status) content image s left old new read small first told =
+    gives_told content image s old new (outcome.Ended status) read small first told.0
+machine_told (machine.Trapped trap) content image s left old new read small first told =
+    gives_told content image s old new (outcome.Trapped trap) read small first told.0
+machine_told (machine.Stopped cause address) content image s left old new read small first told =
+    gives_told content image s old new (outcome.Stopped cause address) read small first told.0
+machine_told machine.BudgetSpent content image s left old new read small first told =
+    (refl, gives_told content image s old new outcome.Goes read small first told.0)
+machine_told machine.ReadFault content image s left old new read small first told =
+    so_far_told content image s left old new (λ t. ⊤) read small first told
+machine_told machine.WriteFault content image s left old new read small first told =
+    part_told content image s left old new read small first told
+machine_told machine.NoMemory content image s left old new read small first told =
+    inr (so_far_told content image s left old new WritesNext read small first told)

@@ -13,9 +13,10 @@ map_stands : (name source text map_bytes image : List ℕ) (old mid new : Files)
     → ((other : List ℕ) → mid other ≡ old other) → old source ≡ Some text → length text ≤ file_limit
     → AreProducts text map_bytes image → new (map_name name) ≡ Some map_bytes
     → ((other : List ℕ) → other ≢ name → other ≢ map_name name → new other ≡ mid other) → MapStands name source old new
-map_stands name source text map_bytes image old mid new kept read small products written others =
-    ((text, products.0, products.2.0, image, read, small, products.1, products.2.2, written ∙ ap Some products.2.1),
-        λ other n m. others other n m ∙ kept other)
+map_stands name source text map_bytes image old mid new kept read small products written others = (
+  (text, products.0, products.2.0, image, read, small, products.1, products.2.2, written ∙ ap Some products.2.1),
+  λ other n m. others other n m ∙ kept other,
+)
 
 -- the report of the writes tells what the compilation did
 pub written_told : (report : Report) (name source text map_bytes image : List ℕ) (old mid new : Files)
@@ -43,8 +44,10 @@ written_told (reports.WriteFault Image) name source text map_bytes image old mid
 written_told reports.NoMemory name source text map_bytes image old mid new kept read small products told =
     elim told [
       | inl same ↦ inl (λ other. same other ∙ kept other)
-      | inr half ↦ inr (map_stands name source text map_bytes image old mid new kept read small products half.0 half.1,
-          half.2 ∙ kept name)
+      | inr half ↦ inr (
+        map_stands name source text map_bytes image old mid new kept read small products half.0 half.1,
+        half.2 ∙ kept name,
+      )
     ]
 written_told (reports.WriteFault Source) name source text map_bytes image old mid new kept read small products told =
     absurd told

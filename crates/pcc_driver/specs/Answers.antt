@@ -14,6 +14,7 @@ use Rattle.ia32_insn.specs.State.{State}
 use Rattle.ia32_insn.specs.Runs.{Runs, no_visits}
 use Rattle.elf_image.specs.Segments.{Segments, Loads}
 use Rattle.ia32_machine.specs.First.{First}
+use Rattle.ia32_machine.specs.Runs.{Reaches, WritesNext}
 use Rattle.ia32_machine.specs.declared.ends.MachineEnd.{MachineEnd}
 use Rattle.ia32_machine.specs.declared.ends.MachineEnd.TheVariants as machine
 use Rattle.pcc_listing.specs.Lines.{map_text}
@@ -24,6 +25,7 @@ use Rattle.c_front.specs.Refusals.{HasManyTokens, IsSourceFault}
 use Rattle.pcc_compile.specs.Products.{IsImageOf}
 use Rattle.pcc_driver.specs.Commands.{Command, Compile, Run, Usage, map_name}
 use Rattle.pcc_driver.specs.Headline.{Files, file_limit, IsCompiled}
+use Rattle.pcc_driver.specs.Outside.{Output, Work}
 use Rattle.pcc_driver.specs.Reports.{status_of, report_line}
 use Rattle.pcc_driver.specs.declared.report.Named.{Named}
 use Rattle.pcc_driver.specs.declared.report.Named.TheVariants.{Source, Map, Image}
@@ -35,15 +37,6 @@ abbrev pub run_steps : ℕ
 run_steps = 1000000000
 
 -- ---- counts
-
--- the counts of the lent objects that a command may raise before its line is put
-pub record Counts : Type 0 where
-  pub files : StoreCounts
-  pub input : ℕ
-  pub out : SinkCounts
-
-abbrev pub counts_of : StoreCounts → ℕ → SinkCounts → Counts
-counts_of files input out = record { files = files; input = input; out = out }
 
 -- the count of the files that the report names rose, and no other
 abbrev pub FilesCause : Report → StoreCounts → StoreCounts → Type 0
@@ -63,9 +56,9 @@ StreamsCause _ input input' out out' = (input' ≡ input) × (out' ≡ out)
 
 -- The count that the report has, if it has one, rose, and no other; in want of memory that of the output's
 -- wants is left open.
-pub record HasCause (report : Report) (old new : Counts) : Type 0 where
-  pub files : FilesCause report old.files new.files
-  pub streams : StreamsCause report old.input new.input old.out new.out
+pub record HasCause (report : Report) (old new : Work) : Type 0 where
+  pub files : FilesCause report old.files.counts new.files.counts
+  pub streams : StreamsCause report old.input.faults new.input.faults old.out.counts new.out.counts
 
 -- ---- compile
 
@@ -142,47 +135,43 @@ GivesNoMachine image _ = ⊥
 abbrev pub WritesTold : List ℕ → List ℕ → List ℕ → List ℕ → Files → Files → Report → Type 0
 WritesTold map_name name map_bytes image old new reports.Compiled =
     (new map_name ≡ Some map_bytes) × (new name ≡ Some image)
-        × ((other : List ℕ) → other ≢ name → other ≢ map_name → new other ≡ old other)
+    × ((other : List ℕ) → other ≢ name → other ≢ map_name → new other ≡ old other)
 WritesTold map_name name map_bytes image old new (reports.WriteFault Map) = OnlyFile map_name old new
 WritesTold map_name name map_bytes image old new (reports.WriteFault Image) =
     (new map_name ≡ Some map_bytes) × ((other : List ℕ) → other ≢ name → other ≢ map_name → new other ≡ old other)
 WritesTold map_name name map_bytes image old new reports.NoMemory =
     SameFiles old new
     ⊎ ((new map_name ≡ Some map_bytes) × ((other : List ℕ) → other ≢ name → other ≢ map_name → new other ≡ old other)
-        × (new name ≡ old name))
+    × (new name ≡ old name))
 WritesTold map_name name map_bytes image old new _ = ⊥
 
 -- ---- run
 
--- what is left of the input and taken by the output, before and after
-pub record Streams : Type 0 where
-  pub left : List ℕ
-  pub taken : List ℕ
-
-abbrev pub streams_of : List ℕ → List ℕ → Streams
-streams_of left taken = record { left = left; taken = taken }
+-- nothing was taken of the input or put on the output
+abbrev pub SameStreams : Work → Work → Type 0
+SameStreams old new = (new.input.left ≡ old.input.left) × (new.out.taken ≡ old.out.taken)
 
 -- all the steps of the image with these bytes have this end
-abbrev pub RunGives : Streams → Streams → outcome.End → List ℕ → Type 0
+abbrev pub RunGives : Work → Work → outcome.End → List ℕ → Type 0
 RunGives old new end image =
-    (s : State) × First image old.left s × (o : Outcome) × Runs no_visits run_steps s o × (o.end ≡ end)
-    × (new.left ≡ drop o.taken old.left) × (new.taken ≡ old.taken ++ o.written)
+    (s : State) × First image old.input.left s × (o : Outcome) × Runs no_visits run_steps s o × (o.end ≡ end)
+    × (new.input.left ≡ drop o.taken old.input.left) × (new.out.taken ≡ old.out.taken ++ o.written)
 
--- the streams are as fewer steps than that leave them
-abbrev pub RunGivesSoFar : Streams → Streams → List ℕ → Type 0
-RunGivesSoFar old new image =
-    (s : State) × First image old.left s × (n : ℕ) × (n < run_steps) × (o : Outcome) × Runs no_visits n s o
-        × (o.end ≡ outcome.Goes)
-    × (new.left ≡ drop o.taken old.left) × (new.taken ≡ old.taken ++ o.written)
+-- Fewer steps than that lead to a state of which this holds, and the streams are as those steps leave them.
+abbrev pub RunGivesSoFar : (State → Type 0) → Work → Work → List ℕ → Type 0
+RunGivesSoFar IsLeft old new image =
+    (s : State) × First image old.input.left s × (n : ℕ) × (n < run_steps) × (o : Outcome) × Runs no_visits n s o
+    × (o.end ≡ outcome.Goes) × (new.input.left ≡ drop o.taken old.input.left)
+    × (new.out.taken ≡ old.out.taken ++ o.written) × (t : State) × Reaches n s t × IsLeft t
 
--- the input is as those steps leave it, and what was put on the output is what they write, and a prefix of what one
+-- The input is as fewer steps leave it, and what was put on the output is what they write, and a prefix of what one
 -- step
--- more writes
-abbrev pub RunGivesPart : Streams → Streams → List ℕ → Type 0
+-- more writes.
+abbrev pub RunGivesPart : Work → Work → List ℕ → Type 0
 RunGivesPart old new image =
-    (s : State) × First image old.left s × (n : ℕ) × (n < run_steps) × (o next : Outcome) × Runs no_visits n s o
-        × Runs no_visits (suc n) s next
-    × (new.left ≡ drop o.taken old.left) × (k : ℕ) × (new.taken ≡ old.taken ++ take (length o.written + k) next.written)
+    (s : State) × First image old.input.left s × (n : ℕ) × (n < run_steps) × (o next : Outcome)
+    × Runs no_visits n s o × Runs no_visits (suc n) s next × (new.input.left ≡ drop o.taken old.input.left)
+    × (k : ℕ) × (new.out.taken ≡ old.out.taken ++ take (length o.written + k) next.written)
 
 -- the image has no first state
 abbrev pub IsNoImage : List ℕ → List ℕ → Type 0
@@ -200,21 +189,23 @@ ImageTold content (reports.TooLong Image) = IsTooLong content
 ImageTold content reports.NotImage = Holds content (λ image. (segments : Segments) → Loads image segments → ⊥)
 ImageTold content _ = ⊤
 
--- the report of `run` on files and streams that are told; no file has changed
-abbrev pub RunTold : Option (List ℕ) → Streams → Streams → Report → Type 0
+-- The report of `run` on files and streams that are told; no file has changed. Where the output finds no memory, the
+-- next
+-- step writes.
+abbrev pub RunTold : Option (List ℕ) → Work → Work → Report → Type 0
 RunTold content old new (reports.Exited status) = Holds content (RunGives old new (outcome.Ended status))
 RunTold content old new (reports.Trapped trap) = Holds content (RunGives old new (outcome.Trapped trap))
 RunTold content old new (reports.Stopped cause address) =
     Holds content (RunGives old new (outcome.Stopped cause address))
 RunTold content old new (reports.BudgetSpent steps) = (steps ≡ run_steps)
     × Holds content (RunGives old new outcome.Goes)
-RunTold content old new reports.NotImage = Holds content (IsNoImage old.left) × (new ≡ old)
-RunTold content old new (reports.TooLong Image) = IsTooLong content × (new ≡ old)
-RunTold content old new (reports.ReadFault Image) = new ≡ old
-RunTold content old new (reports.NoFile Image) = (content ≡ None) × (new ≡ old)
-RunTold content old new reports.InputFault = Holds content (RunGivesSoFar old new)
+RunTold content old new reports.NotImage = Holds content (IsNoImage old.input.left) × SameStreams old new
+RunTold content old new (reports.TooLong Image) = IsTooLong content × SameStreams old new
+RunTold content old new (reports.ReadFault Image) = SameStreams old new
+RunTold content old new (reports.NoFile Image) = (content ≡ None) × SameStreams old new
+RunTold content old new reports.InputFault = Holds content (RunGivesSoFar (λ t. ⊤) old new)
 RunTold content old new reports.OutputFault = Holds content (RunGivesPart old new)
-RunTold content old new reports.NoMemory = (new ≡ old) ⊎ Holds content (RunGivesSoFar old new)
+RunTold content old new reports.NoMemory = SameStreams old new ⊎ Holds content (RunGivesSoFar WritesNext old new)
 RunTold content old new _ = ⊥
 
 -- ---- the line, and the status
@@ -229,25 +220,25 @@ status_after status (Err put.NoMemory) = 11
 abbrev pub IsShown : Report → Report → Type 0
 IsShown report shown = (shown ≡ report) ⊎ (shown ≡ reports.NoMemory)
 
--- The line was put on standard error, whose counts and bytes taken are these before and after, and the
--- status is that of the report, or 5 or 11 where standard error refused.
-abbrev pub IsPut : List ℕ → ℕ → SinkCounts → SinkCounts → Type 0 → List ℕ → List ℕ → ℕ → Type 0
-IsPut line status counts counts' tells taken taken' result =
-    (answer : Result Unit WriteRefusal) × CountsPut counts counts' answer × (tells → PutTold taken taken' line answer)
-        × (result ≡ status_after status answer)
+-- The line was put on standard error, which is this before and after, and the status is that of the report, or 5 or 11
+-- where standard error refused.
+abbrev pub IsPut : List ℕ → ℕ → Output → Output → ℕ → Type 0
+IsPut line status old new result =
+    (answer : Result Unit WriteRefusal) × CountsPut old.counts new.counts answer
+    × (old.tells → PutTold old.taken new.taken line answer) × (result ≡ status_after status answer)
 
 -- a command's report ends in its status
-abbrev pub Ends : Command → Report → SinkCounts → SinkCounts → Type 0 → List ℕ → List ℕ → ℕ → Type 0
-Ends command report counts counts' tells taken taken' result =
-    (shown : Report) × IsShown report shown × IsPut (report_line command shown) (status_of shown) counts counts' tells
-        taken taken' result
+abbrev pub Ends : Command → Report → Output → Output → ℕ → Type 0
+Ends command report old new result =
+    (shown : Report) × IsShown report shown × IsPut (report_line command shown) (status_of shown) old new result
 
 -- the report of a command on what is told
-abbrev pub CommandTold : Command → Type 0 → Type 0 → Files → Files → Streams → Streams → Report → Type 0
-CommandTold (Compile name source) files_tell streams_tell old new before after report =
-    (files_tell → CompileTold name source old new report) × (after ≡ before)
-CommandTold (Run image) files_tell streams_tell old new before after report =
-    IsOfRun report × (files_tell → SameFiles old new) × (files_tell → ImageTold (old image) report)
-    × (files_tell → streams_tell → RunTold (old image) before after report)
-CommandTold Usage files_tell streams_tell old new before after report =
-    (report ≡ reports.Usage) × (files_tell → SameFiles old new) × (after ≡ before)
+abbrev pub CommandTold : Command → Work → Work → Report → Type 0
+CommandTold (Compile name source) old new report =
+    (old.files.tells → CompileTold name source old.files.content new.files.content report) × SameStreams old new
+CommandTold (Run image) old new report =
+    IsOfRun report × (old.files.tells → SameFiles old.files.content new.files.content)
+    × (old.files.tells → ImageTold (old.files.content image) report)
+    × (old.files.tells → old.input.tells → old.out.tells → RunTold (old.files.content image) old new report)
+CommandTold Usage old new report =
+    (report ≡ reports.Usage) × (old.files.tells → SameFiles old.files.content new.files.content) × SameStreams old new

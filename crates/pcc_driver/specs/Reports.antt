@@ -1,5 +1,5 @@
 -- The status of each report, and its line on standard error.
-use Rattle.std.specs.Prelude.{ℕ, List, [], ◌∷◌, ◌++◌, codes, decimal}
+use Rattle.std.specs.Prelude.{ℕ, List, [], ◌++◌, codes, decimal}
 use Rattle.pcc_base.specs.Faults.{number_of, name_of}
 use Rattle.pcc_base.specs.declared.fault.Fault.{Fault}
 use Rattle.pcc_base.specs.declared.fault.FaultKind.{FaultKind}
@@ -91,4 +91,4 @@ report_text command NoMemory = codes "no memory"
 -- the line that is put on standard error; a compilation that went well puts none
 abbrev pub report_line : commands.Command → Report → List ℕ
 report_line command Compiled = []
-report_line command report = report_text command report ++ 10 ∷ []
+report_line command report = report_text command report ++ codes "\n"

@@ -1,5 +1,6 @@
 ghost use Rattle.std.specs.Prelude.{◌≡◌, ◌++◌, IfOk, OnOk, decimal};
 ghost use Rattle.pcc_driver.specs.Answers.{Ends, IsPut};
+ghost use Rattle.pcc_driver.specs.Outside.{output_of};
 ghost use Rattle.pcc_driver.specs.Reports.{
   fault_text,
   kind_text,
@@ -188,8 +189,7 @@ fn line_of(alloc: Global, command: Command<'_>, report: Report) -> Result<Vec<u8
 /// Puts a line on standard error, and answers the status: 5 where standard error fails, and 11 where it
 /// has no memory.
 fn put_line<E: Sink>(line: &[u8], status: u8, err: &mut E) -> u8
-    ensures put { IsPut line.now status (E.counts err.old) (E.counts err.new)
-        (E.tells err.old) (E.taken err.old) (E.taken err.new) result }
+    ensures put { IsPut line.now status (output_of E.Sink err.old) (output_of E.Sink err.new) result }
     ensures telling { E.tells err.old → E.tells err.new }
 {
     match err.put_all(line) {
@@ -202,8 +202,7 @@ fn put_line<E: Sink>(line: &[u8], status: u8, err: &mut E) -> u8
 /// Puts the report's line on standard error, and answers its status: 5 where standard error fails, and
 /// 11 where there is no memory for the line or for putting it. A compilation that went well puts nothing.
 pub fn finish<E: Sink>(alloc: Global, command: Command<'_>, report: Report, err: &mut E) -> u8
-    ensures ends { Ends (meaning command.entry) report (E.counts err.old) (E.counts err.new)
-        (E.tells err.old) (E.taken err.old) (E.taken err.new) result }
+    ensures ends { Ends (meaning command.entry) report (output_of E.Sink err.old) (output_of E.Sink err.new) result }
     ensures telling { E.tells err.old → E.tells err.new }
 {
     if let Report::Compiled = report {

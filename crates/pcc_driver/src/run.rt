@@ -1,6 +1,7 @@
 ghost use Rattle.std.specs.Prelude.{◌≡◌, [], MatchResult};
 ghost use Rattle.elf_image.specs.Segments.{Segments, Loads};
 ghost use Rattle.ia32_machine.specs.First.{first_state};
+ghost use Rattle.pcc_driver.specs.Outside.{work_of};
 ghost use Rattle.pcc_driver.specs.Answers.{
   FilesCause,
   StreamsCause,
@@ -9,7 +10,6 @@ ghost use Rattle.pcc_driver.specs.Answers.{
   IsOfRun,
   RunTold,
   GivesNoMachine,
-  streams_of,
   report_of_end,
 };
 
@@ -73,8 +73,8 @@ pub fn run<F: FileStore, I: Source, O: Sink>(
     ensures file { F.tells files.old → ImageTold (F.content files.old image.now) result }
     ensures told { F.tells files.old → I.tells input.old → O.tells out.old →
         RunTold (F.content files.old image.now)
-        (streams_of (I.left input.old) (O.taken out.old))
-        (streams_of (I.left input.new) (O.taken out.new))
+        (work_of F.FileStore I.Source O.Sink files.old input.old out.old)
+        (work_of F.FileStore I.Source O.Sink files.new input.new out.new)
         result }
 {
     let bytes = match files.read(alloc, image, FILE_LIMIT) {

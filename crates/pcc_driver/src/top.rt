@@ -1,7 +1,8 @@
 ghost use Rattle.std.specs.Prelude.{◌≡◌, ◌≤◌, ◌⊎◌, ℕ, List, map, string_bytes};
-ghost use Rattle.pcc_driver.specs.Answers.{HasCause, CommandTold, Ends, counts_of, streams_of};
+ghost use Rattle.pcc_driver.specs.Answers.{HasCause, CommandTold, Ends};
 ghost use Rattle.pcc_driver.specs.Commands.{command_of, Compile};
 ghost use Rattle.pcc_driver.specs.Headline.{IsCompiled};
+ghost use Rattle.pcc_driver.specs.Outside.{work_of, outside_of};
 ghost use Rattle.pcc_driver.specs.Promises.{IsQuiet, HasStatus, HasCauses, NoticesFaults};
 ghost use Rattle.pcc_driver.specs.Words.{meaning};
 ghost use Rattle.pcc_driver.specs.declared.report.Report.{Report};
@@ -23,13 +24,11 @@ fn carry_out<F: FileStore, I: Source, O: Sink>(
     out: &mut O,
 ) -> Report
     ensures cause { HasCause result
-        (counts_of (F.counts files.old) (I.faults input.old) (O.counts out.old))
-        (counts_of (F.counts files.new) (I.faults input.new) (O.counts out.new)) }
+        (work_of F.FileStore I.Source O.Sink files.old input.old out.old)
+        (work_of F.FileStore I.Source O.Sink files.new input.new out.new) }
     ensures told { CommandTold (meaning command.entry)
-        (F.tells files.old) (I.tells input.old × O.tells out.old)
-        (F.content files.old) (F.content files.new)
-        (streams_of (I.left input.old) (O.taken out.old))
-        (streams_of (I.left input.new) (O.taken out.new))
+        (work_of F.FileStore I.Source O.Sink files.old input.old out.old)
+        (work_of F.FileStore I.Source O.Sink files.new input.new out.new)
         result }
 {
     match command {
@@ -75,44 +74,28 @@ pub fn pcc<F: FileStore, I: Source, O: Sink, E: Sink>(
 
     // The status is the one that the words, the files and the input have, unless memory was wanting or a
     // fault came.
-    ensures exact { F.tells files.old → I.tells input.old → O.tells out.old →
-        IsQuiet
-        (counts_of (F.counts files.old) (I.faults input.old) (O.counts out.old))
-        (counts_of (F.counts files.new) (I.faults input.new) (O.counts out.new))
-        (E.counts err.old) (E.counts err.new) →
-        (result ≡ 11)
-        ⊎ HasStatus (command_of (map string_bytes words.now.items)) (F.content files.old) (I.left input.old) result }
+    ensures exact { let old = outside_of F.FileStore I.Source O.Sink E.Sink files.old input.old out.old err.old in
+        let new = outside_of F.FileStore I.Source O.Sink E.Sink files.new input.new out.new err.new in
+        old.work.files.tells → old.work.input.tells → old.work.out.tells → IsQuiet old new →
+        (result ≡ 11) ⊎ HasStatus (command_of (map string_bytes words.now.items)) old.work result }
 
     // Which count rose where the outside is the cause, and that a source has too many tokens else.
-    ensures causes { HasCauses (command_of (map string_bytes words.now.items)) (F.content files.old)
-        (F.tells files.old)
-        (counts_of (F.counts files.old) (I.faults input.old) (O.counts out.old))
-        (counts_of (F.counts files.new) (I.faults input.new) (O.counts out.new))
-        (E.counts err.old) (E.counts err.new) result }
+    ensures causes { let old = outside_of F.FileStore I.Source O.Sink E.Sink files.old input.old out.old err.old in
+        let new = outside_of F.FileStore I.Source O.Sink E.Sink files.new input.new out.new err.new in
+        HasCauses (command_of (map string_bytes words.now.items)) old new result }
 
     // A fault that came is told.
-    ensures noticed { NoticesFaults
-        (counts_of (F.counts files.old) (I.faults input.old) (O.counts out.old))
-        (counts_of (F.counts files.new) (I.faults input.new) (O.counts out.new))
-        (E.counts err.old) (E.counts err.new) result }
+    ensures noticed { let old = outside_of F.FileStore I.Source O.Sink E.Sink files.old input.old out.old err.old in
+        let new = outside_of F.FileStore I.Source O.Sink E.Sink files.new input.new out.new err.new in
+        NoticesFaults old new result }
 
     // The report of the command: which count rose, what the files and streams hold then, and the line
     // and the status that it ends in.
-    ensures answered { let command = command_of (map string_bytes words.now.items) in
-        (report : Report)
-        × HasCause report
-        (counts_of (F.counts files.old) (I.faults input.old) (O.counts out.old))
-        (counts_of (F.counts files.new) (I.faults input.new) (O.counts out.new))
-        × CommandTold command
-        (F.tells files.old) (I.tells input.old × O.tells out.old)
-        (F.content files.old) (F.content files.new)
-        (streams_of (I.left input.old) (O.taken out.old))
-        (streams_of (I.left input.new) (O.taken out.new))
-        report
-        × Ends command report
-        (E.counts err.old) (E.counts err.new)
-        (E.tells err.old) (E.taken err.old) (E.taken err.new)
-        result }
+    ensures answered { let old = outside_of F.FileStore I.Source O.Sink E.Sink files.old input.old out.old err.old in
+        let new = outside_of F.FileStore I.Source O.Sink E.Sink files.new input.new out.new err.new in
+        let command = command_of (map string_bytes words.now.items) in
+        (report : Report) × HasCause report old.work new.work × CommandTold command old.work new.work report
+        × Ends command report old.err new.err result }
 {
     let command = command_of(words.as_slice());
     let report = carry_out(alloc, command, files, input, out);

@@ -16,4 +16,4 @@ pub returns-in-None : goal.returns-in-None
 returns-in-None c =
     bytes_eq-without_end c.args.name.now (codes ".map") c.args.source.now
     (λ front e. strip_suffix_is Decides-eqb c.as_bytes.result.now (codes ".map") None c.in-None.ensures.cases front
-        (c.as_bytes.ensures.value ∙ e))
+    (c.as_bytes.ensures.value ∙ e))
