@@ -7,3 +7,5 @@ pub mod ExpressionsAgree
 pub mod DeclarationsAgree
 pub mod StatementsAgree
 pub mod FilesAgree
+pub mod CountUp
+pub mod FilesCountUp

@@ -10,7 +10,7 @@ use Rattle.c_lexer.specs.declared.token.TokenKind.TheVariants as tokens
 use Rattle.c_grammar.specs.Grammar.{IsExternal, unit_tokens}
 use Rattle.c_grammar.specs.Statements.{ExternalTree}
 use Rattle.c_tree.specs.Program.{Program}
-use Rattle.c_tree.specs.WellTyped.{WellTyped}
+use Rattle.c_tree.specs.WellTyped.{WellTyped, CountUp, functions_numbers}
 use Rattle.c_typing.specs.Checked.{faults_in, notes_in}
 use Rattle.c_typing.specs.Faults.{precedes, earlier, least}
 use Rattle.c_typing.specs.Names.{Numbers}
@@ -71,3 +71,8 @@ pub record AreSources (units : List (List ExternalTree)) : Type 0 where
 
 abbrev pub TypedIsWellTyped : Type 0
 TypedIsWellTyped = (units : List (List ExternalTree)) (p : Program) → AreSources units → Typed units p → WellTyped p
+
+-- statements and declared items are numbered from 0, in the order of the text, over all files
+abbrev pub StatementsCountUp : Type 0
+StatementsCountUp = (units : List (List ExternalTree)) (p : Program) → Typed units p
+    → CountUp (functions_numbers p.functions)

@@ -7,7 +7,7 @@ ghost use Rattle.c_tree.specs.declared.types.IntegerType.TheVariants.{Int, Char,
 ghost use Rattle.c_tree.specs.Worked.{converts_200, two_functions};
 ghost use Rattle.c_typing.specs.Faults.{fault};
 ghost use Rattle.c_typing.specs.Laws.{LeastIsLeast, LeastOfBoth, NumbersChangeNothing};
-ghost use Rattle.c_typing.specs.Laws.{OneTypedProgram, TypedWithoutFault};
+ghost use Rattle.c_typing.specs.Laws.{OneTypedProgram, StatementsCountUp, TypedWithoutFault};
 ghost use Rattle.c_typing.specs.Typed.{elaborated, fault_of, limit_found, objects_found};
 ghost use Rattle.c_typing.specs.Worked.{
   at,
@@ -97,4 +97,9 @@ pub fn one_typed_program()
 /// Which numbers objects and functions have changes no fault of files, and nothing that they note.
 pub fn numbers_change_nothing()
     ensures { NumbersChangeNothing }
+{}
+
+/// Statements and declared items of a typed program are numbered from 0, in the order of the text, over all files.
+pub fn statements_count_up()
+    ensures { StatementsCountUp }
 {}

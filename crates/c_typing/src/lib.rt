@@ -8,6 +8,6 @@
 mod laws;
 
 pub use laws::{
-    least_fault, numbers_change_nothing, one_typed_program, worked_faults, worked_programs,
-    worked_trees,
+    least_fault, numbers_change_nothing, one_typed_program, statements_count_up, worked_faults,
+    worked_programs, worked_trees,
 };
