@@ -1,81 +1,38 @@
 -- What is listed of a variable is where it is live.
-use Rattle.std.proofs.Common.{ℕ, zero, suc, ◌≡◌, ◌<◌, ◌≤◌, ◌+◌, ◌⊎◌, inl, inr, List, length, Some}
-use Rattle.std.proofs.Common.{sym, ap, subst, arith, ◌∙◌}
+use Rattle.std.proofs.Common.{ℕ, zero, suc, ◌≡◌, ◌<◌, ◌≤◌, ◌+◌, inl, inr, List, length, Some}
+use Rattle.std.proofs.Common.{refl, sym, ap, arith, ◌∙◌}
 use Rattle.std.specs.List.{AllByRecursion, slice_get}
-use Rattle.std.proofs.lemmas.Bool.{cases_eq}
 use Rattle.std.proofs.lemmas.Option.{same_Some}
 use Rattle.flow_graph.specs.Graphs.{Flow, IsPlaced}
-use Rattle.flow_graph.specs.Liveness.{IsDefinedAt, IsDistance, IsLiveAfter, IsLiveBefore, ReachesUse}
+use Rattle.flow_graph.specs.Liveness.{IsDefinedAt, IsDistance, IsLiveAfter, IsLiveBefore}
 use Rattle.flow_graph.proofs.LivePaths.{live_step}
 use Rattle.liveness.specs.Lists.{Adds, Has, list_at, with_last}
 use Rattle.liveness.specs.Search.{IsNext, IsReach}
-use Rattle.liveness.proofs.Stepping.{Before}
-use Rattle.liveness.proofs.Adding.{adds-none, adds-push, adds-same, adds-then, has-every, has-within}
+use Rattle.liveness.proofs.Stepping.{Before, steps-end, steps-more}
+use Rattle.liveness.proofs.Adding.{has-every, has-within}
 
 -- the point is found at a place
 abbrev pub FoundAt : List (ℕ × ℕ) → ℕ → ℕ → Type 0
 FoundAt nexts i point = (steps : ℕ) × (slice_get nexts i ≡ Some (point, steps))
 
--- one more of what holds at places up to one, which is told at a point
-module _ (v : ℕ) (At : ℕ → ℕ → Type 0) (Live : ℕ → Type 0) where
-  -- none at first
-  pub listing-start : (a : List (List ℕ))
-      → Adds a a (λ w p. (w ≡ v) × ((i : ℕ) × (i < 0) × At i p) × Live p)
-  listing-start a = adds-none a (λ w p. (w ≡ v) × ((i : ℕ) × (i < 0) × At i p) × Live p)
-      (λ w p (s, (i, l, at), live). omega arith)
+-- the variable is to be listed where a point stands at a place and it is live
+abbrev pub ListedAt : ℕ → (ℕ → ℕ → Type 0) → (ℕ → Type 0) → ℕ → ℕ → ℕ → Type 0
+ListedAt v At Live i w point = (w ≡ v) × At i point × Live point
 
+module _ (v : ℕ) (At : ℕ → ℕ → Type 0) (Live : ℕ → Type 0) where
   -- a point of this place is listed
   pub listing-more : (n point : ℕ) (a b : List (List ℕ)) → point < length b → Live point → At n point
-      → ((p : ℕ) → At n p → p ≡ point)
-      → Adds a b (λ w p. (w ≡ v) × ((i : ℕ) × (i < n) × At i p) × Live p)
-      → Adds a (with_last b point v) (λ w p. (w ≡ v) × ((i : ℕ) × (i < n + 1) × At i p) × Live p)
+      → ((p : ℕ) → At n p → p ≡ point) → Adds a b (Before (ListedAt v At Live) n)
+      → Adds a (with_last b point v) (Before (ListedAt v At Live) (n + 1))
   listing-more n point a b h live at only f =
-      adds-same a (with_last b point v)
-      (λ w p. ((w ≡ v) × ((i : ℕ) × (i < n) × At i p) × Live p) ⊎ ((w ≡ v) × (p ≡ point)))
-      (λ w p. (w ≡ v) × ((i : ℕ) × (i < n + 1) × At i p) × Live p) join split
-      (adds-then a b (with_last b point v) (λ w p. (w ≡ v) × ((i : ℕ) × (i < n) × At i p) × Live p)
-      (λ w p. (w ≡ v) × (p ≡ point)) f (adds-push b point v h))
-    where
-      join : (w p : ℕ) → ((w ≡ v) × ((i : ℕ) × (i < n) × At i p) × Live p) ⊎ ((w ≡ v) × (p ≡ point))
-          → (w ≡ v) × ((i : ℕ) × (i < n + 1) × At i p) × Live p
-      join w p (inl (s, (i, l, m), y)) = (s, (i, omega arith, m), y)
-      join w p (inr (s, e)) = (s, (n, omega arith, subst (At n) (sym e) at), subst Live (sym e) live)
+      steps-more (ListedAt v At Live) n v point a b h (refl, at, live) (λ w p m. (m.0, only p m.1)) f
 
-      split : (w p : ℕ) → (w ≡ v) × ((i : ℕ) × (i < n + 1) × At i p) × Live p
-          → ((w ≡ v) × ((i : ℕ) × (i < n) × At i p) × Live p) ⊎ ((w ≡ v) × (p ≡ point))
-      split w p (s, (i, l, m), y) =
-          elim (cases_eq i n) [
-            | inl e ↦ inr (s, only p (subst (λ (j : ℕ). At j p) e m))
-            | inr d ↦ inl (s, (i, omega arith, m), y)
-          ]
-
-  -- it isn't, since nothing is live there
-  pub listing-past : (n : ℕ) (a b : List (List ℕ)) → ((p : ℕ) → At n p → Live p → ⊥)
-      → Adds a b (λ w p. (w ≡ v) × ((i : ℕ) × (i < n) × At i p) × Live p)
-      → Adds a b (λ w p. (w ≡ v) × ((i : ℕ) × (i < n + 1) × At i p) × Live p)
-  listing-past n a b none f =
-      adds-same a b (λ w p. (w ≡ v) × ((i : ℕ) × (i < n) × At i p) × Live p)
-      (λ w p. (w ≡ v) × ((i : ℕ) × (i < n + 1) × At i p) × Live p)
-      (λ w p (s, (i, l, m), y). (s, (i, omega arith, m), y)) split f
-    where
-      split : (w p : ℕ) → (w ≡ v) × ((i : ℕ) × (i < n + 1) × At i p) × Live p
-          → (w ≡ v) × ((i : ℕ) × (i < n) × At i p) × Live p
-      split w p (s, (i, l, m), y) =
-          elim (cases_eq i n) [
-            | inl e ↦ absurd (none p (subst (λ (j : ℕ). At j p) e m) y)
-            | inr d ↦ (s, (i, omega arith, m), y)
-          ]
-
-  -- all are listed, where each point with the property stands at some place
+  -- all are listed, where each point at which the variable is live stands at some place
   pub listing-end : (n : ℕ) (a b : List (List ℕ)) → ((p : ℕ) → Live p → (i : ℕ) × (i < n) × At i p)
-      → Adds a b (λ w p. (w ≡ v) × ((i : ℕ) × (i < n) × At i p) × Live p) → Adds a b (λ w p. (w ≡ v) × Live p)
+      → Adds a b (Before (ListedAt v At Live) n) → Adds a b (λ w p. (w ≡ v) × Live p)
   listing-end n a b each f =
-      adds-same a b (λ w p. (w ≡ v) × ((i : ℕ) × (i < n) × At i p) × Live p) (λ w p. (w ≡ v) × Live p)
-      (λ w p (s, x, y). (s, y)) (λ w p (s, y). (s, each p y, y)) f
-
--- what is found to be live before a point
-pub next-live : (flow : Flow) (v point n : ℕ) → ReachesUse flow v n point → IsLiveBefore flow v point
-next-live flow v point n reaches = (n, reaches)
+      steps-end (ListedAt v At Live) n a b (λ w p. (w ≡ v) × Live p) (λ i w p m. (m.0, m.2))
+      (λ w p m. let (i, l, at) = each p m.1 in (i, l, (m.0, at, m.1))) f
 
 -- no variable is live before a point that defines it and doesn't use it
 pub next-dead : (flow : Flow) (v point n : ℕ) → IsNext flow v point n → (0 < n) × IsDefinedAt flow v point
@@ -112,12 +69,11 @@ found-only nexts i e here p (k, at) = ap (λ (x : ℕ × ℕ). x.0) (same_Some (
 -- So far the list of this point has smaller variables alone: the next is the greatest.
 pub all-smaller : (v : ℕ) (At : ℕ → ℕ → Type 0) (Live : ℕ → Type 0) (n point : ℕ) (a b : List (List ℕ))
     → ((w p : ℕ) → Has (list_at a p) w → w < v) → ((j : ℕ) → j < n → At j point → ⊥)
-    → Adds a b (λ w p. (w ≡ v) × ((i : ℕ) × (i < n) × At i p) × Live p)
-    → AllByRecursion (λ w. w < v) (list_at b point)
+    → Adds a b (Before (ListedAt v At Live) n) → AllByRecursion (λ w. w < v) (list_at b point)
 all-smaller v At Live n point a b smaller none f =
     has-every (λ w. w < v) (list_at b point) (λ w h. elim ((f.has w point).0 h) [
       | inl old ↦ smaller w point old
-      | inr (s, (i, l, at), live) ↦ absurd (none i l at)
+      | inr (i, l, (s, at, live)) ↦ absurd (none i l at)
     ])
 
 -- a point after which a variable is live is in a block

@@ -3,14 +3,15 @@ use Rattle.std.specs.List.{slice_get}
 use Rattle.std.proofs.lemmas.Option.{same_Some}
 use Rattle.flow_graph.specs.Liveness.{IsLiveAfter}
 use Rattle.liveness.proofs.Adding.{has-item, has-within}
-use Rattle.liveness.proofs.Listing.{all-smaller, listing-end, listing-more, listing-start, live-placed}
+use Rattle.liveness.proofs.Listing.{ListedAt, all-smaller, listing-end, listing-more, live-placed}
 use Rattle.liveness.proofs.Placed.{placed-within}
+use Rattle.liveness.proofs.Stepping.{steps-start}
 use Rattle.liveness.proofs.live_sets.add_afters.Goals as goal
 
 pub loop-point-init : goal.loop-point-init
 loop-point-init c = record {
-  after = listing-start c.args.var (λ i p. slice_get c.args.after.now i ≡ Some p)
-      (IsLiveAfter c.args.graph.now c.args.var) c.args.sets.now.after;
+  after = steps-start (ListedAt c.args.var (λ i p. slice_get c.args.after.now i ≡ Some p)
+      (IsLiveAfter c.args.graph.now c.args.var)) c.args.sets.now.after;
   before = refl;
 }
 

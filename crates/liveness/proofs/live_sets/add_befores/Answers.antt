@@ -1,13 +1,20 @@
-use Rattle.std.proofs.Common.{◌<◌, length, get_or, subst, arith, ◌∙◌}
+use Rattle.std.proofs.Common.{refl, ◌<◌, length, get_or, subst, arith, ◌∙◌}
 use Rattle.flow_graph.specs.Liveness.{IsLiveBefore}
 use Rattle.liveness.proofs.Adding.{has-item, has-within}
-use Rattle.liveness.proofs.Listing.{FoundAt, all-smaller, distance-next, found-once, found-only, listing-end}
-use Rattle.liveness.proofs.Listing.{listing-more}
-use Rattle.liveness.proofs.Listing.{listing-past, live-found, next-dead}
+use Rattle.liveness.proofs.Listing.{FoundAt, ListedAt, all-smaller, distance-next, found-once, found-only, listing-end}
+use Rattle.liveness.proofs.Listing.{listing-more, live-found, next-dead}
 use Rattle.liveness.proofs.Placed.{placed-within}
 use Rattle.liveness.proofs.Searching.{next-placed}
+use Rattle.liveness.proofs.Stepping.{steps-past, steps-start}
 use Rattle.liveness.proofs.live_sets.add_befores.Goals.{then-is_live_before+in_ok-add_before, else-is_live_before}
 use Rattle.liveness.proofs.live_sets.add_befores.Goals as goal
+
+pub loop-point-init : goal.loop-point-init
+loop-point-init c = record {
+  before = steps-start (ListedAt c.args.var (FoundAt c.args.nexts.now)
+      (IsLiveBefore c.args.graph.now c.args.var)) c.args.sets.now.before;
+  after = refl;
+}
 
 pub is_live_before-requires : goal.is_live_before-requires
 is_live_before-requires c =
@@ -51,12 +58,12 @@ loop-point-preserved c =
         after = rw (w.sets-is, w.in_ok-add_before.ensures) c.loop-point.invariant.after;
       }
       | else-is_live_before w ↦ record {
-        before = rw w.sets-is (listing-past c.args.var (FoundAt c.args.nexts.now)
-            (IsLiveBefore c.args.graph.now c.args.var) c.loop-point.point-index c.args.sets.now.before
+        before = rw w.sets-is (steps-past (ListedAt c.args.var (FoundAt c.args.nexts.now)
+            (IsLiveBefore c.args.graph.now c.args.var)) c.loop-point.point-index c.args.sets.now.before
             c.loop-point.sets.before
-            (λ p found live. next-dead c.args.graph.now c.args.var e.0 e.1 next w.if-is_live_before.ensures
+            (λ v p m. next-dead c.args.graph.now c.args.var e.0 e.1 next w.if-is_live_before.ensures
             (subst (IsLiveBefore c.args.graph.now c.args.var) (found-only c.args.nexts.now c.loop-point.point-index e
-            here p found) live)) c.loop-point.invariant.before);
+            here p m.1) m.2)) c.loop-point.invariant.before);
         after = rw w.sets-is c.loop-point.invariant.after;
       }
     ]

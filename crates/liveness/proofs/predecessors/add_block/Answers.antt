@@ -5,13 +5,13 @@ use Rattle.flow_graph.specs.Liveness.{IsSuccessor}
 use Rattle.liveness.specs.Lists.{Adds}
 use Rattle.liveness.proofs.Adding.{has-in, has-read}
 use Rattle.liveness.proofs.Placed.{next-behind}
-use Rattle.liveness.proofs.Walks.{list-end, list-step, walk-start}
+use Rattle.liveness.proofs.Stepping.{steps-start}
+use Rattle.liveness.proofs.Walks.{AlongPoints, list-end, list-step}
 use Rattle.liveness.proofs.predecessors.add_block.Goals as goal
 
 pub loop-place-init : goal.loop-place-init
 loop-place-init c =
-    walk-start (λ i x. slice_get c.in_ok-points.points.items i ≡ Some x) (IsSuccessor c.args.graph.now)
-    c.args.predecessors.now
+    steps-start (AlongPoints c.in_ok-points.points.items (IsSuccessor c.args.graph.now)) c.args.predecessors.now
 
 pub add_edges-requires-clause-placed : goal.add_edges-requires-clause-placed
 add_edges-requires-clause-placed c =

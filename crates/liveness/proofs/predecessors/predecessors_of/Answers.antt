@@ -1,20 +1,20 @@
 use Rattle.std.proofs.Common.{ℕ, ◌≡◌, [], length, replicate, ap, arith, ◌∙◌}
 use Rattle.std.proofs.lemmas.List.{length-replicate}
-use Rattle.flow_graph.specs.Graphs.{Stands}
 use Rattle.flow_graph.specs.Liveness.{IsSuccessor}
-use Rattle.liveness.proofs.Walks.{blocks-end, walk-start, walk-step}
+use Rattle.liveness.proofs.Stepping.{steps-start, steps-then}
+use Rattle.liveness.proofs.Walks.{AlongBlocks, blocks-end}
 use Rattle.liveness.proofs.predecessors.predecessors_of.Goals as goal
 
 pub loop-block-init : goal.loop-block-init
 loop-block-init c =
     let none : c.in_ok-predecessors.predecessors ≡ replicate (length c.args.graph.now.ops) [] =
     c.in_ok-predecessors.ensures ∙ ap (λ (n : ℕ). replicate n []) c.points.ensures in
-    rw none (walk-start (λ b x. Stands c.args.graph.now x b) (IsSuccessor c.args.graph.now)
+    rw none (steps-start (AlongBlocks c.args.graph.now (IsSuccessor c.args.graph.now))
     (replicate (length c.args.graph.now.ops) []))
 
 pub loop-block-preserved : goal.loop-block-preserved
 loop-block-preserved c =
-    walk-step (λ b x. Stands c.args.graph.now x b) (IsSuccessor c.args.graph.now) c.loop-block.block _ _ _
+    steps-then (AlongBlocks c.args.graph.now (IsSuccessor c.args.graph.now)) c.loop-block.block _ _ _
     c.loop-block.invariant c.in_ok-add_block.ensures
 
 pub returns : goal.returns

@@ -1,16 +1,15 @@
-use Rattle.std.proofs.Common.{ℕ, ◌≡◌, List, Some, subst, ◌∙◌, get_or}
-use Rattle.std.specs.List.{slice_get}
+use Rattle.std.proofs.Common.{ℕ, ◌≡◌, List, subst, ◌∙◌, get_or}
 use Rattle.flow_graph.specs.Graphs.{IsIn, points_of}
 use Rattle.flow_graph.specs.Liveness.{IsUsedAt}
 use Rattle.liveness.specs.Lists.{Adds}
 use Rattle.liveness.proofs.Adding.{has-in, has-item}
-use Rattle.liveness.proofs.Walks.{list-end, list-step, walk-start}
+use Rattle.liveness.proofs.Stepping.{steps-start}
+use Rattle.liveness.proofs.Walks.{AlongPoints, list-end, list-step}
 use Rattle.liveness.proofs.uses.add_block.Goals as goal
 
 pub loop-point-init : goal.loop-point-init
 loop-point-init c =
-    walk-start (λ i x. slice_get c.as_slice-point-items.result.now i ≡ Some x) (λ x v. IsUsedAt c.args.graph.now v x)
-    c.args.uses.now
+    steps-start (AlongPoints c.as_slice-point-items.result.now (λ x v. IsUsedAt c.args.graph.now v x)) c.args.uses.now
 
 pub add_uses-requires-clause-placed : goal.add_uses-requires-clause-placed
 add_uses-requires-clause-placed c =
