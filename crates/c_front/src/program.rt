@@ -45,10 +45,9 @@ fn program_of_tokens(alloc: Global, tokens: &Vec<Token>, end: Span) -> Result<Pr
     if FEW_TOKENS < tokens.len() {
         return Err(NOT_YET);
     }
-    match slot_program(alloc, &unit) {
-        Ok(Some(program)) => Ok(program),
-        Ok(None) => Err(NOT_YET),
-        Err(_) => Err(Refusal::NoMemory),
+    match slot_program(alloc, &unit)? {
+        Some(program) => Ok(program),
+        None => Err(NOT_YET),
     }
 }
 

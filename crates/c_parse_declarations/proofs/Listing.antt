@@ -1,22 +1,21 @@
 -- What the turns of a loop over a list read in all.
-use Rattle.std.proofs.Common.{◌≡◌, ℕ, ◌<◌, ◌≤◌, List, [], ◌∷◌, ◌++◌, map, length, Bool, true, false, is_some, Option}
-use Rattle.std.proofs.Common.{Some, None, refl, ap, sym, ◌∙◌, subst, arith}
+use Rattle.std.proofs.Common.{◌≡◌, ◌<◌, ◌≤◌, List, [], ◌∷◌, ◌++◌, map, length, true, false, is_some}
+use Rattle.std.proofs.Common.{Some, None, refl, ap, ◌∙◌, subst, arith}
 use Rattle.pcc_base.specs.declared.span.Span.{Span}
 use Rattle.pcc_base.specs.declared.refusal.Refusal.{Refusal}
 use Rattle.pcc_base.specs.declared.refusal.Refusal.TheVariants.{Fault, Limit, NoMemory}
 use Rattle.c_lexer.specs.declared.token.Token.{Token}
 use Rattle.c_lexer.specs.declared.token.Punct.{Punct}
 use Rattle.c_lexer.specs.declared.token.Punct.TheVariants as marks
-use Rattle.c_grammar.specs.Expressions.{Expr}
 use Rattle.c_grammar.specs.Declarations.{ParameterTree}
-use Rattle.c_grammar.specs.Chains.{Step, Done, Fails, Goes, Reads, then_read}
+use Rattle.c_grammar.specs.Chains.{Step, Done, Fails, Goes, Reads}
 use Rattle.c_grammar.proofs.Chains.{Continues, continues_start}
 use Rattle.c_grammar.proofs.Chains.{continues_goes, continues_done, continues_fails}
 use Rattle.c_grammar.specs.Taking.{take_mark}
 use Rattle.c_grammar.specs.Reading.{Reader, Readers}
 use Rattle.c_grammar.specs.DeclarationReading.{Listed, list_step, read_more, maybe_from, maybe_before, read_parameter}
 use Rattle.c_grammar.specs.DeclarationReading.{read_parameters, parameters_from}
-use Rattle.c_parse_expressions.specs.Readings.{Refused}
+use Rattle.c_cursor.specs.Readings.{Refused}
 
 pub map_push : {T A : Type 0} (f : T → A) (xs : List T) (x : T) → map f (xs ++ x ∷ []) ≡ map f xs ++ f x ∷ []
 map_push f [] x = refl
@@ -39,8 +38,8 @@ list_more f read out xs ys x cs ds c ts us vs before e r g h less fewer =
     let shorter : length vs < length ts = omega arith in
     let k : (map f xs ++ f x ∷ [], cs ++ c ∷ []) ≡ (map f ys, ds) = rw (g, h, map_push f xs x) refl in
     subst (λ a. Continues (list_step read) a vs out) k
-        (continues_goes (list_step read) (map f xs, cs) (map f xs ++ f x ∷ [], cs ++ c ∷ []) ts vs out before goes
-        shorter))
+    (continues_goes (list_step read) (map f xs, cs) (map f xs ++ f x ∷ [], cs ++ c ∷ []) ts vs out before goes
+    shorter))
 
 pub list_refused : {A : Type 0} (read : List Token → Reads A) (a : Listed A) (c : Span) (ts us : List Token)
     (out : Reads (Listed A)) (e : Refusal) →
@@ -63,7 +62,7 @@ begun_with b (Some close) ts p us e r = absurd (let wrong : true ≡ false = e i
 begun_with b None ts p us e r =
     (let k : read_more (read_parameter b) p us ≡ parameters_from b None ts = rw r refl in
     subst (λ out. Continues (list_step (read_parameter b)) (p ∷ [], []) us out) k
-        (continues_start (list_step (read_parameter b)) (p ∷ [], []) us))
+    (continues_start (list_step (read_parameter b)) (p ∷ [], []) us))
 
 -- the first parameter, where no `)` comes at once
 pub parameters_begun : (b : Readers) (ts : List Token) (p : ParameterTree) (us : List Token)

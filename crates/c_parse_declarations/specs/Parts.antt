@@ -1,22 +1,14 @@
 -- What the parser's functions answer for a part of a declaration, by the readers of the grammar.
-use Rattle.std.specs.Prelude.{◌≡◌, List, [], ◌∷◌, map, Option, Some, None, Result, Ok, Err}
-use Rattle.pcc_base.specs.declared.span.Span.{Span}
+use Rattle.std.specs.Prelude.{◌≡◌, List, [], ◌∷◌, map}
 use Rattle.pcc_base.specs.declared.refusal.Refusal.{Refusal}
 use Rattle.pcc_base.specs.declared.refusal.Refusal.TheVariants.{Fault, Limit, NoMemory}
 use Rattle.c_lexer.specs.declared.token.Token.{Token}
 use Rattle.c_syntax.specs.declared.expression.Specifier.{Specifier}
 use Rattle.c_grammar.specs.Declarations.{ParameterTree, parameter_of, ItemTree, item_of}
-use Rattle.c_grammar.specs.Chains.{Reads}
 use Rattle.c_grammar.specs.Taking.{take_specifiers}
 use Rattle.c_grammar.specs.DeclarationReading.{Listed}
-use Rattle.c_parse_expressions.specs.Readings.{Refused}
 use Rattle.c_parse_declarations.specs.declared.lists.ParameterList.{ParameterList}
 use Rattle.c_parse_declarations.specs.declared.lists.ItemList.{ItemList}
-
--- a part that stands for a tree, and the tokens behind it
-abbrev pub IsRead : {T A : Type 0} → (T → A) → Reads A → List Token → Result T Refusal → Type 0
-IsRead tree reads rest (Ok x) = reads ≡ Some (tree x, rest)
-IsRead tree reads rest (Err e) = Refused reads e
 
 -- at least one specifier, and the tokens behind them
 abbrev pub AreSpecifiers : List Token → List Token → List Specifier → Type 0

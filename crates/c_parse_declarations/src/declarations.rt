@@ -1,34 +1,31 @@
 //! Items and declarations.
 
-ghost use Rattle.std.specs.Prelude.{◌≡◌, ◌<◌, ◌≤◌, ◌∷◌, length, IfOk};
 ghost use Rattle.c_grammar.specs.Declarations.{declarator_of, item_of, declaration_of};
 ghost use Rattle.c_grammar.specs.DeclarationReading.{item_behind, read_item, read_more, declaration_behind};
 ghost use Rattle.c_grammar.specs.DeclarationReading.{read_declaration};
 ghost use Rattle.c_parse_expressions.specs.Readings.{below};
-ghost use Rattle.c_parse_declarations.specs.Parts.{IsRead, items_listed};
+ghost use Rattle.c_cursor.specs.Readings.{IsRead, IsPartRead};
+ghost use Rattle.c_parse_declarations.specs.Parts.{items_listed};
 
 use crate::declarators::declarator;
 use crate::initialisers::maybe_value;
 use crate::lists::ItemList;
 use crate::parts::some_specifiers;
+use c_cursor::{Cursor, Height, push};
 use c_lexer::Punct;
-use c_parse_expressions::{Parser, push};
 use c_syntax::{Declaration, Declarator, Item, Specifier};
 use pcc_base::{FaultKind, Refusal};
 
 /// `item : declarator ('=' initialiser)?`, behind the declarator
 fn item_behind(
-    parser: &mut Parser<'_>,
+    cursor: &mut Cursor<'_>,
     declarator: Declarator,
-    height: u32,
+    height: Height,
 ) -> Result<Item, Refusal>
-    requires low { 0 < height }
-    requires high { height ≤ 256 }
-    ensures reads { IsRead item_of (item_behind (below height) (declarator_of declarator) parser.old.rest.now)
-        parser.new.rest.now result }
-    ensures shorter { IfOk result (λ _. length parser.new.rest.now ≤ length parser.old.rest.now) }
+    ensures { IsPartRead item_of (item_behind (below height.levels) (declarator_of declarator)) cursor.old.rest.now
+        cursor.new.rest.now result }
 {
-    let initialiser = maybe_value(parser, height)?;
+    let initialiser = maybe_value(cursor, height)?;
     Ok(Item {
         declarator,
         initialiser,
@@ -36,29 +33,24 @@ fn item_behind(
 }
 
 /// `item : declarator ('=' initialiser)?`
-fn item(parser: &mut Parser<'_>, height: u32) -> Result<Item, Refusal>
-    requires low { 0 < height }
-    requires high { height ≤ 256 }
-    ensures reads { IsRead item_of (read_item (below height) parser.old.rest.now) parser.new.rest.now result }
-    ensures shorter { IfOk result (λ _. length parser.new.rest.now ≤ length parser.old.rest.now) }
+fn item(cursor: &mut Cursor<'_>, height: Height) -> Result<Item, Refusal>
+    ensures { IsPartRead item_of (read_item (below height.levels)) cursor.old.rest.now
+        cursor.new.rest.now result }
 {
-    let declarator = declarator(parser, height)?;
-    item_behind(parser, declarator, height)
+    let declarator = declarator(cursor, height)?;
+    item_behind(cursor, declarator, height)
 }
 
 /// `(',' item)*`, behind the first item
-fn items_behind(parser: &mut Parser<'_>, first: Item, height: u32) -> Result<ItemList, Refusal>
-    requires low { 0 < height }
-    requires high { height ≤ 256 }
-    ensures reads { IsRead items_listed (read_more (read_item (below height)) (item_of first) parser.old.rest.now)
-        parser.new.rest.now result }
-    ensures shorter { IfOk result (λ _. length parser.new.rest.now ≤ length parser.old.rest.now) }
+fn items_behind(cursor: &mut Cursor<'_>, first: Item, height: Height) -> Result<ItemList, Refusal>
+    ensures { IsPartRead items_listed (read_more (read_item (below height.levels)) (item_of first)) cursor.old.rest.now
+        cursor.new.rest.now result }
 {
-    let mut items = Vec::new(parser.alloc);
-    let mut commas = Vec::new(parser.alloc);
+    let mut items = Vec::new(cursor.alloc);
+    let mut commas = Vec::new(cursor.alloc);
     push(&mut items, first)?;
-    'items: while let Some(comma) = parser.take_mark(Punct::Comma) {
-        let next = item(parser, height)?;
+    'items: while let Some(comma) = cursor.take_mark(Punct::Comma) {
+        let next = item(cursor, height)?;
         push(&mut items, next)?;
         push(&mut commas, comma)?;
     }
@@ -67,22 +59,19 @@ fn items_behind(parser: &mut Parser<'_>, first: Item, height: u32) -> Result<Ite
 
 /// `declaration : specifiers item (',' item)* ';'`, behind the specifiers and the first declarator
 pub fn declaration_behind(
-    parser: &mut Parser<'_>,
+    cursor: &mut Cursor<'_>,
     specifiers: Vec<Specifier>,
     declarator: Declarator,
-    height: u32,
+    height: Height,
 ) -> Result<Declaration, Refusal>
-    requires low { 0 < height }
-    requires high { height ≤ 256 }
-    ensures reads { IsRead declaration_of
-        (declaration_behind (below height) specifiers.items (declarator_of declarator) parser.old.rest.now)
-        parser.new.rest.now result }
-    ensures shorter { IfOk result (λ _. length parser.new.rest.now ≤ length parser.old.rest.now) }
+    ensures { IsRead declaration_of
+        (declaration_behind (below height.levels) specifiers.items (declarator_of declarator))
+        cursor.old.rest.now cursor.new.rest.now result }
 {
-    let first = item_behind(parser, declarator, height)?;
-    let list = items_behind(parser, first, height)?;
-    let Some(semicolon) = parser.take_mark(Punct::Semicolon) else {
-        return Err(parser.refusal(FaultKind::Syntax));
+    let first = item_behind(cursor, declarator, height)?;
+    let list = items_behind(cursor, first, height)?;
+    let Some(semicolon) = cursor.take_mark(Punct::Semicolon) else {
+        return Err(cursor.refusal(FaultKind::Syntax));
     };
     Ok(Declaration {
         specifiers,
@@ -93,14 +82,11 @@ pub fn declaration_behind(
 }
 
 /// `declaration : specifiers item (',' item)* ';'` (C99 6.7)
-pub fn declaration(parser: &mut Parser<'_>, height: u32) -> Result<Declaration, Refusal>
-    requires low { 0 < height }
-    requires high { height ≤ 256 }
-    ensures reads { IsRead declaration_of
-        (read_declaration (below height) parser.old.rest.now) parser.new.rest.now result }
-    ensures shorter { IfOk result (λ _. length parser.new.rest.now < length parser.old.rest.now) }
+pub fn declaration(cursor: &mut Cursor<'_>, height: Height) -> Result<Declaration, Refusal>
+    ensures { IsRead declaration_of (read_declaration (below height.levels)) cursor.old.rest.now
+        cursor.new.rest.now result }
 {
-    let specifiers = some_specifiers(parser)?;
-    let declarator = declarator(parser, height)?;
-    declaration_behind(parser, specifiers, declarator, height)
+    let specifiers = some_specifiers(cursor)?;
+    let declarator = declarator(cursor, height)?;
+    declaration_behind(cursor, specifiers, declarator, height)
 }

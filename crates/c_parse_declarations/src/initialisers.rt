@@ -1,68 +1,68 @@
 //! Initialisers.
 
-ghost use Rattle.std.specs.Prelude.{◌≡◌, ◌<◌, ◌≤◌, ◌-◌, length, IfOk, IfSome, IfNone, Some, None};
+ghost use Rattle.std.specs.Prelude.{◌≡◌, ◌<◌, length, IfSome, IfNone, Some, None};
 ghost use Rattle.c_grammar.specs.Chains.{Done};
 ghost use Rattle.c_grammar.specs.Declarations.{initialiser_of, value_of};
 ghost use Rattle.c_grammar.specs.Reading.{Readers, Values as ReadValues};
 ghost use Rattle.c_grammar.specs.Taking.{take_mark};
-ghost use Rattle.c_grammar.specs.DeclarationReading.{brace_step, braces_behind, read_initialiser, value_from};
-ghost use Rattle.c_grammar.specs.DeclarationReading.{take_comma};
+ghost use Rattle.c_grammar.specs.DeclarationReading.{brace_step, read_initialiser, value_from};
+ghost use Rattle.c_cursor.specs.Readings.{IsRead, IsPartRead};
 ghost use Rattle.c_parse_expressions.specs.Readings.{IsValuesTurn, AreValues, values_of, height_of_values, below};
-ghost use Rattle.c_parse_declarations.specs.Parts.{IsRead};
 ghost use Rattle.c_parse_declarations.specs.Braces.{read_values};
 
+use c_cursor::{Cursor, Height};
 use c_lexer::Punct;
-use c_parse_expressions::{Parser, Rule, Values, ValuesTurn, one_more, one_value};
+use c_parse_expressions::{Rule, Values, ValuesTurn, one_more, one_value, tree_below};
 use c_syntax::{Initialiser, InitialiserPart};
 use pcc_base::{FaultKind, Refusal, Span};
 
 /// Takes a `,` that is not the last before a `}`.
-fn take_separator(parser: &mut Parser<'_>) -> Option<Span>
+fn take_separator(cursor: &mut Cursor<'_>) -> Option<Span>
     ensures some { IfSome result (λ comma.
-        (take_mark Punct.Comma parser.old.rest.now ≡ Some (comma, parser.new.rest.now))
-        × (take_mark Punct.RightBrace parser.new.rest.now ≡ None)) }
+        (take_mark Punct.Comma cursor.old.rest.now ≡ Some (comma, cursor.new.rest.now))
+        × (take_mark Punct.RightBrace cursor.new.rest.now ≡ None)) }
     ensures none { IfNone result ((b : Readers) (so_far : ReadValues)
-        → brace_step b so_far parser.old.rest.now ≡ Done) }
-    ensures stays { IfNone result (parser.new.rest.now ≡ parser.old.rest.now) }
-    ensures shorter { IfSome result (λ _. length parser.new.rest.now < length parser.old.rest.now) }
+        → brace_step b so_far cursor.old.rest.now ≡ Done) }
+    ensures stays { IfNone result (cursor.new.rest.now ≡ cursor.old.rest.now) }
+    ensures shorter { IfSome result (λ _. length cursor.new.rest.now < length cursor.old.rest.now) }
 {
-    let before = parser.rest;
-    let comma = parser.take_mark(Punct::Comma)?;
-    if parser.at_mark(Punct::RightBrace) {
-        parser.rest = before;
+    let before = cursor.rest;
+    let comma = cursor.take_mark(Punct::Comma)?;
+    if cursor.at_mark(Punct::RightBrace) {
+        cursor.rest = before;
         return None;
     }
     Some(comma)
 }
 
 /// `',' assignment`, behind values in braces
-fn brace_value(parser: &mut Parser<'_>, values: Values, height: u32) -> Result<ValuesTurn, Refusal>
-    requires low { 0 < height }
-    requires high { height ≤ 256 }
+fn brace_value(
+    cursor: &mut Cursor<'_>,
+    values: Values,
+    height: Height,
+) -> Result<ValuesTurn, Refusal>
     requires values { values.height ≡ height_of_values values }
-    requires within { values.height < height }
-    ensures { IsValuesTurn (height - 1) (brace_step (below height) (values_of values) parser.old.rest.now)
-        (values_of values) parser.old.rest.now parser.new.rest.now result }
+    requires within { values.height < height.levels }
+    ensures { IsValuesTurn height.levels (brace_step (below height.levels) (values_of values) cursor.old.rest.now)
+        (values_of values) cursor.old.rest.now cursor.new.rest.now result }
 {
-    let Some(comma) = take_separator(parser) else {
+    let Some(comma) = take_separator(cursor) else {
         return Ok(ValuesTurn::LastValues(values));
     };
-    let next = parser.below(Rule::Assignment, height, comma)?;
+    let next = tree_below(cursor, Rule::Assignment, height, comma)?;
     let more = one_more(values, comma, next)?;
     Ok(ValuesTurn::MoreValues(more))
 }
 
 /// `assignment (',' assignment)*`, in braces behind this `=`
-fn values(parser: &mut Parser<'_>, equal: Span, height: u32) -> Result<Values, Refusal>
-    requires low { 0 < height }
-    requires high { height ≤ 256 }
-    ensures values { AreValues (read_values (below height) parser.old.rest.now) parser.new.rest.now result }
-    ensures shorter { IfOk result (λ _. length parser.new.rest.now ≤ length parser.old.rest.now) }
+fn values(cursor: &mut Cursor<'_>, equal: Span, height: Height) -> Result<Values, Refusal>
+    ensures { AreValues height.levels (read_values (below height.levels)) cursor.old.rest.now
+        cursor.new.rest.now result }
 {
-    let first = parser.below(Rule::Assignment, height, equal)?;
-    let mut values = one_value(parser.alloc, first)?;
+    let first = tree_below(cursor, Rule::Assignment, height, equal)?;
+    let mut values = one_value(cursor.alloc, first)?;
     'values: loop {
-        match brace_value(parser, values, height)? {
+        match brace_value(cursor, values, height)? {
             ValuesTurn::MoreValues(more) => values = more,
             ValuesTurn::LastValues(last) => return Ok(last),
         }
@@ -70,21 +70,18 @@ fn values(parser: &mut Parser<'_>, equal: Span, height: u32) -> Result<Values, R
 }
 
 /// `initialiser : assignment | '{' assignment (',' assignment)* ','? '}'`, behind this `=`
-fn initialiser(parser: &mut Parser<'_>, equal: Span, height: u32) -> Result<Initialiser, Refusal>
-    requires low { 0 < height }
-    requires high { height ≤ 256 }
-    ensures reads { IsRead initialiser_of
-        (read_initialiser (below height) parser.old.rest.now) parser.new.rest.now result }
-    ensures shorter { IfOk result (λ _. length parser.new.rest.now ≤ length parser.old.rest.now) }
+fn initialiser(cursor: &mut Cursor<'_>, equal: Span, height: Height) -> Result<Initialiser, Refusal>
+    ensures { IsRead initialiser_of (read_initialiser (below height.levels)) cursor.old.rest.now
+        cursor.new.rest.now result }
 {
-    let Some(opening) = parser.take_mark(Punct::LeftBrace) else {
-        let found = parser.below(Rule::Assignment, height, equal)?;
+    let Some(opening) = cursor.take_mark(Punct::LeftBrace) else {
+        let found = tree_below(cursor, Rule::Assignment, height, equal)?;
         return Ok(Initialiser::Single(Box::into_inner(found.tree)));
     };
-    let list = values(parser, equal, height)?;
-    let trailing = parser.take_mark(Punct::Comma);
-    let Some(close) = parser.take_mark(Punct::RightBrace) else {
-        return Err(parser.refusal(FaultKind::Syntax));
+    let list = values(cursor, equal, height)?;
+    let trailing = cursor.take_mark(Punct::Comma);
+    let Some(close) = cursor.take_mark(Punct::RightBrace) else {
+        return Err(cursor.refusal(FaultKind::Syntax));
     };
     Ok(Initialiser::List {
         opening,
@@ -97,18 +94,15 @@ fn initialiser(parser: &mut Parser<'_>, equal: Span, height: u32) -> Result<Init
 
 /// `('=' initialiser)?`
 pub(crate) fn maybe_value(
-    parser: &mut Parser<'_>,
-    height: u32,
+    cursor: &mut Cursor<'_>,
+    height: Height,
 ) -> Result<Option<InitialiserPart>, Refusal>
-    requires low { 0 < height }
-    requires high { height ≤ 256 }
-    ensures reads { IsRead value_of (value_from (below height)
-        (take_mark Punct.Equal parser.old.rest.now) parser.old.rest.now) parser.new.rest.now result }
-    ensures shorter { IfOk result (λ _. length parser.new.rest.now ≤ length parser.old.rest.now) }
+    ensures { IsPartRead value_of (λ ts. value_from (below height.levels) (take_mark Punct.Equal ts) ts)
+        cursor.old.rest.now cursor.new.rest.now result }
 {
-    let Some(equal) = parser.take_mark(Punct::Equal) else {
+    let Some(equal) = cursor.take_mark(Punct::Equal) else {
         return Ok(None);
     };
-    let value = initialiser(parser, equal, height)?;
+    let value = initialiser(cursor, equal, height)?;
     Ok(Some(InitialiserPart { equal, value }))
 }

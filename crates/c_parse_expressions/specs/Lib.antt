@@ -1,3 +1,1 @@
 pub mod Readings
-pub mod Rows
-pub mod Places

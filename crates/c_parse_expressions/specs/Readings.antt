@@ -1,13 +1,13 @@
 -- What the parser's functions answer, by the readers of the grammar.
-use Rattle.std.specs.Prelude.{◌≡◌, ℕ, ◌<◌, ◌≤◌, List, length, map, Option, Some, None, Result, Ok, Err, ◌-◌}
+use Rattle.std.specs.Prelude.{◌≡◌, ℕ, ◌<◌, ◌≤◌, List, length, map, Some, Result, Ok, Err, ◌-◌}
 use Rattle.pcc_base.specs.declared.refusal.Refusal.{Refusal}
-use Rattle.pcc_base.specs.declared.refusal.Refusal.TheVariants.{Fault, Limit, NoMemory}
 use Rattle.c_lexer.specs.declared.token.Token.{Token}
 use Rattle.c_grammar.specs.Expressions.{Expr, exprs_of, expr_of}
 use Rattle.c_grammar.specs.ExpressionTokens.{expr_height, exprs_height}
-use Rattle.c_grammar.specs.Chains.{Step, Done, Fails, Goes, Reads}
+use Rattle.c_grammar.specs.Chains.{Step, Done, Goes, Reads}
 use Rattle.c_grammar.specs.Reading as reading
 use Rattle.c_grammar.specs.Reading.{Readers, readers}
+use Rattle.c_cursor.specs.Readings.{Refused, RefusedStep}
 use Rattle.c_parse_expressions.specs.declared.found.Values.{Values}
 use Rattle.c_parse_expressions.specs.declared.found.Found.{Found}
 use Rattle.c_parse_expressions.specs.declared.found.Turn.{Turn}
@@ -19,22 +19,21 @@ use Rattle.c_parse_expressions.specs.declared.expression.Rule.TheVariants.{Expre
 use Rattle.c_parse_expressions.specs.declared.expression.Rule.TheVariants.{Cast}
 use Rattle.c_parse_expressions.specs.declared.expression.Rule.TheVariants.{Unary}
 
--- a refusal: where it is a fault, nothing is read
-abbrev pub Refused : {A : Type 0} → Reads A → Refusal → Type 0
-Refused reads (Fault fault) = reads ≡ None
-Refused reads (Limit limit) = ⊥
-Refused reads NoMemory = Unit {0}
+-- the height of the tree that was found, above 0 and at most so much
+abbrev pub IsHigh : ℕ → Found → Type 0
+IsHigh height f = (f.height ≡ expr_height (expr_of f.tree.value)) × (0 < f.height) × (f.height ≤ height)
 
--- an expression with its height, and the tokens behind it
-abbrev pub IsReading : Reads Expr → List Token → Result Found Refusal → Type 0
-IsReading reads rest (Ok f) = (reads ≡ Some (expr_of f.tree.value, rest))
-    × (f.height ≡ expr_height (expr_of f.tree.value))
-IsReading reads rest (Err e) = Refused reads e
+-- the expression that a reader finds, of at least one token and at most so high, and the tokens behind it
+abbrev pub IsReading : ℕ → (List Token → Reads Expr) → List Token → List Token → Result Found Refusal → Type 0
+IsReading height read old new (Ok f) =
+    (read old ≡ Some (expr_of f.tree.value, new)) × (length new < length old) × IsHigh height f
+IsReading height read old new (Err e) = Refused (read old) e
 
-abbrev pub RefusedStep : {A : Type 0} → Step A → Refusal → Type 0
-RefusedStep step (Fault fault) = step ≡ Fails
-RefusedStep step (Limit limit) = ⊥
-RefusedStep step NoMemory = Unit {0}
+-- the same behind a first part of the expression
+abbrev pub IsPartReading : ℕ → (List Token → Reads Expr) → List Token → List Token → Result Found Refusal → Type 0
+IsPartReading height read old new (Ok f) =
+    (read old ≡ Some (expr_of f.tree.value, new)) × (length new ≤ length old) × IsHigh height f
+IsPartReading height read old new (Err e) = Refused (read old) e
 
 -- one turn of a loop over an expression, of a height that is at most so much
 abbrev pub IsTurn : ℕ → Step Expr → Expr → List Token → List Token → Result Turn Refusal → Type 0
@@ -52,15 +51,19 @@ values_of v = (map expr_of v.values.items, v.commas.items)
 abbrev pub height_of_values : Values → ℕ
 height_of_values v = exprs_height (exprs_of (map expr_of v.values.items))
 
-abbrev pub AreValues : Reads reading.Values → List Token → Result Values Refusal → Type 0
-AreValues reads rest (Ok v) = (reads ≡ Some (values_of v, rest)) × (v.height ≡ height_of_values v)
-AreValues reads rest (Err e) = Refused reads e
+-- the values that a reader finds, each less high than this, and the tokens behind them
+abbrev pub AreValues : ℕ → (List Token → Reads reading.Values) → List Token → List Token → Result Values Refusal
+    → Type 0
+AreValues height read old new (Ok v) =
+    (read old ≡ Some (values_of v, new)) × (length new ≤ length old) × (v.height ≡ height_of_values v)
+    × (v.height < height)
+AreValues height read old new (Err e) = Refused (read old) e
 
--- one turn of a loop over values, of heights that are at most so much
+-- one turn of a loop over values, each less high than this
 abbrev pub IsValuesTurn : ℕ → Step reading.Values → reading.Values → List Token → List Token
     → Result ValuesTurn Refusal → Type 0
 IsValuesTurn height step was old new (Ok (MoreValues v)) =
-    (step ≡ Goes (values_of v) new) × (v.height ≡ height_of_values v) × (v.height ≤ height) × (length new < length old)
+    (step ≡ Goes (values_of v) new) × (v.height ≡ height_of_values v) × (v.height < height) × (length new < length old)
 IsValuesTurn height step was old new (Ok (LastValues v)) = (step ≡ Done) × (values_of v ≡ was)
     × (v.height ≡ height_of_values v) × (new ≡ old)
 IsValuesTurn height step was old new (Err e) = RefusedStep step e

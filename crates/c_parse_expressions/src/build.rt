@@ -1,29 +1,25 @@
 //! Nodes of expressions: each puts parts that were read into one tree, and adds one to the greatest of
 //! their heights.
 
-ghost use Rattle.std.specs.Prelude.{◌≡◌, ◌≤◌, ◌∷◌, ◌++◌, [], max, map, suc, IfOk, IfErr};
-ghost use Rattle.pcc_base.specs.declared.refusal.Refusal.TheVariants.{NoMemory};
+ghost use Rattle.std.specs.Prelude.{◌≡◌, ◌≤◌, ◌∷◌, ◌++◌, [], max, map, suc, IfOk};
 ghost use Rattle.c_grammar.specs.Expressions as trees;
 ghost use Rattle.c_grammar.specs.Expressions.{expr_of, exprs_of, star_of};
 ghost use Rattle.c_grammar.specs.ExpressionTokens.{expr_height};
 ghost use Rattle.c_parse_expressions.specs.Readings.{values_of, height_of_values};
 
 use crate::found::{Found, Values};
-use crate::rows::push;
+use c_cursor::push;
 use c_syntax::{AssignOp, BinaryOp, Expression, Identifier, Pointer, Specifier, StepOp, UnaryOp};
-use pcc_base::{Refusal, Span};
+use pcc_base::{NoMemory, Span};
 use std::alloc::Global;
 
-/// A tree in a box, with its height; the refusal is want of memory.
-pub(crate) fn found_of(alloc: Global, tree: Expression, height: u32) -> Result<Found, Refusal>
+/// A tree in a box, with its height.
+pub(crate) fn found_of(alloc: Global, tree: Expression, height: u32) -> Result<Found, NoMemory>
     ensures tree { IfOk result (λ f. f.tree.value ≡ tree) }
     ensures height { IfOk result (λ f. f.height ≡ height) }
-    ensures err { IfErr result (λ e. e ≡ NoMemory) }
 {
-    match Box::new(alloc, tree) {
-        Ok(tree) => Ok(Found { tree, height }),
-        Err(_) => Err(Refusal::NoMemory),
-    }
+    let tree = Box::new(alloc, tree)?;
+    Ok(Found { tree, height })
 }
 
 pub(crate) fn parenthesised_node(
@@ -31,12 +27,11 @@ pub(crate) fn parenthesised_node(
     opening: Span,
     inner: Found,
     close: Span,
-) -> Result<Found, Refusal>
+) -> Result<Found, NoMemory>
     requires { inner.height ≤ 256 }
     ensures tree { IfOk result (λ f. expr_of f.tree.value
         ≡ trees.Parenthesised opening (expr_of inner.tree.value) close) }
     ensures height { IfOk result (λ f. f.height ≡ suc inner.height) }
-    ensures err { IfErr result (λ e. e ≡ NoMemory) }
 {
     let height = inner.height + 1;
     found_of(
@@ -52,13 +47,12 @@ pub(crate) fn index_node(
     opening: Span,
     index: Found,
     close: Span,
-) -> Result<Found, Refusal>
+) -> Result<Found, NoMemory>
     requires base { base.height ≤ 256 }
     requires index { index.height ≤ 256 }
     ensures tree { IfOk result (λ f. expr_of f.tree.value
         ≡ trees.Index (expr_of base.tree.value) opening (expr_of index.tree.value) close) }
     ensures height { IfOk result (λ f. f.height ≡ suc (max base.height index.height)) }
-    ensures err { IfErr result (λ e. e ≡ NoMemory) }
 {
     let height = base.height.max(index.height) + 1;
     found_of(
@@ -73,11 +67,10 @@ pub(crate) fn postfix_node(
     base: Found,
     op: StepOp,
     at: Span,
-) -> Result<Found, Refusal>
+) -> Result<Found, NoMemory>
     requires { base.height ≤ 256 }
     ensures tree { IfOk result (λ f. expr_of f.tree.value ≡ trees.Postfix (expr_of base.tree.value) op at) }
     ensures height { IfOk result (λ f. f.height ≡ suc base.height) }
-    ensures err { IfErr result (λ e. e ≡ NoMemory) }
 {
     let height = base.height + 1;
     found_of(alloc, Expression::Postfix(base.tree, op, at), height)
@@ -88,11 +81,10 @@ pub(crate) fn prefix_node(
     op: StepOp,
     at: Span,
     operand: Found,
-) -> Result<Found, Refusal>
+) -> Result<Found, NoMemory>
     requires { operand.height ≤ 256 }
     ensures tree { IfOk result (λ f. expr_of f.tree.value ≡ trees.Prefix op at (expr_of operand.tree.value)) }
     ensures height { IfOk result (λ f. f.height ≡ suc operand.height) }
-    ensures err { IfErr result (λ e. e ≡ NoMemory) }
 {
     let height = operand.height + 1;
     found_of(alloc, Expression::Prefix(op, at, operand.tree), height)
@@ -103,11 +95,10 @@ pub(crate) fn unary_node(
     op: UnaryOp,
     at: Span,
     operand: Found,
-) -> Result<Found, Refusal>
+) -> Result<Found, NoMemory>
     requires { operand.height ≤ 256 }
     ensures tree { IfOk result (λ f. expr_of f.tree.value ≡ trees.Unary op at (expr_of operand.tree.value)) }
     ensures height { IfOk result (λ f. f.height ≡ suc operand.height) }
-    ensures err { IfErr result (λ e. e ≡ NoMemory) }
 {
     let height = operand.height + 1;
     found_of(alloc, Expression::Unary(op, at, operand.tree), height)
@@ -120,12 +111,11 @@ pub(crate) fn cast_node(
     pointer: Option<Pointer>,
     close: Span,
     operand: Found,
-) -> Result<Found, Refusal>
+) -> Result<Found, NoMemory>
     requires { operand.height ≤ 256 }
     ensures tree { IfOk result (λ f. expr_of f.tree.value
         ≡ trees.Cast opening specifiers.items (star_of pointer) close (expr_of operand.tree.value)) }
     ensures height { IfOk result (λ f. f.height ≡ suc operand.height) }
-    ensures err { IfErr result (λ e. e ≡ NoMemory) }
 {
     let height = operand.height + 1;
     let operand = operand.tree;
@@ -145,13 +135,12 @@ pub(crate) fn binary_node(
     left: Found,
     at: Span,
     right: Found,
-) -> Result<Found, Refusal>
+) -> Result<Found, NoMemory>
     requires left { left.height ≤ 256 }
     requires right { right.height ≤ 256 }
     ensures tree { IfOk result (λ f. expr_of f.tree.value
         ≡ trees.Binary op (expr_of left.tree.value) at (expr_of right.tree.value)) }
     ensures height { IfOk result (λ f. f.height ≡ suc (max left.height right.height)) }
-    ensures err { IfErr result (λ e. e ≡ NoMemory) }
 {
     let height = left.height.max(right.height) + 1;
     found_of(
@@ -167,13 +156,12 @@ pub(crate) fn assignment_node(
     left: Found,
     at: Span,
     right: Found,
-) -> Result<Found, Refusal>
+) -> Result<Found, NoMemory>
     requires left { left.height ≤ 256 }
     requires right { right.height ≤ 256 }
     ensures tree { IfOk result (λ f. expr_of f.tree.value
         ≡ trees.Assignment op (expr_of left.tree.value) at (expr_of right.tree.value)) }
     ensures height { IfOk result (λ f. f.height ≡ suc (max left.height right.height)) }
-    ensures err { IfErr result (λ e. e ≡ NoMemory) }
 {
     let height = left.height.max(right.height) + 1;
     found_of(
@@ -190,7 +178,7 @@ pub(crate) fn conditional_node(
     first: Found,
     colon: Span,
     second: Found,
-) -> Result<Found, Refusal>
+) -> Result<Found, NoMemory>
     requires condition { condition.height ≤ 256 }
     requires first { first.height ≤ 256 }
     requires second { second.height ≤ 256 }
@@ -198,7 +186,6 @@ pub(crate) fn conditional_node(
         ≡ trees.Conditional (expr_of condition.tree.value) question (expr_of first.tree.value) colon
         (expr_of second.tree.value)) }
     ensures height { IfOk result (λ f. f.height ≡ suc (max condition.height (max first.height second.height))) }
-    ensures err { IfErr result (λ e. e ≡ NoMemory) }
 {
     let height = condition.height.max(first.height.max(second.height)) + 1;
     let tree = Expression::Conditional {
@@ -217,12 +204,11 @@ pub(crate) fn call_node(
     opening: Span,
     arguments: Values,
     close: Span,
-) -> Result<Found, Refusal>
+) -> Result<Found, NoMemory>
     requires { arguments.height ≤ 256 }
     ensures tree { IfOk result (λ f. expr_of f.tree.value
         ≡ trees.Call function opening (exprs_of (map expr_of arguments.values.items)) arguments.commas.items close) }
     ensures height { IfOk result (λ f. f.height ≡ suc arguments.height) }
-    ensures err { IfErr result (λ e. e ≡ NoMemory) }
 {
     let height = arguments.height + 1;
     let tree = Expression::Call {
@@ -235,13 +221,12 @@ pub(crate) fn call_node(
     found_of(alloc, tree, height)
 }
 
-/// One value; the refusal is want of memory.
-pub fn one_value(alloc: Global, first: Found) -> Result<Values, Refusal>
+/// One value.
+pub fn one_value(alloc: Global, first: Found) -> Result<Values, NoMemory>
     requires { first.height ≡ expr_height (expr_of first.tree.value) }
     ensures values { IfOk result (λ v. values_of v ≡ (expr_of first.tree.value ∷ [], [])) }
     ensures height { IfOk result (λ v. v.height ≡ height_of_values v) }
     ensures same { IfOk result (λ v. v.height ≡ first.height) }
-    ensures err { IfErr result (λ e. e ≡ NoMemory) }
 {
     let mut values = Vec::new(alloc);
     push(&mut values, Box::into_inner(first.tree))?;
@@ -252,15 +237,14 @@ pub fn one_value(alloc: Global, first: Found) -> Result<Values, Refusal>
     })
 }
 
-/// Values with one more behind a comma; the refusal is want of memory.
-pub fn one_more(before: Values, comma: Span, next: Found) -> Result<Values, Refusal>
+/// Values with one more behind a comma.
+pub fn one_more(before: Values, comma: Span, next: Found) -> Result<Values, NoMemory>
     requires before { before.height ≡ height_of_values before }
     requires next { next.height ≡ expr_height (expr_of next.tree.value) }
     ensures values { IfOk result (λ v. values_of v
         ≡ ((values_of before).0 ++ expr_of next.tree.value ∷ [], (values_of before).1 ++ comma ∷ [])) }
     ensures height { IfOk result (λ v. v.height ≡ height_of_values v) }
     ensures same { IfOk result (λ v. v.height ≡ max before.height next.height) }
-    ensures err { IfErr result (λ e. e ≡ NoMemory) }
 {
     let mut values = before.values;
     let mut commas = before.commas;

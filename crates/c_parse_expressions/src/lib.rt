@@ -3,16 +3,10 @@
 #![tactic(auto)]
 
 mod build;
-mod cursor;
 mod expression;
 mod found;
 mod primary;
-mod rows;
-mod tables;
 
 pub use build::{one_more, one_value};
-pub use cursor::{Parser, fault_at, height_below};
-pub use expression::Rule;
+pub use expression::{Rule, tree_below, tree_of};
 pub use found::{Found, Values, ValuesTurn};
-pub use rows::{copy_of, push};
-pub use tables::begins_expression;

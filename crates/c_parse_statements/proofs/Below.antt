@@ -1,9 +1,12 @@
 -- The readers of what stands below a node, by its height.
-use Rattle.std.proofs.Common.{◌≡◌, ℕ, zero, suc, ◌-◌, ◌<◌, List, [], ◌∷◌, Some, None, refl, ap, sym, ◌∙◌, arith}
+use Rattle.std.proofs.Common.{◌≡◌, ℕ, zero, suc, ◌-◌, ◌<◌, List, [], ◌∷◌, Some, None, refl, ap, sym, ◌∙◌}
+use Rattle.std.proofs.Common.{arith, subst, Result, Ok, Err}
+use Rattle.pcc_base.specs.declared.refusal.Refusal.{Refusal}
 use Rattle.pcc_base.specs.declared.span.Span.{Span}
 use Rattle.c_lexer.specs.declared.token.Token.{Token}
 use Rattle.c_lexer.specs.declared.token.Punct.TheVariants as marks
 use Rattle.c_syntax.specs.declared.expression.Specifier.{Specifier}
+use Rattle.c_grammar.specs.Declarations.{DeclarationTree}
 use Rattle.c_grammar.specs.Statements.{LabelTree, Declared, Labelled}
 use Rattle.c_grammar.specs.Chains.{Reads, then_read}
 use Rattle.c_grammar.specs.Taking.{take_mark, take_specifiers}
@@ -14,8 +17,15 @@ use Rattle.c_grammar.specs.StatementReading.{Below, below_of, read_statement, re
 use Rattle.c_grammar.specs.StatementReading.{read_labelled, read_condition, read_for_rest, for_with, if_behind}
 use Rattle.c_grammar.specs.StatementReading.{while_behind, do_behind, for_behind, switch_behind}
 use Rattle.c_grammar.proofs.StatementReading.{below_of-none, below_of-suc, below_above}
-use Rattle.c_parse_expressions.specs.Rows.{BeginsWithSpecifier}
+use Rattle.c_cursor.specs.Readings.{IsRead, Refused}
+use Rattle.c_cursor.specs.Rows.{BeginsWithSpecifier}
 use Rattle.c_parse_statements.specs.Parts.{fields_of, below_node}
+
+-- one reader in place of another
+pub same_read : {T A : Type 0} (tree : T → A) (r s : List Token → Reads A) (old new : List Token)
+    (result : Result T Refusal) → r old ≡ s old → IsRead tree s old new result → IsRead tree r old new result
+same_read tree r s old new (Ok x) e p = (e ∙ p.0, p.1)
+same_read {T} {A} tree r s old new (Err x) e p = subst (λ (y : Reads A). Refused y x) (sym e) p
 
 -- the readers are their fields
 pub fields_are : (n : ℕ) → fields_of n ≡ below_of n
@@ -27,12 +37,12 @@ fields_are (suc n) = rw (below_of-suc n) refl
 statement_at : (n : ℕ) (ts : List Token) → 0 < n → (below_of n).statement ts ≡ read_statement (fields_of (n - 1)) ts
 statement_at n ts h =
     ap (λ (b : Below). b.statement ts) (below_above n h)
-        ∙ ap (λ (b : Below). read_statement b ts) (sym (fields_are (n - 1)))
+    ∙ ap (λ (b : Below). read_statement b ts) (sym (fields_are (n - 1)))
 
 declaration_at : (n : ℕ) (ts : List Token) → 0 < n → (below_of n).declaration ts ≡ read_declaration (readers (n - 1)) ts
 declaration_at n ts h =
     ap (λ (b : Below). b.declaration ts) (below_above n h)
-        ∙ ap (λ (b : Below). read_declaration b.exprs ts) (sym (fields_are (n - 1)))
+    ∙ ap (λ (b : Below). read_declaration b.exprs ts) (sym (fields_are (n - 1)))
 
 item_at : (n : ℕ) (ts : List Token) → 0 < n → (below_of n).item ts
     ≡ read_block_item (below_of n).declaration (below_of n).statement ts
@@ -42,41 +52,58 @@ labelled_at : (n : ℕ) (ts : List Token) → 0 < n → (below_of n).labelled ts
     ≡ read_labelled (readers n).conditional (below_of n).statement ts
 labelled_at n ts h = rw (below_above n h) refl
 
+-- the readers of what stands below a node are those for the lower height
+pub below_is : (height lower : ℕ) → lower ≡ height - 1 → below_node height ≡ fields_of lower
+below_is height lower e = ap fields_of (sym e)
+
+-- a statement of at most this height
+pub statement_reads : (n : ℕ) (ts : List Token) → 0 < n → (fields_of n).statement ts ≡ read_statement (below_node n) ts
+statement_reads n ts h = statement_at n ts h
+
 -- a statement below a node
-pub statement_is : (height : ℕ) (ts : List Token) → 1 < height → (below_node height).statement ts
-    ≡ read_statement (below_node (height - 1)) ts
-statement_is height ts h = statement_at (height - 1) ts (omega arith)
+pub statement_is : (height lower : ℕ) (ts : List Token) → lower ≡ height - 1 → 0 < lower
+    → (below_node height).statement ts ≡ read_statement (below_node lower) ts
+statement_is height lower ts e h = ap (λ (n : ℕ). (below_of n).statement ts) (sym e) ∙ statement_at lower ts h
+
+-- where no statement of the lower height is read, none is below the node
+pub refused_below : (height lower : ℕ) (ts : List Token) (e : Refusal) → lower ≡ height - 1
+    → Refused ((fields_of lower).statement ts) e → Refused ((below_node height).statement ts) e
+refused_below height lower ts e is r = subst (λ (n : ℕ). Refused ((fields_of n).statement ts) e) is r
 
 -- a declaration below a node
-pub declaration_is : (height : ℕ) (ts : List Token) → 1 < height → (below_node height).declaration ts
-    ≡ read_declaration (readers (height - 1 - 1)) ts
-declaration_is height ts h = declaration_at (height - 1) ts (omega arith)
+pub declaration_is : (height lower : ℕ) (ts : List Token) → lower ≡ height - 1 → 0 < lower
+    → (below_node height).declaration ts ≡ read_declaration (readers (lower - 1)) ts
+declaration_is height lower ts e h = ap (λ (n : ℕ). (below_of n).declaration ts) (sym e) ∙ declaration_at lower ts h
 
--- a declaration or a statement in a block
-pub item_is : (height : ℕ) (ts : List Token) → 1 < height → (below_node height).item ts
-    ≡ read_block_item (below_node height).declaration (below_node height).statement ts
-item_is height ts h = item_at (height - 1) ts (omega arith)
+item_is : (height lower : ℕ) (ts : List Token) → lower ≡ height - 1 → 0 < lower → (below_node height).item ts
+    ≡ read_block_item (below_of lower).declaration (below_of lower).statement ts
+item_is height lower ts e h = ap (λ (n : ℕ). (below_of n).item ts) (sym e) ∙ item_at lower ts h
 
 -- a declaration in a block
-pub item_declared : (height : ℕ) (ts : List Token) → 1 < height → BeginsWithSpecifier ts → (below_node height).item ts
-    ≡ then_read ((below_node height).declaration ts) (λ d us. Some (Declared d, us))
-item_declared height ts h b = item_is height ts h ∙ (rw b.3 refl)
+pub item_declared : (height lower : ℕ) (ts : List Token) → lower ≡ height - 1 → 0 < lower → BeginsWithSpecifier ts
+    → (below_node height).item ts ≡ then_read (read_declaration (readers (lower - 1)) ts)
+    (λ d us. Some (Declared d, us))
+item_declared height lower ts e h b =
+    item_is height lower ts e h
+    ∙ ((let first : read_block_item (below_of lower).declaration (below_of lower).statement ts
+    ≡ then_read ((below_of lower).declaration ts) (λ d us. Some (Declared d, us)) = rw b.3 refl in first)
+    ∙ ap (λ (r : Reads DeclarationTree). then_read r (λ d us. Some (Declared d, us))) (declaration_at lower ts h))
 
 -- a statement in a block
-pub item_stated : (height : ℕ) (ts : List Token) → 1 < height → take_specifiers ts ≡ ([], ts)
-    → (below_node height).item ts ≡ (below_node height).statement ts
-item_stated height ts h e = item_is height ts h ∙ (rw e refl)
+pub item_stated : (height lower : ℕ) (ts : List Token) → lower ≡ height - 1 → 0 < lower → take_specifiers ts ≡ ([], ts)
+    → (below_node height).item ts ≡ read_statement (below_node lower) ts
+item_stated height lower ts e h none = item_is height lower ts e h ∙ (rw (none, statement_at lower ts h) refl)
 
--- a statement with its labels in a switch
-pub labelled_is : (height : ℕ) (ts : List Token) → 1 < height → (below_node height).labelled ts
-    ≡ read_labelled (readers (height - 1)).conditional (below_node height).statement ts
-labelled_is height ts h = labelled_at (height - 1) ts (omega arith)
+-- a statement with its labels
+pub labelled_is : (n : ℕ) (ts : List Token) → 0 < n → (fields_of n).labelled ts
+    ≡ read_labelled (readers n).conditional (fields_of n).statement ts
+labelled_is n ts h = labelled_at n ts h
 
 -- a statement behind its labels
-pub labelled_reads : (height : ℕ) (ts : List Token) (ls : List LabelTree) (us : List Token) → 1 < height
-    → read_labels (readers (height - 1)).conditional ts ≡ Some (ls, us) → (below_node height).labelled ts
-    ≡ then_read ((below_node height).statement us) (λ s vs. Some (Labelled ls s, vs))
-labelled_reads height ts ls us h e = labelled_is height ts h ∙ (rw e refl)
+pub labelled_reads : (n : ℕ) (ts : List Token) (ls : List LabelTree) (us : List Token) → 0 < n
+    → read_labels (readers n).conditional ts ≡ Some (ls, us) → (fields_of n).labelled ts
+    ≡ then_read ((fields_of n).statement us) (λ s vs. Some (Labelled ls s, vs))
+labelled_reads n ts ls us h e = labelled_is n ts h ∙ (rw e refl)
 
 -- ---- where no height is left
 
@@ -91,10 +118,11 @@ first_none r f e = rw e refl
 no_expression : (height : ℕ) (us : List Token) → height ≡ 1 → (below_node height).exprs.expression us ≡ None
 no_expression height us e = (let z : height - 1 ≡ 0 = omega arith in rw (z, readers-none) refl)
 
-no_statement : (height : ℕ) (us : List Token) → height ≡ 1 → (below_node height).statement us ≡ None
+-- nothing stands below a node of height 1
+pub no_statement : (height : ℕ) (us : List Token) → height ≡ 1 → (below_node height).statement us ≡ None
 no_statement height us e = (let z : height - 1 ≡ 0 = omega arith in rw (z, below_of-none) refl)
 
-no_declaration : (height : ℕ) (us : List Token) → height ≡ 1 → (below_node height).declaration us ≡ None
+pub no_declaration : (height : ℕ) (us : List Token) → height ≡ 1 → (below_node height).declaration us ≡ None
 no_declaration height us e = (let z : height - 1 ≡ 0 = omega arith in rw (z, below_of-none) refl)
 
 -- a block of height 1 has no items

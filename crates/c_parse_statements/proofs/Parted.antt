@@ -36,18 +36,18 @@ do_parted b at ts = simp parted
 
 for_started : (b : Below) (at o : Span) (ss : List Specifier) (ts : List Token) →
     for_with b at o ss ts ≡ then_read (start_with b ss ts)
-        (λ start us. then_read (read_for_tests b us)
-        (λ tests vs. then_read (b.statement vs) (λ s ws. Some (for_of at o start tests s, ws))))
+    (λ start us. then_read (read_for_tests b us)
+    (λ tests vs. then_read (b.statement vs) (λ s ws. Some (for_of at o start tests s, ws))))
 for_started b at o [] ts = simp parted
 for_started b at o (s ∷ ss) ts = simp parted
 
 pub for_parted : (b : Below) (at : Span) (ts : List Token) →
     for_behind b at ts ≡ then_read (read_for_head b ts)
-        (λ h us. then_read (b.statement us) (λ s vs. Some (for_of at h.0 h.1 h.2 s, vs)))
+    (λ h us. then_read (b.statement us) (λ s vs. Some (for_of at h.0 h.1 h.2 s, vs)))
 for_parted b at ts = simp (parted, for_started)
 
 pub switch_parted : (b : Below) (at : Span) (ts : List Token) →
     switch_behind b at ts ≡ then_read (read_switch_head b ts)
-        (λ h us. then_read (read_closed b.labelled us)
-        (λ l vs. Some (Switch at h.0.0 h.0.1 h.0.2 h.1 (stmts_of l.0) l.1, vs)))
+    (λ h us. then_read (read_closed b.labelled us)
+    (λ l vs. Some (Switch at h.0.0 h.0.1 h.0.2 h.1 (stmts_of l.0) l.1, vs)))
 switch_parted b at ts = simp parted

@@ -1,7 +1,6 @@
 -- What the turns of a loop over statements or labels read in all.
-use Rattle.std.proofs.Common.{◌≡◌, ◌<◌, List, [], ◌∷◌, ◌++◌, map, length, true, false, is_some, Some, None, Result, Ok}
-use Rattle.std.proofs.Common.{Err, IfOk, IfErr, refl, ap, sym, ◌∙◌, subst}
-use Rattle.std.specs.Global.{Box}
+use Rattle.std.proofs.Common.{◌≡◌, ◌<◌, List, [], ◌∷◌, ◌++◌, map, length, true, false, is_some, Some, None, Ok}
+use Rattle.std.proofs.Common.{refl, ◌∙◌, subst}
 use Rattle.pcc_base.specs.declared.span.Span.{Span}
 use Rattle.pcc_base.specs.declared.refusal.Refusal.{Refusal}
 use Rattle.pcc_base.specs.declared.refusal.Refusal.TheVariants.{Fault, Limit, NoMemory}
@@ -15,10 +14,9 @@ use Rattle.c_grammar.proofs.Chains.{Continues, continues_goes, continues_done, c
 use Rattle.c_grammar.specs.Taking.{take_mark}
 use Rattle.c_grammar.specs.Reading.{Reader}
 use Rattle.c_grammar.specs.StatementReading.{StmtReader, until_at, until_step, label_step}
-use Rattle.c_parse_expressions.specs.Readings.{Refused}
-use Rattle.c_parse_declarations.specs.Parts.{IsRead}
+use Rattle.c_cursor.specs.Readings.{Refused}
 use Rattle.c_parse_declarations.proofs.Listing.{map_push}
-use Rattle.c_parse_statements.specs.Parts.{ClosedTree, IsLabelTurn, boxed_of}
+use Rattle.c_parse_statements.specs.Parts.{ClosedTree, IsLabelTurn}
 
 -- ---- statements up to a `}`
 
@@ -41,18 +39,18 @@ done_at read a None ts e = absurd (let wrong : false ≡ true = e in cc)
 pub until_more : (read : StmtReader) (out : Reads (List Stmt)) (xs ys : List Statement) (x : Statement)
     (ts us : List Token) →
     Continues (until_step read) (map stmt_of xs) ts out → is_some (take_mark marks.RightBrace ts) ≡ false → read ts
-        ≡ Some (stmt_of x, us) → ys ≡ xs ++ x ∷ [] → length us < length ts →
+    ≡ Some (stmt_of x, us) → ys ≡ xs ++ x ∷ [] → length us < length ts →
     Continues (until_step read) (map stmt_of ys) us out
 until_more read out xs ys x ts us before e r g less =
     (let goes = goes_at read (map stmt_of xs) (take_mark marks.RightBrace ts) ts (stmt_of x) us e r in
     let k : map stmt_of xs ++ stmt_of x ∷ [] ≡ map stmt_of ys = rw (g, map_push stmt_of xs x) refl in
     subst (λ (a : List Stmt). Continues (until_step read) a us out) k
-        (continues_goes (until_step read) _ _ ts us out before goes less))
+    (continues_goes (until_step read) _ _ ts us out before goes less))
 
 -- a statement that is refused
 pub until_refused : (read : StmtReader) (a : List Stmt) (ts : List Token) (out : Reads (List Stmt)) (e : Refusal) →
     Continues (until_step read) a ts out → is_some (take_mark marks.RightBrace ts) ≡ false → Refused (read ts) e
-        → Refused out e
+    → Refused out e
 until_refused read a ts out (Fault fault) before e r =
     continues_fails (until_step read) a ts out before (fails_at read a (take_mark marks.RightBrace ts) ts e r)
 until_refused read a ts out (Limit limit) before e r = r
@@ -69,7 +67,7 @@ pub closed_last : (read : StmtReader) (a : List Stmt) (ts us : List Token) (at :
     → Continues (until_step read) a ts out → is_some (take_mark marks.RightBrace ts) ≡ true
     → take_mark marks.RightBrace ts ≡ Some (at, us) →
     then_read {B = ClosedTree} out (λ ss vs. then_read {B = ClosedTree} (take_mark marks.RightBrace vs)
-        (λ c ws. Some ((ss, c), ws))) ≡ Some ((a, at), us)
+    (λ c ws. Some ((ss, c), ws))) ≡ Some ((a, at), us)
 closed_last read a ts us at out before e taken = rw (until_last read a ts out before e, taken) refl
 
 -- ---- labels
@@ -81,19 +79,9 @@ pub label_more : (read : Reader) (out : Reads (List LabelTree)) (xs ys : List La
 label_more read out xs ys x ts us before turn g =
     (let k : map label_of xs ++ label_of x ∷ [] ≡ map label_of ys = rw (g, map_push label_of xs x) refl in
     subst (λ (a : List LabelTree). Continues (label_step read) a us out) k
-        (continues_goes (label_step read) _ _ ts us out before (turn.0 (map label_of xs)) turn.1))
+    (continues_goes (label_step read) _ _ ts us out before (turn.0 (map label_of xs)) turn.1))
 
 -- the end of the labels
 pub label_last : (read : Reader) (a : List LabelTree) (ts us : List Token) (out : Reads (List LabelTree)) →
     Continues (label_step read) a ts out → IsLabelTurn read ts us (Ok None) → out ≡ Some (a, us)
 label_last read a ts us out before turn = continues_done (label_step read) a ts out before (turn.0 a) ∙ (rw turn.1 refl)
-
--- ---- boxes
-
--- a statement that was read, in a box
-pub box_read : (reads : Reads Stmt) (s : Statement) (rest : List Token) (result : Result (Box Statement) Refusal)
-    → reads ≡ Some (stmt_of s, rest) → IfOk result (λ b. b.value ≡ s) → IfErr result (λ e. e ≡ NoMemory)
-    → IsRead boxed_of reads rest result
-box_read reads s rest (Ok b) e ok err = e ∙ ap (λ (x : Statement). Some (stmt_of x, rest)) (sym ok)
-box_read reads s rest (Err r) e ok err = (let h : Refused reads NoMemory = tt in
-    subst (λ (x : Refusal). Refused reads x) (sym err) h)

@@ -19,7 +19,7 @@ use Rattle.c_grammar.specs.Reading.{Reader, readers}
 use Rattle.c_grammar.specs.DeclarationReading.{maybe_before}
 use Rattle.c_grammar.specs.StatementReading as reading
 use Rattle.c_grammar.specs.StatementReading.{StmtReader, Below, below_of, label_step, read_condition, read_until}
-use Rattle.c_parse_expressions.specs.Readings.{RefusedStep}
+use Rattle.c_cursor.specs.Readings.{RefusedStep}
 use Rattle.c_parse_statements.specs.declared.parts.Condition.{Condition}
 use Rattle.c_parse_statements.specs.declared.parts.Clause.{Clause}
 use Rattle.c_parse_statements.specs.declared.parts.DoTail.{DoTail}
@@ -63,8 +63,8 @@ DoTailTree = Span × reading.Condition × Span
 abbrev pub read_do_tail : Below → List Token → Reads DoTailTree
 read_do_tail b ts =
     then_read (take_word words.While ts) (λ until us.
-        then_read (read_condition b us) (λ k vs.
-        then_read (take_mark marks.Semicolon vs) (λ semicolon ws. Some ((until, k, semicolon), ws))))
+    then_read (read_condition b us) (λ k vs.
+    then_read (take_mark marks.Semicolon vs) (λ semicolon ws. Some ((until, k, semicolon), ws))))
 
 abbrev pub ForTestsTree : Type 0
 ForTestsTree = ClauseTree × ClauseTree
@@ -93,8 +93,8 @@ ForHeadTree = Span × ForStartTree × ForTestsTree
 abbrev pub read_for_head : Below → List Token → Reads ForHeadTree
 read_for_head b ts =
     then_read (take_mark marks.LeftParen ts) (λ o us.
-        then_read (read_for_start b us) (λ start vs.
-        then_read (read_for_tests b vs) (λ tests ws. Some ((o, start, tests), ws))))
+    then_read (read_for_start b us) (λ start vs.
+    then_read (read_for_tests b vs) (λ tests ws. Some ((o, start, tests), ws))))
 
 abbrev pub for_of : Span → Span → ForStartTree → ForTestsTree → Stmt → Stmt
 for_of at o (Expressed k) t s = For at o k.0 k.1 t.0.0 t.0.1 t.1.0 t.1.1 s
@@ -156,6 +156,6 @@ closed_of l = (statements_of l, l.close)
 abbrev pub IsLabelTurn : Reader → List Token → List Token → Result (Option Label) Refusal → Type 0
 IsLabelTurn read old new (Ok (Some l)) =
     ((so_far : List LabelTree) → label_step read so_far old ≡ Goes (so_far ++ label_of l ∷ []) new)
-        × (length new < length old)
+    × (length new < length old)
 IsLabelTurn read old new (Ok None) = ((so_far : List LabelTree) → label_step read so_far old ≡ Done) × (new ≡ old)
 IsLabelTurn read old new (Err e) = (so_far : List LabelTree) → RefusedStep (label_step read so_far old) e

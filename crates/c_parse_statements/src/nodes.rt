@@ -1,8 +1,7 @@
 //! Nodes of statements: each puts parts that were read into one tree. The statements in a node are boxed
 //! where they are read, so that no node can fail.
 
-ghost use Rattle.std.specs.Prelude.{◌≡◌, IfOk, IfErr};
-ghost use Rattle.pcc_base.specs.declared.refusal.Refusal.TheVariants.{NoMemory};
+ghost use Rattle.std.specs.Prelude.{◌≡◌, IfOk};
 ghost use Rattle.c_grammar.specs.Expressions.{expr_of};
 ghost use Rattle.c_grammar.specs.Declarations.{declaration_of, maybe_expr_of};
 ghost use Rattle.c_grammar.specs.Statements as trees;
@@ -13,18 +12,14 @@ use crate::parts::{
     Clause, Condition, DoTail, ForHead, ForStart, ForTests, LabelList, StatementList, SwitchHead,
 };
 use c_syntax::{Declaration, Statement};
-use pcc_base::{Refusal, Span};
+use pcc_base::{NoMemory, Span};
 use std::alloc::Global;
 
-/// A value in a box; the refusal is want of memory.
-pub(crate) fn boxed<T: Drop>(alloc: Global, value: T) -> Result<Box<T>, Refusal>
-    ensures ok { IfOk result (λ b. b.value ≡ value) }
-    ensures err { IfErr result (λ e. e ≡ NoMemory) }
+/// A value in a box.
+pub(crate) fn boxed<T: Drop>(alloc: Global, value: T) -> Result<Box<T>, NoMemory>
+    ensures { IfOk result (λ b. b.value ≡ value) }
 {
-    match Box::new(alloc, value) {
-        Ok(boxed) => Ok(boxed),
-        Err(_) => Err(Refusal::NoMemory),
-    }
+    Ok(Box::new(alloc, value)?)
 }
 
 pub(crate) fn declared_node(declaration: Declaration) -> Statement

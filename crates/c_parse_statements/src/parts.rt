@@ -3,19 +3,21 @@
 //! Where a second part is refused, a first one that holds a tree is dropped by a call of `drop`: a drop in place
 //! is proved over again, through each kind of node, in each function that has one.
 
-ghost use Rattle.std.specs.Prelude.{◌≡◌, ◌<◌, ◌≤◌, length, IfOk};
+ghost use Rattle.std.specs.Prelude.{◌≡◌};
 ghost use Rattle.pcc_base.specs.declared.fault.Fault.{Fault};
 ghost use Rattle.pcc_base.specs.declared.refusal.Refusal.TheVariants.{Fault as Faulty};
 ghost use Rattle.c_grammar.specs.Declarations.{declaration_of};
 ghost use Rattle.c_grammar.specs.StatementReading.{read_condition};
-ghost use Rattle.c_parse_declarations.specs.Parts.{IsRead};
-ghost use Rattle.c_parse_statements.specs.Parts.{below_node, clause_of, condition_of, for_head_of, read_clause};
-ghost use Rattle.c_parse_statements.specs.Parts.{read_do_tail, read_for_head, read_for_start, read_for_tests};
-ghost use Rattle.c_parse_statements.specs.Parts.{read_switch_head, start_of, switch_head_of, tail_of, tests_of};
+ghost use Rattle.c_cursor.specs.Readings.{IsRead};
+ghost use Rattle.c_parse_statements.specs.Parts.{below_node, clause_of, condition_of, fields_of, for_head_of};
+ghost use Rattle.c_parse_statements.specs.Parts.{read_clause, read_do_tail, read_for_head, read_for_start};
+ghost use Rattle.c_parse_statements.specs.Parts.{read_for_tests, read_switch_head, start_of, switch_head_of, tail_of};
+ghost use Rattle.c_parse_statements.specs.Parts.{tests_of};
 
+use c_cursor::{Cursor, Height, begins_expression, fault_at};
 use c_lexer::{Punct, TokenKind};
 use c_parse_declarations::{declaration, maybe};
-use c_parse_expressions::{Parser, Rule, begins_expression, fault_at};
+use c_parse_expressions::{Rule, tree_of};
 use c_syntax::{Declaration, Expression, Label, Statement};
 use pcc_base::{FaultKind, Keyword, Refusal, Span};
 
@@ -84,20 +86,17 @@ pub(crate) struct StatementList {
     pub close: Span,
 }
 
-/// `'(' expression ')'`
-pub(crate) fn parenthesised(parser: &mut Parser<'_>, height: u32) -> Result<Condition, Refusal>
-    requires low { 1 < height }
-    requires high { height ≤ 256 }
-    ensures reads { IsRead condition_of (read_condition (below_node height) parser.old.rest.now) parser.new.rest.now
-        result }
-    ensures shorter { IfOk result (λ _. length parser.new.rest.now < length parser.old.rest.now) }
+/// `'(' expression ')'`, of an expression of at most this height
+pub(crate) fn parenthesised(cursor: &mut Cursor<'_>, lower: Height) -> Result<Condition, Refusal>
+    ensures { IsRead condition_of (read_condition (fields_of lower.levels)) cursor.old.rest.now
+        cursor.new.rest.now result }
 {
-    let Some(opening) = parser.take_mark(Punct::LeftParen) else {
-        return Err(parser.refusal(FaultKind::Syntax));
+    let Some(opening) = cursor.take_mark(Punct::LeftParen) else {
+        return Err(cursor.refusal(FaultKind::Syntax));
     };
-    let found = parser.below(Rule::Expression, height, opening)?;
-    let Some(close) = parser.take_mark(Punct::RightParen) else {
-        return Err(parser.refusal(FaultKind::Syntax));
+    let found = tree_of(cursor, Rule::Expression, lower)?;
+    let Some(close) = cursor.take_mark(Punct::RightParen) else {
+        return Err(cursor.refusal(FaultKind::Syntax));
     };
     Ok(Condition {
         opening,
@@ -108,36 +107,31 @@ pub(crate) fn parenthesised(parser: &mut Parser<'_>, height: u32) -> Result<Cond
 
 /// `expression?` and this mark
 pub(crate) fn take_clause(
-    parser: &mut Parser<'_>,
+    cursor: &mut Cursor<'_>,
     mark: Punct,
-    height: u32,
+    height: Height,
 ) -> Result<Clause, Refusal>
-    requires low { 0 < height }
-    requires high { height ≤ 256 }
-    ensures reads { IsRead clause_of (read_clause (below_node height) mark parser.old.rest.now) parser.new.rest.now
-        result }
-    ensures shorter { IfOk result (λ _. length parser.new.rest.now < length parser.old.rest.now) }
+    ensures { IsRead clause_of (read_clause (below_node height.levels) mark) cursor.old.rest.now
+        cursor.new.rest.now result }
 {
-    let value = maybe(parser, Rule::Expression, mark, height)?;
-    let Some(mark) = parser.take_mark(mark) else {
-        return Err(parser.refusal(FaultKind::Syntax));
+    let value = maybe(cursor, Rule::Expression, mark, height)?;
+    let Some(mark) = cursor.take_mark(mark) else {
+        return Err(cursor.refusal(FaultKind::Syntax));
     };
     Ok(Clause { value, mark })
 }
 
-/// `'while' '(' expression ')' ';'`, behind the body of a `do`
-pub(crate) fn do_tail(parser: &mut Parser<'_>, height: u32) -> Result<DoTail, Refusal>
-    requires low { 1 < height }
-    requires high { height ≤ 256 }
-    ensures reads { IsRead tail_of (read_do_tail (below_node height) parser.old.rest.now) parser.new.rest.now result }
-    ensures shorter { IfOk result (λ _. length parser.new.rest.now < length parser.old.rest.now) }
+/// `'while' '(' expression ')' ';'`, behind the body of a `do`, of an expression of at most this height
+pub(crate) fn do_tail(cursor: &mut Cursor<'_>, lower: Height) -> Result<DoTail, Refusal>
+    ensures { IsRead tail_of (read_do_tail (fields_of lower.levels)) cursor.old.rest.now
+        cursor.new.rest.now result }
 {
-    let Some(until) = parser.take_word(Keyword::While) else {
-        return Err(parser.refusal(FaultKind::Syntax));
+    let Some(until) = cursor.take_word(Keyword::While) else {
+        return Err(cursor.refusal(FaultKind::Syntax));
     };
-    let condition = parenthesised(parser, height)?;
-    let Some(semicolon) = parser.take_mark(Punct::Semicolon) else {
-        return Err(parser.refusal(FaultKind::Syntax));
+    let condition = parenthesised(cursor, lower)?;
+    let Some(semicolon) = cursor.take_mark(Punct::Semicolon) else {
+        return Err(cursor.refusal(FaultKind::Syntax));
     };
     Ok(DoTail {
         until,
@@ -147,31 +141,25 @@ pub(crate) fn do_tail(parser: &mut Parser<'_>, height: u32) -> Result<DoTail, Re
 }
 
 /// `expression? ';' | declaration`, in a `for`
-fn for_start(parser: &mut Parser<'_>, height: u32) -> Result<ForStart, Refusal>
-    requires low { 1 < height }
-    requires high { height ≤ 256 }
-    ensures reads { IsRead start_of (read_for_start (below_node height) parser.old.rest.now)
-        parser.new.rest.now result }
-    ensures shorter { IfOk result (λ _. length parser.new.rest.now < length parser.old.rest.now) }
+fn for_start(cursor: &mut Cursor<'_>, height: Height) -> Result<ForStart, Refusal>
+    ensures { IsRead start_of (read_for_start (below_node height.levels)) cursor.old.rest.now
+        cursor.new.rest.now result }
 {
-    if parser.at_specifier() {
-        let declaration = declaration_below(parser, height)?;
+    if cursor.at_specifier() {
+        let declaration = declaration_below(cursor, height)?;
         return Ok(ForStart::Declared(declaration));
     }
-    let start = take_clause(parser, Punct::Semicolon, height)?;
+    let start = take_clause(cursor, Punct::Semicolon, height)?;
     Ok(ForStart::Expressed(start))
 }
 
 /// `expression? ';' expression? ')'`, in a `for`
-fn for_tests(parser: &mut Parser<'_>, height: u32) -> Result<ForTests, Refusal>
-    requires low { 1 < height }
-    requires high { height ≤ 256 }
-    ensures reads { IsRead tests_of (read_for_tests (below_node height) parser.old.rest.now)
-        parser.new.rest.now result }
-    ensures shorter { IfOk result (λ _. length parser.new.rest.now < length parser.old.rest.now) }
+fn for_tests(cursor: &mut Cursor<'_>, height: Height) -> Result<ForTests, Refusal>
+    ensures { IsRead tests_of (read_for_tests (below_node height.levels)) cursor.old.rest.now
+        cursor.new.rest.now result }
 {
-    let condition = take_clause(parser, Punct::Semicolon, height)?;
-    match take_clause(parser, Punct::RightParen, height) {
+    let condition = take_clause(cursor, Punct::Semicolon, height)?;
+    match take_clause(cursor, Punct::RightParen, height) {
         Ok(step) => Ok(ForTests { condition, step }),
         Err(refusal) => {
             drop(condition);
@@ -181,18 +169,15 @@ fn for_tests(parser: &mut Parser<'_>, height: u32) -> Result<ForTests, Refusal>
 }
 
 /// `'(' (expression? ';' | declaration) expression? ';' expression? ')'`, in a `for`
-pub(crate) fn for_head(parser: &mut Parser<'_>, height: u32) -> Result<ForHead, Refusal>
-    requires low { 1 < height }
-    requires high { height ≤ 256 }
-    ensures reads { IsRead for_head_of (read_for_head (below_node height) parser.old.rest.now) parser.new.rest.now
-        result }
-    ensures shorter { IfOk result (λ _. length parser.new.rest.now < length parser.old.rest.now) }
+pub(crate) fn for_head(cursor: &mut Cursor<'_>, height: Height) -> Result<ForHead, Refusal>
+    ensures { IsRead for_head_of (read_for_head (below_node height.levels)) cursor.old.rest.now
+        cursor.new.rest.now result }
 {
-    let Some(opening) = parser.take_mark(Punct::LeftParen) else {
-        return Err(parser.refusal(FaultKind::Syntax));
+    let Some(opening) = cursor.take_mark(Punct::LeftParen) else {
+        return Err(cursor.refusal(FaultKind::Syntax));
     };
-    let start = for_start(parser, height)?;
-    match for_tests(parser, height) {
+    let start = for_start(cursor, height)?;
+    match for_tests(cursor, height) {
         Ok(tests) => Ok(ForHead {
             opening,
             start,
@@ -205,33 +190,27 @@ pub(crate) fn for_head(parser: &mut Parser<'_>, height: u32) -> Result<ForHead, 
     }
 }
 
-/// `'(' expression ')' '{'`, in a `switch`
-pub(crate) fn switch_head(parser: &mut Parser<'_>, height: u32) -> Result<SwitchHead, Refusal>
-    requires low { 1 < height }
-    requires high { height ≤ 256 }
-    ensures reads { IsRead switch_head_of (read_switch_head (below_node height) parser.old.rest.now) parser.new.rest.now
-        result }
-    ensures shorter { IfOk result (λ _. length parser.new.rest.now < length parser.old.rest.now) }
+/// `'(' expression ')' '{'`, in a `switch`, of an expression of at most this height
+pub(crate) fn switch_head(cursor: &mut Cursor<'_>, lower: Height) -> Result<SwitchHead, Refusal>
+    ensures { IsRead switch_head_of (read_switch_head (fields_of lower.levels)) cursor.old.rest.now
+        cursor.new.rest.now result }
 {
-    let value = parenthesised(parser, height)?;
-    let Some(begin) = parser.take_mark(Punct::LeftBrace) else {
-        return Err(parser.refusal(FaultKind::Syntax));
+    let value = parenthesised(cursor, lower)?;
+    let Some(begin) = cursor.take_mark(Punct::LeftBrace) else {
+        return Err(cursor.refusal(FaultKind::Syntax));
     };
     Ok(SwitchHead { value, begin })
 }
 
-/// A declaration below a node of this height
-pub(crate) fn declaration_below(
-    parser: &mut Parser<'_>,
-    height: u32,
-) -> Result<Declaration, Refusal>
-    requires low { 1 < height }
-    requires high { height ≤ 256 }
-    ensures reads { IsRead declaration_of ((below_node height).declaration parser.old.rest.now) parser.new.rest.now
-        result }
-    ensures shorter { IfOk result (λ _. length parser.new.rest.now < length parser.old.rest.now) }
+/// A declaration below a node of this height; where there is none, the refusal is that of a block's item.
+fn declaration_below(cursor: &mut Cursor<'_>, height: Height) -> Result<Declaration, Refusal>
+    ensures { IsRead declaration_of (below_node height.levels).declaration cursor.old.rest.now
+        cursor.new.rest.now result }
 {
-    declaration(parser, height - 1)
+    let Some(lower) = height.lower() else {
+        return Err(no_item_height(cursor));
+    };
+    declaration(cursor, lower)
 }
 
 /// Whether a statement begins with this word.
@@ -259,16 +238,16 @@ fn begins_item(kind: &TokenKind) -> bool {
 
 /// The refusal of the next token where a declaration or a statement would be needed, and no height is left
 /// for one: TooDeep where one may begin with it, and otherwise Syntax.
-pub(crate) fn no_item_height(parser: &Parser<'_>) -> Refusal
+pub(crate) fn no_item_height(cursor: &Cursor<'_>) -> Refusal
     ensures { (fault : Fault) × (result ≡ Faulty fault) }
 {
-    match parser.rest.first() {
+    match cursor.rest.first() {
         Some(token) => {
-            if parser.at_specifier() || begins_item(&token.kind) {
+            if cursor.at_specifier() || begins_item(&token.kind) {
                 return fault_at(FaultKind::TooDeep, token.at);
             }
             fault_at(FaultKind::Syntax, token.at)
         }
-        None => fault_at(FaultKind::Syntax, parser.end),
+        None => fault_at(FaultKind::Syntax, cursor.end),
     }
 }

@@ -1,12 +1,11 @@
 //! Statements with statements in them. What stands before and behind those is read by `parts`.
 
-ghost use Rattle.std.specs.Prelude.{◌≡◌, ◌<◌, ◌≤◌, length, IfOk};
 ghost use Rattle.c_grammar.specs.Statements.{stmt_of};
 ghost use Rattle.c_grammar.specs.StatementReading.{read_statement, block_behind, else_from, if_behind, while_behind};
 ghost use Rattle.c_grammar.specs.StatementReading.{do_behind, for_behind, switch_behind};
 ghost use Rattle.c_grammar.specs.Taking.{take_word};
-ghost use Rattle.c_parse_declarations.specs.Parts.{IsRead};
-ghost use Rattle.c_parse_statements.specs.Parts.{below_node, boxed_of, closed_of, condition_of, read_closed};
+ghost use Rattle.c_cursor.specs.Readings.{IsRead, IsPartRead};
+ghost use Rattle.c_parse_statements.specs.Parts.{below_node, boxed_of, closed_of, condition_of, fields_of, read_closed};
 
 use crate::jumps::jump_or_simple;
 use crate::labels::take_labels;
@@ -15,134 +14,117 @@ use crate::nodes::{
     switch_node, while_node,
 };
 use crate::parts::{
-    Condition, StatementList, declaration_below, do_tail, for_head, no_item_height, parenthesised,
-    switch_head,
+    Condition, StatementList, do_tail, for_head, no_item_height, parenthesised, switch_head,
 };
+use c_cursor::{Cursor, Height, push};
 use c_lexer::Punct;
-use c_parse_expressions::{Parser, height_below, push};
+use c_parse_declarations::declaration;
 use c_syntax::Statement;
 use pcc_base::{FaultKind, Keyword, Refusal, Span};
 
-/// A statement below a node of this height
-#[cycle(statement)]
-pub fn statement_below(parser: &mut Parser<'_>, height: u32) -> Result<Statement, Refusal>
-    requires low { 1 < height }
-    requires high { height ≤ 256 }
-    ensures reads { IsRead stmt_of ((below_node height).statement parser.old.rest.now) parser.new.rest.now result }
-    ensures shorter { IfOk result (λ _. length parser.new.rest.now < length parser.old.rest.now) }
+/// A statement below a node of this height; where there is none, the refusal is that of a block's item.
+pub fn statement_below(cursor: &mut Cursor<'_>, height: Height) -> Result<Statement, Refusal>
+    ensures { IsRead stmt_of (below_node height.levels).statement cursor.old.rest.now cursor.new.rest.now result }
 {
-    statement(parser, height - 1)
+    let Some(lower) = height.lower() else {
+        return Err(no_item_height(cursor));
+    };
+    statement(cursor, lower)
 }
 
-/// The same, in a box
+/// A statement of at most this height, in a box
 #[cycle(statement)]
-fn boxed_below(parser: &mut Parser<'_>, height: u32) -> Result<Box<Statement>, Refusal>
-    requires low { 1 < height }
-    requires high { height ≤ 256 }
-    ensures reads { IsRead boxed_of ((below_node height).statement parser.old.rest.now) parser.new.rest.now result }
-    ensures shorter { IfOk result (λ _. length parser.new.rest.now < length parser.old.rest.now) }
+fn boxed_statement(cursor: &mut Cursor<'_>, lower: Height) -> Result<Box<Statement>, Refusal>
+    ensures { IsRead boxed_of (fields_of lower.levels).statement cursor.old.rest.now cursor.new.rest.now result }
 {
-    let statement = statement_below(parser, height)?;
-    boxed(parser.alloc, statement)
+    let statement = statement(cursor, lower)?;
+    Ok(boxed(cursor.alloc, statement)?)
 }
 
 /// `declaration | statement`, in a block of this height
 #[cycle(statement)]
-fn block_item(parser: &mut Parser<'_>, height: u32) -> Result<Statement, Refusal>
-    requires low { 0 < height }
-    requires high { height ≤ 256 }
-    ensures reads { IsRead stmt_of ((below_node height).item parser.old.rest.now) parser.new.rest.now result }
-    ensures shorter { IfOk result (λ _. length parser.new.rest.now < length parser.old.rest.now) }
+fn block_item(cursor: &mut Cursor<'_>, height: Height) -> Result<Statement, Refusal>
+    ensures { IsRead stmt_of (below_node height.levels).item cursor.old.rest.now cursor.new.rest.now result }
 {
-    if height == 1 {
-        return Err(no_item_height(parser));
-    }
-    if parser.at_specifier() {
-        let declaration = declaration_below(parser, height)?;
+    let Some(lower) = height.lower() else {
+        return Err(no_item_height(cursor));
+    };
+    if cursor.at_specifier() {
+        let declaration = declaration(cursor, lower)?;
         return Ok(declared_node(declaration));
     }
-    statement_below(parser, height)
+    statement(cursor, lower)
 }
 
-/// `label* statement`, in a switch of this height
+/// `label* statement`, of at most this height
 #[cycle(statement)]
-fn labelled(parser: &mut Parser<'_>, height: u32) -> Result<Statement, Refusal>
-    requires low { 1 < height }
-    requires high { height ≤ 256 }
-    ensures reads { IsRead stmt_of ((below_node height).labelled parser.old.rest.now) parser.new.rest.now result }
-    ensures shorter { IfOk result (λ _. length parser.new.rest.now < length parser.old.rest.now) }
+fn labelled(cursor: &mut Cursor<'_>, lower: Height) -> Result<Statement, Refusal>
+    ensures { IsRead stmt_of (fields_of lower.levels).labelled cursor.old.rest.now cursor.new.rest.now result }
 {
-    let list = take_labels(parser, height)?;
-    let statement = boxed_below(parser, height)?;
+    let list = take_labels(cursor, lower)?;
+    let statement = boxed_statement(cursor, lower)?;
     Ok(labelled_node(list, statement))
 }
 
 /// `(declaration | statement)* '}'`, in a block of this height
 #[cycle(statement)]
-fn block_items(parser: &mut Parser<'_>, height: u32) -> Result<StatementList, Refusal>
-    requires low { 0 < height }
-    requires high { height ≤ 256 }
-    ensures reads { IsRead closed_of (read_closed (below_node height).item parser.old.rest.now) parser.new.rest.now
-        result }
-    ensures shorter { IfOk result (λ _. length parser.new.rest.now < length parser.old.rest.now) }
+fn block_items(cursor: &mut Cursor<'_>, height: Height) -> Result<StatementList, Refusal>
+    ensures { IsRead closed_of (read_closed (below_node height.levels).item) cursor.old.rest.now
+        cursor.new.rest.now result }
 {
-    let mut statements = Vec::new(parser.alloc);
-    'items: while !parser.at_mark(Punct::RightBrace) {
-        let item = block_item(parser, height)?;
+    let mut statements = Vec::new(cursor.alloc);
+    'items: while !cursor.at_mark(Punct::RightBrace) {
+        let item = block_item(cursor, height)?;
         push(&mut statements, item)?;
     }
-    let Some(close) = parser.take_mark(Punct::RightBrace) else {
-        return Err(parser.refusal(FaultKind::Syntax));
+    let Some(close) = cursor.take_mark(Punct::RightBrace) else {
+        return Err(cursor.refusal(FaultKind::Syntax));
     };
     Ok(StatementList { statements, close })
 }
 
-/// `(label* statement)* '}'`, in a switch of this height
+/// `(label* statement)* '}'`, each statement of at most this height
 #[cycle(statement)]
-fn switch_items(parser: &mut Parser<'_>, height: u32) -> Result<StatementList, Refusal>
-    requires low { 1 < height }
-    requires high { height ≤ 256 }
-    ensures reads { IsRead closed_of (read_closed (below_node height).labelled parser.old.rest.now) parser.new.rest.now
-        result }
-    ensures shorter { IfOk result (λ _. length parser.new.rest.now < length parser.old.rest.now) }
+fn switch_items(cursor: &mut Cursor<'_>, lower: Height) -> Result<StatementList, Refusal>
+    ensures { IsRead closed_of (read_closed (fields_of lower.levels).labelled) cursor.old.rest.now
+        cursor.new.rest.now result }
 {
-    let mut statements = Vec::new(parser.alloc);
-    'items: while !parser.at_mark(Punct::RightBrace) {
-        let item = labelled(parser, height)?;
+    let mut statements = Vec::new(cursor.alloc);
+    'items: while !cursor.at_mark(Punct::RightBrace) {
+        let item = labelled(cursor, lower)?;
         push(&mut statements, item)?;
     }
-    let Some(close) = parser.take_mark(Punct::RightBrace) else {
-        return Err(parser.refusal(FaultKind::Syntax));
+    let Some(close) = cursor.take_mark(Punct::RightBrace) else {
+        return Err(cursor.refusal(FaultKind::Syntax));
     };
     Ok(StatementList { statements, close })
 }
 
 /// `block : '{' (declaration | statement)* '}'`, behind the `{`
 #[cycle(statement)]
-fn block_behind(parser: &mut Parser<'_>, opening: Span, height: u32) -> Result<Statement, Refusal>
-    requires low { 0 < height }
-    requires high { height ≤ 256 }
-    ensures reads { IsRead stmt_of (block_behind (below_node height) opening parser.old.rest.now) parser.new.rest.now
-        result }
-    ensures shorter { IfOk result (λ _. length parser.new.rest.now ≤ length parser.old.rest.now) }
+fn block_behind(
+    cursor: &mut Cursor<'_>,
+    opening: Span,
+    height: Height,
+) -> Result<Statement, Refusal>
+    ensures { IsRead stmt_of (block_behind (below_node height.levels) opening) cursor.old.rest.now
+        cursor.new.rest.now result }
 {
-    let items = block_items(parser, height)?;
+    let items = block_items(cursor, height)?;
     Ok(block_node(opening, items))
 }
 
 /// `'if' '(' expression ')' statement ('else' statement)?`, behind the word: the `else` belongs to the nearest
 /// `if` that has none
 #[cycle(statement)]
-fn if_behind(parser: &mut Parser<'_>, at: Span, height: u32) -> Result<Statement, Refusal>
-    requires low { 0 < height }
-    requires high { height ≤ 256 }
-    ensures reads { IsRead stmt_of (if_behind (below_node height) at parser.old.rest.now) parser.new.rest.now result }
-    ensures shorter { IfOk result (λ _. length parser.new.rest.now ≤ length parser.old.rest.now) }
+fn if_behind(cursor: &mut Cursor<'_>, at: Span, height: Height) -> Result<Statement, Refusal>
+    ensures { IsRead stmt_of (if_behind (below_node height.levels) at) cursor.old.rest.now
+        cursor.new.rest.now result }
 {
-    height_below(height, at)?;
-    let condition = parenthesised(parser, height)?;
-    match boxed_below(parser, height) {
-        Ok(then) => else_behind(parser, at, condition, then, height),
+    let lower = height.below(at)?;
+    let condition = parenthesised(cursor, lower)?;
+    match boxed_statement(cursor, lower) {
+        Ok(then) => else_behind(cursor, at, condition, then, lower),
         Err(refusal) => {
             drop(condition);
             Err(refusal)
@@ -150,25 +132,24 @@ fn if_behind(parser: &mut Parser<'_>, at: Span, height: u32) -> Result<Statement
     }
 }
 
-/// `('else' statement)?`, behind an `if` with its condition and its statement
+/// `('else' statement)?`, behind an `if` with its condition and its statement: the other one of at most this height
 #[cycle(statement)]
 fn else_behind(
-    parser: &mut Parser<'_>,
+    cursor: &mut Cursor<'_>,
     at: Span,
     condition: Condition,
     then: Box<Statement>,
-    height: u32,
+    lower: Height,
 ) -> Result<Statement, Refusal>
-    requires low { 1 < height }
-    requires high { height ≤ 256 }
-    ensures reads { IsRead stmt_of (else_from (below_node height) at (condition_of condition) (stmt_of then.value)
-        (take_word Keyword.Else parser.old.rest.now) parser.old.rest.now) parser.new.rest.now result }
-    ensures shorter { IfOk result (λ _. length parser.new.rest.now ≤ length parser.old.rest.now) }
+    ensures { IsPartRead stmt_of
+        (λ ts. else_from (fields_of lower.levels) at (condition_of condition) (stmt_of then.value)
+        (take_word Keyword.Else ts) ts)
+        cursor.old.rest.now cursor.new.rest.now result }
 {
-    let Some(otherwise) = parser.take_word(Keyword::Else) else {
+    let Some(otherwise) = cursor.take_word(Keyword::Else) else {
         return Ok(if_node(at, condition, then));
     };
-    match boxed_below(parser, height) {
+    match boxed_statement(cursor, lower) {
         Ok(other) => Ok(if_else_node(at, condition, then, otherwise, other)),
         Err(refusal) => {
             drop((condition, then));
@@ -179,16 +160,13 @@ fn else_behind(
 
 /// `'while' '(' expression ')' statement`, behind the word
 #[cycle(statement)]
-fn while_behind(parser: &mut Parser<'_>, at: Span, height: u32) -> Result<Statement, Refusal>
-    requires low { 0 < height }
-    requires high { height ≤ 256 }
-    ensures reads { IsRead stmt_of (while_behind (below_node height) at parser.old.rest.now)
-        parser.new.rest.now result }
-    ensures shorter { IfOk result (λ _. length parser.new.rest.now ≤ length parser.old.rest.now) }
+fn while_behind(cursor: &mut Cursor<'_>, at: Span, height: Height) -> Result<Statement, Refusal>
+    ensures { IsRead stmt_of (while_behind (below_node height.levels) at) cursor.old.rest.now
+        cursor.new.rest.now result }
 {
-    height_below(height, at)?;
-    let condition = parenthesised(parser, height)?;
-    match boxed_below(parser, height) {
+    let lower = height.below(at)?;
+    let condition = parenthesised(cursor, lower)?;
+    match boxed_statement(cursor, lower) {
         Ok(body) => Ok(while_node(at, condition, body)),
         Err(refusal) => {
             drop(condition);
@@ -199,15 +177,13 @@ fn while_behind(parser: &mut Parser<'_>, at: Span, height: u32) -> Result<Statem
 
 /// `'do' statement 'while' '(' expression ')' ';'`, behind the first word
 #[cycle(statement)]
-fn do_behind(parser: &mut Parser<'_>, at: Span, height: u32) -> Result<Statement, Refusal>
-    requires low { 0 < height }
-    requires high { height ≤ 256 }
-    ensures reads { IsRead stmt_of (do_behind (below_node height) at parser.old.rest.now) parser.new.rest.now result }
-    ensures shorter { IfOk result (λ _. length parser.new.rest.now ≤ length parser.old.rest.now) }
+fn do_behind(cursor: &mut Cursor<'_>, at: Span, height: Height) -> Result<Statement, Refusal>
+    ensures { IsRead stmt_of (do_behind (below_node height.levels) at) cursor.old.rest.now
+        cursor.new.rest.now result }
 {
-    height_below(height, at)?;
-    let body = boxed_below(parser, height)?;
-    match do_tail(parser, height) {
+    let lower = height.below(at)?;
+    let body = boxed_statement(cursor, lower)?;
+    match do_tail(cursor, lower) {
         Ok(tail) => Ok(do_node(at, body, tail)),
         Err(refusal) => {
             drop(body);
@@ -218,15 +194,13 @@ fn do_behind(parser: &mut Parser<'_>, at: Span, height: u32) -> Result<Statement
 
 /// `'for' '(' (expression? ';' | declaration) expression? ';' expression? ')' statement`, behind the word
 #[cycle(statement)]
-fn for_behind(parser: &mut Parser<'_>, at: Span, height: u32) -> Result<Statement, Refusal>
-    requires low { 0 < height }
-    requires high { height ≤ 256 }
-    ensures reads { IsRead stmt_of (for_behind (below_node height) at parser.old.rest.now) parser.new.rest.now result }
-    ensures shorter { IfOk result (λ _. length parser.new.rest.now ≤ length parser.old.rest.now) }
+fn for_behind(cursor: &mut Cursor<'_>, at: Span, height: Height) -> Result<Statement, Refusal>
+    ensures { IsRead stmt_of (for_behind (below_node height.levels) at) cursor.old.rest.now
+        cursor.new.rest.now result }
 {
-    height_below(height, at)?;
-    let head = for_head(parser, height)?;
-    match boxed_below(parser, height) {
+    let lower = height.below(at)?;
+    let head = for_head(cursor, height)?;
+    match boxed_statement(cursor, lower) {
         Ok(body) => Ok(for_node(at, head, body)),
         Err(refusal) => {
             drop(head);
@@ -237,16 +211,13 @@ fn for_behind(parser: &mut Parser<'_>, at: Span, height: u32) -> Result<Statemen
 
 /// `'switch' '(' expression ')' '{' (label* statement)* '}'`, behind the word
 #[cycle(statement)]
-fn switch_behind(parser: &mut Parser<'_>, at: Span, height: u32) -> Result<Statement, Refusal>
-    requires low { 0 < height }
-    requires high { height ≤ 256 }
-    ensures reads { IsRead stmt_of (switch_behind (below_node height) at parser.old.rest.now)
-        parser.new.rest.now result }
-    ensures shorter { IfOk result (λ _. length parser.new.rest.now ≤ length parser.old.rest.now) }
+fn switch_behind(cursor: &mut Cursor<'_>, at: Span, height: Height) -> Result<Statement, Refusal>
+    ensures { IsRead stmt_of (switch_behind (below_node height.levels) at) cursor.old.rest.now
+        cursor.new.rest.now result }
 {
-    height_below(height, at)?;
-    let head = switch_head(parser, height)?;
-    match switch_items(parser, height) {
+    let lower = height.below(at)?;
+    let head = switch_head(cursor, lower)?;
+    match switch_items(cursor, lower) {
         Ok(items) => Ok(switch_node(at, head, items)),
         Err(refusal) => {
             drop(head);
@@ -258,29 +229,27 @@ fn switch_behind(parser: &mut Parser<'_>, at: Span, height: u32) -> Result<State
 /// `statement : block | expression? ';' | 'if' .. | 'while' .. | 'do' .. | 'for' .. | 'switch' .. | 'break' ';' |
 /// 'continue' ';' | 'return' expression? ';'` (C99 6.8)
 #[cycle(statement)]
-pub fn statement(parser: &mut Parser<'_>, height: u32) -> Result<Statement, Refusal>
-    requires low { 0 < height }
-    requires high { height ≤ 256 }
-    ensures reads { IsRead stmt_of (read_statement (below_node height) parser.old.rest.now) parser.new.rest.now result }
-    ensures shorter { IfOk result (λ _. length parser.new.rest.now < length parser.old.rest.now) }
+pub fn statement(cursor: &mut Cursor<'_>, height: Height) -> Result<Statement, Refusal>
+    ensures { IsRead stmt_of (read_statement (below_node height.levels)) cursor.old.rest.now
+        cursor.new.rest.now result }
 {
-    if let Some(opening) = parser.take_mark(Punct::LeftBrace) {
-        return block_behind(parser, opening, height);
+    if let Some(opening) = cursor.take_mark(Punct::LeftBrace) {
+        return block_behind(cursor, opening, height);
     }
-    if let Some(at) = parser.take_word(Keyword::If) {
-        return if_behind(parser, at, height);
+    if let Some(at) = cursor.take_word(Keyword::If) {
+        return if_behind(cursor, at, height);
     }
-    if let Some(at) = parser.take_word(Keyword::While) {
-        return while_behind(parser, at, height);
+    if let Some(at) = cursor.take_word(Keyword::While) {
+        return while_behind(cursor, at, height);
     }
-    if let Some(at) = parser.take_word(Keyword::Do) {
-        return do_behind(parser, at, height);
+    if let Some(at) = cursor.take_word(Keyword::Do) {
+        return do_behind(cursor, at, height);
     }
-    if let Some(at) = parser.take_word(Keyword::For) {
-        return for_behind(parser, at, height);
+    if let Some(at) = cursor.take_word(Keyword::For) {
+        return for_behind(cursor, at, height);
     }
-    if let Some(at) = parser.take_word(Keyword::Switch) {
-        return switch_behind(parser, at, height);
+    if let Some(at) = cursor.take_word(Keyword::Switch) {
+        return switch_behind(cursor, at, height);
     }
-    jump_or_simple(parser, height)
+    jump_or_simple(cursor, height)
 }

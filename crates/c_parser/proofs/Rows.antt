@@ -10,7 +10,7 @@ use Rattle.c_grammar.specs.Statements.{ExternalTree, external_of}
 use Rattle.c_grammar.specs.Chains.{Done, Fails, Goes, Reads}
 use Rattle.c_grammar.proofs.Chains.{Continues, continues_goes, continues_done, continues_fails}
 use Rattle.c_grammar.specs.StatementReading.{Below, read_external, unit_step}
-use Rattle.c_parse_expressions.specs.Readings.{Refused}
+use Rattle.c_cursor.specs.Readings.{Refused}
 use Rattle.c_parse_declarations.proofs.Listing.{map_push}
 
 goes_at : (b : Below) (a : List ExternalTree) (ts : List Token) (e : ExternalTree) (us : List Token) → (length ts == 0)
@@ -31,13 +31,13 @@ empty_is (t ∷ ts) e = absurd (omega (arith, eqb-true (length (t ∷ ts)) 0 e))
 pub unit_more : (b : Below) (out : Reads (List ExternalTree)) (xs ys : List External) (x : External)
     (ts us : List Token) →
     Continues (unit_step b) (map external_of xs) ts out → (length ts == 0) ≡ false → read_external b ts
-        ≡ Some (external_of x, us) → ys ≡ xs ++ x ∷ [] → length us < length ts →
+    ≡ Some (external_of x, us) → ys ≡ xs ++ x ∷ [] → length us < length ts →
     Continues (unit_step b) (map external_of ys) us out
 unit_more b out xs ys x ts us before some r g less =
     (let goes = goes_at b (map external_of xs) ts (external_of x) us some r in
     let k : map external_of xs ++ external_of x ∷ [] ≡ map external_of ys = rw (g, map_push external_of xs x) refl in
     subst (λ (a : List ExternalTree). Continues (unit_step b) a us out) k
-        (continues_goes (unit_step b) _ _ ts us out before goes less))
+    (continues_goes (unit_step b) _ _ ts us out before goes less))
 
 -- an external declaration that is refused
 pub unit_refused : (b : Below) (a : List ExternalTree) (ts : List Token) (out : Reads (List ExternalTree)) (e : Refusal)

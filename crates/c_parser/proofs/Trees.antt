@@ -17,7 +17,7 @@ tree_at : (n : ℕ) (ts us : List Token) (es : List ExternalTree) → read_unit 
     → (h : ℕ) × (h ≤ n + 1) × Tree ts h es
 tree_at n ts us es e whole =
     (let s = unit_sound n ts es (same_reads n ts ∙ (e ∙ ap (λ (vs : List Token). Some (es, vs)) whole)) in
-        (s.0, omega (arith, s.1), s.2))
+    (s.0, omega (arith, s.1), s.2))
 
 none_at : (n : ℕ) (ts : List Token) → read_unit (fields_of n) ts ≡ None → (h : ℕ) (t : List ExternalTree) → h ≤ n + 1
     → Tree ts h t → ⊥

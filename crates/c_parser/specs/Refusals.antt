@@ -68,7 +68,7 @@ NoneUnsupported (t ∷ ts) = IsInside t.kind × NoneUnsupported ts
 abbrev pub FirstUnsupported : List Token → Keyword → Span → Type 0
 FirstUnsupported tokens keyword at =
     (before : List Token) × (after : List Token) × NoneUnsupported before × (is_outside keyword ≡ true)
-        × (tokens ≡ before ++ word keyword at ∷ after)
+    × (tokens ≡ before ++ word keyword at ∷ after)
 
 -- the tokens have no raw tree of height at most 256
 abbrev pub NoTree : List Token → Type 0

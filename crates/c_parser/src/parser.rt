@@ -6,14 +6,11 @@ ghost use Rattle.c_parser.specs.Refusals.{IsRefused, NoneUnsupported, NoTree};
 
 use crate::externals::unit;
 use crate::keywords::first_outside;
+use c_cursor::{Cursor, Height};
 use c_lexer::Token;
-use c_parse_expressions::Parser;
 use c_syntax::RawUnit;
 use pcc_base::{Fault, FaultKind, Refusal, Span};
 use std::alloc::Global;
-
-/// The greatest height of a raw tree.
-const HEIGHT: u32 = 256;
 
 /// The fault of tokens without a tree, TooDeep or Syntax: what the parser found.
 fn fault_of(fault: Fault) -> Refusal
@@ -41,12 +38,12 @@ pub fn parse(alloc: Global, tokens: &Vec<Token>, end: Span) -> Result<RawUnit, R
             at,
         }));
     }
-    let mut parser = Parser {
+    let mut cursor = Cursor {
         alloc,
         rest: tokens,
         end,
     };
-    match unit(&mut parser, HEIGHT) {
+    match unit(&mut cursor, Height::whole()) {
         Ok(unit) => Ok(unit),
         Err(Refusal::Fault(fault)) => Err(fault_of(fault)),
         Err(other) => Err(other),

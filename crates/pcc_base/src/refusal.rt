@@ -1,4 +1,8 @@
+ghost use Rattle.std.specs.Prelude.{◌≡◌};
+ghost use Rattle.pcc_base.specs.declared.refusal.Refusal.TheVariants.{NoMemory as Wanting};
+
 use crate::fault::Fault;
+use crate::memory::NoMemory;
 
 /// A quantity that is above its limit.
 #[derive(Clone, Copy, Debug, PartialEq, Eq)]
@@ -21,4 +25,12 @@ pub enum Refusal {
     Fault(Fault),
     Limit(Limit),
     NoMemory,
+}
+
+impl From<NoMemory> for Refusal {
+    ghost from_gives = { λ _ refusal. refusal ≡ Wanting };
+
+    fn from(_e: NoMemory) -> Refusal {
+        Refusal::NoMemory
+    }
 }

@@ -3,14 +3,14 @@ use Rattle.std.proofs.Common.{refl, inr}
 use Rattle.c_grammar.specs.Statements.{unit_of}
 use Rattle.c_front.proofs.program.program_of_tokens.Goals as goal
 
-pub returns-in-Ok-None-clause-refused : goal.returns-in-Ok-None-clause-refused
-returns-in-Ok-None-clause-refused c = (
+pub returns-clause-refused : goal.returns-clause-refused
+returns-clause-refused c = (
   refl,
   (
     c.in_ok-unit.ensures.tree.0,
     unit_of c.in_ok-unit.unit,
     c.in_ok-unit.ensures.tree.1,
     c.in_ok-unit.ensures.tree.2,
-    inr (rw c.in-Ok-None.field-0-is at c.in-Ok-None.ensures.none),
+    inr (rw c.in-None.is at c.in_ok-program.ensures.none),
   ),
 )

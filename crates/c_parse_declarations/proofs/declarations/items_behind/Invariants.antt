@@ -8,11 +8,11 @@ use Rattle.c_parse_declarations.proofs.declarations.items_behind.Given as goal
 
 abbrev pub invariant-items : goal.invariant-items
 invariant-items l = record {
-  reads : Continues (list_step (read_item (below l.height)))
-      (map item_of l.items.items, l.commas.items) l.parser.rest.now
-      (read_more (read_item (below l.height)) (item_of l.fn.first) l.fn.parser.rest.now);
-  shorter : length l.parser.rest.now ≤ length l.fn.parser.rest.now;
+  reads : Continues (list_step (read_item (below l.height.levels)))
+      (map item_of l.items.items, l.commas.items) l.cursor.rest.now
+      (read_more (read_item (below l.height.levels)) (item_of l.fn.first) l.fn.cursor.rest.now);
+  shorter : length l.cursor.rest.now ≤ length l.fn.cursor.rest.now;
 }
 
 abbrev pub decreases-items : goal.decreases-items
-decreases-items l = length l.parser.rest.now
+decreases-items l = length l.cursor.rest.now

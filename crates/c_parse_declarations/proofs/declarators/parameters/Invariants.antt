@@ -8,11 +8,11 @@ use Rattle.c_parse_declarations.proofs.declarators.parameters.Given as goal
 
 abbrev pub invariant-parameters : goal.invariant-parameters
 invariant-parameters l = record {
-  reads : Continues (list_step (read_parameter (below l.height)))
-      (map parameter_of l.parameters.items, l.commas.items) l.parser.rest.now
-      (read_parameters (below l.height) l.fn.parser.rest.now);
-  shorter : length l.parser.rest.now ≤ length l.fn.parser.rest.now;
+  reads : Continues (list_step (read_parameter (below l.height.levels)))
+      (map parameter_of l.parameters.items, l.commas.items) l.cursor.rest.now
+      (read_parameters (below l.height.levels) l.fn.cursor.rest.now);
+  shorter : length l.cursor.rest.now ≤ length l.fn.cursor.rest.now;
 }
 
 abbrev pub decreases-parameters : goal.decreases-parameters
-decreases-parameters l = length l.parser.rest.now
+decreases-parameters l = length l.cursor.rest.now

@@ -8,12 +8,12 @@ use Rattle.c_parse_declarations.proofs.initialisers.values.Given as goal
 
 abbrev pub invariant-values : goal.invariant-values
 invariant-values l = record {
-  reads : Continues (brace_step (below l.height)) (values_of l.values) l.parser.rest.now
-      (read_values (below l.height) l.fn.parser.rest.now);
+  reads : Continues (brace_step (below l.height.levels)) (values_of l.values) l.cursor.rest.now
+      (read_values (below l.height.levels) l.fn.cursor.rest.now);
   height : l.values.height ≡ height_of_values l.values;
-  within : l.values.height < l.height;
-  shorter : length l.parser.rest.now ≤ length l.fn.parser.rest.now;
+  within : l.values.height < l.height.levels;
+  shorter : length l.cursor.rest.now ≤ length l.fn.cursor.rest.now;
 }
 
 abbrev pub decreases-values : goal.decreases-values
-decreases-values l = length l.parser.rest.now
+decreases-values l = length l.cursor.rest.now

@@ -3,7 +3,9 @@ use Rattle.c_parse_statements.specs.Parts.{below_node}
 use Rattle.c_parse_statements.proofs.Parted.{return_parted}
 use Rattle.c_parse_statements.proofs.jumps.return_behind.Goals as goal
 
-pub returns-clause-reads : goal.returns-clause-reads
-returns-clause-reads c =
-    return_parted (below_node c.args.height) c.args.at c.args.parser.now.rest.now
-        ∙ (rw (c.in_ok-clause.ensures.reads, c.return_node.ensures) refl)
+pub returns : goal.returns
+returns c = (
+  return_parted (below_node c.args.height.levels) c.args.at c.args.cursor.now.rest.now
+      ∙ (rw (c.in_ok-clause.ensures.0, c.return_node.ensures) refl),
+  c.in_ok-clause.ensures.1,
+)

@@ -1,8 +1,8 @@
 use Rattle.std.proofs.Common.{map, arith}
 use Rattle.std.proofs.lemmas.Result.{err_from_is_err_and}
 use Rattle.c_grammar.specs.Statements.{label_of}
-use Rattle.c_parse_expressions.specs.Readings.{below}
-use Rattle.c_parse_expressions.proofs.Turns.{refused_turn}
+use Rattle.c_grammar.specs.Reading.{readers}
+use Rattle.c_cursor.proofs.Refused.{refused_turn}
 use Rattle.c_parse_statements.proofs.Rows.{label_more, label_last}
 use Rattle.c_parse_statements.proofs.labels.take_labels.Goals as goal
 
@@ -10,18 +10,20 @@ pub labels-preserved : goal.labels-preserved
 labels-preserved c =
     let turn = rw c.in-Some.is at c.in_ok-label.ensures in
     record {
-      reads = label_more (below c.args.height).conditional _ _ _ _ _ _ c.labels.invariant.reads turn
-          c.in_ok-push.ensures.ok;
+      reads = label_more (readers c.args.lower.levels).conditional _ _ _ _ _ _ c.labels.invariant.reads turn
+          c.in_ok-push.ensures;
       shorter = omega (arith, turn.1, c.labels.invariant.shorter);
     }
 
-pub returns-in_err-label-clause-reads : goal.returns-in_err-label-clause-reads
-returns-in_err-label-clause-reads c =
+pub returns-in_err-label : goal.returns-in_err-label
+returns-in_err-label c =
     let p = err_from_is_err_and c.from_residual.result c.from_residual.ensures.1 in
     rw (p.1, p.2) (refused_turn _ _ _ _ _ c.labels.invariant.reads
-        (c.in_err-label.ensures (map label_of c.labels.labels.items)))
+    (c.in_err-label.ensures (map label_of c.labels.labels.items)))
 
-pub returns-clause-reads : goal.returns-clause-reads
-returns-clause-reads c =
-    let turn = rw c.in_default.is at c.in_ok-label.ensures in
-    label_last (below c.args.height).conditional _ _ _ _ c.labels.invariant.reads turn
+pub returns : goal.returns
+returns c =
+    let turn = rw c.in_default.is at c.in_ok-label.ensures in (
+      label_last (readers c.args.lower.levels).conditional _ _ _ _ c.labels.invariant.reads turn,
+      rw turn.1 c.labels.invariant.shorter,
+    )

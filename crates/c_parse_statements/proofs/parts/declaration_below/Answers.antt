@@ -1,6 +1,19 @@
-use Rattle.c_parse_statements.proofs.Below.{declaration_is}
+use Rattle.c_grammar.specs.DeclarationReading.{read_declaration}
+use Rattle.c_grammar.specs.Declarations.{declaration_of}
+use Rattle.c_parse_expressions.specs.Readings.{below}
+use Rattle.c_cursor.proofs.Refused.{refused_fault}
+use Rattle.c_parse_statements.specs.Parts.{below_node}
+use Rattle.c_parse_statements.proofs.Below.{declaration_is, no_declaration, same_read}
 use Rattle.c_parse_statements.proofs.parts.declaration_below.Goals as goal
 
-pub returns-clause-reads : goal.returns-clause-reads
-returns-clause-reads c =
-    rw (declaration_is c.args.height c.args.parser.now.rest.now c.requires.low) c.declaration.ensures.reads
+pub returns-in_default : goal.returns-in_default
+returns-in_default c =
+    refused_fault _ _ _ (no_declaration c.args.height.levels c.args.cursor.now.rest.now c.in_default.ensures.none)
+    c.no_item_height.ensures.1
+
+pub returns : goal.returns
+returns c =
+    let n = c.in-Some.lower.levels in
+    let ts = c.args.cursor.now.rest.now in
+    same_read declaration_of (below_node c.args.height.levels).declaration (read_declaration (below n)) ts _ _
+    (declaration_is c.args.height.levels n ts c.in-Some.ensures.some.1 c.in-Some.lower.low) c.declaration.ensures

@@ -1,178 +1,229 @@
 -- A part is read by the readers of what stands below a node; the loops add one turn to what is read in all.
-use Rattle.std.proofs.Common.{◌<◌, refl, sym, ◌∙◌, arith}
+use Rattle.std.proofs.Common.{refl, ap, sym, ◌∙◌, arith}
 use Rattle.std.proofs.lemmas.Result.{err_from_is_err_and}
-use Rattle.c_parse_expressions.proofs.Turns.{refused_then, refused_fault}
-use Rattle.c_parse_statements.specs.Parts.{below_node}
-use Rattle.c_parse_statements.proofs.Below.{statement_is, item_declared, item_stated, labelled_is, labelled_reads}
+use Rattle.c_grammar.specs.Statements.{stmt_of}
+use Rattle.c_grammar.specs.StatementReading.{Below, read_statement, do_behind, switch_behind}
+use Rattle.c_cursor.proofs.Refused.{refused_then, refused_fault}
+use Rattle.c_parse_statements.specs.Parts.{below_node, fields_of}
+use Rattle.c_parse_statements.proofs.Below.{below_is, statement_reads, item_declared, item_stated, labelled_is}
+use Rattle.c_parse_statements.proofs.Below.{labelled_reads, refused_below, same_read}
 use Rattle.c_parse_statements.proofs.Below.{no_item, no_if, no_while, no_do, no_for, no_switch}
 use Rattle.c_parse_statements.proofs.Parted.{block_parted, do_parted, for_parted, switch_parted}
-use Rattle.c_parse_statements.proofs.Rows.{until_more, until_refused, closed_last, box_read}
+use Rattle.c_parse_statements.proofs.Rows.{until_more, until_refused, closed_last}
 use Rattle.c_parse_statements.proofs.statements.+statement.Goals as goal
 
-pub statement_below-returns-clause-reads : goal.statement_below-returns-clause-reads
-statement_below-returns-clause-reads t c =
-    rw (statement_is c.args.height c.args.parser.now.rest.now c.requires.low) c.statement.ensures.reads
-
-pub boxed_below-returns-clause-reads : goal.boxed_below-returns-clause-reads
-boxed_below-returns-clause-reads t c =
-    box_read _ _ _ _ c.in_ok-statement.ensures.reads c.boxed.ensures.ok c.boxed.ensures.err
-
-pub block_item-returns-then-height-eq1-clause-reads : goal.block_item-returns-then-height-eq1-clause-reads
-block_item-returns-then-height-eq1-clause-reads t c =
-    refused_fault _ _ _ (no_item c.args.height c.args.parser.now.rest.now c.if-height-eq1.true)
-        c.no_item_height.ensures.1
-
-pub block_item-returns-in_err-declaration-clause-reads : goal.block_item-returns-in_err-declaration-clause-reads
-block_item-returns-in_err-declaration-clause-reads t c =
+pub boxed_statement-returns-in_err-statement : goal.boxed_statement-returns-in_err-statement
+boxed_statement-returns-in_err-statement t c =
     let p = err_from_is_err_and c.from_residual.result c.from_residual.ensures.1 in
-    let above : 1 < c.args.height = omega (arith, c.if-height-eq1.false, c.requires.low) in
-    rw (p.1, p.2) (rw (item_declared c.args.height c.args.parser.now.rest.now above c.if-at_specifier.ensures.yes)
-        (refused_then _ _ _ c.in_err-declaration.ensures.reads))
+    rw (p.1, p.2) (rw (statement_reads c.args.lower.levels c.args.cursor.now.rest.now c.args.lower.low)
+    c.in_err-statement.ensures)
 
-pub block_item-returns-then-at_specifier-clause-reads : goal.block_item-returns-then-at_specifier-clause-reads
-block_item-returns-then-at_specifier-clause-reads t c =
-    let above : 1 < c.args.height = omega (arith, c.if-height-eq1.false, c.requires.low) in
-    item_declared c.args.height c.args.parser.now.rest.now above c.if-at_specifier.ensures.yes
-        ∙ (rw (c.in_ok-declaration.ensures.reads, c.declared_node.ensures) refl)
+pub boxed_statement-returns : goal.boxed_statement-returns
+boxed_statement-returns t c = (
+  statement_reads c.args.lower.levels c.args.cursor.now.rest.now c.args.lower.low
+      ∙ (rw (c.in_ok-statement.ensures.0, c.in_ok-boxed.ensures) refl),
+  c.in_ok-statement.ensures.1,
+)
 
-pub block_item-returns-clause-reads : goal.block_item-returns-clause-reads
-block_item-returns-clause-reads t c =
-    let above : 1 < c.args.height = omega (arith, c.if-height-eq1.false, c.requires.low) in
-    rw (item_stated c.args.height c.args.parser.now.rest.now above c.if-at_specifier.ensures.no)
-        c.statement_below.ensures.reads
+pub block_item-returns-in_default : goal.block_item-returns-in_default
+block_item-returns-in_default t c =
+    refused_fault _ _ _ (no_item c.args.height.levels c.args.cursor.now.rest.now c.in_default.ensures.none)
+    c.no_item_height.ensures.1
 
-pub labelled-returns-in_err-list-clause-reads : goal.labelled-returns-in_err-list-clause-reads
-labelled-returns-in_err-list-clause-reads t c =
+pub block_item-returns-in_err-declaration : goal.block_item-returns-in_err-declaration
+block_item-returns-in_err-declaration t c =
     let p = err_from_is_err_and c.from_residual.result c.from_residual.ensures.1 in
-    rw (p.1, p.2) (rw (labelled_is c.args.height c.args.parser.now.rest.now c.requires.low)
-        (refused_then _ _ _ c.in_err-list.ensures.reads))
+    rw (p.1, p.2) (rw (item_declared c.args.height.levels c.in-Some.lower.levels c.args.cursor.now.rest.now
+    c.in-Some.ensures.some.1
+    c.in-Some.lower.low c.if-at_specifier.ensures.yes) (refused_then _ _ _ c.in_err-declaration.ensures))
 
-pub labelled-returns-in_err-statement-clause-reads : goal.labelled-returns-in_err-statement-clause-reads
-labelled-returns-in_err-statement-clause-reads t c =
+pub block_item-returns-then-at_specifier : goal.block_item-returns-then-at_specifier
+block_item-returns-then-at_specifier t c = (
+  item_declared c.args.height.levels c.in-Some.lower.levels c.args.cursor.now.rest.now c.in-Some.ensures.some.1
+      c.in-Some.lower.low c.if-at_specifier.ensures.yes
+      ∙ (rw (c.in_ok-declaration.ensures.0, c.declared_node.ensures) refl),
+  c.in_ok-declaration.ensures.1,
+)
+
+pub block_item-returns : goal.block_item-returns
+block_item-returns t c =
+    let n = c.in-Some.lower.levels in
+    let ts = c.args.cursor.now.rest.now in
+    same_read stmt_of (below_node c.args.height.levels).item (read_statement (below_node n)) ts _ _
+    (item_stated c.args.height.levels n ts c.in-Some.ensures.some.1 c.in-Some.lower.low
+    c.if-at_specifier.ensures.no)
+    c.statement.ensures
+
+pub labelled-returns-in_err-list : goal.labelled-returns-in_err-list
+labelled-returns-in_err-list t c =
+    let p = err_from_is_err_and c.from_residual.result c.from_residual.ensures.1 in
+    rw (p.1, p.2) (rw (labelled_is c.args.lower.levels c.args.cursor.now.rest.now c.args.lower.low)
+    (refused_then _ _ _ c.in_err-list.ensures))
+
+pub labelled-returns-in_err-statement : goal.labelled-returns-in_err-statement
+labelled-returns-in_err-statement t c =
     let p = err_from_is_err_and c.from_residual-in_err-statement.result c.from_residual-in_err-statement.ensures.1 in
-    rw (p.1, p.2) (rw (labelled_reads c.args.height c.args.parser.now.rest.now _ _ c.requires.low
-        c.in_ok-list.ensures.reads) (refused_then _ _ _ c.in_err-statement.ensures.reads))
+    rw (p.1, p.2) (rw (labelled_reads c.args.lower.levels c.args.cursor.now.rest.now _ _ c.args.lower.low
+    c.in_ok-list.ensures.0)
+    (refused_then _ _ _ c.in_err-statement.ensures))
 
-pub labelled-returns-clause-reads : goal.labelled-returns-clause-reads
-labelled-returns-clause-reads t c =
-    labelled_reads c.args.height c.args.parser.now.rest.now _ _ c.requires.low c.in_ok-list.ensures.reads
-        ∙ (rw (c.in_ok-statement.ensures.reads, c.labelled_node.ensures) refl)
+pub labelled-returns : goal.labelled-returns
+labelled-returns t c = (
+  labelled_reads c.args.lower.levels c.args.cursor.now.rest.now _ _ c.args.lower.low c.in_ok-list.ensures.0
+      ∙ (rw (c.in_ok-statement.ensures.0, c.labelled_node.ensures) refl),
+  omega (arith, c.in_ok-list.ensures.1, c.in_ok-statement.ensures.1),
+)
 
 pub block_items-items-preserved : goal.block_items-items-preserved
 block_items-items-preserved t c =
     record {
       reads = until_more _ _ _ _ _ _ _ c.items.invariant.reads (sym c.at_mark.ensures ∙ c.items-test.true)
-          c.in_ok-item.ensures.reads c.in_ok-push.ensures.ok c.in_ok-item.ensures.shorter;
-      shorter = omega (arith, c.in_ok-item.ensures.shorter, c.items.invariant.shorter);
+          c.in_ok-item.ensures.0 c.in_ok-push.ensures c.in_ok-item.ensures.1;
+      shorter = omega (arith, c.in_ok-item.ensures.1, c.items.invariant.shorter);
     }
 
-pub block_items-returns-in_err-item-clause-reads : goal.block_items-returns-in_err-item-clause-reads
-block_items-returns-in_err-item-clause-reads t c =
+pub block_items-returns-in_err-item : goal.block_items-returns-in_err-item
+block_items-returns-in_err-item t c =
     let p = err_from_is_err_and c.from_residual.result c.from_residual.ensures.1 in
     rw (p.1, p.2) (refused_then _ _ _ (until_refused _ _ _ _ _ c.items.invariant.reads
-        (sym c.at_mark.ensures ∙ c.items-test.true) c.in_err-item.ensures.reads))
+    (sym c.at_mark.ensures ∙ c.items-test.true) c.in_err-item.ensures))
 
-pub block_items-returns-clause-reads : goal.block_items-returns-clause-reads
-block_items-returns-clause-reads t c =
-    closed_last _ _ _ _ _ _ c.items.invariant.reads (sym c.at_mark.ensures ∙ c.items-test.false) c.in-Some.ensures.some
+pub block_items-returns : goal.block_items-returns
+block_items-returns t c = (
+  closed_last _ _ _ _ _ _ c.items.invariant.reads (sym c.at_mark.ensures ∙ c.items-test.false) c.in-Some.ensures.0,
+  omega (arith, c.in-Some.ensures.1, c.items.invariant.shorter),
+)
 
 pub switch_items-items-preserved : goal.switch_items-items-preserved
 switch_items-items-preserved t c =
     record {
       reads = until_more _ _ _ _ _ _ _ c.items.invariant.reads (sym c.at_mark.ensures ∙ c.items-test.true)
-          c.in_ok-item.ensures.reads c.in_ok-push.ensures.ok c.in_ok-item.ensures.shorter;
-      shorter = omega (arith, c.in_ok-item.ensures.shorter, c.items.invariant.shorter);
+          c.in_ok-item.ensures.0 c.in_ok-push.ensures c.in_ok-item.ensures.1;
+      shorter = omega (arith, c.in_ok-item.ensures.1, c.items.invariant.shorter);
     }
 
-pub switch_items-returns-in_err-item-clause-reads : goal.switch_items-returns-in_err-item-clause-reads
-switch_items-returns-in_err-item-clause-reads t c =
+pub switch_items-returns-in_err-item : goal.switch_items-returns-in_err-item
+switch_items-returns-in_err-item t c =
     let p = err_from_is_err_and c.from_residual.result c.from_residual.ensures.1 in
     rw (p.1, p.2) (refused_then _ _ _ (until_refused _ _ _ _ _ c.items.invariant.reads
-        (sym c.at_mark.ensures ∙ c.items-test.true) c.in_err-item.ensures.reads))
+    (sym c.at_mark.ensures ∙ c.items-test.true) c.in_err-item.ensures))
 
-pub switch_items-returns-clause-reads : goal.switch_items-returns-clause-reads
-switch_items-returns-clause-reads t c =
-    closed_last _ _ _ _ _ _ c.items.invariant.reads (sym c.at_mark.ensures ∙ c.items-test.false) c.in-Some.ensures.some
+pub switch_items-returns : goal.switch_items-returns
+switch_items-returns t c = (
+  closed_last _ _ _ _ _ _ c.items.invariant.reads (sym c.at_mark.ensures ∙ c.items-test.false) c.in-Some.ensures.0,
+  omega (arith, c.in-Some.ensures.1, c.items.invariant.shorter),
+)
 
-pub block_behind-returns-in_err-items-clause-reads : goal.block_behind-returns-in_err-items-clause-reads
-block_behind-returns-in_err-items-clause-reads t c =
+pub block_behind-returns-in_err-items : goal.block_behind-returns-in_err-items
+block_behind-returns-in_err-items t c =
     let p = err_from_is_err_and c.from_residual.result c.from_residual.ensures.1 in
-    rw (p.1, p.2) (rw (block_parted (below_node c.args.height) c.args.opening c.args.parser.now.rest.now)
-        (refused_then _ _ _ c.in_err-items.ensures.reads))
+    rw (p.1, p.2) (rw (block_parted (below_node c.args.height.levels) c.args.opening c.args.cursor.now.rest.now)
+    (refused_then _ _ _ c.in_err-items.ensures))
 
-pub block_behind-returns-clause-reads : goal.block_behind-returns-clause-reads
-block_behind-returns-clause-reads t c =
-    block_parted (below_node c.args.height) c.args.opening c.args.parser.now.rest.now
-        ∙ (rw (c.in_ok-items.ensures.reads, c.block_node.ensures) refl)
+pub block_behind-returns : goal.block_behind-returns
+block_behind-returns t c = (
+  block_parted (below_node c.args.height.levels) c.args.opening c.args.cursor.now.rest.now
+      ∙ (rw (c.in_ok-items.ensures.0, c.block_node.ensures) refl),
+  c.in_ok-items.ensures.1,
+)
 
-pub if_behind-returns-in_err-height_below-clause-reads : goal.if_behind-returns-in_err-height_below-clause-reads
-if_behind-returns-in_err-height_below-clause-reads t c =
+pub if_behind-returns-in_err-lower : goal.if_behind-returns-in_err-lower
+if_behind-returns-in_err-lower t c =
     let p = err_from_is_err_and c.from_residual.result c.from_residual.ensures.1 in
-    rw (p.1, p.2) (refused_fault _ _ _ (no_if c.args.height c.args.at c.args.parser.now.rest.now
-        c.in_err-height_below.ensures.err.0) c.in_err-height_below.ensures.err.1.1)
+    rw (p.1, p.2) (refused_fault _ _ _ (no_if c.args.height.levels c.args.at c.args.cursor.now.rest.now
+    c.in_err-lower.ensures.err.0) c.in_err-lower.ensures.err.1)
 
-pub while_behind-returns-in_err-height_below-clause-reads : goal.while_behind-returns-in_err-height_below-clause-reads
-while_behind-returns-in_err-height_below-clause-reads t c =
+pub while_behind-returns-in_err-lower : goal.while_behind-returns-in_err-lower
+while_behind-returns-in_err-lower t c =
     let p = err_from_is_err_and c.from_residual.result c.from_residual.ensures.1 in
-    rw (p.1, p.2) (refused_fault _ _ _ (no_while c.args.height c.args.at c.args.parser.now.rest.now
-        c.in_err-height_below.ensures.err.0) c.in_err-height_below.ensures.err.1.1)
+    rw (p.1, p.2) (refused_fault _ _ _ (no_while c.args.height.levels c.args.at c.args.cursor.now.rest.now
+    c.in_err-lower.ensures.err.0) c.in_err-lower.ensures.err.1)
 
-pub do_behind-returns-in_err-height_below-clause-reads : goal.do_behind-returns-in_err-height_below-clause-reads
-do_behind-returns-in_err-height_below-clause-reads t c =
+pub do_behind-returns-in_err-lower : goal.do_behind-returns-in_err-lower
+do_behind-returns-in_err-lower t c =
     let p = err_from_is_err_and c.from_residual.result c.from_residual.ensures.1 in
-    rw (p.1, p.2) (refused_fault _ _ _ (no_do c.args.height c.args.at c.args.parser.now.rest.now
-        c.in_err-height_below.ensures.err.0) c.in_err-height_below.ensures.err.1.1)
+    rw (p.1, p.2) (refused_fault _ _ _ (no_do c.args.height.levels c.args.at c.args.cursor.now.rest.now
+    c.in_err-lower.ensures.err.0) c.in_err-lower.ensures.err.1)
 
-pub for_behind-returns-in_err-height_below-clause-reads : goal.for_behind-returns-in_err-height_below-clause-reads
-for_behind-returns-in_err-height_below-clause-reads t c =
+pub for_behind-returns-in_err-lower : goal.for_behind-returns-in_err-lower
+for_behind-returns-in_err-lower t c =
     let p = err_from_is_err_and c.from_residual.result c.from_residual.ensures.1 in
-    rw (p.1, p.2) (refused_fault _ _ _ (no_for c.args.height c.args.at c.args.parser.now.rest.now
-        c.in_err-height_below.ensures.err.0) c.in_err-height_below.ensures.err.1.1)
+    rw (p.1, p.2) (refused_fault _ _ _ (no_for c.args.height.levels c.args.at c.args.cursor.now.rest.now
+    c.in_err-lower.ensures.err.0) c.in_err-lower.ensures.err.1)
 
-pub switch_behind-returns-in_err-height_below-clause-reads : goal.switch_behind-returns-in_err-height_below-clause-reads
-switch_behind-returns-in_err-height_below-clause-reads t c =
+pub switch_behind-returns-in_err-lower : goal.switch_behind-returns-in_err-lower
+switch_behind-returns-in_err-lower t c =
     let p = err_from_is_err_and c.from_residual.result c.from_residual.ensures.1 in
-    rw (p.1, p.2) (refused_fault _ _ _ (no_switch c.args.height c.args.at c.args.parser.now.rest.now
-        c.in_err-height_below.ensures.err.0) c.in_err-height_below.ensures.err.1.1)
+    rw (p.1, p.2) (refused_fault _ _ _ (no_switch c.args.height.levels c.args.at c.args.cursor.now.rest.now
+    c.in_err-lower.ensures.err.0) c.in_err-lower.ensures.err.1)
 
-pub do_behind-returns-in-Err-clause-reads : goal.do_behind-returns-in-Err-clause-reads
-do_behind-returns-in-Err-clause-reads t c =
-    rw (do_parted (below_node c.args.height) c.args.at c.args.parser.now.rest.now, c.in_ok-body.ensures.reads)
-        (refused_then _ _ _ c.in-Err.ensures.reads)
+pub do_behind-returns-in-Err : goal.do_behind-returns-in-Err
+do_behind-returns-in-Err t c =
+    let n = c.in_ok-lower.lower.levels in
+    let ts = c.args.cursor.now.rest.now in
+    let parted = ap (λ (b : Below). do_behind b c.args.at ts)
+    (below_is c.args.height.levels n c.in_ok-lower.ensures.ok.1)
+    ∙ do_parted (fields_of n) c.args.at ts in
+    rw (parted, c.in_ok-body.ensures.0) (refused_then _ _ _ c.in-Err.ensures)
 
-pub do_behind-returns-in-Ok-clause-reads : goal.do_behind-returns-in-Ok-clause-reads
-do_behind-returns-in-Ok-clause-reads t c =
-    do_parted (below_node c.args.height) c.args.at c.args.parser.now.rest.now
-        ∙ (rw (c.in_ok-body.ensures.reads, c.in-Ok.ensures.reads, c.do_node.ensures) refl)
+pub do_behind-returns-in-Ok : goal.do_behind-returns-in-Ok
+do_behind-returns-in-Ok t c =
+    let n = c.in_ok-lower.lower.levels in
+    let ts = c.args.cursor.now.rest.now in
+    let parted = ap (λ (b : Below). do_behind b c.args.at ts)
+    (below_is c.args.height.levels n c.in_ok-lower.ensures.ok.1)
+    ∙ do_parted (fields_of n) c.args.at ts in (
+      parted ∙ (rw (c.in_ok-body.ensures.0, c.in-Ok.ensures.0, c.do_node.ensures) refl),
+      omega (arith, c.in_ok-body.ensures.1, c.in-Ok.ensures.1),
+    )
 
-pub for_behind-returns-in_err-head-clause-reads : goal.for_behind-returns-in_err-head-clause-reads
-for_behind-returns-in_err-head-clause-reads t c =
+pub switch_behind-returns-in_err-head : goal.switch_behind-returns-in_err-head
+switch_behind-returns-in_err-head t c =
     let p = err_from_is_err_and c.from_residual-in_err-head.result c.from_residual-in_err-head.ensures.1 in
-    rw (p.1, p.2) (rw (for_parted (below_node c.args.height) c.args.at c.args.parser.now.rest.now)
-        (refused_then _ _ _ c.in_err-head.ensures.reads))
+    let n = c.in_ok-lower.lower.levels in
+    let ts = c.args.cursor.now.rest.now in
+    let parted = ap (λ (b : Below). switch_behind b c.args.at ts)
+    (below_is c.args.height.levels n c.in_ok-lower.ensures.ok.1)
+    ∙ switch_parted (fields_of n) c.args.at ts in
+    rw (p.1, p.2) (rw parted (refused_then _ _ _ c.in_err-head.ensures))
 
-pub for_behind-returns-in-Err-clause-reads : goal.for_behind-returns-in-Err-clause-reads
-for_behind-returns-in-Err-clause-reads t c =
-    rw (for_parted (below_node c.args.height) c.args.at c.args.parser.now.rest.now, c.in_ok-head.ensures.reads)
-        (refused_then _ _ _ c.in-Err.ensures.reads)
+pub switch_behind-returns-in-Err : goal.switch_behind-returns-in-Err
+switch_behind-returns-in-Err t c =
+    let n = c.in_ok-lower.lower.levels in
+    let ts = c.args.cursor.now.rest.now in
+    let parted = ap (λ (b : Below). switch_behind b c.args.at ts)
+    (below_is c.args.height.levels n c.in_ok-lower.ensures.ok.1)
+    ∙ switch_parted (fields_of n) c.args.at ts in
+    rw (parted, c.in_ok-head.ensures.0) (refused_then _ _ _ c.in-Err.ensures)
 
-pub for_behind-returns-in-Ok-clause-reads : goal.for_behind-returns-in-Ok-clause-reads
-for_behind-returns-in-Ok-clause-reads t c =
-    for_parted (below_node c.args.height) c.args.at c.args.parser.now.rest.now
-        ∙ (rw (c.in_ok-head.ensures.reads, c.in-Ok.ensures.reads, c.for_node.ensures) refl)
+pub switch_behind-returns-in-Ok : goal.switch_behind-returns-in-Ok
+switch_behind-returns-in-Ok t c =
+    let n = c.in_ok-lower.lower.levels in
+    let ts = c.args.cursor.now.rest.now in
+    let parted = ap (λ (b : Below). switch_behind b c.args.at ts)
+    (below_is c.args.height.levels n c.in_ok-lower.ensures.ok.1)
+    ∙ switch_parted (fields_of n) c.args.at ts in (
+      parted ∙ (rw (c.in_ok-head.ensures.0, c.in-Ok.ensures.0, c.switch_node.ensures) refl),
+      omega (arith, c.in_ok-head.ensures.1, c.in-Ok.ensures.1),
+    )
 
-pub switch_behind-returns-in_err-head-clause-reads : goal.switch_behind-returns-in_err-head-clause-reads
-switch_behind-returns-in_err-head-clause-reads t c =
+pub for_behind-returns-in_err-head : goal.for_behind-returns-in_err-head
+for_behind-returns-in_err-head t c =
     let p = err_from_is_err_and c.from_residual-in_err-head.result c.from_residual-in_err-head.ensures.1 in
-    rw (p.1, p.2) (rw (switch_parted (below_node c.args.height) c.args.at c.args.parser.now.rest.now)
-        (refused_then _ _ _ c.in_err-head.ensures.reads))
+    rw (p.1, p.2) (rw (for_parted (below_node c.args.height.levels) c.args.at c.args.cursor.now.rest.now)
+    (refused_then _ _ _ c.in_err-head.ensures))
 
-pub switch_behind-returns-in-Err-clause-reads : goal.switch_behind-returns-in-Err-clause-reads
-switch_behind-returns-in-Err-clause-reads t c =
-    rw (switch_parted (below_node c.args.height) c.args.at c.args.parser.now.rest.now, c.in_ok-head.ensures.reads)
-        (refused_then _ _ _ c.in-Err.ensures.reads)
+pub for_behind-returns-in-Err : goal.for_behind-returns-in-Err
+for_behind-returns-in-Err t c =
+    rw (for_parted (below_node c.args.height.levels) c.args.at c.args.cursor.now.rest.now, c.in_ok-head.ensures.0)
+    (refused_then _ _ _ (refused_below c.args.height.levels c.in_ok-lower.lower.levels
+    c.for_head.new.cursor.rest.now _ c.in_ok-lower.ensures.ok.1 c.in-Err.ensures))
 
-pub switch_behind-returns-in-Ok-clause-reads : goal.switch_behind-returns-in-Ok-clause-reads
-switch_behind-returns-in-Ok-clause-reads t c =
-    switch_parted (below_node c.args.height) c.args.at c.args.parser.now.rest.now
-        ∙ (rw (c.in_ok-head.ensures.reads, c.in-Ok.ensures.reads, c.switch_node.ensures) refl)
+pub for_behind-returns-in-Ok : goal.for_behind-returns-in-Ok
+for_behind-returns-in-Ok t c =
+    let stated = ap (λ (b : Below). b.statement c.for_head.new.cursor.rest.now)
+    (below_is c.args.height.levels c.in_ok-lower.lower.levels c.in_ok-lower.ensures.ok.1) in (
+      for_parted (below_node c.args.height.levels) c.args.at c.args.cursor.now.rest.now
+          ∙ (rw (c.in_ok-head.ensures.0, stated, c.in-Ok.ensures.0, c.for_node.ensures) refl),
+      omega (arith, c.in_ok-head.ensures.1, c.in-Ok.ensures.1),
+    )

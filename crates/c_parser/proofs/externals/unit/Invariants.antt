@@ -1,5 +1,5 @@
 -- What is read in all is what the turns from here read.
-use Rattle.std.proofs.Common.{length, map}
+use Rattle.std.proofs.Common.{◌≤◌, length, map}
 use Rattle.c_grammar.specs.Statements.{external_of}
 use Rattle.c_grammar.proofs.Chains.{Continues}
 use Rattle.c_grammar.specs.StatementReading.{unit_step, read_unit}
@@ -7,9 +7,11 @@ use Rattle.c_parse_statements.specs.Parts.{below_node}
 use Rattle.c_parser.proofs.externals.unit.Given as goal
 
 abbrev pub invariant-externals : goal.invariant-externals
-invariant-externals l =
-    Continues (unit_step (below_node l.height)) (map external_of l.externals.items) l.parser.rest.now
-        (read_unit (below_node l.height) l.fn.parser.rest.now)
+invariant-externals l = record {
+  reads : Continues (unit_step (below_node l.height.levels)) (map external_of l.externals.items) l.cursor.rest.now
+      (read_unit (below_node l.height.levels) l.fn.cursor.rest.now);
+  shorter : length l.cursor.rest.now ≤ length l.fn.cursor.rest.now;
+}
 
 abbrev pub decreases-externals : goal.decreases-externals
-decreases-externals l = length l.parser.rest.now
+decreases-externals l = length l.cursor.rest.now

@@ -1,14 +1,12 @@
-ghost use Rattle.std.specs.Prelude.{◌≡◌, ◌<◌, ◌≤◌, length, IfSome, IfNone, OnOk, IfErr, Some, None, ◌≢◌, ℕ, is_some};
-ghost use Rattle.std.specs.Prelude.{[]};
+ghost use Rattle.std.specs.Prelude.{◌≡◌, ◌<◌, length, IfSome, IfNone, Some, [], ℕ, is_some};
 ghost use Rattle.std.specs.Bool.{OnTrue, OnFalse};
 ghost use Rattle.pcc_base.specs.declared.refusal.Refusal.TheVariants.{Fault as Faulty};
-ghost use Rattle.pcc_base.specs.declared.fault.Fault.{Fault};
-ghost use Rattle.pcc_base.specs.declared.fault.FaultKind.TheVariants.{TooDeep};
 ghost use Rattle.c_grammar.specs.Taking.{take_mark, take_word, take_unary, take_step, take_assign, take_binary};
 ghost use Rattle.c_grammar.specs.Taking.{take_specifiers};
 ghost use Rattle.c_grammar.specs.Reading.{Readers, read_cast, read_unary};
-ghost use Rattle.c_parse_expressions.specs.Rows.{BeginsWithSpecifier};
-ghost use Rattle.c_parse_expressions.specs.Places.{next_place, kind_without_height};
+ghost use Rattle.c_cursor.specs.Readings.{IsTaken};
+ghost use Rattle.c_cursor.specs.Rows.{BeginsWithSpecifier};
+ghost use Rattle.c_cursor.specs.Places.{next_place, kind_without_height};
 
 use crate::tables::{
     assign_of, begins_expression, binary_of, is_mark, is_word, specifier_of, step_of, unary_of,
@@ -18,9 +16,9 @@ use c_syntax::{AssignOp, BinaryOp, StepOp, UnaryOp};
 use pcc_base::{Fault, FaultKind, Keyword, Refusal, Span};
 use std::alloc::Global;
 
-/// A place in a list of tokens, from which the parser reads on.
+/// A place in a list of tokens, from which a parser reads on.
 #[derive(Drop)]
-pub struct Parser<'a> {
+pub struct Cursor<'a> {
     pub alloc: Global,
     /// The tokens that are left.
     pub rest: &'a [Token],
@@ -42,13 +40,10 @@ fn begins_with_specifier(tokens: &[Token]) -> bool
     }
 }
 
-impl Parser<'_> {
+impl Cursor<'_> {
     /// Takes this mark, where it is the next token.
     pub fn take_mark(&mut self, mark: Punct) -> Option<Span>
-        ensures some { IfSome result (λ at. take_mark mark self.old.rest.now ≡ Some (at, self.new.rest.now)) }
-        ensures none { IfNone result (take_mark mark self.old.rest.now ≡ None) }
-        ensures stays { IfNone result (self.new.rest.now ≡ self.old.rest.now) }
-        ensures shorter { IfSome result (λ _. length self.new.rest.now < length self.old.rest.now) }
+        ensures { IsTaken (take_mark mark) self.old.rest.now self.new.rest.now result }
     {
         let (first, others) = self.rest.split_first()?;
         if is_mark(&first.kind, mark) {
@@ -77,7 +72,7 @@ impl Parser<'_> {
     }
 
     /// Takes a `(` that begins a cast: a specifier stands behind it.
-    pub(crate) fn take_cast(&mut self) -> Option<Span>
+    pub fn take_cast(&mut self) -> Option<Span>
         ensures some { IfSome result (λ at. (take_mark Punct.LeftParen self.old.rest.now ≡ Some (at, self.new.rest.now))
             × BeginsWithSpecifier self.new.rest.now) }
         ensures none { IfNone result ((height : ℕ) (below : Readers) → read_cast height below self.old.rest.now
@@ -95,10 +90,7 @@ impl Parser<'_> {
 
     /// Takes this word, where it is the next token.
     pub fn take_word(&mut self, word: Keyword) -> Option<Span>
-        ensures some { IfSome result (λ at. take_word word self.old.rest.now ≡ Some (at, self.new.rest.now)) }
-        ensures none { IfNone result (take_word word self.old.rest.now ≡ None) }
-        ensures stays { IfNone result (self.new.rest.now ≡ self.old.rest.now) }
-        ensures shorter { IfSome result (λ _. length self.new.rest.now < length self.old.rest.now) }
+        ensures { IsTaken (take_word word) self.old.rest.now self.new.rest.now result }
     {
         let (first, others) = self.rest.split_first()?;
         if is_word(&first.kind, word) {
@@ -109,11 +101,8 @@ impl Parser<'_> {
     }
 
     /// Takes an operator before an operand, where the next token is one.
-    pub(crate) fn take_unary(&mut self) -> Option<(UnaryOp, Span)>
-        ensures some { IfSome result (λ found. take_unary self.old.rest.now ≡ Some (found, self.new.rest.now)) }
-        ensures none { IfNone result (take_unary self.old.rest.now ≡ None) }
-        ensures stays { IfNone result (self.new.rest.now ≡ self.old.rest.now) }
-        ensures shorter { IfSome result (λ _. length self.new.rest.now < length self.old.rest.now) }
+    pub fn take_unary(&mut self) -> Option<(UnaryOp, Span)>
+        ensures { IsTaken take_unary self.old.rest.now self.new.rest.now result }
     {
         let (first, others) = self.rest.split_first()?;
         let op = unary_of(&first.kind)?;
@@ -122,11 +111,8 @@ impl Parser<'_> {
     }
 
     /// Takes `++` or `--`, where the next token is one of them.
-    pub(crate) fn take_step(&mut self) -> Option<(StepOp, Span)>
-        ensures some { IfSome result (λ found. take_step self.old.rest.now ≡ Some (found, self.new.rest.now)) }
-        ensures none { IfNone result (take_step self.old.rest.now ≡ None) }
-        ensures stays { IfNone result (self.new.rest.now ≡ self.old.rest.now) }
-        ensures shorter { IfSome result (λ _. length self.new.rest.now < length self.old.rest.now) }
+    pub fn take_step(&mut self) -> Option<(StepOp, Span)>
+        ensures { IsTaken take_step self.old.rest.now self.new.rest.now result }
     {
         let (first, others) = self.rest.split_first()?;
         let op = step_of(&first.kind)?;
@@ -135,11 +121,8 @@ impl Parser<'_> {
     }
 
     /// Takes an assignment operator, where the next token is one.
-    pub(crate) fn take_assign(&mut self) -> Option<(AssignOp, Span)>
-        ensures some { IfSome result (λ found. take_assign self.old.rest.now ≡ Some (found, self.new.rest.now)) }
-        ensures none { IfNone result (take_assign self.old.rest.now ≡ None) }
-        ensures stays { IfNone result (self.new.rest.now ≡ self.old.rest.now) }
-        ensures shorter { IfSome result (λ _. length self.new.rest.now < length self.old.rest.now) }
+    pub fn take_assign(&mut self) -> Option<(AssignOp, Span)>
+        ensures { IsTaken take_assign self.old.rest.now self.new.rest.now result }
     {
         let (first, others) = self.rest.split_first()?;
         let op = assign_of(&first.kind)?;
@@ -148,11 +131,8 @@ impl Parser<'_> {
     }
 
     /// Takes an operator of this level, where the next token is one.
-    pub(crate) fn take_binary(&mut self, level: usize) -> Option<(BinaryOp, Span)>
-        ensures some { IfSome result (λ found. take_binary level self.old.rest.now ≡ Some (found, self.new.rest.now)) }
-        ensures none { IfNone result (take_binary level self.old.rest.now ≡ None) }
-        ensures stays { IfNone result (self.new.rest.now ≡ self.old.rest.now) }
-        ensures shorter { IfSome result (λ _. length self.new.rest.now < length self.old.rest.now) }
+    pub fn take_binary(&mut self, level: usize) -> Option<(BinaryOp, Span)>
+        ensures { IsTaken (take_binary level) self.old.rest.now self.new.rest.now result }
     {
         let (first, others) = self.rest.split_first()?;
         let op = binary_of(&first.kind, level)?;
@@ -196,16 +176,4 @@ pub fn fault_at(kind: FaultKind, at: Span) -> Refusal
     ensures { result ≡ Faulty (record { kind = kind; at = at }) }
 {
     Refusal::Fault(Fault { kind, at })
-}
-
-/// Refuses a node that needs a node below it, where no height is left for one: TooDeep at this place.
-pub fn height_below(height: u32, at: Span) -> Result<(), Refusal>
-    ensures ok { OnOk result (height ≢ 1) }
-    ensures err { IfErr result (λ e. (height ≡ 1) × ((fault : Fault) × (e ≡ Faulty fault))) }
-    ensures deep { IfErr result (λ e. e ≡ Faulty (record { kind = TooDeep; at = at })) }
-{
-    if height == 1 {
-        return Err(fault_at(FaultKind::TooDeep, at));
-    }
-    Ok(())
 }

@@ -1,14 +1,13 @@
 //! Which operator or specifier a token is.
 
-ghost use Rattle.std.specs.Prelude.{◌≡◌, nat_le};
-ghost use Rattle.c_grammar.specs.Expressions.{expr_of};
-ghost use Rattle.c_grammar.specs.ExpressionTokens.{binary_level, looseness};
+ghost use Rattle.std.specs.Prelude.{◌≡◌};
+ghost use Rattle.c_grammar.specs.ExpressionTokens.{binary_level};
 ghost use Rattle.c_grammar.specs.Taking.{is_mark, is_word, of_mark, unary_of_mark, step_of_mark, assign_of_mark};
 ghost use Rattle.c_grammar.specs.Taking.{binary_of_mark, specifier_of, at_level};
 ghost use Rattle.c_grammar.specs.Heads.{begins};
 
 use c_lexer::{Punct, TokenKind};
-use c_syntax::{AssignOp, BinaryOp, Expression, SpecifierWord, StepOp, UnaryOp};
+use c_syntax::{AssignOp, BinaryOp, SpecifierWord, StepOp, UnaryOp};
 use pcc_base::Keyword;
 
 /// Whether a token is this mark.
@@ -186,27 +185,6 @@ pub(crate) fn specifier_of(kind: &TokenKind) -> Option<SpecifierWord>
         TokenKind::Word(Keyword::Int) => Some(SpecifierWord::Int),
         TokenKind::Word(Keyword::Signed) => Some(SpecifierWord::Signed),
         _ => None,
-    }
-}
-
-/// Whether an expression is one of the rule `unary`.
-pub(crate) fn is_unary(e: &Expression) -> bool
-    ensures { result ≡ nat_le (looseness (expr_of e.now)) 2 }
-{
-    match e {
-        Expression::Identifier(_)
-        | Expression::Number(_, _)
-        | Expression::Text(_)
-        | Expression::Parenthesised(_, _, _)
-        | Expression::Call { .. }
-        | Expression::Index(_, _, _, _)
-        | Expression::Postfix(_, _, _)
-        | Expression::Prefix(_, _, _)
-        | Expression::Unary(_, _, _) => true,
-        Expression::Cast { .. }
-        | Expression::Binary(_, _, _, _)
-        | Expression::Conditional { .. }
-        | Expression::Assignment(_, _, _, _) => false,
     }
 }
 

@@ -1,0 +1,193 @@
+-- The loops add one turn to what is read in all; a rule below a node is read by the readers for one less.
+use Rattle.std.proofs.Common.{◌<◌, ap, sym, ◌∙◌, arith, length}
+use Rattle.std.proofs.lemmas.Result.{err_from_is_err_and}
+use Rattle.c_grammar.specs.Expressions.{exprs_of}
+use Rattle.c_grammar.specs.ExpressionTokens.{expr_height, exprs_height}
+use Rattle.c_grammar.specs.Reading as reading
+use Rattle.c_grammar.specs.Reading.{readers, read_expression, read_assignment, read_conditional, read_binary}
+use Rattle.c_grammar.specs.Reading.{read_cast, read_unary}
+use Rattle.c_grammar.proofs.Chains.{continues_goes}
+use Rattle.c_grammar.proofs.Reading.{read_binary_above, expression_above, assignment_above, conditional_above}
+use Rattle.c_grammar.proofs.Reading.{binary_above, cast_above, unary_above}
+use Rattle.c_cursor.proofs.Refused.{refused_turn, last_turn, refused_then, refused_fault}
+use Rattle.c_parse_expressions.specs.Readings.{reader_of, below}
+use Rattle.c_parse_expressions.proofs.Turns.{same_reading, none_below, no_arguments, no_cast_below}
+use Rattle.c_parse_expressions.proofs.+expression.Goals as goal
+
+pub expression::tree_below-returns-in_err-lower : goal.expression::tree_below-returns-in_err-lower
+expression::tree_below-returns-in_err-lower t c =
+    let p = err_from_is_err_and c.from_residual.result c.from_residual.ensures.1 in
+    rw (p.1, p.2) (refused_fault _ _ _ (none_below c.args.rule c.args.height.levels c.args.cursor.now.rest.now
+    c.in_err-lower.ensures.err.0) c.in_err-lower.ensures.err.1)
+
+pub expression::tree_of-returns-in-Expression : goal.expression::tree_of-returns-in-Expression
+expression::tree_of-returns-in-Expression t c =
+    let n = c.args.height.levels in
+    let ts = c.args.cursor.now.rest.now in
+    same_reading n (reader_of c.args.rule (readers n)) (read_expression n (below n)) ts _ _
+    (rw c.in-Expression.is (expression_above n ts c.args.height.low)) c.expression.ensures
+
+pub expression::tree_of-returns-in-Assignment : goal.expression::tree_of-returns-in-Assignment
+expression::tree_of-returns-in-Assignment t c =
+    let n = c.args.height.levels in
+    let ts = c.args.cursor.now.rest.now in
+    same_reading n (reader_of c.args.rule (readers n)) (read_assignment n (below n)) ts _ _
+    (rw c.in-Assignment.is (assignment_above n ts c.args.height.low)) c.assignment.ensures
+
+pub expression::tree_of-returns-in-Conditional : goal.expression::tree_of-returns-in-Conditional
+expression::tree_of-returns-in-Conditional t c =
+    let n = c.args.height.levels in
+    let ts = c.args.cursor.now.rest.now in
+    same_reading n (reader_of c.args.rule (readers n)) (read_conditional n (below n)) ts _ _
+    (rw c.in-Conditional.is (conditional_above n ts c.args.height.low)) c.conditional.ensures
+
+pub expression::tree_of-returns-in-Binary : goal.expression::tree_of-returns-in-Binary
+expression::tree_of-returns-in-Binary t c =
+    let n = c.args.height.levels in
+    let ts = c.args.cursor.now.rest.now in
+    same_reading n (reader_of c.args.rule (readers n)) (read_binary n (below n) c.in-Binary.level) ts _ _
+    (rw c.in-Binary.is (binary_above n c.in-Binary.level ts c.args.height.low)) c.binary.ensures
+
+pub expression::tree_of-returns-in-Cast : goal.expression::tree_of-returns-in-Cast
+expression::tree_of-returns-in-Cast t c =
+    let n = c.args.height.levels in
+    let ts = c.args.cursor.now.rest.now in
+    same_reading n (reader_of c.args.rule (readers n)) (read_cast n (below n)) ts _ _
+    (rw c.in-Cast.is (cast_above n ts c.args.height.low)) c.cast.ensures
+
+pub expression::tree_of-returns-in-Unary : goal.expression::tree_of-returns-in-Unary
+expression::tree_of-returns-in-Unary t c =
+    let n = c.args.height.levels in
+    let ts = c.args.cursor.now.rest.now in
+    same_reading n (reader_of c.args.rule (readers n)) (read_unary n (below n)) ts _ _
+    (rw c.in-Unary.is (unary_above n ts c.args.height.low)) c.unary.ensures
+
+pub expression::cast-returns-in_err-below : goal.expression::cast-returns-in_err-below
+expression::cast-returns-in_err-below t c =
+    let p = err_from_is_err_and c.from_residual.result c.from_residual.ensures.1 in
+    rw (p.1, p.2) (refused_fault _ _ _ (no_cast_below c.args.height.levels c.args.cursor.now.rest.now _ _
+    c.in_err-below.ensures.err.0 c.in-Some.ensures.some.0 c.in-Some.ensures.some.1)
+    c.in_err-below.ensures.err.1)
+
+pub expression::binary-returns-in_err-left : goal.expression::binary-returns-in_err-left
+expression::binary-returns-in_err-left t c =
+    let p = err_from_is_err_and c.from_residual.result c.from_residual.ensures.1 in
+    let pos : 0 < c.args.level = omega (arith, c.if-level-eq0.false) in
+    rw (p.1, p.2) (rw (read_binary_above c.args.height.levels (below c.args.height.levels) c.args.level
+    c.args.cursor.now.rest.now pos)
+    (refused_then _ _ _ c.in_err-left.ensures))
+
+pub expression::binary-operators-preserved : goal.expression::binary-operators-preserved
+expression::binary-operators-preserved t c =
+    let m = rw c.in-More.is at c.in_ok-more.ensures in
+    record {
+      reads = continues_goes _ _ _ _ _ _ c.operators.invariant.reads m.0 m.4;
+      height = m.1;
+      within = (m.2, m.3);
+      shorter = omega (arith, m.4, c.operators.invariant.shorter);
+    }
+
+pub expression::binary-returns-in_err-more : goal.expression::binary-returns-in_err-more
+expression::binary-returns-in_err-more t c =
+    let p = err_from_is_err_and c.from_residual-in_err-more.result c.from_residual-in_err-more.ensures.1 in
+    rw (p.1, p.2) (refused_turn _ _ _ _ _ c.operators.invariant.reads c.in_err-more.ensures)
+
+pub expression::binary-returns-in-Last : goal.expression::binary-returns-in-Last
+expression::binary-returns-in-Last t c =
+    let m = rw c.in-Last.is at c.in_ok-more.ensures in
+    let before = c.operators.invariant in (
+      last_turn _ _ _ _ _ _ before.reads m.0 m.1 m.3,
+      omega (arith, ap length m.3, before.shorter),
+      (
+        m.2 ∙ ap expr_height (sym m.1),
+        omega (arith, m.2, before.height, before.within.0),
+        omega (arith, m.2, before.height, before.within.1),
+      ),
+    )
+
+pub expression::expression-operators-preserved : goal.expression::expression-operators-preserved
+expression::expression-operators-preserved t c =
+    let m = rw c.in-More.is at c.in_ok-more.ensures in
+    record {
+      reads = continues_goes _ _ _ _ _ _ c.operators.invariant.reads m.0 m.4;
+      height = m.1;
+      within = (m.2, m.3);
+      shorter = omega (arith, m.4, c.operators.invariant.shorter);
+    }
+
+pub expression::expression-returns-in_err-more : goal.expression::expression-returns-in_err-more
+expression::expression-returns-in_err-more t c =
+    let p = err_from_is_err_and c.from_residual-in_err-more.result c.from_residual-in_err-more.ensures.1 in
+    rw (p.1, p.2) (refused_turn _ _ _ _ _ c.operators.invariant.reads c.in_err-more.ensures)
+
+pub expression::expression-returns-in-Last : goal.expression::expression-returns-in-Last
+expression::expression-returns-in-Last t c =
+    let m = rw c.in-Last.is at c.in_ok-more.ensures in
+    let before = c.operators.invariant in (
+      last_turn _ _ _ _ _ _ before.reads m.0 m.1 m.3,
+      omega (arith, ap length m.3, before.shorter),
+      (
+        m.2 ∙ ap expr_height (sym m.1),
+        omega (arith, m.2, before.height, before.within.0),
+        omega (arith, m.2, before.height, before.within.1),
+      ),
+    )
+
+pub primary::postfix-suffixes-preserved : goal.primary::postfix-suffixes-preserved
+primary::postfix-suffixes-preserved t c =
+    let m = rw c.in-More.is at c.in_ok-more.ensures in
+    record {
+      reads = continues_goes _ _ _ _ _ _ c.suffixes.invariant.reads m.0 m.4;
+      height = m.1;
+      within = (m.2, m.3);
+      shorter = omega (arith, m.4, c.suffixes.invariant.shorter);
+    }
+
+pub primary::postfix-returns-in_err-more : goal.primary::postfix-returns-in_err-more
+primary::postfix-returns-in_err-more t c =
+    let p = err_from_is_err_and c.from_residual-in_err-more.result c.from_residual-in_err-more.ensures.1 in
+    rw (p.1, p.2) (refused_turn _ _ _ _ _ c.suffixes.invariant.reads c.in_err-more.ensures)
+
+pub primary::postfix-returns-in-Last : goal.primary::postfix-returns-in-Last
+primary::postfix-returns-in-Last t c =
+    let m = rw c.in-Last.is at c.in_ok-more.ensures in
+    let before = c.suffixes.invariant in (
+      last_turn _ _ _ _ _ _ before.reads m.0 m.1 m.3,
+      omega (arith, ap length m.3, before.shorter),
+      (
+        m.2 ∙ ap expr_height (sym m.1),
+        omega (arith, m.2, before.height, before.within.0),
+        omega (arith, m.2, before.height, before.within.1),
+      ),
+    )
+
+pub primary::arguments-returns-in_default : goal.primary::arguments-returns-in_default
+primary::arguments-returns-in_default t c =
+    refused_fault _ _ _ (no_arguments c.args.height.levels c.args.cursor.now.rest.now c.in_default.ensures.none
+    (sym c.at_mark.ensures ∙ c.if-at_mark.false)) c.no_height.ensures
+
+pub primary::arguments-values-preserved : goal.primary::arguments-values-preserved
+primary::arguments-values-preserved t c =
+    let m = rw c.in-MoreValues.is at c.in_ok-more.ensures in
+    record {
+      reads = continues_goes _ _ _ _ _ _ c.values.invariant.reads m.0 m.3;
+      height = m.1;
+      within = omega (arith, m.2);
+      shorter = omega (arith, m.3, c.values.invariant.shorter);
+    }
+
+pub primary::arguments-returns-in_err-more : goal.primary::arguments-returns-in_err-more
+primary::arguments-returns-in_err-more t c =
+    let p = err_from_is_err_and c.from_residual-in_err-more.result c.from_residual-in_err-more.ensures.1 in
+    rw (p.1, p.2) (refused_turn _ _ _ _ _ c.values.invariant.reads c.in_err-more.ensures)
+
+pub primary::arguments-returns-in-LastValues : goal.primary::arguments-returns-in-LastValues
+primary::arguments-returns-in-LastValues t c =
+    let m = rw c.in-LastValues.is at c.in_ok-more.ensures in
+    let before = c.values.invariant in
+    let same = ap (λ (v : reading.Values). exprs_height (exprs_of v.0)) m.1 in (
+      last_turn _ _ _ _ _ _ before.reads m.0 m.1 m.3,
+      omega (arith, ap length m.3, before.shorter),
+      m.2,
+      omega (arith, m.2, same, before.height, before.within),
+    )

@@ -1,0 +1,112 @@
+-- Each call is for a lower height, or for the same height and a tighter rule.
+use Rattle.std.proofs.Common.{◌≡◌, ◌<◌, ◌≤◌, length, ◌-◌, ◌+◌, ◌*◌}
+use Rattle.c_grammar.specs.Expressions.{expr_of}
+use Rattle.c_grammar.specs.ExpressionTokens.{expr_height}
+use Rattle.c_grammar.proofs.Chains.{Continues}
+use Rattle.c_grammar.specs.Reading.{read_expression, read_binary, read_postfix, read_arguments, infix_step}
+use Rattle.c_grammar.specs.Reading.{suffix_step, value_step}
+use Rattle.c_parse_expressions.specs.Readings.{values_of, height_of_values, below}
+use Rattle.c_parse_expressions.proofs.+expression.Given as goal
+
+abbrev pub decreases-expression::tree_below : goal.decreases-expression::tree_below
+decreases-expression::tree_below l = 32 * l.height.levels
+
+abbrev pub decreases-expression::tree_of : goal.decreases-expression::tree_of
+decreases-expression::tree_of l = 32 * l.height.levels + 24
+
+abbrev pub decreases-expression::expression : goal.decreases-expression::expression
+decreases-expression::expression l = 32 * l.height.levels + 23
+
+abbrev pub decreases-expression::assignment : goal.decreases-expression::assignment
+decreases-expression::assignment l = 32 * l.height.levels + 22
+
+abbrev pub decreases-expression::conditional : goal.decreases-expression::conditional
+decreases-expression::conditional l = 32 * l.height.levels + 21
+
+abbrev pub decreases-expression::binary : goal.decreases-expression::binary
+decreases-expression::binary l = 32 * l.height.levels + 10 + l.level
+
+abbrev pub decreases-expression::comma : goal.decreases-expression::comma
+decreases-expression::comma l = 32 * l.height.levels + 9
+
+abbrev pub decreases-expression::operator : goal.decreases-expression::operator
+decreases-expression::operator l = 32 * l.height.levels + 9
+
+abbrev pub decreases-expression::cast : goal.decreases-expression::cast
+decreases-expression::cast l = 32 * l.height.levels + 8
+
+abbrev pub decreases-expression::unary : goal.decreases-expression::unary
+decreases-expression::unary l = 32 * l.height.levels + 7
+
+abbrev pub decreases-primary::postfix : goal.decreases-primary::postfix
+decreases-primary::postfix l = 32 * l.height.levels + 6
+
+abbrev pub decreases-primary::suffix : goal.decreases-primary::suffix
+decreases-primary::suffix l = 32 * l.height.levels + 5
+
+abbrev pub decreases-primary::primary : goal.decreases-primary::primary
+decreases-primary::primary l = 32 * l.height.levels + 4
+
+abbrev pub decreases-primary::parenthesised : goal.decreases-primary::parenthesised
+decreases-primary::parenthesised l = 32 * l.height.levels + 3
+
+abbrev pub decreases-primary::named : goal.decreases-primary::named
+decreases-primary::named l = 32 * l.height.levels + 3
+
+abbrev pub decreases-primary::arguments : goal.decreases-primary::arguments
+decreases-primary::arguments l = 32 * l.height.levels + 2
+
+abbrev pub decreases-primary::value : goal.decreases-primary::value
+decreases-primary::value l = 32 * l.height.levels + 1
+
+-- what is read in all is what the turns from here read
+
+abbrev pub invariant-expression::expression-operators : goal.invariant-expression::expression-operators
+invariant-expression::expression-operators l = record {
+  reads : Continues (infix_step 13 l.height.levels (below l.height.levels).assignment) (expr_of l.left.tree.value)
+      l.cursor.rest.now
+      (read_expression l.height.levels (below l.height.levels) l.fn.cursor.rest.now);
+  height : l.left.height ≡ expr_height (expr_of l.left.tree.value);
+  within : (0 < l.left.height) × (l.left.height ≤ l.height.levels);
+  shorter : length l.cursor.rest.now < length l.fn.cursor.rest.now;
+}
+
+abbrev pub decreases-expression::expression-operators : goal.decreases-expression::expression-operators
+decreases-expression::expression-operators l = length l.cursor.rest.now
+
+abbrev pub invariant-expression::binary-operators : goal.invariant-expression::binary-operators
+invariant-expression::binary-operators l = record {
+  reads : Continues (infix_step l.level l.height.levels ((below l.height.levels).binary (l.level - 1)))
+      (expr_of l.left.tree.value) l.cursor.rest.now
+      (read_binary l.height.levels (below l.height.levels) l.level l.fn.cursor.rest.now);
+  height : l.left.height ≡ expr_height (expr_of l.left.tree.value);
+  within : (0 < l.left.height) × (l.left.height ≤ l.height.levels);
+  shorter : length l.cursor.rest.now < length l.fn.cursor.rest.now;
+}
+
+abbrev pub decreases-expression::binary-operators : goal.decreases-expression::binary-operators
+decreases-expression::binary-operators l = length l.cursor.rest.now
+
+abbrev pub invariant-primary::postfix-suffixes : goal.invariant-primary::postfix-suffixes
+invariant-primary::postfix-suffixes l = record {
+  reads : Continues (suffix_step l.height.levels (below l.height.levels)) (expr_of l.base.tree.value) l.cursor.rest.now
+      (read_postfix l.height.levels (below l.height.levels) l.fn.cursor.rest.now);
+  height : l.base.height ≡ expr_height (expr_of l.base.tree.value);
+  within : (0 < l.base.height) × (l.base.height ≤ l.height.levels);
+  shorter : length l.cursor.rest.now < length l.fn.cursor.rest.now;
+}
+
+abbrev pub decreases-primary::postfix-suffixes : goal.decreases-primary::postfix-suffixes
+decreases-primary::postfix-suffixes l = length l.cursor.rest.now
+
+abbrev pub invariant-primary::arguments-values : goal.invariant-primary::arguments-values
+invariant-primary::arguments-values l = record {
+  reads : Continues (value_step (below l.height.levels)) (values_of l.values) l.cursor.rest.now
+      (read_arguments (below l.height.levels) l.fn.cursor.rest.now);
+  height : l.values.height ≡ height_of_values l.values;
+  within : l.values.height < l.height.levels;
+  shorter : length l.cursor.rest.now ≤ length l.fn.cursor.rest.now;
+}
+
+abbrev pub decreases-primary::arguments-values : goal.decreases-primary::arguments-values
+decreases-primary::arguments-values l = length l.cursor.rest.now
