@@ -1,6 +1,6 @@
 -- A board on which nothing stands, and one on which everything does.
-use Rattle.std.proofs.Common.{ℕ, ◌≡◌, ◌+◌, ◌*◌, ◌≤◌, refl, sym, ap, subst, Bool, true, ◌&&◌, cond, List, [], ◌∷◌}
-use Rattle.std.proofs.Common.{map, length, arith}
+use Rattle.std.proofs.Common.{ℕ, ◌≡◌, ◌+◌, ◌*◌, ◌≤◌, ◌∙◌, refl, sym, ap, subst, Bool, true, false, ◌&&◌, cond, List}
+use Rattle.std.proofs.Common.{[], ◌∷◌, map, length, arith}
 use Rattle.std.proofs.lemmas.List.Sums.{sum_by-cons}
 use Rattle.pcc_base.specs.declared.run.Width.{Width}
 use Rattle.pcc_base.specs.declared.run.Width.TheVariants.{One, Two}
@@ -19,7 +19,7 @@ use Rattle.puzzle_solver.specs.declared.counts.AreaCounts.{AreaCounts}
 use Rattle.puzzle_solver.specs.declared.counts.PieceCounts.{PieceCounts}
 use Rattle.puzzle_solver.specs.Columns.{IsWaiting}
 use Rattle.puzzle_solver.specs.Counting.{AreasAre, PiecesAre, numbers}
-use Rattle.puzzle_solver.specs.Solved.{IsOnward, IsSolved}
+use Rattle.puzzle_solver.specs.Solved.{IsOnward, IsSolved, is_removed}
 use Rattle.puzzle_solver.proofs.Worths.{lower-worth, lower-worth-most, upper-worth, upper-worth-most}
 
 -- ---- where nothing stands
@@ -118,6 +118,33 @@ all-placed old new onward waiting board = record {
   none Y Two = waiting.y2
   none Z One = waiting.z1
   none Z Two = waiting.z2
+
+-- the pieces that remain, by which are removed
+by_flags : List Piece → List Bool → List Piece
+by_flags [] flags = []
+by_flags (p ∷ pieces) [] = []
+by_flags (p ∷ pieces) (true ∷ flags) = by_flags pieces flags
+by_flags (p ∷ pieces) (false ∷ flags) = p ∷ by_flags pieces flags
+
+remaining-flags :
+    (pieces : List Piece) (states : List State) → remaining_in pieces states ≡ by_flags pieces (map is_removed states)
+unfolding by_flags
+remaining-flags [] states = refl
+remaining-flags (p ∷ pieces) [] = refl
+remaining-flags (p ∷ pieces) (Unplaced ∷ states) = ap (λ more. p ∷ more) (remaining-flags pieces states)
+remaining-flags (p ∷ pieces) (At spot ∷ states) = ap (λ more. p ∷ more) (remaining-flags pieces states)
+remaining-flags (p ∷ pieces) (Removed ∷ states) = remaining-flags pieces states
+
+-- what is solved was solvable
+pub solved-solvable : (now new : Puzzle) → IsSolved now new → IsSolvable now.areas (remaining now)
+solved-solvable now new solved =
+    let same : remaining new ≡ remaining now =
+    remaining-flags new.pieces new.states
+    ∙ (ap (λ (flags : List Bool). by_flags new.pieces flags) solved.onward.removed
+    ∙ (ap (λ (ps : List Piece). by_flags ps (map is_removed now.states)) solved.onward.pieces
+    ∙ sym (remaining-flags now.pieces now.states))) in
+    subst (λ (ps : List Piece). IsSolvable now.areas ps) same
+    (subst (λ (a : List Area). IsSolvable a (remaining new)) solved.onward.areas (standing new, solved.placed))
 
 -- ---- steps
 

@@ -1,4 +1,4 @@
-ghost use Rattle.std.specs.Prelude.{◌≡◌, ◌+◌, ◌*◌, ◌≤◌, [], length};
+ghost use Rattle.std.specs.Prelude.{◌≡◌, ◌+◌, ◌*◌, ◌≤◌, ◌↔◌, [], length, IsTrue};
 ghost use Rattle.puzzle_board.specs.Boards.{remaining, standing};
 ghost use Rattle.puzzle_board.specs.Placements.{IsSolvable};
 ghost use Rattle.std.specs.Bool.{OnFalse, OnTrue};
@@ -15,6 +15,7 @@ use std::sync::ledger::Ledger;
 /// leaves the board as it was.
 pub fn solve<L: Ledger>(board: &mut Board, steps: &mut Steps<L>) -> bool
     requires { standing board.old ≡ [] }
+    ensures exact { IsTrue result ↔ IsSolvable board.old.areas (remaining board.old) }
     ensures solved { OnTrue result (IsSolved board.old board.new) }
     ensures unsolvable { OnFalse result (¬ IsSolvable board.old.areas (remaining board.old)) }
     ensures unchanged { OnFalse result (board.new ≡ board.old) }

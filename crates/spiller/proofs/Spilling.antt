@@ -1,6 +1,6 @@
 -- Variables are removed one after another, until the board is solvable.
 use Rattle.std.proofs.Common.{ℕ, zero, suc, ◌≡◌, ◌≤◌, ◌<◌, ◌⊎◌, inl, inr, refl, sym, ◌∙◌, ap, subst, Bool, true}
-use Rattle.std.proofs.Common.{false, cond, ◌==◌, List, [], ◌∷◌, ◌++◌, length, take, drop, map, slice_index_or, arith}
+use Rattle.std.proofs.Common.{false, cond, ◌==◌, List, [], ◌∷◌, ◌++◌, length, take, drop, slice_index_or, arith}
 use Rattle.std.proofs.lemmas.Bool.{eqb-false}
 use Rattle.std.specs.Bool.{OnFalse, OnTrue}
 use Rattle.std.specs.List.{AllByRecursion}
@@ -11,7 +11,8 @@ use Rattle.puzzle_board.specs.declared.piece.State.{State}
 use Rattle.puzzle_board.specs.declared.piece.State.TheVariants.{Unplaced, At, Removed}
 use Rattle.puzzle_board.specs.Boards.{Puzzle, remaining, remaining_in, removed_in, standing, without_variable}
 use Rattle.puzzle_board.specs.Placements.{IsSolvable}
-use Rattle.puzzle_solver.specs.Solved.{IsSolved, is_removed}
+use Rattle.puzzle_solver.specs.Solved.{IsSolved}
+use Rattle.puzzle_solver.proofs.Ends.{solved-solvable}
 use Rattle.spiller.specs.Prefixes.{Fits, IsAmong, IsShortest, without_variables}
 
 -- the first so many variables of the order are removed, nothing stands, and with fewer removed there was no placement
@@ -154,33 +155,6 @@ so_far-more old order i v d removed now new far within v-is none new-is stands =
       (subst (λ (m : ℕ). Fits old (take m order)) same fits))
 
 -- ---- the ends
-
--- the pieces that remain, by which are removed
-by_flags : List Piece → List Bool → List Piece
-by_flags [] flags = []
-by_flags (p ∷ pieces) [] = []
-by_flags (p ∷ pieces) (true ∷ flags) = by_flags pieces flags
-by_flags (p ∷ pieces) (false ∷ flags) = p ∷ by_flags pieces flags
-
-remaining-flags :
-    (pieces : List Piece) (states : List State) → remaining_in pieces states ≡ by_flags pieces (map is_removed states)
-unfolding by_flags
-remaining-flags [] states = refl
-remaining-flags (p ∷ pieces) [] = refl
-remaining-flags (p ∷ pieces) (Unplaced ∷ states) = ap (λ more. p ∷ more) (remaining-flags pieces states)
-remaining-flags (p ∷ pieces) (At spot ∷ states) = ap (λ more. p ∷ more) (remaining-flags pieces states)
-remaining-flags (p ∷ pieces) (Removed ∷ states) = remaining-flags pieces states
-
--- what is solved was solvable
-solved-solvable : (now new : Puzzle) → IsSolved now new → IsSolvable now.areas (remaining now)
-solved-solvable now new solved =
-    let same : remaining new ≡ remaining now =
-    remaining-flags new.pieces new.states
-    ∙ (ap (λ (flags : List Bool). by_flags new.pieces flags) solved.onward.removed
-    ∙ (ap (λ (ps : List Piece). by_flags ps (map is_removed now.states)) solved.onward.pieces
-    ∙ sym (remaining-flags now.pieces now.states))) in
-    subst (λ (ps : List Piece). IsSolvable now.areas ps) same
-    (subst (λ (a : List Area). IsSolvable a (remaining new)) solved.onward.areas (standing new, solved.placed))
 
 -- the board was solved, so the prefix is the shortest
 pub so_far-solved :

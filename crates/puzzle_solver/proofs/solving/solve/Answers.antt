@@ -1,6 +1,6 @@
-use Rattle.std.proofs.Common.{List, ap, arith, length}
+use Rattle.std.proofs.Common.{List, ap, arith, length, refl}
 use Rattle.puzzle_board.specs.declared.area.Area.{Area}
-use Rattle.puzzle_solver.proofs.Ends.{all-placed, counted-bounded, few-pieces}
+use Rattle.puzzle_solver.proofs.Ends.{all-placed, counted-bounded, few-pieces, solved-solvable}
 use Rattle.puzzle_solver.proofs.Onward.{onward-more}
 use Rattle.puzzle_solver.proofs.solving.solve.Goals as goal
 
@@ -26,3 +26,26 @@ returns-clause-few g c =
     bounded in
     let areas = ap (λ (areas : List Area). length areas) c.place_wide.ensures.onward.areas in
     omega (arith, few, areas)
+
+pub returns-then-not-is_bounded-clause-exact : goal.returns-then-not-is_bounded-clause-exact
+returns-then-not-is_bounded-clause-exact g c = (
+  λ holds. absurd (cc),
+  λ solvable.
+      absurd (
+      cc (
+      c.is_bounded.ensures.1
+      (counted-bounded c.args.board.now c.of-areas.result c.of-pieces.result c.requires
+      c.of-areas.ensures.value c.of-pieces.ensures.value solvable))),
+)
+
+pub returns-clause-exact : goal.returns-clause-exact
+returns-clause-exact g c = (
+  λ holds.
+      solved-solvable c.args.board.now c.place_narrow.new.board
+      (all-placed c.args.board.now c.place_narrow.new.board
+      (onward-more c.args.board.now c.place_wide.new.board c.place_narrow.new.board
+      c.place_wide.ensures.onward c.place_narrow.ensures.onward)
+      c.place_narrow.ensures.all
+      c.is_board.ensures),
+  λ solvable. refl,
+)
