@@ -1,15 +1,14 @@
 -- Where the parts of an image stand in its bytes.
 use Rattle.std.proofs.Common.{◌≡◌, ℕ, ◌+◌, ◌-◌, ◌≤◌, List, ◌++◌, length, take, drop, sym, ap, ◌∙◌, arith, append_assoc}
-use Rattle.std.proofs.Common.{length-append, length-drop}
-use Rattle.std.proofs.Math.Seq.{take-append_seam, drop-append_seam, take-length}
+use Rattle.std.proofs.Common.{◌<◌, ◌^◌, [], ◌∷◌, refl, length-append}
+use Rattle.std.proofs.Math.Seq.{take-append_seam, drop-append_seam}
 use Rattle.std.proofs.lemmas.List.{length-replicate}
 use Rattle.byteorder.specs.Endian.{little_number}
 use Rattle.byteorder.specs.Numbers.{little_from-take, little_number-reads_back}
-use Rattle.std.specs.Int.{next_multiple_of}
-use Rattle.elf_image.specs.Fields.{text_length, parts_in}
+use Rattle.elf_image.specs.Fields.{Header, entry_in, header_at, loads_in}
 use Rattle.pcc_base.specs.Bytes.{zeros}
 use Rattle.elf_image.specs.Layout.{Parts, Fits, elf_header, program_header, text_address, text_span, data_memory}
-use Rattle.elf_image.specs.Layout.{image_bytes}
+use Rattle.elf_image.specs.Layout.{image_bytes, word}
 
 -- the bytes before the text
 pub front : Parts → List ℕ
@@ -17,7 +16,7 @@ front parts =
     elf_header parts.entry
     ++ program_header 0x1000 text_address (length parts.text) (length parts.text) 5
     ++ program_header (0x1000 + text_span parts) (text_address + text_span parts) (length parts.data_bytes)
-        (data_memory parts) 6
+    (data_memory parts) 6
     ++ zeros (0x1000 - 116)
 
 -- there are n zeros
@@ -43,18 +42,12 @@ length-image parts =
     let z = length-zeros (text_span parts - length parts.text) in
     ap length (image-parts parts) ∙ simp length-append (omega (arith, a, z))
 
--- e_entry is the entry
-pub entry-reads : (parts : Parts) → Fits parts → little_number 4 (drop 24 (image_bytes parts)) ≡ parts.entry
-entry-reads parts fits = little_number-reads_back 4 parts.entry (drop 28 (image_bytes parts))
-    (omega (arith, fits.entry))
-
--- p_filesz of the first program header is the length of the text
-pub text_length-reads : (parts : Parts) → Fits parts → text_length (image_bytes parts) ≡ length parts.text
-text_length-reads parts fits = little_number-reads_back 4 (length parts.text) (drop 72 (image_bytes parts))
-    (omega (arith, fits.size))
+-- a word that stands in the bytes is read back
+pub word-reads : (n : ℕ) (after : List ℕ) → n < 2 ^ 32 → little_number 4 (word n ++ after) ≡ n
+word-reads n after small = little_number-reads_back 4 n after (omega (arith, small))
 
 -- the text begins at the first page
-text-reads : (parts : Parts) → take (length parts.text) (drop 0x1000 (image_bytes parts)) ≡ parts.text
+pub text-reads : (parts : Parts) → take (length parts.text) (drop 0x1000 (image_bytes parts)) ≡ parts.text
 text-reads parts =
     let rest = zeros (text_span parts - length parts.text) ++ parts.data_bytes in
     let at : drop 0x1000 (image_bytes parts) ≡ parts.text ++ rest =
@@ -64,7 +57,7 @@ text-reads parts =
     ap (take (length parts.text)) at ∙ take-append_seam parts.text rest
 
 -- the data begins at the next page
-data-reads : (parts : Parts) → drop (0x1000 + text_span parts) (image_bytes parts) ≡ parts.data_bytes
+pub data-reads : (parts : Parts) → drop (0x1000 + text_span parts) (image_bytes parts) ≡ parts.data_bytes
 data-reads parts =
     let pad = zeros (text_span parts - length parts.text) in
     let before = front parts ++ (parts.text ++ pad) in
@@ -75,42 +68,67 @@ data-reads parts =
     ∙ ap (drop (length before)) whole
     ∙ drop-append_seam before parts.data_bytes
 
--- parts are equal where their fields are
-pub parts-equal : {e f : ℕ} {t u d w : List ℕ} → e ≡ f → t ≡ u → d ≡ w → record { entry = e; text = t; data_bytes = d }
-    ≡ (let parts : Parts = record { entry = f; text = u; data_bytes = w } in parts)
-parts-equal same-entry same-text same-data = cc
+-- headers are equal where their fields are
+headers-equal : {k o a f m g l p b e n h : ℕ} → k ≡ l → o ≡ p → a ≡ b → f ≡ e → m ≡ n → g ≡ h
+    → record { kind = k; offset = o; address = a; file_size = f; memory_size = m; flags = g }
+    ≡ (let header : Header = record { kind = l; offset = p; address = b; file_size = e; memory_size = n; flags = h } in
+    header)
+headers-equal same-kind same-offset same-address same-file same-memory same-flags = cc
 
--- the parts of an image are found in its bytes
-pub parts_in-image : (parts : Parts) → Fits parts → parts_in (image_bytes parts) ≡ parts
-parts_in-image parts fits =
-    let n = text_length-reads parts fits in
-    parts-equal
-    (entry-reads parts fits)
-    (ap (λ (k : ℕ). take k (drop 0x1000 (image_bytes parts))) n ∙ text-reads parts)
-    (ap (λ (k : ℕ). drop (0x1000 + next_multiple_of k 0x1000) (image_bytes parts)) n ∙ data-reads parts)
+-- the program header of the text
+abbrev pub text_header : Parts → Header
+text_header parts =
+    record {
+      kind = 1;
+      offset = 0x1000;
+      address = text_address;
+      file_size = length parts.text;
+      memory_size = length parts.text;
+      flags = 5;
+    }
 
--- a file of these bytes has room for a text of n bytes, and is no larger than an image may be
-pub record HasRoom (bytes : List ℕ) (n : ℕ) : Type 0 where
-  pub headers : 0x1000 ≤ length bytes
-  pub text : 0x1000 + next_multiple_of n 0x1000 ≤ length bytes
-  pub size : n + (length bytes - (0x1000 + next_multiple_of n 0x1000)) ≤ 1200000000
+-- the program header of the data
+abbrev pub data_header : Parts → Header
+data_header parts =
+    record {
+      kind = 1;
+      offset = 0x1000 + text_span parts;
+      address = text_address + text_span parts;
+      file_size = length parts.data_bytes;
+      memory_size = data_memory parts;
+      flags = 6;
+    }
 
--- an image has room for a text of as many bytes as its field says
-pub image-room : (bytes : List ℕ) (parts : Parts) (n : ℕ) → Fits parts → bytes ≡ image_bytes parts → n
-    ≡ text_length bytes → HasRoom bytes n
-image-room bytes parts n fits same is =
-    let long : length bytes ≡ 0x1000 + text_span parts + length parts.data_bytes = ap length same
-        ∙ length-image parts in
-    let count : length parts.text ≡ n = sym (text_length-reads parts fits) ∙ sym (ap text_length same) ∙ sym is in
-    let span : text_span parts ≡ next_multiple_of n 0x1000 = ap (λ (k : ℕ). next_multiple_of k 0x1000) count in
+-- e_entry is the entry
+pub entry-reads : (parts : Parts) → Fits parts → entry_in (image_bytes parts) ≡ parts.entry
+entry-reads parts fits = word-reads parts.entry (drop 28 (image_bytes parts)) fits.entry
+
+-- the first program header is that of the text
+pub text_header-reads : (parts : Parts) → Fits parts → header_at 52 (image_bytes parts) ≡ text_header parts
+text_header-reads parts fits =
+    let file : length parts.text < 2 ^ 32 = omega (arith, fits.size) in
+    headers-equal
+    refl
+    refl
+    refl
+    (word-reads (length parts.text) (drop 72 (image_bytes parts)) file)
+    (word-reads (length parts.text) (drop 76 (image_bytes parts)) file)
+    refl
+
+-- the second program header is that of the data
+pub data_header-reads : (parts : Parts) → Fits parts → header_at 84 (image_bytes parts) ≡ data_header parts
+data_header-reads parts fits =
     let size = fits.size in
-    record { headers = omega arith; text = omega arith; size = omega arith }
+    headers-equal
+    refl
+    (word-reads (0x1000 + text_span parts) (drop 92 (image_bytes parts)) (omega arith))
+    (word-reads (text_address + text_span parts) (drop 96 (image_bytes parts)) (omega arith))
+    (word-reads (length parts.data_bytes) (drop 104 (image_bytes parts)) (omega arith))
+    (word-reads (data_memory parts) (drop 108 (image_bytes parts)) (omega arith))
+    refl
 
--- what is read from a place within the first page is the number in the four bytes there
-pub field-reads : (at n : ℕ) (bytes : List ℕ) → 0x1000 ≤ length bytes → at ≤ 4092 → n
-    ≡ little_number 4 (take (length bytes - at) (drop at bytes)) → n ≡ little_number 4 (drop at bytes)
-field-reads at n bytes long within is = is ∙ little_from-take 0 4 (length bytes - at) (drop at bytes) (omega arith)
-
--- the rest of a slice, from a place on
-pub take-rest : (at : ℕ) (bytes : List ℕ) → take (length bytes - at) (drop at bytes) ≡ drop at bytes
-take-rest at bytes = ap (λ (n : ℕ). take n (drop at bytes)) (sym (length-drop at bytes)) ∙ take-length (drop at bytes)
+-- an image has these two, and both are loaded
+pub loads-both : (parts : Parts) → Fits parts
+    → loads_in 2 (image_bytes parts) ≡ text_header parts ∷ data_header parts ∷ []
+loads-both parts fits = ap (λ (h : Header). h ∷ header_at 84 (image_bytes parts) ∷ []) (text_header-reads parts fits)
+    ∙ ap (λ (h : Header). text_header parts ∷ h ∷ []) (data_header-reads parts fits)

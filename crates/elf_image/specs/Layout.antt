@@ -53,7 +53,7 @@ image_bytes parts =
     elf_header parts.entry
     ++ program_header 0x1000 text_address (length parts.text) (length parts.text) 5
     ++ program_header (0x1000 + text_span parts) (text_address + text_span parts) (length parts.data_bytes)
-        (data_memory parts) 6
+    (data_memory parts) 6
     ++ zeros (0x1000 - 116)
     ++ parts.text
     ++ zeros (text_span parts - length parts.text)

@@ -1,4 +1,6 @@
 pub mod Layout
-pub mod Segments
 pub mod Fields
+pub mod Segments
+pub mod Headers
+pub mod Extents
 pub mod Worked

@@ -1,10 +1,11 @@
 -- What the bytes of a file load: segments of memory, and where running begins.
-use Rattle.std.specs.Prelude.{◌≡◌, ℕ, ◌+◌, ◌<◌, ◌≤◌, ◌^◌, Bool, true, false, List, [], ◌∷◌, length, map, sum_by, All}
-use Rattle.std.specs.Prelude.{AllPairs}
+use Rattle.std.specs.Prelude.{◌≡◌, ℕ, ◌+◌, ◌*◌, ◌<◌, ◌≤◌, ◌^◌, Bool, true, false, not, List, [], ◌∷◌, length, map, take}
+use Rattle.std.specs.Prelude.{drop, sum_by, All, AllPairs, bit_and, nat_eq}
 use Rattle.elf_image.specs.declared.image.Image.{Image}
 use Rattle.elf_image.specs.declared.loaded.Segment.{Segment}
 use Rattle.elf_image.specs.declared.loaded.Loaded.{Loaded}
-use Rattle.elf_image.specs.Layout.{Parts, Fits, text_address, text_span, data_memory, image_bytes}
+use Rattle.elf_image.specs.Layout.{Parts, text_address, text_span, data_memory}
+use Rattle.elf_image.specs.Fields.{Header, IsExecutable, entry_in, header_count, headers_offset, loads_in}
 
 -- an image without where it lies in memory
 abbrev pub parts_of : Image → Parts
@@ -24,8 +25,14 @@ pub record Segments : Type 0 where
   pub pieces : List Piece
 
 abbrev pub piece_of : Segment → Piece
-piece_of s = record { address = s.addr; bytes = s.bytes.items; size = s.size; readable = s.read; writable = s.write;
-    runnable = s.exec }
+piece_of s = record {
+  address = s.addr;
+  bytes = s.bytes.items;
+  size = s.size;
+  readable = s.read;
+  writable = s.write;
+  runnable = s.exec;
+}
 
 abbrev pub segments_of : Loaded → Segments
 segments_of loaded = record { entry = loaded.entry; pieces = map piece_of loaded.segments.items }
@@ -36,16 +43,25 @@ image_segments parts =
     record {
       entry = parts.entry;
       pieces =
-          record { address = text_address; bytes = parts.text; size = length parts.text; readable = true; writable =
-              false; runnable = true }
-          ∷ record { address = text_address + text_span parts; bytes = parts.data_bytes; size = data_memory parts;
-              readable = true; writable = true; runnable = false }
+          record {
+            address = text_address;
+            bytes = parts.text;
+            size = length parts.text;
+            readable = true;
+            writable =
+                false;
+            runnable = true;
+          }
+          ∷ record {
+            address = text_address + text_span parts;
+            bytes = parts.data_bytes;
+            size = data_memory parts;
+            readable = true;
+            writable = true;
+            runnable = false;
+          }
           ∷ [];
     }
-
--- the bytes are those of an image, and load its segments
-abbrev pub Loads : List ℕ → Segments → Type 0
-Loads bytes segments = (parts : Parts) × Fits parts × (bytes ≡ image_bytes parts) × (segments ≡ image_segments parts)
 
 -- so many bytes from an offset on lie in the file; also where they are none, the offset is one of the file or its end
 abbrev pub IsFilePart : List ℕ → ℕ → ℕ → Type 0
@@ -69,3 +85,39 @@ pub record IsLoadable (segments : Segments) : Type 0 where
   pub each : All IsPiece segments.pieces
   pub apart : AllPairs AreApart segments.pieces
   pub memory : sum_by (λ piece. piece.size) segments.pieces ≤ 0x50000000
+
+-- ---- what a file loads (ELF, "Program Loading")
+
+-- a bit of p_flags is set: PF_X is 1, PF_W is 2, PF_R is 4
+abbrev pub has_flag : ℕ → Header → Bool
+has_flag bit header = not (nat_eq (bit_and header.flags bit) 0)
+
+-- the segment of a program header: its first bytes stand in the file
+abbrev pub piece_at : List ℕ → Header → Piece
+piece_at bytes header =
+    record {
+      address = header.address;
+      bytes = take header.file_size (drop header.offset bytes);
+      size = header.memory_size;
+      readable = has_flag 4 header;
+      writable = has_flag 2 header;
+      runnable = has_flag 1 header;
+    }
+
+-- the segments of the program headers that load one
+abbrev pub segments_in : List ℕ → Segments
+segments_in bytes =
+    record { entry = entry_in bytes; pieces = map (piece_at bytes) (loads_in (header_count bytes) bytes) }
+
+-- the bytes of the segment lie in the file
+abbrev pub IsInFile : List ℕ → Header → Type 0
+IsInFile bytes header = IsFilePart bytes header.offset header.file_size
+
+-- The bytes of a file load these segments: its header is that of a program, all program headers lie in the file, and
+-- so do the bytes of each segment that is loaded.
+pub record Loads (bytes : List ℕ) (segments : Segments) : Type 0 where
+  pub executable : IsExecutable bytes
+  pub headers : IsFilePart bytes (headers_offset bytes) (32 * header_count bytes)
+  pub parts : All (IsInFile bytes) (loads_in (header_count bytes) bytes)
+  pub are : segments ≡ segments_in bytes
+  pub loadable : IsLoadable segments

@@ -8,9 +8,6 @@ pub const TEXT_ADDRESS: u32 = 0x0804_8000;
 /// The bytes of the second segment's memory beyond its data, for the stack.
 pub const STACK_BYTES: u32 = 67_112_960;
 
-/// The most bytes that the text and the data of an image have together.
-pub const IMAGE_LIMIT: usize = 1_200_000_000;
-
 /// The bytes of a page, in the file and in memory (`p_align`). The text begins at this offset.
 pub(crate) const PAGE: usize = 4096;
 

@@ -2,12 +2,17 @@
 
 ghost use Rattle.std.specs.Prelude.{◌≡◌, ◌+◌, ◌≤◌, ℕ, List, [], ◌∷◌, length};
 ghost use Rattle.elf_image.specs.Layout.{Fits, Parts, image_bytes, text_span};
-ghost use Rattle.elf_image.specs.Segments.{IsFilePart, IsLoadable, Loads, Segments};
+ghost use Rattle.elf_image.specs.Segments.{IsFilePart, IsLoadable, Loads, Segments, image_segments};
 ghost use Rattle.elf_image.specs.Worked.{blank, only};
 
 /// Bytes load one list of segments at most.
 pub fn one_image()
     ensures { (bytes : List ℕ) (a b : Segments) → Loads bytes a → Loads bytes b → a ≡ b }
+{}
+
+/// A written image loads its text and its data.
+pub fn image_loads()
+    ensures { (parts : Parts) → Fits parts → Loads (image_bytes parts) (image_segments parts) }
 {}
 
 /// An image has a page of headers, its text in whole pages, and its data.

@@ -1,93 +1,148 @@
-ghost use Rattle.std.specs.Prelude.{◌≡◌, ◌+◌, ◌≤◌, IfOk, IsErrOf, length, vec_len};
-ghost use Rattle.elf_image.specs.Fields.{parts_in};
-ghost use Rattle.elf_image.specs.Layout.{Fits, Parts, image_bytes};
-ghost use Rattle.elf_image.specs.Segments.{Segments, Loads, IsLoadable, image_segments, parts_of, segments_of};
+//! What the bytes of a file load.
 
-use crate::image::{IMAGE_LIMIT, Image, PAGE, TEXT_ADDRESS};
+ghost use Rattle.std.specs.Prelude.{◌≡◌, ◌+◌, ◌*◌, ◌≤◌, IfOk, IsErrOf, All, length, map, sum_by};
+ghost use Rattle.std.specs.Bool.{Decides};
+ghost use Rattle.elf_image.specs.Fields.{IsExecutable, header_count, headers_offset, loads_in};
+ghost use Rattle.elf_image.specs.Segments.{IsFilePart, IsInFile, IsLoadable, IsPiece, Loads, Segments};
+ghost use Rattle.elf_image.specs.Segments.{piece_at, piece_of, segments_of};
+ghost use Rattle.elf_image.specs.Headers.{header_of};
+
+use crate::loadable::MEMORY_LIMIT;
 use crate::loaded::{ImageRefusal, Loaded, Segment};
-use crate::writing::write_image;
-use byteorder::{ByteOrder, LittleEndian};
+use crate::program_header::{PROGRAM_HEADER, ProgramHeader, read_half, read_word};
 use pcc_base::NoMemory;
 use std::alloc::Global;
 
-/// Where `e_entry` stands in the file.
+/// The bytes of the ELF header (`e_ehsize`).
+const ELF_HEADER: usize = 52;
+
+/// The first bytes of `e_ident`: the magic bytes, 32 bits, the lowest byte first, version 1.
+const IDENTITY: [u8; 7] = [0x7f, b'E', b'L', b'F', 1, 1, 1];
+
+/// Where the fields of the ELF header stand: `e_type`, `e_machine`, `e_version`, `e_entry`, `e_phoff`, `e_phentsize`
+/// and `e_phnum`.
+const TYPE: usize = 16;
+
+const MACHINE: usize = 18;
+
+const VERSION: usize = 20;
+
 const ENTRY: usize = 24;
 
-/// Where `p_filesz` of the first program header stands in the file: the length of the text.
-const TEXT_SIZE: usize = 68;
+const HEADERS_OFFSET: usize = 28;
 
-/// The one image whose file the bytes may be: its entry and the length of its text are read from
-/// their fields, and its data goes to the end. Bytes that are too few for it, or too many, are refused as
-/// no image.
-fn candidate(alloc: Global, bytes: &[u8]) -> Result<Image, ImageRefusal>
-    ensures parts { IfOk result (λ image. parts_of image ≡ parts_in bytes.now) }
-    ensures fits { IfOk result (λ image. Fits (parts_of image)) }
-    ensures not_image { IsErrOf result ImageRefusal.NotImage → (parts : Parts) → Fits parts → bytes.now
-        ≡ image_bytes parts → ⊥ }
+const HEADER_SIZE: usize = 42;
+
+const HEADER_COUNT: usize = 44;
+
+/// `e_type` of a program that is not relocated.
+const ET_EXEC: u16 = 2;
+
+/// `e_machine` of the Intel 80386.
+const EM_386: u16 = 3;
+
+/// The ELF header is that of a program for the Intel 80386, and at least one program header follows.
+fn is_executable(bytes: &[u8]) -> bool
+    ensures { Decides result (IsExecutable bytes.now) }
 {
-    if bytes.len() < PAGE {
-        return Err(ImageRefusal::NotImage);
+    if bytes.len() < ELF_HEADER {
+        return false;
     }
-    let entry = LittleEndian::read_u32(&bytes[ENTRY..]);
-    let text_len = LittleEndian::read_u32(&bytes[TEXT_SIZE..]) as usize;
-    let data_start = PAGE + text_len.next_multiple_of(PAGE);
-    if bytes.len() < data_start {
-        return Err(ImageRefusal::NotImage);
-    }
-    if text_len + (bytes.len() - data_start) > IMAGE_LIMIT {
-        return Err(ImageRefusal::NotImage);
-    }
-    let text = bytes[PAGE..PAGE + text_len].to_vec(alloc)?;
-    let data_bytes = bytes[data_start..].to_vec(alloc)?;
-    Ok(Image {
-        entry,
-        text,
-        data_bytes,
-    })
+    bytes.starts_with(&IDENTITY)
+        && read_half(bytes, TYPE) == ET_EXEC
+        && read_half(bytes, MACHINE) == EM_386
+        && read_word(bytes, VERSION) == 1
+        && read_half(bytes, HEADER_SIZE) as usize == PROGRAM_HEADER
+        && read_half(bytes, HEADER_COUNT) >= 1
 }
 
-/// What an image loads: its text, which is read and run, and in the pages after it its data and the
-/// stack, which are read and written.
-fn load(alloc: Global, image: Image) -> Result<Loaded, NoMemory>
-    requires { vec_len image.text + vec_len image.data_bytes ≤ 1200000000 }
-    ensures { IfOk result (λ loaded. segments_of loaded ≡ image_segments (parts_of image)) }
+/// All program headers lie in the file.
+fn has_headers(bytes: &[u8]) -> bool
+    requires { 52 ≤ length bytes.now }
+    ensures { Decides result (IsFilePart bytes.now (headers_offset bytes.now) (32 * header_count bytes.now)) }
 {
-    let text_size = image.text.len() as u32;
-    let data_addr = TEXT_ADDRESS + image.text_span() as u32;
-    let data_size = image.data_memory();
-    let text = Segment {
-        addr: TEXT_ADDRESS,
-        bytes: image.text,
-        size: text_size,
-        read: true,
-        write: false,
-        exec: true,
-    };
-    let data = Segment {
-        addr: data_addr,
-        bytes: image.data_bytes,
-        size: data_size,
-        read: true,
-        write: true,
-        exec: false,
-    };
-    Ok(Loaded {
-        entry: image.entry,
-        segments: vec![in alloc; text, data]?,
-    })
+    let start = read_word(bytes, HEADERS_OFFSET) as usize;
+    let count = read_half(bytes, HEADER_COUNT) as usize;
+    start + PROGRAM_HEADER * count <= bytes.len()
 }
 
-/// What the bytes of a file load. They are refused as no image exactly where they are those of no
-/// written image.
+/// The program headers whose segments are loaded, in order.
+fn load_headers(alloc: Global, bytes: &[u8]) -> Result<Vec<ProgramHeader>, NoMemory>
+    requires long { 52 ≤ length bytes.now }
+    requires in_file { IsFilePart bytes.now (headers_offset bytes.now) (32 * header_count bytes.now) }
+    ensures { IfOk result (λ headers. map header_of headers.items ≡ loads_in (header_count bytes.now) bytes.now) }
+{
+    let start = read_word(bytes, HEADERS_OFFSET) as usize;
+    let count = read_half(bytes, HEADER_COUNT) as usize;
+    let mut headers = Vec::new(alloc);
+    for k in 0..count {
+        if let Some(header) = ProgramHeader::read(bytes, start + PROGRAM_HEADER * k) {
+            headers.push(header)?;
+        }
+    }
+    Ok(headers)
+}
+
+/// Each segment's bytes lie in the file, fit into its memory, and this ends within the address space.
+fn are_sound(bytes: &[u8], headers: &[ProgramHeader]) -> bool
+    ensures { Decides result (All (λ h. IsInFile bytes.now h × IsPiece (piece_at bytes.now h))
+        (map header_of headers.now)) }
+{
+    headers.iter().all(|header| header.is_sound(bytes))
+}
+
+/// The segments have no more memory together than a machine has.
+fn are_few(headers: &[ProgramHeader]) -> bool
+    ensures { Decides result (sum_by (λ h. h.memory_size) (map header_of headers.now) ≤ 1342177280) }
+{
+    let mut free = MEMORY_LIMIT;
+    for header in headers {
+        match free.checked_sub(header.memory_size) {
+            None => return false,
+            Some(left) => free = left,
+        }
+    }
+    true
+}
+
+/// The segments of program headers.
+fn segments(
+    alloc: Global,
+    bytes: &[u8],
+    headers: &[ProgramHeader],
+) -> Result<Vec<Segment>, NoMemory>
+    requires { All (IsInFile bytes.now) (map header_of headers.now) }
+    ensures { IfOk result (λ segments. map piece_of segments.items
+        ≡ map (piece_at bytes.now) (map header_of headers.now)) }
+{
+    let mut segments = Vec::with_capacity(alloc, headers.len())?;
+    for header in headers {
+        segments.push(header.segment(alloc, bytes)?)?;
+    }
+    Ok(segments)
+}
+
+/// What the bytes of a file load. They are refused as no image exactly where they load nothing.
+///
+/// Nothing is copied before it is known that the segments have no more memory than a machine has.
 pub fn read_image(alloc: Global, bytes: &[u8]) -> Result<Loaded, ImageRefusal>
     ensures found { IfOk result (λ loaded. Loads bytes.now (segments_of loaded)) }
     ensures loadable { IfOk result (λ loaded. IsLoadable (segments_of loaded)) }
     ensures not_image { IsErrOf result ImageRefusal.NotImage → (segments : Segments) → Loads bytes.now segments → ⊥ }
 {
-    let image = candidate(alloc, bytes)?;
-    let written = write_image(alloc, &image)?;
-    if written.as_slice() == bytes {
-        Ok(load(alloc, image)?)
+    if !is_executable(bytes) || !has_headers(bytes) {
+        return Err(ImageRefusal::NotImage);
+    }
+    let headers = load_headers(alloc, bytes)?;
+    if !are_sound(bytes, &headers) || !are_few(&headers) {
+        return Err(ImageRefusal::NotImage);
+    }
+    let loaded = Loaded {
+        entry: read_word(bytes, ENTRY),
+        segments: segments(alloc, bytes, &headers)?,
+    };
+    if loaded.is_loadable(alloc)? {
+        Ok(loaded)
     } else {
         Err(ImageRefusal::NotImage)
     }

@@ -4,33 +4,13 @@ ghost use Rattle.elf_image.specs.Layout.{elf_header, image_bytes, program_header
 ghost use Rattle.elf_image.specs.Segments.{parts_of};
 
 use crate::image::{Image, PAGE, TEXT_ADDRESS};
+use crate::program_header::{PF_R, PF_W, PF_X, PT_LOAD, ProgramHeader};
 use byteorder::{ByteOrder, LittleEndian};
 use pcc_base::NoMemory;
 use std::alloc::Global;
 
 /// The bytes of the ELF header and of the two program headers.
 const HEADERS: usize = 52 + 2 * 32;
-
-/// `p_flags` of a segment that is read and run: `PF_R` and `PF_X`.
-const READ_AND_RUN: u32 = 5;
-
-/// `p_flags` of a segment that is read and written: `PF_R` and `PF_W`.
-const READ_AND_WRITE: u32 = 6;
-
-/// The fields of a program header of type `PT_LOAD` that are not the same in all images.
-#[derive(Clone, Copy, Debug)]
-struct ProgramHeader {
-    /// `p_offset`: where the segment's bytes begin in the file.
-    offset: u32,
-    /// `p_vaddr` and `p_paddr`: the address of its first byte.
-    address: u32,
-    /// `p_filesz`: how many bytes it has in the file.
-    file_size: u32,
-    /// `p_memsz`: how many bytes it has in memory.
-    memory_size: u32,
-    /// `p_flags`: what may be done with its bytes.
-    flags: u32,
-}
 
 /// Puts a word of four bytes at the end, the lowest first.
 fn push_word(out: &mut Vec<u8>, value: u32) -> Result<(), NoMemory>
@@ -76,7 +56,7 @@ fn push_program_header(out: &mut Vec<u8>, header: ProgramHeader) -> Result<(), N
     ensures { OnOk result (out.new.items ≡ out.old.items
         ++ program_header header.offset header.address header.file_size header.memory_size header.flags) }
 {
-    push_word(out, 1)?;
+    push_word(out, PT_LOAD)?;
     push_word(out, header.offset)?;
     push_word(out, header.address)?;
     push_word(out, header.address)?;
@@ -101,14 +81,14 @@ pub fn write_image(alloc: Global, image: &Image) -> Result<Vec<u8>, NoMemory>
         address: TEXT_ADDRESS,
         file_size: text_len as u32,
         memory_size: text_len as u32,
-        flags: READ_AND_RUN,
+        flags: PF_R | PF_X,
     };
     let data_header = ProgramHeader {
         offset: (PAGE + text_span) as u32,
         address: TEXT_ADDRESS + text_span as u32,
         file_size: data_len as u32,
         memory_size: image.data_memory(),
-        flags: READ_AND_WRITE,
+        flags: PF_R | PF_W,
     };
     let mut out = Vec::with_capacity(alloc, PAGE + text_span + data_len)?;
     push_elf_header(&mut out, image.entry)?;

@@ -167,12 +167,12 @@ fn exit_around(alloc: Global, size: u32) -> Result<Loaded, NoMemory> {
 #[test]
 fn loads_segments_that_do_not_overlap(rt: HostRuntime) -> Result<(), Fail> {
     let loaded = exit_around(rt.alloc(), 0)?;
-    assert!(rt; loaded.is_loadable());
+    assert!(rt; loaded.is_loadable(rt.alloc())?);
     let mut machine = Machine::load(rt.alloc(), &loaded)?;
     let mut input = SureSource::new(Vec::new(rt.alloc()));
     let end = machine.run(&mut input, &mut SureSink::new(), 1000);
     assert_eq!(rt; end, MachineEnd::Ended(44));
-    assert!(rt; !exit_around(rt.alloc(), 1)?.is_loadable());
+    assert!(rt; !exit_around(rt.alloc(), 1)?.is_loadable(rt.alloc())?);
     Ok(())
 }
 

@@ -245,8 +245,12 @@ fn runs_changed_images(rt: HostRuntime) -> Result<(), Fail> {
         (4096 + 12, 4, 9, "stopped call 0x08048010\n"),
         (27, 9, 9, "stopped access 0x09048000\n"),
         (4096 + 7, 45, 0, "exit 45\n"),
+        (7, 3, 0, "exit 44\n"),
+        (4095, 1, 0, "exit 44\n"),
+        (76, 4, 9, "stopped access 0x08048000\n"),
         (0, 0, 7, "not an image\n"),
-        (4095, 1, 7, "not an image\n"),
+        (44, 0, 7, "not an image\n"),
+        (72, 0, 7, "not an image\n"),
     ] {
         let changed = with_byte(alloc, image.as_slice(), at, byte)?;
         if files.place("b", changed.as_slice()).is_err() {
