@@ -9,6 +9,7 @@ use Rattle.pcc_base.specs.Bytes.{zeros}
 use Rattle.ia32_insn.specs.Items.{Object, round_up, text_start, data_bytes, data_start, data_memory, text_area}
 use Rattle.ia32_insn.specs.Items.{text_state}
 use Rattle.elf_image.specs.Segments.{image_segments}
+use Rattle.elf_image.proofs.Loading.{loads-image}
 use Rattle.ia32_memory.specs.First.{padded, area_of}
 use Rattle.ia32_machine.specs.First.{first_state}
 use Rattle.image_start.specs.Begins.{SegmentsAreMemory, TextBegins, parts_of_text}
@@ -70,4 +71,4 @@ text_begins text objects input fits =
     ap (λ (areas : List Area). record { registers = zero_registers; flags = None; eip = text_start; memory = areas;
         left = input; taken = 0; written = [] }) (sym (areas_are text objects input))
     in
-    (image_segments (parts_of_text text objects), (parts_of_text text objects, fits, refl, refl), state)
+    (image_segments (parts_of_text text objects), loads-image (parts_of_text text objects) fits, state)
