@@ -5,10 +5,10 @@ use Rattle.c_grammar.specs.Chains.{Done, Fails, Goes, Reads, Step, chain, chaine
 
 -- what is read in all is what the steps from here read
 pub record Continues {A : Type 0} (step : A → List Token → Step A) (a : A) (ts : List Token) (out : Reads A) : Type 0
-    where
-  pub fuel : ℕ
-  pub enough : length ts ≤ fuel
-  pub is : out ≡ chain step fuel a ts
+  where
+    pub fuel : ℕ
+    pub enough : length ts ≤ fuel
+    pub is : out ≡ chain step fuel a ts
 
 pub continues_start : {A : Type 0} (step : A → List Token → Step A) (a : A) (ts : List Token)
     → Continues step a ts (chain step (length ts) a ts)

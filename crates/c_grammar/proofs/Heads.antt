@@ -60,19 +60,42 @@ head_of (Identifier name) is = record { first = _; others = []; is = refl; begin
 head_of (Number value at) is = record { first = _; others = []; is = refl; begins_it = refl; tight = λ l. refl }
 head_of (Text []) is = absurd is
 head_of (Text (p ∷ ps)) is = record { first = _; others = _; is = refl; begins_it = refl; tight = λ l. refl }
-head_of (Parenthesised o e c) is = record { first = mark marks.LeftParen o; others = _; is = refl; begins_it = refl;
-    tight = λ l. refl }
+head_of (Parenthesised o e c) is = record {
+  first = mark marks.LeftParen o;
+  others = _;
+  is = refl;
+  begins_it = refl;
+  tight = λ l. refl;
+}
 head_of (Call f o arguments commas c) is =
     record { first = _; others = _; is = refl; begins_it = refl; tight = λ l. refl }
 head_of (Index b o e c) is = longer b (Index b o e c) _ (head_of b is.0) refl (λ l. is.1)
 head_of (Postfix b op at) is = longer b (Postfix b op at) _ (head_of b is.0) refl (λ l. is.1)
-head_of (Prefix op at e) is = record { first = mark (step_mark op) at; others = _; is = refl; begins_it =
-    step_begins op; tight = λ l. absurd (omega arith) }
-head_of (Unary op at e) is = record { first = mark (unary_mark op) at; others = _; is = refl; begins_it =
-    unary_begins op; tight = λ l. absurd (omega arith) }
+head_of (Prefix op at e) is = record {
+  first = mark (step_mark op) at;
+  others = _;
+  is = refl;
+  begins_it =
+      step_begins op;
+  tight = λ l. absurd (omega arith);
+}
+head_of (Unary op at e) is = record {
+  first = mark (unary_mark op) at;
+  others = _;
+  is = refl;
+  begins_it =
+      unary_begins op;
+  tight = λ l. absurd (omega arith);
+}
 head_of (Cast o specifiers pointer c e) is =
-    record { first = mark marks.LeftParen o; others = _; is = refl; begins_it = refl; tight =
-    λ l. absurd (omega arith) }
+    record {
+      first = mark marks.LeftParen o;
+      others = _;
+      is = refl;
+      begins_it = refl;
+      tight =
+          λ l. absurd (omega arith);
+    }
 head_of (Binary op l at r) is = longer l (Binary op l at r) _ (head_of l is.0) refl (λ le. absurd (omega arith))
 head_of (Conditional c q f k s) is = longer c (Conditional c q f k s) _ (head_of c is.0) refl
     (λ le. absurd (omega arith))
@@ -173,19 +196,19 @@ no_cast height below (Text []) rest is le = absurd is
 no_cast height below (Text (p ∷ ps)) rest is le = refl
 no_cast height below (Parenthesised o e c) rest is le =
     (let g : (expr_tokens e ++ mark marks.RightParen c ∷ []) ++ rest ≡ expr_tokens e ++ mark marks.RightParen c ∷ rest =
-        append_assoc (expr_tokens e) (mark marks.RightParen c ∷ []) rest in
+    append_assoc (expr_tokens e) (mark marks.RightParen c ∷ []) rest in
     rw (g, expression_no_specifiers e (mark marks.RightParen c ∷ rest) is) refl)
 no_cast height below (Call f o arguments commas c) rest is le = refl
 no_cast height below (Index b o e c) rest is le =
     (let more : List Token = mark marks.LeftBracket o ∷ expr_tokens e ++ mark marks.RightBracket c ∷ [] in
     let P : List Token → Type 0 = λ ts. IsNoCast height below ts in
     subst P (sym (append_assoc (expr_tokens b) more rest))
-        (no_cast height below b (more ++ rest) is.0 (omega (arith, is.1))))
+    (no_cast height below b (more ++ rest) is.0 (omega (arith, is.1))))
 no_cast height below (Postfix b op at) rest is le =
     (let more : List Token = mark (step_mark op) at ∷ [] in
     let P : List Token → Type 0 = λ ts. IsNoCast height below ts in
     subst P (sym (append_assoc (expr_tokens b) more rest))
-        (no_cast height below b (more ++ rest) is.0 (omega (arith, is.1))))
+    (no_cast height below b (more ++ rest) is.0 (omega (arith, is.1))))
 no_cast height below (Prefix op at e) rest is le =
     no_opening height below (mark (step_mark op) at ∷ (expr_tokens e ++ rest))
     (step_no_paren op at (expr_tokens e ++ rest))

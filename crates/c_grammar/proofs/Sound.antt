@@ -227,8 +227,10 @@ binary_taken k (t ∷ ts) = under (of_mark binary_of_mark t.kind) (by_table bina
     level : (op : BinaryOp) (b : Bool) → eqb (binary_level op) k ≡ b → t.kind ≡ kinds.Mark (binary_mark op)
         → Holds (λ a us. (t ∷ ts ≡ mark (binary_mark a.0) a.1 ∷ us) × (binary_level a.0 ≡ k))
         (taken (if b then Some op else None) t.at ts)
-    level op true e h = (ap (λ m. (let x : Token = record { kind = m; at = t.at } in x) ∷ ts) h,
-        eqb-true (binary_level op) k e)
+    level op true e h = (
+      ap (λ m. (let x : Token = record { kind = m; at = t.at } in x) ∷ ts) h,
+      eqb-true (binary_level op) k e,
+    )
     level op false e h = tt
 
     under : (o : Option BinaryOp) → Holds1 (λ op. t.kind ≡ kinds.Mark (binary_mark op)) o
@@ -337,8 +339,8 @@ more_push [] commas e at f = rw f (ap (λ ts. mark marks.Comma at ∷ ts) (appen
 more_push (x ∷ es) [] e at f = absurd f
 more_push (x ∷ es) (c ∷ commas) e at f =
     ap (λ ts. mark marks.Comma c ∷ (expr_tokens x ++ ts)) (more_push es commas e at f)
-        ∙ ap (λ ts. mark marks.Comma c ∷ ts) (sym
-        (append_assoc (expr_tokens x) (more_tokens (exprs_of es) commas) (mark marks.Comma at ∷ expr_tokens e)))
+    ∙ ap (λ ts. mark marks.Comma c ∷ ts) (sym
+    (append_assoc (expr_tokens x) (more_tokens (exprs_of es) commas) (mark marks.Comma at ∷ expr_tokens e)))
 
 follow_push : (es : List Expr) (commas : List Span) (e : Expr) (at : Span) → Follow (exprs_of es) commas
     → Follow (exprs_of (es ++ e ∷ [])) (commas ++ at ∷ [])
@@ -360,10 +362,10 @@ values_push h ts (x ∷ es) commas us vs ws at e s f g =
       tokens = s.tokens ∙ (ap (λ zs. (expr_tokens x ++ more_tokens (exprs_of es) commas) ++ zs)
           (f ∙ ap (λ zs. mark marks.Comma at ∷ zs) g.tokens)
           ∙ (sym (append_assoc (expr_tokens x ++ more_tokens (exprs_of es) commas) (mark marks.Comma at ∷ expr_tokens e)
-              ws)
+          ws)
           ∙ ap (λ zs. zs ++ ws) (append_assoc (expr_tokens x) (more_tokens (exprs_of es) commas)
-              (mark marks.Comma at ∷ expr_tokens e) ∙ ap (λ zs. expr_tokens x ++ zs)
-              (sym (more_push es commas e at s.apart)))));
+          (mark marks.Comma at ∷ expr_tokens e) ∙ ap (λ zs. expr_tokens x ++ zs)
+          (sym (more_push es commas e at s.apart)))));
       are = are_push (x ∷ es) e s.are g.is g.loose;
       apart = follow_push es commas e at s.apart;
       low = omega (arith, s.low, g.low, exprs_height-push (x ∷ es) e);
@@ -383,8 +385,13 @@ sound_value n b sb ts a us s = under (take_mark marks.Comma us) (mark_taken mark
 pub first_value : (h : ℕ) (ts : List Token) (e : Expr) (us : List Token) → Sound 15 h ts e us
     → SoundValues h ts (e ∷ [], []) us
 first_value h ts e us s =
-    record { tokens = s.tokens ∙ ap (λ zs. zs ++ us) (sym (append_nil (expr_tokens e))); are = (s.is, s.loose, tt);
-        apart = refl; low = omega (arith, s.low); some = omega arith }
+    record {
+      tokens = s.tokens ∙ ap (λ zs. zs ++ us) (sym (append_nil (expr_tokens e)));
+      are = (s.is, s.loose, tt);
+      apart = refl;
+      low = omega (arith, s.low);
+      some = omega arith;
+    }
 
 -- what the arguments of a call are
 pub record SoundArguments (h : ℕ) (ts : List Token) (values : Values) (us : List Token) : Type 0 where
@@ -407,8 +414,8 @@ sound_arguments n b sb ts = under (take_mark marks.RightParen ts)
     under None =
         holds_then (Sound 15 n ts) (SoundArguments n ts) (b.assignment ts) _ (sb.assignment ts) (λ e us s.
         some_arguments n ts (chained (value_step b) (e ∷ [], []) us)
-            (holds_chain (SoundValues n ts) (value_step b) (λ a vs g. sound_value n b sb ts a vs g) (length us)
-            (e ∷ [], []) us (first_value n ts e us s)))
+        (holds_chain (SoundValues n ts) (value_step b) (λ a vs g. sound_value n b sb ts a vs g) (length us)
+        (e ∷ [], []) us (first_value n ts e us s)))
 
 -- ---- primary
 
@@ -421,9 +428,9 @@ sound_call n b sb f ts = under (take_mark marks.LeftParen ts) (mark_taken marks.
     under None h = record { tokens = refl; is = tt; loose = omega arith; low = omega arith }
     under (Some (o, us)) h =
         holds_then (SoundArguments n us) (Sound 0 (suc n) (ident f.name f.at ∷ ts)) (read_arguments b us) _
-            (sound_arguments n b sb us) (λ values vs s.
+        (sound_arguments n b sb us) (λ values vs s.
         holds_then (λ c ws. vs ≡ mark marks.RightParen c ∷ ws) (Sound 0 (suc n) (ident f.name f.at ∷ ts))
-            (take_mark marks.RightParen vs) _ (mark_taken marks.RightParen vs) (λ c ws g.
+        (take_mark marks.RightParen vs) _ (mark_taken marks.RightParen vs) (λ c ws g.
         record {
           tokens = ap (λ zs. ident f.name f.at ∷ zs)
               (h ∙ ap (λ zs. mark marks.LeftParen o ∷ zs)
@@ -438,9 +445,9 @@ sound_parens : (n : ℕ) (b : Readers) → SoundReaders n b → (o : Span) (ts :
     → Holds (Sound 0 (suc n) (mark marks.LeftParen o ∷ ts)) (parenthesised_from b o ts)
 sound_parens n b sb o ts =
     holds_then (Sound 16 n ts) (Sound 0 (suc n) (mark marks.LeftParen o ∷ ts)) (b.expression ts) _ (sb.expression ts)
-        (λ e us s.
+    (λ e us s.
     holds_then (λ c vs. us ≡ mark marks.RightParen c ∷ vs) (Sound 0 (suc n) (mark marks.LeftParen o ∷ ts))
-        (take_mark marks.RightParen us) _ (mark_taken marks.RightParen us) (λ c vs g.
+    (take_mark marks.RightParen us) _ (mark_taken marks.RightParen us) (λ c vs g.
     record {
       tokens = ap (λ zs. mark marks.LeftParen o ∷ zs)
           (s.tokens ∙ (ap (λ zs. expr_tokens e ++ zs) g
@@ -455,13 +462,18 @@ sound_at : (n : ℕ) (b : Readers) → SoundReaders n b → (kind : TokenKind) (
 sound_at n b sb (kinds.Ident name) at ts = sound_call n b sb (record { name = name; at = at }) ts
 sound_at n b sb (kinds.Number value) at ts = record { tokens = refl; is = tt; loose = omega arith; low = omega arith }
 sound_at n b sb (kinds.Text bytes) at ts =
-    record { tokens = ap (λ zs. (let x : Token = record { kind = kinds.Text bytes; at = at } in x) ∷ zs)
-        (texts_taken ts); is = tt; loose = omega arith; low = omega arith }
+    record {
+      tokens = ap (λ zs. (let x : Token = record { kind = kinds.Text bytes; at = at } in x) ∷ zs)
+          (texts_taken ts);
+      is = tt;
+      loose = omega arith;
+      low = omega arith;
+    }
 sound_at n b sb (kinds.Mark m) at ts =
     holds_if (Sound 0 (suc n) (mark m at ∷ ts)) (is_mark marks.LeftParen (kinds.Mark m)) (parenthesised_from b at ts)
-        (λ e.
+    (λ e.
     (let P : TokenKind → Type 0 = λ k. (let x : Token = record { kind = k; at = at } in
-        Holds (Sound 0 (suc n) (x ∷ ts)) (parenthesised_from b at ts)) in
+    Holds (Sound 0 (suc n) (x ∷ ts)) (parenthesised_from b at ts)) in
     subst P (sym (mark_is marks.LeftParen (kinds.Mark m) e)) (sound_parens n b sb at ts)))
 sound_at n b sb (kinds.Word w) at ts = tt
 
@@ -480,9 +492,14 @@ sound_suffix n b sb ts base us s = under (take_mark marks.LeftBracket us) (mark_
     steps None h = tt
     steps (Some (op, vs)) h =
         step_if (Sound 1 (suc n) ts) (ltb (expr_height base) (suc n)) (Goes (Postfix base op.0 op.1) vs) (λ e.
-        record { tokens = s.tokens ∙ (ap (λ zs. expr_tokens base ++ zs) h
-            ∙ sym (append_assoc (expr_tokens base) (mark (step_mark op.0) op.1 ∷ []) vs)); is = (s.is, s.loose); loose =
-            omega arith; low = omega (arith, ltb-true (expr_height base) (suc n) e) })
+        record {
+          tokens = s.tokens ∙ (ap (λ zs. expr_tokens base ++ zs) h
+              ∙ sym (append_assoc (expr_tokens base) (mark (step_mark op.0) op.1 ∷ []) vs));
+          is = (s.is, s.loose);
+          loose =
+              omega arith;
+          low = omega (arith, ltb-true (expr_height base) (suc n) e);
+        })
 
     under : (o : Reads Span) → Holds (λ at vs. us ≡ mark marks.LeftBracket at ∷ vs) o
         → HoldsStep (Sound 1 (suc n) ts) (suffix_from (suc n) b base o us)
@@ -491,14 +508,14 @@ sound_suffix n b sb ts base us s = under (take_mark marks.LeftBracket us) (mark_
         step_if (Sound 1 (suc n) ts) (ltb (expr_height base) (suc n)) _ (λ e.
         step_then (Sound 16 n vs) (Sound 1 (suc n) ts) (b.expression vs) _ (sb.expression vs) (λ i ws g.
         step_then (λ c xs. ws ≡ mark marks.RightBracket c ∷ xs) (Sound 1 (suc n) ts) (take_mark marks.RightBracket ws) _
-            (mark_taken marks.RightBracket ws) (λ c xs k.
+        (mark_taken marks.RightBracket ws) (λ c xs k.
         record {
           tokens = s.tokens ∙ (ap (λ zs. expr_tokens base ++ zs)
               (h ∙ ap (λ zs. mark marks.LeftBracket o ∷ zs)
               (g.tokens ∙ (ap (λ zs. expr_tokens i ++ zs) k
               ∙ sym (append_assoc (expr_tokens i) (mark marks.RightBracket c ∷ []) xs))))
               ∙ sym (append_assoc (expr_tokens base)
-                  (mark marks.LeftBracket o ∷ (expr_tokens i ++ mark marks.RightBracket c ∷ [])) xs));
+              (mark marks.LeftBracket o ∷ (expr_tokens i ++ mark marks.RightBracket c ∷ [])) xs));
           is = (s.is, s.loose, g.is);
           loose = omega arith;
           low = omega (arith, g.low, ltb-true (expr_height base) (suc n) e);
@@ -508,7 +525,7 @@ sound_postfix : (n : ℕ) (b : Readers) → SoundReaders n b → SoundReader 1 (
 sound_postfix n b sb ts =
     holds_then (Sound 0 (suc n) ts) (Sound 1 (suc n) ts) (read_primary b ts) _ (sound_primary n b sb ts) (λ e us s.
     holds_chain (Sound 1 (suc n) ts) (suffix_step (suc n) b) (λ a vs g. sound_suffix n b sb ts a vs g) (length us) e us
-        (looser 0 1 (suc n) ts e us (omega arith) s))
+    (looser 0 1 (suc n) ts e us (omega arith) s))
 
 -- ---- unary and cast
 
@@ -520,16 +537,26 @@ sound_unary n b sb ts = steps (take_step ts) (step_taken ts)
     unaries None h = holds_looser 1 2 (suc n) ts (read_postfix (suc n) b ts) (omega arith) (sound_postfix n b sb ts)
     unaries (Some (op, us)) h =
         holds_then (Sound 3 n us) (Sound 2 (suc n) ts) (b.cast us) _ (sb.cast us) (λ e vs s.
-        record { tokens = h ∙ ap (λ zs. mark (unary_mark op.0) op.1 ∷ zs) s.tokens; is = (s.is, s.loose); loose =
-            omega arith; low = omega (arith, s.low) })
+        record {
+          tokens = h ∙ ap (λ zs. mark (unary_mark op.0) op.1 ∷ zs) s.tokens;
+          is = (s.is, s.loose);
+          loose =
+              omega arith;
+          low = omega (arith, s.low);
+        })
 
     steps : (o : Reads (StepOp × Span)) → Holds (λ a us. ts ≡ mark (step_mark a.0) a.1 ∷ us) o
         → Holds (Sound 2 (suc n) ts) (prefix_from (suc n) b o ts)
     steps None h = unaries (take_unary ts) (unary_taken ts)
     steps (Some (op, us)) h =
         holds_then (Sound 2 n us) (Sound 2 (suc n) ts) (b.unary us) _ (sb.unary us) (λ e vs s.
-        record { tokens = h ∙ ap (λ zs. mark (step_mark op.0) op.1 ∷ zs) s.tokens; is = (s.is, s.loose); loose =
-            omega arith; low = omega (arith, s.low) })
+        record {
+          tokens = h ∙ ap (λ zs. mark (step_mark op.0) op.1 ∷ zs) s.tokens;
+          is = (s.is, s.loose);
+          loose =
+              omega arith;
+          low = omega (arith, s.low);
+        })
 
 sound_cast : (n : ℕ) (b : Readers) → SoundReaders n b → SoundReader 3 (suc n) (read_cast (suc n) b)
 sound_cast n b sb ts = under (take_mark marks.LeftParen ts) (mark_taken marks.LeftParen ts)
@@ -543,8 +570,8 @@ sound_cast n b sb ts = under (take_mark marks.LeftParen ts) (mark_taken marks.Le
     with_specifiers o us [] vs h g = plain
     with_specifiers o us (s ∷ ss) vs h g =
         holds_then (λ c ws. (take_pointer vs).1 ≡ mark marks.RightParen c ∷ ws) (Sound 3 (suc n) ts)
-            (take_mark marks.RightParen (take_pointer vs).1) _ (mark_taken marks.RightParen (take_pointer vs).1)
-            (λ c ws k.
+        (take_mark marks.RightParen (take_pointer vs).1) _ (mark_taken marks.RightParen (take_pointer vs).1)
+        (λ c ws k.
         holds_then (Sound 3 n ws) (Sound 3 (suc n) ts) (b.cast ws) _ (sb.cast ws) (λ e xs m.
         (let tail : List Token = mark marks.RightParen c ∷ expr_tokens e in
         record {
@@ -571,7 +598,7 @@ sound_infix : (k n c : ℕ) (operand right : Reader) → c + 1 ≡ k + 3 → Sou
 sound_infix k n c operand right sum so sr ts =
     holds_then (Sound c (suc n) ts) (Sound (k + 3) (suc n) ts) (operand ts) _ (so ts) (λ e us s.
     holds_chain (Sound (k + 3) (suc n) ts) (infix_step k (suc n) right) (λ a vs g. turn a vs g) (length us) e us
-        (looser c (k + 3) (suc n) ts e us (omega arith) s))
+    (looser c (k + 3) (suc n) ts e us (omega arith) s))
   where
     turn : (l : Expr) (us : List Token) → Sound (k + 3) (suc n) ts l us
         → HoldsStep (Sound (k + 3) (suc n) ts) (infix_step k (suc n) right l us)
@@ -602,8 +629,8 @@ sound_binary n b sb (suc k) h = sound_infix (suc k) n (k + 3) (read_binary (suc 
 sound_conditional : (n : ℕ) (b : Readers) → SoundReaders n b → SoundReader 14 (suc n) (read_conditional (suc n) b)
 sound_conditional n b sb ts =
     holds_then (Sound 13 (suc n) ts) (Sound 14 (suc n) ts) (read_binary (suc n) b 10 ts) _
-        (sound_binary n b sb 10 (omega arith) ts)
-        (λ c us s. under c us s (take_mark marks.Question us) (mark_taken marks.Question us))
+    (sound_binary n b sb 10 (omega arith) ts)
+    (λ c us s. under c us s (take_mark marks.Question us) (mark_taken marks.Question us))
   where
     under : (c : Expr) (us : List Token) → Sound 13 (suc n) ts c us → (o : Reads Span)
         → Holds (λ at vs. us ≡ mark marks.Question at ∷ vs) o
@@ -613,7 +640,7 @@ sound_conditional n b sb ts =
         holds_if (Sound 14 (suc n) ts) (ltb (expr_height c) (suc n)) _ (λ e.
         holds_then (Sound 16 n vs) (Sound 14 (suc n) ts) (b.expression vs) _ (sb.expression vs) (λ f ws g.
         holds_then (λ k xs. ws ≡ mark marks.Colon k ∷ xs) (Sound 14 (suc n) ts) (take_mark marks.Colon ws) _
-            (mark_taken marks.Colon ws) (λ k xs i.
+        (mark_taken marks.Colon ws) (λ k xs i.
         holds_then (Sound 14 n xs) (Sound 14 (suc n) ts) (b.conditional xs) _ (sb.conditional xs) (λ z ys j.
         (let tail : List Token = mark marks.Colon k ∷ expr_tokens z in
         record {
@@ -638,7 +665,7 @@ and_right false b e = absurd (let wrong : false ≡ true = e in cc)
 sound_assignment : (n : ℕ) (b : Readers) → SoundReaders n b → SoundReader 15 (suc n) (read_assignment (suc n) b)
 sound_assignment n b sb ts =
     holds_then (Sound 14 (suc n) ts) (Sound 15 (suc n) ts) (read_conditional (suc n) b ts) _
-        (sound_conditional n b sb ts) (λ l us s. under l us s (take_assign us) (assign_taken us))
+    (sound_conditional n b sb ts) (λ l us s. under l us s (take_assign us) (assign_taken us))
   where
     under : (l : Expr) (us : List Token) → Sound 14 (suc n) ts l us → (o : Reads (AssignOp × Span))
         → Holds (λ a vs. us ≡ mark (assign_mark a.0) a.1 ∷ vs) o
@@ -651,11 +678,19 @@ sound_assignment n b sb ts =
           tokens = s.tokens ∙ (ap (λ zs. expr_tokens l ++ zs)
               (h ∙ ap (λ zs. mark (assign_mark op.0) op.1 ∷ zs) g.tokens)
               ∙ sym (append_assoc (expr_tokens l) (mark (assign_mark op.0) op.1 ∷ expr_tokens r) ws));
-          is = (s.is, leb-true (looseness l) 2 (and_left (leb (looseness l) 2) (ltb (expr_height l) (suc n)) e), g.is,
-              g.loose);
+          is = (
+            s.is,
+            leb-true (looseness l) 2 (and_left (leb (looseness l) 2) (ltb (expr_height l) (suc n)) e),
+            g.is,
+            g.loose,
+          );
           loose = omega arith;
-          low = omega (arith, g.low, ltb-true (expr_height l) (suc n)
-              (and_right (leb (looseness l) 2) (ltb (expr_height l) (suc n)) e));
+          low = omega (
+            arith,
+            g.low,
+            ltb-true (expr_height l) (suc n)
+                (and_right (leb (looseness l) 2) (ltb (expr_height l) (suc n)) e),
+          );
         }))
 
 sound_expression : (n : ℕ) (b : Readers) → SoundReaders n b → SoundReader 16 (suc n) (read_expression (suc n) b)
@@ -665,8 +700,15 @@ sound_expression n b sb = sound_infix 13 n 15 (read_assignment (suc n) b) b.assi
 -- the readers for a height read trees alone
 pub sound : (height : ℕ) → SoundReaders height (readers height)
 sound zero = (let P : Readers → Type 0 = λ r. SoundReaders 0 r in
-    subst P (sym readers-none) (record { expression = λ ts. tt; assignment = λ ts. tt; conditional = λ ts. tt; binary =
-    λ k h ts. tt; cast = λ ts. tt; unary = λ ts. tt }))
+    subst P (sym readers-none) (record {
+      expression = λ ts. tt;
+      assignment = λ ts. tt;
+      conditional = λ ts. tt;
+      binary =
+          λ k h ts. tt;
+      cast = λ ts. tt;
+      unary = λ ts. tt;
+    }))
 sound (suc n) =
     (let sb = sound n in
     let b : Readers = readers n in

@@ -57,8 +57,8 @@ followed_push tokens [] (c ∷ cs) x at e = absurd (omega arith)
 followed_push tokens (y ∷ ys) [] x at e = absurd (omega arith)
 followed_push tokens (y ∷ ys) (c ∷ cs) x at e =
     ap (λ ts. mark marks.Comma c ∷ (tokens y ++ ts)) (followed_push tokens ys cs x at (omega arith))
-        ∙ ap (λ ts. mark marks.Comma c ∷ ts) (sym
-        (append_assoc (tokens y) (followed tokens ys cs) (mark marks.Comma at ∷ tokens x)))
+    ∙ ap (λ ts. mark marks.Comma c ∷ ts) (sym
+    (append_assoc (tokens y) (followed tokens ys cs) (mark marks.Comma at ∷ tokens x)))
 
 all_push : {A : Type 0} (P : A → Type 0) (xs : List A) (x : A) → AllByRecursion P xs → P x
     → AllByRecursion P (xs ++ x ∷ [])
@@ -68,7 +68,7 @@ all_push P (y ∷ ys) x all p = (all.0, all_push P ys x all.1 p)
 list_push : {A : Type 0} (tokens : A → List Token) (P : A → Type 0) (ts : List Token) (xs : List A) (commas : List Span)
     (us vs ws : List Token) (at : Span) (x : A) →
     SoundList tokens P ts (xs, commas) us → us ≡ mark marks.Comma at ∷ vs → vs ≡ tokens x ++ ws → P x
-        → SoundList tokens P ts (xs ++ x ∷ [], commas ++ at ∷ []) ws
+    → SoundList tokens P ts (xs ++ x ∷ [], commas ++ at ∷ []) ws
 list_push tokens P ts [] commas us vs ws at x s f g p = absurd (omega (arith, s.some))
 list_push tokens P ts (y ∷ ys) commas us vs ws at x s f g p =
     record {
@@ -76,7 +76,7 @@ list_push tokens P ts (y ∷ ys) commas us vs ws at x s f g p =
           (f ∙ ap (λ zs. mark marks.Comma at ∷ zs) g)
           ∙ (sym (append_assoc (tokens y ++ followed tokens ys commas) (mark marks.Comma at ∷ tokens x) ws)
           ∙ ap (λ zs. zs ++ ws) (append_assoc (tokens y) (followed tokens ys commas) (mark marks.Comma at ∷ tokens x)
-              ∙ ap (λ zs. tokens y ++ zs) (sym (followed_push tokens ys commas x at s.apart)))));
+          ∙ ap (λ zs. tokens y ++ zs) (sym (followed_push tokens ys commas x at s.apart)))));
       all = all_push P (y ∷ ys) x s.all p;
       apart = omega (arith, s.apart, length-append commas (at ∷ []), length-append ys (x ∷ []));
       some = omega arith;
@@ -91,9 +91,13 @@ sound_more : {A : Type 0} (tokens : A → List Token) (P : A → Type 0) (read :
     → One tokens P ts x us → Holds (SoundList tokens P ts) (read_more read x us)
 sound_more {A} tokens P read sound ts x us one =
     holds_chain (SoundList tokens P ts) (list_step read)
-        (λ l vs s. turn l vs s (take_mark marks.Comma vs) (mark_taken marks.Comma vs)) (length us) (x ∷ [], []) us
-    (record { tokens_are = one.0 ∙ ap (λ zs. zs ++ us) (sym (append_nil (tokens x))); all = (one.1, tt); apart = refl;
-        some = omega arith })
+    (λ l vs s. turn l vs s (take_mark marks.Comma vs) (mark_taken marks.Comma vs)) (length us) (x ∷ [], []) us
+    (record {
+      tokens_are = one.0 ∙ ap (λ zs. zs ++ us) (sym (append_nil (tokens x)));
+      all = (one.1, tt);
+      apart = refl;
+      some = omega arith;
+    })
   where
     turn : (l : Listed A) (vs : List Token) → SoundList tokens P ts l vs → (o : Reads Span)
         → Holds (λ at ws. vs ≡ mark marks.Comma at ∷ ws) o → HoldsStep (SoundList tokens P ts) (list_at read l o)
@@ -145,15 +149,16 @@ sound_array : (n : ℕ) (b : Readers) → SoundReaders n b → (o : Span) (ts : 
     → Holds (One array_tokens (IsLowArray n) (mark marks.LeftBracket o ∷ ts)) (array_behind b o ts)
 sound_array n b sb o ts =
     holds_then (SoundMaybe 14 n ts) (One array_tokens (IsLowArray n) (mark marks.LeftBracket o ∷ ts))
-        (maybe_before b.conditional marks.RightBracket ts) _
-        (sound_maybe 14 n b.conditional sb.conditional marks.RightBracket ts) (λ size us s.
+    (maybe_before b.conditional marks.RightBracket ts) _
+    (sound_maybe 14 n b.conditional sb.conditional marks.RightBracket ts) (λ size us s.
     holds_then (λ c vs. us ≡ mark marks.RightBracket c ∷ vs)
-        (One array_tokens (IsLowArray n) (mark marks.LeftBracket o ∷ ts)) (take_mark marks.RightBracket us) _
-        (mark_taken marks.RightBracket us) (λ c vs g.
-    (ap (λ zs. mark marks.LeftBracket o ∷ zs)
-        (s.tokens ∙ (ap (λ zs. maybe_expr_tokens size ++ zs) g
-        ∙ sym (append_assoc (maybe_expr_tokens size) (mark marks.RightBracket c ∷ []) vs))),
-        (conditional_is size s.fits, s.low))))
+    (One array_tokens (IsLowArray n) (mark marks.LeftBracket o ∷ ts)) (take_mark marks.RightBracket us) _
+    (mark_taken marks.RightBracket us) (λ c vs g. (
+      ap (λ zs. mark marks.LeftBracket o ∷ zs)
+          (s.tokens ∙ (ap (λ zs. maybe_expr_tokens size ++ zs) g
+          ∙ sym (append_assoc (maybe_expr_tokens size) (mark marks.RightBracket c ∷ []) vs))),
+      (conditional_is size s.fits, s.low),
+    )))
 
 abbrev IsLowMaybeArray : ℕ → Option ArrayTree → Type 0
 IsLowMaybeArray h a = IsMaybeArray a × (maybe_array_height a ≤ h)
@@ -167,8 +172,8 @@ sound_maybe_array n b sb ts = under (take_mark marks.LeftBracket ts) (mark_taken
     under None h = (refl, (tt, omega arith))
     under (Some (o, us)) h =
         holds_then (One array_tokens (IsLowArray n) (mark marks.LeftBracket o ∷ us))
-            (One maybe_array_tokens (IsLowMaybeArray n) ts) (array_behind b o us) _ (sound_array n b sb o us)
-            (λ a vs g. (h ∙ g.0, g.1))
+        (One maybe_array_tokens (IsLowMaybeArray n) ts) (array_behind b o us) _ (sound_array n b sb o us)
+        (λ a vs g. (h ∙ g.0, g.1))
 
 abbrev IsLowParameter : ℕ → ParameterTree → Type 0
 IsLowParameter h p = IsParameter p × (parameter_height p ≤ h)
@@ -184,14 +189,14 @@ sound_parameter n b sb ts = under (take_specifiers ts).0 (take_specifiers ts).1 
         (let pointer = take_pointer us in
         let name = take_name pointer.1 in
         holds_then (One maybe_array_tokens (IsLowMaybeArray n) name.1) (One parameter_tokens (IsLowParameter n) ts)
-            (read_maybe_array b name.1) _ (sound_maybe_array n b sb name.1) (λ a vs g. (
+        (read_maybe_array b name.1) _ (sound_maybe_array n b sb name.1) (λ a vs g. (
           h ∙ (ap (λ zs. specifiers_tokens (s ∷ ss) ++ zs)
               (pointer_taken us ∙ (ap (λ zs. pointer_tokens pointer.0 ++ zs)
               (name_taken pointer.1 ∙ (ap (λ zs. maybe_name_tokens name.0 ++ zs) g.0
               ∙ sym (append_assoc (maybe_name_tokens name.0) (maybe_array_tokens a) vs)))
               ∙ sym (append_assoc (pointer_tokens pointer.0) (maybe_name_tokens name.0 ++ maybe_array_tokens a) vs)))
               ∙ sym (append_assoc (specifiers_tokens (s ∷ ss))
-                  (pointer_tokens pointer.0 ++ (maybe_name_tokens name.0 ++ maybe_array_tokens a)) vs)),
+              (pointer_tokens pointer.0 ++ (maybe_name_tokens name.0 ++ maybe_array_tokens a)) vs)),
           ((tt, g.1.0), g.1.1),
         )))
 
@@ -225,9 +230,9 @@ sound_parameters n b sb ts = under (take_mark marks.RightParen ts)
     under (Some close) = record { tokens_are = refl; all = tt; low = omega arith; apart = refl }
     under None =
         holds_then (One parameter_tokens (IsLowParameter n) ts) (SoundParameters n ts) (read_parameter b ts) _
-            (sound_parameter n b sb ts) (λ p us g.
+        (sound_parameter n b sb ts) (λ p us g.
         some_parameters n ts (read_more (read_parameter b) p us)
-            (sound_more parameter_tokens (IsLowParameter n) (read_parameter b) (sound_parameter n b sb) ts p us g))
+        (sound_more parameter_tokens (IsLowParameter n) (read_parameter b) (sound_parameter n b sb) ts p us g))
 
 sound_part : (n : ℕ) (b : Readers) → SoundReaders n b → (ts : List Token)
     → Holds (One part_tokens (IsLowPart n) ts) (read_part b ts)
@@ -238,16 +243,17 @@ sound_part n b sb ts = brackets (take_mark marks.LeftBracket ts) (mark_taken mar
     parens None h = (refl, (tt, omega arith))
     parens (Some (o, us)) h =
         holds_then (One parameters_tokens (λ p. IsLowPart n (Function p)) (mark marks.LeftParen o ∷ us))
-            (One part_tokens (IsLowPart n) ts) (parameters_behind b o us) _
+        (One part_tokens (IsLowPart n) ts) (parameters_behind b o us) _
         (holds_then (SoundParameters n us) (One parameters_tokens (λ p. IsLowPart n (Function p))
-            (mark marks.LeftParen o ∷ us)) (read_parameters b us) _ (sound_parameters n b sb us) (λ ps vs s.
+        (mark marks.LeftParen o ∷ us)) (read_parameters b us) _ (sound_parameters n b sb us) (λ ps vs s.
         holds_then (λ c ws. vs ≡ mark marks.RightParen c ∷ ws)
-            (One parameters_tokens (λ p. IsLowPart n (Function p)) (mark marks.LeftParen o ∷ us))
-            (take_mark marks.RightParen vs) _ (mark_taken marks.RightParen vs) (λ c ws g.
-        (ap (λ zs. mark marks.LeftParen o ∷ zs) (s.tokens_are
-            ∙ (ap (λ zs. separated parameter_tokens ps.0 ps.1 ++ zs) g
-            ∙ sym (append_assoc (separated parameter_tokens ps.0 ps.1) (mark marks.RightParen c ∷ []) ws))),
-            ((s.all, s.apart), s.low)))))
+        (One parameters_tokens (λ p. IsLowPart n (Function p)) (mark marks.LeftParen o ∷ us))
+        (take_mark marks.RightParen vs) _ (mark_taken marks.RightParen vs) (λ c ws g. (
+          ap (λ zs. mark marks.LeftParen o ∷ zs) (s.tokens_are
+              ∙ (ap (λ zs. separated parameter_tokens ps.0 ps.1 ++ zs) g
+              ∙ sym (append_assoc (separated parameter_tokens ps.0 ps.1) (mark marks.RightParen c ∷ []) ws))),
+          ((s.all, s.apart), s.low),
+        ))))
         (λ p vs g. (h ∙ g.0, g.1))
 
     brackets : (o : Reads Span) → Holds (λ at us. ts ≡ mark marks.LeftBracket at ∷ us) o
@@ -255,7 +261,7 @@ sound_part n b sb ts = brackets (take_mark marks.LeftBracket ts) (mark_taken mar
     brackets None h = parens (take_mark marks.LeftParen ts) (mark_taken marks.LeftParen ts)
     brackets (Some (o, us)) h =
         holds_then (One array_tokens (IsLowArray n) (mark marks.LeftBracket o ∷ us)) (One part_tokens (IsLowPart n) ts)
-            (array_behind b o us) _ (sound_array n b sb o us) (λ a vs g. (h ∙ g.0, g.1))
+        (array_behind b o us) _ (sound_array n b sb o us) (λ a vs g. (h ∙ g.0, g.1))
 
 abbrev pub IsLowDeclarator : ℕ → DeclaratorTree → Type 0
 IsLowDeclarator h d = IsLowPart h d.part
@@ -271,9 +277,11 @@ sound_declarator n b sb ts = under (take_pointer ts).0 (take_pointer ts).1 (take
     under pointer us None vs h k = tt
     under pointer us (Some name) vs h k =
         holds_then (One part_tokens (IsLowPart n) vs) (One declarator_tokens (IsLowDeclarator n) ts) (read_part b vs) _
-            (sound_part n b sb vs) (λ part ws g.
-        (h ∙ (ap (λ zs. pointer_tokens pointer ++ zs) (k ∙ ap (λ zs. ident name.name name.at ∷ zs) g.0)
-            ∙ sym (append_assoc (pointer_tokens pointer) (ident name.name name.at ∷ part_tokens part) ws)), g.1))
+        (sound_part n b sb vs) (λ part ws g. (
+          h ∙ (ap (λ zs. pointer_tokens pointer ++ zs) (k ∙ ap (λ zs. ident name.name name.at ∷ zs) g.0)
+              ∙ sym (append_assoc (pointer_tokens pointer) (ident name.name name.at ∷ part_tokens part) ws)),
+          g.1,
+        ))
 
 -- ---- initialisers
 
@@ -319,21 +327,21 @@ sound_initialiser n b sb ts = under (take_mark marks.LeftBrace ts) (mark_taken m
         (sb.assignment ts) (λ e us s. (s.tokens, ((s.is, s.loose), s.low)))
     under (Some (o, us)) h =
         holds_then (Sound 15 n us) (One initialiser_tokens (IsLowInitialiser n) ts) (b.assignment us) _
-            (sb.assignment us) (λ e vs s.
+        (sb.assignment us) (λ e vs s.
         holds_then (SoundValues n us) (One initialiser_tokens (IsLowInitialiser n) ts)
-            (chained (brace_step b) (e ∷ [], []) vs) _
-            (holds_chain (SoundValues n us) (brace_step b) (λ a ws g. sound_brace n b sb us a ws g) (length vs)
-            (e ∷ [], []) vs (first_value n us e vs s)) (λ values ws g.
+        (chained (brace_step b) (e ∷ [], []) vs) _
+        (holds_chain (SoundValues n us) (brace_step b) (λ a ws g. sound_brace n b sb us a ws g) (length vs)
+        (e ∷ [], []) vs (first_value n us e vs s)) (λ values ws g.
         holds_then (λ c xs. (take_comma ws).1 ≡ mark marks.RightBrace c ∷ xs)
-            (One initialiser_tokens (IsLowInitialiser n) ts) (take_mark marks.RightBrace (take_comma ws).1) _
-            (mark_taken marks.RightBrace (take_comma ws).1) (λ c xs k.
+        (One initialiser_tokens (IsLowInitialiser n) ts) (take_mark marks.RightBrace (take_comma ws).1) _
+        (mark_taken marks.RightBrace (take_comma ws).1) (λ c xs k.
         (let trailing = (take_comma ws).0 in (
           h ∙ ap (λ zs. mark marks.LeftBrace o ∷ zs)
               (g.tokens ∙ (ap (λ zs. exprs_tokens (exprs_of values.0) values.1 ++ zs)
               (comma_taken ws ∙ (ap (λ zs. maybe_comma_tokens trailing ++ zs) k
               ∙ sym (append_assoc (maybe_comma_tokens trailing) (mark marks.RightBrace c ∷ []) xs)))
               ∙ sym (append_assoc (exprs_tokens (exprs_of values.0) values.1)
-                  (maybe_comma_tokens trailing ++ mark marks.RightBrace c ∷ []) xs))),
+              (maybe_comma_tokens trailing ++ mark marks.RightBrace c ∷ []) xs))),
           braces_are n o values.0 values.1 trailing c g.some g.are g.apart g.low,
         )))))
 
@@ -351,8 +359,8 @@ sound_value_part n b sb ts = under (take_mark marks.Equal ts) (mark_taken marks.
     under None h = (refl, (tt, omega arith))
     under (Some (at, us)) h =
         holds_then (One initialiser_tokens (IsLowInitialiser n) us) (One value_tokens (IsLowValue n) ts)
-            (read_initialiser b us) _ (sound_initialiser n b sb us)
-            (λ v vs g. (h ∙ ap (λ zs. mark marks.Equal at ∷ zs) g.0, g.1))
+        (read_initialiser b us) _ (sound_initialiser n b sb us)
+        (λ v vs g. (h ∙ ap (λ zs. mark marks.Equal at ∷ zs) g.0, g.1))
 
 abbrev IsLowItem : ℕ → ItemTree → Type 0
 IsLowItem h i = IsItem i × (item_height i ≤ h)
@@ -361,9 +369,10 @@ sound_item_behind : (n : ℕ) (b : Readers) → SoundReaders n b → (ts : List 
     → One declarator_tokens (IsLowDeclarator n) ts d us → Holds (One item_tokens (IsLowItem n) ts) (item_behind b d us)
 sound_item_behind n b sb ts d us s =
     holds_then (One value_tokens (IsLowValue n) us) (One item_tokens (IsLowItem n) ts)
-        (value_from b (take_mark marks.Equal us) us) _ (sound_value_part n b sb us) (λ v vs g.
-    (s.0 ∙ (ap (λ zs. declarator_tokens d ++ zs) g.0 ∙ sym (append_assoc (declarator_tokens d) (value_tokens v) vs)),
-        ((s.1.0, g.1.0), omega (arith, s.1.1, g.1.1))))
+    (value_from b (take_mark marks.Equal us) us) _ (sound_value_part n b sb us) (λ v vs g. (
+      s.0 ∙ (ap (λ zs. declarator_tokens d ++ zs) g.0 ∙ sym (append_assoc (declarator_tokens d) (value_tokens v) vs)),
+      ((s.1.0, g.1.0), omega (arith, s.1.1, g.1.1)),
+    ))
 
 sound_item : (n : ℕ) (b : Readers) → SoundReaders n b → (ts : List Token)
     → Holds (One item_tokens (IsLowItem n) ts) (read_item b ts)
@@ -384,18 +393,18 @@ pub sound_declaration_behind : (n : ℕ) (b : Readers) → SoundReaders n b
     Holds (One declaration_tokens (IsLowDeclaration (suc n)) ts) (declaration_behind b ss d vs)
 sound_declaration_behind n b sb ts ss us d vs is h s =
     holds_then (One item_tokens (IsLowItem n) us) (One declaration_tokens (IsLowDeclaration (suc n)) ts)
-        (item_behind b d vs) _ (sound_item_behind n b sb us d vs s) (λ i ws g.
+    (item_behind b d vs) _ (sound_item_behind n b sb us d vs s) (λ i ws g.
     holds_then (SoundList item_tokens (IsLowItem n) us) (One declaration_tokens (IsLowDeclaration (suc n)) ts)
-        (read_more (read_item b) i ws) _ (sound_more item_tokens (IsLowItem n) (read_item b) (sound_item n b sb) us i ws
-        g) (λ items xs k.
+    (read_more (read_item b) i ws) _ (sound_more item_tokens (IsLowItem n) (read_item b) (sound_item n b sb) us i ws
+    g) (λ items xs k.
     holds_then (λ c ys. xs ≡ mark marks.Semicolon c ∷ ys) (One declaration_tokens (IsLowDeclaration (suc n)) ts)
-        (take_mark marks.Semicolon xs) _ (mark_taken marks.Semicolon xs) (λ c ys m.
+    (take_mark marks.Semicolon xs) _ (mark_taken marks.Semicolon xs) (λ c ys m.
     (let r = all_low IsItem item_height n items.0 k.all in (
       h ∙ (ap (λ zs. specifiers_tokens ss ++ zs)
           (k.tokens_are ∙ (ap (λ zs. separated item_tokens items.0 items.1 ++ zs) m
           ∙ sym (append_assoc (separated item_tokens items.0 items.1) (mark marks.Semicolon c ∷ []) ys)))
           ∙ sym (append_assoc (specifiers_tokens ss)
-              (separated item_tokens items.0 items.1 ++ mark marks.Semicolon c ∷ []) ys)),
+          (separated item_tokens items.0 items.1 ++ mark marks.Semicolon c ∷ []) ys)),
       ((is, items_are items.0 k.some r.0, k.apart), omega (arith, r.1)),
     )))))
 

@@ -74,12 +74,16 @@ sound_condition : (n : ℕ) (b : Below) → SoundBelow n b → (ts : List Token)
     → Holds (SoundCondition n ts) (read_condition b ts)
 sound_condition n b sb ts =
     holds_then (λ o us. ts ≡ mark marks.LeftParen o ∷ us) (SoundCondition n ts) (take_mark marks.LeftParen ts) _
-        (mark_taken marks.LeftParen ts) (λ o us f.
+    (mark_taken marks.LeftParen ts) (λ o us f.
     holds_then (Sound 16 n us) (SoundCondition n ts) (b.exprs.expression us) _ (sb.exprs.expression us) (λ e vs s.
     holds_then (λ c ws. vs ≡ mark marks.RightParen c ∷ ws) (SoundCondition n ts) (take_mark marks.RightParen vs) _
-        (mark_taken marks.RightParen vs) (λ c ws g.
-    record { tokens = f ∙ ap (λ zs. mark marks.LeftParen o ∷ zs) (s.tokens ∙ ap (λ zs. expr_tokens e ++ zs) g); is =
-        s.is; low = s.low })))
+    (mark_taken marks.RightParen vs) (λ c ws g.
+    record {
+      tokens = f ∙ ap (λ zs. mark marks.LeftParen o ∷ zs) (s.tokens ∙ ap (λ zs. expr_tokens e ++ zs) g);
+      is =
+          s.is;
+      low = s.low;
+    })))
 
 -- what stands behind parentheses
 behind_parens : (o : Span) (e : Expr) (c : Span) (xs ys : List Token) → in_parens o e c (xs ++ ys)
@@ -121,7 +125,7 @@ sound_row : (K : Stmt → Type 0) (h : ℕ) (read : StmtReader) → SoundStateme
     → Holds (SoundRow K h ts) (read_until read ts)
 sound_row K h read reads ts =
     holds_chain (SoundRow K h ts) (until_step read) (λ a us s. turn a us s (take_mark marks.RightBrace us)) (length ts)
-        [] ts (record { tokens = refl; all = tt; low = omega arith })
+    [] ts (record { tokens = refl; all = tt; low = omega arith })
   where
     turn : (a : List Stmt) (us : List Token) → SoundRow K h ts a us → (o : Reads Span)
         → HoldsStep (SoundRow K h ts) (until_at read a o us)
@@ -153,9 +157,9 @@ sound_block : (n : ℕ) (b : Below) → SoundBelow n b → (o : Span) (ts : List
     → Holds (PlainStmt n (mark marks.LeftBrace o ∷ ts)) (block_behind b o ts)
 sound_block n b sb o ts =
     holds_then (SoundRow IsBlockItem n ts) (PlainStmt n (mark marks.LeftBrace o ∷ ts)) (read_until b.item ts) _
-        (sound_row IsBlockItem n b.item sb.item ts) (λ ss us s.
+    (sound_row IsBlockItem n b.item sb.item ts) (λ ss us s.
     holds_then (λ c vs. us ≡ mark marks.RightBrace c ∷ vs) (PlainStmt n (mark marks.LeftBrace o ∷ ts))
-        (take_mark marks.RightBrace us) _ (mark_taken marks.RightBrace us) (λ c vs g.
+    (take_mark marks.RightBrace us) _ (mark_taken marks.RightBrace us) (λ c vs g.
     record {
       tokens = ap (λ zs. mark marks.LeftBrace o ∷ zs)
           (s.tokens ∙ (ap (λ zs. stmts_tokens (stmts_of ss) ++ zs) g
@@ -175,9 +179,9 @@ sound_if : (n : ℕ) (b : Below) → SoundBelow n b → (at : Span) (ts : List T
     → Holds (PlainStmt n (word words.If at ∷ ts)) (if_behind b at ts)
 sound_if n b sb at ts =
     holds_then (SoundCondition n ts) (PlainStmt n (word words.If at ∷ ts)) (read_condition b ts) _
-        (sound_condition n b sb ts) (λ k us f.
+    (sound_condition n b sb ts) (λ k us f.
     holds_then (SoundStmt IsPlain n us) (PlainStmt n (word words.If at ∷ ts)) (b.statement us) _ (sb.statement us)
-        (λ s vs g. under k us f s vs g (take_word words.Else vs) refl (word_taken words.Else vs)))
+    (λ s vs g. under k us f s vs g (take_word words.Else vs) refl (word_taken words.Else vs)))
   where
     under : (k : Condition) (us : List Token) → SoundCondition n ts k us → (s : Stmt) (vs : List Token)
         → SoundStmt IsPlain n us s vs → (o : Reads Span) → take_word words.Else vs ≡ o
@@ -194,7 +198,7 @@ sound_if n b sb at ts =
         }
     under k us f s vs g (Some (otherwise, ws)) e h =
         holds_then (SoundStmt IsPlain n ws) (PlainStmt n (word words.If at ∷ ts)) (b.statement ws) _ (sb.statement ws)
-            (λ t xs m.
+        (λ t xs m.
         (let more : List Token = word words.Else otherwise ∷ stmt_tokens t in
         record {
           tokens = ap (λ zs. word words.If at ∷ zs)
@@ -202,8 +206,14 @@ sound_if n b sb at ts =
               (g.tokens ∙ (ap (λ zs. stmt_tokens s ++ zs) (h ∙ ap (λ zs. word words.Else otherwise ∷ zs) m.tokens)
               ∙ sym (append_assoc (stmt_tokens s) more xs)))
               ∙ behind_parens k.0 k.1 k.2 (stmt_tokens s ++ more) xs));
-          is = (f.is, g.is, g.kind, not_open (ends_open s) (take_word words.Else vs) (otherwise, ws) e g.no_else, m.is,
-              m.kind);
+          is = (
+            f.is,
+            g.is,
+            g.kind,
+            not_open (ends_open s) (take_word words.Else vs) (otherwise, ws) e g.no_else,
+            m.is,
+            m.kind,
+          );
           kind = tt;
           low = omega (arith, f.low, g.low, m.low);
           no_else = m.no_else;
@@ -213,9 +223,9 @@ sound_while : (n : ℕ) (b : Below) → SoundBelow n b → (at : Span) (ts : Lis
     → Holds (PlainStmt n (word words.While at ∷ ts)) (while_behind b at ts)
 sound_while n b sb at ts =
     holds_then (SoundCondition n ts) (PlainStmt n (word words.While at ∷ ts)) (read_condition b ts) _
-        (sound_condition n b sb ts) (λ k us f.
+    (sound_condition n b sb ts) (λ k us f.
     holds_then (SoundStmt IsPlain n us) (PlainStmt n (word words.While at ∷ ts)) (b.statement us) _ (sb.statement us)
-        (λ s vs g.
+    (λ s vs g.
     record {
       tokens = ap (λ zs. word words.While at ∷ zs)
           (f.tokens ∙ (ap (in_parens k.0 k.1 k.2) g.tokens ∙ behind_parens k.0 k.1 k.2 (stmt_tokens s) vs));
@@ -229,13 +239,13 @@ sound_do : (n : ℕ) (b : Below) → SoundBelow n b → (at : Span) (ts : List T
     → Holds (PlainStmt n (word words.Do at ∷ ts)) (do_behind b at ts)
 sound_do n b sb at ts =
     holds_then (SoundStmt IsPlain n ts) (PlainStmt n (word words.Do at ∷ ts)) (b.statement ts) _ (sb.statement ts)
-        (λ s us g.
+    (λ s us g.
     holds_then (λ until vs. us ≡ word words.While until ∷ vs) (PlainStmt n (word words.Do at ∷ ts))
-        (take_word words.While us) _ (word_taken words.While us) (λ until vs h.
+    (take_word words.While us) _ (word_taken words.While us) (λ until vs h.
     holds_then (SoundCondition n vs) (PlainStmt n (word words.Do at ∷ ts)) (read_condition b vs) _
-        (sound_condition n b sb vs) (λ k ws f.
+    (sound_condition n b sb vs) (λ k ws f.
     holds_then (λ c xs. ws ≡ mark marks.Semicolon c ∷ xs) (PlainStmt n (word words.Do at ∷ ts))
-        (take_mark marks.Semicolon ws) _ (mark_taken marks.Semicolon ws) (λ c xs m.
+    (take_mark marks.Semicolon ws) _ (mark_taken marks.Semicolon ws) (λ c xs m.
     (let more : List Token = word words.While until ∷ in_parens k.0 k.1 k.2 (mark marks.Semicolon c ∷ []) in
     record {
       tokens = ap (λ zs. word words.Do at ∷ zs)
@@ -266,13 +276,13 @@ record SoundRest (h : ℕ) (ts : List Token) (r : ForRest) (us : List Token) : T
 sound_rest : (n : ℕ) (b : Below) → SoundBelow n b → (ts : List Token) → Holds (SoundRest n ts) (read_for_rest b ts)
 sound_rest n b sb ts =
     holds_then (SoundMaybe 16 n ts) (SoundRest n ts) (maybe_before b.exprs.expression marks.Semicolon ts) _
-        (sound_maybe 16 n b.exprs.expression sb.exprs.expression marks.Semicolon ts) (λ k us f.
+    (sound_maybe 16 n b.exprs.expression sb.exprs.expression marks.Semicolon ts) (λ k us f.
     holds_then (λ at vs. us ≡ mark marks.Semicolon at ∷ vs) (SoundRest n ts) (take_mark marks.Semicolon us) _
-        (mark_taken marks.Semicolon us) (λ second vs g.
+    (mark_taken marks.Semicolon us) (λ second vs g.
     holds_then (SoundMaybe 16 n vs) (SoundRest n ts) (maybe_before b.exprs.expression marks.RightParen vs) _
-        (sound_maybe 16 n b.exprs.expression sb.exprs.expression marks.RightParen vs) (λ step ws h.
+    (sound_maybe 16 n b.exprs.expression sb.exprs.expression marks.RightParen vs) (λ step ws h.
     holds_then (λ at xs. ws ≡ mark marks.RightParen at ∷ xs) (SoundRest n ts) (take_mark marks.RightParen ws) _
-        (mark_taken marks.RightParen ws) (λ c xs i.
+    (mark_taken marks.RightParen ws) (λ c xs i.
     holds_then (SoundStmt IsPlain n xs) (SoundRest n ts) (b.statement xs) _ (sb.statement xs) (λ s ys j.
     (let tail : List Token = mark marks.RightParen c ∷ stmt_tokens s in
     record {
@@ -281,7 +291,7 @@ sound_rest n b sb ts =
           (h.tokens ∙ (ap (λ zs. maybe_expr_tokens step ++ zs) (i ∙ ap (λ zs. mark marks.RightParen c ∷ zs) j.tokens)
           ∙ sym (append_assoc (maybe_expr_tokens step) tail ys))))
           ∙ sym (append_assoc (maybe_expr_tokens k) (mark marks.Semicolon second ∷ (maybe_expr_tokens step ++ tail))
-              ys));
+          ys));
       is_condition = maybe_is k f.fits;
       is_step = maybe_is step h.fits;
       is = j.is;
@@ -294,18 +304,18 @@ sound_for : (n : ℕ) (b : Below) → SoundBelow n b → (at : Span) (ts : List 
     → Holds (PlainStmt n (word words.For at ∷ ts)) (for_behind b at ts)
 sound_for n b sb at ts =
     holds_then (λ o us. ts ≡ mark marks.LeftParen o ∷ us) (PlainStmt n (word words.For at ∷ ts))
-        (take_mark marks.LeftParen ts) _ (mark_taken marks.LeftParen ts) (λ o us f. under o us f (take_specifiers us).0)
+    (take_mark marks.LeftParen ts) _ (mark_taken marks.LeftParen ts) (λ o us f. under o us f (take_specifiers us).0)
   where
     under : (o : Span) (us : List Token) → ts ≡ mark marks.LeftParen o ∷ us → (ss : List Specifier)
         → Holds (PlainStmt n (word words.For at ∷ ts)) (for_with b at o ss us)
     under o us f [] =
         holds_then (SoundMaybe 16 n us) (PlainStmt n (word words.For at ∷ ts))
-            (maybe_before b.exprs.expression marks.Semicolon us) _
-            (sound_maybe 16 n b.exprs.expression sb.exprs.expression marks.Semicolon us) (λ start vs g.
+        (maybe_before b.exprs.expression marks.Semicolon us) _
+        (sound_maybe 16 n b.exprs.expression sb.exprs.expression marks.Semicolon us) (λ start vs g.
         holds_then (λ c ws. vs ≡ mark marks.Semicolon c ∷ ws) (PlainStmt n (word words.For at ∷ ts))
-            (take_mark marks.Semicolon vs) _ (mark_taken marks.Semicolon vs) (λ first ws h.
+        (take_mark marks.Semicolon vs) _ (mark_taken marks.Semicolon vs) (λ first ws h.
         holds_then (SoundRest n ws) (PlainStmt n (word words.For at ∷ ts)) (read_for_rest b ws) _ (sound_rest n b sb ws)
-            (λ r xs i.
+        (λ r xs i.
         record {
           tokens = ap (λ zs. word words.For at ∷ zs)
               (f ∙ ap (λ zs. mark marks.LeftParen o ∷ zs)
@@ -319,9 +329,9 @@ sound_for n b sb at ts =
         })))
     under o us f (s ∷ ss) =
         holds_then (One declaration_tokens (IsLowDeclaration n) us) (PlainStmt n (word words.For at ∷ ts))
-            (b.declaration us) _ (sb.declaration us) (λ d vs g.
+        (b.declaration us) _ (sb.declaration us) (λ d vs g.
         holds_then (SoundRest n vs) (PlainStmt n (word words.For at ∷ ts)) (read_for_rest b vs) _ (sound_rest n b sb vs)
-            (λ r ws i.
+        (λ r ws i.
         record {
           tokens = ap (λ zs. word words.For at ∷ zs)
               (f ∙ ap (λ zs. mark marks.LeftParen o ∷ zs)
@@ -337,15 +347,15 @@ sound_switch : (n : ℕ) (b : Below) → SoundBelow n b → (at : Span) (ts : Li
     → Holds (PlainStmt n (word words.Switch at ∷ ts)) (switch_behind b at ts)
 sound_switch n b sb at ts =
     holds_then (SoundCondition n ts) (PlainStmt n (word words.Switch at ∷ ts)) (read_condition b ts) _
-        (sound_condition n b sb ts) (λ k us f.
+    (sound_condition n b sb ts) (λ k us f.
     holds_then (λ o vs. us ≡ mark marks.LeftBrace o ∷ vs) (PlainStmt n (word words.Switch at ∷ ts))
-        (take_mark marks.LeftBrace us) _ (mark_taken marks.LeftBrace us) (λ begin vs g.
+    (take_mark marks.LeftBrace us) _ (mark_taken marks.LeftBrace us) (λ begin vs g.
     holds_then (SoundRow IsCase n vs) (PlainStmt n (word words.Switch at ∷ ts)) (read_until b.labelled vs) _
-        (sound_row IsCase n b.labelled sb.labelled vs) (λ ss ws s.
+    (sound_row IsCase n b.labelled sb.labelled vs) (λ ss ws s.
     holds_then (λ c xs. ws ≡ mark marks.RightBrace c ∷ xs) (PlainStmt n (word words.Switch at ∷ ts))
-        (take_mark marks.RightBrace ws) _ (mark_taken marks.RightBrace ws) (λ end xs h.
+    (take_mark marks.RightBrace ws) _ (mark_taken marks.RightBrace ws) (λ end xs h.
     (let tail : List Token = mark marks.LeftBrace begin
-        ∷ (stmts_tokens (stmts_of ss) ++ mark marks.RightBrace end ∷ []) in
+    ∷ (stmts_tokens (stmts_of ss) ++ mark marks.RightBrace end ∷ []) in
     record {
       tokens = ap (λ zs. word words.Switch at ∷ zs)
           (f.tokens ∙ (ap (in_parens k.0 k.1 k.2)
@@ -363,13 +373,13 @@ sound_value : (n : ℕ) (b : Below) → SoundBelow n b → (ts us : List Token) 
     → ((e : Option Expr) (c : Span) (vs : List Token) → us ≡ maybe_expr_tokens e ++ mark marks.Semicolon c ∷ vs
     → IsMaybeExpr e → maybe_expr_height e ≤ n → PlainStmt n ts (make e c) vs) →
     Holds (PlainStmt n ts) (then_read (maybe_before b.exprs.expression marks.Semicolon us)
-        (λ e vs. then_read (take_mark marks.Semicolon vs) (λ c ws. Some (make e c, ws))))
+    (λ e vs. then_read (take_mark marks.Semicolon vs) (λ c ws. Some (make e c, ws))))
 sound_value n b sb ts us make made =
     holds_then (SoundMaybe 16 n us) (PlainStmt n ts) (maybe_before b.exprs.expression marks.Semicolon us) _
-        (sound_maybe 16 n b.exprs.expression sb.exprs.expression marks.Semicolon us) (λ e vs f.
+    (sound_maybe 16 n b.exprs.expression sb.exprs.expression marks.Semicolon us) (λ e vs f.
     holds_then (λ c ws. vs ≡ mark marks.Semicolon c ∷ ws) (PlainStmt n ts) (take_mark marks.Semicolon vs) _
-        (mark_taken marks.Semicolon vs) (λ c ws g.
-        made e c ws (f.tokens ∙ ap (λ zs. maybe_expr_tokens e ++ zs) g) (maybe_is e f.fits) f.low))
+    (mark_taken marks.Semicolon vs) (λ c ws g.
+    made e c ws (f.tokens ∙ ap (λ zs. maybe_expr_tokens e ++ zs) g) (maybe_is e f.fits) f.low))
 
 pub sound_statement : (n : ℕ) (b : Below) → SoundBelow n b → SoundStatements IsPlain (suc n) (read_statement b)
 sound_statement n b sb ts = blocks (take_mark marks.LeftBrace ts) (mark_taken marks.LeftBrace ts)
@@ -380,27 +390,51 @@ sound_statement n b sb ts = blocks (take_mark marks.LeftBrace ts) (mark_taken ma
     returns : (o : Reads Span) → Holds (λ at us. ts ≡ word words.Return at ∷ us) o
         → Holds (PlainStmt n ts) (or_return b o ts)
     returns (Some (at, us)) h = sound_value n b sb ts us (λ e c. Return at e c) (λ e c vs f is low.
-        record { tokens = h ∙ ap (λ zs. word words.Return at ∷ zs)
-            (f ∙ sym (append_assoc (maybe_expr_tokens e) (mark marks.Semicolon c ∷ []) vs)); is = is; kind = tt; low =
-            omega arith; no_else = λ x. never x })
+        record {
+          tokens = h ∙ ap (λ zs. word words.Return at ∷ zs)
+              (f ∙ sym (append_assoc (maybe_expr_tokens e) (mark marks.Semicolon c ∷ []) vs));
+          is = is;
+          kind = tt;
+          low =
+              omega arith;
+          no_else = λ x. never x;
+        })
     returns None h = sound_value n b sb ts ts (λ e c. Simple e c) (λ e c vs f is low.
-        record { tokens = f ∙ sym (append_assoc (maybe_expr_tokens e) (mark marks.Semicolon c ∷ []) vs); is = is; kind =
-            tt; low = omega arith; no_else = λ x. never x })
+        record {
+          tokens = f ∙ sym (append_assoc (maybe_expr_tokens e) (mark marks.Semicolon c ∷ []) vs);
+          is = is;
+          kind =
+              tt;
+          low = omega arith;
+          no_else = λ x. never x;
+        })
 
     continues : (o : Reads Span) → Holds (λ at us. ts ≡ word words.Continue at ∷ us) o
         → Holds (PlainStmt n ts) (or_continue b o ts)
     continues (Some (at, us)) h = holds_then (λ c vs. us ≡ mark marks.Semicolon c ∷ vs) (PlainStmt n ts)
         (take_mark marks.Semicolon us) _ (mark_taken marks.Semicolon us) (λ c vs g.
-        record { tokens = h ∙ ap (λ zs. word words.Continue at ∷ zs) g; is = tt; kind = tt; low = omega arith; no_else =
-            λ x. never x })
+        record {
+          tokens = h ∙ ap (λ zs. word words.Continue at ∷ zs) g;
+          is = tt;
+          kind = tt;
+          low = omega arith;
+          no_else =
+              λ x. never x;
+        })
     continues None h = returns (take_word words.Return ts) (word_taken words.Return ts)
 
     breaks : (o : Reads Span) → Holds (λ at us. ts ≡ word words.Break at ∷ us) o
         → Holds (PlainStmt n ts) (or_break b o ts)
     breaks (Some (at, us)) h = holds_then (λ c vs. us ≡ mark marks.Semicolon c ∷ vs) (PlainStmt n ts)
         (take_mark marks.Semicolon us) _ (mark_taken marks.Semicolon us) (λ c vs g.
-        record { tokens = h ∙ ap (λ zs. word words.Break at ∷ zs) g; is = tt; kind = tt; low = omega arith; no_else =
-            λ x. never x })
+        record {
+          tokens = h ∙ ap (λ zs. word words.Break at ∷ zs) g;
+          is = tt;
+          kind = tt;
+          low = omega arith;
+          no_else =
+              λ x. never x;
+        })
     breaks None h = continues (take_word words.Continue ts) (word_taken words.Continue ts)
 
     switches : (o : Reads Span) → Holds (λ at us. ts ≡ word words.Switch at ∷ us) o
@@ -440,8 +474,13 @@ plain_item _ plain = tt
 as_item : (h : ℕ) (ts : List Token) (r : Reads Stmt) → Holds (SoundStmt IsPlain h ts) r
     → Holds (SoundStmt IsBlockItem h ts) r
 as_item h ts None s = tt
-as_item h ts (Some (x, us)) s = record { tokens = s.tokens; is = s.is; kind = plain_item x s.kind; low = s.low;
-    no_else = s.no_else }
+as_item h ts (Some (x, us)) s = record {
+  tokens = s.tokens;
+  is = s.is;
+  kind = plain_item x s.kind;
+  low = s.low;
+  no_else = s.no_else;
+}
 
 sound_item : (n : ℕ) (b : Below) → SoundBelow n b
     → SoundStatements IsBlockItem (suc n) (read_block_item (read_declaration b.exprs) (read_statement b))
@@ -490,16 +529,16 @@ sound_labels : (h : ℕ) (read : Reader) → SoundReader 14 h read → (ts : Lis
     → Holds (SoundLabels h ts) (read_labels read ts)
 sound_labels h read reads ts =
     holds_chain (SoundLabels h ts) (label_step read)
-        (λ a us s. cases a us s (take_word words.Case us) (word_taken words.Case us)) (length ts) [] ts
-        (record { tokens = refl; all = tt; low = omega arith })
+    (λ a us s. cases a us s (take_word words.Case us) (word_taken words.Case us)) (length ts) [] ts
+    (record { tokens = refl; all = tt; low = omega arith })
   where
     defaults : (a : List LabelTree) (us : List Token) → SoundLabels h ts a us → (o : Reads Span)
         → Holds (λ at vs. us ≡ word words.Default at ∷ vs) o → HoldsStep (SoundLabels h ts) (default_at a o)
     defaults a us s None f = tt
     defaults a us s (Some (at, vs)) f =
         step_then (λ c ws. vs ≡ mark marks.Colon c ∷ ws) (SoundLabels h ts) (take_mark marks.Colon vs) _
-            (mark_taken marks.Colon vs) (λ c ws g.
-            one_label h ts a us (Default at c) ws s (f ∙ ap (λ zs. word words.Default at ∷ zs) g) tt (omega arith))
+        (mark_taken marks.Colon vs) (λ c ws g.
+        one_label h ts a us (Default at c) ws s (f ∙ ap (λ zs. word words.Default at ∷ zs) g) tt (omega arith))
 
     cases : (a : List LabelTree) (us : List Token) → SoundLabels h ts a us → (o : Reads Span)
         → Holds (λ at vs. us ≡ word words.Case at ∷ vs) o → HoldsStep (SoundLabels h ts) (label_at read a o us)
@@ -507,19 +546,19 @@ sound_labels h read reads ts =
     cases a us s (Some (at, vs)) f =
         step_then (Sound 14 h vs) (SoundLabels h ts) (read vs) _ (reads vs) (λ e ws g.
         step_then (λ c xs. ws ≡ mark marks.Colon c ∷ xs) (SoundLabels h ts) (take_mark marks.Colon ws) _
-            (mark_taken marks.Colon ws) (λ c xs i.
+        (mark_taken marks.Colon ws) (λ c xs i.
         one_label h ts a us (Case at e c) xs s (f
-            ∙ ap (λ zs. word words.Case at ∷ zs) (g.tokens
-            ∙ (ap (λ zs. expr_tokens e ++ zs) i ∙ sym (append_assoc (expr_tokens e) (mark marks.Colon c ∷ []) xs))))
-            (g.is, g.loose) g.low))
+        ∙ ap (λ zs. word words.Case at ∷ zs) (g.tokens
+        ∙ (ap (λ zs. expr_tokens e ++ zs) i ∙ sym (append_assoc (expr_tokens e) (mark marks.Colon c ∷ []) xs))))
+        (g.is, g.loose) g.low))
 
 sound_labelled : (n : ℕ) (b : Below) → SoundBelow n b → (r : Readers) → SoundReaders (suc n) r
     → SoundStatements IsCase (suc n) (read_labelled r.conditional (read_statement b))
 sound_labelled n b sb r sr ts =
     holds_then (SoundLabels (suc n) ts) (SoundStmt IsCase (suc n) ts) (read_labels r.conditional ts) _
-        (sound_labels (suc n) r.conditional sr.conditional ts) (λ ls us f.
+    (sound_labels (suc n) r.conditional sr.conditional ts) (λ ls us f.
     holds_then (SoundStmt IsPlain (suc n) us) (SoundStmt IsCase (suc n) ts) (read_statement b us) _
-        (sound_statement n b sb us) (λ s vs g.
+    (sound_statement n b sb us) (λ s vs g.
     record {
       tokens = f.tokens ∙ (ap (λ zs. labels_tokens ls ++ zs) g.tokens
           ∙ sym (append_assoc (labels_tokens ls) (stmt_tokens s) vs));
@@ -531,19 +570,42 @@ sound_labelled n b sb r sr ts =
 
 -- ---- by height
 
-none_sound : SoundBelow 0 (record { exprs = readers 0; declaration = λ ts. None; statement = λ ts. None; item =
-    λ ts. None; labelled = λ ts. None })
-none_sound = record { exprs = sound 0; declaration = λ ts. tt; statement = λ ts. tt; item = λ ts. tt; labelled =
-    λ ts. tt }
+none_sound : SoundBelow 0 (record {
+  exprs = readers 0;
+  declaration = λ ts. None;
+  statement = λ ts. None;
+  item =
+      λ ts. None;
+  labelled = λ ts. None;
+})
+none_sound = record {
+  exprs = sound 0;
+  declaration = λ ts. tt;
+  statement = λ ts. tt;
+  item = λ ts. tt;
+  labelled =
+      λ ts. tt;
+}
 
 pub sound_below : (height : ℕ) → SoundBelow height (below_of height)
 sound_below zero =
     (let P : Below → Type 0 = λ x. SoundBelow 0 x in
-    let none : Below = record { exprs = readers 0; declaration = λ ts. None; statement = λ ts. None; item = λ ts. None;
-        labelled = λ ts. None } in
+    let none : Below = record {
+      exprs = readers 0;
+      declaration = λ ts. None;
+      statement = λ ts. None;
+      item = λ ts. None;
+      labelled = λ ts. None;
+    } in
     let e : none ≡ below_of 0 = ap (λ (r : Readers). let x : Below =
-        record { exprs = r; declaration = λ ts. None; statement = λ ts. None; item = λ ts. None; labelled =
-        λ ts. None } in x) readers-none ∙ sym below_of-none in
+    record {
+      exprs = r;
+      declaration = λ ts. None;
+      statement = λ ts. None;
+      item = λ ts. None;
+      labelled =
+          λ ts. None;
+    } in x) readers-none ∙ sym below_of-none in
     subst P e none_sound)
 sound_below (suc n) =
     (let sb = sound_below n in
@@ -577,8 +639,8 @@ block_alone (Labelled before s) us x is plain e = absurd plain
 block_alone (Simple None semicolon) us x is plain e = absurd (let wrong : None ≡ Some x = e in cc)
 block_alone (Simple (Some v) semicolon) us x is plain e =
     absurd (let none : take_mark marks.LeftBrace (stmt_tokens (Simple (Some v) semicolon) ++ us) ≡ None =
-        ap (take_mark marks.LeftBrace) (append_assoc (expr_tokens v) (mark marks.Semicolon semicolon ∷ []) us)
-        ∙ expression_no_mark marks.LeftBrace v (mark marks.Semicolon semicolon ∷ us) is refl in
+    ap (take_mark marks.LeftBrace) (append_assoc (expr_tokens v) (mark marks.Semicolon semicolon ∷ []) us)
+    ∙ expression_no_mark marks.LeftBrace v (mark marks.Semicolon semicolon ∷ us) is refl in
     let wrong : None ≡ Some x = sym none ∙ e in cc)
 block_alone (If at o c k s) us x is plain e = absurd (let wrong : None ≡ Some x = e in cc)
 block_alone (IfElse at o c k s otherwise t) us x is plain e = absurd (let wrong : None ≡ Some x = e in cc)
@@ -600,11 +662,11 @@ sound_external n b sb ts = under (take_specifiers ts).0 (take_specifiers ts).1 (
     declared : (ss : List Specifier) (us : List Token) → IsSpecifiers ss → ts ≡ specifiers_tokens ss ++ us
         → (d : DeclaratorTree) (vs : List Token) → One declarator_tokens (IsLowDeclarator n) us d vs →
         Holds (One external_tokens (IsLowExternal (suc n)) ts)
-            (then_read (declaration_behind b.exprs ss d vs) (λ x ws. Some (DeclaredTree x, ws)))
+        (then_read (declaration_behind b.exprs ss d vs) (λ x ws. Some (DeclaredTree x, ws)))
     declared ss us is h d vs g =
         holds_then (One declaration_tokens (IsLowDeclaration (suc n)) ts)
-            (One external_tokens (IsLowExternal (suc n)) ts) (declaration_behind b.exprs ss d vs) _
-            (sound_declaration_behind n b.exprs sb.exprs ts ss us d vs is h g) (λ x ws k. (k.0, k.1))
+        (One external_tokens (IsLowExternal (suc n)) ts) (declaration_behind b.exprs ss d vs) _
+        (sound_declaration_behind n b.exprs sb.exprs ts ss us d vs is h g) (λ x ws k. (k.0, k.1))
 
     by_part : (ss : List Specifier) (us : List Token) → IsSpecifiers ss → ts ≡ specifiers_tokens ss ++ us
         → (d : DeclaratorTree) (vs : List Token) → One declarator_tokens (IsLowDeclarator n) us d vs → (x : Bool)
@@ -614,13 +676,22 @@ sound_external n b sb ts = under (take_specifiers ts).0 (take_specifiers ts).1 (
     by_part ss us is h d vs g true e None f = declared ss us is h d vs g
     by_part ss us is h d vs g true e (Some (o, ws)) f =
         holds_then (SoundStmt IsPlain n vs) (One external_tokens (IsLowExternal (suc n)) ts) (b.statement vs) _
-            (sb.statement vs) (λ s xs k. (
+        (sb.statement vs) (λ s xs k. (
           h ∙ (ap (λ zs. specifiers_tokens ss ++ zs)
               (g.0 ∙ (ap (λ zs. declarator_tokens d ++ zs) k.tokens
               ∙ sym (append_assoc (declarator_tokens d) (stmt_tokens s) xs)))
               ∙ sym (append_assoc (specifiers_tokens ss) (declarator_tokens d ++ stmt_tokens s) xs)),
-          ((is, g.1.0, has_part d.part e, k.is, block_alone s xs (o, ws) k.is k.kind
-              (ap (take_mark marks.LeftBrace) (sym k.tokens) ∙ f)), omega (arith, g.1.1, k.low)),
+          (
+            (
+              is,
+              g.1.0,
+              has_part d.part e,
+              k.is,
+              block_alone s xs (o, ws) k.is k.kind
+                  (ap (take_mark marks.LeftBrace) (sym k.tokens) ∙ f),
+            ),
+            omega (arith, g.1.1, k.low),
+          ),
         ))
 
     under : (ss : List Specifier) (us : List Token) → ts ≡ specifiers_tokens ss ++ us
@@ -628,7 +699,7 @@ sound_external n b sb ts = under (take_specifiers ts).0 (take_specifiers ts).1 (
     under [] us h = tt
     under (s ∷ ss) us h =
         holds_then (One declarator_tokens (IsLowDeclarator n) us) (One external_tokens (IsLowExternal (suc n)) ts)
-            (read_declarator b.exprs us) _ (sound_declarator n b.exprs sb.exprs us) (λ d vs g.
+        (read_declarator b.exprs us) _ (sound_declarator n b.exprs sb.exprs us) (λ d vs g.
         by_part (s ∷ ss) us tt h d vs g (has_parameters d.part) refl (take_mark marks.LeftBrace vs) refl)
 
 record SoundUnit (h : ℕ) (ts : List Token) (es : List ExternalTree) (us : List Token) : Type 0 where
@@ -657,7 +728,7 @@ sound_unit_step : (n : ℕ) (b : Below) → SoundBelow n b → (ts : List Token)
 sound_unit_step n b sb ts a [] s = tt
 sound_unit_step n b sb ts a (t ∷ us) s =
     step_then (One external_tokens (IsLowExternal (suc n)) (t ∷ us)) (SoundUnit (suc n) ts) (read_external b (t ∷ us)) _
-        (sound_external n b sb (t ∷ us)) (λ e vs g.
+    (sound_external n b sb (t ∷ us)) (λ e vs g.
     record {
       tokens = s.tokens ∙ (ap (λ zs. unit_tokens a ++ zs) g.0
           ∙ (sym (append_assoc (unit_tokens a) (external_tokens e) vs) ∙ ap (λ zs. zs ++ vs) (sym (unit_push a e))));
@@ -674,6 +745,9 @@ sound_unit n ts = holds_chain (SoundUnit (suc n) ts) (unit_step (below_of n))
 pub unit_sound : (n : ℕ) (ts : List Token) (es : List ExternalTree) → read_unit (below_of n) ts ≡ Some (es, [])
     → (h : ℕ) × (h ≤ suc n) × Tree ts h es
 unit_sound n ts es e =
-    (let s : SoundUnit (suc n) ts es [] = subst (λ r. Holds (SoundUnit (suc n) ts) r) e (sound_unit n ts) in
-    (greatest external_height es, s.low, record
-        { is = s.all; tokens_are = s.tokens ∙ append_nil (unit_tokens es); height_is = refl }))
+    (let s : SoundUnit (suc n) ts es [] = subst (λ r. Holds (SoundUnit (suc n) ts) r) e (sound_unit n ts) in (
+      greatest external_height es,
+      s.low,
+      record
+          { is = s.all; tokens_are = s.tokens ∙ append_nil (unit_tokens es); height_is = refl },
+    ))

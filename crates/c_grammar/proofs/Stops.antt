@@ -82,8 +82,8 @@ stops_tighter c d (t ∷ ts) s h = omega arith
 not_mark : (m : Punct) (c : ℕ) (kind : TokenKind) → c < joins kind → mark_joins m ≤ c → is_mark m kind ≡ false
 not_mark m c (kinds.Mark n) s h =
     false_same the_marks tt m n (λ (e : m ≡ n).
-        absurd (let P : Punct → Type 0 = λ x. mark_joins x ≤ c in let g : mark_joins n ≤ c = subst P e h in
-        omega arith))
+    absurd (let P : Punct → Type 0 = λ x. mark_joins x ≤ c in let g : mark_joins n ≤ c = subst P e h in
+    omega arith))
 not_mark m c (kinds.Text bytes) s h = refl
 not_mark m c (kinds.Word w) s h = refl
 not_mark m c (kinds.Ident name) s h = refl

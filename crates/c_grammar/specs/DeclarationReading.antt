@@ -55,8 +55,8 @@ maybe_before read close ts = maybe_from read (take_mark close ts) ts
 abbrev pub array_behind : Readers → Span → List Token → Reads ArrayTree
 array_behind below o ts =
     then_read (maybe_before below.conditional marks.RightBracket ts)
-        (λ size us. then_read (take_mark marks.RightBracket us)
-        (λ c vs. Some (record { opening = o; size = size; close = c }, vs)))
+    (λ size us. then_read (take_mark marks.RightBracket us)
+    (λ c vs. Some (record { opening = o; size = size; close = c }, vs)))
 
 abbrev pub maybe_array_from : Readers → Reads Span → List Token → Reads (Option ArrayTree)
 maybe_array_from below None ts = Some (None, ts)
@@ -69,7 +69,7 @@ abbrev pub parameter_named : Readers → List Specifier → Option Star → Opti
     → Reads ParameterTree
 parameter_named below ss pointer name =
     then_read (read_maybe_array below name.1)
-        (λ a vs. Some (record { specifiers = ss; pointer = pointer; name = name.0; array = a }, vs))
+    (λ a vs. Some (record { specifiers = ss; pointer = pointer; name = name.0; array = a }, vs))
 
 abbrev pub parameter_behind : Readers → List Specifier → Option Star × List Token → Reads ParameterTree
 parameter_behind below ss pointer = parameter_named below ss pointer.0 (take_name pointer.1)
@@ -91,8 +91,8 @@ read_parameters below ts = parameters_from below (take_mark marks.RightParen ts)
 abbrev pub parameters_behind : Readers → Span → List Token → Reads ParametersTree
 parameters_behind below o ts =
     then_read (read_parameters below ts) (λ ps us.
-        then_read (take_mark marks.RightParen us)
-        (λ c vs. Some (record { opening = o; parameters = ps.0; commas = ps.1; close = c }, vs)))
+    then_read (take_mark marks.RightParen us)
+    (λ c vs. Some (record { opening = o; parameters = ps.0; commas = ps.1; close = c }, vs)))
 
 abbrev pub part_in_parens : Readers → Reads Span → List Token → Reads PartTree
 part_in_parens below None ts = Some (Plain, ts)
@@ -146,7 +146,7 @@ braces_end o values comma = then_read (take_mark marks.RightBrace comma.1)
 abbrev pub braces_behind : Readers → Span → List Token → Reads InitialiserTree
 braces_behind below o ts =
     then_read (below.assignment ts) (λ e us. then_read (chained (brace_step below) (e ∷ [], []) us)
-        (λ values vs. braces_end o values (take_comma vs)))
+    (λ values vs. braces_end o values (take_comma vs)))
 
 abbrev pub initialiser_from : Readers → Reads Span → List Token → Reads InitialiserTree
 initialiser_from below None ts = then_read (below.assignment ts) (λ e us. Some (Single e, us))
@@ -173,10 +173,12 @@ read_item below ts = then_read (read_declarator below ts) (λ d us. item_behind 
 abbrev pub declaration_behind : Readers → List Specifier → DeclaratorTree → List Token → Reads DeclarationTree
 declaration_behind below ss d ts =
     then_read (item_behind below d ts) (λ i us.
-        then_read (read_more (read_item below) i us)
-        (λ items vs. then_read (take_mark marks.Semicolon vs)
-        (λ semicolon ws. Some (record { specifiers = ss; items = items.0; commas = items.1; semicolon = semicolon },
-        ws))))
+    then_read (read_more (read_item below) i us)
+    (λ items vs. then_read (take_mark marks.Semicolon vs)
+    (λ semicolon ws. Some (
+      record { specifiers = ss; items = items.0; commas = items.1; semicolon = semicolon },
+      ws,
+    ))))
 
 abbrev pub declaration_with : Readers → List Specifier → List Token → Reads DeclarationTree
 declaration_with below [] us = None

@@ -73,7 +73,7 @@ abbrev pub initialiser_tokens : InitialiserTree → List Token
 initialiser_tokens (Single e) = expr_tokens e
 initialiser_tokens (Braces o values commas trailing c) =
     mark marks.LeftBrace o ∷ (exprs_tokens values commas
-        ++ (maybe_comma_tokens trailing ++ mark marks.RightBrace c ∷ []))
+    ++ (maybe_comma_tokens trailing ++ mark marks.RightBrace c ∷ []))
 
 abbrev pub value_tokens : Option ValueTree → List Token
 value_tokens None = []

@@ -86,12 +86,22 @@ maybe_array_of None = None
 maybe_array_of (Some a) = Some (array_of a)
 
 abbrev pub parameter_of : Parameter → ParameterTree
-parameter_of p = record { specifiers = p.specifiers.items; pointer = star_of p.pointer; name = p.name; array =
-    maybe_array_of p.array }
+parameter_of p = record {
+  specifiers = p.specifiers.items;
+  pointer = star_of p.pointer;
+  name = p.name;
+  array =
+      maybe_array_of p.array;
+}
 
 abbrev pub parameters_of : ParametersPart → ParametersTree
-parameters_of p = record { opening = p.opening; parameters = map parameter_of p.parameters.items; commas =
-    p.commas.items; close = p.close }
+parameters_of p = record {
+  opening = p.opening;
+  parameters = map parameter_of p.parameters.items;
+  commas =
+      p.commas.items;
+  close = p.close;
+}
 
 abbrev pub part_of : DeclaratorPart → PartTree
 part_of parts.Plain = Plain
@@ -114,5 +124,9 @@ abbrev pub item_of : Item → ItemTree
 item_of i = record { declarator = declarator_of i.declarator; initialiser = value_of i.initialiser }
 
 abbrev pub declaration_of : Declaration → DeclarationTree
-declaration_of d = record { specifiers = d.specifiers.items; items = map item_of d.items.items; commas = d.commas.items;
-    semicolon = d.semicolon }
+declaration_of d = record {
+  specifiers = d.specifiers.items;
+  items = map item_of d.items.items;
+  commas = d.commas.items;
+  semicolon = d.semicolon;
+}

@@ -58,12 +58,12 @@ abbrev pub call_from : Readers → Ident → Reads Span → List Token → Reads
 call_from below f None ts = Some (Identifier f, ts)
 call_from below f (Some (o, us)) ts =
     then_read (read_arguments below us) (λ values vs.
-        then_read (take_mark marks.RightParen vs) (λ c ws. Some (Call f o (exprs_of values.0) values.1 c, ws)))
+    then_read (take_mark marks.RightParen vs) (λ c ws. Some (Call f o (exprs_of values.0) values.1 c, ws)))
 
 abbrev pub parenthesised_from : Readers → Span → List Token → Reads Expr
 parenthesised_from below o ts =
     then_read (below.expression ts) (λ e us. then_read (take_mark marks.RightParen us)
-        (λ c vs. Some (Parenthesised o e c, vs)))
+    (λ c vs. Some (Parenthesised o e c, vs)))
 
 abbrev pub text_from : TextPiece → List TextPiece × List Token → Reads Expr
 text_from first others = Some (Text (first ∷ others.0), others.1)
@@ -86,7 +86,7 @@ read_primary below (t ∷ ts) = primary_at below t.kind t.at ts
 abbrev pub index_from : ℕ → Readers → Expr → Span → List Token → Step Expr
 index_from height below base o ts =
     if nat_lt (expr_height base) height then then_step (below.expression ts)
-        (λ e us. then_step (take_mark marks.RightBracket us) (λ c vs. Goes (Index base o e c) vs)) else Fails
+    (λ e us. then_step (take_mark marks.RightBracket us) (λ c vs. Goes (Index base o e c) vs)) else Fails
 
 abbrev pub postfix_from : ℕ → Expr → Reads (StepOp × Span) → Step Expr
 postfix_from height base None = Done
@@ -119,7 +119,7 @@ read_unary height below ts = prefix_from height below (take_step ts) ts
 abbrev pub cast_behind : Readers → Span → List Specifier → Option Star × List Token → Reads Expr
 cast_behind below o specifiers pointer =
     then_read (take_mark marks.RightParen pointer.1)
-        (λ c vs. then_read (below.cast vs) (λ e ws. Some (Cast o specifiers pointer.0 c e, ws)))
+    (λ c vs. then_read (below.cast vs) (λ e ws. Some (Cast o specifiers pointer.0 c e, ws)))
 
 abbrev pub cast_with : ℕ → Readers → Span → List Specifier → List Token → List Token → Reads Expr
 cast_with height below o [] us ts = read_unary height below ts
@@ -157,19 +157,19 @@ abbrev pub conditional_from : ℕ → Readers → Expr → Reads Span → List T
 conditional_from height below c None ts = Some (c, ts)
 conditional_from height below c (Some (q, us)) ts =
     if nat_lt (expr_height c) height then then_read (below.expression us)
-        (λ f vs. then_read (take_mark marks.Colon vs)
-        (λ k ws. then_read (below.conditional ws) (λ s xs. Some (Conditional c q f k s, xs)))) else None
+    (λ f vs. then_read (take_mark marks.Colon vs)
+    (λ k ws. then_read (below.conditional ws) (λ s xs. Some (Conditional c q f k s, xs)))) else None
 
 abbrev pub read_conditional : ℕ → Readers → List Token → Reads Expr
 read_conditional height below ts =
     then_read (read_binary height below 10 ts)
-        (λ c us. conditional_from height below c (take_mark marks.Question us) us)
+    (λ c us. conditional_from height below c (take_mark marks.Question us) us)
 
 abbrev pub assignment_from : ℕ → Readers → Expr → Reads (AssignOp × Span) → List Token → Reads Expr
 assignment_from height below l None ts = Some (l, ts)
 assignment_from height below l (Some (op, us)) ts =
     if nat_le (looseness l) 2 && nat_lt (expr_height l) height then then_read (below.assignment us)
-        (λ r vs. Some (Assignment op.0 l op.1 r, vs)) else None
+    (λ r vs. Some (Assignment op.0 l op.1 r, vs)) else None
 
 abbrev pub read_assignment : ℕ → Readers → List Token → Reads Expr
 read_assignment height below ts =
@@ -187,8 +187,14 @@ abbrev no_binary : ℕ → Reader
 no_binary k ts = None
 
 abbrev pub no_readers : Readers
-no_readers = record { expression = no_reader; assignment = no_reader; conditional = no_reader; binary = no_binary;
-    cast = no_reader; unary = no_reader }
+no_readers = record {
+  expression = no_reader;
+  assignment = no_reader;
+  conditional = no_reader;
+  binary = no_binary;
+  cast = no_reader;
+  unary = no_reader;
+}
 
 -- the readers for a height, by those for one less
 abbrev pub readers_over : ℕ → Readers → Readers

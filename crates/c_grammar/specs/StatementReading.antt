@@ -35,8 +35,8 @@ Condition = Span × Expr × Span
 abbrev pub read_condition : Below → List Token → Reads Condition
 read_condition b ts =
     then_read (take_mark marks.LeftParen ts) (λ o us.
-        then_read (b.exprs.expression us) (λ e vs.
-        then_read (take_mark marks.RightParen vs) (λ c ws. Some ((o, e, c), ws))))
+    then_read (b.exprs.expression us) (λ e vs.
+    then_read (take_mark marks.RightParen vs) (λ c ws. Some ((o, e, c), ws))))
 
 abbrev pub until_at : StmtReader → List Stmt → Reads Span → List Token → Step (List Stmt)
 until_at read so_far (Some close) ts = Done
@@ -100,9 +100,9 @@ while_behind b at ts = then_read (read_condition b ts)
 abbrev pub do_behind : Below → Span → List Token → Reads Stmt
 do_behind b at ts =
     then_read (b.statement ts) (λ s us. then_read (take_word words.While us)
-        (λ until vs. then_read (read_condition b vs)
-        (λ k ws. then_read (take_mark marks.Semicolon ws)
-        (λ semicolon xs. Some (Do at s until k.0 k.1 k.2 semicolon, xs)))))
+    (λ until vs. then_read (read_condition b vs)
+    (λ k ws. then_read (take_mark marks.Semicolon ws)
+    (λ semicolon xs. Some (Do at s until k.0 k.1 k.2 semicolon, xs)))))
 
 abbrev pub ForRest : Type 0
 ForRest = Option Expr × Span × Option Expr × Span × Stmt
@@ -111,16 +111,16 @@ ForRest = Option Expr × Span × Option Expr × Span × Stmt
 abbrev pub read_for_rest : Below → List Token → Reads ForRest
 read_for_rest b ts =
     then_read (maybe_before b.exprs.expression marks.Semicolon ts)
-        (λ k us. then_read (take_mark marks.Semicolon us)
-        (λ second vs. then_read (maybe_before b.exprs.expression marks.RightParen vs)
-        (λ step ws. then_read (take_mark marks.RightParen ws)
-        (λ c xs. then_read (b.statement xs) (λ s ys. Some ((k, second, step, c, s), ys))))))
+    (λ k us. then_read (take_mark marks.Semicolon us)
+    (λ second vs. then_read (maybe_before b.exprs.expression marks.RightParen vs)
+    (λ step ws. then_read (take_mark marks.RightParen ws)
+    (λ c xs. then_read (b.statement xs) (λ s ys. Some ((k, second, step, c, s), ys))))))
 
 abbrev pub for_with : Below → Span → Span → List Specifier → List Token → Reads Stmt
 for_with b at o [] ts =
     then_read (maybe_before b.exprs.expression marks.Semicolon ts)
-        (λ start us. then_read (take_mark marks.Semicolon us)
-        (λ first vs. then_read (read_for_rest b vs) (λ r ws. Some (For at o start first r.0 r.1 r.2 r.3 r.4, ws))))
+    (λ start us. then_read (take_mark marks.Semicolon us)
+    (λ first vs. then_read (read_for_rest b vs) (λ r ws. Some (For at o start first r.0 r.1 r.2 r.3 r.4, ws))))
 for_with b at o (s ∷ ss) ts = then_read (b.declaration ts)
     (λ d us. then_read (read_for_rest b us) (λ r vs. Some (ForDeclaration at o d r.0 r.1 r.2 r.3 r.4, vs)))
 
@@ -130,9 +130,9 @@ for_behind b at ts = then_read (take_mark marks.LeftParen ts) (λ o us. for_with
 abbrev pub switch_behind : Below → Span → List Token → Reads Stmt
 switch_behind b at ts =
     then_read (read_condition b ts) (λ k us. then_read (take_mark marks.LeftBrace us)
-        (λ begin vs. then_read (read_until b.labelled vs)
-        (λ ss ws. then_read (take_mark marks.RightBrace ws)
-        (λ end xs. Some (Switch at k.0 k.1 k.2 begin (stmts_of ss) end, xs)))))
+    (λ begin vs. then_read (read_until b.labelled vs)
+    (λ ss ws. then_read (take_mark marks.RightBrace ws)
+    (λ end xs. Some (Switch at k.0 k.1 k.2 begin (stmts_of ss) end, xs)))))
 
 abbrev pub break_behind : Span → List Token → Reads Stmt
 break_behind at ts = then_read (take_mark marks.Semicolon ts) (λ semicolon us. Some (Break at semicolon, us))
@@ -143,12 +143,12 @@ continue_behind at ts = then_read (take_mark marks.Semicolon ts) (λ semicolon u
 abbrev pub return_behind : Below → Span → List Token → Reads Stmt
 return_behind b at ts =
     then_read (maybe_before b.exprs.expression marks.Semicolon ts)
-        (λ e us. then_read (take_mark marks.Semicolon us) (λ semicolon vs. Some (Return at e semicolon, vs)))
+    (λ e us. then_read (take_mark marks.Semicolon us) (λ semicolon vs. Some (Return at e semicolon, vs)))
 
 abbrev pub read_simple : Below → List Token → Reads Stmt
 read_simple b ts =
     then_read (maybe_before b.exprs.expression marks.Semicolon ts)
-        (λ e us. then_read (take_mark marks.Semicolon us) (λ semicolon vs. Some (Simple e semicolon, vs)))
+    (λ e us. then_read (take_mark marks.Semicolon us) (λ semicolon vs. Some (Simple e semicolon, vs)))
 
 -- ---- which statement
 
@@ -200,8 +200,14 @@ abbrev no_statement : StmtReader
 no_statement ts = None
 
 abbrev pub nothing_below : Below
-nothing_below = record { exprs = no_readers; declaration = no_declaration; statement = no_statement; item =
-    no_statement; labelled = no_statement }
+nothing_below = record {
+  exprs = no_readers;
+  declaration = no_declaration;
+  statement = no_statement;
+  item =
+      no_statement;
+  labelled = no_statement;
+}
 
 -- the readers for a height, by those for one less
 abbrev pub below_over : ℕ → Below → Below

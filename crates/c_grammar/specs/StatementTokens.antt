@@ -46,13 +46,13 @@ abbrev mutual
       ∷ in_parens o e c (mark marks.Semicolon semicolon ∷ []))
   stmt_tokens (For at o start first condition second step c s) =
       word words.For at ∷ mark marks.LeftParen o
-          ∷ (maybe_expr_tokens start ++ mark marks.Semicolon first
-          ∷ (maybe_expr_tokens condition ++ mark marks.Semicolon second
-          ∷ (maybe_expr_tokens step ++ mark marks.RightParen c ∷ stmt_tokens s)))
+      ∷ (maybe_expr_tokens start ++ mark marks.Semicolon first
+      ∷ (maybe_expr_tokens condition ++ mark marks.Semicolon second
+      ∷ (maybe_expr_tokens step ++ mark marks.RightParen c ∷ stmt_tokens s)))
   stmt_tokens (ForDeclaration at o start condition second step c s) =
       word words.For at ∷ mark marks.LeftParen o
-          ∷ (declaration_tokens start ++ (maybe_expr_tokens condition ++ mark marks.Semicolon second
-          ∷ (maybe_expr_tokens step ++ mark marks.RightParen c ∷ stmt_tokens s)))
+      ∷ (declaration_tokens start ++ (maybe_expr_tokens condition ++ mark marks.Semicolon second
+      ∷ (maybe_expr_tokens step ++ mark marks.RightParen c ∷ stmt_tokens s)))
   stmt_tokens (Break at semicolon) = word words.Break at ∷ mark marks.Semicolon semicolon ∷ []
   stmt_tokens (Continue at semicolon) = word words.Continue at ∷ mark marks.Semicolon semicolon ∷ []
   stmt_tokens (Return at e semicolon) = word words.Return at
@@ -81,10 +81,10 @@ abbrev mutual
   stmt_height (Do at s until o e c semicolon) = suc (max (stmt_height s) (expr_height e))
   stmt_height (For at o start first condition second step c s) =
       suc (max (maybe_expr_height start) (max (maybe_expr_height condition)
-          (max (maybe_expr_height step) (stmt_height s))))
+      (max (maybe_expr_height step) (stmt_height s))))
   stmt_height (ForDeclaration at o start condition second step c s) =
       suc (max (declaration_height start) (max (maybe_expr_height condition)
-          (max (maybe_expr_height step) (stmt_height s))))
+      (max (maybe_expr_height step) (stmt_height s))))
   stmt_height (Break at semicolon) = 1
   stmt_height (Continue at semicolon) = 1
   stmt_height (Return at e semicolon) = suc (maybe_expr_height e)

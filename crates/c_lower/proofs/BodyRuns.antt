@@ -128,16 +128,16 @@ module _ (variables locals : ℕ) (ops : List Op) (shown listing : Listing) (cal
       → Runs turns (Next s others) p before values left_turns left taken written visits
   then_others s others statement p q turns left_turns before after values values' left taken written written' visits
       matches does leads (o, runs, same) = (
-    after_visits (visit shown (at p before left taken written) statement ∷ []) o,
-    leads o runs,
-    ap (λ (v : Visit). after_visits visits (after_visits (v ∷ []) o))
-        (same_visit statement p values before left taken written matches)
-        ∙ after-assoc visits (seen statement values) o
-        ∙ same
-        ∙ sym (goes_on s others (running arrays objects left_turns left taken written visits values)
+        after_visits (visit shown (at p before left taken written) statement ∷ []) o,
+        leads o runs,
+        ap (λ (v : Visit). after_visits visits (after_visits (v ∷ []) o))
+            (same_visit statement p values before left taken written matches)
+            ∙ after-assoc visits (seen statement values) o
+            ∙ same
+            ∙ sym (goes_on s others (running arrays objects left_turns left taken written visits values)
             (running arrays objects left_turns left taken written' (visits ++ seen statement values ∷ []) values')
             does),
-  )
+      )
 
   pub body_runs : (ss : Statements) (declared number p turns left_turns : ℕ) (values : List Held) (before : List Value)
       (left : List ℕ) (taken : ℕ) (written : List ℕ) (visits : List Visit) → IsBody locals declared number ss
@@ -153,7 +153,7 @@ module _ (variables locals : ℕ) (ops : List Op) (shown listing : Listing) (cal
       let mine = op.Mark n ∷ op.Const v (pos 0) ∷ (cs ++ op.Copy v locals ∷ []) in
       let len : length mine ≡ length cs + 3 = omega (arith, length-append cs (op.Copy v locals ∷ [])) in
       let all : length (mine ++ body_ops locals others) ≡ length mine + length (body_ops locals others) =
-          length-append mine (body_ops locals others) in
+      length-append mine (body_ops locals others) in
       let here = has_front ops p mine (body_ops locals others) has in
       let there = has_back ops p mine (body_ops locals others) has in
       let values1 = slice_set values v (HoldsNumber (pos 0)) in
@@ -161,40 +161,40 @@ module _ (variables locals : ℕ) (ops : List Op) (shown listing : Listing) (cal
       let matches1 = match-set locals variables v (pos 0) values before below (omega (arith, room)) wide long matches in
       let long1 : length before1 ≡ variables = length-set before v (Number (pos 0)) ∙ long in
       let put = sum_puts variables ops shown e locals locals (suc (suc p)) values1 before1 sum
-          (has_front ops (suc (suc p)) cs (op.Copy v locals ∷ []) here.1.1) (omega (arith, end, all, len, positive))
-          (omega arith) (omega (arith, room)) long1 matches1 in
+      (has_front ops (suc (suc p)) cs (op.Copy v locals ∷ []) here.1.1) (omega (arith, end, all, len, positive))
+      (omega arith) (omega (arith, room)) long1 matches1 in
       let z = sum_value values1 e in
       let q = suc (suc p) + length cs in
       let copy = (has_back ops (suc (suc p)) cs (op.Copy v locals ∷ []) here.1.1).0 in
       let next : p + length mine ≡ suc q = omega (arith, len) in
       let wide1 : length values1 ≡ locals = length-set values v (HoldsNumber (pos 0)) ∙ wide in
       let matches2 = match-set locals variables v z values1 put.after below (omega (arith, room)) wide1 put.long
-          (matches-kept variables ops shown locals locals values1 before1 put.after (omega arith) matches1 put.kept) in
+      (matches-kept variables ops shown locals locals values1 before1 put.after (omega arith) matches1 put.kept) in
       let rest = body_runs others (suc declared) (suc number) (suc q) turns left_turns
-          (slice_set values1 v (HoldsNumber z)) (slice_set put.after v (Number z)) left taken written
-          (visits ++ seen n values ∷ []) is.4 (omega (arith, is.2))
-          (subst (λ (k : ℕ). HasAt ops k (body_ops locals others)) next there) (omega (arith, end, all, next))
-          (omega (arith, room)) (length-set put.after v (Number z) ∙ put.long)
-          (length-set values1 v (HoldsNumber z) ∙ wide1) matches2 in
+      (slice_set values1 v (HoldsNumber z)) (slice_set put.after v (Number z)) left taken written
+      (visits ++ seen n values ∷ []) is.4 (omega (arith, is.2))
+      (subst (λ (k : ℕ). HasAt ops k (body_ops locals others)) next there) (omega (arith, end, all, next))
+      (omega (arith, room)) (length-set put.after v (Number z) ∙ put.long)
+      (length-set values1 v (HoldsNumber z) ∙ wide1) matches2 in
       then_others (Declare (Scalar n v (Some e))) others n p (suc q) turns left_turns before
-          (slice_set put.after v (Number z)) values (slice_set values1 v (HoldsNumber z)) left taken written written
-          visits matches
+      (slice_set put.after v (Number z)) values (slice_set values1 v (HoldsNumber z)) left taken written written
+      visits matches
       (
       ap (λ (t : ValueType). and_then (initialise_local calls v t (Some e)
-          (with_local v (zero_of t) (visited listing n
-          (running arrays objects left_turns left taken written visits values)))) (λ done s. Gives Falls s))
-          (typed v below)
+      (with_local v (zero_of t) (visited listing n
+      (running arrays objects left_turns left taken written visits values)))) (λ done s. Gives Falls s))
+      (typed v below)
       ∙ ap (λ (r : Evaluated Held). and_then (and_then r (λ x s. Gives tt (with_local v (in_type int x) s)))
-          (λ done s. Gives Falls s)) (sum_gives calls e locals arrays objects left_turns left taken written
-          (visits ++ seen n values ∷ []) values1 before1 sum matches1)
+      (λ done s. Gives Falls s)) (sum_gives calls e locals arrays objects left_turns left taken written
+      (visits ++ seen n values ∷ []) values1 before1 sum matches1)
       )
       (λ o r.
       mark_step variables ops shown p n turns before left taken written o here.0 (omega (arith, end, all, len))
       (const_step variables ops shown (suc p) v turns (pos 0) before left taken written o here.1.0
-          (omega (arith, end, all, len)) (omega (arith, below, room))
+      (omega (arith, end, all, len)) (omega (arith, below, room))
       (put.leads turns left taken written o
       (copy_step variables ops shown q v locals turns (Number z) put.after left taken written o copy
-          (omega (arith, end, all, len, positive)) put.result r))))
+      (omega (arith, end, all, len, positive)) put.result r))))
       rest
   body_runs (Next (Evaluate n (Assign (Integer Int) (LocalPlace v) e)) others) declared number p turns left_turns values
       before left taken written visits is fewer has end room long wide matches =
@@ -205,34 +205,34 @@ module _ (variables locals : ℕ) (ops : List Op) (shown listing : Listing) (cal
       let mine = op.Mark n ∷ (cs ++ op.Copy v locals ∷ []) in
       let len : length mine ≡ length cs + 2 = omega (arith, length-append cs (op.Copy v locals ∷ [])) in
       let all : length (mine ++ body_ops locals others) ≡ length mine + length (body_ops locals others) =
-          length-append mine (body_ops locals others) in
+      length-append mine (body_ops locals others) in
       let here = has_front ops p mine (body_ops locals others) has in
       let there = has_back ops p mine (body_ops locals others) has in
       let put = sum_puts variables ops shown e locals locals (suc p) values before sum
-          (has_front ops (suc p) cs (op.Copy v locals ∷ []) here.1) (omega (arith, end, all, len, positive))
-          (omega arith) (omega (arith, room)) long matches in
+      (has_front ops (suc p) cs (op.Copy v locals ∷ []) here.1) (omega (arith, end, all, len, positive))
+      (omega arith) (omega (arith, room)) long matches in
       let z = sum_value values e in
       let q = suc p + length cs in
       let copy = (has_back ops (suc p) cs (op.Copy v locals ∷ []) here.1).0 in
       let next : p + length mine ≡ suc q = omega (arith, len) in
       let matches2 = match-set locals variables v z values put.after below (omega (arith, room)) wide put.long
-          (matches-kept variables ops shown locals locals values before put.after (omega arith) matches put.kept) in
+      (matches-kept variables ops shown locals locals values before put.after (omega arith) matches put.kept) in
       let rest = body_runs others declared (suc number) (suc q) turns left_turns (slice_set values v (HoldsNumber z))
-          (slice_set put.after v (Number z)) left taken written (visits ++ seen n values ∷ []) is.3 fewer
-          (subst (λ (k : ℕ). HasAt ops k (body_ops locals others)) next there) (omega (arith, end, all, next))
-          (omega (arith, room)) (length-set put.after v (Number z) ∙ put.long)
-          (length-set values v (HoldsNumber z) ∙ wide) matches2 in
+      (slice_set put.after v (Number z)) left taken written (visits ++ seen n values ∷ []) is.3 fewer
+      (subst (λ (k : ℕ). HasAt ops k (body_ops locals others)) next there) (omega (arith, end, all, next))
+      (omega (arith, room)) (length-set put.after v (Number z) ∙ put.long)
+      (length-set values v (HoldsNumber z) ∙ wide) matches2 in
       then_others (Evaluate n (Assign (Integer Int) (LocalPlace v) e)) others n p (suc q) turns left_turns before
-          (slice_set put.after v (Number z)) values (slice_set values v (HoldsNumber z)) left taken written written
-          visits matches
+      (slice_set put.after v (Number z)) values (slice_set values v (HoldsNumber z)) left taken written written
+      visits matches
       (ap (λ (r : Evaluated Held). and_then (and_then r (λ x s. store (InLocal v) (in_type int x) s))
-          (λ x s. Gives Falls s)) (sum_gives calls e locals arrays objects left_turns left taken written
-          (visits ++ seen n values ∷ []) values before sum matches))
+      (λ x s. Gives Falls s)) (sum_gives calls e locals arrays objects left_turns left taken written
+      (visits ++ seen n values ∷ []) values before sum matches))
       (λ o r.
       mark_step variables ops shown p n turns before left taken written o here.0 (omega (arith, end, all, len))
       (put.leads turns left taken written o
       (copy_step variables ops shown q v locals turns (Number z) put.after left taken written o copy
-          (omega (arith, end, all, len, positive)) put.result r)))
+      (omega (arith, end, all, len, positive)) put.result r)))
       rest
   body_runs (Next (Evaluate n (Putchar e)) others) declared number p turns left_turns values before left taken written
       visits is fewer has end room long wide matches =
@@ -242,35 +242,35 @@ module _ (variables locals : ℕ) (ops : List Op) (shown listing : Listing) (cal
       let mine = op.Mark n ∷ (cs ++ op.Putchar locals locals ∷ []) in
       let len : length mine ≡ length cs + 2 = omega (arith, length-append cs (op.Putchar locals locals ∷ [])) in
       let all : length (mine ++ body_ops locals others) ≡ length mine + length (body_ops locals others) =
-          length-append mine (body_ops locals others) in
+      length-append mine (body_ops locals others) in
       let here = has_front ops p mine (body_ops locals others) has in
       let there = has_back ops p mine (body_ops locals others) has in
       let put_at = sum_puts variables ops shown e locals locals (suc p) values before sum
-          (has_front ops (suc p) cs (op.Putchar locals locals ∷ []) here.1) (omega (arith, end, all, len, positive))
-          (omega arith) (omega (arith, room)) long matches in
+      (has_front ops (suc p) cs (op.Putchar locals locals ∷ []) here.1) (omega (arith, end, all, len, positive))
+      (omega arith) (omega (arith, room)) long matches in
       let z = sum_value values e in
       let q = suc p + length cs in
       let putchar = (has_back ops (suc p) cs (op.Putchar locals locals ∷ []) here.1).0 in
       let next : p + length mine ≡ suc q = omega (arith, len) in
       let after = slice_set put_at.after locals (Number (pos (low_byte z))) in
       let matches2 = match-temporary locals locals (Number (pos (low_byte z))) values put_at.after (omega arith)
-          (matches-kept variables ops shown locals locals values before put_at.after (omega arith) matches put_at.kept)
-          in
+      (matches-kept variables ops shown locals locals values before put_at.after (omega arith) matches put_at.kept)
+      in
       let rest = body_runs others declared (suc number) (suc q) turns left_turns values after left taken
-          (written ++ low_byte z ∷ []) (visits ++ seen n values ∷ []) is.2 fewer
-          (subst (λ (k : ℕ). HasAt ops k (body_ops locals others)) next there) (omega (arith, end, all, next))
-          (omega (arith, room)) (length-set put_at.after locals (Number (pos (low_byte z))) ∙ put_at.long) wide
-          matches2 in
+      (written ++ low_byte z ∷ []) (visits ++ seen n values ∷ []) is.2 fewer
+      (subst (λ (k : ℕ). HasAt ops k (body_ops locals others)) next there) (omega (arith, end, all, next))
+      (omega (arith, room)) (length-set put_at.after locals (Number (pos (low_byte z))) ∙ put_at.long) wide
+      matches2 in
       then_others (Evaluate n (Putchar e)) others n p (suc q) turns left_turns before after values values left taken
-          written (written ++ low_byte z ∷ []) visits matches
+      written (written ++ low_byte z ∷ []) visits matches
       (ap (λ (r : Evaluated Held). and_then (and_then r put) (λ x s. Gives Falls s))
-          (sum_gives calls e locals arrays objects left_turns left taken written (visits ++ seen n values ∷ []) values
-          before sum matches))
+      (sum_gives calls e locals arrays objects left_turns left taken written (visits ++ seen n values ∷ []) values
+      before sum matches))
       (λ o r.
       mark_step variables ops shown p n turns before left taken written o here.0 (omega (arith, end, all, len))
       (put_at.leads turns left taken written o
       (putchar_step variables ops shown q locals locals turns z put_at.after left taken written o putchar
-          (omega (arith, end, all, len, positive)) put_at.result r)))
+      (omega (arith, end, all, len, positive)) put_at.result r)))
       rest
   body_runs (Next (Return n (Some e)) Done) declared number p turns left_turns values before left taken written visits
       is fewer has end room long wide matches =
@@ -281,27 +281,27 @@ module _ (variables locals : ℕ) (ops : List Op) (shown listing : Listing) (cal
       let all : length (mine ++ []) ≡ length mine + 0 = length-append mine [] in
       let here = has_front ops p mine [] has in
       let put_at = sum_puts variables ops shown e locals locals (suc p) values before sum
-          (has_front ops (suc p) cs (op.Return (Some locals) ∷ []) here.1) (omega (arith, end, all, len)) (omega arith)
-          (omega (arith, room)) long matches in
+      (has_front ops (suc p) cs (op.Return (Some locals) ∷ []) here.1) (omega (arith, end, all, len)) (omega arith)
+      (omega (arith, room)) long matches in
       let z = sum_value values e in
       let q = suc p + length cs in
       let ret = (has_back ops (suc p) cs (op.Return (Some locals) ∷ []) here.1).0 in
       let ended = outcome_at (at q put_at.after left taken written) (End.Ended (low_byte z)) in
       let s1 = running arrays objects left_turns left taken written (visits ++ seen n values ∷ []) values in
       let does : rest_of (Next (Return n (Some e)) Done)
-          (running arrays objects left_turns left taken written visits values)
-          ≡ after_visits (visits ++ seen n values ∷ []) ended =
+      (running arrays objects left_turns left taken written visits values)
+      ≡ after_visits (visits ++ seen n values ∷ []) ended =
       ap (λ (t : ValueType). finish (and_then (returned t calls (Some e) s1)
-          (after_statement (execute_from within Done 0)))) returns
+      (after_statement (execute_from within Done 0)))) returns
       ∙ ap (λ (r : Evaluated Held). finish (and_then (and_then r (λ x s. Gives (Returns (Some (in_type int x))) s))
-          (after_statement (execute_from within Done 0))))
-          (sum_gives calls e locals arrays objects left_turns left taken written (visits ++ seen n values ∷ []) values
-          before sum matches)
+      (after_statement (execute_from within Done 0))))
+      (sum_gives calls e locals arrays objects left_turns left taken written (visits ++ seen n values ∷ []) values
+      before sum matches)
       ∙ no_more (visits ++ seen n values ∷ []) ended in (
         after_visits (visit shown (at p before left taken written) n ∷ []) ended,
         mark_step variables ops shown p n turns before left taken written ended here.0 (omega (arith, end, all, len))
             (put_at.leads turns left taken written ended
-                (return_step variables ops shown q locals turns z put_at.after left taken written ret put_at.result)),
+            (return_step variables ops shown q locals turns z put_at.after left taken written ret put_at.result)),
         ap (λ (v : Visit). after_visits visits (after_visits (v ∷ []) ended))
             (same_visit n p values before left taken written matches)
             ∙ after-assoc visits (seen n values) ended

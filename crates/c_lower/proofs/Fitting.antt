@@ -44,11 +44,11 @@ every-sum P (Read of (LocalPlace v)) locals d top is room c r a s = (r d v (omeg
 every-sum P (Binary of binary.Add x y) locals d top is room c r a s =
     every-append P (sum_ops d x) _ (every-sum P x locals d top is.0 (omega (arith, room)) c r a s)
     (every-append P (sum_ops (suc d) y) _ (every-sum P y locals (suc d) top is.1 (omega (arith, room)) c r a s)
-        (a d (omega (arith, room, height-some y locals is.1)), tt))
+    (a d (omega (arith, room, height-some y locals is.1)), tt))
 every-sum P (Binary of binary.Subtract x y) locals d top is room c r a s =
     every-append P (sum_ops d x) _ (every-sum P x locals d top is.0 (omega (arith, room)) c r a s)
     (every-append P (sum_ops (suc d) y) _ (every-sum P y locals (suc d) top is.1 (omega (arith, room)) c r a s)
-        (s d (omega (arith, room, height-some y locals is.1)), tt))
+    (s d (omega (arith, room, height-some y locals is.1)), tt))
 every-sum P _ locals d top is room c r a s = absurd is
 
 -- what holds of each op of a body, if it holds of these
@@ -70,10 +70,10 @@ every-body P locals top declared number (Next (Declare (Scalar n v (Some e))) ot
         each.constant v (pos 0) (omega (arith, is.1, is.2, room)),
         every-append P (sum_ops locals e ++ op.Copy v locals ∷ []) _
             (every-append P (sum_ops locals e) _ (every-sum P e declared locals top is.3 (omega (arith, room))
-                each.constant (λ k u a b. each.copy k u a (omega (arith, b, fewer, room))) each.add each.sub)
-                (each.copy v locals (omega (arith, is.1, is.2, room)) (omega (arith, room, some)), tt))
+            each.constant (λ k u a b. each.copy k u a (omega (arith, b, fewer, room))) each.add each.sub)
+            (each.copy v locals (omega (arith, is.1, is.2, room)) (omega (arith, room, some)), tt))
             (every-body P locals top (suc declared) (suc number) others is.4 (omega (arith, is.2)) (omega (arith, room))
-                each),
+            each),
       ),
     )
 every-body P locals top declared number (Next (Evaluate n (Assign (Integer Int) (LocalPlace v) e)) others) is fewer room
@@ -82,8 +82,8 @@ every-body P locals top declared number (Next (Evaluate n (Assign (Integer Int) 
       each.mark n,
       every-append P (sum_ops locals e ++ op.Copy v locals ∷ []) _
           (every-append P (sum_ops locals e) _ (every-sum P e declared locals top is.2 (omega (arith, room))
-              each.constant (λ k u a b. each.copy k u a (omega (arith, b, fewer, room))) each.add each.sub)
-              (each.copy v locals (omega (arith, is.1, fewer, room)) (omega (arith, room, some)), tt))
+          each.constant (λ k u a b. each.copy k u a (omega (arith, b, fewer, room))) each.add each.sub)
+          (each.copy v locals (omega (arith, is.1, fewer, room)) (omega (arith, room, some)), tt))
           (every-body P locals top declared (suc number) others is.3 fewer (omega (arith, room)) each),
     )
 every-body P locals top declared number (Next (Evaluate n (Putchar e)) others) is fewer room each =
@@ -91,8 +91,8 @@ every-body P locals top declared number (Next (Evaluate n (Putchar e)) others) i
       each.mark n,
       every-append P (sum_ops locals e ++ op.Putchar locals locals ∷ []) _
           (every-append P (sum_ops locals e) _ (every-sum P e declared locals top is.1 (omega (arith, room))
-              each.constant (λ k u a b. each.copy k u a (omega (arith, b, fewer, room))) each.add each.sub)
-              (each.putchar (omega (arith, room, some)), tt))
+          each.constant (λ k u a b. each.copy k u a (omega (arith, b, fewer, room))) each.add each.sub)
+          (each.putchar (omega (arith, room, some)), tt))
           (every-body P locals top declared (suc number) others is.2 fewer (omega (arith, room)) each),
     )
 every-body P locals top declared number (Next (Return n (Some e)) Done) is fewer room each =
@@ -100,8 +100,8 @@ every-body P locals top declared number (Next (Return n (Some e)) Done) is fewer
       each.mark n,
       every-append P (sum_ops locals e ++ op.Return (Some locals) ∷ []) _
           (every-append P (sum_ops locals e) _ (every-sum P e declared locals top is.2 (omega (arith, room))
-              each.constant (λ k u a b. each.copy k u a (omega (arith, b, fewer, room))) each.add each.sub)
-              (each.ret (omega (arith, room, some)), tt))
+          each.constant (λ k u a b. each.copy k u a (omega (arith, b, fewer, room))) each.add each.sub)
+          (each.ret (omega (arith, room, some)), tt))
           tt,
     )
 every-body P locals top declared number _ is fewer room each = absurd is
@@ -111,8 +111,15 @@ pub slot-body : (locals declared number : ℕ) (ss : Statements) → IsBody loca
     → AllByRecursion IsSlotOp (body_ops locals ss)
 slot-body locals declared number ss is fewer =
     every-body IsSlotOp locals (locals + temporaries ss) declared number ss is fewer (omega arith)
-        (record { constant = λ k n h. tt; copy = λ k v h g. tt; add = λ k h. tt; sub = λ k h. tt; mark = λ n. tt;
-        putchar = λ h. tt; ret = λ h. tt })
+    (record {
+      constant = λ k n h. tt;
+      copy = λ k v h g. tt;
+      add = λ k h. tt;
+      sub = λ k h. tt;
+      mark = λ n. tt;
+      putchar = λ h. tt;
+      ret = λ h. tt;
+    })
 
 -- they fit a graph with the variables for them
 pub fit-body : (locals top declared number : ℕ) (ss : Statements) → IsBody locals declared number ss → declared ≤ locals
@@ -121,10 +128,14 @@ fit-body locals top declared number ss is fewer room =
     every-body (FitsOp (straight top [])) locals top declared number ss is fewer room (record {
       constant = λ k n h. ((Two, get-replicate top k Two h), tt);
       copy = λ k v h g. ((Two, get-replicate top k Two h, get-replicate top v Two g), tt);
-      add = λ k h. (get-replicate top k Two (omega (arith, h)),
-          (get-replicate top k Two (omega (arith, h)), (get-replicate top (suc k) Two h, tt)));
-      sub = λ k h. (get-replicate top k Two (omega (arith, h)),
-          (get-replicate top k Two (omega (arith, h)), (get-replicate top (suc k) Two h, tt)));
+      add = λ k h. (
+        get-replicate top k Two (omega (arith, h)),
+        (get-replicate top k Two (omega (arith, h)), (get-replicate top (suc k) Two h, tt)),
+      );
+      sub = λ k h. (
+        get-replicate top k Two (omega (arith, h)),
+        (get-replicate top k Two (omega (arith, h)), (get-replicate top (suc k) Two h, tt)),
+      );
       mark = λ n. tt;
       putchar = λ h. (get-replicate top locals Two h, (get-replicate top locals Two h, tt));
       ret = λ h. (get-replicate top locals Two h, tt);
@@ -146,21 +157,26 @@ plain-sum locals d e is = every-sum (λ i. is_end i ≡ false) e locals d (d + h
 pub ends-body : (locals declared number : ℕ) (ss : Statements) → IsBody locals declared number ss
     → EndsLast (body_ops locals ss)
 ends-body locals declared number (Next (Declare (Scalar n v (Some e))) others) is =
-    ends-after (op.Mark n ∷ op.Const v (pos 0) ∷ (sum_ops locals e ++ op.Copy v locals ∷ [])) _
-        (refl, (refl, every-append (λ i. is_end i ≡ false) (sum_ops locals e) _ (plain-sum declared locals e is.3)
-        (refl, tt))) (ends-body locals (suc declared) (suc number) others is.4)
+    ends-after (op.Mark n ∷ op.Const v (pos 0) ∷ (sum_ops locals e ++ op.Copy v locals ∷ [])) _ (
+      refl,
+      (
+        refl,
+        every-append (λ i. is_end i ≡ false) (sum_ops locals e) _ (plain-sum declared locals e is.3)
+            (refl, tt),
+      ),
+    ) (ends-body locals (suc declared) (suc number) others is.4)
 ends-body locals declared number (Next (Evaluate n (Assign (Integer Int) (LocalPlace v) e)) others) is =
     ends-after (op.Mark n ∷ (sum_ops locals e ++ op.Copy v locals ∷ [])) _
-        (refl, every-append (λ i. is_end i ≡ false) (sum_ops locals e) _ (plain-sum declared locals e is.2) (refl, tt))
-        (ends-body locals declared (suc number) others is.3)
+    (refl, every-append (λ i. is_end i ≡ false) (sum_ops locals e) _ (plain-sum declared locals e is.2) (refl, tt))
+    (ends-body locals declared (suc number) others is.3)
 ends-body locals declared number (Next (Evaluate n (Putchar e)) others) is =
     ends-after (op.Mark n ∷ (sum_ops locals e ++ op.Putchar locals locals ∷ [])) _
-        (refl, every-append (λ i. is_end i ≡ false) (sum_ops locals e) _ (plain-sum declared locals e is.1) (refl, tt))
-        (ends-body locals declared (suc number) others is.2)
+    (refl, every-append (λ i. is_end i ≡ false) (sum_ops locals e) _ (plain-sum declared locals e is.1) (refl, tt))
+    (ends-body locals declared (suc number) others is.2)
 ends-body locals declared number (Next (Return n (Some e)) Done) is =
     let mine = op.Mark n ∷ sum_ops locals e in
     let whole : mine ++ (op.Return (Some locals) ∷ [] ++ []) ≡ (mine ++ op.Return (Some locals) ∷ []) ++ [] =
-        sym (append_assoc mine (op.Return (Some locals) ∷ []) []) in
+    sym (append_assoc mine (op.Return (Some locals) ∷ []) []) in
     subst EndsLast whole (ends-after mine (op.Return (Some locals) ∷ []) (refl, plain-sum declared locals e is.2) refl)
 ends-body locals declared number _ is = absurd is
 
@@ -168,12 +184,14 @@ ends-body locals declared number _ is = absurd is
 
 pub slots-body : (locals declared number : ℕ) (ss : Statements) → IsBody locals declared number ss → declared ≤ locals
     → AreSlotStatements locals ss
-slots-body locals declared number (Next (Declare (Scalar n v (Some e))) others) is fewer =
-    ((omega (arith, is.1, is.2), sum-more declared locals e fewer is.3),
-        slots-body locals (suc declared) (suc number) others is.4 (omega (arith, is.2)))
-slots-body locals declared number (Next (Evaluate n (Assign (Integer Int) (LocalPlace v) e)) others) is fewer =
-    ((omega (arith, is.1, fewer), sum-more declared locals e fewer is.2),
-        slots-body locals declared (suc number) others is.3 fewer)
+slots-body locals declared number (Next (Declare (Scalar n v (Some e))) others) is fewer = (
+  (omega (arith, is.1, is.2), sum-more declared locals e fewer is.3),
+  slots-body locals (suc declared) (suc number) others is.4 (omega (arith, is.2)),
+)
+slots-body locals declared number (Next (Evaluate n (Assign (Integer Int) (LocalPlace v) e)) others) is fewer = (
+  (omega (arith, is.1, fewer), sum-more declared locals e fewer is.2),
+  slots-body locals declared (suc number) others is.3 fewer,
+)
 slots-body locals declared number (Next (Evaluate n (Putchar e)) others) is fewer =
     (sum-more declared locals e fewer is.1, slots-body locals declared (suc number) others is.2 fewer)
 slots-body locals declared number (Next (Return n (Some e)) Done) is fewer = (sum-more declared locals e fewer is.2, tt)
@@ -186,16 +204,28 @@ sum-sizes locals d (Constant Int n) is = (omega arith, refl)
 sum-sizes locals d (Read of (LocalPlace v)) is = (omega arith, refl)
 sum-sizes locals d (Binary of binary.Add a b) is =
     let x = sum-sizes locals d a is.0 in
-    let y = sum-sizes locals (suc d) b is.1 in
-    (omega (arith, x.0, y.0), omega (arith, x.1, y.1,
+    let y = sum-sizes locals (suc d) b is.1 in (
+      omega (arith, x.0, y.0),
+      omega (
+        arith,
+        x.1,
+        y.1,
         length-append (sum_ops d a) (sum_ops (suc d) b ++ op.Add d d (suc d) ∷ []),
-        length-append (sum_ops (suc d) b) (op.Add d d (suc d) ∷ [])))
+        length-append (sum_ops (suc d) b) (op.Add d d (suc d) ∷ []),
+      ),
+    )
 sum-sizes locals d (Binary of binary.Subtract a b) is =
     let x = sum-sizes locals d a is.0 in
-    let y = sum-sizes locals (suc d) b is.1 in
-    (omega (arith, x.0, y.0), omega (arith, x.1, y.1,
+    let y = sum-sizes locals (suc d) b is.1 in (
+      omega (arith, x.0, y.0),
+      omega (
+        arith,
+        x.1,
+        y.1,
         length-append (sum_ops d a) (sum_ops (suc d) b ++ op.Sub d d (suc d) ∷ []),
-        length-append (sum_ops (suc d) b) (op.Sub d d (suc d) ∷ [])))
+        length-append (sum_ops (suc d) b) (op.Sub d d (suc d) ∷ []),
+      ),
+    )
 sum-sizes locals d _ is = absurd is
 
 -- how a body's parts grow with it
@@ -211,8 +241,14 @@ body-sizes locals declared number (Next (Declare (Scalar n v (Some e))) others) 
     let x = sum-sizes declared locals e is.3 in
     let rest = body-sizes locals (suc declared) (suc number) others is.4 in
     record {
-      ops = omega (arith, x.1, rest.ops, length-append (sum_ops locals e ++ op.Copy v locals ∷ [])
-          (body_ops locals others), length-append (sum_ops locals e) (op.Copy v locals ∷ []));
+      ops = omega (
+        arith,
+        x.1,
+        rest.ops,
+        length-append (sum_ops locals e ++ op.Copy v locals ∷ [])
+            (body_ops locals others),
+        length-append (sum_ops locals e) (op.Copy v locals ∷ []),
+      );
       high = omega (arith, x.0, rest.high);
       declarations = omega (arith, rest.declarations);
       counted = omega (arith, rest.counted);
@@ -221,8 +257,14 @@ body-sizes locals declared number (Next (Evaluate n (Assign (Integer Int) (Local
     let x = sum-sizes declared locals e is.2 in
     let rest = body-sizes locals declared (suc number) others is.3 in
     record {
-      ops = omega (arith, x.1, rest.ops, length-append (sum_ops locals e ++ op.Copy v locals ∷ [])
-          (body_ops locals others), length-append (sum_ops locals e) (op.Copy v locals ∷ []));
+      ops = omega (
+        arith,
+        x.1,
+        rest.ops,
+        length-append (sum_ops locals e ++ op.Copy v locals ∷ [])
+            (body_ops locals others),
+        length-append (sum_ops locals e) (op.Copy v locals ∷ []),
+      );
       high = omega (arith, x.0, rest.high);
       declarations = omega (arith, rest.declarations);
       counted = omega (arith, rest.counted);
@@ -231,8 +273,14 @@ body-sizes locals declared number (Next (Evaluate n (Putchar e)) others) is =
     let x = sum-sizes declared locals e is.1 in
     let rest = body-sizes locals declared (suc number) others is.2 in
     record {
-      ops = omega (arith, x.1, rest.ops, length-append (sum_ops locals e ++ op.Putchar locals locals ∷ [])
-          (body_ops locals others), length-append (sum_ops locals e) (op.Putchar locals locals ∷ []));
+      ops = omega (
+        arith,
+        x.1,
+        rest.ops,
+        length-append (sum_ops locals e ++ op.Putchar locals locals ∷ [])
+            (body_ops locals others),
+        length-append (sum_ops locals e) (op.Putchar locals locals ∷ []),
+      );
       high = omega (arith, x.0, rest.high);
       declarations = omega (arith, rest.declarations);
       counted = omega (arith, rest.counted);
@@ -240,8 +288,12 @@ body-sizes locals declared number (Next (Evaluate n (Putchar e)) others) is =
 body-sizes locals declared number (Next (Return n (Some e)) Done) is =
     let x = sum-sizes declared locals e is.2 in
     record {
-      ops = omega (arith, x.1, length-append (sum_ops locals e ++ op.Return (Some locals) ∷ []) [],
-          length-append (sum_ops locals e) (op.Return (Some locals) ∷ []));
+      ops = omega (
+        arith,
+        x.1,
+        length-append (sum_ops locals e ++ op.Return (Some locals) ∷ []) [],
+        length-append (sum_ops locals e) (op.Return (Some locals) ∷ []),
+      );
       high = omega (arith, x.0);
       declarations = omega (arith, is.1);
       counted = omega arith;
@@ -271,8 +323,8 @@ sum-then : (locals d : ℕ) (e : Expression) (i : Op) (rest : List Op) → IsSum
 sum-then locals d e i rest is none =
     marks-append (sum_ops d e ++ i ∷ []) rest
     ∙ ap (λ (ms : List ℕ). ms ++ marks_in rest)
-        (marks-append (sum_ops d e) (i ∷ []) ∙ ap (λ (ms : List ℕ). ms ++ (mark_of i ++ [])) (sum-marks locals d e is)
-        ∙ ap (λ (ms : List ℕ). ms ++ []) none)
+    (marks-append (sum_ops d e) (i ∷ []) ∙ ap (λ (ms : List ℕ). ms ++ (mark_of i ++ [])) (sum-marks locals d e is)
+    ∙ ap (λ (ms : List ℕ). ms ++ []) none)
 
 -- the marks of a body differ, and none is less than the number of its first statement
 abbrev Numbered : ℕ → List ℕ → Type 0
@@ -295,13 +347,13 @@ pub body-marks : (locals declared number : ℕ) (ss : Statements) → IsBody loc
     → AllByRecursion (λ m. number ≤ m) (marks_in (body_ops locals ss)) × IsDistinct (marks_in (body_ops locals ss))
 body-marks locals declared number (Next (Declare (Scalar n v (Some e))) others) is =
     one-more n number _ _ is.0 (sum-then declared locals e (op.Copy v locals) (body_ops locals others) is.3 refl)
-        (body-marks locals (suc declared) (suc number) others is.4)
+    (body-marks locals (suc declared) (suc number) others is.4)
 body-marks locals declared number (Next (Evaluate n (Assign (Integer Int) (LocalPlace v) e)) others) is =
     one-more n number _ _ is.0 (sum-then declared locals e (op.Copy v locals) (body_ops locals others) is.2 refl)
-        (body-marks locals declared (suc number) others is.3)
+    (body-marks locals declared (suc number) others is.3)
 body-marks locals declared number (Next (Evaluate n (Putchar e)) others) is =
     one-more n number _ _ is.0 (sum-then declared locals e (op.Putchar locals locals) (body_ops locals others) is.1
-        refl) (body-marks locals declared (suc number) others is.2)
+    refl) (body-marks locals declared (suc number) others is.2)
 body-marks locals declared number (Next (Return n (Some e)) Done) is =
     one-more n number _ [] is.0 (sum-then declared locals e (op.Return (Some locals)) [] is.2 refl) (tt, tt)
 body-marks locals declared number _ is = absurd is

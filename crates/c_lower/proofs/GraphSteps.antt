@@ -48,8 +48,8 @@ module _ (variables : ℕ) (ops : List Op) (listing : Listing) where
   run_on x k turns s =
       with_turn (takes_turn x) turns s
       (λ left. option_map (after_visits (visits_at listing s x))
-          (outcome_from (given x (act (one_block variables ops) s)) s
-          (run_within (one_block variables ops) listing k left)))
+      (outcome_from (given x (act (one_block variables ops) s)) s
+      (run_within (one_block variables ops) listing k left)))
 
   moved : (takes : Bool) (vs : List Visit) (m : Moved) (s t : State) (k turns : ℕ) (o : Outcome) → takes ≡ false → m
       ≡ Moves t → run_within (one_block variables ops) listing k turns t ≡ Some o
@@ -71,8 +71,8 @@ module _ (variables : ℕ) (ops : List Op) (listing : Listing) where
     suc k,
     subst (λ (x : Option Op). run_on x k turns s ≡ Some o) (sym here)
         (subst (λ (vs : List Visit). with_turn (takes_turn (Some i)) turns s
-            (λ left. option_map (after_visits vs) (outcome_from (act (one_block variables ops) s i) s
-            (run_within (one_block variables ops) listing k left))) ≡ Some o) (sym ev)
+        (λ left. option_map (after_visits vs) (outcome_from (act (one_block variables ops) s i) s
+        (run_within (one_block variables ops) listing k left))) ≡ Some o) (sym ev)
         (moved (takes_turn (Some i)) [] (act (one_block variables ops) s i) s t k turns o et em r)),
   )
 
@@ -85,7 +85,7 @@ module _ (variables : ℕ) (ops : List Op) (listing : Listing) where
       let g : 0 + p + 1 ≡ suc p = omega arith in
       let next : following p (range_with_len 0 (length ops)) ≡ Some (suc p) =
       ap (λ (k : ℕ). following k (range_with_len 0 (length ops))) (sym f) ∙ following-range 0 (length ops) p e
-          ∙ ap Some g in
+      ∙ ap Some g in
       ap (at_point 0 (at p values left taken written)) next
 
   pub mark_step : (p statement turns : ℕ) (values : List Value) (left : List ℕ) (taken : ℕ) (written : List ℕ)
@@ -99,7 +99,7 @@ module _ (variables : ℕ) (ops : List Op) (listing : Listing) where
         subst (λ (x : Option Op). run_on x k turns s ≡ Some (after_visits (visit listing s statement ∷ []) o))
             (sym here)
             (moved false (visit listing s statement ∷ []) (onward (one_block variables ops) s) s
-                (at (suc p) values left taken written) k turns o refl (onward_at p values left taken written more) r),
+            (at (suc p) values left taken written) k turns o refl (onward_at p values left taken written more) r),
       )
 
   pub turn_step : (p turns : ℕ) (values : List Value) (left : List ℕ) (taken : ℕ) (written : List ℕ) (o : Outcome)
@@ -110,7 +110,7 @@ module _ (variables : ℕ) (ops : List Op) (listing : Listing) where
         suc k,
         subst (λ (x : Option Op). run_on x k (suc turns) s ≡ Some o) (sym here)
             (moved false [] (onward (one_block variables ops) s) s (at (suc p) values left taken written) k turns o refl
-                (onward_at p values left taken written more) r),
+            (onward_at p values left taken written more) r),
       )
 
   pub no_turn : (p : ℕ) (values : List Value) (left : List ℕ) (taken : ℕ) (written : List ℕ) → slice_get ops p
@@ -126,12 +126,12 @@ module _ (variables : ℕ) (ops : List Op) (listing : Listing) where
   const_step p d turns n values left taken written o here more there r =
       let s = at p values left taken written in
       let fits : act (one_block variables ops) s (op.Const d n)
-          ≡ Moves (at (suc p) (slice_set values d (Number n)) left taken written) =
+      ≡ Moves (at (suc p) (slice_set values d (Number n)) left taken written) =
       ap (λ (w : Option Width). onward (one_block variables ops) (with_value d (Number (fitted w n)) s))
-          (get-replicate variables d Two there)
+      (get-replicate variables d Two there)
       ∙ onward_at p (slice_set values d (Number n)) left taken written more in
       plain s (at (suc p) (slice_set values d (Number n)) left taken written) (op.Const d n) turns o here refl refl fits
-          r
+      r
 
   pub copy_step : (p d v turns : ℕ) (x : Value) (values : List Value) (left : List ℕ) (taken : ℕ) (written : List ℕ)
       (o : Outcome) → slice_get ops p ≡ Some (op.Copy d v) → suc p < length ops → slice_get values v ≡ Some x
@@ -140,7 +140,7 @@ module _ (variables : ℕ) (ops : List Op) (listing : Listing) where
   copy_step p d v turns x values left taken written o here more there r =
       let s = at p values left taken written in
       let moves : act (one_block variables ops) s (op.Copy d v)
-          ≡ Moves (at (suc p) (slice_set values d x) left taken written) =
+      ≡ Moves (at (suc p) (slice_set values d x) left taken written) =
       ap (λ (y : Option Value). given y (sets (one_block variables ops) s d)) there
       ∙ onward_at p (slice_set values d x) left taken written more in
       plain s (at (suc p) (slice_set values d x) left taken written) (op.Copy d v) turns o here refl refl moves r
@@ -156,10 +156,10 @@ module _ (variables : ℕ) (ops : List Op) (listing : Listing) where
   two_step i f p d a b turns x y values left taken written o et ev does here more at_a at_b r =
       let s = at p values left taken written in
       let moves : act (one_block variables ops) s i
-          ≡ Moves (at (suc p) (slice_set values d (Number (f x y))) left taken written) =
+      ≡ Moves (at (suc p) (slice_set values d (Number (f x y))) left taken written) =
       does s
       ∙ ap (λ (u : Option Value). given (number_of u)
-          (λ m. given (number_of (slice_get values b)) (λ n. sets (one_block variables ops) s d (Number (f m n))))) at_a
+      (λ m. given (number_of (slice_get values b)) (λ n. sets (one_block variables ops) s d (Number (f m n))))) at_a
       ∙ ap (λ (u : Option Value). given (number_of u) (λ n. sets (one_block variables ops) s d (Number (f x n)))) at_b
       ∙ onward_at p (slice_set values d (Number (f x y))) left taken written more in
       plain s (at (suc p) (slice_set values d (Number (f x y))) left taken written) i turns o here et (ev s) moves r
@@ -172,11 +172,11 @@ module _ (variables : ℕ) (ops : List Op) (listing : Listing) where
       let s = at p values left taken written in
       let values' = slice_set values d (Number (pos (low_byte x))) in
       let moves : act (one_block variables ops) s (op.Putchar d a)
-          ≡ Moves (at (suc p) values' left taken (written ++ low_byte x ∷ [])) =
+      ≡ Moves (at (suc p) values' left taken (written ++ low_byte x ∷ [])) =
       ap (λ (u : Option Value). given (number_of u) (puts (one_block variables ops) s d)) there
       ∙ onward_at p values' left taken (written ++ low_byte x ∷ []) more in
       plain s (at (suc p) values' left taken (written ++ low_byte x ∷ [])) (op.Putchar d a) turns o here refl refl moves
-          r
+      r
 
   pub return_step : (p a turns : ℕ) (x : ℤ) (values : List Value) (left : List ℕ) (taken : ℕ) (written : List ℕ)
       → slice_get ops p ≡ Some (op.Return (Some a)) → slice_get values a ≡ Some (Number x)
@@ -189,5 +189,5 @@ module _ (variables : ℕ) (ops : List Op) (listing : Listing) where
         1,
         subst (λ (y : Option Op). run_on y 0 turns s ≡ Some (outcome_at s (End.Ended (low_byte x)))) (sym here)
             (halted false [] (act (one_block variables ops) s (op.Return (Some a))) s 0 turns (End.Ended (low_byte x))
-                refl halts),
+            refl halts),
       )

@@ -117,7 +117,7 @@ straight-ended ops ends =
     let l = last-op ops ends in
     let e : 0 + l.place ≡ l.place = omega arith in
     subst (λ (k : ℕ). LastIsEnd ops (range_with_len 0 k)) l.last
-        (ended-range ops 0 l.place l.place l.found e l.there l.end)
+    (ended-range ops 0 l.place l.place l.found e l.there l.end)
 
 -- ---- ops of the kinds that are emitted so far
 
@@ -165,7 +165,7 @@ temporary-dead f slot zero statement v at high live = no-mark-first statement at
 temporary-dead f slot (suc point) statement v at high (n, reach) =
     let L = length f.locals in
     let low = mark-live (variables f) L (function_ops f) (slot-ops f slot) 0 0 1 (suc point) v n statement f.body
-        slot.body (omega arith) (has_all (body_ops L f.body) (op.Turn ∷ [])) (omega arith) (omega arith) at reach in
+    slot.body (omega arith) (has_all (body_ops L f.body) (op.Turn ∷ [])) (omega arith) (omega arith) at reach in
     absurd (omega (arith, low, high, length-widths f.locals slot.locals))
 
 only-block : (f : Function) (slot : IsSlotFunction f) (block : ℕ) → block < 1 → IsEnded (lowered f) block
@@ -194,7 +194,7 @@ pub one-graph : (program : Program) (slot : IsSlotProgram program) → slot_grap
     ≡ one_block (variables slot.function) (function_ops slot.function)
 one-graph program slot =
     let F : List Function → ℕ → GraphProgram =
-        λ fs main. record { functions = map lowered fs; objects = []; main = main } in
+    λ fs main. record { functions = map lowered fs; objects = []; main = main } in
     ap (λ (fs : List Function). F fs program.main) slot.one_function ∙ ap (F (slot.function ∷ [])) slot.main
 
 pub outcome-kept : (program : Program) → IsSlotProgram program → KeepsOutcome program (slot_graphs program)
@@ -203,14 +203,16 @@ outcome-kept program slot = keeps-outcome program (slot_graphs program) slot (on
 pub stuck-never : (program : Program) → IsSlotProgram program → IsNeverStuck (slot_graphs program)
 stuck-never program slot =
     never_stuck (slot_graphs program) (variables_shown program (λ statement. []))
-    (λ input turns. (source_outcome program (λ statement. []) input turns,
-        outcome-kept program slot (λ statement. []) (λ statement. tt) input turns))
+    (λ input turns. (
+      source_outcome program (λ statement. []) input turns,
+      outcome-kept program slot (λ statement. []) (λ statement. tt) input turns,
+    ))
 
 each-lowered : (f : Function) (slot : IsSlotFunction f) (k : ℕ) (g : Function) (flow : Flow) → slice_get (f ∷ []) k
     ≡ Some g → slice_get (lowered f ∷ []) k ≡ Some flow → IsLowered g flow
 each-lowered f slot zero g flow e h =
     subst (λ (fl : Flow). IsLowered g fl) (same_Some (lowered f) flow h)
-        (subst (λ (x : Function). IsLowered x (lowered f)) (same_Some f g e) (is-lowered f slot))
+    (subst (λ (x : Function). IsLowered x (lowered f)) (same_Some f g e) (is-lowered f slot))
 each-lowered f slot (suc k) g flow e h = absurd (none-some g e)
 
 pub functions-lowered : (program : Program) → IsSlotProgram program → AreLowered program (slot_graphs program)
@@ -219,7 +221,7 @@ functions-lowered program slot = record {
       ∙ sym (ap (λ (fs : List Function). length fs) slot.one_function);
   each = λ k f flow e h.
       each-lowered slot.function slot.accepted k f flow
-          (ap (λ (fs : List Function). slice_get fs k) (sym slot.one_function) ∙ e)
+      (ap (λ (fs : List Function). slice_get fs k) (sym slot.one_function) ∙ e)
       (ap (λ (fs : List Function). slice_get (map lowered fs) k) (sym slot.one_function) ∙ h);
   main = refl;
 }
@@ -235,8 +237,8 @@ program-kept program graphs slot same flows =
     let one = one_block (variables f) (function_ops f) in
     let is : graphs ≡ one = same ∙ one-graph program slot in
     let kept : AllByRecursion (λ flow. (homes : List ℕ) × IsFlow flow homes) one.functions =
-        subst (λ (g : GraphProgram). AllByRecursion (λ flow. (homes : List ℕ) × IsFlow flow homes) g.functions) is
-        flows in
+    subst (λ (g : GraphProgram). AllByRecursion (λ flow. (homes : List ℕ) × IsFlow flow homes) g.functions) is
+    flows in
     let ended = straight-ended (function_ops f) (function-facts f slot.accepted).ends in
     let graph : IsGraph 1 0 (lowered f) = record {
       keeps = kept.0;
@@ -262,14 +264,14 @@ pub marks-kept : (program : Program) → IsSlotProgram program → HaveMarks pro
 marks-kept program slot k f flow e h =
     subst (λ (fs : List Function). MarksStatements (first_statement fs k) f flow) (sym slot.one_function)
     (each-marked slot.function slot.accepted k f flow
-        (ap (λ (fs : List Function). slice_get fs k) (sym slot.one_function) ∙ e)
+    (ap (λ (fs : List Function). slice_get fs k) (sym slot.one_function) ∙ e)
     (ap (λ (fs : List Function). slice_get (map lowered fs) k) (sym slot.one_function) ∙ h))
   where
     each-marked : (f : Function) (slot : IsSlotFunction f) (k : ℕ) (g : Function) (flow : Flow) → slice_get (f ∷ []) k
         ≡ Some g → slice_get (lowered f ∷ []) k ≡ Some flow → MarksStatements (first_statement (f ∷ []) k) g flow
     each-marked f slot zero g flow e h =
         subst (λ (fl : Flow). MarksStatements 0 g fl) (same_Some (lowered f) flow h)
-            (subst (λ (x : Function). MarksStatements 0 x (lowered f)) (same_Some f g e) (function-marked f slot))
+        (subst (λ (x : Function). MarksStatements 0 x (lowered f)) (same_Some f g e) (function-marked f slot))
     each-marked f slot (suc k) g flow e h = absurd (none-some g e)
 
 all-two : (n : ℕ) → AllByRecursion (λ width. width ≡ Two) (replicate n Two)
@@ -287,17 +289,17 @@ graphs-small program slot =
     let f = slot.function in
     let s = body-sizes (length f.locals) 0 0 f.body slot.accepted.body in
     let size : size_of program ≡ function_size f + 0 =
-        ap (λ (fs : List Function). sum_by function_size fs) slot.one_function
-        ∙ sum_by-cons function_size slot.function [] in
+    ap (λ (fs : List Function). sum_by function_size fs) slot.one_function
+    ∙ sum_by-cons function_size slot.function [] in
     let points : sum_by points_in (slot_graphs program).functions ≡ points_in (lowered f) + 0 =
-        ap (λ (fs : List Function). sum_by points_in (map lowered fs)) slot.one_function
-        ∙ sum_by-cons points_in (lowered slot.function) [] in
+    ap (λ (fs : List Function). sum_by points_in (map lowered fs)) slot.one_function
+    ∙ sum_by-cons points_in (lowered slot.function) [] in
     let words : sum_by words_in (slot_graphs program).functions ≡ words_in (lowered f) + 0 =
-        ap (λ (fs : List Function). sum_by words_in (map lowered fs)) slot.one_function
-        ∙ sum_by-cons words_in (lowered slot.function) [] in
+    ap (λ (fs : List Function). sum_by words_in (map lowered fs)) slot.one_function
+    ∙ sum_by-cons words_in (lowered slot.function) [] in
     let arrays : sum_by arrays_in (slot_graphs program).functions ≡ 0 + 0 =
-        ap (λ (fs : List Function). sum_by arrays_in (map lowered fs)) slot.one_function
-        ∙ sum_by-cons arrays_in (lowered slot.function) [] in
+    ap (λ (fs : List Function). sum_by arrays_in (map lowered fs)) slot.one_function
+    ∙ sum_by-cons arrays_in (lowered slot.function) [] in
     record {
       points = omega (arith, size, points, s.ops);
       words = omega (arith, words, sum-none (function_ops f) (slot-ops f slot.accepted));
@@ -308,6 +310,6 @@ graphs-small program slot =
 pub function-small : (program : Program) (slot : IsSlotProgram program) → function_size slot.function ≤ 65536
 function-small program slot =
     let size : size_of program ≡ function_size slot.function + 0 =
-        ap (λ (fs : List Function). sum_by function_size fs) slot.one_function
-        ∙ sum_by-cons function_size slot.function [] in
+    ap (λ (fs : List Function). sum_by function_size fs) slot.one_function
+    ∙ sum_by-cons function_size slot.function [] in
     omega (arith, size, slot.small)

@@ -26,9 +26,9 @@ parts-listed (l ∷ locals) front =
     let long : length (front ++ l ∷ []) ≡ suc (length front) = omega (arith, length-append front (l ∷ [])) in
     let rest = parts-listed locals (front ++ l ∷ []) in
     let rest' = subst (λ (ls : List Local). AllByRecursion (IsPartOf ls) (parts_from (length (front ++ l ∷ [])) locals))
-        whole rest in
+    whole rest in
     every-append (IsPartOf (front ++ l ∷ locals)) (type_parts (length front) l.of)
-        (parts_from (suc (length front)) locals)
+    (parts_from (suc (length front)) locals)
     (own-parts (front ++ l ∷ locals) (length front) l l.of (get-seam front l locals) refl)
     (subst (λ (n : ℕ). AllByRecursion (IsPartOf (front ++ l ∷ locals)) (parts_from n locals)) long rest')
 

@@ -37,7 +37,7 @@ following-in a (suc (suc n)) p q e =
     elim (eqb_tells a p) [
       | inl same ↦ (
           let next : Some (a + 1) ≡ Some q = sym (ap
-              (λ (b : Bool). cond b (Some (a + 1)) (following p (range_with_len (a + 1) (suc n)))) same.0) ∙ e in
+          (λ (b : Bool). cond b (Some (a + 1)) (following p (range_with_len (a + 1) (suc n)))) same.0) ∙ e in
           omega (arith, same_Some (a + 1) q next, same.1)
           )
       | inr other ↦ following-in (a + 1) (suc n) p q
@@ -99,7 +99,7 @@ live-known variables ops [] (suc n) p v known slot has end closed (kept, q, (pla
 live-known variables ops (i ∷ is) (suc n) p v known slot has end closed (kept, q, next, reach) =
     let e : q ≡ suc p = next-only variables ops p q slot next in
     let later = live-known variables ops is n (suc p) v (if_any (defined i) ++ known) slot has.1 (omega (arith, end))
-        closed.1 (subst (λ (k : ℕ). ReachesUse (straight variables ops) v n k) e reach) in
+    closed.1 (subst (λ (k : ℕ). ReachesUse (straight variables ops) v n k) e reach) in
     not_here (defined i) (λ same. kept (i, has.0, same)) later
   where
     not_here : (d : Option ℕ) → (d ≡ Some v → ⊥) → IsIn v (if_any d ++ known) → IsIn v known
@@ -135,25 +135,29 @@ sum-closed declared d (Read of (LocalPlace v)) known rest is knows go =
 sum-closed declared d (Binary of binary.Add a b) known rest is knows go =
     let i = op.Add d d (suc d) in
     let flat : sum_ops d a ++ (sum_ops (suc d) b ++ (i ∷ rest))
-        ≡ (sum_ops d a ++ (sum_ops (suc d) b ++ i ∷ [])) ++ rest = simp append_assoc in
+    ≡ (sum_ops d a ++ (sum_ops (suc d) b ++ i ∷ [])) ++ rest = simp append_assoc in
     subst (Closed known) flat
     (sum-closed declared d a known (sum_ops (suc d) b ++ (i ∷ rest)) is.0 knows
     (λ more within here.
     sum-closed declared (suc d) b more (i ∷ rest) is.1 (knows-within declared known more knows within)
-    (λ all with_b there. ((with_b.all d here, (there, tt)),
-        go (d ∷ all) (within-trans known more (d ∷ all) within
-        (within-trans more all (d ∷ all) with_b (within-more d all))) (inl refl)))))
+    (λ all with_b there. (
+      (with_b.all d here, (there, tt)),
+      go (d ∷ all) (within-trans known more (d ∷ all) within
+          (within-trans more all (d ∷ all) with_b (within-more d all))) (inl refl),
+    ))))
 sum-closed declared d (Binary of binary.Subtract a b) known rest is knows go =
     let i = op.Sub d d (suc d) in
     let flat : sum_ops d a ++ (sum_ops (suc d) b ++ (i ∷ rest))
-        ≡ (sum_ops d a ++ (sum_ops (suc d) b ++ i ∷ [])) ++ rest = simp append_assoc in
+    ≡ (sum_ops d a ++ (sum_ops (suc d) b ++ i ∷ [])) ++ rest = simp append_assoc in
     subst (Closed known) flat
     (sum-closed declared d a known (sum_ops (suc d) b ++ (i ∷ rest)) is.0 knows
     (λ more within here.
     sum-closed declared (suc d) b more (i ∷ rest) is.1 (knows-within declared known more knows within)
-    (λ all with_b there. ((with_b.all d here, (there, tt)),
-        go (d ∷ all) (within-trans known more (d ∷ all) within
-        (within-trans more all (d ∷ all) with_b (within-more d all))) (inl refl)))))
+    (λ all with_b there. (
+      (with_b.all d here, (there, tt)),
+      go (d ∷ all) (within-trans known more (d ∷ all) within
+          (within-trans more all (d ∷ all) with_b (within-more d all))) (inl refl),
+    ))))
 sum-closed declared d _ known rest is knows go = absurd is
 
 -- one more local is known
@@ -174,26 +178,26 @@ body-closed : (locals declared number : ℕ) (ss : Statements) (known : List ℕ
 body-closed locals declared number (Next (Declare (Scalar n v (Some e))) others) known is knows =
     let i = op.Copy v locals in
     let flat : sum_ops locals e ++ (i ∷ body_ops locals others)
-        ≡ (sum_ops locals e ++ i ∷ []) ++ body_ops locals others = simp append_assoc in (
+    ≡ (sum_ops locals e ++ i ∷ []) ++ body_ops locals others = simp append_assoc in (
       tt,
       (
         tt,
         subst (Closed (v ∷ known)) flat
             (sum-closed declared locals e (v ∷ known) (i ∷ body_ops locals others) is.3
-                (knows-within declared known (v ∷ known) knows (within-more v known))
+            (knows-within declared known (v ∷ known) knows (within-more v known))
             (λ more within here. (
               (here, tt),
               body-closed locals (suc declared) (suc number) others (v ∷ more) is.4
                   (knows-more declared v known (v ∷ more) is.1 knows
-                      (within-trans known (v ∷ known) (v ∷ more) (within-more v known)
-                      (within-trans (v ∷ known) more (v ∷ more) within (within-more v more))) (inl refl)),
+                  (within-trans known (v ∷ known) (v ∷ more) (within-more v known)
+                  (within-trans (v ∷ known) more (v ∷ more) within (within-more v more))) (inl refl)),
             ))),
       ),
     )
 body-closed locals declared number (Next (Evaluate n (Assign (Integer Int) (LocalPlace v) e)) others) known is knows =
     let i = op.Copy v locals in
     let flat : sum_ops locals e ++ (i ∷ body_ops locals others)
-        ≡ (sum_ops locals e ++ i ∷ []) ++ body_ops locals others = simp append_assoc in (
+    ≡ (sum_ops locals e ++ i ∷ []) ++ body_ops locals others = simp append_assoc in (
       tt,
       subst (Closed known) flat
           (sum-closed declared locals e known (i ∷ body_ops locals others) is.2 knows
@@ -201,13 +205,13 @@ body-closed locals declared number (Next (Evaluate n (Assign (Integer Int) (Loca
             (here, tt),
             body-closed locals declared (suc number) others (v ∷ more) is.3
                 (knows-within declared known (v ∷ more) knows
-                    (within-trans known more (v ∷ more) within (within-more v more))),
+                (within-trans known more (v ∷ more) within (within-more v more))),
           ))),
     )
 body-closed locals declared number (Next (Evaluate n (Putchar e)) others) known is knows =
     let i = op.Putchar locals locals in
     let flat : sum_ops locals e ++ (i ∷ body_ops locals others)
-        ≡ (sum_ops locals e ++ i ∷ []) ++ body_ops locals others = simp append_assoc in (
+    ≡ (sum_ops locals e ++ i ∷ []) ++ body_ops locals others = simp append_assoc in (
       tt,
       subst (Closed known) flat
           (sum-closed declared locals e known (i ∷ body_ops locals others) is.1 knows
@@ -215,14 +219,16 @@ body-closed locals declared number (Next (Evaluate n (Putchar e)) others) known 
             (here, tt),
             body-closed locals declared (suc number) others (locals ∷ more) is.2
                 (knows-within declared known (locals ∷ more) knows
-                    (within-trans known more (locals ∷ more) within (within-more locals more))),
+                (within-trans known more (locals ∷ more) within (within-more locals more))),
           ))),
     )
 body-closed locals declared number (Next (Return n (Some e)) Done) known is knows =
     let i = op.Return (Some locals) in
-    let flat : sum_ops locals e ++ (i ∷ []) ≡ (sum_ops locals e ++ i ∷ []) ++ [] = simp append_assoc in
-    (tt, subst (Closed known) flat (sum-closed declared locals e known (i ∷ []) is.2 knows
-        (λ more within here. ((here, tt), tt))))
+    let flat : sum_ops locals e ++ (i ∷ []) ≡ (sum_ops locals e ++ i ∷ []) ++ [] = simp append_assoc in (
+      tt,
+      subst (Closed known) flat (sum-closed declared locals e known (i ∷ []) is.2 knows
+          (λ more within here. ((here, tt), tt))),
+    )
 body-closed locals declared number _ known is knows = absurd is
 
 -- ---- the first point
@@ -237,9 +243,9 @@ start-closed variables locals ss point v is slot has begins (n, reach) =
     let ops = op.Turn ∷ body_ops locals ss in
     let first : 0 ≡ point = same_Some 0 point begins in
     let closed : Closed [] (body_ops locals ss) =
-        body-closed locals 0 0 ss [] is (record { all = λ u h. absurd (omega (arith, h)) }) in
+    body-closed locals 0 0 ss [] is (record { all = λ u h. absurd (omega (arith, h)) }) in
     live-known variables ops ops n 0 v [] slot has (omega arith) (tt, closed)
-        (subst (λ (k : ℕ). ReachesUse (straight variables ops) v n k) (sym first) reach)
+    (subst (λ (k : ℕ). ReachesUse (straight variables ops) v n k) (sym first) reach)
 
 -- ---- marks
 
@@ -271,7 +277,7 @@ not-mark : (ops is : List Op) (p q statement : ℕ) → HasAt ops p is → AllBy
     → q < p + length is → slice_get ops q ≡ Some (op.Mark statement) → ⊥
 not-mark ops is p q statement has none low high at =
     let marked : statement ∷ [] ≡ [] = op-among (λ i. mark_of i ≡ []) ops is p q (op.Mark statement) has none low high
-        at in
+    at in
     absurd (cc)
 
 sum-no_mark : (declared d : ℕ) (e : Expression) → IsSum declared e → AllByRecursion (λ i. mark_of i ≡ []) (sum_ops d e)
@@ -286,9 +292,9 @@ module _ (variables locals : ℕ) (ops : List Op) (slot : AllByRecursion IsSlotO
       → ReachesUse (straight variables ops) v n p → v < locals
   live-here declared number p v n ss is fewer has end reach =
       let knows : Knows declared (range_with_len 0 locals) =
-          record { all = λ u h. range-has 0 locals u (omega arith) (omega (arith, h, fewer)) } in
+      record { all = λ u h. range-has 0 locals u (omega arith) (omega (arith, h, fewer)) } in
       let live = live-known variables ops (body_ops locals ss) n p v (range_with_len 0 locals) slot has end
-          (body-closed locals declared number ss (range_with_len 0 locals) is knows) reach in
+      (body-closed locals declared number ss (range_with_len 0 locals) is knows) reach in
       omega (arith, in-range 0 locals v live)
 
   -- a statement that begins with its mark and has no other, and then others
@@ -314,47 +320,49 @@ module _ (variables locals : ℕ) (ops : List Op) (slot : AllByRecursion IsSlotO
       let mine = op.Mark m ∷ rest in
       let here = has_front ops p mine (body_ops locals others) has in
       let all : length (mine ++ body_ops locals others) ≡ length mine + length (body_ops locals others) =
-          length-append mine (body_ops locals others) in
-      at-or-after mine rest p q v n statement here
-          (refl, every-append (λ i. mark_of i ≡ []) (sum_ops locals e) (op.Copy w locals ∷ [])
-          (sum-no_mark declared locals e is.3) (refl, tt)) refl here.1 low at reach
+      length-append mine (body_ops locals others) in
+      at-or-after mine rest p q v n statement here (
+        refl,
+        every-append (λ i. mark_of i ≡ []) (sum_ops locals e) (op.Copy w locals ∷ [])
+            (sum-no_mark declared locals e is.3) (refl, tt),
+      ) refl here.1 low at reach
       (live-here declared number p v n (Next (Declare (Scalar m w (Some e))) others) is fewer has end)
       (λ past. mark-live (suc declared) (suc number) (p + length mine) q v n statement others is.4 (omega (arith, is.2))
-          (has_back ops p mine (body_ops locals others) has) (omega (arith, end, all)) past at reach)
+      (has_back ops p mine (body_ops locals others) has) (omega (arith, end, all)) past at reach)
   mark-live declared number p q v n statement (Next (Evaluate m (Assign (Integer Int) (LocalPlace w) e)) others) is
       fewer has end low at reach =
       let rest = sum_ops locals e ++ op.Copy w locals ∷ [] in
       let mine = op.Mark m ∷ rest in
       let here = has_front ops p mine (body_ops locals others) has in
       let all : length (mine ++ body_ops locals others) ≡ length mine + length (body_ops locals others) =
-          length-append mine (body_ops locals others) in
+      length-append mine (body_ops locals others) in
       at-or-after mine rest p q v n statement here
-          (every-append (λ i. mark_of i ≡ []) (sum_ops locals e) (op.Copy w locals ∷ [])
-          (sum-no_mark declared locals e is.2) (refl, tt)) refl here.1 low at reach
+      (every-append (λ i. mark_of i ≡ []) (sum_ops locals e) (op.Copy w locals ∷ [])
+      (sum-no_mark declared locals e is.2) (refl, tt)) refl here.1 low at reach
       (live-here declared number p v n (Next (Evaluate m (Assign (Integer Int) (LocalPlace w) e)) others) is fewer has
-          end)
+      end)
       (λ past. mark-live declared (suc number) (p + length mine) q v n statement others is.3 fewer
-          (has_back ops p mine (body_ops locals others) has) (omega (arith, end, all)) past at reach)
+      (has_back ops p mine (body_ops locals others) has) (omega (arith, end, all)) past at reach)
   mark-live declared number p q v n statement (Next (Evaluate m (Putchar e)) others) is fewer has end low at reach =
       let rest = sum_ops locals e ++ op.Putchar locals locals ∷ [] in
       let mine = op.Mark m ∷ rest in
       let here = has_front ops p mine (body_ops locals others) has in
       let all : length (mine ++ body_ops locals others) ≡ length mine + length (body_ops locals others) =
-          length-append mine (body_ops locals others) in
+      length-append mine (body_ops locals others) in
       at-or-after mine rest p q v n statement here
-          (every-append (λ i. mark_of i ≡ []) (sum_ops locals e) (op.Putchar locals locals ∷ [])
-          (sum-no_mark declared locals e is.1) (refl, tt)) refl here.1 low at reach
+      (every-append (λ i. mark_of i ≡ []) (sum_ops locals e) (op.Putchar locals locals ∷ [])
+      (sum-no_mark declared locals e is.1) (refl, tt)) refl here.1 low at reach
       (live-here declared number p v n (Next (Evaluate m (Putchar e)) others) is fewer has end)
       (λ past. mark-live declared (suc number) (p + length mine) q v n statement others is.2 fewer
-          (has_back ops p mine (body_ops locals others) has) (omega (arith, end, all)) past at reach)
+      (has_back ops p mine (body_ops locals others) has) (omega (arith, end, all)) past at reach)
   mark-live declared number p q v n statement (Next (Return m (Some e)) Done) is fewer has end low at reach =
       let rest = sum_ops locals e ++ op.Return (Some locals) ∷ [] in
       let mine = op.Mark m ∷ rest in
       let here = has_front ops p mine [] has in
       let all : length (mine ++ []) ≡ length mine + 0 = length-append mine [] in
       at-or-after mine rest p q v n statement here
-          (every-append (λ i. mark_of i ≡ []) (sum_ops locals e) (op.Return (Some locals) ∷ [])
-          (sum-no_mark declared locals e is.2) (refl, tt)) refl here.1 low at reach
+      (every-append (λ i. mark_of i ≡ []) (sum_ops locals e) (op.Return (Some locals) ∷ [])
+      (sum-no_mark declared locals e is.2) (refl, tt)) refl here.1 low at reach
       (live-here declared number p v n (Next (Return m (Some e)) Done) is fewer has end)
       (λ past. absurd (beyond ops q (op.Mark statement) (omega (arith, past, end, all)) at))
   mark-live declared number p q v n statement _ is fewer has end low at reach = absurd is

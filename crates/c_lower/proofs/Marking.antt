@@ -130,9 +130,11 @@ function-marked f form =
     record {
       marked = λ n low high.
           let (p, at) : HasMark n ops = behind n (op.Turn ∷ []) (body_ops L f.body)
-              (statements-marked L L 0 0 n f.body form.body (omega arith) (omega (arith, high))) in
-          (p, (0, within-range 0 (length ops) p (omega arith) (omega (arith, slice_get_within ops p (op.Mark n) at))),
-              at);
+          (statements-marked L L 0 0 n f.body form.body (omega arith) (omega (arith, high))) in (
+            p,
+            (0, within-range 0 (length ops) p (omega arith) (omega (arith, slice_get_within ops p (op.Mark n) at))),
+            at,
+          );
       only = λ p n at.
           let below : AllByRecursion (IsBelow N) ops = (tt, below-body N L 0 0 f.body form.body (omega arith)) in
           (omega arith, omega (arith, every-at (IsBelow N) ops p (op.Mark n) below at));

@@ -94,9 +94,9 @@ parts-shown : (locals : List Local) (parts : List Part) (p : ℕ) (values : List
 parts-shown locals [] p values before left taken written ints all matches = refl
 parts-shown locals (part ∷ parts) p values before left taken written ints all matches =
     ap (λ (v : Value). v ∷ map (part_value (at p before left taken written)) (map (variable_part locals) parts))
-        (part-shown locals part p values before left taken written ints all.0 matches)
+    (part-shown locals part p values before left taken written ints all.0 matches)
     ∙ ap (λ (vs : List Value). source.part_value values part ∷ vs)
-        (parts-shown locals parts p values before left taken written ints all.1 matches)
+    (parts-shown locals parts p values before left taken written ints all.1 matches)
 
 -- ---- the program
 
@@ -108,25 +108,31 @@ function-keeps : (f : Function) (program : Program) (listing shown : Listing) (i
     (at 0 (map (λ (w : Width). Number (pos 0)) (replicate (variables f) Two)) input 0 []) o
     × (o ≡ outcome_of (run_function (call_within turns program listing) (suc turns) listing (Some f) []
     (first_state program input turns)))
-function-keeps f program listing shown input zero slot lists shows =
-    (_, no_turn (variables f) (function_ops f) shown 0
-        (map (λ (w : Width). Number (pos 0)) (replicate (variables f) Two)) input 0 [] refl, refl)
+function-keeps f program listing shown input zero slot lists shows = (
+  _,
+  no_turn (variables f) (function_ops f) shown 0
+      (map (λ (w : Width). Number (pos 0)) (replicate (variables f) Two)) input 0 [] refl,
+  refl,
+)
 function-keeps f program listing shown input (suc turns) slot lists shows =
     let L = length f.locals in
     let before = map (λ (w : Width). Number (pos 0)) (replicate (variables f) Two) in
     let matches : Matches L (first_values f.locals []) before =
-        record { same = λ v h. first-values f.locals v (variables f) slot.locals h (omega (arith, h)) } in
+    record { same = λ v h. first-values f.locals v (variables f) slot.locals h (omega (arith, h)) } in
     let types_int : (v : ℕ) → v < L → type_at f v ≡ int =
     λ v h. let (l, e) = local-below f.locals v h in ap type_of e ∙ local-int f.locals v l slot.locals e in
     let run = body_runs (variables f) L (function_ops f) shown listing (call_within (suc turns) program listing)
-        (suc (suc turns)) (type_at f) f.result (map first_array f.arrays) (map (λ o. o.elements) program.objects)
+    (suc (suc turns)) (type_at f) f.result (map first_array f.arrays) (map (λ o. o.elements) program.objects)
     (λ statement p values vs left taken written m. ap (map (part_value (at p vs left taken written))) (shows statement)
-        ∙ parts-shown f.locals (listing statement) p values vs left taken written slot.locals (lists statement) m)
+    ∙ parts-shown f.locals (listing statement) p values vs left taken written slot.locals (lists statement) m)
     types_int slot.result f.body 0 0 1 turns turns (first_values f.locals []) before input 0 [] [] slot.body
-        (omega arith) (has_all (body_ops L f.body) (op.Turn ∷ [])) (omega arith) (omega arith)
-        (length-zeros (variables f)) (length-first_values f.locals) matches in
-    (run.0, turn_step (variables f) (function_ops f) shown 0 turns before input 0 [] run.0 refl
-        (omega (arith, body-positive (length f.locals) 0 0 f.body slot.body)) run.1, run.2)
+    (omega arith) (has_all (body_ops L f.body) (op.Turn ∷ [])) (omega arith) (omega arith)
+    (length-zeros (variables f)) (length-first_values f.locals) matches in (
+      run.0,
+      turn_step (variables f) (function_ops f) shown 0 turns before input 0 [] run.0 refl
+          (omega (arith, body-positive (length f.locals) 0 0 f.body slot.body)) run.1,
+      run.2,
+    )
 
 -- lowering keeps the outcome
 pub keeps-outcome : (program : Program) (graphs : GraphProgram) (slot : IsSlotProgram program) → graphs
@@ -134,22 +140,22 @@ pub keeps-outcome : (program : Program) (graphs : GraphProgram) (slot : IsSlotPr
 keeps-outcome program graphs slot is listing lists input turns =
     let f = slot.function in
     let locals : (statement : ℕ) → locals_at program.functions statement ≡ f.locals =
-        λ statement. ap (λ (fs : List Function). locals_at fs statement) slot.one_function in
+    λ statement. ap (λ (fs : List Function). locals_at fs statement) slot.one_function in
     let main : slice_get program.functions program.main ≡ Some f =
     ap (λ (fs : List Function). slice_get fs program.main) slot.one_function
-        ∙ ap (λ (k : ℕ). slice_get (f ∷ []) k) slot.main in
+    ∙ ap (λ (k : ℕ). slice_get (f ∷ []) k) slot.main in
     let kept = function-keeps f program listing (variables_shown program listing) input turns slot.accepted
     (λ statement. subst (λ (ls : List Local). AllByRecursion (IsPartOf ls) (listing statement)) (locals statement)
-        (lists statement))
+    (lists statement))
     (λ statement. ap (λ (ls : List Local). map (variable_part ls) (listing statement)) (locals statement)) in
     let outcome : kept.0 ≡ source_outcome program listing input turns =
     kept.2 ∙ sym (ap (λ (x : Option Function).
-        outcome_of (run_function (call_within turns program listing) (suc turns) listing x []
-        (first_state program input turns))) main) in
+    outcome_of (run_function (call_within turns program listing) (suc turns) listing x []
+    (first_state program input turns))) main) in
     let there : GraphOutcome (one_block (variables f) (function_ops f)) (variables_shown program listing) input turns
-        kept.0 =
+    kept.0 =
     (at 0 (map (λ (w : Width). Number (pos 0)) (replicate (variables f) Two)) input 0 [], refl, kept.1.0, kept.1.1) in
     subst (λ (g : GraphProgram). GraphOutcome g (variables_shown program listing) input turns
-        (source_outcome program listing input turns)) (sym is)
+    (source_outcome program listing input turns)) (sym is)
     (subst (λ (o : Outcome). GraphOutcome (one_block (variables f) (function_ops f)) (variables_shown program listing)
-        input turns o) outcome there)
+    input turns o) outcome there)

@@ -37,7 +37,7 @@ following-range a (suc (suc n)) zero h =
     let e : a + 0 ≡ a = omega arith in
     let f : a + 1 ≡ a + 0 + 1 = omega arith in
     ap (λ (k : ℕ). following k (range_with_len a (suc (suc n)))) e ∙ following-here a (range_with_len (a + 1) (suc n))
-        ∙ ap Some f
+    ∙ ap Some f
 following-range a (suc (suc n)) (suc j) h =
     let e : a + suc j ≡ a + 1 + j = omega arith in
     let f : a + 1 + j + 1 ≡ a + suc j + 1 = omega arith in
@@ -56,8 +56,12 @@ straight-more variables ops i =
     let f : suc (length ops) ≡ length (ops ++ i ∷ []) = omega (arith, length-append ops (i ∷ [])) in
     let points : range_with_len 0 (length ops) ++ length ops ∷ [] ≡ range_with_len 0 (length (ops ++ i ∷ [])) =
     ap (λ (k : ℕ). range_with_len 0 (length ops) ++ k ∷ []) e ∙ range-more 0 (length ops) ∙ ap (range_with_len 0) f in
-    let F : List ℕ → Flow = λ ps. record { widths = (straight variables ops).widths; arrays = []; blocks = ps ∷ [];
-        ops = ops ++ i ∷ [] } in
+    let F : List ℕ → Flow = λ ps. record {
+      widths = (straight variables ops).widths;
+      arrays = [];
+      blocks = ps ∷ [];
+      ops = ops ++ i ∷ [];
+    } in
     ap F points
 
 -- ---- ends
@@ -107,6 +111,6 @@ pub fits-at : (variables : ℕ) (ops done : List Op) (k : ℕ) (i : Op) → AllF
     ≡ get_or ops k i → FitsOp (straight variables done) i
 fits-at variables ops done k i fit h is =
     let at : FitsOp (straight variables []) i =
-        subst (λ (j : Op). FitsOp (straight variables []) j) (sym is)
-        (every-at (FitsOp (straight variables [])) ops k i h fit) in
+    subst (λ (j : Op). FitsOp (straight variables []) j) (sym is)
+    (every-at (FitsOp (straight variables [])) ops k i h fit) in
     fits_op-grows (straight variables []) (straight variables done) (grows-straight variables done) i at

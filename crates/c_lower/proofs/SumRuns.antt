@@ -67,7 +67,7 @@ two_give : (calls : Calls) (of : ValueType) (o : BinaryOp) (a b : Expression) (s
     → evaluate calls (Binary of o a b) s ≡ Gives (HoldsNumber z) s
 two_give calls of o a b s x y z ea eb ez =
     ap (λ (r : Evaluated Held). and_then r (λ u s'.
-        and_then (evaluate calls b s') (λ v s''. computed (binary_value o u v) s''))) ea
+    and_then (evaluate calls b s') (λ v s''. computed (binary_value o u v) s''))) ea
     ∙ ap (λ (r : Evaluated Held). and_then r (λ v s''. computed (binary_value o (HoldsNumber x) v) s'')) eb
     ∙ ez
 
@@ -84,21 +84,21 @@ sum_gives calls (Read of (LocalPlace v)) locals arrays objects turns left taken 
     let (n, held, there) = matches.same v is.0 in
     let s = running arrays objects turns left taken written visits values in
     let read : slice_index_or values v (HoldsNumber (pos 0)) ≡ HoldsNumber n =
-        get_or_from_slice_get values v (HoldsNumber n) (HoldsNumber (pos 0)) held in
+    get_or_from_slice_get values v (HoldsNumber n) (HoldsNumber (pos 0)) held in
     let number : n ≡ number_held (slice_get values v) = sym (ap number_held held) in
     ap (λ (h : Held). Gives h s) (read ∙ ap HoldsNumber number)
 sum_gives calls (Binary of binary.Add a b) locals arrays objects turns left taken written visits values variables is
     matches =
     two_give calls of binary.Add a b (running arrays objects turns left taken written visits values)
-        (sum_value values a) (sum_value values b) (sum_value values (Binary of binary.Add a b))
-        (sum_gives calls a locals arrays objects turns left taken written visits values variables is.0 matches)
-        (sum_gives calls b locals arrays objects turns left taken written visits values variables is.1 matches) refl
+    (sum_value values a) (sum_value values b) (sum_value values (Binary of binary.Add a b))
+    (sum_gives calls a locals arrays objects turns left taken written visits values variables is.0 matches)
+    (sum_gives calls b locals arrays objects turns left taken written visits values variables is.1 matches) refl
 sum_gives calls (Binary of binary.Subtract a b) locals arrays objects turns left taken written visits values variables
     is matches =
     two_give calls of binary.Subtract a b (running arrays objects turns left taken written visits values)
-        (sum_value values a) (sum_value values b) (sum_value values (Binary of binary.Subtract a b))
-        (sum_gives calls a locals arrays objects turns left taken written visits values variables is.0 matches)
-        (sum_gives calls b locals arrays objects turns left taken written visits values variables is.1 matches) refl
+    (sum_value values a) (sum_value values b) (sum_value values (Binary of binary.Subtract a b))
+    (sum_gives calls a locals arrays objects turns left taken written visits values variables is.0 matches)
+    (sum_gives calls b locals arrays objects turns left taken written visits values variables is.1 matches) refl
 sum_gives calls _ locals arrays objects turns left taken written visits values variables is matches = absurd is
 
 -- ---- the graph
@@ -143,8 +143,10 @@ module _ (variables : ℕ) (ops : List Op) (listing : Listing) where
       → Matches locals values before → ((v : ℕ) → v < d → slice_get after v ≡ slice_get before v)
       → Matches locals values after
   matches-kept locals d values before after le matches kept =
-      record { same = λ v below. let (n, held, there) = matches.same v below in
-          (n, held, kept v (omega (arith, below)) ∙ there) }
+      record {
+        same = λ v below. let (n, held, there) = matches.same v below in
+            (n, held, kept v (omega (arith, below)) ∙ there);
+      }
 
   -- two sums and an op
   put_two : (i : Op) (f : ℤ → ℤ → ℤ) (xs ys : List Op) (d p : ℕ) (x y : ℤ) (before : List Value) → takes_turn (Some i)
@@ -158,12 +160,12 @@ module _ (variables : ℕ) (ops : List Op) (listing : Listing) where
       let q = p + length xs + length ys in
       let here = (has_back ops (p + length xs) ys (i ∷ []) (has_back ops p xs (ys ++ i ∷ []) has)).0 in
       let len : q + 1 ≡ p + length (xs ++ (ys ++ i ∷ [])) =
-          omega (arith, length-append xs (ys ++ i ∷ []), length-append ys (i ∷ [])) in
+      omega (arith, length-append xs (ys ++ i ∷ []), length-append ys (i ∷ [])) in
       let next : suc q < length ops = omega (arith, more, len) in
       let left_value : slice_get second.after d ≡ Some (Number x) = second.kept d (omega arith) ∙ first.result in
       let last = put_one d q (f x y) second.after second.long (omega (arith, room))
-          (λ turns left taken written o r. two_step variables ops listing i f q d d (suc d) turns x y second.after left
-          taken written o et ev does here next left_value second.result r) in
+      (λ turns left taken written o r. two_step variables ops listing i f q d d (suc d) turns x y second.after left
+      taken written o et ev does here next left_value second.result r) in
       let whole : Puts d p (q + 1) (f x y) before = record {
         after = last.after;
         long = last.long;
@@ -182,39 +184,39 @@ module _ (variables : ℕ) (ops : List Op) (listing : Listing) where
       let there : d < variables = omega (arith, room) in
       let next : suc p < length ops = omega (arith, more) in
       put_one d p n before long there (λ turns left taken written o r.
-          const_step variables ops listing p d turns n before left taken written o has.0 next there r)
+      const_step variables ops listing p d turns n before left taken written o has.0 next there r)
   sum_puts (Read of (LocalPlace v)) locals d p values before is has more le room long matches =
       let (n, held, there) = matches.same v is.0 in
       let number : n ≡ number_held (slice_get values v) = sym (ap number_held held) in
       let next : suc p < length ops = omega (arith, more) in
       let put : Puts d p (p + 1) n before = put_one d p n before long (omega (arith, room))
-          (λ turns left taken written o r. copy_step variables ops listing p d v turns (Number n) before left taken
-          written o has.0 next there r) in
+      (λ turns left taken written o r. copy_step variables ops listing p d v turns (Number n) before left taken
+      written o has.0 next there r) in
       subst (λ (m : ℤ). Puts d p (p + 1) m before) number put
   sum_puts (Binary of binary.Add a b) locals d p values before is has more le room long matches =
       let xs = sum_ops d a in
       let ys = sum_ops (suc d) b in
       let len : length (xs ++ (ys ++ op.Add d d (suc d) ∷ [])) ≡ length xs + (length ys + 1) =
-          length-append xs (ys ++ op.Add d d (suc d) ∷ [])
-          ∙ ap (λ (k : ℕ). length xs + k) (length-append ys (op.Add d d (suc d) ∷ [])) in
+      length-append xs (ys ++ op.Add d d (suc d) ∷ [])
+      ∙ ap (λ (k : ℕ). length xs + k) (length-append ys (op.Add d d (suc d) ∷ [])) in
       let first = sum_puts a locals d p values before is.0 (has_front ops p xs _ has) (omega (arith, more, len)) le
-          (omega (arith, room)) long matches in
+      (omega (arith, room)) long matches in
       let second = sum_puts b locals (suc d) (p + length xs) values first.after is.1
-          (has_front ops (p + length xs) ys _ (has_back ops p xs _ has)) (omega (arith, more, len)) (omega (arith, le))
-          (omega (arith, room)) first.long (matches-kept locals d values before first.after le matches first.kept) in
+      (has_front ops (p + length xs) ys _ (has_back ops p xs _ has)) (omega (arith, more, len)) (omega (arith, le))
+      (omega (arith, room)) first.long (matches-kept locals d values before first.after le matches first.kept) in
       put_two (op.Add d d (suc d)) (λ x y. int_wrap w32 (x +ℤ y)) xs ys d p (sum_value values a) (sum_value values b)
-          before refl (λ s. refl) (λ s. refl) has more (omega (arith, room, height-positive b locals is.1)) first second
+      before refl (λ s. refl) (λ s. refl) has more (omega (arith, room, height-positive b locals is.1)) first second
   sum_puts (Binary of binary.Subtract a b) locals d p values before is has more le room long matches =
       let xs = sum_ops d a in
       let ys = sum_ops (suc d) b in
       let len : length (xs ++ (ys ++ op.Sub d d (suc d) ∷ [])) ≡ length xs + (length ys + 1) =
-          length-append xs (ys ++ op.Sub d d (suc d) ∷ [])
-          ∙ ap (λ (k : ℕ). length xs + k) (length-append ys (op.Sub d d (suc d) ∷ [])) in
+      length-append xs (ys ++ op.Sub d d (suc d) ∷ [])
+      ∙ ap (λ (k : ℕ). length xs + k) (length-append ys (op.Sub d d (suc d) ∷ [])) in
       let first = sum_puts a locals d p values before is.0 (has_front ops p xs _ has) (omega (arith, more, len)) le
-          (omega (arith, room)) long matches in
+      (omega (arith, room)) long matches in
       let second = sum_puts b locals (suc d) (p + length xs) values first.after is.1
-          (has_front ops (p + length xs) ys _ (has_back ops p xs _ has)) (omega (arith, more, len)) (omega (arith, le))
-          (omega (arith, room)) first.long (matches-kept locals d values before first.after le matches first.kept) in
+      (has_front ops (p + length xs) ys _ (has_back ops p xs _ has)) (omega (arith, more, len)) (omega (arith, le))
+      (omega (arith, room)) first.long (matches-kept locals d values before first.after le matches first.kept) in
       put_two (op.Sub d d (suc d)) (λ x y. int_wrap w32 (x -ℤ y)) xs ys d p (sum_value values a) (sum_value values b)
-          before refl (λ s. refl) (λ s. refl) has more (omega (arith, room, height-positive b locals is.1)) first second
+      before refl (λ s. refl) (λ s. refl) has more (omega (arith, room, height-positive b locals is.1)) first second
   sum_puts _ locals d p values before is has more le room long matches = absurd is

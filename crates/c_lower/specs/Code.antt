@@ -57,8 +57,13 @@ variables f = length f.locals + temporaries f.body
 
 -- a graph of one block with these ops in order, over so many variables of width Two
 abbrev pub straight : ℕ → List Op → Flow
-straight variables ops = record { widths = replicate variables Two; arrays = []; blocks =
-    range_with_len 0 (length ops) ∷ []; ops = ops }
+straight variables ops = record {
+  widths = replicate variables Two;
+  arrays = [];
+  blocks =
+      range_with_len 0 (length ops) ∷ [];
+  ops = ops;
+}
 
 abbrev pub lowered : Function → Flow
 lowered f = straight (variables f) (function_ops f)

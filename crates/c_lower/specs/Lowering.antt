@@ -24,8 +24,12 @@ use Rattle.c_lower.specs.Shown.{ListsLocals, local_widths, numbers_of, variables
 -- ---- the program of graphs
 
 abbrev pub graphs_of : Graphs → GraphProgram
-graphs_of graphs = record { functions = graphs.functions.items; objects = map object_of graphs.objects.items; main =
-    graphs.main }
+graphs_of graphs = record {
+  functions = graphs.functions.items;
+  objects = map object_of graphs.objects.items;
+  main =
+      graphs.main;
+}
 
 -- ---- outcomes
 
@@ -115,7 +119,7 @@ first_statement functions k = sum_by (λ f. numbers_of f.body) (take k functions
 abbrev pub HaveMarks : Program → GraphProgram → Type 0
 HaveMarks program graphs =
     (k : ℕ) (f : Function) (flow : Flow) → slice_get program.functions k ≡ Some f → slice_get graphs.functions k
-        ≡ Some flow
+    ≡ Some flow
     → MarksStatements (first_statement program.functions k) f flow
 
 -- ---- the ops that are made so far

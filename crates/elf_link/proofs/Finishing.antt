@@ -38,13 +38,13 @@ length-elements : (width : ℕ) (zs : List ℤ) → length (flat_map (λ (z : �
 length-elements width [] = omega arith
 length-elements width (z ∷ zs) =
     let first : length (little_bytes width (cast_unsigned w32 z)) ≡ width =
-        length-bytes_low_first 0 width (cast_unsigned w32 z) in
+    length-bytes_low_first 0 width (cast_unsigned w32 z) in
     let others : length (flat_map (λ (y : ℤ). little_bytes width (cast_unsigned w32 y)) zs) ≡ width * length zs =
-        length-elements width zs in
+    length-elements width zs in
     length-append (little_bytes width (cast_unsigned w32 z))
-        (flat_map (λ (y : ℤ). little_bytes width (cast_unsigned w32 y)) zs)
+    (flat_map (λ (y : ℤ). little_bytes width (cast_unsigned w32 y)) zs)
     ∙ ap (λ (n : ℕ). n + length (flat_map (λ (y : ℤ). little_bytes width (cast_unsigned w32 y)) zs)) first
-        ∙ ap (λ (n : ℕ). width + n) others ∙ mul_more width (length zs)
+    ∙ ap (λ (n : ℕ). width + n) others ∙ mul_more width (length zs)
   where
     mul_more : (a b : ℕ) → a + a * b ≡ a * suc b
     mul_more a b = omega (arith, mul-suc a b)
@@ -56,7 +56,7 @@ length-object : (o : Object) → length (object_bytes o) ≡ 4 + elements_size o
 unfolding zeros
 length-object o =
     length-append (little_bytes 4 (length o.elements) ++ element_bytes o)
-        (replicate (elements_size o - o.width * length o.elements) 0)
+    (replicate (elements_size o - o.width * length o.elements) 0)
     ∙ omega (
       arith,
       length-append (little_bytes 4 (length o.elements)) (element_bytes o),
@@ -101,22 +101,34 @@ there_has sections objects a order laid code held (target.Function f) h =
     (x, found, omega (arith, bound, code))
 there_has sections objects a order laid code held (target.Object k) h =
     let inside : k < length a.objects.items =
-        omega (arith, h, ap length laid.objects_are, objects_many (a.depth + 4) objects) in
+    omega (arith, h, ap length laid.objects_are, objects_many (a.depth + 4) objects) in
     let found : slice_get a.objects.items k ≡ Some (get_or a.objects.items k 0) =
-        slice_get-get_or a.objects.items k 0 inside in
+    slice_get-get_or a.objects.items k 0 inside in
     let bound = objects_bound (a.depth + 4) objects k (get_or a.objects.items k 0)
-        (sym (ap (λ (xs : List ℕ). slice_get xs k) laid.objects_are) ∙ found) in
-    (get_or a.objects.items k 0, found, omega
-        (arith, bound, held, laid.depth, depth_bound (sections_size sections) code))
+    (sym (ap (λ (xs : List ℕ). slice_get xs k) laid.objects_are) ∙ found) in (
+      get_or a.objects.items k 0,
+      found,
+      omega
+          (arith, bound, held, laid.depth, depth_bound (sections_size sections) code),
+    )
 there_has sections objects a order laid code held (target.Stub stub.Putchar) h =
     (a.putchar, refl, omega (arith, laid.in_text.putchar, code))
 there_has sections objects a order laid code held (target.Stub stub.Getchar) h =
     (a.getchar, refl, omega (arith, laid.in_text.putchar, laid.in_text.getchar, code))
 there_has sections objects a order laid code held (target.Stub stub.Exit) h =
     (a.exit, refl, omega (arith, laid.in_text.putchar, laid.in_text.getchar, laid.in_text.exit, code))
-there_has sections objects a order laid code held target.Check h =
-    (a.check, refl, omega (arith, laid.in_text.putchar, laid.in_text.getchar, laid.in_text.exit, laid.in_text.check,
-    code))
+there_has sections objects a order laid code held target.Check h = (
+  a.check,
+  refl,
+  omega (
+    arith,
+    laid.in_text.putchar,
+    laid.in_text.getchar,
+    laid.in_text.exit,
+    laid.in_text.check,
+    code,
+  ),
+)
 there_has sections objects a order laid code held target.Depth h =
     (a.depth, refl, omega (arith, laid.depth, depth_bound (sections_size sections) code))
 
@@ -124,21 +136,24 @@ there_has sections objects a order laid code held target.Depth h =
 
 -- the points of a section that stands at an address
 has_points : (k address : ℕ) (items : List Item) (s : Section) (is : IsSection k items s)
-    → HasPoints items (record { labels = λ l. address + is.labels l; points =
-        λ p. address + slice_index s.points.items p }) (map (λ p. address + p) s.points.items)
+    → HasPoints items (record {
+      labels = λ l. address + is.labels l;
+      points =
+          λ p. address + slice_index s.points.items p;
+    }) (map (λ p. address + p) s.points.items)
 has_points k address items s is =
     record {
       addresses = λ p stands.
           slice_get-map (λ (n : ℕ). address + n) s.points.items p
           ∙ ap (option_map (λ (n : ℕ). address + n))
-              (slice_get-get_or s.points.items p 0 (is.numbered.within p stands));
+          (slice_get-get_or s.points.items p 0 (is.numbered.within p stands));
       greatest = λ p e. is.numbered.greatest p (sym (length-map s.points.items (λ (n : ℕ). address + n)) ∙ e);
     }
 
 -- a list of what there is for each number
 of_each : (P : ℕ → Places → Type 0) (n : ℕ) → ((k : ℕ) → k < n → (place : Places) × P k place)
     → (places : List Places) × (length places ≡ n)
-        × ((k : ℕ) (place : Places) → slice_get places k ≡ Some place → P k place)
+    × ((k : ℕ) (place : Places) → slice_get places k ≡ Some place → P k place)
 of_each P zero each = ([], refl, λ k place e. absurd (cc))
 of_each P (suc n) each =
     let first = each 0 (omega arith) in
@@ -169,17 +184,20 @@ record StandsAt (symbols : Symbols) (start : ℕ) (functions : List (List Item))
 stands_at : (symbols : Symbols) (nf mo start : ℕ) (functions : List (List Item)) (sections : List Section)
     → ((t : Target) → IsThere nf mo t → HasAddress symbols t)
     → ((i : ℕ) (s : Section) → slice_get sections i ≡ Some s → FitsIn nf mo s) → start + sections_size sections < 2 ^ 32
-        → IsOrder (length sections) (order_of sections) → AreSections functions sections
+    → IsOrder (length sections) (order_of sections) → AreSections functions sections
     → (k : ℕ) → k < length functions → (place : Places) × StandsAt symbols start functions sections k place
 stands_at symbols nf mo start functions sections has fits room order are k h =
     let (i, numbered) = order.each k (omega (arith, h, are.many)) in
-    let inside : i < length sections = omega (arith, slice_get_within (order_of sections) i k numbered,
-        length-map sections function_of) in
+    let inside : i < length sections = omega (
+      arith,
+      slice_get_within (order_of sections) i k numbered,
+      length-map sections function_of,
+    ) in
     let (s, section) = there sections i inside in
     let same : function_of s ≡ k = same_Some (function_of s) k (sym (number-at sections i s section) ∙ numbered) in
     let address : ℕ = get_or (addresses_from start sections) i 0 in
     let at : slice_get (addresses_from start sections) i ≡ Some address =
-        slice_get-get_or (addresses_from start sections) i 0 (omega (arith, inside, length-addresses start sections)) in
+    slice_get-get_or (addresses_from start sections) i 0 (omega (arith, inside, length-addresses start sections)) in
     let (items, function, is) = are.each i s section in
     let fit = fits i s section in
     let addresses : HaveAddresses symbols s.relocations.items = λ j r e. has r.target (fit.targets j r e) in (
@@ -208,9 +226,9 @@ stands_at symbols nf mo start functions sections has fits room order are k h =
 functions_at : (symbols : Symbols) (functions : List (List Item)) (places : List Places) (address : ℕ)
     (sections : List Section)
     → ((i : ℕ) (s : Section) → slice_get sections i ≡ Some s → (j : ℕ) (r : Relocation)
-        → slice_get s.relocations.items j ≡ Some r → r.at + 4 ≤ length s.bytes.items)
+    → slice_get s.relocations.items j ≡ Some r → r.at + 4 ≤ length s.bytes.items)
     → ((i : ℕ) (s : Section) (x : ℕ) → slice_get sections i ≡ Some s → slice_get (addresses_from address sections) i
-        ≡ Some x
+    ≡ Some x
     → FunctionAt symbols functions places (function_of s) x (resolved symbols x s.relocations.items s.bytes.items))
     → FunctionsAt symbols functions places (order_of sections) address (code_from symbols address sections)
 functions_at symbols functions places address [] inside each = refl
@@ -218,7 +236,7 @@ functions_at symbols functions places address (s ∷ sections) inside each =
     let next : ℕ = address + length s.bytes.items in
     let first : List ℕ = resolved symbols address s.relocations.items s.bytes.items in
     let same : length first ≡ length s.bytes.items =
-        length-resolved symbols address s.relocations.items s.bytes.items (inside 0 s refl) in (
+    length-resolved symbols address s.relocations.items s.bytes.items (inside 0 s refl) in (
       first,
       code_from symbols next sections,
       refl,
@@ -226,7 +244,7 @@ functions_at symbols functions places address (s ∷ sections) inside each =
       subst (λ (n : ℕ). FunctionsAt symbols functions places (order_of sections) (address + n)
           (code_from symbols next sections)) (sym same)
           (functions_at symbols functions places next sections (λ i t e. inside (suc i) t e)
-              (λ i t x e f. each (suc i) t x e f)),
+          (λ i t x e f. each (suc i) t x e f)),
     )
 
 -- the points of the section at a place
@@ -236,7 +254,7 @@ points_at : (address : ℕ) (sections : List Section) (i x : ℕ) (s : Section)
 points_at address [] i x s e f = absurd (cc)
 points_at address (t ∷ sections) zero x s e f =
     ap (λ (n : ℕ). Some (map (λ p. n + p) t.points.items)) (same_Some address x e)
-        ∙ ap (λ (u : Section). Some (map (λ p. x + p) u.points.items)) (same_Some t s f)
+    ∙ ap (λ (u : Section). Some (map (λ p. x + p) u.points.items)) (same_Some t s f)
 points_at address (t ∷ sections) (suc i) x s e f = points_at (address + length t.bytes.items) sections i x s e f
 
 -- where the sections of functions stand, their code and points are those of the functions
@@ -252,14 +270,14 @@ record Placed (symbols : Symbols) (address : ℕ) (functions : List (List Item))
 placed : (symbols : Symbols) (nf mo address : ℕ) (functions : List (List Item)) (sections : List Section)
     (listed : List (List ℕ)) → ((t : Target) → IsThere nf mo t → HasAddress symbols t)
     → ((i : ℕ) (s : Section) → slice_get sections i ≡ Some s → FitsIn nf mo s)
-        → address + sections_size sections < 2 ^ 32 → IsOrder (length sections) (order_of sections)
-        → AreSections functions sections
+    → address + sections_size sections < 2 ^ 32 → IsOrder (length sections) (order_of sections)
+    → AreSections functions sections
     → AreNumbered (order_of sections) (addresses_from address sections) symbols.functions
-        → AreNumbered (order_of sections) (points_from address sections) listed
+    → AreNumbered (order_of sections) (points_from address sections) listed
     → Placed symbols address functions sections listed
 placed symbols nf mo address functions sections listed has fits room order are named points =
     let (places, many, all) = of_each (StandsAt symbols address functions sections) (length functions)
-        (stands_at symbols nf mo address functions sections has fits room order are) in
+    (stands_at symbols nf mo address functions sections has fits room order are) in
     record {
       places = places;
       many = many;
@@ -269,18 +287,18 @@ placed symbols nf mo address functions sections listed has fits room order are n
           let h = all f place p in
           let list : map (λ n. h.address + n) h.s.points.items ≡ entries =
           same_Some (map (λ n. h.address + n) h.s.points.items) entries
-              (sym (points_at address sections h.i h.address h.s h.at h.section) ∙ sym (points h.i f h.numbered) ∙ l)
+          (sym (points_at address sections h.i h.address h.s h.at h.section) ∙ sym (points h.i f h.numbered) ∙ l)
           in
           subst (HasPoints items place) list
           (subst (λ (xs : List Item). HasPoints xs place (map (λ n. h.address + n) h.s.points.items))
-              (same_Some h.items items (sym h.function ∙ e)) h.points);
+          (same_Some h.items items (sym h.function ∙ e)) h.points);
     }
   where
     function_at : (places : List Places) → length places ≡ length functions
         → ((k : ℕ) (place : Places) → slice_get places k ≡ Some place
         → StandsAt symbols address functions sections k place)
         → (i : ℕ) (s : Section) (x : ℕ) → slice_get sections i ≡ Some s → slice_get (addresses_from address sections) i
-            ≡ Some x
+        ≡ Some x
         → FunctionAt symbols functions places (function_of s) x (resolved symbols x s.relocations.items s.bytes.items)
     function_at places many all i s x e f =
         let k : ℕ = function_of s in
@@ -288,12 +306,12 @@ placed symbols nf mo address functions sections listed has fits room order are n
         let inside : k < length places = omega (arith, order.below i k number, are.many, many) in
         let place : Places = get_or places k (record { labels = λ l. 0; points = λ p. 0 }) in
         let found : slice_get places k ≡ Some place =
-            slice_get-get_or places k (record { labels = λ l. 0; points = λ p. 0 }) inside in
+        slice_get-get_or places k (record { labels = λ l. 0; points = λ p. 0 }) inside in
         let h = all k place found in
         let same : h.i ≡ i = order.once h.i i k h.numbered number in
         let section : h.s ≡ s = same_Some h.s s (sym h.section ∙ ap (slice_get sections) same ∙ e) in
         let there : h.address ≡ x = same_Some h.address x
-            (sym h.at ∙ ap (slice_get (addresses_from address sections)) same ∙ f) in
+        (sym h.at ∙ ap (slice_get (addresses_from address sections)) same ∙ f) in
         record {
           items = h.items;
           place = place;
@@ -303,7 +321,7 @@ placed symbols nf mo address functions sections listed has fits room order are n
           stands = subst (λ (n : ℕ). ItemsAt symbols place n h.items
               (resolved symbols n s.relocations.items s.bytes.items)) there
               (subst (λ (u : Section). ItemsAt symbols place h.address h.items
-                  (resolved symbols h.address u.relocations.items u.bytes.items)) section h.stands);
+              (resolved symbols h.address u.relocations.items u.bytes.items)) section h.stands);
         }
 
 -- ---- the whole
@@ -329,40 +347,40 @@ length-put old new bytes n e size = ap length e ∙ length-append old bytes ∙ 
 -- the text has the bytes of the sections, and 104 of the start and the routines
 pub length-linked : {nf mo : ℕ} (sections : List Section) (main : ℕ) (a : Addresses) (text : List ℕ)
     → ((i : ℕ) (s : Section) → slice_get sections i ≡ Some s → FitsIn nf mo s) → HasCode sections main a text
-        → length text ≡ sections_size sections + 104
+    → length text ≡ sections_size sections + 104
 length-linked {nf = nf} {mo = mo} sections main a text fits code =
     let start : length code.start ≡ 0 + 29 = length-put [] code.start code.starts.bytes 29 code.starts.text
-        code.starts.size in
+    code.starts.size in
     let calls : length code.functions ≡ length code.start + sections_size sections =
     length-put code.start code.functions _ (sections_size sections) code.calls
-        (length-code (symbols_of a) (text_start + 29) nf mo sections fits)
+    (length-code (symbols_of a) (text_start + 29) nf mo sections fits)
     in
     let puts : length code.putchar ≡ length code.functions + 29 =
-        length-put code.functions code.putchar code.puts.bytes 29 code.puts.text code.puts.size in
+    length-put code.functions code.putchar code.puts.bytes 29 code.puts.text code.puts.size in
     let gets : length code.getchar ≡ length code.putchar + 33 =
-        length-put code.putchar code.getchar code.gets.bytes 33 code.gets.text code.gets.size in
+    length-put code.putchar code.getchar code.gets.bytes 33 code.gets.text code.gets.size in
     let exits : length code.exit ≡ length code.getchar + 11 =
-        length-put code.getchar code.exit code.exits.bytes 11 code.exits.text code.exits.size in
+    length-put code.getchar code.exit code.exits.bytes 11 code.exits.text code.exits.size in
     let checks : length text ≡ length code.exit + 2 =
-        length-put code.exit text code.checks.bytes 2 code.checks.text code.checks.size in
+    length-put code.exit text code.checks.bytes 2 code.checks.text code.checks.size in
     omega (arith, start, calls, puts, gets, exits, checks)
 
 pub linked_is : (sections : List Section) (objects : List Object) (main : ℕ) (a : Addresses) (linked : Linked)
     → CanLink sections objects main → AreAddresses sections objects a
     → HasCode sections main a linked.image.text.items → linked.image.data_bytes.items ≡ data_bytes objects
-        → linked.image.entry ≡ text_start
+    → linked.image.entry ≡ text_start
     → length linked.points.items ≡ length sections
-        → AreNumbered (order_of sections) (points_from (text_start + 29) sections)
-        (map (λ v. v.items) linked.points.items) → linked.objects.items ≡ a.objects.items
+    → AreNumbered (order_of sections) (points_from (text_start + 29) sections)
+    (map (λ v. v.items) linked.points.items) → linked.objects.items ≡ a.objects.items
     → (functions : List (List Item)) → AreSections functions sections
-        → IsLinked functions (order_of sections) objects main linked
+    → IsLinked functions (order_of sections) objects main linked
 linked_is sections objects main a linked can laid code data_same entry points_many points_same objects_same functions
     are =
     let symbols : Symbols = symbols_of a in
     let text : List ℕ = linked.image.text.items in
     let held = can.held.size in
     let p = placed symbols (length sections) (length objects) (text_start + 29) functions sections
-        (map (λ v. v.items) linked.points.items) (there_has sections objects a can.order laid can.code held) can.each
+    (map (λ v. v.items) linked.points.items) (there_has sections objects a can.order laid can.code held) can.each
     (omega (arith, can.code)) can.order are laid.in_text.functions points_same
     in
     let body : List ℕ = code_from symbols (text_start + 29) sections in
@@ -373,12 +391,12 @@ linked_is sections objects main a linked can laid code data_same entry points_ma
     ∙ ap (λ (xs : List ℕ). xs ++ code.checks.bytes)
     (code.exits.text ∙ ap (λ (xs : List ℕ). xs ++ code.exits.bytes)
     (code.gets.text ∙ ap (λ (xs : List ℕ). xs ++ code.gets.bytes)
-        (code.puts.text ∙ ap (λ (xs : List ℕ). xs ++ code.puts.bytes) front)))
+    (code.puts.text ∙ ap (λ (xs : List ℕ). xs ++ code.puts.bytes) front)))
     in
     let start_long : length start ≡ 29 = code.starts.size in
     let size_1 = length-append start body in
     let body_long : length body ≡ sections_size sections =
-        length-code symbols (text_start + 29) (length sections) (length objects) sections can.each in
+    length-code symbols (text_start + 29) (length sections) (length objects) sections can.each in
     let puts_long : length code.puts.bytes ≡ 29 = code.puts.size in
     let gets_long : length code.gets.bytes ≡ 33 = code.gets.size in
     let exits_long : length code.exits.bytes ≡ 11 = code.exits.size in
@@ -403,7 +421,7 @@ linked_is sections objects main a linked can laid code data_same entry points_ma
         whole = whole;
         start_at = λ none. subst (λ (n : ℕ). ItemsAt symbols none text_start (start_items n a.depth main) start) stack
             (any_places symbols code.starts.places none text_start (start_items a.stack a.depth main) start
-                (start_plainly a.stack a.depth main high (omega (arith, low))) code.starts.items_at);
+            (start_plainly a.stack a.depth main high (omega (arith, low))) code.starts.items_at);
         order_is = subst (λ (n : ℕ). IsOrder n (order_of sections)) (sym are.many) can.order;
         places_are = p.many;
         addresses_are = laid.in_text.many ∙ sym are.many;
@@ -438,10 +456,10 @@ linked_is sections objects main a linked can laid code data_same entry points_ma
 pub each_fits : (sections : List Section) (objects : List Object) (main : ℕ) (a : Addresses)
     → CanLink sections objects main → AreAddresses sections objects a
     → (k : ℕ) (s : Section) → slice_get sections k ≡ Some s
-        → FitsIn (length a.functions.items) (length a.objects.items) s
+    → FitsIn (length a.functions.items) (length a.objects.items) s
 each_fits sections objects main a can laid k s e =
     let nf : length a.functions.items ≡ length sections = laid.in_text.many in
     let mo : length a.objects.items ≡ length objects = ap length laid.objects_are
-        ∙ objects_many (a.depth + 4) objects in
+    ∙ objects_many (a.depth + 4) objects in
     subst (λ (n : ℕ). FitsIn n (length a.objects.items) s) (sym nf)
-        (subst (λ (n : ℕ). FitsIn (length sections) n s) (sym mo) (can.each k s e))
+    (subst (λ (n : ℕ). FitsIn (length sections) n s) (sym mo) (can.each k s e))

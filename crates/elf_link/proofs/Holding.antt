@@ -35,12 +35,18 @@ pub held_at : (objects same : List DataObject) (k : ℕ) (o : DataObject) → Ca
     ≡ objects → k < length objects → o ≡ get_or same k o → IsHeld o
 held_at objects same k o held s h e =
     let there : slice_get (map object_of objects) k ≡ Some (object_of o) = slice_get-map object_of objects k
-        ∙ ap (option_map object_of) (read_at objects same k o s h e) in
+    ∙ ap (option_map object_of) (read_at objects same k o s h e) in
     let width : (o.width ≡ 1) ⊎ ((o.width ≡ 2) ⊎ (o.width ≡ 4)) = held.widths k (object_of o) there in
     record {
       size = omega (arith, object_part (map object_of objects) k (object_of o) there, held.size);
-      narrow = elim width [ inl p ↦ omega (arith, p) | inr q
-          ↦ elim q [ inl p ↦ omega (arith, p) | inr p ↦ omega (arith, p) ] ];
-      wide = elim width [ inl p ↦ omega (arith, p) | inr q
-          ↦ elim q [ inl p ↦ omega (arith, p) | inr p ↦ omega (arith, p) ] ];
+      narrow = elim width [
+        | inl p ↦ omega (arith, p)
+        | inr q
+            ↦ elim q [ inl p ↦ omega (arith, p) | inr p ↦ omega (arith, p) ]
+      ];
+      wide = elim width [
+        | inl p ↦ omega (arith, p)
+        | inr q
+            ↦ elim q [ inl p ↦ omega (arith, p) | inr p ↦ omega (arith, p) ]
+      ];
     }

@@ -36,16 +36,16 @@ IsFilled order placed numbered n =
 pub filled-more : {A : Type 0} (order : List ℕ) (placed numbered : List A) (m n k : ℕ) (x : A) → IsOrder m order
     → slice_get order n ≡ Some k
     → slice_get placed n ≡ Some x → k < length numbered → IsFilled order placed numbered n
-        → IsFilled order placed (slice_set numbered k x) (n + 1)
+    → IsFilled order placed (slice_set numbered k x) (n + 1)
 filled-more order placed numbered m n k x is at there inside filled =
     λ i l h e. elim (cases_eq i n) [
       | inl same ↦
           let number : l ≡ k = same_Some l k (sym e ∙ ap (slice_get order) same ∙ at) in
           ap (slice_get (slice_set numbered k x)) number ∙ set-there numbered k x inside ∙ sym there
-              ∙ ap (slice_get placed) (sym same)
+          ∙ ap (slice_get placed) (sym same)
       | inr other ↦
           set-elsewhere numbered k l x (λ number. other (is.once i n l e (at ∙ ap Some (sym number))))
-              ∙ filled i l (omega (arith, h, other)) e
+          ∙ filled i l (omega (arith, h, other)) e
     ]
 
 -- all places
@@ -110,7 +110,7 @@ sections-alone items s is =
         × (slice_get (items ∷ []) (function_of t) ≡ Some xs) × IsSection (function_of t) xs t
     each zero t e =
         let P : Section → Type 0 = λ u. (xs : List Item) × (slice_get (items ∷ []) (function_of u) ≡ Some xs)
-            × IsSection (function_of u) xs u in
+        × IsSection (function_of u) xs u in
         let Q : ℕ → Type 0 = λ n. (xs : List Item) × (slice_get (items ∷ []) n ≡ Some xs) × IsSection n xs s in
         subst P (same_Some s t e) (subst Q (sym number) (items, refl, is))
     each (suc i) t e = absurd (cc)

@@ -38,7 +38,7 @@ taken_inside n (suc k) (q ∷ qs) inside (suc j) r e = taken_inside n k qs (λ i
 
 pub length-so_far : (symbols : Symbols) (base k : ℕ) (rs : List Relocation) (bytes : List ℕ)
     → ((j : ℕ) (r : Relocation) → slice_get rs j ≡ Some r → r.at + 4 ≤ length bytes)
-        → length (resolved symbols base (take k rs) bytes) ≡ length bytes
+    → length (resolved symbols base (take k rs) bytes) ≡ length bytes
 length-so_far symbols base k rs bytes inside =
     length-resolved symbols base (take k rs) bytes (taken_inside (length bytes) k rs inside)
 
@@ -46,7 +46,7 @@ length-so_far symbols base k rs bytes inside =
 pub word_more : (symbols : Symbols) (base k start word : ℕ) (rs same : List Relocation) (d : Relocation)
     (bytes old text text' : List ℕ) → same ≡ rs → k < length rs
     → ((j : ℕ) (r : Relocation) → slice_get rs j ≡ Some r → r.at + 4 ≤ length bytes) → start ≡ length old → word
-        ≡ word_for symbols base (get_or same k d)
+    ≡ word_for symbols base (get_or same k d)
     → text' ≡ with_word (start + (get_or same k d).at) word text → text ≡ old ++ resolved symbols base (take k rs) bytes
     → text' ≡ old ++ resolved symbols base (take (k + 1) rs) bytes
 word_more symbols base k start word rs same d bytes old text text' s h inside o w t made =
@@ -56,7 +56,7 @@ word_more symbols base k start word rs same d bytes old text text' s h inside o 
     omega (arith, inside k r (slice_get-get_or rs k d h), length-so_far symbols base k rs bytes inside)
     in
     let there : text' ≡ with_word (length old + r.at) (word_for symbols base r)
-        (old ++ resolved symbols base (take k rs) bytes) =
+    (old ++ resolved symbols base (take k rs) bytes) =
     t ∙ ap (λ (n : ℕ). with_word (n + (get_or same k d).at) word text) o
     ∙ ap (λ (q : Relocation). with_word (length old + q.at) word text) is
     ∙ ap (λ (n : ℕ). with_word (length old + r.at) n text) (w ∙ ap (word_for symbols base) is)
@@ -64,18 +64,24 @@ word_more symbols base k start word rs same d bytes old text text' s h inside o 
     in
     there ∙ with_word-behind old (resolved symbols base (take k rs) bytes) r.at (word_for symbols base r) room
     ∙ ap (λ (xs : List ℕ). old ++ xs) (sym (resolved-push symbols base (take k rs) r bytes)
-        ∙ ap (λ ys. resolved symbols base ys bytes) (sym (take_more rs k d h)))
+    ∙ ap (λ ys. resolved symbols base ys bytes) (sym (take_more rs k d h)))
 
 pub word_room : (symbols : Symbols) (base k start : ℕ) (rs same : List Relocation) (d : Relocation)
     (bytes old text : List ℕ) → same ≡ rs → k < length rs
     → ((j : ℕ) (r : Relocation) → slice_get rs j ≡ Some r → r.at + 4 ≤ length bytes) → start ≡ length old → text
-        ≡ old ++ resolved symbols base (take k rs) bytes
+    ≡ old ++ resolved symbols base (take k rs) bytes
     → start + (get_or same k d).at + 4 ≤ length text
 word_room symbols base k start rs same d bytes old text s h inside o made =
     let is : (get_or same k d).at ≡ (get_or rs k d).at = ap (λ ys. (get_or ys k d).at) s in
-    omega (arith, o, is, inside k (get_or rs k d) (slice_get-get_or rs k d h),
-        length-so_far symbols base k rs bytes inside, ap length made,
-        length-append old (resolved symbols base (take k rs) bytes))
+    omega (
+      arith,
+      o,
+      is,
+      inside k (get_or rs k d) (slice_get-get_or rs k d h),
+      length-so_far symbols base k rs bytes inside,
+      ap length made,
+      length-append old (resolved symbols base (take k rs) bytes),
+    )
 
 -- ---- routines
 
@@ -96,7 +102,7 @@ pub named_target : (f : ℕ) (items : List Item) (s : Section) → IsSection f i
     → slice_get (filter_map target_of items) j ≡ Some r.target
 named_target f items s is j r e =
     ap (λ (ts : List Target). slice_get ts j) (sym is.targets)
-        ∙ slice_get-map (λ (q : Relocation). q.target) s.relocations.items j
+    ∙ slice_get-map (λ (q : Relocation). q.target) s.relocations.items j
     ∙ ap (option_map (λ (q : Relocation). q.target)) e
 
 pub fits_routine : (a : Addresses) (f : ℕ) (items : List Item) (s : Section) → IsSection f items s → AreNamed a items
@@ -155,12 +161,16 @@ pub function_found : (sections : List Section) (a : Addresses) (k : ℕ) → IsO
 function_found sections a k order laid h =
     let i = order.each k h in
     let inside : i.0 < length (addresses_from (text_start + 29) sections) =
-    omega (arith, slice_get_within (order_of sections) i.0 k i.1, length-map sections function_of,
-        length-addresses (text_start + 29) sections)
+    omega (
+      arith,
+      slice_get_within (order_of sections) i.0 k i.1,
+      length-map sections function_of,
+      length-addresses (text_start + 29) sections,
+    )
     in
     let x : ℕ = get_or (addresses_from (text_start + 29) sections) i.0 0 in
     let found : slice_get (addresses_from (text_start + 29) sections) i.0 ≡ Some x =
-        slice_get-get_or (addresses_from (text_start + 29) sections) i.0 0 inside in
+    slice_get-get_or (addresses_from (text_start + 29) sections) i.0 0 inside in
     (x, laid.functions i.0 k i.1 ∙ found, addresses_bound (text_start + 29) sections i.0 x found)
 
 -- ---- numbers
@@ -174,20 +184,20 @@ pub element_more : (width k : ℕ) (elements same : List ℤ) (bytes bytes' four
     → k < length elements → width ≤ 4
     → FitsSigned w32 (get_or same k (pos 0))
     → four ≡ little_bytes 4 (cast_unsigned w32 (cast_signed w32 (cast_unsigned w32 (get_or same k (pos 0))))) → bytes'
-        ≡ bytes ++ take width four
+    ≡ bytes ++ take width four
     → bytes ++ element_bytes (record { width = width; elements = drop k elements }) ≡ whole
     → bytes' ++ element_bytes (record { width = width; elements = drop (k + 1) elements }) ≡ whole
 element_more width k elements same bytes bytes' four whole s h w fits f b made =
     let x : ℤ = get_or elements k (pos 0) in
     let value : cast_unsigned w32 (cast_signed w32 (cast_unsigned w32 (get_or same k (pos 0)))) ≡ cast_unsigned w32 x =
     ap (cast_unsigned w32) (to_z-of_z w32 (get_or same k (pos 0)) fits)
-        ∙ ap (λ (zs : List ℤ). cast_unsigned w32 (get_or zs k (pos 0))) s
+    ∙ ap (λ (zs : List ℤ). cast_unsigned w32 (get_or zs k (pos 0))) s
     in
     let part : take width four ≡ little_bytes width (cast_unsigned w32 x) =
     ap (take width) (f ∙ ap (little_bytes 4) value) ∙ lowest_bytes width (cast_unsigned w32 x) w
     in
     moved_parts bytes bytes' (little_bytes width (cast_unsigned w32 x))
-        (element_bytes (record { width = width; elements = drop (k + 1) elements })) whole
+    (element_bytes (record { width = width; elements = drop (k + 1) elements })) whole
     (element_bytes (record { width = width; elements = drop k elements }))
     (ap (λ (zs : List ℤ). element_bytes (record { width = width; elements = zs })) (drop_more elements k (pos 0) h))
     (b ∙ ap (λ (ys : List ℕ). bytes ++ ys) part) made
@@ -206,7 +216,7 @@ object_put object count padding n long old b1 b2 b3 four c f one two m p l three
     three ∙ ap (λ (xs : List ℕ). xs ++ replicate (n - long) 0) (take_all n b2 (omega (arith, m)))
     ∙ ap (λ (i : ℕ). b2 ++ replicate i 0) gap
     ∙ ap (λ (xs : List ℕ). xs ++ pad) (two ∙ ap (λ (xs : List ℕ). xs ++ element_bytes object)
-        (one ∙ ap (λ (xs : List ℕ). old ++ xs) (f ∙ ap (little_bytes 4) c)))
+    (one ∙ ap (λ (xs : List ℕ). old ++ xs) (f ∙ ap (little_bytes 4) c)))
     ∙ regroup old (little_bytes 4 (length object.elements)) (element_bytes object) pad
   where
     regroup : (a b c d : List ℕ) → ((a ++ b) ++ c) ++ d ≡ a ++ (b ++ c ++ d)
@@ -228,7 +238,7 @@ start_named a sections stack depth main items e order laid there room =
     let main_in : main < length a.functions.items = omega (arith, laid.many, there) in
     let (x, found, bound) = function_found sections a main order laid there in
     subst (λ (ys : List Item). AreNamed a ys) (sym e)
-        (only_main a main x main_in found (omega (arith, bound, room)) stack depth)
+    (only_main a main x main_in found (omega (arith, bound, room)) stack depth)
   where
     only_main : (a : Addresses) (main x : ℕ) → main < length a.functions.items → slice_get a.functions.items main
         ≡ Some x → x < 2 ^ 32 → (stack depth : ℕ) → AreNamed a (start_items stack depth main)
@@ -248,4 +258,4 @@ pub same_items : (a : Addresses) (address : ℕ) (items items' : List Item) (old
     → HasItems a address items' old' new
 same_items a address items items' old old' new e o h =
     subst (λ (xs : List ℕ). HasItems a address items' xs new) o
-        (subst (λ (is : List Item). HasItems a address is old new) e h)
+    (subst (λ (is : List Item). HasItems a address is old new) e h)

@@ -89,9 +89,13 @@ pub any_places : (symbols : Symbols) (p q : Places) (address : ℕ) (items : Lis
     → ArePlainly items
     → ItemsAt symbols p address items bytes → ItemsAt symbols q address items bytes
 any_places symbols p q address [] bytes h a = a
-any_places symbols p q address (x ∷ xs) bytes h a =
-    (a.0, a.1, a.2, any_place symbols p q address x a.0 h.0 a.3,
-        any_places symbols p q (address + length a.0) xs a.1 h.1 a.4)
+any_places symbols p q address (x ∷ xs) bytes h a = (
+  a.0,
+  a.1,
+  a.2,
+  any_place symbols p q address x a.0 h.0 a.3,
+  any_places symbols p q (address + length a.0) xs a.1 h.1 a.4,
+)
 
 -- ---- the routines
 
@@ -102,11 +106,15 @@ word_to r n h = ((0xb8 + number32 r) ∷ little_bytes 4 n, inl (little_bytes 4 n
 one_to_depth : (depth : ℕ) → depth < 2 ^ 32 → HasSpelling (insn.MovImm (rm.Mem (absolute depth)) (pos 1))
 one_to_depth depth h =
     let place : IsAddress 0 5 None (absolute depth) (little_bytes 4 depth) =
-        record { base_is = refl; index_is = refl; displacement = reads_word depth h } in (
+    record { base_is = refl; index_is = refl; displacement = reads_word depth h } in (
       0xc7 ∷ 0x05 ∷ little_bytes 4 depth ++ little_bytes 4 1,
-      (5 ∷ little_bytes 4 depth, little_bytes 4 1, refl,
-          (5, little_bytes 4 depth, refl, omega arith, refl, inl (λ e. absurd (omega (arith, e)), place)),
-          reads_word 1 (omega arith)),
+      (
+        5 ∷ little_bytes 4 depth,
+        little_bytes 4 1,
+        refl,
+        (5, little_bytes 4 depth, refl, omega arith, refl, inl (λ e. absurd (omega (arith, e)), place)),
+        reads_word 1 (omega arith),
+      ),
     )
 
 near_stack : (n : ℕ) → ReadsSigned 1 (n ∷ []) (pos n) → IsAddress 1 4 None (near Esp n) (n ∷ [])
@@ -127,22 +135,52 @@ returned = (0xc3 ∷ [], refl)
 argument_address : HasSpelling (insn.Lea Ecx (near Esp 8))
 argument_address = (
   0x8d ∷ 0x4c ∷ 0x24 ∷ 0x08 ∷ [],
-  (0x4c ∷ 0x24 ∷ 0x08 ∷ [], refl, (0x4c, 0x24 ∷ 0x08 ∷ [], refl, omega arith, refl,
-      inr (refl, (36, 8 ∷ [], refl, omega arith, near_stack 8 (record { count = refl; reads = refl }))))),
+  (
+    0x4c ∷ 0x24 ∷ 0x08 ∷ [],
+    refl,
+    (
+      0x4c,
+      0x24 ∷ 0x08 ∷ [],
+      refl,
+      omega arith,
+      refl,
+      inr (refl, (36, 8 ∷ [], refl, omega arith, near_stack 8 (record { count = refl; reads = refl }))),
+    ),
+  ),
 )
 
 argument_byte : HasSpelling (insn.MovZx8 Eax (rm8.Mem (near Esp 8)))
 argument_byte = (
   0x0f ∷ 0xb6 ∷ 0x44 ∷ 0x24 ∷ 0x08 ∷ [],
-  (0x44 ∷ 0x24 ∷ 0x08 ∷ [], refl, (0x44, 0x24 ∷ 0x08 ∷ [], refl, omega arith, refl,
-      inr (refl, (36, 8 ∷ [], refl, omega arith, near_stack 8 (record { count = refl; reads = refl }))))),
+  (
+    0x44 ∷ 0x24 ∷ 0x08 ∷ [],
+    refl,
+    (
+      0x44,
+      0x24 ∷ 0x08 ∷ [],
+      refl,
+      omega arith,
+      refl,
+      inr (refl, (36, 8 ∷ [], refl, omega arith, near_stack 8 (record { count = refl; reads = refl }))),
+    ),
+  ),
 )
 
 argument_word : HasSpelling (insn.MovLoad Ebx (near Esp 4))
 argument_word = (
   0x8b ∷ 0x5c ∷ 0x24 ∷ 0x04 ∷ [],
-  (0x5c ∷ 0x24 ∷ 0x04 ∷ [], refl, (0x5c, 0x24 ∷ 0x04 ∷ [], refl, omega arith, refl,
-      inr (refl, (36, 4 ∷ [], refl, omega arith, near_stack 4 (record { count = refl; reads = refl }))))),
+  (
+    0x5c ∷ 0x24 ∷ 0x04 ∷ [],
+    refl,
+    (
+      0x5c,
+      0x24 ∷ 0x04 ∷ [],
+      refl,
+      omega arith,
+      refl,
+      inr (refl, (36, 4 ∷ [], refl, omega arith, near_stack 4 (record { count = refl; reads = refl }))),
+    ),
+  ),
 )
 
 pub start_plainly : (stack depth main : ℕ) → stack < 2 ^ 32 → depth < 2 ^ 32 → ArePlainly (start_items stack depth main)
@@ -188,12 +226,22 @@ getchar_plainly = (
             (
               interrupt,
               (
-                (0x83 ∷ 0xe8 ∷ 0x01 ∷ [], inl (0xe8 ∷ [], 1 ∷ [], refl, (0xe8, refl, refl, refl, refl),
-                    record { count = refl; reads = refl })),
+                (
+                  0x83 ∷ 0xe8 ∷ 0x01 ∷ [],
+                  inl (
+                    0xe8 ∷ [],
+                    1 ∷ [],
+                    refl,
+                    (0xe8, refl, refl, refl, refl),
+                    record { count = refl; reads = refl },
+                  ),
+                ),
                 (
                   (0x59 ∷ [], refl),
-                  ((0x09 ∷ 0xc8 ∷ [], inl (0xc8 ∷ [], refl, (0xc8, refl, refl, refl, refl))),
-                      (pop_ebx, (returned, tt))),
+                  (
+                    (0x09 ∷ 0xc8 ∷ [], inl (0xc8 ∷ [], refl, (0xc8, refl, refl, refl, refl))),
+                    (pop_ebx, (returned, tt)),
+                  ),
                 ),
               ),
             ),

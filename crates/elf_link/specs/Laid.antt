@@ -20,7 +20,7 @@ abbrev pub code_from : Symbols → ℕ → List Section → List ℕ
 code_from symbols address [] = []
 code_from symbols address (s ∷ sections) =
     resolved symbols address s.relocations.items s.bytes.items
-        ++ code_from symbols (address + length s.bytes.items) sections
+    ++ code_from symbols (address + length s.bytes.items) sections
 
 -- and the addresses of the points
 abbrev pub points_from : ℕ → List Section → List (List ℕ)

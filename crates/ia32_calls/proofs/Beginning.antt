@@ -16,8 +16,14 @@ use Rattle.ia32_shows.specs.Sites.{Site, ReadyAt}
 
 -- where the text and the data stand, with the labels and points of one function
 abbrev pub text_site : Symbols → Places → List ℕ → Site
-text_site symbols places text = record { symbols = symbols; places = places; text = text; low = data_start text; high =
-    stack_end text [] }
+text_site symbols places text = record {
+  symbols = symbols;
+  places = places;
+  text = text;
+  low = data_start text;
+  high =
+      stack_end text [];
+}
 
 -- the state behind the first function's prologue, and the one in which that function began
 pub record Begun (symbols : Symbols) (places : List Places) (text : List ℕ) (main frame : ℕ)
@@ -48,11 +54,21 @@ start-enters functions order main places symbols text frame label back input h f
     let t : State = begun.0 in
     let site : Site = text_site symbols at.place text in
     let ready : ReadyAt site (prologue frame label ++ back) t =
-        ready-from site (prologue frame label ++ back) at.address t (at.stands (data_start text) (stack_end text []))
-        begun.1.eip in
+    ready-from site (prologue frame label ++ back) at.address t (at.stands (data_start text) (stack_end text []))
+    begun.1.eip in
     let room = stack-room (data_start text) frame (word_of Esp t) (stack_end text []) (data_memory []) small refl
-        length-memory begun.1.esp in
+    length-memory begun.1.esp in
     let p = prologue-goes site frame label back t begun.1.sound ready room
-        (stack-top (word_of Esp t) (stack_end text []) begun.1.esp) some words in
-    (p.0, record { place = at.place; placed = at.placed; address = at.address; named = at.named; first = t; started =
-        begun.1; entered = p.1 })
+    (stack-top (word_of Esp t) (stack_end text []) begun.1.esp) some words in (
+      p.0,
+      record {
+        place = at.place;
+        placed = at.placed;
+        address = at.address;
+        named = at.named;
+        first = t;
+        started =
+            begun.1;
+        entered = p.1;
+      },
+    )

@@ -53,11 +53,11 @@ ends : (site : Site) (x : ℕ) (s : State) → SoundAt site s → ReadyAt site e
 ends site x s sound ready is =
     let two : List Item = plain (insn.Int 128) ∷ [] in
     let p = set-goes site (plain (insn.MovImm (rm.Reg Eax) (pos 1)) ∷ two) (insn.Mov (rm.Reg Ebx) Eax) Ebx
-        (word_of Eax s) s.flags s sound ready tt (word-below site.text site.low site.high Eax s sound) (λ after. refl)
-        (λ after. refl) in
+    (word_of Eax s) s.flags s sound ready tt (word-below site.text site.low site.high Eax s sound) (λ after. refl)
+    (λ after. refl) in
     let a : State = p.0 in
     let q = set-goes site two (insn.MovImm (rm.Reg Eax) (pos 1)) Eax 1 a.flags a p.3.sound p.2 tt one_fits
-        (λ after. refl) (λ after. refl) in
+    (λ after. refl) (λ after. refl) in
     let t : State = q.0 in
     let halts = exit-halts site [] x t q.3.sound q.2 q.3.value (q.3.others Ebx (unlike 3 0 refl) ∙ p.3.value ∙ is) in (
       t,
@@ -76,7 +76,7 @@ ending-halts symbols text objects main low high x s sound
     (before, after, places, first, stand, (done, rest, whole, place), at) is =
     let site : Site = record { symbols = symbols; places = places; text = text; low = low; high = high } in
     let both : IsAt text text_start (before ++ after) =
-        record { done = done; rest = rest; whole = whole; place = place } in
+    record { done = done; rest = rest; whole = whole; place = place } in
     let ready : ReadyAt site exiting s =
     record {
       bytes = after;
@@ -91,21 +91,29 @@ pub return-fits : (symbols : Symbols) (text : List ℕ) (objects : List Object) 
 return-fits symbols text objects main low high address s sound
     (before, after, places, first, stand, (done, rest, whole, place), at) =
     let both : IsAt text text_start (before ++ after) =
-        record { done = done; rest = rest; whole = whole; place = place } in
+    record { done = done; rest = rest; whole = whole; place = place } in
     subst (λ (k : ℕ). k < 2 ^ 32) (sym at) (after-fits text low high text_start before s sound
-        (at-front text text_start before after both))
+    (at-front text text_start before after both))
 
 -- a return to the start ends the run with the low byte of the word
 pub return-ends : (site : Site) (objects : List Object) (main frame : ℕ) (back : List Item) (a x address : ℕ)
     (s : State) → Framed site frame s → ReadyAt site (return_before a back) s → IsInFrame frame a
     → load 4 (word_of Ebp s - a) s ≡ Ok x → x < 2 ^ 32 → load 4 (word_of Ebp s + 4) s ≡ Ok address
-        → ReturnsToStart site.symbols site.text objects main address → (t : State) × Ending site.text x s t
+    → ReturnsToStart site.symbols site.text objects main address → (t : State) × Ending site.text x s t
 return-ends site objects main frame back a x address s framed ready inside held fits back_held returns =
     let p = return-goes site frame back a x address s framed ready inside held fits back_held
-        (return-fits site.symbols site.text objects main site.low site.high address s framed.sound returns) in
+    (return-fits site.symbols site.text objects main site.low site.high address s framed.sound returns) in
     let u : State = p.0 in
     let q = ending-halts site.symbols site.text objects main site.low site.high x u p.1.sound
-        (subst (ReturnsToStart site.symbols site.text objects main) (sym p.1.eip) returns) p.1.eax in
-    let e = q.1 in
-    (q.0, record { comes = comes-then site.text s u q.0 p.1.comes e.comes; clear = e.clear; halts = e.halts; taken =
-        e.taken ∙ p.1.taken; written = e.written ∙ p.1.written })
+    (subst (ReturnsToStart site.symbols site.text objects main) (sym p.1.eip) returns) p.1.eax in
+    let e = q.1 in (
+      q.0,
+      record {
+        comes = comes-then site.text s u q.0 p.1.comes e.comes;
+        clear = e.clear;
+        halts = e.halts;
+        taken =
+            e.taken ∙ p.1.taken;
+        written = e.written ∙ p.1.written;
+      },
+    )

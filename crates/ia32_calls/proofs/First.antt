@@ -50,7 +50,7 @@ length-area : length (data_bytes [] ++ zeros (data_memory [] - length (data_byte
 length-area =
     let n : ℕ = length (data_bytes []) in
     length-append (data_bytes []) (zeros (data_memory [] - n))
-        ∙ ap (λ (k : ℕ). n + k) (length-zeros (data_memory [] - n)) ∙ filled n
+    ∙ ap (λ (k : ℕ). n + k) (length-zeros (data_memory [] - n)) ∙ filled n
 
 page-above : (n : ℕ) → 134512640 + n ≤ 134512640 + 4096 * ((n + 4095) / 4096)
 page-above n = omega arith
@@ -91,16 +91,26 @@ pub start-here : (functions : List (List Item)) (order : List ℕ) (objects : Li
     (places : List Places) (symbols : Symbols) (text : List ℕ)
     → (h : IsText functions order objects main places symbols text) → IsAt text text_start h.start
 start-here functions order objects main places symbols text h =
-    record { done = []; rest = h.code ++ h.putchar ++ h.getchar ++ h.exit ++ h.check; whole = h.whole
-        ∙ front-part h.start h.code h.putchar h.getchar h.exit h.check; place = none-before text_start }
+    record {
+      done = [];
+      rest = h.code ++ h.putchar ++ h.getchar ++ h.exit ++ h.check;
+      whole = h.whole
+          ∙ front-part h.start h.code h.putchar h.getchar h.exit h.check;
+      place = none-before text_start;
+    }
 
 -- the functions stand behind the start
 pub code-here : (functions : List (List Item)) (order : List ℕ) (objects : List Object) (main : ℕ)
     (places : List Places) (symbols : Symbols) (text : List ℕ)
     → (h : IsText functions order objects main places symbols text) → IsAt text (text_start + length h.start) h.code
 code-here functions order objects main places symbols text h =
-    record { done = h.start; rest = h.putchar ++ h.getchar ++ h.exit ++ h.check; whole = h.whole
-        ∙ second-part h.start h.code h.putchar h.getchar h.exit h.check; place = refl }
+    record {
+      done = h.start;
+      rest = h.putchar ++ h.getchar ++ h.exit ++ h.check;
+      whole = h.whole
+          ∙ second-part h.start h.code h.putchar h.getchar h.exit h.check;
+      place = refl;
+    }
 
 -- `putchar` stands where calls of it lead, whatever the places
 pub putchar-stands : (functions : List (List Item)) (order : List ℕ) (objects : List Object) (main : ℕ)
@@ -109,8 +119,13 @@ pub putchar-stands : (functions : List (List Item)) (order : List ℕ) (objects 
 putchar-stands functions order objects main places site h =
     record {
       bytes = h.putchar;
-      here = record { done = h.start ++ h.code; rest = h.getchar ++ h.exit ++ h.check; whole = h.whole
-          ∙ third-part h.start h.code h.putchar h.getchar h.exit h.check; place = h.putchar_is };
+      here = record {
+        done = h.start ++ h.code;
+        rest = h.getchar ++ h.exit ++ h.check;
+        whole = h.whole
+            ∙ third-part h.start h.code h.putchar h.getchar h.exit h.check;
+        place = h.putchar_is;
+      };
       stand = h.putchar_at site.places;
     }
 
@@ -176,17 +191,21 @@ function-placed functions order objects main places symbols text f items h e =
     let at = function-stands symbols functions places order (text_start + length h.start) i.0 f h.code h.code_at i.1 in
     let here = code-here functions order objects main places symbols text h in
     let split : IsAt text (text_start + length h.start) (at.done ++ (at.first ++ at.rest)) =
-        subst (IsAt text (text_start + length h.start)) at.whole here in
+    subst (IsAt text (text_start + length h.start)) at.whole here in
     let back = at-front text (text_start + length h.start + length at.done) at.first at.rest
-        (at-back text (text_start + length h.start) at.done (at.first ++ at.rest) split) in
+    (at-back text (text_start + length h.start) at.done (at.first ++ at.rest) split) in
     let same : at.stands.items ≡ items = same_Some at.stands.items items (sym at.stands.is ∙ e) in
     let stand : ItemsAt symbols at.stands.place at.at items at.first =
-        subst (λ (is : List Item). ItemsAt symbols at.stands.place at.at is at.first) same at.stands.stands in
+    subst (λ (is : List Item). ItemsAt symbols at.stands.place at.at is at.first) same at.stands.stands in
     record {
       place = at.stands.place;
       address = at.at;
       placed = at.stands.placed;
       named = at.stands.named;
-      stands = λ low high. record { bytes = at.first; here =
-          subst (λ (k : ℕ). IsAt text k at.first) (sym at.where_is) back; stand = stand };
+      stands = λ low high. record {
+        bytes = at.first;
+        here =
+            subst (λ (k : ℕ). IsAt text k at.first) (sym at.where_is) back;
+        stand = stand;
+      };
     }

@@ -31,8 +31,8 @@ write-does y a s eax ebx ecx edx held =
     ∙ ap (λ (k : ℕ). write_call (word_of Edx s) k s) ecx
     ∙ ap (λ (k : ℕ). write_call k a s) edx
     ∙ ap (λ (x : Result (List ℕ) End). and_then x
-        (λ bytes. let r : Result State End = Ok (with_word Eax 1 (record s { written = s.written ++ bytes })) in r))
-        held
+    (λ bytes. let r : Result State End = Ok (with_word Eax 1 (record s { written = s.written ++ bytes })) in r))
+    held
 
 exit-does : (s : State) → word_of Eax s ≡ 1 → system_call s ≡ Err (Ended (word_of Ebx s % 256))
 exit-does s eax = ap (λ (k : ℕ). make_call (call_of k (word_of Ebx s)) s) eax
@@ -41,15 +41,22 @@ exit-does s eax = ap (λ (k : ℕ). make_call (call_of k (word_of Ebx s)) s) eax
 pub write-goes : (site : Site) (items : List Item) (y a : ℕ) (s : State) → SoundAt site s
     → ReadyAt site (item.Plain (insn.Int 128) ∷ items) s
     → word_of Eax s ≡ 4 → word_of Ebx s ≡ 1 → word_of Ecx s ≡ a → word_of Edx s ≡ 1 → load 1 a s ≡ Ok y → site.low ≤ a
-        → a + 1 ≤ site.high
+    → a + 1 ≤ site.high
     → (u : State) × Comes site.text s u × ReadyAt site items u × Sets site Eax 1 (s.written ++ y ∷ []) s u
 write-goes site items y a s sound ready eax ebx ecx edx held from to =
     let m : State = record s { written = s.written ++ y ∷ [] } in
-    let m_sound : SoundAt site m = record { bytes = sound.bytes; memory = sound.memory; size = sound.size; above =
-        sound.above; below = sound.below; registers = sound.registers } in
+    let m_sound : SoundAt site m = record {
+      bytes = sound.bytes;
+      memory = sound.memory;
+      size = sound.size;
+      above =
+          sound.above;
+      below = sound.below;
+      registers = sound.registers;
+    } in
     let does = write-does y a s eax ebx ecx edx (one-byte site.text site.low site.high a y s sound from to held) in
     let went = plain-goes site.symbols site.places site.text site.low site.high (insn.Int 128) items s
-        (written_state y s) sound ready tt (λ after. does) (λ after. refl) in (
+    (written_state y s) sound ready tt (λ after. does) (λ after. refl) in (
       at_address went.0 (written_state y s),
       went.1,
       went.2,
@@ -75,7 +82,7 @@ exit-halts site items x s sound ready eax ebx =
     let some : 0 < length first = let l = ap length ready.stand.3 in omega (arith, l) in
     let after : ℕ = s.eip + length first in
     let halts = perform-halts (insn.Int 128) after s (Ended (x % 256))
-        (exit-does s eax ∙ ap (λ (k : ℕ). let r : Result State End = Err (Ended (k % 256)) in r) ebx) in (
+    (exit-does s eax ∙ ap (λ (k : ℕ). let r : Result State End = Err (Ended (k % 256)) in r) ebx) in (
       subst (Steps s) halts (step-at site.text site.low site.high (insn.Int 128) first s sound front some
           ready.stand.3),
       clear-at site.text s.eip first front (common-begins (insn.Int 128) first tt ready.stand.3),

@@ -336,7 +336,7 @@ entered site frame back t f i u room top some words p q comes ready r =
           zeros-load site (base - frame) (words_below frame) n a u r.sound
           (words-low site.low e frame base room p.ebp)
           (subst (λ (k : ℕ). k ≤ site.high) (sym end)
-              (words-high base site.high (frame-high e base site.high top p.ebp)))
+          (words-high base site.high (frame-high e base site.high top p.ebp)))
           r.words (subst (λ (k : ℕ). k ≤ a) esp from)
           (subst (λ (k : ℕ). a + n ≤ k) (ap (λ (k : ℕ). k - 12) now ∙ sym end) to) more;
       kept = λ n b w k held.

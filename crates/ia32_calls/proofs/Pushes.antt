@@ -69,7 +69,7 @@ push-makes site v s sound room top fits =
     let does : push v s ≡ Ok t =
     ap (λ (k : ℕ). and_then (store 4 k v s) (λ u. let r : Result State End = Ok (with_word Esp k u) in r)) at
     ∙ ap (λ (x : Result State End). and_then x (λ u. let r : Result State End = Ok (with_word Esp a u) in r))
-        stored.1.is in
+    stored.1.is in
     let is : word_of Esp t ≡ a = word-same site.text site.low site.high Esp a m stored.1.sound (omega arith) in (
       t,
       does,
@@ -97,7 +97,7 @@ pub push-goes : (site : Site) (items : List Item) (q : Reg32) (s : State) → So
 push-goes site items q s sound ready room top =
     let made = push-makes site (word_of q s) s sound room top (word-below site.text site.low site.high q s sound) in
     let went = plain-goes site.symbols site.places site.text site.low site.high (insn.Push (rm.Reg q)) items s made.0
-        sound ready tt (λ after. made.1) (λ after. refl) in
+    sound ready tt (λ after. made.1) (λ after. refl) in
     (at_address went.0 made.0, went.1, went.2, pushed-at site went.0 (word_of q s) s made.0 made.2)
 
 -- PUSH of a word in memory
@@ -108,17 +108,17 @@ pub push-load-goes : (site : Site) (items : List Item) (m : Mem) (v : ℕ) (s : 
 push-load-goes site items m v s sound ready held fits room top =
     let made = push-makes site v s sound room top fits in
     let went = plain-goes site.symbols site.places site.text site.low site.high (insn.Push (rm.Mem m)) items s made.0
-        sound ready tt (λ after. ap (λ (x : Result ℕ End). and_then x (λ value. push value s)) held ∙ made.1)
-        (λ after. refl) in
+    sound ready tt (λ after. ap (λ (x : Result ℕ End). and_then x (λ value. push value s)) held ∙ made.1)
+    (λ after. refl) in
     (at_address went.0 made.0, went.1, went.2, pushed-at site went.0 v s made.0 made.2)
 
 -- CALL: the address of what follows goes onto the stack
 pub call-goes : (site : Site) (back : List Item) (address : ℕ) (first rest : List ℕ) (s : State) → SoundAt site s
     → IsAt site.text s.eip (first ++ rest) → LeadsTo insn.Call s.eip address first
     → ItemsAt site.symbols site.places (s.eip + length first) back rest → site.low + 4 ≤ word_of Esp s
-        → word_of Esp s ≤ site.high
+    → word_of Esp s ≤ site.high
     → (u : State) × Comes site.text s u × (u.eip ≡ address) × Pushed site (s.eip + length first) s u
-        × StandsFrom site back (s.eip + length first) × (s.eip + length first < 2 ^ 32)
+    × StandsFrom site back (s.eip + length first) × (s.eip + length first < 2 ^ 32)
 call-goes site back address first rest s sound here leads stand room top =
     let distance = leads.0 in
     let front = at-front site.text s.eip first rest here in
@@ -157,7 +157,7 @@ pop-makes site v s sound held top =
     let below = sound.below in
     let at : sum (word_of Esp s) 4 ≡ word_of Esp s + 4 = omega arith in
     ap (λ (x : Result ℕ End). and_then x (λ value. let r : Result (ℕ × State) End =
-        Ok (value, with_word Esp (sum (word_of Esp s) 4) s) in r)) held
+    Ok (value, with_word Esp (sum (word_of Esp s) 4) s) in r)) held
     ∙ ap (λ (k : ℕ). let r : Result (ℕ × State) End = Ok (v, with_word Esp k s) in r) at
 
 -- POP to a register other than ESP
@@ -171,11 +171,11 @@ pop-goes site items r v s sound ready other held fits top =
     let t : State = with_word r v m in
     let m_sound = sound-with_word site.text site.low site.high Esp (word_of Esp s + 4) s sound in
     let does : (after : ℕ) → effect (insn.Pop r) after s ≡ Ok t =
-        λ after. ap (λ (x : Result (ℕ × State) End).
-        and_then x (λ popped. let q : Result State End = Ok (with_word r popped.0 popped.1) in q))
-        (pop-makes site v s sound held top) in
+    λ after. ap (λ (x : Result (ℕ × State) End).
+    and_then x (λ popped. let q : Result State End = Ok (with_word r popped.0 popped.1) in q))
+    (pop-makes site v s sound held top) in
     let went = plain-goes site.symbols site.places site.text site.low site.high (insn.Pop r) items s t sound ready tt
-        does (λ after. refl) in (
+    does (λ after. refl) in (
       at_address went.0 t,
       went.1,
       went.2,
@@ -206,8 +206,8 @@ ret-goes site items address s sound ready held fits top =
     let front = at-front site.text s.eip first rest (subst (IsAt site.text s.eip) ready.stand.2 ready.here) in
     let t : State = with_word Esp (word_of Esp s + 4) s in
     let does : effect insn.Ret (s.eip + length first) s ≡ Ok t =
-        ap (λ (x : Result (ℕ × State) End). and_then x (λ popped. let q : Result State End = Ok popped.1 in q))
-        (pop-makes site address s sound held top) in (
+    ap (λ (x : Result (ℕ × State) End). and_then x (λ popped. let q : Result State End = Ok popped.1 in q))
+    (pop-makes site address s sound held top) in (
       at_address address t,
       step-goes site.text site.low site.high insn.Ret first s t address sound front ready.stand.3 tt does held,
       mod-eq_of_lt fits,
@@ -239,11 +239,11 @@ leave-goes site items v s sound ready held top =
     let m_sound = sound-with_word site.text site.low site.high Esp e s sound in
     let does : (after : ℕ) → effect insn.Leave after s ≡ Ok t =
     λ after. ap (λ (x : Result ℕ End). and_then x
-        (λ value. let q : Result State End = Ok (with_word Ebp value (with_word Esp (sum (word_of Ebp s) 4) s)) in q))
-        held
+    (λ value. let q : Result State End = Ok (with_word Ebp value (with_word Esp (sum (word_of Ebp s) 4) s)) in q))
+    held
     ∙ ap (λ (k : ℕ). let q : Result State End = Ok (with_word Ebp v (with_word Esp k s)) in q) at in
     let went = plain-goes site.symbols site.places site.text site.low site.high insn.Leave items s t sound ready tt does
-        (λ after. refl) in (
+    (λ after. refl) in (
       at_address went.0 t,
       went.1,
       went.2,

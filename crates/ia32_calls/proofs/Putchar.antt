@@ -99,7 +99,7 @@ setting_four = plain (insn.MovImm (rm.Reg Eax) (pos 4)) ∷ plain (insn.MovImm (
 readied : (site : Site) (s b c d u : State) → Comes site.text s b → Sets site Eax 4 s.written s b → Comes site.text b c
     → Sets site Ebx 1 b.written b c
     → Comes site.text c d → Sets site Ecx (word_of Esp s + 8) c.written c d → Comes site.text d u
-        → Sets site Edx 1 d.written d u → ReadyAt site writing u → Readied site s u
+    → Sets site Edx 1 d.written d u → ReadyAt site writing u → Readied site s u
 readied site s b c d u p q r v w x y z ready =
     record {
       comes = comes-then site.text s b u p (comes-then site.text b c u r (comes-then site.text c d u w y));
@@ -126,23 +126,23 @@ readies-two : (site : Site) (s b : State) → Comes site.text s b → Sets site 
 readies-two site s b p q (c, r, ready, v) fits =
     let esp : word_of Esp c ≡ word_of Esp s = v.others Esp (unlike 4 3 refl) ∙ q.others Esp (unlike 4 0 refl) in
     let there : address_of (near Esp 8) c ≡ word_of Esp s + 8 =
-        near-address 8 c (subst (λ (k : ℕ). k + 8 < 4294967296) (sym esp) fits) ∙ ap (λ (k : ℕ). k + 8) esp in
+    near-address 8 c (subst (λ (k : ℕ). k + 8 < 4294967296) (sym esp) fits) ∙ ap (λ (k : ℕ). k + 8) esp in
     let w = set-goes site (plain (insn.MovImm (rm.Reg Edx) (pos 1)) ∷ writing) (insn.Lea Ecx (near Esp 8)) Ecx
-        (word_of Esp s + 8) c.flags c v.sound ready tt fits
-        (λ after. ap (λ (k : ℕ). let o : Result State End = Ok (with_word Ecx k c) in o) there) (λ after. refl) in
+    (word_of Esp s + 8) c.flags c v.sound ready tt fits
+    (λ after. ap (λ (k : ℕ). let o : Result State End = Ok (with_word Ecx k c) in o) there) (λ after. refl) in
     let d : State = w.0 in
     let y = set-goes site writing (insn.MovImm (rm.Reg Edx) (pos 1)) Edx 1 d.flags d w.3.sound w.2 tt one_fits
-        (λ after. refl) (λ after. refl) in
+    (λ after. refl) (λ after. refl) in
     (y.0, readied site s b c d y.0 p q r v w.1 w.3 y.1 y.3 y.2)
 
 readies : (site : Site) (s : State) → SoundAt site s → ReadyAt site setting_four s → word_of Esp s + 8 < 4294967296
     → (u : State) × Readied site s u
 readies site s sound ready fits =
     let p = set-goes site (plain (insn.MovImm (rm.Reg Ebx) (pos 1)) ∷ setting_two) (insn.MovImm (rm.Reg Eax) (pos 4))
-        Eax 4 s.flags s sound ready tt four_fits (λ after. refl) (λ after. refl) in
+    Eax 4 s.flags s sound ready tt four_fits (λ after. refl) (λ after. refl) in
     let b : State = p.0 in
     readies-two site s b p.1 p.3 (set-goes site setting_two (insn.MovImm (rm.Reg Ebx) (pos 1)) Ebx 1 b.flags b p.3.sound
-        p.2 tt one_fits (λ after. refl) (λ after. refl)) fits
+    p.2 tt one_fits (λ after. refl) (λ after. refl)) fits
 
 -- the state in which the routine calls the system
 record Prepared (site : Site) (s u : State) : Type 0 where
@@ -189,7 +189,7 @@ prepares-behind : (site : Site) (s : State) → word_of Esp s + 8 ≤ site.high
     × Prepared site s u
 prepares-behind site s top (a, comes, ready, p) =
     let r = readies site a p.sound ready (less-than (word_of Esp a + 8) site.high 4294967296
-        (higher-below (word_of Esp a) (word_of Esp s) site.high p.esp top) p.sound.below) in
+    (higher-below (word_of Esp a) (word_of Esp s) site.high p.esp top) p.sound.below) in
     (r.0, prepared site s a r.0 comes p r.1)
 
 prepares : (site : Site) (s : State) → SoundAt site s → ReadyAt site putchar_items s → site.low + 4 ≤ word_of Esp s
@@ -253,16 +253,16 @@ popped-back a b c e p q r = omega arith
 answering-pop : (site : Site) (y : ℕ) (s a b c : State) → word_of Esp s + 8 ≤ site.high → SoundAt site s
     → Prepared site s a → Comes site.text a b → Sets site Eax 1 (a.written ++ y ∷ []) a b
     → Comes site.text b c → Sets site Eax y b.written b c → ReadyAt site (plain (insn.Pop Ebx) ∷ plain insn.Ret ∷ []) c
-        → (u : State) × Answering site y s u
+    → (u : State) × Answering site y s u
 answering-pop site y s a b c top sound p q r v w ready =
     let esp : word_of Esp c ≡ word_of Esp a = w.others Esp (unlike 4 0 refl) ∙ r.others Esp (unlike 4 0 refl) in
     let memory : c.memory ≡ a.memory = w.memory ∙ r.memory in
     let old : load 4 (word_of Esp c) c ≡ Ok (word_of Ebx s) =
-        load-same 4 (word_of Esp c) (word_of Ebx s) a c memory
-        (subst (λ (k : ℕ). load 4 k a ≡ Ok (word_of Ebx s)) (sym esp) p.old_ebx) in
+    load-same 4 (word_of Esp c) (word_of Ebx s) a c memory
+    (subst (λ (k : ℕ). load 4 k a ≡ Ok (word_of Ebx s)) (sym esp) p.old_ebx) in
     let x = pop-goes site (plain insn.Ret ∷ []) Ebx (word_of Ebx s) c w.sound ready (unlike 4 3 refl) old
-        (word-below site.text site.low site.high Ebx s sound)
-        (popped-fits (word_of Esp c) (word_of Esp a) (word_of Esp s) site.high esp p.esp top) in
+    (word-below site.text site.low site.high Ebx s sound)
+    (popped-fits (word_of Esp c) (word_of Esp a) (word_of Esp s) site.high esp p.esp top) in
     let u : State = x.0 in (
       u,
       record {
@@ -283,21 +283,21 @@ answering-pop site y s a b c top sound p q r v w ready =
 answering-read : (site : Site) (y : ℕ) (s a : State) → word_of Esp s + 8 ≤ site.high → SoundAt site s
     → Prepared site s a → load 1 (word_of Esp s + 4) a ≡ Ok y → y < 2 ^ 32
     → ((b : State) × Comes site.text a b × ReadyAt site answering b × Sets site Eax 1 (a.written ++ y ∷ []) a b)
-        → (u : State) × Answering site y s u
+    → (u : State) × Answering site y s u
 answering-read site y s a top sound p byte small (b, q, ready, r) =
     let esp : word_of Esp b ≡ word_of Esp a = r.others Esp (unlike 4 0 refl) in
     let at : word_of Esp b + 8 ≡ word_of Esp s + 4 = ap (λ (k : ℕ). k + 8) esp
-        ∙ four-higher (word_of Esp a) (word_of Esp s) p.esp in
+    ∙ four-higher (word_of Esp a) (word_of Esp s) p.esp in
     let room : word_of Esp b + 8 < 4294967296 =
-        less-than (word_of Esp b + 8) site.high 4294967296
-        (subst (λ (k : ℕ). k ≤ site.high) (sym at) (next-four (word_of Esp s) site.high top)) sound.below in
+    less-than (word_of Esp b + 8) site.high 4294967296
+    (subst (λ (k : ℕ). k ≤ site.high) (sym at) (next-four (word_of Esp s) site.high top)) sound.below in
     let there : address_of (near Esp 8) b ≡ word_of Esp s + 4 = near-address 8 b room ∙ at in
     let read : load 1 (address_of (near Esp 8) b) b ≡ Ok y = ap (λ (k : ℕ). load 1 k b) there
-        ∙ load-same 1 (word_of Esp s + 4) y a b r.memory byte in
+    ∙ load-same 1 (word_of Esp s + 4) y a b r.memory byte in
     let v = set-goes site (plain (insn.Pop Ebx) ∷ plain insn.Ret ∷ []) (insn.MovZx8 Eax (rm8.Mem (near Esp 8))) Eax y
-        b.flags b r.sound ready tt small (λ after.
-        ap (λ (x : Result ℕ End). and_then x (λ value. let o : Result State End = Ok (with_word Eax value b) in o))
-        read) (λ after. refl) in
+    b.flags b r.sound ready tt small (λ after.
+    ap (λ (x : Result ℕ End). and_then x (λ value. let o : Result State End = Ok (with_word Eax value b) in o))
+    read) (λ after. refl) in
     answering-pop site y s a b v.0 top sound p q r v.1 v.3 v.2
 
 answers-behind : (site : Site) (y : ℕ) (s : State) → SoundAt site s → site.low + 4 ≤ word_of Esp s
@@ -307,8 +307,8 @@ answers-behind site y s sound room top byte small (a, p) =
     let e : ℕ = word_of Esp s in
     let held : load 1 (e + 4) a ≡ Ok y = p.kept 1 (e + 4) y (behind site.low e 1 (e + 4) room (no-less e)) byte in
     answering-read site y s a top sound p held small
-        (write-goes site answering y (e + 4) a p.sound p.ready p.eax p.ebx p.ecx p.edx held (above site.low e 4 room)
-        (next-one e site.high top))
+    (write-goes site answering y (e + 4) a p.sound p.ready p.eax p.ebx p.ecx p.edx held (above site.low e 4 room)
+    (next-one e site.high top))
 
 answers-back : (site : Site) (y address : ℕ) (s : State) → site.low + 4 ≤ word_of Esp s → word_of Esp s + 8 ≤ site.high
     → load 4 (word_of Esp s) s ≡ Ok address → address < 2 ^ 32 → ((d : State) × Answering site y s d) → (u : State)
@@ -316,10 +316,10 @@ answers-back : (site : Site) (y address : ℕ) (s : State) → site.low + 4 ≤ 
 answers-back site y address s room top held fits (d, p) =
     let e : ℕ = word_of Esp s in
     let there : load 4 (word_of Esp d) d ≡ Ok address =
-        subst (λ (k : ℕ). load 4 k d ≡ Ok address) (sym p.esp)
-        (p.kept 4 e address (behind site.low e 4 e room (itself e)) held) in
+    subst (λ (k : ℕ). load 4 k d ≡ Ok address) (sym p.esp)
+    (p.kept 4 e address (behind site.low e 4 e room (itself e)) held) in
     let w = ret-goes site [] address d p.sound p.ready there fits
-        (subst (λ (k : ℕ). k + 4 ≤ site.high) (sym p.esp) (next-four e site.high top)) in
+    (subst (λ (k : ℕ). k + 4 ≤ site.high) (sym p.esp) (next-four e site.high top)) in
     let u : State = w.0 in (
       u,
       record {
@@ -340,10 +340,10 @@ answers-back site y address s room top held fits (d, p) =
 pub putchar-answers : (site : Site) (y address : ℕ) (s : State) → SoundAt site s → ReadyAt site putchar_items s
     → site.low + 4 ≤ word_of Esp s → word_of Esp s + 8 ≤ site.high
     → load 4 (word_of Esp s) s ≡ Ok address → address < 2 ^ 32 → load 1 (word_of Esp s + 4) s ≡ Ok y → y < 2 ^ 32
-        → (u : State) × Answered site y address s u
+    → (u : State) × Answered site y address s u
 putchar-answers site y address s sound ready room top held fits byte small =
     answers-back site y address s room top held fits
-        (answers-behind site y s sound room top byte small (prepares site s sound ready room top))
+    (answers-behind site y s sound room top byte small (prepares site s sound ready room top))
 
 -- ---- the row
 
@@ -408,11 +408,11 @@ called site back x address s a c u top room p q r v follows w =
     let some = twelve site.low e room in
     let esp : word_of Esp u ≡ word_of Esp a = w.esp ∙ v.esp in
     let argument_c : load 4 (word_of Esp a) c ≡ Ok x =
-        v.apart 4 (word_of Esp a) x (word-above (word_of Esp c) (word_of Esp a) 4 v.esp) q.word in
+    v.apart 4 (word_of Esp a) x (word-above (word_of Esp c) (word_of Esp a) 4 v.esp) q.word in
     let argument_u : load 4 (word_of Esp a) u ≡ Ok x =
-        w.kept 4 (word_of Esp a) x (behind site.low (word_of Esp c) 4 (word_of Esp a)
-        (room-three site.low e (word_of Esp a) (word_of Esp c) room q.esp v.esp)
-        (subst (λ (k : ℕ). word_of Esp c ≤ k) v.esp (no-less (word_of Esp c)))) argument_c in
+    w.kept 4 (word_of Esp a) x (behind site.low (word_of Esp c) 4 (word_of Esp a)
+    (room-three site.low e (word_of Esp a) (word_of Esp c) room q.esp v.esp)
+    (subst (λ (k : ℕ). word_of Esp c ≤ k) v.esp (no-less (word_of Esp c)))) argument_c in
     record {
       comes = comes-then site.text s a u p (comes-then site.text a c u r w.comes);
       ready = ready-from site back address u follows w.eip;
@@ -433,51 +433,53 @@ called-by : (site : Site) (back : List Item) (x address : ℕ) (s a c : State) �
     → site.low + 12 ≤ word_of Esp s → StandsFrom site putchar_items site.symbols.putchar → Comes site.text s a
     → Pushed site x s a
     → Comes site.text a c → c.eip ≡ site.symbols.putchar → Pushed site address a c → StandsFrom site back address
-        → address < 2 ^ 32 → (u : State) × Called site back x s u
+    → address < 2 ^ 32 → (u : State) × Called site back x s u
 called-by site back x address s a c top room routine p q r at v follows fits =
     let e : ℕ = word_of Esp s in
     let ready : ReadyAt site putchar_items c = ready-from site putchar_items site.symbols.putchar c routine at in
     let byte : load 1 (word_of Esp c + 4) c ≡ Ok (x % 256) =
-        subst (λ (k : ℕ). load 1 k c ≡ Ok (x % 256)) (sym v.esp)
-        (v.apart 1 (word_of Esp a) (x % 256) (word-above (word_of Esp c) (word_of Esp a) 1 v.esp) q.byte) in
+    subst (λ (k : ℕ). load 1 k c ≡ Ok (x % 256)) (sym v.esp)
+    (v.apart 1 (word_of Esp a) (x % 256) (word-above (word_of Esp c) (word_of Esp a) 1 v.esp) q.byte) in
     let w = putchar-answers site (x % 256) address c v.sound ready
-        (room-three site.low e (word_of Esp a) (word_of Esp c) room q.esp v.esp)
-        (top-three e (word_of Esp a) (word_of Esp c) site.high q.esp v.esp top) v.word fits byte (byte-fits x) in
+    (room-three site.low e (word_of Esp a) (word_of Esp c) room q.esp v.esp)
+    (top-three e (word_of Esp a) (word_of Esp c) site.high q.esp v.esp top) v.word fits byte (byte-fits x) in
     (w.0, called site back x address s a c w.0 top room p q r v follows w.1)
 
 calls-behind : (site : Site) (back : List Item) (x : ℕ) (s : State) → word_of Esp s ≤ site.high
     → site.low + 12 ≤ word_of Esp s → StandsFrom site putchar_items site.symbols.putchar
     → ((a : State) × Comes site.text s a × ReadyAt site (item.CallStub stub.Putchar ∷ back) a × Pushed site x s a)
-        → (u : State) × Called site back x s u
+    → (u : State) × Called site back x s u
 calls-behind site back x s top room routine (a, p, ready, q) =
     let e : ℕ = word_of Esp s in
     let first : List ℕ = ready.stand.0 in
     let rest : List ℕ = ready.stand.1 in
     let whole : IsAt site.text a.eip (first ++ rest) = subst (IsAt site.text a.eip) ready.stand.2 ready.here in
     let r = call-goes site back site.symbols.putchar first rest a q.sound whole ready.stand.3 ready.stand.4
-        (room-two site.low e (word_of Esp a) room q.esp) (top-two e (word_of Esp a) site.high q.esp top) in
+    (room-two site.low e (word_of Esp a) room q.esp) (top-two e (word_of Esp a) site.high q.esp top) in
     called-by site back x (a.eip + length first) s a r.0 top room routine p q r.1 r.2 r.3 r.4 r.5
 
 -- a word of the frame is passed to the routine
 calls : (site : Site) (frame : ℕ) (back : List Item) (a x : ℕ) (s : State) → Framed site frame s
     → site.low + 12 ≤ word_of Esp s → StandsFrom site putchar_items site.symbols.putchar
     → ReadyAt site (plain (insn.Push (rm.Mem (below a))) ∷ item.CallStub stub.Putchar ∷ back) s → IsInFrame frame a
-        → load 4 (word_of Ebp s - a) s ≡ Ok x → x < 2 ^ 32 → (u : State) × Called site back x s u
+    → load 4 (word_of Ebp s - a) s ≡ Ok x → x < 2 ^ 32 → (u : State) × Called site back x s u
 calls site frame back a x s framed room routine ready from held fits =
     let top : word_of Esp s ≤ site.high = frame-top (word_of Esp s) frame (word_of Ebp s) site.high framed.esp
-        framed.top in
+    framed.top in
     let at = below-address a s (some-distance a from.low)
-        (in-frame a frame (word_of Esp s) (word_of Ebp s) from.high framed.esp)
-        (word-below site.text site.low site.high Ebp s framed.sound) in
+    (in-frame a frame (word_of Esp s) (word_of Ebp s) from.high framed.esp)
+    (word-below site.text site.low site.high Ebp s framed.sound) in
     let loaded : load 4 (address_of (below a) s) s ≡ Ok x = ap (λ (k : ℕ). load 4 k s) at ∙ held in
     calls-behind site back x s top room routine
-        (push-load-goes site (item.CallStub stub.Putchar ∷ back) (below a) x s framed.sound ready loaded fits
-        (room-one site.low (word_of Esp s) room) top)
+    (push-load-goes site (item.CallStub stub.Putchar ∷ back) (below a) x s framed.sound ready loaded fits
+    (room-one site.low (word_of Esp s) room) top)
   where
     some-distance : (d : ℕ) → 20 ≤ d → 0 < d
     some-distance d h = omega arith
+
     in-frame : (d frame esp ebp : ℕ) → d ≤ frame → esp + frame ≡ ebp → d ≤ ebp
     in-frame d frame esp ebp h e = omega arith
+
     frame-top : (e f b h : ℕ) → e + f ≡ b → b + 8 ≤ h → e ≤ h
     frame-top e f b h p q = omega arith
 
@@ -492,10 +494,10 @@ pop-top u e f b h p q r = omega arith
 call-went : (site : Site) (frame : ℕ) (items : List Item) (x : ℕ) (s : State) → Framed site frame s → x < 2 ^ 32
     → ((t : State) × Called site (plain (insn.Pop Edi) ∷ items) x s t)
     → (u : State) × Went site frame items (Below (word_of Esp s)) (s.written ++ (x % 256) ∷ []) s u
-        × (word_of Eax u ≡ x % 256)
+    × (word_of Eax u ≡ x % 256)
 call-went site frame items x s framed fits (t, p) =
     let w = pop-goes site items Edi x t p.sound p.ready (unlike 4 7 refl) p.argument fits
-        (pop-top (word_of Esp t) (word_of Esp s) frame (word_of Ebp s) site.high p.esp framed.esp framed.top) in
+    (pop-top (word_of Esp t) (word_of Esp s) frame (word_of Ebp s) site.high p.esp framed.esp framed.top) in
     let u : State = w.0 in
     let esp : word_of Esp u ≡ word_of Esp s = w.3.esp ∙ p.esp in
     let ebp : word_of Ebp u ≡ word_of Ebp s = w.3.others Ebp (unlike 5 7 refl) (unlike 5 4 refl) ∙ p.ebp in (
@@ -503,9 +505,14 @@ call-went site frame items x s framed fits (t, p) =
       record {
         comes = comes-then site.text s t u p.comes w.1;
         ready = w.2;
-        framed = record { sound = w.3.sound; esp = ap (λ (k : ℕ). k + frame) esp ∙ framed.esp ∙ sym ebp; room =
-            subst (λ (k : ℕ). site.low + 4 ≤ k) (sym esp) framed.room; top =
-            subst (λ (k : ℕ). k + 8 ≤ site.high) (sym ebp) framed.top };
+        framed = record {
+          sound = w.3.sound;
+          esp = ap (λ (k : ℕ). k + frame) esp ∙ framed.esp ∙ sym ebp;
+          room =
+              subst (λ (k : ℕ). site.low + 4 ≤ k) (sym esp) framed.room;
+          top =
+              subst (λ (k : ℕ). k + 8 ≤ site.high) (sym ebp) framed.top;
+        };
         ebp = ebp;
         esp = esp;
         left = w.3.left ∙ p.left;
@@ -526,22 +533,24 @@ some-room d h = omega arith
 row-ends : (site : Site) (frame : ℕ) (back : List Item) (d y e : ℕ) (out : List ℕ) (s t : State) → IsInFrame frame d
     → Went site frame (storing d back) (Below e) out s t → word_of Eax t ≡ y
     → (u : State) × Went site frame back (OutsideCall (word_of Ebp s - d) e) out s u
-        × (load 4 (word_of Ebp s - d) u ≡ Ok y)
+    × (load 4 (word_of Ebp s - d) u ≡ Ok y)
 row-ends site frame back d y e out s t inside went value =
     let slot : ℕ = word_of Ebp s - d in
     let K : ℕ → ℕ → Type 0 = OutsideCall slot e in
     let same : word_of Ebp t - d ≡ slot = ap (λ (k : ℕ). k - d) went.ebp in
     let stored = store-went site frame back K Eax d y t went.framed went.ready (some-room d inside.low) inside.high
-        value (λ n b k. subst (λ (a : ℕ). AreDisjoint a 4 b n) (sym same) k.0) in
+    value (λ n b k. subst (λ (a : ℕ). AreDisjoint a 4 b n) (sym same) k.0) in
     let first = went-stricter site frame (storing d back) (Below e) K out s t (λ b n k. k.1) went in
-    let second = subst (λ (o : List ℕ). Went site frame back K o t stored.0) went.written stored.1 in
-    (stored.0, went-then site frame (storing d back) back K out out s t stored.0 first second,
-        subst (λ (a : ℕ). load 4 a stored.0 ≡ Ok y) same stored.2)
+    let second = subst (λ (o : List ℕ). Went site frame back K o t stored.0) went.written stored.1 in (
+      stored.0,
+      went-then site frame (storing d back) back K out out s t stored.0 first second,
+      subst (λ (a : ℕ). load 4 a stored.0 ≡ Ok y) same stored.2,
+    )
 
 row-called : (site : Site) (frame : ℕ) (back : List Item) (d y : ℕ) (s : State) → IsInFrame frame d
     → ((c : State) × Went site frame (storing d back) (Below (word_of Esp s)) (s.written ++ y ∷ []) s c
-        × (word_of Eax c ≡ y)) → (u : State) × WroteByCall site frame back (word_of Ebp s - d) y (s.written ++ y ∷ []) s
-        u
+    × (word_of Eax c ≡ y)) → (u : State) × WroteByCall site frame back (word_of Ebp s - d) y (s.written ++ y ∷ []) s
+    u
 row-called site frame back d y s inside (c, went, eax) =
     let ends = row-ends site frame back d y (word_of Esp s) (s.written ++ y ∷ []) s c inside went eax in
     (ends.0, record { went = ends.1; same = ends.2 })
@@ -555,5 +564,5 @@ putchar_row-between d a back = refl
 pub putchar-row : PutcharRow
 putchar-row site frame back d a x s framed room routine ready from to held fits =
     row-called site frame back d (x % 256) s to
-        (call-went site frame (storing d back) x s framed fits
-        (calls site frame (plain (insn.Pop Edi) ∷ storing d back) a x s framed room routine ready from held fits))
+    (call-went site frame (storing d back) x s framed fits
+    (calls site frame (plain (insn.Pop Edi) ∷ storing d back) a x s framed room routine ready from held fits))

@@ -81,16 +81,16 @@ load-goes : (site : Site) (items : List Item) (r : Reg32) (d : ℕ) (s : State) 
 load-goes site items r d s has ready some few =
     let e : ℕ = word_of Ebp s in
     let found = load-in site.text site.low site.high 4 (e - d) s has.sound (from-low site.low e d has.low few)
-        (to-high e d site.high has.high some) in
+    (to-high e d site.high has.high some) in
     let at = below-address d s (some-distance d some) (reaches site.low e d has.low few)
-        (word-below site.text site.low site.high Ebp s has.sound) in
+    (word-below site.text site.low site.high Ebp s has.sound) in
     let loaded : load 4 (address_of (below d) s) s ≡ Ok found.0 = ap (λ (a : ℕ). load 4 a s) at ∙ found.1 in
     let t : State = with_word r found.0 s in
     let does : (after : ℕ) → effect (insn.MovLoad r (below d)) after s ≡ Ok t =
-        λ after. ap (λ (x : Result ℕ End). and_then x
-        (λ value. let q : Result State End = Ok (with_word r value s) in q)) loaded in
+    λ after. ap (λ (x : Result ℕ End). and_then x
+    (λ value. let q : Result State End = Ok (with_word r value s) in q)) loaded in
     let went = plain-goes site.symbols site.places site.text site.low site.high (insn.MovLoad r (below d)) items s t
-        has.sound ready tt does (λ after. refl) in (
+    has.sound ready tt does (λ after. refl) in (
       at_address went.0 t,
       went.1,
       went.2,
@@ -110,8 +110,12 @@ load-goes site items r d s has ready some few =
 has-still : (site : Site) (s u : State) → HasFrame site s → SoundAt site u → word_of Ebp u ≡ word_of Ebp s
     → HasFrame site u
 has-still site s u has sound same =
-    record { sound = sound; low = subst (λ (k : ℕ). site.low + 16 ≤ k) (sym same) has.low; high =
-        subst (λ (k : ℕ). k + 8 ≤ site.high) (sym same) has.high }
+    record {
+      sound = sound;
+      low = subst (λ (k : ℕ). site.low + 16 ≤ k) (sym same) has.low;
+      high =
+          subst (λ (k : ℕ). k + 8 ≤ site.high) (sym same) has.high;
+    }
 
 -- ---- the return
 
@@ -207,16 +211,16 @@ leaves site back x address s b h held fits =
     let has = h.has in
     let e : ℕ = word_of Ebp b in
     let found = load-in site.text site.low site.high 4 e b has.sound (leave-from site.low e has.low)
-        (back-room e site.high has.high) in
+    (back-room e site.high has.high) in
     let p = leave-goes site (plain insn.Ret ∷ back) found.0 b has.sound h.ready found.1
-        (back-room e site.high has.high) in
+    (back-room e site.high has.high) in
     let c : State = p.0 in
     let at : word_of Ebp s + 4 ≡ word_of Esp c = sym (p.3.esp ∙ ap (λ (k : ℕ). k + 4) h.ebp) in
     let there : load 4 (word_of Esp c) c ≡ Ok address =
-        load-same 4 (word_of Esp c) address s c (p.3.memory ∙ h.memory)
-        (subst (λ (k : ℕ). load 4 k s ≡ Ok address) at held) in
+    load-same 4 (word_of Esp c) address s c (p.3.memory ∙ h.memory)
+    (subst (λ (k : ℕ). load 4 k s ≡ Ok address) at held) in
     let q = ret-goes site back address c p.3.sound p.2 there fits
-        (ret-room (word_of Esp c) e site.high p.3.esp has.high) in
+    (ret-room (word_of Esp c) e site.high p.3.esp has.high) in
     let u : State = q.0 in (
       u,
       record {
@@ -278,18 +282,22 @@ pub return-goes : ReturnGoes
 return-goes site frame back a x address s framed ready inside held fits back_held back_fits =
     let e : ℕ = word_of Ebp s in
     let sound = framed.sound in
-    let has : HasFrame site s = record { sound = sound; low =
-        frame-low site.low (word_of Esp s) frame e a framed.room framed.esp inside.low inside.high; high =
-        framed.top } in
+    let has : HasFrame site s = record {
+      sound = sound;
+      low =
+          frame-low site.low (word_of Esp s) frame e a framed.room framed.esp inside.low inside.high;
+      high =
+          framed.top;
+    } in
     let at = below-address a s (slot-some a inside.low) (slot-below (word_of Esp s) frame e a framed.esp inside.high)
-        (word-below site.text site.low site.high Ebp s sound) in
+    (word-below site.text site.low site.high Ebp s sound) in
     let loaded : load 4 (address_of (below a) s) s ≡ Ok x = ap (λ (k : ℕ). load 4 k s) at ∙ held in
     let one : List Item = plain (insn.MovLoad Ebx (below 4)) ∷ plain (insn.MovLoad Esi (below 8))
-        ∷ plain (insn.MovLoad Edi (below 12)) ∷ leaving back in
+    ∷ plain (insn.MovLoad Edi (below 12)) ∷ leaving back in
     let p = set-goes site one (insn.MovLoad Eax (below a)) Eax x s.flags s sound ready tt fits
-        (λ after. ap (λ (y : Result ℕ End). and_then y
-        (λ value. let q : Result State End = Ok (with_word Eax value s) in q)) loaded) (λ after. refl) in
+    (λ after. ap (λ (y : Result ℕ End). and_then y
+    (λ value. let q : Result State End = Ok (with_word Eax value s) in q)) loaded) (λ after. refl) in
     let b : State = p.0 in
     let r = restores site back x b (has-still site s b has p.3.sound (p.3.others Ebp (unlike 5 0 refl))) p.3.value
-        p.2 in
+    p.2 in
     leaves site back x address s r.0 (restored-since site back x s b r.0 p.1 p.3 r.1) back_held back_fits

@@ -44,9 +44,15 @@ plain-until : (site : Site) (items : List Item) (i : Insn) (last : ℕ) (s t : S
     → (address : ℕ) × Comes site.text s (at_address address t) × Until site items last (at_address address t)
 plain-until site items i last s t sound h common e k =
     let m = plain-measured site.symbols site.places site.text site.low site.high i items s t sound h.ready common e k in
-    let long : length h.ready.bytes ≡ length m.3 + length m.2.bytes = ap length m.6 ∙ length-append m.3 m.2.bytes in
-    (m.0, m.1, record { ready = m.2; end = moved-end s.eip (at_address m.0 t).eip (length m.2.bytes) (length m.3)
-        (length h.ready.bytes) last m.5 long h.end })
+    let long : length h.ready.bytes ≡ length m.3 + length m.2.bytes = ap length m.6 ∙ length-append m.3 m.2.bytes in (
+      m.0,
+      m.1,
+      record {
+        ready = m.2;
+        end = moved-end s.eip (at_address m.0 t).eip (length m.2.bytes) (length m.3)
+            (length h.ready.bytes) last m.5 long h.end;
+      },
+    )
 
 -- ---- the three items
 
@@ -63,8 +69,8 @@ sets-esp : (site : Site) (items : List Item) (last n : ℕ) (s : State) → Soun
 sets-esp site items last n s sound h fits =
     let t : State = with_result Esp n s.flags s in
     let m = plain-until site items (insn.MovImm (rm.Reg Esp) (cast_signed w32 n)) last s t sound h tt
-        (λ after. ap (λ (k : ℕ). let o : Result State End = Ok (with_word Esp k s) in o) (of_z-to_z w32 n fits))
-        (λ after. refl) in
+    (λ after. ap (λ (k : ℕ). let o : Result State End = Ok (with_word Esp k s) in o) (of_z-to_z w32 n fits))
+    (λ after. refl) in
     (at_address m.0 t, m.1, m.2, set-word site m.0 Esp n s.flags s sound fits)
 
 -- 1 to a word of the data
@@ -76,9 +82,9 @@ stores-one site items last d s sound h from to fits =
     let stored = store-in site.text site.low site.high d 1 s sound from to one_fits in
     let t : State = stored.0 in
     let does : (after : ℕ) → effect (insn.MovImm (rm.Mem (absolute d)) (pos 1)) after s ≡ Ok t =
-        λ after. ap (λ (a : ℕ). store 4 a 1 s) (absolute-address d s fits) ∙ stored.1.is in
+    λ after. ap (λ (a : ℕ). store 4 a 1 s) (absolute-address d s fits) ∙ stored.1.is in
     let m = plain-until site items (insn.MovImm (rm.Mem (absolute d)) (pos 1)) last s t sound h tt does
-        (λ after. refl) in
+    (λ after. refl) in
     (at_address m.0 t, m.1, m.2, stored-at site m.0 d 1 s t stored.1)
 
 none-behind : (a m n k last : ℕ) → n ≡ m + k → k ≡ 0 → a + n ≡ last → a + m ≡ last
@@ -96,12 +102,12 @@ calls-function site f address last s sound h named room top =
     let found = h.ready.stand.3 in
     let same : found.0 ≡ address = same_Some found.0 address (sym found.1 ∙ named) in
     let leads : LeadsTo insn.Call s.eip address first =
-        subst (λ (k : ℕ). LeadsTo insn.Call s.eip k first) same found.2 in
+    subst (λ (k : ℕ). LeadsTo insn.Call s.eip k first) same found.2 in
     let p = call-goes site [] address first rest s sound whole leads h.ready.stand.4 room top in
     let long : length h.ready.bytes ≡ length first + length rest = ap length h.ready.stand.2
-        ∙ length-append first rest in
+    ∙ length-append first rest in
     let end : s.eip + length first ≡ last = none-behind s.eip (length first) (length h.ready.bytes) (length rest) last
-        long (ap length h.ready.stand.4) h.end in
+    long (ap length h.ready.stand.4) h.end in
     (p.0, p.1, p.2, subst (λ (k : ℕ). Pushed site k s p.0) end p.3)
 
 -- ---- the whole
@@ -123,8 +129,14 @@ abbrev no_places : Places
 no_places = record { labels = λ l. 0; points = λ p. 0 }
 
 abbrev start_site : Symbols → List ℕ → Site
-start_site symbols text = record { symbols = symbols; places = no_places; text = text; low = data_start text; high =
-    stack_end text [] }
+start_site symbols text = record {
+  symbols = symbols;
+  places = no_places;
+  text = text;
+  low = data_start text;
+  high =
+      stack_end text [];
+}
 
 -- the start up to the call of `main`, and what follows it
 abbrev starting : List ℕ → ℕ → ℕ → List Item
@@ -135,16 +147,16 @@ starting text depth main = plain (insn.MovImm (rm.Reg Esp) (cast_signed w32 (sta
 started : (symbols : Symbols) (text : List ℕ) (main address last : ℕ) (input : List ℕ) (a b t : State) → symbols.depth
     ≡ data_start text → ReturnsToStart symbols text [] main last
     → Comes text (text_state text [] input) a
-        → Sets (start_site symbols text) Esp (stack_end text []) [] (text_state text [] input) a → Comes text a b
-        → Stores (start_site symbols text) symbols.depth 1 a b
+    → Sets (start_site symbols text) Esp (stack_end text []) [] (text_state text [] input) a → Comes text a b
+    → Stores (start_site symbols text) symbols.depth 1 a b
     → Comes text b t → t.eip ≡ address → Pushed (start_site symbols text) last b t
-        → Started symbols text main address input t
+    → Started symbols text main address input t
 started symbols text main address last input a b t depth returns pa qa pb qb pt at qt =
     let high : ℕ = stack_end text [] in
     let esp : word_of Esp t + 4 ≡ high = qt.esp ∙ qb.words Esp ∙ qa.value in
     let apart : AreDisjoint (word_of Esp t) 4 symbols.depth 4 =
-        subst (λ (k : ℕ). AreDisjoint (word_of Esp t) 4 k 4) (sym depth)
-        (depth-apart (data_start text) (word_of Esp t) high (data_memory []) refl length-memory esp) in
+    subst (λ (k : ℕ). AreDisjoint (word_of Esp t) 4 k 4) (sym depth)
+    (depth-apart (data_start text) (word_of Esp t) high (data_memory []) refl length-memory esp) in
     record {
       comes = comes-then text (text_state text [] input) a t pa (comes-then text a b t pb pt);
       eip = at;
@@ -164,9 +176,9 @@ starts-behind : (symbols : Symbols) (text : List ℕ) (main address last : ℕ) 
     ≡ data_start text → stack_end text [] < 4294967296 → ReturnsToStart symbols text [] main last
     → slice_get symbols.functions main ≡ Some address
     → ((a : State) × Comes text (text_state text [] input) a
-        × Until (start_site symbols text) (plain (insn.MovImm (rm.Mem (absolute symbols.depth)) (pos 1))
-        ∷ item.CallFunction main ∷ []) last a × Sets (start_site symbols text) Esp (stack_end text []) []
-        (text_state text [] input) a)
+    × Until (start_site symbols text) (plain (insn.MovImm (rm.Mem (absolute symbols.depth)) (pos 1))
+    ∷ item.CallFunction main ∷ []) last a × Sets (start_site symbols text) Esp (stack_end text []) []
+    (text_state text [] input) a)
     → (t : State) × Started symbols text main address input t
 starts-behind symbols text main address last input depth fits returns named (a, pa, ready, qa) =
     let site : Site = start_site symbols text in
@@ -174,12 +186,12 @@ starts-behind symbols text main address last input depth fits returns named (a, 
     let high : ℕ = stack_end text [] in
     let room : low + 4 ≤ high = depth-room low high (data_memory []) refl length-memory in
     let p = stores-one site (item.CallFunction main ∷ []) last symbols.depth a qa.sound ready
-        (subst (λ (k : ℕ). low ≤ k) (sym depth) (itself low)) (subst (λ (k : ℕ). k + 4 ≤ high) (sym depth) room)
-        (subst (λ (k : ℕ). k < 4294967296) (sym depth) (low-fits low high (data_memory []) refl fits)) in
+    (subst (λ (k : ℕ). low ≤ k) (sym depth) (itself low)) (subst (λ (k : ℕ). k + 4 ≤ high) (sym depth) room)
+    (subst (λ (k : ℕ). k < 4294967296) (sym depth) (low-fits low high (data_memory []) refl fits)) in
     let b : State = p.0 in
     let esp : word_of Esp b ≡ high = p.3.words Esp ∙ qa.value in
     let q = calls-function site main address last b p.3.sound p.2 named (subst (λ (k : ℕ). low + 4 ≤ k) (sym esp) room)
-        (subst (λ (k : ℕ). k ≤ high) (sym esp) (itself high)) in
+    (subst (λ (k : ℕ). k ≤ high) (sym esp) (itself high)) in
     (q.0, started symbols text main address last input a b q.0 depth returns pa qa p.1 p.3 q.1 q.2 q.3)
 
 -- the start comes to the first function's address, with one call active
@@ -190,17 +202,21 @@ start-goes functions order main places symbols text address input h fits named =
     let sound = first-sound text input fits in
     let xs : List Item = starting text symbols.depth main in
     let parts = items-split symbols no_places text_start xs
-        (drop 3 (start_items (stack_end text []) symbols.depth main)) h.start (h.start_at no_places) in
+    (drop 3 (start_items (stack_end text []) symbols.depth main)) h.start (h.start_at no_places) in
     let before : List ℕ = parts.0 in
     let after : List ℕ = parts.1 in
     let last : ℕ = text_start + length before in
     let both : IsAt text text_start (before ++ after) =
-        subst (IsAt text text_start) parts.2 (start-here functions order [] main places symbols text h) in
+    subst (IsAt text text_start) parts.2 (start-here functions order [] main places symbols text h) in
     let returns : ReturnsToStart symbols text [] main last =
-        (before, after, no_places, parts.3, parts.4, (both.done, both.rest, both.whole, both.place), refl) in
-    let ready : ReadyAt site xs s = record { bytes = before; here = at-front text text_start before after both; stand =
-        parts.3 } in
+    (before, after, no_places, parts.3, parts.4, (both.done, both.rest, both.whole, both.place), refl) in
+    let ready : ReadyAt site xs s = record {
+      bytes = before;
+      here = at-front text text_start before after both;
+      stand =
+          parts.3;
+    } in
     let items : List Item = plain (insn.MovImm (rm.Mem (absolute symbols.depth)) (pos 1)) ∷ item.CallFunction main
-        ∷ [] in
+    ∷ [] in
     starts-behind symbols text main address last input h.depth_is sound.below returns named
-        (sets-esp site items last (stack_end text []) s sound (record { ready = ready; end = refl }) sound.below)
+    (sets-esp site items last (stack_end text []) s sound (record { ready = ready; end = refl }) sound.below)

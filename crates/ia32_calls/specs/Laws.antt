@@ -45,9 +45,9 @@ pub record WroteByCall (site : Site) (frame : ℕ) (items : List Item) (slot wor
 abbrev pub PutcharRow : Type 0
 PutcharRow =
     (site : Site) (frame : ℕ) (back : List Item) (d a x : ℕ) (s : State) → Framed site frame s
-        → site.low + 12 ≤ word_of Esp s → StandsFrom site putchar_items site.symbols.putchar
+    → site.low + 12 ≤ word_of Esp s → StandsFrom site putchar_items site.symbols.putchar
     → ReadyAt site (putchar_between d a back) s → IsInFrame frame a → IsInFrame frame d → load 4 (word_of Ebp s - a) s
-        ≡ Ok x → x < 2 ^ 32
+    ≡ Ok x → x < 2 ^ 32
     → (u : State) × WroteByCall site frame back (word_of Ebp s - d) (x % 256) (s.written ++ (x % 256) ∷ []) s u
 
 -- ---- the start
@@ -58,9 +58,9 @@ ReturnsToStart symbols text objects main address =
     (before after : List ℕ) × (places : Places)
     × ItemsAt symbols places text_start (take 3 (start_items (stack_end text objects) symbols.depth main)) before
     × ItemsAt symbols places (text_start + length before)
-        (drop 3 (start_items (stack_end text objects) symbols.depth main)) after
+    (drop 3 (start_items (stack_end text objects) symbols.depth main)) after
     × ((done rest : List ℕ) × (text ≡ done ++ ((before ++ after) ++ rest)) × (text_start ≡ text_start + length done))
-        × (address ≡ text_start + length before)
+    × (address ≡ text_start + length before)
 
 -- the state in which `main` begins
 pub record Started (symbols : Symbols) (text : List ℕ) (main address : ℕ) (input : List ℕ) (t : State) : Type 0 where
@@ -80,9 +80,9 @@ pub record Started (symbols : Symbols) (text : List ℕ) (main address : ℕ) (i
 abbrev pub StartGoes : Type 0
 StartGoes =
     (functions : List (List Item)) (order : List ℕ) (main : ℕ) (places : List Places) (symbols : Symbols)
-        (text : List ℕ) (address : ℕ) (input : List ℕ)
+    (text : List ℕ) (address : ℕ) (input : List ℕ)
     → IsText functions order [] main places symbols text → length text < 2 ^ 30 + 1024
-        → slice_get symbols.functions main ≡ Some address
+    → slice_get symbols.functions main ≡ Some address
     → (t : State) × Started symbols text main address input t
 
 -- ---- a function's first items
@@ -109,7 +109,7 @@ pub record Entered (site : Site) (frame : ℕ) (back : List Item) (t u : State) 
 abbrev pub PrologueGoes : Type 0
 PrologueGoes =
     (site : Site) (frame label : ℕ) (back : List Item) (t : State) → SoundAt site t
-        → ReadyAt site (prologue frame label ++ back) t
+    → ReadyAt site (prologue frame label ++ back) t
     → site.low + frame + 64 ≤ word_of Esp t → word_of Esp t + 4 ≤ site.high → 16 ≤ frame → frame % 4 ≡ 0
     → (u : State) × Entered site frame back t u
 
@@ -150,7 +150,7 @@ pub record Returned (site : Site) (word address : ℕ) (s u : State) : Type 0 wh
 abbrev pub ReturnGoes : Type 0
 ReturnGoes =
     (site : Site) (frame : ℕ) (back : List Item) (a x address : ℕ) (s : State) → Framed site frame s
-        → ReadyAt site (return_before a back) s → IsInFrame frame a
+    → ReadyAt site (return_before a back) s → IsInFrame frame a
     → load 4 (word_of Ebp s - a) s ≡ Ok x → x < 2 ^ 32 → load 4 (word_of Ebp s + 4) s ≡ Ok address → address < 2 ^ 32
     → (u : State) × Returned site x address s u
 
@@ -168,5 +168,5 @@ pub record Ending (text : List ℕ) (word : ℕ) (s t : State) : Type 0 where
 abbrev pub EndingHalts : Type 0
 EndingHalts =
     (symbols : Symbols) (text : List ℕ) (objects : List Object) (main low high x : ℕ) (s : State)
-        → IsSound text low high s → ReturnsToStart symbols text objects main s.eip → word_of Eax s ≡ x
+    → IsSound text low high s → ReturnsToStart symbols text objects main s.eip → word_of Eax s ≡ x
     → (t : State) × Ending text x s t

@@ -39,7 +39,7 @@ pub may_so : (old : State) (count address : ℕ) (b d : Bool) → count ≡ word
     ≡ may_store count address old.memory → b ≡ d → may_store (word_of Edx old) (word_of Ecx old) old.memory ≡ d
 may_so old count address b d p q e f =
     ap (λ (n : ℕ). may_store n (word_of Ecx old) old.memory) (sym p)
-        ∙ ap (λ (n : ℕ). may_store count n old.memory) (sym q) ∙ sym e ∙ f
+    ∙ ap (λ (n : ℕ). may_store count n old.memory) (sym q) ∙ sym e ∙ f
 
 -- the bytes that there are, by such numbers
 pub bytes_so : (old : State) (count address : ℕ) (x : Option (List ℕ)) → count ≡ word_of Edx old → address
@@ -47,7 +47,7 @@ pub bytes_so : (old : State) (count address : ℕ) (x : Option (List ℕ)) → c
     ≡ x
 bytes_so old count address x p q e =
     ap (λ (n : ℕ). bytes_at n (word_of Ecx old) old.memory) (sym p)
-        ∙ ap (λ (n : ℕ). bytes_at count n old.memory) (sym q) ∙ e
+    ∙ ap (λ (n : ℕ). bytes_at count n old.memory) (sym q) ∙ e
 
 -- ---- read
 
@@ -56,9 +56,13 @@ pub read_none : (old : State) (left taken : List ℕ) → old ≡ alone old → 
     → PartTold (read_moved (lent old left)) (lent old left) (with_word Eax 0 old) left taken taken (Ok tt)
 unfolding read_moved PartTold
 read_none old left taken bare none =
-    let s : State = lent old left in
-    (with_word Eax 0 s, ap (λ (n : ℕ). moved_of (read_call n (word_of Ecx s) s)) (sym none), ap (with_word Eax 0) bare,
-        refl, sym (append-nil taken))
+    let s : State = lent old left in (
+      with_word Eax 0 s,
+      ap (λ (n : ℕ). moved_of (read_call n (word_of Ecx s) s)) (sym none),
+      ap (with_word Eax 0) bare,
+      refl,
+      sym (append-nil taken),
+    )
 
 -- the bytes may not be stored there
 pub read_denied : (old : State) (left taken : List ℕ) → old ≡ alone old → (word_of Edx old == 0) ≡ false
@@ -71,10 +75,10 @@ read_denied old left taken bare some denies =
     let count : ℕ = word_of Edx s in
     let address : ℕ = word_of Ecx s in
     let inner : (if may_store count address s.memory then take_byte address left s else Err (denied address s))
-        ≡ Err (denied address s) =
+    ≡ Err (denied address s) =
     if_not (may_store count address s.memory) (take_byte address left s) (Err (denied address s)) denies in
     let path : read_call count address s ≡ Err (denied address s) = if_not (count == 0) (Ok (with_word Eax 0 s)) _ some
-        ∙ inner in
+    ∙ inner in
     (sym (ap moved_of path), bare, refl, refl)
 
 -- bytes may be stored there, and what is done then
@@ -87,7 +91,7 @@ read_path old left some allows =
     let count : ℕ = word_of Edx s in
     let address : ℕ = word_of Ecx s in
     let inner : (if may_store count address s.memory then take_byte address left s else Err (denied address s))
-        ≡ take_byte address left s =
+    ≡ take_byte address left s =
     if_so (may_store count address s.memory) (take_byte address left s) (Err (denied address s)) allows in
     ap moved_of (if_not (count == 0) (Ok (with_word Eax 0 s)) _ some ∙ inner)
 
@@ -99,9 +103,13 @@ unfolding PartTold
 read_end old left left' taken bare some allows end end' =
     let s : State = lent old left in
     let ended : moved_of (take_byte (word_of Ecx old) left s) ≡ Moves (with_word Eax 0 s) =
-        ap (λ (l : List ℕ). moved_of (take_byte (word_of Ecx old) l s)) end in
-    (with_word Eax 0 s, sym (read_path old left some allows ∙ ended), ap (with_word Eax 0) bare, end' ∙ sym end,
-        sym (append-nil taken))
+    ap (λ (l : List ℕ). moved_of (take_byte (word_of Ecx old) l s)) end in (
+      with_word Eax 0 s,
+      sym (read_path old left some allows ∙ ended),
+      ap (with_word Eax 0) bare,
+      end' ∙ sym end,
+      sym (append-nil taken),
+    )
 
 -- the state that a byte leads to, where it is stored in this memory
 taken_byte : (old new : State) (address byte : ℕ) (left taken : List ℕ) (x : Option (List Area)) → old ≡ alone old
@@ -115,9 +123,14 @@ unfolding PartTold
 taken_byte old new address byte left taken None bare e = absurd (let no : Err (denied address old) ≡ Ok new = e in cc)
 taken_byte old new address byte left taken (Some m) bare e =
     let got : Ok (with_word Eax 1 (record old { memory = m })) ≡ Ok new = e in
-    let same : with_word Eax 1 (record old { memory = m }) ≡ new = cc in
-    (with_word Eax 1 (record (lent old (byte ∷ left)) { memory = m; left = left; taken = 0 + 1 }), refl, sym same
-        ∙ ap (λ (t : State). with_word Eax 1 (record t { memory = m })) bare, refl, sym (append-nil taken))
+    let same : with_word Eax 1 (record old { memory = m }) ≡ new = cc in (
+      with_word Eax 1 (record (lent old (byte ∷ left)) { memory = m; left = left; taken = 0 + 1 }),
+      refl,
+      sym same
+          ∙ ap (λ (t : State). with_word Eax 1 (record t { memory = m })) bare,
+      refl,
+      sym (append-nil taken),
+    )
 
 -- a byte of the input is taken
 pub read_byte : (old new : State) (address byte : ℕ) (left left' taken : List ℕ) → old ≡ alone old
@@ -127,16 +140,16 @@ pub read_byte : (old new : State) (address byte : ℕ) (left left' taken : List 
     → PartTold (read_moved (lent old left)) (lent old left) new left' taken taken (Ok tt)
 read_byte old new address byte left left' taken bare some allows e same stores =
     let told : PartTold (moved_of (take_byte address (byte ∷ left') (lent old (byte ∷ left'))))
-        (lent old (byte ∷ left')) new left' taken taken (Ok tt) =
+    (lent old (byte ∷ left')) new left' taken taken (Ok tt) =
     taken_byte old new address byte left' taken (stored address (byte ∷ []) old.memory) bare stores in
     let there : PartTold (moved_of (take_byte (word_of Ecx old) left (lent old left))) (lent old left) new left' taken
-        taken (Ok tt) =
+    taken (Ok tt) =
     subst (λ (n : ℕ). PartTold (moved_of (take_byte n left (lent old left))) (lent old left) new left' taken taken
-        (Ok tt)) same
+    (Ok tt)) same
     (subst (λ (l : List ℕ). PartTold (moved_of (take_byte address l (lent old l))) (lent old l) new left' taken taken
-        (Ok tt)) (sym e) told) in
+    (Ok tt)) (sym e) told) in
     subst (λ (m : Moved). PartTold m (lent old left) new left' taken taken (Ok tt))
-        (sym (read_path old left some allows)) there
+    (sym (read_path old left some allows)) there
 
 -- the input failed
 pub read_fault : (old : State) (left left' taken : List ℕ) → old ≡ alone old → left' ≡ left
@@ -151,9 +164,13 @@ pub write_none : (old : State) (left taken : List ℕ) → old ≡ alone old →
     → PartTold (write_moved (lent old left)) (lent old left) (with_word Eax 0 old) left taken taken (Ok tt)
 unfolding write_moved PartTold
 write_none old left taken bare none =
-    let s : State = lent old left in
-    (with_word Eax 0 s, ap (λ (n : ℕ). moved_of (write_call n (word_of Ecx s) s)) (sym none), ap (with_word Eax 0) bare,
-        refl, sym (append-nil taken))
+    let s : State = lent old left in (
+      with_word Eax 0 s,
+      ap (λ (n : ℕ). moved_of (write_call n (word_of Ecx s) s)) (sym none),
+      ap (with_word Eax 0) bare,
+      refl,
+      sym (append-nil taken),
+    )
 
 -- what is done with the bytes that there are
 write_path : (old : State) (left : List ℕ) (x : Option (List ℕ)) → (word_of Edx old == 0) ≡ false
@@ -164,9 +181,9 @@ unfolding write_moved
 write_path old left x some e =
     let s : State = lent old left in
     let done : List ℕ → Result State outcome.End =
-        λ bytes. Ok (with_word Eax (word_of Edx old) (record s { written = bytes })) in
+    λ bytes. Ok (with_word Eax (word_of Edx old) (record s { written = bytes })) in
     ap moved_of (if_not (word_of Edx s == 0) (Ok (with_word Eax 0 s)) _ some
-        ∙ ap (λ (o : Option (List ℕ)). and_then (or_end o (denied (word_of Ecx old) old)) done) e)
+    ∙ ap (λ (o : Option (List ℕ)). and_then (or_end o (denied (word_of Ecx old) old)) done) e)
 
 -- the bytes may not be read there
 pub write_denied : (old : State) (left taken : List ℕ) → old ≡ alone old → (word_of Edx old == 0) ≡ false
@@ -182,27 +199,41 @@ pub write_done : (old : State) (bytes left taken taken' : List ℕ) → old ≡ 
     → PartTold (write_moved (lent old left)) (lent old left) (with_word Eax (word_of Edx old) old) left taken taken'
     (Ok tt)
 unfolding PartTold
-write_done old bytes left taken taken' bare some there took =
-    (with_word Eax (word_of Edx old) (record (lent old left) { written = bytes }),
-        sym (write_path old left (Some bytes) some there), ap (with_word Eax (word_of Edx old)) bare, refl, took)
+write_done old bytes left taken taken' bare some there took = (
+  with_word Eax (word_of Edx old) (record (lent old left) { written = bytes }),
+  sym (write_path old left (Some bytes) some there),
+  ap (with_word Eax (word_of Edx old)) bare,
+  refl,
+  took,
+)
 
 -- the output failed, and took a part of the bytes
 pub write_failed : (old : State) (bytes left taken taken' : List ℕ) (n : ℕ) → old ≡ alone old → (word_of Edx old == 0)
     ≡ false → bytes_at (word_of Edx old) (word_of Ecx old) old.memory ≡ Some bytes → taken' ≡ taken ++ take n bytes
     → PartTold (write_moved (lent old left)) (lent old left) old left taken taken' (Err WriteFault)
 unfolding PartTold
-write_failed old bytes left taken taken' n bare some there took =
-    (with_word Eax (word_of Edx old) (record (lent old left) { written = bytes }),
-        sym (write_path old left (Some bytes) some there), bare, refl, n, took)
+write_failed old bytes left taken taken' n bare some there took = (
+  with_word Eax (word_of Edx old) (record (lent old left) { written = bytes }),
+  sym (write_path old left (Some bytes) some there),
+  bare,
+  refl,
+  n,
+  took,
+)
 
 -- the output found no memory
 pub write_wanted : (old : State) (bytes left taken taken' : List ℕ) → old ≡ alone old → (word_of Edx old == 0) ≡ false
     → bytes_at (word_of Edx old) (word_of Ecx old) old.memory ≡ Some bytes → bytes ≢ [] → taken' ≡ taken
     → PartTold (write_moved (lent old left)) (lent old left) old left taken taken' (Err NoMemory)
 unfolding PartTold
-write_wanted old bytes left taken taken' bare some there filled took =
-    (with_word Eax (word_of Edx old) (record (lent old left) { written = bytes }),
-        sym (write_path old left (Some bytes) some there), filled, bare, refl, took)
+write_wanted old bytes left taken taken' bare some there filled took = (
+  with_word Eax (word_of Edx old) (record (lent old left) { written = bytes }),
+  sym (write_path old left (Some bytes) some there),
+  filled,
+  bare,
+  refl,
+  took,
+)
 
 -- as many bytes as a number that isn't 0 are some
 pub some_bytes : (n : ℕ) (bytes : List ℕ) → length bytes ≡ n → n ≢ 0 → bytes ≢ []
@@ -246,9 +277,9 @@ call_none old left taken bare exit read write =
       sym (ap (λ (call : SystemCall). moved_of (make_call call s))
           (if_not (word_of Eax s == 1) (Exit (word_of Ebx s)) _ (not_is (word_of Eax s) 1 exit)
           ∙ if_not (word_of Eax s == 3 && word_of Ebx s == 0) Read _
-              (not_both (word_of Eax s) (word_of Ebx s) 3 0 read)
+          (not_both (word_of Eax s) (word_of Ebx s) 3 0 read)
           ∙ if_not (word_of Eax s == 4 && word_of Ebx s == 1) Write Other
-              (not_both (word_of Eax s) (word_of Ebx s) 4 1 write))),
+          (not_both (word_of Eax s) (word_of Ebx s) 4 1 write))),
       bare,
       refl,
       refl,

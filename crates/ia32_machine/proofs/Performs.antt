@@ -48,7 +48,7 @@ pub call_goes : (i : Insn) (after : ℕ) (s mid : State) (left taken taken' : Li
 unfolding call_moved insn_moved PartTold
 call_goes i after s mid left taken taken' e h =
     let moves : Moves (at_address after h.0) ≡ perform (insn.Int 0x80) after s =
-        goes_on after (system_call s) h.0 h.1 in
+    goes_on after (system_call s) h.0 h.1 in
     (at_address after h.0, moves ∙ ap (λ (j : Insn). perform j after s) (sym e), ap (at_address after) h.2, h.3, h.4)
 
 -- so is one that ends
@@ -56,23 +56,42 @@ pub call_ends : (i : Insn) (after : ℕ) (s mid : State) (left taken taken' : Li
     ≡ insn.Int 0x80 → PartTold (call_moved s) s mid left taken taken' (Err end)
     → PartTold (insn_moved i after s) s mid left taken taken' (Err end)
 unfolding call_moved insn_moved PartTold
-call_ends i after s mid left taken taken' (Ended status) e h =
-    (ends_on after (system_call s) (outcome.Ended status) h.0 ∙ ap (λ (j : Insn). perform j after s) (sym e), h.1, h.2,
-        h.3)
-call_ends i after s mid left taken taken' (Trapped trap) e h =
-    (ends_on after (system_call s) (outcome.Trapped trap) h.0 ∙ ap (λ (j : Insn). perform j after s) (sym e), h.1, h.2,
-        h.3)
-call_ends i after s mid left taken taken' (Stopped cause address) e h =
-    (ends_on after (system_call s) (outcome.Stopped cause address) h.0 ∙ ap (λ (j : Insn). perform j after s) (sym e),
-        h.1, h.2, h.3)
+call_ends i after s mid left taken taken' (Ended status) e h = (
+  ends_on after (system_call s) (outcome.Ended status) h.0 ∙ ap (λ (j : Insn). perform j after s) (sym e),
+  h.1,
+  h.2,
+  h.3,
+)
+call_ends i after s mid left taken taken' (Trapped trap) e h = (
+  ends_on after (system_call s) (outcome.Trapped trap) h.0 ∙ ap (λ (j : Insn). perform j after s) (sym e),
+  h.1,
+  h.2,
+  h.3,
+)
+call_ends i after s mid left taken taken' (Stopped cause address) e h = (
+  ends_on after (system_call s) (outcome.Stopped cause address) h.0 ∙ ap (λ (j : Insn). perform j after s) (sym e),
+  h.1,
+  h.2,
+  h.3,
+)
 call_ends i after s mid left taken taken' BudgetSpent e h = elim h [ ]
 call_ends i after s mid left taken taken' ReadFault e h = h
-call_ends i after s mid left taken taken' WriteFault e h =
-    (at_address after h.0, goes_on after (system_call s) h.0 h.1 ∙ ap (λ (j : Insn). perform j after s) (sym e), h.2,
-        h.3, h.4, h.5)
-call_ends i after s mid left taken taken' NoMemory e h =
-    (at_address after h.0, goes_on after (system_call s) h.0 h.1 ∙ ap (λ (j : Insn). perform j after s) (sym e), h.2,
-        h.3, h.4, h.5)
+call_ends i after s mid left taken taken' WriteFault e h = (
+  at_address after h.0,
+  goes_on after (system_call s) h.0 h.1 ∙ ap (λ (j : Insn). perform j after s) (sym e),
+  h.2,
+  h.3,
+  h.4,
+  h.5,
+)
+call_ends i after s mid left taken taken' NoMemory e h = (
+  at_address after h.0,
+  goes_on after (system_call s) h.0 h.1 ∙ ap (λ (j : Insn). perform j after s) (sym e),
+  h.2,
+  h.3,
+  h.4,
+  h.5,
+)
 
 -- ---- the other instructions
 
@@ -106,9 +125,13 @@ pub insn_goes : (i : Insn) (after : ℕ) (old new : State) (left taken : List �
     → perform i after old ≡ Moves new → PartTold (insn_moved i after (lent old left)) (lent old left) new left taken
     taken (Ok tt)
 unfolding insn_moved PartTold
-insn_goes i after old new left taken bare other e =
-    (lent new left, sym (lent_performs i after old new left other e), stays_alone i after old new bare other e, refl,
-    sym (append-nil taken))
+insn_goes i after old new left taken bare other e = (
+  lent new left,
+  sym (lent_performs i after old new left other e),
+  stays_alone i after old new bare other e,
+  refl,
+  sym (append-nil taken),
+)
 
 pub insn_ends : (i : Insn) (after : ℕ) (old : State) (left taken : List ℕ) (why : Halt) → old ≡ alone old
     → i ≢ insn.Int 0x80 → perform i after old ≡ Halts (end_of why old)
@@ -134,7 +157,7 @@ next_same : (x : Result State End) (y z : Result ℕ End) → and_then y (λ n. 
 next_same (Err end) y z e = refl
 next_same (Ok t) (Ok m) (Ok n) e =
     let same : m % 0x1_0000_0000 ≡ n % 0x1_0000_0000 =
-        (let got : Ok (m % 0x1_0000_0000) ≡ Ok (n % 0x1_0000_0000) = e in cc) in
+    (let got : Ok (m % 0x1_0000_0000) ≡ Ok (n % 0x1_0000_0000) = e in cc) in
     ap (λ (k : ℕ). Moves (record t { eip = k })) same
 next_same (Ok t) (Ok m) (Err end) e = absurd (let no : Ok (m % 0x1_0000_0000) ≡ Err end = e in cc)
 next_same (Ok t) (Err end) (Ok n) e = absurd (let no : Err end ≡ Ok (n % 0x1_0000_0000) = e in cc)
@@ -173,7 +196,7 @@ effect_same _ a s = refl
 perform_wrapped : (i : Insn) (a : ℕ) (s : State) → perform i (a % 0x1_0000_0000) s ≡ perform i a s
 perform_wrapped i a s =
     ap (λ (r : Result State End). moved_of (and_then r
-        (λ t. and_then (target i (a % 0x1_0000_0000) s) (λ n. Ok (at_address n t))))) (effect_same i a s)
+    (λ t. and_then (target i (a % 0x1_0000_0000) s) (λ n. Ok (at_address n t))))) (effect_same i a s)
     ∙ next_same (effect i a s) (target i (a % 0x1_0000_0000) s) (target i a s) (target_same i a s)
 
 -- ---- a step
@@ -199,17 +222,17 @@ fetched-steps : (s : State) (left : List ℕ) (i : Insn) (n : ℕ) → FetchTold
     → Steps (lent s left) (perform i (s.eip + n) (lent s left))
 fetched-steps s left i n h =
     subst (λ (code : Option (List ℕ)). StepsAt code (lent s left) (perform i (s.eip + n) (lent s left))) (sym h.1)
-        (inl (i, n, h.2, refl))
+    (inl (i, n, h.2, refl))
 
 -- the step that stops where nothing was fetched
 unfetched-steps : (s : State) (left : List ℕ) (cause : Stop) → FetchTold s (Err cause)
     → Steps (lent s left) (Halts (outcome.Stopped cause s.eip))
 unfetched-steps s left Instruction h =
     subst (λ (code : Option (List ℕ)). StepsAt code (lent s left) (Halts (outcome.Stopped Instruction s.eip))) (sym h.1)
-        (inr (h.2, refl))
+    (inr (h.2, refl))
 unfetched-steps s left (Access address) h =
     subst (λ (code : Option (List ℕ)). StepsAt code (lent s left) (Halts (outcome.Stopped (Access address) s.eip)))
-        (sym h.0)
+    (sym h.0)
     (ap (λ (a : ℕ). Halts (outcome.Stopped (Access a) s.eip)) h.1)
 unfetched-steps s left _ h = elim h [ ]
 
@@ -222,7 +245,7 @@ unfolding insn_moved PartTold AdvanceTold StepTold
 fetched s machine left left' taken taken' i n after result h e told =
     let u : State = lent s left in
     let given : perform i after u ≡ perform i (s.eip + n) u = ap (λ (a : ℕ). perform i a u) e
-        ∙ perform_wrapped i (s.eip + n) u in
+    ∙ perform_wrapped i (s.eip + n) u in
     leads (λ m. m ≡ perform i after u) (Steps u) u machine left' taken taken' (step_of result)
     (λ m same. subst (λ (v : Moved). Steps u v) (sym (same ∙ given)) (fetched-steps s left i n h)) told
 

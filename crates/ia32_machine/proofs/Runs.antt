@@ -33,7 +33,7 @@ reaches_halts-spare zero k s t end r h =
     let e : suc k ≡ 0 + suc k = omega arith in
     let run : Runs no_visits (suc k) t (stands [] t end) = runs_halts no_visits k t end h in
     subst (λ (m : ℕ). Runs no_visits m s (stands [] t end)) e
-        (subst (λ (v : State). Runs no_visits (suc k) v (stands [] t end)) r run)
+    (subst (λ (v : State). Runs no_visits (suc k) v (stands [] t end)) r run)
 reaches_halts-spare (suc n) k s t end r h =
     let e : suc (n + suc k) ≡ suc n + suc k = omega arith in
     subst (λ (m : ℕ). Runs no_visits m s (stands [] t end)) e
@@ -59,8 +59,15 @@ pub record Ran (n : ℕ) (s machine : State) (left left' taken taken' : List ℕ
 pub ran_none : (machine : State) (left taken : List ℕ) → machine ≡ alone machine
     → Ran 0 (lent machine left) machine left left taken taken
 ran_none machine left taken bare =
-    record { state = lent machine left; reaches = refl; machine_is = bare; left_is = refl; took = refl; wrote =
-        sym (append-nil taken) }
+    record {
+      state = lent machine left;
+      reaches = refl;
+      machine_is = bare;
+      left_is = refl;
+      took = refl;
+      wrote =
+          sym (append-nil taken);
+    }
 
 -- a state is the machine lent its input, since what was taken and written before
 since_lent : (t machine : State) (left : List ℕ) → machine ≡ alone t → left ≡ t.left
@@ -68,11 +75,24 @@ since_lent : (t machine : State) (left : List ℕ) → machine ≡ alone t → l
 since_lent t machine left m l =
     ap (λ (v : State). since t.taken t.written (lent v left)) m
     ∙ ap (λ (v : List ℕ). since t.taken t.written (lent t v)) l
-    ∙ ap (λ (k : ℕ). let u : State = record { registers = t.registers; flags = t.flags; eip = t.eip; memory = t.memory;
-        left = t.left; taken = k; written = t.written ++ [] } in u) (add-zero t.taken)
-    ∙ ap (λ (w : List ℕ). let u : State = record
-        { registers = t.registers; flags = t.flags; eip = t.eip; memory = t.memory; left = t.left; taken = t.taken;
-        written = w } in u) (append-nil t.written)
+    ∙ ap (λ (k : ℕ). let u : State = record {
+      registers = t.registers;
+      flags = t.flags;
+      eip = t.eip;
+      memory = t.memory;
+      left = t.left;
+      taken = k;
+      written = t.written ++ [];
+    } in u) (add-zero t.taken)
+    ∙ ap (λ (w : List ℕ). let u : State = record {
+      registers = t.registers;
+      flags = t.flags;
+      eip = t.eip;
+      memory = t.memory;
+      left = t.left;
+      taken = t.taken;
+      written = w;
+    } in u) (append-nil t.written)
 
 -- a step that goes on, from the state that was reached
 ran_steps : (n : ℕ) (s machine next : State) (left left' taken taken' : List ℕ)
@@ -80,7 +100,7 @@ ran_steps : (n : ℕ) (s machine next : State) (left left' taken taken' : List �
     → Steps r.state (Moves (since r.state.taken r.state.written next))
 ran_steps n s machine next left left' taken taken' r h =
     subst (λ (v : State). Steps v (Moves (since r.state.taken r.state.written next)))
-        (since_lent r.state machine left' r.machine_is r.left_is)
+    (since_lent r.state machine left' r.machine_is r.left_is)
     (steps-since r.state.taken r.state.written (lent machine left') (Moves next) h)
 
 -- a step that ends, from the state that was reached
@@ -151,9 +171,11 @@ ran_writes : (n : ℕ) (s machine next : State) (left left' taken taken' : List 
     → (r : Ran n s machine left left' taken taken') → Steps (lent machine left') (Moves next) → next.written ≢ []
     → WritesNext r.state
 ran_writes n s machine next left left' taken taken' r h some =
-    let t : State = r.state in
-    (since t.taken t.written next, ran_steps n s machine next left left' taken taken' r h,
-        something-behind t.written next.written some)
+    let t : State = r.state in (
+      since t.taken t.written next,
+      ran_steps n s machine next left left' taken taken' r h,
+      something-behind t.written next.written some,
+    )
 
 -- bytes, and then a part of more
 take-append-more : (xs ys : List ℕ) (k : ℕ) → xs ++ take k ys ≡ take (length xs + k) (xs ++ ys)

@@ -24,7 +24,7 @@ pub stores : (address : ℕ) (bytes : List ℕ) (memory : List Area) → may_sto
 stores address bytes [] p q = cc
 stores address bytes (area ∷ areas) p q =
     stores_after (area.writable && has_bytes area address (length bytes)) (may_store (length bytes) address areas)
-        (with_bytes address bytes area ∷ areas) (λ others. area ∷ others) (stored address bytes areas)
+    (with_bytes address bytes area ∷ areas) (λ others. area ∷ others) (stored address bytes areas)
     (stores address bytes areas) p q
 
 -- an area that has n bytes at an address has one there
@@ -46,7 +46,7 @@ pub one_byte : (address n : ℕ) (memory : List Area) → 0 < n → may_store n 
 one_byte address n [] more p = p
 one_byte address n (area ∷ areas) more p =
     choice_more (area.writable && has_bytes area address n) (area.writable && has_bytes area address 1)
-        (may_store n address areas) (may_store 1 address areas)
+    (may_store n address areas) (may_store 1 address areas)
     (has_one area.writable area address n more) (one_byte address n areas more) p
 
 -- a number of one byte is its byte
@@ -65,10 +65,10 @@ pub byte_stored : (f : State → State) (s t : State) (address byte : ℕ) (resu
     → and_then (store_bytes address (byte ∷ []) s) (λ u. Ok (f u)) ≡ Ok (f t)
 byte_stored f s t address byte (Ok done) below allows h =
     let there : store_bytes address (byte ∷ []) s ≡ Ok t =
-        ap (λ (l : List ℕ). store_bytes address l s) (sym (byte_is byte below)) ∙ h in
+    ap (λ (l : List ℕ). store_bytes address l s) (sym (byte_is byte below)) ∙ h in
     ap (λ (r : Result State End). and_then r (λ u. Ok (f u))) there
 byte_stored f s t address byte (Err halt) below allows h =
     let ended : store_bytes address (byte ∷ []) s ≡ Err (end_of halt s) =
-        ap (λ (l : List ℕ). store_bytes address l s) (sym (byte_is byte below)) ∙ h.0 in
+    ap (λ (l : List ℕ). store_bytes address l s) (sym (byte_is byte below)) ∙ h.0 in
     absurd (stores address (byte ∷ []) s.memory allows
-        (none_there (stored address (byte ∷ []) s.memory) (denied address s) (end_of halt s) s ended))
+    (none_there (stored address (byte ∷ []) s.memory) (denied address s) (end_of halt s) s ended))

@@ -52,11 +52,11 @@ EndsTold Leads s machine left taken taken' ReadFault = (machine ≡ alone s) × 
 -- a sink that fails has taken a part of what the step writes
 EndsTold Leads s machine left taken taken' WriteFault =
     (next : State) × Leads (Moves next) × (machine ≡ alone s) × (left ≡ s.left) × (n : ℕ)
-        × (taken' ≡ taken ++ take n next.written)
+    × (taken' ≡ taken ++ take n next.written)
 -- one that finds no memory has taken nothing of the bytes that the step writes
 EndsTold Leads s machine left taken taken' NoMemory =
     (next : State) × Leads (Moves next) × (next.written ≢ s.written) × (machine ≡ alone s) × (left ≡ s.left)
-        × (taken' ≡ taken)
+    × (taken' ≡ taken)
 
 -- the same of any answer
 abbrev pub LeadsTold : (Moved → Type 0) → State → State → List ℕ → List ℕ → List ℕ → StepEnd → Type 0
@@ -72,7 +72,7 @@ StepTold s machine left taken taken' answer = LeadsTold (Steps s) s machine left
 abbrev pub Gives : ℕ → State → List ℕ → List ℕ → List ℕ → List ℕ → outcome.End → Type 0
 Gives n s left left' taken taken' end =
     (o : outcome.Outcome) × Runs no_visits n s o × (o.end ≡ end) × (left' ≡ drop o.taken left)
-        × (taken' ≡ taken ++ o.written)
+    × (taken' ≡ taken ++ o.written)
 
 -- n steps lead to a state of which this holds, and the machine and the input were left there
 abbrev pub LeftAfter : ℕ → State → State → List ℕ → (State → Type 0) → Type 0
@@ -82,7 +82,7 @@ LeftAfter n s machine left Holds = (t : State) × Reaches n s t × Holds t × (m
 abbrev pub RunEnds : ℕ → State → State → List ℕ → List ℕ → List ℕ → List ℕ → outcome.End → Type 0
 RunEnds budget s machine left left' taken taken' end =
     Gives budget s left left' taken taken' end × (n : ℕ) × (n < budget)
-        × LeftAfter n s machine left' (λ t. Steps t (Halts end))
+    × LeftAfter n s machine left' (λ t. Steps t (Halts end))
 
 -- after a refusal: some number of steps, fewer than the budget, were made, and the machine, the input and the bytes
 -- taken

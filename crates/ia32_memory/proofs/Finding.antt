@@ -88,11 +88,11 @@ within-has address n area e = (leb-true _ _ (and_parts _ _ e).0, leb-true _ _ (a
 pub within-place : (access : Access) (address n i : ℕ) (areas : List Area) (d : Area)
     → position (λ area. allows access address n (area_seen area)) areas ≡ Some i
     → (i < length areas) × ((get_or areas i d).address ≤ address)
-        × (address + n ≤ (get_or areas i d).address + length (get_or areas i d).bytes.items)
+    × (address + n ≤ (get_or areas i d).address + length (get_or areas i d).bytes.items)
 within-place access address n i areas d e =
     let at = position-Some (λ area. allows access address n (area_seen area)) areas i d e in
     let found = within-has address n (area_seen (get_or areas i d))
-        (has-allowed access address n (area_seen (get_or areas i d)) at.1) in
+    (has-allowed access address n (area_seen (get_or areas i d)) at.1) in
     (at.0, found.0, found.1)
 
 -- the search goes over a slice of these areas, and finds a place
@@ -121,17 +121,17 @@ within-area access address n i areas area e at =
 
 bytes_at-picked : (n address : ℕ) (areas : List Area)
     → bytes_at n address (map area_seen areas)
-        ≡ picked (λ area. allows Read address n (area_seen area))
-        (λ area. take n (drop (address - area.address) area.bytes.items)) areas
+    ≡ picked (λ area. allows Read address n (area_seen area))
+    (λ area. take n (drop (address - area.address) area.bytes.items)) areas
 bytes_at-picked n address [] = refl
 bytes_at-picked n address (area ∷ areas) =
     ap (λ (o : Option (List ℕ)). if allows Read address n (area_seen area) then Some
-        (take n (drop (address - area.address) area.bytes.items)) else o) (bytes_at-picked n address areas)
+    (take n (drop (address - area.address) area.bytes.items)) else o) (bytes_at-picked n address areas)
 
 pub bytes_at-Some : (n address i : ℕ) (areas : List Area) (d : Area)
     → position (λ area. allows Read address n (area_seen area)) areas ≡ Some i
     → bytes_at n address (map area_seen areas)
-        ≡ Some (take n (drop (address - (get_or areas i d).address) (get_or areas i d).bytes.items))
+    ≡ Some (take n (drop (address - (get_or areas i d).address) (get_or areas i d).bytes.items))
 bytes_at-Some n address i areas d e = bytes_at-picked n address areas
     ∙ picked-Some _ (λ (area : Area). take n (drop (address - area.address) area.bytes.items)) areas i d e
 
@@ -144,11 +144,11 @@ bytes_at-None n address areas e = bytes_at-picked n address areas ∙ picked-Non
 
 code_at-picked : (address : ℕ) (areas : List Area)
     → code_at address (map area_seen areas) ≡ picked (λ area. allows Run address 1 (area_seen area))
-        (λ area. drop (address - area.address) area.bytes.items) areas
+    (λ area. drop (address - area.address) area.bytes.items) areas
 code_at-picked address [] = refl
 code_at-picked address (area ∷ areas) =
     ap (λ (o : Option (List ℕ)). if allows Run address 1 (area_seen area) then Some
-        (drop (address - area.address) area.bytes.items) else o) (code_at-picked address areas)
+    (drop (address - area.address) area.bytes.items) else o) (code_at-picked address areas)
 
 -- all that is left behind a place
 pub take_rest : (k : ℕ) (xs : List ℕ) → take (length xs - k) (drop k xs) ≡ drop k xs
@@ -157,7 +157,7 @@ take_rest k xs = take_all _ _ (omega (arith, length-drop k xs))
 pub code_at-Some : (address i : ℕ) (areas : List Area) (d : Area)
     → position (λ area. allows Run address 1 (area_seen area)) areas ≡ Some i
     → code_at address (map area_seen areas) ≡ Some
-        (drop (address - (get_or areas i d).address) (get_or areas i d).bytes.items)
+    (drop (address - (get_or areas i d).address) (get_or areas i d).bytes.items)
 code_at-Some address i areas d e = code_at-picked address areas
     ∙ picked-Some _ (λ (area : Area). drop (address - area.address) area.bytes.items) areas i d e
 
@@ -169,11 +169,11 @@ code_at-None address areas e = code_at-picked address areas ∙ picked-None _ _ 
 
 may_store-picked : (n address : ℕ) (areas : List Area)
     → may_store n address (map area_seen areas)
-        ≡ is_some (picked (λ area. allows Write address n (area_seen area)) (λ area. area) areas)
+    ≡ is_some (picked (λ area. allows Write address n (area_seen area)) (λ area. area) areas)
 may_store-picked n address [] = refl
 may_store-picked n address (area ∷ areas) =
     elim (cases_Bool (allows Write address n (area_seen area)))
-        [ inl t ↦ rw t refl | inr f ↦ rw f (may_store-picked n address areas) ]
+    [ inl t ↦ rw t refl | inr f ↦ rw f (may_store-picked n address areas) ]
 
 pub may_store-found : (n address : ℕ) (areas : List Area) → may_store n address (map area_seen areas)
     ≡ is_some (position (λ area. allows Write address n (area_seen area)) areas)
@@ -195,7 +195,7 @@ stored-None address bytes (area ∷ areas) e =
 pub stored-Some : (address : ℕ) (bytes : List ℕ) (i : ℕ) (areas : List Area) (d : Area)
     → position (λ area. allows Write address (length bytes) (area_seen area)) areas ≡ Some i
     → stored address bytes (map area_seen areas)
-        ≡ Some (set (map area_seen areas) i (with_bytes address bytes (area_seen (get_or areas i d))))
+    ≡ Some (set (map area_seen areas) i (with_bytes address bytes (area_seen (get_or areas i d))))
 stored-Some address bytes i [] d e = absurd (cc)
 stored-Some address bytes i (area ∷ areas) d e =
     let test : Area → Bool = λ a. allows Write address (length bytes) (area_seen a) in
@@ -223,7 +223,7 @@ IsArea-stored address bytes old new within e h =
     let count = length-with_bytes address bytes (area_seen old) within in
     let place : new.address ≡ old.address = ap (λ (a : state.Area). a.address) e in
     let size : length new.bytes.items ≡ length (with_bytes address bytes (area_seen old)).bytes =
-        ap (λ (a : state.Area). length a.bytes) e in
+    ap (λ (a : state.Area). length a.bytes) e in
     omega (arith, count, place, size, h)
 
 -- the memory after a store to the area at the place

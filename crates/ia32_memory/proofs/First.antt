@@ -31,7 +31,7 @@ pub piece_at : (segments : List Segment) (i : ℕ) (s : Segment) → i < length 
     → All IsPiece (map piece_of segments) → IsPiece (piece_of s)
 piece_at segments i s within e each =
     let at : get_or (map piece_of segments) i (piece_of s) ≡ piece_of (get_or segments i s) =
-        get_or-map piece_of segments i s (piece_of s) within in
+    get_or-map piece_of segments i s (piece_of s) within in
     let holds : IsPiece (get_or (map piece_of segments) i (piece_of s)) =
-        each i (piece_of s) (let n : i < length (map piece_of segments) = simp length-map within in n) in
+    each i (piece_of s) (let n : i < length (map piece_of segments) = simp length-map within in n) in
     subst (λ (p : Piece). IsPiece p) (at ∙ sym (ap piece_of e)) holds

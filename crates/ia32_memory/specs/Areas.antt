@@ -8,8 +8,13 @@ use Rattle.ia32_memory.specs.declared.area.Access.TheVariants.{Read, Write, Run}
 
 -- an area, without where the machine keeps its bytes
 abbrev pub area_seen : Area → state.Area
-area_seen a = record { address = a.address; bytes = a.bytes.items; readable = a.readable; writable = a.writable;
-    runnable = a.runnable }
+area_seen a = record {
+  address = a.address;
+  bytes = a.bytes.items;
+  readable = a.readable;
+  writable = a.writable;
+  runnable = a.runnable;
+}
 
 -- an area ends within the address space
 abbrev pub IsArea : Area → Type 0

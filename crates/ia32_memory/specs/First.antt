@@ -11,5 +11,11 @@ padded size bytes = bytes ++ zeros (size - length bytes)
 -- the memory of a segment
 abbrev pub area_of : Piece → Area
 area_of piece =
-    record { address = piece.address; bytes = padded piece.size piece.bytes; readable = piece.readable; writable =
-        piece.writable; runnable = piece.runnable }
+    record {
+      address = piece.address;
+      bytes = padded piece.size piece.bytes;
+      readable = piece.readable;
+      writable =
+          piece.writable;
+      runnable = piece.runnable;
+    }

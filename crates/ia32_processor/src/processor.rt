@@ -28,15 +28,29 @@ impl Model for Processor {
 
     ghost use Rattle.std.specs.Prelude.{[]};
 
-    ghost view = { λ p. record { registers = p.registers; flags = p.flags; eip = p.eip; memory = p.memory; left = [];
-        taken = 0; written = [] } };
+    ghost view = { λ p. record {
+      registers = p.registers;
+      flags = p.flags;
+      eip = p.eip;
+      memory = p.memory;
+      left = [];
+      taken = 0;
+      written = [];
+    } };
 }
 
 impl Processor {
     /// Every register is 0, the flags are unknown, and the next instruction is at the entry.
     pub fn new(entry: u32, memory: Memory) -> Processor
-        ensures { result ≡ record { registers = zero_registers; flags = None; eip = entry; memory = memory; left = [];
-            taken = 0; written = [] } }
+        ensures { result ≡ record {
+          registers = zero_registers;
+          flags = None;
+          eip = entry;
+          memory = memory;
+          left = [];
+          taken = 0;
+          written = [];
+        } }
     {
         Processor {
             registers: RegFile::new(),

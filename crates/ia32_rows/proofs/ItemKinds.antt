@@ -145,12 +145,12 @@ operation-row : (how : AluOp) (p q r : Place) → IsRow (operation how p q r)
 operation-row how p q r =
     let t : Reg32 = working p q r in
     row-before (read t q ++ operate how t r) (write p t)
-        (row-behind (read t q) (operate how t r) (read-insns t q) (operate-row how t r)) (write-insns p t)
+    (row-behind (read t q) (operate how t r) (read-insns t q) (operate-row how t r)) (write-insns p t)
 
 commuting-row : (how : AluOp) (p q r : Place) → IsRow (commuting how p q r)
 commuting-row how p q r =
     either-way IsRow (has_operand p r) (operation how p r q) (operation how p q r) (operation-row how p r q)
-        (operation-row how p q r)
+    (operation-row how p q r)
 
 pass-row : (p : Place) → IsRow (pass p)
 pass-row (InWord r) = ((inl tt, tt), tt)
@@ -160,12 +160,12 @@ pass-row (InSlot k) = ((inl tt, tt), tt)
 putchar-row : (p q : Place) → IsRow (putchar_row p q)
 putchar-row p q =
     row-before (pass q) (item.CallStub stub.Putchar ∷ plain (insn.Pop Edi) ∷ write p Eax) (pass-row q)
-        (tt, (inl tt, write-insns p Eax))
+    (tt, (inl tt, write-insns p Eax))
 
 return-row : (p : Place) → IsRow (return_row p)
 return-row p =
     row-behind (read Eax p) (return_row (InWord Eax)) (read-insns Eax p)
-        ((inl tt, (inl tt, (inl tt, (inl tt, (inl tt, tt))))), tt)
+    ((inl tt, (inl tt, (inl tt, (inl tt, (inl tt, tt))))), tt)
 
 -- the row of an op that has one
 pub row-is : (placement : Placement) (p : ℕ) (o : Op) → IsSlotOp o → IsRow (row placement p o)
@@ -225,21 +225,21 @@ point_rows-items : (placement : Placement) (ops : List Op) (points : List ℕ)
 point_rows-items placement ops [] = tt
 point_rows-items placement ops (p ∷ ps) =
     every-join IsRowItem (point_row placement ops p) (point_rows placement ops ps)
-        (tt, row-items placement p (slice_index_or ops p op.Turn)) (point_rows-items placement ops ps)
+    (tt, row-items placement p (slice_index_or ops p op.Turn)) (point_rows-items placement ops ps)
 
 block_rows-items : (placement : Placement) (ops : List Op) (k : ℕ) (blocks : List (List ℕ))
     → AllByRecursion IsRowItem (block_rows placement ops k blocks)
 block_rows-items placement ops k [] = tt
 block_rows-items placement ops k (points ∷ blocks) =
     every-join IsRowItem (item.Label k ∷ point_rows placement ops points) (block_rows placement ops (suc k) blocks)
-        (tt, point_rows-items placement ops points) (block_rows-items placement ops (suc k) blocks)
+    (tt, point_rows-items placement ops points) (block_rows-items placement ops (suc k) blocks)
 
 -- every item of a graph's code is of these kinds
 pub selected-items : (flow : Flow) (slots : List ℕ) → AllByRecursion IsRowItem (selected flow (over_slots flow slots))
 selected-items flow slots =
     every-join IsRowItem (prologue (frame_of flow) (entry_label flow))
-        (block_rows (over_slots flow slots) flow.ops 0 flow.blocks) (prologue-items (frame_of flow) (entry_label flow))
-        (block_rows-items (over_slots flow slots) flow.ops 0 flow.blocks)
+    (block_rows (over_slots flow slots) flow.ops 0 flow.blocks) (prologue-items (frame_of flow) (entry_label flow))
+    (block_rows-items (over_slots flow slots) flow.ops 0 flow.blocks)
 
 -- ---- points are followed by instructions
 
@@ -339,15 +339,15 @@ pub points-have : (flow : Flow) (slots homes : List ℕ) (b : ℕ) → IsFlow fl
     → AllByRecursion (HasSlotOp flow.ops) (points_of flow b)
 points-have flow slots homes b f h =
     every-map (HasFittingOp flow) (HasSlotOp flow.ops)
-        (λ p fits. (fits.0, fits.1, every-get IsSlotOp flow.ops p fits.0 h.ops fits.1)) (points_of flow b)
-        (f.each_block b).fits
+    (λ p fits. (fits.0, fits.1, every-get IsSlotOp flow.ops p fits.0 h.ops fits.1)) (points_of flow b)
+    (f.each_block b).fits
 
 point-room : (placement : Placement) (ops : List Op) (p : ℕ) → HasSlotOp ops p
     → PointsTakeRoom (point_row placement ops p)
 point-room placement ops p (o, has, is) =
     let room = row-room placement p o is in
     subst (λ (i : Op). BeginsWithRoom (row placement p i) × PointsTakeRoom (row placement p i))
-        (sym (get_or_from_slice_get ops p o op.Turn has)) room
+    (sym (get_or_from_slice_get ops p o op.Turn has)) room
 
 points-room : (placement : Placement) (ops : List Op) (points : List ℕ) → AllByRecursion (HasSlotOp ops) points
     → PointsTakeRoom (point_rows placement ops points)
@@ -361,7 +361,7 @@ blocks-room : (placement : Placement) (ops : List Op) (k : ℕ) (blocks : List (
 blocks-room placement ops k [] h = tt
 blocks-room placement ops k (points ∷ blocks) h =
     room-join (item.Label k ∷ point_rows placement ops points) (block_rows placement ops (suc k) blocks)
-        (tt, points-room placement ops points (h 0)) (blocks-room placement ops (suc k) blocks (λ b. h (suc b)))
+    (tt, points-room placement ops points (h 0)) (blocks-room placement ops (suc k) blocks (λ b. h (suc b)))
 
 prologue-room : (frame label : ℕ) → PointsTakeRoom (prologue frame label)
 prologue-room frame label =
@@ -372,7 +372,7 @@ pub selected-room : (flow : Flow) (slots homes : List ℕ) → IsFlow flow homes
     → PointsTakeRoom (selected flow (over_slots flow slots))
 selected-room flow slots homes f h =
     room-join (prologue (frame_of flow) (entry_label flow)) (block_rows (over_slots flow slots) flow.ops 0 flow.blocks)
-        (prologue-room (frame_of flow) (entry_label flow))
+    (prologue-room (frame_of flow) (entry_label flow))
     (blocks-room (over_slots flow slots) flow.ops 0 flow.blocks (λ b. points-have flow slots homes b f h))
 
 -- ---- so two points have two addresses
@@ -448,7 +448,7 @@ point-address symbols places address x p bytes e at =
 pub one-address : (symbols : Symbols) (places : Places) (address : ℕ) (items : List Item) (bytes : List ℕ) (i j p q : ℕ)
     → AllByRecursion IsRowItem items → PointsTakeRoom items → ItemsAt symbols places address items bytes
     → slice_get items i ≡ Some (item.Point p) → slice_get items j ≡ Some (item.Point q) → places.points p
-        ≡ places.points q → p ≡ q
+    ≡ places.points q → p ≡ q
 one-address symbols places address [] bytes i j p q kinds room h a b e = absurd (cc)
 one-address symbols places address (x ∷ xs) bytes zero zero p q kinds room h a b e = one-point x p q a b
 one-address symbols places address (x ∷ xs) bytes zero (suc j) p q kinds room (first, rest, whole, at, more) a b e =
@@ -456,14 +456,14 @@ one-address symbols places address (x ∷ xs) bytes zero (suc j) p q kinds room 
     let none = here.0 in
     let is = here.1 in
     let after = strictly-later symbols places (address + length first) xs rest j q kinds.1
-        (behind-point x p xs a room.0) more b in
+    (behind-point x p xs a room.0) more b in
     absurd (omega arith)
 one-address symbols places address (x ∷ xs) bytes (suc i) zero p q kinds room (first, rest, whole, at, more) a b e =
     let here = point-address symbols places address x q first b at in
     let none = here.0 in
     let is = here.1 in
     let after = strictly-later symbols places (address + length first) xs rest i p kinds.1
-        (behind-point x q xs b room.0) more a in
+    (behind-point x q xs b room.0) more a in
     absurd (omega arith)
 one-address symbols places address (x ∷ xs) bytes (suc i) (suc j) p q kinds room (first, rest, whole, at, more) a b e =
     one-address symbols places (address + length first) xs rest i j p q kinds.1 room.1 more a b e

@@ -30,10 +30,10 @@ use Rattle.ia32_shows.specs.Sites.{Ready, Site, ReadyAt}
 
 -- the items stand in the text at the address
 pub record StandsThere (symbols : Symbols) (places : Places) (text : List ℕ) (items : List Item) (address : ℕ) : Type 0
-    where
-  pub bytes : List ℕ
-  pub here : IsAt text address bytes
-  pub stand : ItemsAt symbols places address items bytes
+  where
+    pub bytes : List ℕ
+    pub here : IsAt text address bytes
+    pub stand : ItemsAt symbols places address items bytes
 
 -- they stand at EIP of a state that came to the address
 pub ready-there : (symbols : Symbols) (places : Places) (text : List ℕ) (items : List Item) (address : ℕ) (s : State)
@@ -50,9 +50,14 @@ back-there : (symbols : Symbols) (places : Places) (text : List ℕ) (front back
     → StandsThere symbols places text (front ++ back) address
     → (distance : ℕ) × StandsThere symbols places text back (address + distance)
 back-there symbols places text front back address h =
-    let m = items-split symbols places address front back h.bytes h.stand in
-    (length m.0, record { bytes = m.1; here = at-back text address m.0 m.1 (subst (IsAt text address) m.2 h.here);
-        stand = m.4 })
+    let m = items-split symbols places address front back h.bytes h.stand in (
+      length m.0,
+      record {
+        bytes = m.1;
+        here = at-back text address m.0 m.1 (subst (IsAt text address) m.2 h.here);
+        stand = m.4;
+      },
+    )
 
 -- a point stands where what follows it stands
 point-there : (symbols : Symbols) (places : Places) (text : List ℕ) (p : ℕ) (items : List Item) (address : ℕ)
@@ -66,8 +71,12 @@ behind-there symbols places text p items address h =
     let rest : List ℕ = h.stand.1 in
     let whole : h.bytes ≡ rest = h.stand.2 ∙ ap (λ (l : List ℕ). l ++ rest) none in
     let at : address + length h.stand.0 ≡ address = let l = ap length none in omega (arith, l) in
-    record { bytes = rest; here = subst (IsAt text address) whole h.here; stand =
-        subst (λ (a : ℕ). ItemsAt symbols places a items rest) at h.stand.4 }
+    record {
+      bytes = rest;
+      here = subst (IsAt text address) whole h.here;
+      stand =
+          subst (λ (a : ℕ). ItemsAt symbols places a items rest) at h.stand.4;
+    }
 
 -- where a NOP comes first, its byte stands
 nop-there : (symbols : Symbols) (places : Places) (text : List ℕ) (items : List Item) (address : ℕ)
@@ -76,7 +85,7 @@ nop-there symbols places text items address h =
     let rest : List ℕ = h.stand.1 in
     let is : h.stand.0 ≡ 144 ∷ [] = h.stand.3 in
     at-front text address (144 ∷ []) rest (subst (IsAt text address) (h.stand.2 ∙ ap (λ (l : List ℕ). l ++ rest) is)
-        h.here)
+    h.here)
 
 -- ---- the function in its text
 
@@ -90,8 +99,14 @@ places_of code = slice_index_or code.places 0 no_places
 
 -- the site of the only function, with its stack between two addresses
 abbrev pub site_of : Code → ℕ → ℕ → Site
-site_of code low high = record { symbols = code.symbols; places = places_of code; text = code.text; low = low; high =
-    high }
+site_of code low high = record {
+  symbols = code.symbols;
+  places = places_of code;
+  text = code.text;
+  low = low;
+  high =
+      high;
+}
 
 -- the items stand in the text of the code at the address
 abbrev pub StandsIn : Code → List Item → ℕ → Type 0
@@ -116,7 +131,7 @@ function-one : (symbols : Symbols) (functions : List (List Item)) (places : List
     → FunctionAt symbols functions places 0 address bytes
 function-one symbols functions places order address bytes e h =
     let (first, rest, whole, at, none) = subst (λ (ks : List ℕ). FunctionsAt symbols functions places ks address bytes)
-        e h in
+    e h in
     let same : bytes ≡ first = whole ∙ ap (λ (l : List ℕ). first ++ l) none ∙ append-nil first in
     subst (FunctionAt symbols functions places 0 address) (sym same) at
 
@@ -139,12 +154,12 @@ laid flow slots code h =
     let t : IsText code.items code.order [] 0 code.places code.symbols code.text = h.text in
     let address : ℕ = text_start + length t.start in
     let order : code.order ≡ 0 ∷ [] = order-one code.order
-        (subst (λ (fs : List (List Item)). IsOrder (length fs) code.order) h.items_are t.order_is) in
+    (subst (λ (fs : List (List Item)). IsOrder (length fs) code.order) h.items_are t.order_is) in
     let one = function-one code.symbols code.items code.places code.order address t.code order t.code_at in
     let same : one.place ≡ places_of code = sym (get_or_from_slice_get code.places 0 one.place no_places one.placed) in
     let items : one.items ≡ selected flow (over_slots flow slots) =
-        same_Some one.items (selected flow (over_slots flow slots))
-        (sym one.is ∙ ap (λ (fs : List (List Item)). slice_get fs 0) h.items_are) in
+    same_Some one.items (selected flow (over_slots flow slots))
+    (sym one.is ∙ ap (λ (fs : List (List Item)). slice_get fs 0) h.items_are) in
     record {
       address = address;
       start = t.start;
@@ -153,8 +168,13 @@ laid flow slots code h =
       named = one.named;
       stands = record {
         bytes = t.code;
-        here = record { done = t.start; rest = t.putchar ++ t.getchar ++ t.exit ++ t.check; whole = t.whole
-            ∙ grouped t.start t.code t.putchar t.getchar t.exit t.check; place = refl };
+        here = record {
+          done = t.start;
+          rest = t.putchar ++ t.getchar ++ t.exit ++ t.check;
+          whole = t.whole
+              ∙ grouped t.start t.code t.putchar t.getchar t.exit t.check;
+          place = refl;
+        };
         stand = subst (λ (p : Places). ItemsAt code.symbols p address (selected flow (over_slots flow slots)) t.code)
             same
             (subst (λ (is : List Item). ItemsAt code.symbols one.place address is t.code) items one.stands);
@@ -164,14 +184,14 @@ laid flow slots code h =
 -- the items of a function that starts at the address stand at EIP, once a state came to that
 pub entry-ready : (flow : Flow) (slots : List ℕ) (code : Code) (low high address : ℕ) (s : State)
     → IsSlotCode flow slots (selected flow (over_slots flow slots)) code → slice_get code.symbols.functions 0
-        ≡ Some address → s.eip
+    ≡ Some address → s.eip
     ≡ address
     → ReadyAt (site_of code low high) (selected flow (over_slots flow slots)) s
 entry-ready flow slots code low high address s h named e =
     let l = laid flow slots code h in
     let same : address ≡ l.address = same_Some address l.address (sym named ∙ l.named) in
     ready-there code.symbols (places_of code) code.text (selected flow (over_slots flow slots)) l.address s (e ∙ same)
-        l.stands
+    l.stands
 
 -- the address of a point is that of its places
 address-of : (flow : Flow) (slots : List ℕ) (code : Code) (p : ℕ) → IsLaid flow slots code → point_address code 0 p
@@ -196,9 +216,11 @@ first-row placement ops p (x ∷ ps) =
       front = [];
       rest = point_rows placement ops (x ∷ ps);
       is = refl;
-      follows = λ q e. (row placement x (slice_index_or ops x op.Turn) ++ point_rows placement ops ps,
-          ap (λ (n : ℕ). item.Point n ∷ (row placement x (slice_index_or ops x op.Turn) ++ point_rows placement ops ps))
-          (same_Some x q e));
+      follows = λ q e. (
+        row placement x (slice_index_or ops x op.Turn) ++ point_rows placement ops ps,
+        ap (λ (n : ℕ). item.Point n ∷ (row placement x (slice_index_or ops x op.Turn) ++ point_rows placement ops ps))
+            (same_Some x q e),
+      );
     }
 
 -- items before and behind
@@ -222,21 +244,21 @@ row-in-points : (placement : Placement) (ops : List Op) (points : List ℕ) (p :
 row-in-points placement ops [] p h = absurd h
 row-in-points placement ops (x ∷ ps) p (inl e) =
     let P : Bool → Type 0 = λ b. HasRow placement ops p (cond b (slice_get ps 0) (following p ps))
-        (point_rows placement ops (x ∷ ps)) in
+    (point_rows placement ops (x ∷ ps)) in
     subst P (sym (eq-eqb x p e)) (subst (λ (n : ℕ).
-        HasRow placement ops n (slice_get ps 0) (point_rows placement ops (x ∷ ps)))
-        e (first-row placement ops x ps))
+    HasRow placement ops n (slice_get ps 0) (point_rows placement ops (x ∷ ps)))
+    e (first-row placement ops x ps))
 row-in-points placement ops (x ∷ ps) p (inr i) =
     let items : List Item = point_rows placement ops (x ∷ ps) in
     let later : HasRow placement ops p (following p ps) (point_rows placement ops ps) =
-        row-in-points placement ops ps p i in
+    row-in-points placement ops ps p i in
     let none : point_row placement ops x ++ (point_rows placement ops ps ++ []) ≡ items =
-        ap (λ (l : List Item). point_row placement ops x ++ l) (append-nil (point_rows placement ops ps)) in
+    ap (λ (l : List Item). point_row placement ops x ++ l) (append-nil (point_rows placement ops ps)) in
     choose x p (λ (n : Option ℕ). HasRow placement ops p n items) (slice_get ps 0) (following p ps)
     (λ e. subst (λ (n : ℕ). HasRow placement ops n (slice_get ps 0) items) e (first-row placement ops x ps))
     (subst (HasRow placement ops p (following p ps)) none
-        (row-between placement ops p (following p ps) (point_row placement ops x) (point_rows placement ops ps) []
-            later))
+    (row-between placement ops p (following p ps) (point_row placement ops x) (point_rows placement ops ps) []
+    later))
 
 -- the row of a point of a block
 row-in-blocks : (placement : Placement) (ops : List Op) (k : ℕ) (blocks : List (List ℕ)) (p b : ℕ)
@@ -246,14 +268,14 @@ row-in-blocks placement ops k [] p zero h = absurd h
 row-in-blocks placement ops k [] p (suc b) h = absurd h
 row-in-blocks placement ops k (points ∷ blocks) p zero h =
     row-between placement ops p (following p points) (item.Label k ∷ []) (point_rows placement ops points)
-        (block_rows placement ops (suc k) blocks) (row-in-points placement ops points p h)
+    (block_rows placement ops (suc k) blocks) (row-in-points placement ops points p h)
 row-in-blocks placement ops k (points ∷ blocks) p (suc b) h =
     let next : Option ℕ = following p (slice_index_or blocks b []) in
     let back : List Item = block_rows placement ops (suc k) blocks in
     let front : List Item = item.Label k ∷ point_rows placement ops points in
     let none : front ++ (back ++ []) ≡ front ++ back = ap (λ (l : List Item). front ++ l) (append-nil back) in
     subst (HasRow placement ops p next) none (row-between placement ops p next front back []
-        (row-in-blocks placement ops (suc k) blocks p b h))
+    (row-in-blocks placement ops (suc k) blocks p b h))
 
 -- the row of a point of the graph
 row-in-graph : (flow : Flow) (slots : List ℕ) (p b : ℕ) → Stands flow p b
@@ -264,8 +286,8 @@ row-in-graph flow slots p b h =
     let back : List Item = block_rows (over_slots flow slots) flow.ops 0 flow.blocks in
     let none : front ++ (back ++ []) ≡ front ++ back = ap (λ (l : List Item). front ++ l) (append-nil back) in
     subst (HasRow (over_slots flow slots) flow.ops p next) none
-        (row-between (over_slots flow slots) flow.ops p next front back []
-            (row-in-blocks (over_slots flow slots) flow.ops 0 flow.blocks p b h))
+    (row-between (over_slots flow slots) flow.ops p next front back []
+    (row-in-blocks (over_slots flow slots) flow.ops 0 flow.blocks p b h))
 
 -- where the items of a point stand
 record RowThere (flow : Flow) (slots : List ℕ) (code : Code) (p : ℕ) (next : Option ℕ) : Type 0 where
@@ -281,12 +303,12 @@ row-there flow slots code p b h stands =
     let r = row-in-graph flow slots p b stands in
     let mine : List Item = point_row (over_slots flow slots) flow.ops p ++ r.rest in
     let whole : StandsIn code (r.front ++ mine) l.address =
-        subst (λ (items : List Item). StandsIn code items l.address) r.is l.stands in
+    subst (λ (items : List Item). StandsIn code items l.address) r.is l.stands in
     let behind = back-there code.symbols (places_of code) code.text r.front mine l.address whole in
     let address : (places_of code).points p ≡ l.address + behind.0 =
-        point-there code.symbols (places_of code) code.text p
-            (row (over_slots flow slots) p (slice_index_or flow.ops p op.Turn) ++ r.rest)
-        (l.address + behind.0) behind.1 in
+    point-there code.symbols (places_of code) code.text p
+    (row (over_slots flow slots) p (slice_index_or flow.ops p op.Turn) ++ r.rest)
+    (l.address + behind.0) behind.1 in
     let same : l.address + behind.0 ≡ point_address code 0 p = sym (address-of flow slots code p l ∙ address) in
     record { rest = r.rest; stands = subst (StandsIn code mine) same behind.1; follows = r.follows }
 
@@ -299,12 +321,12 @@ pub first-ready : (flow : Flow) (slots : List ℕ) (code : Code) (low high p : �
     → IsSlotCode flow slots (selected flow (over_slots flow slots)) code → slice_get (points_of flow 0) 0 ≡ Some p
     → ReadyAt (site_of code low high) (block_rows (over_slots flow slots) flow.ops 0 flow.blocks) s
     → (s.eip ≡ point_address code 0 p) × (rest : List Item)
-        × ReadyAt (site_of code low high) (point_row (over_slots flow slots) flow.ops p ++ rest) s
+    × ReadyAt (site_of code low high) (point_row (over_slots flow slots) flow.ops p ++ rest) s
 first-ready flow slots code low high p s h first ready =
     let l = laid flow slots code h in
     let r = begin flow.blocks first ready in
     let passed = point-passed code.symbols (places_of code) code.text p
-        (row (over_slots flow slots) p (slice_index_or flow.ops p op.Turn) ++ r.0) s r.1 in
+    (row (over_slots flow slots) p (slice_index_or flow.ops p op.Turn) ++ r.0) s r.1 in
     (sym passed.0 ∙ sym (address-of flow slots code p l), r.0, r.1)
   where
     begin : (blocks : List (List ℕ)) → slice_get (slice_index_or blocks 0 []) 0 ≡ Some p
@@ -315,18 +337,20 @@ first-ready flow slots code low high p s h first ready =
     begin ((x ∷ points) ∷ blocks) e r =
         let back : List Item = block_rows (over_slots flow slots) flow.ops 1 blocks in
         let items : List Item = (point_row (over_slots flow slots) flow.ops x
-            ++ point_rows (over_slots flow slots) flow.ops points) ++ back in
+        ++ point_rows (over_slots flow slots) flow.ops points) ++ back in
         let rest : List Item = point_rows (over_slots flow slots) flow.ops points ++ back in
         let at : ReadyAt (site_of code low high) items s =
-            label-passed code.symbols (places_of code) code.text 0 items s r in
+        label-passed code.symbols (places_of code) code.text 0 items s r in
         let grouped : items ≡ point_row (over_slots flow slots) flow.ops x ++ rest =
-            append_assoc (point_row (over_slots flow slots) flow.ops x)
-                (point_rows (over_slots flow slots) flow.ops points) back in
+        append_assoc (point_row (over_slots flow slots) flow.ops x)
+        (point_rows (over_slots flow slots) flow.ops points) back in
         let here : ReadyAt (site_of code low high) (point_row (over_slots flow slots) flow.ops x ++ rest) s =
-            subst (λ (i : List Item). ReadyAt (site_of code low high) i s) grouped at in
-        (rest, subst (λ (n : ℕ). ReadyAt (site_of code low high) (point_row (over_slots flow slots) flow.ops n ++ rest)
-            s)
-            (same_Some x p e) here)
+        subst (λ (i : List Item). ReadyAt (site_of code low high) i s) grouped at in (
+          rest,
+          subst (λ (n : ℕ). ReadyAt (site_of code low high) (point_row (over_slots flow slots) flow.ops n ++ rest)
+              s)
+              (same_Some x p e) here,
+        )
 
 -- what stands behind a point, and then the next point of its block
 pub record RowLaid (placement : Placement) (code : Code) (p : ℕ) (o : Op) (next : Option ℕ) : Type 0 where
@@ -337,52 +361,60 @@ pub record RowLaid (placement : Placement) (code : Code) (p : ℕ) (o : Op) (nex
 -- The items of the op of a point stand at its address, and behind them the block's next point.
 pub point-laid : (flow : Flow) (slots : List ℕ) (code : Code) (p b : ℕ) (o : Op)
     → IsSlotCode flow slots (selected flow (over_slots flow slots)) code → Stands flow p b → slice_get flow.ops p
-        ≡ Some o
+    ≡ Some o
     → RowLaid (over_slots flow slots) code p o (following p (points_of flow b))
 point-laid flow slots code p b o h stands has =
     let r = row-there flow slots code p b h stands in
     let back : List Item = row (over_slots flow slots) p o ++ r.rest in
     let there : StandsIn code (item.Point p ∷ back) (point_address code 0 p) =
-        subst (λ (i : Op). StandsIn code (item.Point p ∷ row (over_slots flow slots) p i ++ r.rest)
-            (point_address code 0 p))
-        (op-of flow p o has) r.stands in
-    record { rest = r.rest; there = behind-there code.symbols (places_of code) code.text p back (point_address code 0 p)
-        there; follows = r.follows }
+    subst (λ (i : Op). StandsIn code (item.Point p ∷ row (over_slots flow slots) p i ++ r.rest)
+    (point_address code 0 p))
+    (op-of flow p o has) r.stands in
+    record {
+      rest = r.rest;
+      there = behind-there code.symbols (places_of code) code.text p back (point_address code 0 p)
+          there;
+      follows = r.follows;
+    }
 
 -- what is ready at a point, and behind it the next point of its block
 pub record RowReady (placement : Placement) (site : Site) (p : ℕ) (o : Op) (next : Option ℕ) (s : State) : Type 0
-    where
-  pub rest : List Item
-  pub ready : ReadyAt site (row placement p o ++ rest) s
-  pub follows : (q : ℕ) → next ≡ Some q → (more : List Item) × (rest ≡ item.Point q ∷ more)
+  where
+    pub rest : List Item
+    pub ready : ReadyAt site (row placement p o ++ rest) s
+    pub follows : (q : ℕ) → next ≡ Some q → (more : List Item) × (rest ≡ item.Point q ∷ more)
 
 -- A state at the address of a point has the items of its op ready, and behind them the block's next point.
 pub point-ready : (flow : Flow) (slots : List ℕ) (code : Code) (low high p b : ℕ) (o : Op) (s : State)
     → IsSlotCode flow slots (selected flow (over_slots flow slots)) code → Stands flow p b → slice_get flow.ops p
-        ≡ Some o → s.eip
+    ≡ Some o → s.eip
     ≡ point_address code 0 p
     → RowReady (over_slots flow slots) (site_of code low high) p o (following p (points_of flow b)) s
 point-ready flow slots code low high p b o s h stands has e =
     let r = point-laid flow slots code p b o h stands has in
-    record { rest = r.rest; ready = ready-there code.symbols (places_of code) code.text
-        (row (over_slots flow slots) p o ++ r.rest)
-        (point_address code 0 p) s e r.there; follows = r.follows }
+    record {
+      rest = r.rest;
+      ready = ready-there code.symbols (places_of code) code.text
+          (row (over_slots flow slots) p o ++ r.rest)
+          (point_address code 0 p) s e r.there;
+      follows = r.follows;
+    }
 
 -- what the next point of a block is: a state with what stands behind the row ready is at its address
 pub next-passed : (flow : Flow) (slots : List ℕ) (code : Code) (low high q : ℕ) (rest : List Item) (s : State)
     → IsSlotCode flow slots (selected flow (over_slots flow slots)) code
     → ((more : List Item) × (rest ≡ item.Point q ∷ more)) → ReadyAt (site_of code low high) rest s → s.eip
-        ≡ point_address code 0 q
+    ≡ point_address code 0 q
 next-passed flow slots code low high q rest s h (more, is) ready =
     let there : ReadyAt (site_of code low high) (item.Point q ∷ more) s =
-        subst (λ (i : List Item). ReadyAt (site_of code low high) i s) is ready in
+    subst (λ (i : List Item). ReadyAt (site_of code low high) i s) is ready in
     sym (point-passed code.symbols (places_of code) code.text q more s there).0
-        ∙ sym (address-of flow slots code q (laid flow slots code h))
+    ∙ sym (address-of flow slots code q (laid flow slots code h))
 
 -- a mark and a turn have the byte of NOP
 pub mark-at : (flow : Flow) (slots : List ℕ) (code : Code) (p b n : ℕ)
     → IsSlotCode flow slots (selected flow (over_slots flow slots)) code → Stands flow p b → slice_get flow.ops p
-        ≡ Some (op.Mark n)
+    ≡ Some (op.Mark n)
     → IsAt code.text (point_address code 0 p) (144 ∷ [])
 mark-at flow slots code p b n h stands has =
     let r = point-laid flow slots code p b (op.Mark n) h stands has in
@@ -405,8 +437,13 @@ stub-at flow slots items code places s h e =
     let t : IsText code.items code.order [] 0 code.places code.symbols code.text = h.text in
     ready-there code.symbols places code.text putchar_items code.symbols.putchar s e (record {
       bytes = t.putchar;
-      here = record { done = t.start ++ t.code; rest = t.getchar ++ t.exit ++ t.check; whole = t.whole
-          ∙ apart (t.start ++ t.code) t.putchar t.getchar t.exit t.check; place = t.putchar_is };
+      here = record {
+        done = t.start ++ t.code;
+        rest = t.getchar ++ t.exit ++ t.check;
+        whole = t.whole
+            ∙ apart (t.start ++ t.code) t.putchar t.getchar t.exit t.check;
+        place = t.putchar_is;
+      };
       stand = t.putchar_at places;
     })
   where
@@ -426,8 +463,8 @@ pub started : (flow : Flow) (slots : List ℕ) (items : List Item) (code : Code)
 started flow slots items code places h =
     let t : IsText code.items code.order [] 0 code.places code.symbols code.text = h.text in
     let P : GraphProgram → Type 0 = λ program.
-        ItemsAt code.symbols places text_start (start_items (stack_end code.text (objects_of program))
-        code.symbols.depth program.main) t.start in
+    ItemsAt code.symbols places text_start (start_items (stack_end code.text (objects_of program))
+    code.symbols.depth program.main) t.start in
     let at : P code.program = subst P (sym h.program) (t.start_at places) in
     let m = items-split code.symbols places text_start (startup code) (ending code) t.start at in
     record {
@@ -436,8 +473,13 @@ started flow slots items code places h =
       startup_at = m.3;
       ending_at = m.4;
       here = subst (IsAt code.text text_start) m.2
-          (record { done = []; rest = t.code ++ (t.putchar ++ t.getchar ++ t.exit ++ t.check); whole = t.whole
-          ∙ grouped t.start t.code t.putchar t.getchar t.exit t.check; place = omega arith });
+          (record {
+            done = [];
+            rest = t.code ++ (t.putchar ++ t.getchar ++ t.exit ++ t.check);
+            whole = t.whole
+                ∙ grouped t.start t.code t.putchar t.getchar t.exit t.check;
+            place = omega arith;
+          });
     }
 
 -- the address behind the call of the start is where the ending stands
@@ -454,9 +496,11 @@ pub ending-ready : (flow : Flow) (slots : List ℕ) (items : List Item) (code : 
     → (places : Places) × Ready code.symbols places code.text (ending code) s
 ending-ready flow slots items code address s h (before, after, places, start, end, there, is) e =
     let here : IsAt code.text text_start (before ++ after) =
-        record { done = there.0; rest = there.1; whole = there.2; place = there.3 } in
-    (places, ready-there code.symbols places code.text (ending code) (text_start + length before) s (e ∙ is)
-        (record { bytes = after; here = at-back code.text text_start before after here; stand = end }))
+    record { done = there.0; rest = there.1; whole = there.2; place = there.3 } in (
+      places,
+      ready-there code.symbols places code.text (ending code) (text_start + length before) s (e ∙ is)
+          (record { bytes = after; here = at-back code.text text_start before after here; stand = end }),
+    )
 
 -- ---- no two points at one address, and no calls
 
@@ -476,17 +520,17 @@ point-among flow slots p b h =
 -- two points of the graph with one address are one point
 pub apart : (flow : Flow) (slots : List ℕ) (code : Code) (p b q c : ℕ)
     → IsSlotCode flow slots (selected flow (over_slots flow slots)) code → Stands flow p b → Stands flow q c
-        → point_address code 0 p
+    → point_address code 0 p
     ≡ point_address code 0 q → p ≡ q
 apart flow slots code p b q c h one two e =
     let l = laid flow slots code h in
     let i = point-among flow slots p b one in
     let j = point-among flow slots q c two in
     let same : (places_of code).points p ≡ (places_of code).points q = sym (address-of flow slots code p l) ∙ e
-        ∙ address-of flow slots code q l in
+    ∙ address-of flow slots code q l in
     one-address code.symbols (places_of code) l.address (selected flow (over_slots flow slots)) l.stands.bytes i.0 j.0 p
-        q
-        (selected-items flow slots) (selected-room flow slots h.homes h.is_flow h.has_slots) l.stands.stand i.1 j.1 same
+    q
+    (selected-items flow slots) (selected-room flow slots h.homes h.is_flow h.has_slots) l.stands.stand i.1 j.1 same
 
 -- a point and the items up to a call, with the call at the end of them or at the head of what follows
 call-grouped : (front middle one back : List Item) (p : Item) → (front ++ p ∷ middle ++ one) ++ back
@@ -502,12 +546,12 @@ no-calls flow slots code w f r h (items, places, address, has, placed, named, re
     let back : List Item = returns.2 in
     let is : items ≡ (front ++ item.Point w.point ∷ middle ++ item.CallFunction f ∷ []) ++ back = returns.5 in
     let of-one : slice_get (selected flow (over_slots flow slots) ∷ []) w.activation.function ≡ Some items =
-        subst (λ (fs : List (List Item)). slice_get fs w.activation.function ≡ Some items) h.items_are has in
+    subst (λ (fs : List (List Item)). slice_get fs w.activation.function ≡ Some items) h.items_are has in
     let mine : AllByRecursion IsRowItem items =
-        every-get (AllByRecursion IsRowItem) (selected flow (over_slots flow slots) ∷ []) w.activation.function items
-        (selected-items flow slots, tt) of-one in
+    every-get (AllByRecursion IsRowItem) (selected flow (over_slots flow slots) ∷ []) w.activation.function items
+    (selected-items flow slots, tt) of-one in
     let one : List Item = item.CallFunction f ∷ [] in
     let e = call-grouped front middle one back (item.Point w.point) in
     let split : AllByRecursion IsRowItem ((front ++ item.Point w.point ∷ middle) ++ (one ++ back)) =
-        subst (AllByRecursion IsRowItem) (is ∙ e) mine in
+    subst (AllByRecursion IsRowItem) (is ∙ e) mine in
     (every-back IsRowItem (front ++ item.Point w.point ∷ middle) (one ++ back) split).0

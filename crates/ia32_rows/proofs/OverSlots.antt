@@ -27,7 +27,7 @@ place-is (slot ∷ slots) (suc v) = place-is slots v
 -- the items of a row of three places
 three : (f : Place → Place → Place → List Item) (slots : List ℕ) (d a b : ℕ)
     → f (found slots d) (found slots a) (found slots b)
-        ≡ f (slot_place slots d) (slot_place slots a) (slot_place slots b)
+    ≡ f (slot_place slots d) (slot_place slots a) (slot_place slots b)
 three f slots d a b =
     ap (λ (p : Place). f p (found slots a) (found slots b)) (place-is slots d)
     ∙ ap (λ (p : Place). f (slot_place slots d) p (found slots b)) (place-is slots a)

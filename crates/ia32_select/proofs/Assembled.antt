@@ -93,8 +93,13 @@ row-spelled slots (op.Mark s) small fits = ((144 ∷ [], refl), tt)
 row-spelled slots op.Turn small fits = ((144 ∷ [], refl), tt)
 row-spelled slots (op.Return (Some a)) small fits = (
   read-spelled Eax _ (small a),
-  (read-spelled Ebx 4 (omega arith), (read-spelled Esi 8 (omega arith),
-      (read-spelled Edi 12 (omega arith), ((201 ∷ [], refl), ((195 ∷ [], refl), tt))))),
+  (
+    read-spelled Ebx 4 (omega arith),
+    (
+      read-spelled Esi 8 (omega arith),
+      (read-spelled Edi 12 (omega arith), ((201 ∷ [], refl), ((195 ∷ [], refl), tt))),
+    ),
+  ),
 )
 row-spelled slots o small fits = tt
 
@@ -121,9 +126,13 @@ prologue-spelled frame label h = (
         push-spelled Esi,
         (
           push-spelled Edi,
-          (spelling-indexed (insn.Lea Esp (below frame)) (fits-below frame h) tt,
-              (number-spelled Esi (pos 0) (omega (arith, ints)),
-              (spelling-indexed (insn.Lea Edi (below 12)) (fits-below 12 (omega arith)) tt, fill-spelled label))),
+          (
+            spelling-indexed (insn.Lea Esp (below frame)) (fits-below frame h) tt,
+            (
+              number-spelled Esi (pos 0) (omega (arith, ints)),
+              (spelling-indexed (insn.Lea Edi (below 12)) (fits-below 12 (omega arith)) tt, fill-spelled label),
+            ),
+          ),
         ),
       ),
     ),
@@ -147,14 +156,14 @@ points-spelled : (placement : Placement) (ops : List Op) (points : List ℕ) →
 points-spelled placement ops [] rows = tt
 points-spelled placement ops (p ∷ ps) rows =
     every-join IsSpelled (point_row placement ops p) (point_rows placement ops ps) (tt, rows p)
-        (points-spelled placement ops ps rows)
+    (points-spelled placement ops ps rows)
 
 blocks-spelled : (placement : Placement) (ops : List Op) (k : ℕ) (blocks : List (List ℕ))
     → AreSpelledRows placement ops → AllByRecursion IsSpelled (block_rows placement ops k blocks)
 blocks-spelled placement ops k [] rows = tt
 blocks-spelled placement ops k (points ∷ blocks) rows =
     every-join IsSpelled (item.Label k ∷ point_rows placement ops points) (block_rows placement ops (suc k) blocks)
-        (tt, points-spelled placement ops points rows) (blocks-spelled placement ops (suc k) blocks rows)
+    (tt, points-spelled placement ops points rows) (blocks-spelled placement ops (suc k) blocks rows)
 
 -- those over slots have
 slots-spelled : (flow : Flow) (slots : List ℕ) → AreSmall slots → AllByRecursion NumbersFit flow.ops
@@ -162,17 +171,17 @@ slots-spelled : (flow : Flow) (slots : List ℕ) → AreSmall slots → AllByRec
 slots-spelled flow slots small words p =
     let o : Op = slice_index_or flow.ops p op.Turn in
     subst (AllByRecursion IsSpelled) (sym (row-over flow slots p o))
-        (row-spelled slots o small (word-at flow.ops p words))
+    (row-spelled slots o small (word-at flow.ops p words))
 
 selected-spelled : (flow : Flow) (slots : List ℕ) → HasSlots flow slots → AllByRecursion NumbersFit flow.ops
     → AllByRecursion IsSpelled (selected flow (over_slots flow slots))
 selected-spelled flow slots h words =
     let small : AreSmall slots = λ v. let in_frame = slot-small (frame_of flow) slots v h.within in let frame =
-        h.small in omega arith in
+    h.small in omega arith in
     every-join IsSpelled (prologue (frame_of flow) (entry_label flow))
-        (block_rows (over_slots flow slots) flow.ops 0 flow.blocks)
-        (prologue-spelled (frame_of flow) (entry_label flow) h.small)
-        (blocks-spelled (over_slots flow slots) flow.ops 0 flow.blocks (slots-spelled flow slots small words))
+    (block_rows (over_slots flow slots) flow.ops 0 flow.blocks)
+    (prologue-spelled (frame_of flow) (entry_label flow) h.small)
+    (blocks-spelled (over_slots flow slots) flow.ops 0 flow.blocks (slots-spelled flow slots small words))
 
 -- ---- labels
 
@@ -194,16 +203,16 @@ points-labelled items placement ops [] = tt
 points-labelled items placement ops (p ∷ ps) =
     let mine : List Item = row placement p (slice_index_or ops p op.Turn) in
     every-join (HasLabel items) (point_row placement ops p) (point_rows placement ops ps)
-        (tt, insns-labelled items mine (row-insns placement p (slice_index_or ops p op.Turn)))
-        (points-labelled items placement ops ps)
+    (tt, insns-labelled items mine (row-insns placement p (slice_index_or ops p op.Turn)))
+    (points-labelled items placement ops ps)
 
 blocks-labelled : (items : List Item) (placement : Placement) (ops : List Op) (k : ℕ) (blocks : List (List ℕ))
     → AllByRecursion (HasLabel items) (block_rows placement ops k blocks)
 blocks-labelled items placement ops k [] = tt
 blocks-labelled items placement ops k (points ∷ blocks) =
     every-join (HasLabel items) (item.Label k ∷ point_rows placement ops points)
-        (block_rows placement ops (suc k) blocks)
-        (tt, points-labelled items placement ops points) (blocks-labelled items placement ops (suc k) blocks)
+    (block_rows placement ops (suc k) blocks)
+    (tt, points-labelled items placement ops points) (blocks-labelled items placement ops (suc k) blocks)
 
 prologue-labelled : (items : List Item) (frame label : ℕ) → Stands (item.Label label) items
     → AllByRecursion (HasLabel items) (prologue frame label)
@@ -216,9 +225,9 @@ selected-labelled : (flow : Flow) (slots : List ℕ)
 selected-labelled flow slots =
     let items : List Item = selected flow (over_slots flow slots) in
     every-join (HasLabel items) (prologue (frame_of flow) (entry_label flow))
-        (block_rows (over_slots flow slots) flow.ops 0 flow.blocks)
-        (prologue-labelled items (frame_of flow) (entry_label flow) (entry-stands flow slots))
-        (blocks-labelled items (over_slots flow slots) flow.ops 0 flow.blocks)
+    (block_rows (over_slots flow slots) flow.ops 0 flow.blocks)
+    (prologue-labelled items (frame_of flow) (entry_label flow) (entry-stands flow slots))
+    (blocks-labelled items (over_slots flow slots) flow.ops 0 flow.blocks)
 
 -- ---- no names but putchar
 
@@ -252,7 +261,7 @@ fields-size : (reg d : ℕ) → length (fields_for reg (InMemory (below d))) ≤
 fields-size reg d =
     let z : ℤ = neg_ℤ (pos d) in
     let four : length (displacement_for (Some Ebp) z) ≤ 4 =
-        choice _ _ (byte_bytes z) (word_bytes z) (omega arith) (omega arith) in
+    choice _ _ (byte_bytes z) (word_bytes z) (omega arith) (omega arith) in
     omega arith
 
 row-size : (slots : List ℕ) (o : Op) → items_size (items_between (slot_place slots) (slot_place slots) o) ≤ 64
@@ -303,7 +312,7 @@ blocks-size placement ops k (points ∷ blocks) rows =
     let one = points-size placement ops points rows in
     let rest = blocks-size placement ops (suc k) blocks rows in
     let whole = items_size-append (item.Label k ∷ point_rows placement ops points)
-        (block_rows placement ops (suc k) blocks) in
+    (block_rows placement ops (suc k) blocks) in
     let long = length-append points (all_points blocks) in
     omega arith
 
@@ -315,7 +324,7 @@ selected-size flow homes slots f h =
     let one = prologue-size (frame_of flow) (entry_label flow) in
     let rest = blocks-size (over_slots flow slots) flow.ops 0 flow.blocks (slots-small flow slots) in
     let whole = items_size-append (prologue (frame_of flow) (entry_label flow))
-        (block_rows (over_slots flow slots) flow.ops 0 flow.blocks) in
+    (block_rows (over_slots flow slots) flow.ops 0 flow.blocks) in
     let few = few-points flow homes f in
     let some = some-points flow h.begins (h.ended 0 h.begins) in
     omega arith

@@ -34,9 +34,10 @@ length-offsets flow offsets h = sym (length-map offsets distance) ∙ h.as_many
 over-variables : (flow : Flow) (n : ℕ) (o : Op) → length flow.widths ≡ n → IsSlotOp o → FitsOp flow o → IsSlotOpOver n o
 over-variables flow n (op.Const d m) e is fits =
     subst (λ (k : ℕ). d < k) e (slice_get_within flow.widths d fits.0.0 fits.0.1)
-over-variables flow n (op.Copy d s) e is fits =
-    (subst (λ (k : ℕ). d < k) e (slice_get_within flow.widths d fits.0.0 fits.0.1),
-    subst (λ (k : ℕ). s < k) e (slice_get_within flow.widths s fits.0.0 fits.0.2))
+over-variables flow n (op.Copy d s) e is fits = (
+  subst (λ (k : ℕ). d < k) e (slice_get_within flow.widths d fits.0.0 fits.0.1),
+  subst (λ (k : ℕ). s < k) e (slice_get_within flow.widths s fits.0.0 fits.0.2),
+)
 over-variables flow n (op.Add d a b) e is fits = (within d _ fits.0, within a _ fits.1.0, within b _ fits.1.1.0)
   where
     within : (v : ℕ) (width : Width) → slice_get flow.widths v ≡ Some width → v < n
@@ -61,10 +62,10 @@ pub over-offsets : (flow : Flow) (homes : List ℕ) (offsets : List ℤ) (p : �
     → IsSlotOpOver (length offsets) o
 over-offsets flow homes offsets p o f h (block, stands) has =
     let fitting : HasFittingOp flow p = every-in (HasFittingOp flow) p (points_of flow block) (f.each_block block).fits
-        stands in
+    stands in
     let fits : FitsOp flow o = subst (FitsOp flow) (same_Some fitting.0 o (sym fitting.1 ∙ has)) fitting.2 in
     over-variables flow (length offsets) o (sym (length-offsets flow offsets h))
-        (every-get IsSlotOp flow.ops p o h.ops has) fits
+    (every-get IsSlotOp flow.ops p o h.ops has) fits
 
 -- a point and the items of its op behind others
 pub point-emitted : (old pushed new : List Item) (flow : Flow) (slots : List ℕ) (p : ℕ) (o : Op) → pushed
@@ -75,8 +76,8 @@ point-emitted old pushed new flow slots p o one has e =
     let mine : List Item = row (over_slots flow slots) p o in
     let is : o ≡ slice_index_or flow.ops p op.Turn = sym (get_or_from_slice_get flow.ops p o op.Turn has) in
     e ∙ ap (λ (l : List Item). pushed ++ l) (sym (row-over flow slots p o)) ∙ ap (λ (l : List Item). l ++ mine) one
-        ∙ append_assoc old (item.Point p ∷ []) mine
-        ∙ ap (λ (i : Op). old ++ item.Point p ∷ row (over_slots flow slots) p i) is
+    ∙ append_assoc old (item.Point p ∷ []) mine
+    ∙ ap (λ (i : Op). old ++ item.Point p ∷ row (over_slots flow slots) p i) is
 
 -- a point at a place is among the points
 pub in-at : (ps : List ℕ) (i : ℕ) → i < length ps → IsIn (get_or ps i 0) ps
@@ -90,8 +91,8 @@ pub four-emitted : (old saved first second third new saves back : List Item) (a 
     → new ≡ old ++ (saves ++ (a ∷ b ∷ c ∷ back))
 four-emitted old saved first second third new saves back a b c p q r s t =
     t ∙ ap (λ (l : List Item). l ++ back)
-        (s ∙ ap (λ (l : List Item). l ++ c ∷ []) (r ∙ ap (λ (l : List Item). l ++ b ∷ [])
-        (q ∙ ap (λ (l : List Item). l ++ a ∷ []) p)))
+    (s ∙ ap (λ (l : List Item). l ++ c ∷ []) (r ∙ ap (λ (l : List Item). l ++ b ∷ [])
+    (q ∙ ap (λ (l : List Item). l ++ a ∷ []) p)))
     ∙ grouped old saves back a b c
   where
     grouped : (xs ys zs : List Item) (a b c : Item) → (xs ++ ys ++ a ∷ [] ++ b ∷ [] ++ c ∷ []) ++ zs

@@ -131,8 +131,8 @@ point_rows-points placement ops [] = refl
 point_rows-points placement ops (p ∷ ps) =
     let mine : List Item = row placement p (slice_index_or ops p op.Turn) in
     ap (λ (l : List ℕ). p ∷ l) (numbers-append point_of mine (point_rows placement ops ps)
-        ∙ ap (λ (l : List ℕ). l ++ numbers point_of (point_rows placement ops ps))
-        (insns-points mine (row-insns placement p (slice_index_or ops p op.Turn))) ∙ point_rows-points placement ops ps)
+    ∙ ap (λ (l : List ℕ). l ++ numbers point_of (point_rows placement ops ps))
+    (insns-points mine (row-insns placement p (slice_index_or ops p op.Turn))) ∙ point_rows-points placement ops ps)
 
 point_rows-labels : (placement : Placement) (ops : List Op) (points : List ℕ)
     → numbers label_of (point_rows placement ops points) ≡ []
@@ -140,8 +140,8 @@ point_rows-labels placement ops [] = refl
 point_rows-labels placement ops (p ∷ ps) =
     let mine : List Item = row placement p (slice_index_or ops p op.Turn) in
     numbers-append label_of mine (point_rows placement ops ps)
-        ∙ ap (λ (l : List ℕ). l ++ numbers label_of (point_rows placement ops ps))
-        (insns-labels mine (row-insns placement p (slice_index_or ops p op.Turn))) ∙ point_rows-labels placement ops ps
+    ∙ ap (λ (l : List ℕ). l ++ numbers label_of (point_rows placement ops ps))
+    (insns-labels mine (row-insns placement p (slice_index_or ops p op.Turn))) ∙ point_rows-labels placement ops ps
 
 -- the points of all blocks, and the numbers of blocks from one on
 abbrev pub all_points : List (List ℕ) → List ℕ
@@ -158,7 +158,7 @@ block_rows-points placement ops k [] = refl
 block_rows-points placement ops k (points ∷ blocks) =
     numbers-append point_of (item.Label k ∷ point_rows placement ops points) (block_rows placement ops (suc k) blocks)
     ∙ ap (λ (l : List ℕ). l ++ numbers point_of (block_rows placement ops (suc k) blocks))
-        (point_rows-points placement ops points)
+    (point_rows-points placement ops points)
     ∙ ap (λ (l : List ℕ). points ++ l) (block_rows-points placement ops (suc k) blocks)
 
 block_rows-labels : (placement : Placement) (ops : List Op) (k : ℕ) (blocks : List (List ℕ))
@@ -167,23 +167,23 @@ block_rows-labels placement ops k [] = refl
 block_rows-labels placement ops k (points ∷ blocks) =
     numbers-append label_of (item.Label k ∷ point_rows placement ops points) (block_rows placement ops (suc k) blocks)
     ∙ ap (λ (l : List ℕ). (k ∷ l) ++ numbers label_of (block_rows placement ops (suc k) blocks))
-        (point_rows-labels placement ops points)
+    (point_rows-labels placement ops points)
     ∙ ap (λ (l : List ℕ). k ∷ l) (block_rows-labels placement ops (suc k) blocks)
 
 selected-points : (flow : Flow) (slots : List ℕ) → numbers point_of (selected flow (over_slots flow slots))
     ≡ all_points flow.blocks
 selected-points flow slots =
     numbers-append point_of (prologue (frame_of flow) (entry_label flow))
-        (block_rows (over_slots flow slots) flow.ops 0 flow.blocks)
-        ∙ block_rows-points (over_slots flow slots) flow.ops 0 flow.blocks
+    (block_rows (over_slots flow slots) flow.ops 0 flow.blocks)
+    ∙ block_rows-points (over_slots flow slots) flow.ops 0 flow.blocks
 
 -- the label of the prologue's loop, and those of the blocks
 selected-labels : (flow : Flow) (slots : List ℕ) → numbers label_of (selected flow (over_slots flow slots))
     ≡ entry_label flow ∷ labels_from 0 flow.blocks
 selected-labels flow slots =
     numbers-append label_of (prologue (frame_of flow) (entry_label flow))
-        (block_rows (over_slots flow slots) flow.ops 0 flow.blocks)
-        ∙ ap (λ (l : List ℕ). entry_label flow ∷ l) (block_rows-labels (over_slots flow slots) flow.ops 0 flow.blocks)
+    (block_rows (over_slots flow slots) flow.ops 0 flow.blocks)
+    ∙ ap (λ (l : List ℕ). entry_label flow ∷ l) (block_rows-labels (over_slots flow slots) flow.ops 0 flow.blocks)
 
 -- ---- none twice
 
@@ -205,9 +205,9 @@ behind-labels n k (points ∷ blocks) h = (λ e. omega arith, behind-labels n (s
 pub labels-once : (flow : Flow) (slots : List ℕ) → StandOnce item.Label (selected flow (over_slots flow slots))
 labels-once flow slots i j n a b =
     let all : IsDistinct (entry_label flow ∷ labels_from 0 flow.blocks) =
-        (behind-labels (entry_label flow) 0 flow.blocks (omega arith), labels-distinct 0 flow.blocks) in
+    (behind-labels (entry_label flow) 0 flow.blocks (omega arith), labels-distinct 0 flow.blocks) in
     once label_of (selected flow (over_slots flow slots)) i j n (item.Label n) (item.Label n)
-        (subst IsDistinct (sym (selected-labels flow slots)) all) a b refl refl
+    (subst IsDistinct (sym (selected-labels flow slots)) all) a b refl refl
 
 -- the label of the prologue's loop stands behind eight instructions
 pub entry-stands : (flow : Flow) (slots : List ℕ)
@@ -255,8 +255,10 @@ every-but (z ∷ xs) ys x a b = (a.0, every-but xs ys x a.1 b)
 distinct-join : (xs ys : List ℕ) → IsDistinct xs → IsDistinct ys → ((n : ℕ) → IsIn n xs → IsIn n ys → ⊥)
     → IsDistinct (xs ++ ys)
 distinct-join [] ys a b apart = b
-distinct-join (x ∷ xs) ys a b apart = (every-but xs ys x a.0 (apart x (inl refl)),
-    distinct-join xs ys a.1 b (λ n i j. apart n (inr i) j))
+distinct-join (x ∷ xs) ys a b apart = (
+  every-but xs ys x a.0 (apart x (inl refl)),
+  distinct-join xs ys a.1 b (λ n i j. apart n (inr i) j),
+)
 
 -- blocks whose points are at home in them have no point twice
 points-distinct : (homes : List ℕ) (k : ℕ) (blocks : List (List ℕ))
@@ -266,16 +268,16 @@ points-distinct : (homes : List ℕ) (k : ℕ) (blocks : List (List ℕ))
 points-distinct homes k [] one home = tt
 points-distinct homes k (points ∷ blocks) one home =
     let next : (b : ℕ) → AllByRecursion (λ p. slice_get homes p ≡ Some (suc k + b)) (slice_index_or blocks b []) =
-        λ b. let e : k + suc b ≡ suc k + b = omega arith in
-        subst (λ (h : ℕ). AllByRecursion (λ p. slice_get homes p ≡ Some h) (slice_index_or blocks b [])) e
-        (home (suc b)) in
+    λ b. let e : k + suc b ≡ suc k + b = omega arith in
+    subst (λ (h : ℕ). AllByRecursion (λ p. slice_get homes p ≡ Some h) (slice_index_or blocks b [])) e
+    (home (suc b)) in
     distinct-join points (all_points blocks) (one 0) (points-distinct homes (suc k) blocks (λ b. one (suc b)) next)
     (λ n i j.
     let m = block-in blocks n j in
     let here : slice_get homes n ≡ Some (k + 0) =
-        every-in (λ p. slice_get homes p ≡ Some (k + 0)) n points (home 0) i in
+    every-in (λ p. slice_get homes p ≡ Some (k + 0)) n points (home 0) i in
     let there : slice_get homes n ≡ Some (suc k + m.0) =
-        every-in (λ p. slice_get homes p ≡ Some (suc k + m.0)) n (slice_index_or blocks m.0 []) (next m.0) m.1 in
+    every-in (λ p. slice_get homes p ≡ Some (suc k + m.0)) n (slice_index_or blocks m.0 []) (next m.0) m.1 in
     let same : k + 0 ≡ suc k + m.0 = same_Some (k + 0) (suc k + m.0) (sym here ∙ there) in
     omega arith)
 
@@ -289,7 +291,7 @@ pub points-once : (flow : Flow) (homes slots : List ℕ) → IsFlow flow homes
     → StandOnce item.Point (selected flow (over_slots flow slots))
 points-once flow homes slots f i j n a b =
     once point_of (selected flow (over_slots flow slots)) i j n (item.Point n) (item.Point n)
-        (subst IsDistinct (sym (selected-points flow slots)) (flow-distinct flow homes f)) a b refl refl
+    (subst IsDistinct (sym (selected-points flow slots)) (flow-distinct flow homes f)) a b refl refl
 
 -- ---- a point stands among the items exactly where it stands in a block
 
@@ -309,13 +311,13 @@ pub stands-placed : (flow : Flow) (slots : List ℕ) (p : ℕ)
     → IsPlaced flow p
 stands-placed flow slots p (j, e) =
     block-in flow.blocks p (subst (IsIn p) (selected-points flow slots)
-        (numbers-in point_of (selected flow (over_slots flow slots)) j p (item.Point p) e refl))
+    (numbers-in point_of (selected flow (over_slots flow slots)) j p (item.Point p) e refl))
 
 pub placed-stands : (flow : Flow) (slots : List ℕ) (p : ℕ) → IsPlaced flow p
     → Stands (item.Point p) (selected flow (over_slots flow slots))
 placed-stands flow slots p (b, h) =
     let m = numbers-from point_of (selected flow (over_slots flow slots)) p
-        (subst (IsIn p) (sym (selected-points flow slots)) (in-block flow.blocks p b h)) in
+    (subst (IsIn p) (sym (selected-points flow slots)) (in-block flow.blocks p b h)) in
     (m.0, m.2 ∙ ap Some (point-is m.1 p m.3))
 
 -- ---- how many points there are
@@ -352,7 +354,7 @@ few zero (p ∷ ps) d h = let none = h.0 in absurd (omega arith)
 few (suc n) (p ∷ ps) d h =
     let less = every-without (λ q. q < suc n) n (p ∷ ps) h in
     let rest = few n (without n (p ∷ ps)) (distinct-without n (p ∷ ps) d)
-        (both n (without n (p ∷ ps)) less (absent n (p ∷ ps) d)) in
+    (both n (without n (p ∷ ps)) less (absent n (p ∷ ps) d)) in
     let long = length-without n (p ∷ ps) in
     omega arith
 
@@ -383,5 +385,5 @@ few-points flow homes f =
     (every-from (λ q. q < length flow.ops) (all_points flow.blocks) (λ n i.
     let m = block-in flow.blocks n i in
     every-in (λ q. q < length flow.ops) n (points_of flow m.0)
-        (every-map _ (λ q. q < length flow.ops) (λ q fits. slice_get_within flow.ops q fits.0 fits.1)
-        (points_of flow m.0) (f.each_block m.0).fits) m.1))
+    (every-map _ (λ q. q < length flow.ops) (λ q fits. slice_get_within flow.ops q fits.0 fits.1)
+    (points_of flow m.0) (f.each_block m.0).fits) m.1))

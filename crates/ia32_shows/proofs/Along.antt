@@ -39,10 +39,13 @@ NothingElsewhere text visits = (s : machine.State) → IsClear text s.eip → vi
 -- a step and then a run, with the step's visits before those of the run
 run-after : (visits : machine.State → List Visit) (turns : ℕ) (s t : machine.State) (o : Outcome) (vs : List Visit)
     → visits s ≡ vs → Steps s (moved.Moves t) → RunsFor visits turns t o
-        → RunsFor visits (suc turns) s (after_visits vs o)
-run-after visits turns s t o vs seen step (m, le, run) =
-    (suc m, (omega (arith, le)), subst (λ (v : List Visit). Runs visits (suc m) s (after_visits v o)) seen
-        (runs_after visits m s t o step run))
+    → RunsFor visits (suc turns) s (after_visits vs o)
+run-after visits turns s t o vs seen step (m, le, run) = (
+  suc m,
+  (omega (arith, le)),
+  subst (λ (v : List Visit). Runs visits (suc m) s (after_visits v o)) seen
+      (runs_after visits m s t o step run),
+)
 
 -- a run of more steps than so many is one of at least so many
 run-fewer : (visits : machine.State → List Visit) (turns : ℕ) (s : machine.State) (o : Outcome)
@@ -53,14 +56,14 @@ run-fewer visits turns s o (m, le, run) = (m, (omega (arith, le)), run)
 run-after-path : (text : List ℕ) (visits : machine.State → List Visit) (turns : ℕ) (o : Outcome)
     → NothingElsewhere text visits
     → (addresses : List ℕ) (s t : machine.State) → Path addresses s t → AllByRecursion (IsClear text) addresses
-        → RunsFor visits turns t o → RunsFor visits turns s o
+    → RunsFor visits turns t o → RunsFor visits turns s o
 run-after-path text visits turns o nothing [] s t path clear run =
     subst (λ (u : machine.State). RunsFor visits turns u o) (sym path) run
 run-after-path text visits turns o nothing (address ∷ addresses) s t (next, at, step, path) (clear, others) run =
     let seen : visits s ≡ [] = nothing s (subst (IsClear text) (sym at) clear) in
     run-fewer visits turns s o
     (run-after visits turns s next o [] seen step
-        (run-after-path text visits turns o nothing addresses next t path others run))
+    (run-after-path text visits turns o nothing addresses next t path others run))
 
 -- where the machine comes without passing a NOP to the start of a run, there is one with the same outcome
 run-after-coming : (text : List ℕ) (visits : machine.State → List Visit) (turns : ℕ) (o : Outcome)
@@ -80,13 +83,13 @@ run-to-end code visits turns s g end nothing (t, comes, clear, halts, taken, wri
     ∙ ap (λ (bytes : List ℕ). record { visits = []; taken = g.taken; written = bytes; end = end }) written
     in
     let run : Runs visits (suc turns) t (outcome_at g end) =
-        subst (Runs visits (suc turns) t) same (runs_halts visits turns t end halts) in
+    subst (Runs visits (suc turns) t) same (runs_halts visits turns t end halts) in
     run-after-coming code.text visits turns (outcome_at g end) nothing s t comes (suc turns, (omega arith), run)
 
 -- where a state leads to another by one step more
 after-step : (program : graph.GraphProgram) (k : ℕ) (m : Moved) (t h : graph.State)
     → ((u : graph.State) → state_after program k u ≡ Some t → state_after program (suc k) u ≡ Some h)
-        → from_state m (state_after program k) ≡ Some t → from_state m (state_after program (suc k)) ≡ Some h
+    → from_state m (state_after program k) ≡ Some t → from_state m (state_after program (suc k)) ≡ Some h
 after-step program k (Moves u) t h later e = later u e
 after-step program k (Halts end) t h later e = absurd (none-some t e)
 after-step program k Stuck t h later e = absurd (none-some t e)
@@ -95,7 +98,7 @@ state-next : (program : graph.GraphProgram) (k : ℕ) (s t h : graph.State) → 
     → step program t ≡ Moves h → state_after program (suc k) s ≡ Some h
 state-next program zero s t h at next =
     let moves : step program s ≡ Moves h = subst (λ (u : graph.State). step program u ≡ Moves h)
-        (sym (same_Some s t at)) next in
+    (sym (same_Some s t at)) next in
     ap (λ (m : Moved). from_state m (state_after program zero)) moves
 state-next program (suc k) s t h at next =
     after-step program k (step program s) t h (λ u e. state-next program k u t h e next) at
@@ -137,15 +140,15 @@ before-visits vs (Some p) o e = (p, refl, same_Some (after_visits vs p) o e)
 along-plain : (code : Code) (listing : Listing) (visits : machine.State → List Visit) (input : List ℕ)
     (steps turns k : ℕ) (g : graph.State) (s : machine.State) (o : Outcome) (m : Moved)
     → NothingElsewhere code.text visits → RunsFrom code listing visits input steps turns
-        → GraphAt code.program input k g → step code.program g ≡ m → Follows code input s g false m
+    → GraphAt code.program input k g → step code.program g ≡ m → Follows code input s g false m
     → AreKnown o.visits → outcome_after code listing steps turns g [] m ≡ Some o → RunsFor visits turns s o
 along-plain code listing visits input steps turns k g s o (Moves h) nothing later at next (t, comes, shows) known e =
     let (p, is, same) = before-visits [] (run_within code.program listing steps turns h) o e in
     run-after-coming code.text visits turns o nothing s t comes
-        (later (suc k) h t o (graph-next code.program input k g h at next) shows known (is ∙ ap Some same))
+    (later (suc k) h t o (graph-next code.program input k g h at next) shows known (is ∙ ap Some same))
 along-plain code listing visits input steps turns k g s o (Halts end) nothing later at next ends known e =
     subst (RunsFor visits turns s) (same_Some (outcome_at g end) o e)
-        (run-to-end code visits turns s g end nothing ends)
+    (run-to-end code visits turns s g end nothing ends)
 along-plain code listing visits input steps turns k g s o Stuck nothing later at next follows known e =
     absurd (none-some o e)
 
@@ -170,7 +173,7 @@ along-nop code listing visits input steps turns k g s o (Some point) vs nothing 
     let rest = later (suc k) h u p (graph-next code.program input k g h at on) shows behind is in
     subst (RunsFor visits (suc turns) s) same
     (run-after visits turns s t p vs (seen front) one
-        (run-after-coming code.text visits turns p nothing t u comes rest))
+    (run-after-coming code.text visits turns p nothing t u comes rest))
 
 -- a step is what its op does
 stepped : (program : graph.GraphProgram) (g : graph.State) (about : Option Op) → op_at program g ≡ about
@@ -181,10 +184,10 @@ stepped program g about is = ap (λ (o : Option Op). given o (act program g)) is
 along-op : (code : Code) (listing : Listing) (visits : machine.State → List Visit) (input : List ℕ) (steps turns k : ℕ)
     (g : graph.State) (s : machine.State) (o : Outcome) (about : Option Op)
     → ShowsVisits code listing visits → ((left : ℕ) → RunsFrom code listing visits input steps left) → AreBytes input
-        → GraphAt code.program input k g → Shows code input g s → op_at code.program g ≡ about
+    → GraphAt code.program input k g → Shows code input g s → op_at code.program g ≡ about
     → Follows code input s g (is_nop about) (given about (act code.program g))
     → with_turn (takes_turn about) turns g (λ left.
-        outcome_after code listing steps left g (visits_at listing g about) (given about (act code.program g))) ≡ Some o
+    outcome_after code listing steps left g (visits_at listing g about) (given about (act code.program g))) ≡ Some o
     → AreKnown o.visits → RunsFor visits turns s o
 along-op code listing visits input steps turns k g s o None seen later bytes at shows is follows e known =
     absurd (none-some o e)
@@ -192,7 +195,7 @@ along-op code listing visits input steps turns k g s o (Some (op.Mark statement)
     known =
     run-fewer visits turns s o
     (along-nop code listing visits input steps turns k g s o
-        (point_after code.program g.current.function g.block g.point) (visits_at listing g (Some (op.Mark statement)))
+    (point_after code.program g.current.function g.block g.point) (visits_at listing g (Some (op.Mark statement)))
     seen.elsewhere (seen.marks input k g s statement bytes at shows is) (later turns) at
     (stepped code.program g (Some (op.Mark statement)) is) follows known e)
 along-op code listing visits input steps zero k g s o (Some op.Turn) seen later bytes at shows is follows e known =
@@ -204,12 +207,12 @@ along-op code listing visits input steps zero k g s o (Some op.Turn) seen later 
 along-op code listing visits input steps (suc turns) k g s o (Some op.Turn) seen later bytes at shows is follows e
     known =
     along-nop code listing visits input steps turns k g s o
-        (point_after code.program g.current.function g.block g.point) []
+    (point_after code.program g.current.function g.block g.point) []
     seen.elsewhere (λ none. seen.turns input g s shows is) (later turns) at
     (stepped code.program g (Some op.Turn) is) follows known e
 along-op code listing visits input steps turns k g s o (Some about) seen later bytes at shows is follows e known =
     along-plain code listing visits input steps turns k g s o (act code.program g about) seen.elsewhere (later turns) at
-        (stepped code.program g (Some about) is) follows known e
+    (stepped code.program g (Some about) is) follows known e
 
 -- along a run of the program
 along-run : (code : Code) (listing : Listing) (visits : machine.State → List Visit) (input : List ℕ)

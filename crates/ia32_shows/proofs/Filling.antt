@@ -183,7 +183,7 @@ filled-once site pointer first value last address s u h =
       others = h.others;
       words = λ k less. let none : 0 ≡ k = omega arith in
           subst (λ (j : ℕ). load 4 (first + 4 * j) v ≡ Ok value) none
-              (load-same 4 (first + 4 * 0) value u v refl h.word);
+          (load-same 4 (first + 4 * 0) value u v refl h.word);
       kept = λ n b w k e. load-same n b w u v refl (h.apart n b w (part-high first 0 b n k) e);
       left = h.left;
       taken = h.taken;

@@ -47,10 +47,12 @@ load-in text low high n a s h from to =
     let one : nat_le low a ≡ true = le-leb low a from in
     let two : nat_le (a + n) (low + length h.bytes) ≡ true = le-leb (a + n) (low + length h.bytes) (omega arith) in
     let found : bytes_at n a s.memory ≡ (if t then Some (take n (drop (a - text_start) text)) else Some here) =
-        ap (bytes_at n a) h.memory ∙ rw (one, two) refl in
-    let v = load-either t n a (take n (drop (a - text_start) text)) here s in
-    (v.0, ap (λ (o : Option (List ℕ)). and_then (or_end o (denied a s))
-        (λ f. let r : Result ℕ End = Ok (little_from 0 n f) in r)) found ∙ v.1)
+    ap (bytes_at n a) h.memory ∙ rw (one, two) refl in
+    let v = load-either t n a (take n (drop (a - text_start) text)) here s in (
+      v.0,
+      ap (λ (o : Option (List ℕ)). and_then (or_end o (denied a s))
+          (λ f. let r : Result ℕ End = Ok (little_from 0 n f) in r)) found ∙ v.1,
+    )
 
 -- what is loaded depends on memory alone
 pub load-same : (n a v : ℕ) (s t : State) → t.memory ≡ s.memory → load n a s ≡ Ok v → load n a t ≡ Ok v
@@ -58,7 +60,7 @@ load-same n a v s t same e =
     let read = and_then-ok (load_bytes n a s) (λ found. let r : Result ℕ End = Ok (little_from 0 n found) in r) v e in
     let found : bytes_at n a s.memory ≡ Some read.0 = or_end-ok (bytes_at n a s.memory) (denied a s) read.0 read.1 in
     ap (λ (o : Option (List ℕ)). and_then (or_end o (denied a t))
-        (λ f. let r : Result ℕ End = Ok (little_from 0 n f) in r)) (ap (bytes_at n a) same ∙ found) ∙ read.2
+    (λ f. let r : Result ℕ End = Ok (little_from 0 n f) in r)) (ap (bytes_at n a) same ∙ found) ∙ read.2
 
 -- the bytes at a place of the data
 pub bytes-in : (text : List ℕ) (low high n a : ℕ) (s : State) → (h : IsSound text low high s) → low ≤ a → a + n ≤ high
@@ -67,12 +69,12 @@ bytes-in text low high n a s h from to some =
     let above = h.above in
     let size = h.size in
     let no : nat_le (a + n) (text_start + length text) ≡ false =
-        lt-leb (a + n) (text_start + length text) (omega arith) in
+    lt-leb (a + n) (text_start + length text) (omega arith) in
     let one : nat_le low a ≡ true = le-leb low a from in
     let two : nat_le (a + n) (low + length h.bytes) ≡ true = le-leb (a + n) (low + length h.bytes) (omega arith) in
     let rest : Option (List ℕ) = Some (take n (drop (a - low) h.bytes)) in
     let none : (nat_le text_start a && nat_le (a + n) (text_start + length text)) ≡ false =
-        and-false (nat_le text_start a) (nat_le (a + n) (text_start + length text)) no in
+    and-false (nat_le text_start a) (nat_le (a + n) (text_start + length text)) no in
     ap (bytes_at n a) h.memory ∙ rw (none, one, two) refl
 
 -- a byte that is loaded is the one byte there
@@ -85,12 +87,12 @@ one-byte text low high a w s h from to e =
     let long : 0 < length rest = let l = length-drop (a - low) h.bytes in omega (arith, l) in
     let one : take 1 rest ≡ get_or rest 0 0 ∷ [] = first-one rest long in
     let bytes : load_bytes 1 a s ≡ Ok (get_or rest 0 0 ∷ []) =
-        ap (λ (o : Option (List ℕ)). or_end o (denied a s)) (found ∙ ap Some one) in
+    ap (λ (o : Option (List ℕ)). or_end o (denied a s)) (found ∙ ap Some one) in
     let loaded : load 1 a s ≡ Ok (get_or rest 0 0 + 256 * 0) =
-        ap (λ (r : Result (List ℕ) End). and_then r (λ f. let q : Result ℕ End = Ok (little_from 0 1 f) in q)) bytes in
+    ap (λ (r : Result (List ℕ) End). and_then r (λ f. let q : Result ℕ End = Ok (little_from 0 1 f) in q)) bytes in
     let same : get_or rest 0 0 + 256 * 0 ≡ w = ok-once (get_or rest 0 0 + 256 * 0) w (sym loaded ∙ e) in
     bytes ∙ ap (λ (x : ℕ). let q : Result (List ℕ) End = Ok (x ∷ []) in q)
-        (let k : get_or rest 0 0 ≡ w = omega (arith, same) in k)
+    (let k : get_or rest 0 0 ≡ w = omega (arith, same) in k)
 
 -- both of two tests
 both : (a b : Bool) → (a && b) ≡ true → (a ≡ true) × (b ≡ true)
@@ -113,8 +115,8 @@ load-place text low high n a v s h from e some =
     let above = h.above in
     let size = h.size in
     elim (either-found (has_bytes (text_area text) a n) (has_bytes (data_from low h.bytes) a n)
-        (take n (drop (a - text_start) text)) (take n (drop (a - low) h.bytes)) read.0
-        (sym (ap (bytes_at n a) h.memory) ∙ found)) [
+    (take n (drop (a - text_start) text)) (take n (drop (a - low) h.bytes)) read.0
+    (sym (ap (bytes_at n a) h.memory) ∙ found)) [
       | inl t ↦ let end : a + n ≤ text_start + length text =
           leb-true (a + n) (text_start + length text)
           (both (nat_le text_start a) (nat_le (a + n) (text_start + length text)) t).1 in absurd (omega arith)
@@ -155,39 +157,44 @@ store-in text low high a value s h from to fits =
     let size = h.size in
     let one : nat_le low a ≡ true = le-leb low a from in
     let two : nat_le (a + length new) (low + length h.bytes) ≡ true =
-        le-leb (a + length new) (low + length h.bytes) (omega (arith, four)) in
+    le-leb (a + length new) (low + length h.bytes) (omega (arith, four)) in
     let memory : List Area = text_area text ∷ with_bytes a new (data_from low h.bytes) ∷ [] in
     let done : stored a new s.memory ≡ Some memory = ap (stored a new) h.memory ∙ rw (one, two) refl in
     let t : State = record s { memory = memory } in
     let is : store 4 a value s ≡ Ok t = ap (λ (o : Option (List Area)).
-        and_then (or_end o (denied a s)) (λ m. let r : Result State End = Ok (record s { memory = m }) in r)) done in
+    and_then (or_end o (denied a s)) (λ m. let r : Result State End = Ok (record s { memory = m }) in r)) done in
     let bytes : List ℕ = take (a - low) h.bytes ++ new ++ drop (a - low + length new) h.bytes in
     let long : length bytes ≡ length h.bytes = length-replaced (a - low) new h.bytes (omega (arith, four)) in
-    let sound : IsSound text low high t = record
-        { bytes = bytes; memory = refl; size = ap (λ (k : ℕ). low + k) long ∙ size; above = h.above; below = h.below;
-        registers = h.registers } in
+    let sound : IsSound text low high t = record {
+      bytes = bytes;
+      memory = refl;
+      size = ap (λ (k : ℕ). low + k) long ∙ size;
+      above = h.above;
+      below = h.below;
+      registers = h.registers;
+    } in
     let old = load-in text low high 4 a s h from to in
     let four_more : 0 < length new = omega (arith, four) in
     let before = bytes-in text low high 4 a s h from to (omega arith) in
     let before_long : bytes_at (length new) a s.memory ≡ Some (take 4 (drop (a - low) h.bytes)) =
-        subst (λ (k : ℕ). bytes_at k a s.memory ≡ Some (take 4 (drop (a - low) h.bytes))) (sym four) before in
+    subst (λ (k : ℕ). bytes_at k a s.memory ≡ Some (take 4 (drop (a - low) h.bytes))) (sym four) before in
     let after_long : bytes_at (length new) a memory ≡ Some new =
-        load-store_same a new (take 4 (drop (a - low) h.bytes)) s.memory memory four_more
-        (areas-apart text low high s h) before_long done in
+    load-store_same a new (take 4 (drop (a - low) h.bytes)) s.memory memory four_more
+    (areas-apart text low high s h) before_long done in
     let after : bytes_at 4 a memory ≡ Some new = subst (λ (k : ℕ). bytes_at k a memory ≡ Some new) four after_long in
     let there : take 4 (drop (a - low) bytes) ≡ new =
-        some-once (take 4 (drop (a - low) bytes)) new
-        (sym (bytes-in text low high 4 a t sound from to (omega arith)) ∙ after) in
+    some-once (take 4 (drop (a - low) bytes)) new
+    (sym (bytes-in text low high 4 a t sound from to (omega arith)) ∙ after) in
     let first : get_or (drop (a - low) bytes) 0 0 ≡ value % 256 =
-        sym (get_or-take 4 (drop (a - low) bytes) 0 0 (omega arith)) ∙ ap (λ (l : List ℕ). get_or l 0 0) there in
+    sym (get_or-take 4 (drop (a - low) bytes) 0 0 (omega arith)) ∙ ap (λ (l : List ℕ). get_or l 0 0) there in
     let tail_long : 0 < length (drop (a - low) bytes) = let l = length-drop (a - low) bytes in omega (arith, l, long) in
     let byte : load 1 a t ≡ Ok (value % 256) =
     ap (λ (o : Option (List ℕ)). and_then (or_end o (denied a t))
-        (λ f. let r : Result ℕ End = Ok (little_from 0 1 f) in r))
-        (bytes-in text low high 1 a t sound from (omega arith) (omega arith)
-        ∙ ap Some (first-one (drop (a - low) bytes) tail_long))
+    (λ f. let r : Result ℕ End = Ok (little_from 0 1 f) in r))
+    (bytes-in text low high 1 a t sound from (omega arith) (omega arith)
+    ∙ ap Some (first-one (drop (a - low) bytes) tail_long))
     ∙ ap (λ (x : ℕ). let r : Result ℕ End = Ok x in r)
-        (let k : get_or (drop (a - low) bytes) 0 0 + 256 * 0 ≡ value % 256 = omega (arith, first) in k) in (
+    (let k : get_or (drop (a - low) bytes) 0 0 + 256 * 0 ≡ value % 256 = omega (arith, first) in k) in (
       t,
       record {
         is = is;
@@ -204,8 +211,15 @@ store-in text low high a value s h from to fits =
 pub sound-with_word : (text : List ℕ) (low high : ℕ) (r : Reg32) (v : ℕ) (s : State) → IsSound text low high s
     → IsSound text low high (with_word r v s)
 sound-with_word text low high r v s h =
-    record { bytes = h.bytes; memory = h.memory; size = h.size; above = h.above; below = h.below; registers =
-        AreRegisters-with_register r v s.registers h.registers }
+    record {
+      bytes = h.bytes;
+      memory = h.memory;
+      size = h.size;
+      above = h.above;
+      below = h.below;
+      registers =
+          AreRegisters-with_register r v s.registers h.registers;
+    }
 
 pub word-same : (text : List ℕ) (low high : ℕ) (r : Reg32) (v : ℕ) (s : State) → IsSound text low high s → v < 2 ^ 32
     → word_of r (with_word r v s) ≡ v
@@ -218,19 +232,33 @@ word-other text low high r q v s h other = register-with_other r q v s.registers
 pub word-below : (text : List ℕ) (low high : ℕ) (r : Reg32) (s : State) → IsSound text low high s → word_of r s < 2 ^ 32
 word-below text low high r s h =
     let each : (k : ℕ) → get_or (drop (word_place r) s.registers) k 0 < 256 = λ k. let below =
-        h.registers.below (word_place r + k) in rw (get_or-drop (word_place r) s.registers k 0) below in
+    h.registers.below (word_place r + k) in rw (get_or-drop (word_place r) s.registers k 0) below in
     little_from-lt 0 4 (drop (word_place r) s.registers) each
 
 -- a state at another address
 pub sound-at : (text : List ℕ) (low high address : ℕ) (s : State) → IsSound text low high s
     → IsSound text low high (at_address address s)
 sound-at text low high address s h =
-    record { bytes = h.bytes; memory = h.memory; size = h.size; above = h.above; below = h.below; registers =
-        h.registers }
+    record {
+      bytes = h.bytes;
+      memory = h.memory;
+      size = h.size;
+      above = h.above;
+      below = h.below;
+      registers =
+          h.registers;
+    }
 
 -- and with other flags
 pub sound-with_flags : (text : List ℕ) (low high : ℕ) (flags : Option Flags) (s : State) → IsSound text low high s
     → IsSound text low high (with_flags flags s)
 sound-with_flags text low high flags s h =
-    record { bytes = h.bytes; memory = h.memory; size = h.size; above = h.above; below = h.below; registers =
-        h.registers }
+    record {
+      bytes = h.bytes;
+      memory = h.memory;
+      size = h.size;
+      above = h.above;
+      below = h.below;
+      registers =
+          h.registers;
+    }

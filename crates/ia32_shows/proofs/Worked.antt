@@ -40,7 +40,7 @@ none-beyond-objects code active frames k word beyond h = let within = h.0 in ome
 first-waits : (code : Code) (g : graph.State) (s : machine.State) (active : List Activation) (frames : List ℕ)
     (w : Waiting)
     (waiting : List Waiting) (older : List ℕ)
-        → WaitFrom code active frames s g.current (word_of Ebp s) (w ∷ waiting) older
+    → WaitFrom code active frames s g.current (word_of Ebp s) (w ∷ waiting) older
     → WaitsForCurrent code g s w
 first-waits code g s active frames w waiting [] h = absurd h
 first-waits code g s active frames w waiting (o ∷ older) h =

@@ -18,7 +18,7 @@ length-zeros n = length-replicate n 0
 -- areas with the same parts are the same
 area-equal : (a b : ℕ) (xs ys : List ℕ) (r p w q u v : Bool) → a ≡ b → xs ≡ ys → r ≡ p → w ≡ q → u ≡ v
     → (let one : Area = record { address = a; bytes = xs; readable = r; writable = w; runnable = u } in one)
-        ≡ record { address = b; bytes = ys; readable = p; writable = q; runnable = v }
+    ≡ record { address = b; bytes = ys; readable = p; writable = q; runnable = v }
 area-equal a b xs ys r p w q u v e f g h k = cc
 
 -- the memory that Shows asks for
@@ -38,7 +38,7 @@ long-data x =
 pub areas-are : (x : Setup) (areas : List Area) → map shape_of areas ≡ shapes_in x
     → option_map (λ (a : Area). a.bytes) (slice_get areas 0) ≡ Some x.text
     → (bytes : List ℕ) × (areas ≡ text_area x.text ∷ data_from (data_start x.text) bytes ∷ [])
-        × (data_start x.text + length bytes ≡ stack_end x.text [])
+    × (data_start x.text + length bytes ≡ stack_end x.text [])
 areas-are x [] e t = absurd (let no : None ≡ Some x.text = t in cc)
 areas-are x (a ∷ []) e t = absurd (let no : shape_of a ∷ [] ≡ shapes_in x = e in cc)
 areas-are x (a ∷ b ∷ []) e t =
@@ -47,17 +47,19 @@ areas-are x (a ∷ b ∷ []) e t =
     let same : a.bytes ≡ x.text = same_Some a.bytes x.text t in
     let first : a ≡ text_area x.text =
     area-equal a.address (text_area x.text).address a.bytes x.text a.readable true a.writable false a.runnable true
-        (ap (λ (l : List Shape). (one l).address) e) same
+    (ap (λ (l : List Shape). (one l).address) e) same
     (ap (λ (l : List Shape). (one l).readable) e) (ap (λ (l : List Shape). (one l).writable) e)
-        (ap (λ (l : List Shape). (one l).runnable) e) in
+    (ap (λ (l : List Shape). (one l).runnable) e) in
     let second : b ≡ data_from (data_start x.text) b.bytes =
     area-equal b.address (data_start x.text) b.bytes b.bytes b.readable true b.writable true b.runnable false
-        (ap (λ (l : List Shape). (two l).address) e) refl
+    (ap (λ (l : List Shape). (two l).address) e) refl
     (ap (λ (l : List Shape). (two l).readable) e) (ap (λ (l : List Shape). (two l).writable) e)
-        (ap (λ (l : List Shape). (two l).runnable) e) in
-    let long : length b.bytes ≡ length (data_area x.text []).bytes = ap (λ (l : List Shape). (two l).size) e in
-    (b.bytes, ap (λ (m : Area). m ∷ b ∷ []) first ∙ ap (λ (m : Area). text_area x.text ∷ m ∷ []) second,
-        ap (λ (k : ℕ). data_start x.text + k) long ∙ long-data x)
+    (ap (λ (l : List Shape). (two l).runnable) e) in
+    let long : length b.bytes ≡ length (data_area x.text []).bytes = ap (λ (l : List Shape). (two l).size) e in (
+      b.bytes,
+      ap (λ (m : Area). m ∷ b ∷ []) first ∙ ap (λ (m : Area). text_area x.text ∷ m ∷ []) second,
+      ap (λ (k : ℕ). data_start x.text + k) long ∙ long-data x,
+    )
 areas-are x (a ∷ b ∷ c ∷ areas) e t = absurd
     (let no : shape_of a ∷ shape_of b ∷ shape_of c ∷ map shape_of areas ≡ shapes_in x = e in cc)
 
@@ -70,5 +72,5 @@ shapes-are x areas bytes e size =
     let long : length bytes ≡ length (data_area x.text []).bytes = omega arith in
     ap (λ (l : List Area). map shape_of l) e
     ∙ ap (λ (k : ℕ). let second : Shape = record
-        { address = data_start x.text; size = k; readable = true; writable = true; runnable = false } in
-        shape_of (text_area x.text) ∷ second ∷ []) long
+    { address = data_start x.text; size = k; readable = true; writable = true; runnable = false } in
+    shape_of (text_area x.text) ∷ second ∷ []) long

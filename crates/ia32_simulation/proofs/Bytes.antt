@@ -68,6 +68,6 @@ pub ready-fits : (site : Site) (operand : Rm32) (z : ℤ) (items : List Item) (s
 ready-fits site operand z items s each ready =
     let first : List ℕ = ready.stand.0 in
     let here : EachByte ready.bytes = bytes-front ready.bytes ready.here.rest
-        (bytes-back ready.here.done (ready.bytes ++ ready.here.rest)
-        (subst EachByte ready.here.whole (each-byte site.text each))) in
+    (bytes-back ready.here.done (ready.bytes ++ ready.here.rest)
+    (subst EachByte ready.here.whole (each-byte site.text each))) in
     mov-fits operand z first (bytes-front first ready.stand.1 (subst EachByte ready.stand.2 here)) ready.stand.3

@@ -26,8 +26,14 @@ use Rattle.ia32_simulation.proofs.Starts.{setup-starts}
 
 -- the parts of a code
 abbrev setup_of : Flow → List ℕ → Code → Setup
-setup_of flow slots code = record { flow = flow; slots = slots; places = places_of code; symbols = code.symbols; text =
-    code.text }
+setup_of flow slots code = record {
+  flow = flow;
+  slots = slots;
+  places = places_of code;
+  symbols = code.symbols;
+  text =
+      code.text;
+}
 
 -- one function has one list of places
 one-place : (places : List Places) → length places ≡ 1 → places ≡ slice_index_or places 0 no_places ∷ []
@@ -38,9 +44,24 @@ one-place (p ∷ q ∷ ps) e = absurd (omega (arith, e))
 -- codes with the same parts are the same
 code-equal : (p q : GraphProgram) (ps qs : List Placement) (i j : List (List Item)) (o u : List ℕ) (a b : List Places)
     (symbols : Symbols) (text : List ℕ) → p ≡ q → ps ≡ qs → i ≡ j → o ≡ u → a ≡ b
-    → (let one : Code = record { program = p; placements = ps; items = i; order = o; places = a; symbols = symbols;
-        text = text } in one) ≡ record { program = q; placements = qs; items = j; order = u; places = b; symbols =
-        symbols; text = text }
+    → (let one : Code = record {
+      program = p;
+      placements = ps;
+      items = i;
+      order = o;
+      places = a;
+      symbols = symbols;
+      text = text;
+    } in one) ≡ record {
+      program = q;
+      placements = qs;
+      items = j;
+      order = u;
+      places = b;
+      symbols =
+          symbols;
+      text = text;
+    }
 code-equal p q ps qs i j o u a b symbols text e f g h k = cc
 
 -- a code over slots is the one of its parts
@@ -51,10 +72,10 @@ code-is flow slots code h =
     let made : Code = code_in (setup_of flow slots code) in
     let t : IsText code.items code.order [] 0 code.places code.symbols code.text = h.text in
     let order : code.order ≡ 0 ∷ [] = order-one code.order
-        (subst (λ (fs : List (List Item)). IsOrder (length fs) code.order) h.items_are t.order_is) in
+    (subst (λ (fs : List (List Item)). IsOrder (length fs) code.order) h.items_are t.order_is) in
     let places = one-place code.places (t.places_are ∙ ap (λ (fs : List (List Item)). length fs) h.items_are) in
     code-equal code.program made.program code.placements made.placements code.items made.items code.order made.order
-        code.places made.places code.symbols code.text h.program h.placements h.items_are order places
+    code.places made.places code.symbols code.text h.program h.placements h.items_are order places
 
 -- what is known of its parts
 setup-known : (flow : Flow) (slots : List ℕ) (code : Code)
@@ -92,14 +113,14 @@ follows-by : Laws → (flow : Flow) (slots : List ℕ) (code : Code)
     → FollowsAt code input g s
 follows-by laws flow slots code h words input g s =
     subst (λ (c : Code). FollowsAt c input g s) (sym (code-is flow slots code h))
-        (λ shown. setup-follows laws (setup_of flow slots code) input g s (setup-known flow slots code h) shown words)
+    (λ shown. setup-follows laws (setup_of flow slots code) input g s (setup-known flow slots code h) shown words)
 
 -- they fit, since the text is one of bytes
 pub code-follows : Laws → (flow : Flow) (slots : List ℕ) (code : Code)
     → IsSlotCode flow slots (selected flow (over_slots flow slots)) code → FollowsAll code
 code-follows laws flow slots code h input g s is_state =
     follows-by laws flow slots code h (λ g t d n has r. ready-fits (site_in (setup_of flow slots code))
-        (rm.Mem (below (slice_index_or slots d 0))) n r.rest t h.bytes r.ready) input g s
+    (rm.Mem (below (slice_index_or slots d 0))) n r.rest t h.bytes r.ready) input g s
 
 -- code over slots is right
 pub slots-right : (laws : Laws) → StartGoes → PrologueGoes → (flow : Flow) (slots : List ℕ)

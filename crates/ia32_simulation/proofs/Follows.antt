@@ -63,18 +63,18 @@ op-follows laws x input g s o h at words k has fits r = absurd k
 main-follows : Laws → (x : Setup) (input : List ℕ) (g : graph.State) (s : machine.State) → IsSetup x
     → AtMain x input g s → NumberFits x g s
     → Follows (code_in x) input s (main_state g) (is_nop (op_at (one_graph x.flow) (main_state g)))
-        (step (one_graph x.flow) (main_state g))
+    (step (one_graph x.flow) (main_state g))
 main-follows laws x input g s h at words =
     let found = every-in (HasFittingOp x.flow) g.point (points_of x.flow g.block)
-        (h.is_code.is_flow.each_block g.block).fits at.placed in
+    (h.is_code.is_flow.each_block g.block).fits at.placed in
     let o : Op = found.0 in
     let r = point-ready x.flow x.slots (code_in x) (data_start x.text) (stack_end x.text []) g.point g.block o s
-        h.is_code at.placed found.1 at.eip in
+    h.is_code at.placed found.1 at.eip in
     let mine : RowAt x g o s = over-ready x.flow x.slots (site_in x) g.point o
-        (following g.point (points_of x.flow g.block)) s r in
+    (following g.point (points_of x.flow g.block)) s r in
     let slot_op : IsSlotOp o = every-at IsSlotOp x.flow.ops g.point o h.has_slots.ops found.1 in
     subst (λ (p : Option Op). Follows (code_in x) input s (main_state g) (is_nop p)
-        (given p (act (one_graph x.flow) (main_state g)))) (sym found.1)
+    (given p (act (one_graph x.flow) (main_state g)))) (sym found.1)
     (op-follows laws x input g s o h at words slot_op found.1 found.2 mine)
 
 -- ---- every state that is shown
@@ -92,9 +92,15 @@ none-waits x active frames s a frame (w ∷ waiting) (k ∷ older) h chain =
 -- so the state is one of main
 state-is : (g : graph.State) → g.current.function ≡ 0 → g.waiting ≡ [] → g ≡ main_state g
 state-is g e f =
-    ap (λ (n : ℕ). let h : graph.State = record g
-        { current = record { function = n; arguments = g.current.arguments; variables = g.current.variables; arrays =
-        g.current.arrays } } in h) e
+    ap (λ (n : ℕ). let h : graph.State = record g {
+      current = record {
+        function = n;
+        arguments = g.current.arguments;
+        variables = g.current.variables;
+        arrays =
+            g.current.arrays;
+      };
+    } in h) e
     ∙ ap (λ (ws : List Waiting). let h : graph.State = record (main_state g) { waiting = ws } in h) f
 
 -- no other function has a point
@@ -103,7 +109,7 @@ other-follows : (x : Setup) (input : List ℕ) (g : graph.State) (s : machine.St
 other-follows x input g s f e =
     let none : op_at (one_graph x.flow) g ≡ None = ap (λ (n : ℕ). op_of (one_graph x.flow) n g.point) e in
     subst (λ (p : Option Op). Follows (code_in x) input s g (is_nop p) (given p (act (one_graph x.flow) g))) (sym none)
-        tt
+    tt
 
 -- the step of a state that is shown, by its function
 function-follows : Laws → (x : Setup) (input : List ℕ) (g : graph.State) (s : machine.State) (f : ℕ) → IsSetup x
@@ -112,11 +118,11 @@ function-follows : Laws → (x : Setup) (input : List ℕ) (g : graph.State) (s 
 function-follows laws x input g s (suc f) h shown words e = other-follows x input g s f e
 function-follows laws x input g s zero h shown words e =
     let is : g ≡ main_state g = state-is g e (none-waits x (active_of g) shown.frames s g.current (word_of Ebp s)
-        g.waiting shown.older h shown.chain) in
+    g.waiting shown.older h shown.chain) in
     let P : graph.State → Type 0 = λ (k : graph.State). Follows (code_in x) input s k
-        (is_nop (op_at (one_graph x.flow) k)) (step (one_graph x.flow) k) in
+    (is_nop (op_at (one_graph x.flow) k)) (step (one_graph x.flow) k) in
     let at : AtMain x input g s = shown-main x input g s h
-        (subst (λ (k : graph.State). Shows (code_in x) input k s) is shown) in
+    (subst (λ (k : graph.State). Shows (code_in x) input k s) is shown) in
     subst P (sym is) (main-follows laws x input g s h at (words g s))
 
 -- the step of every state that is shown

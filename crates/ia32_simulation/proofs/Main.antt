@@ -148,16 +148,23 @@ shown-main x input g s h shown =
     let esp = shown.esp in
     let room = shown.room in
     let sound : IsSound x.text (data_start x.text) (stack_end x.text []) s =
-        record { bytes = areas.0; memory = areas.1; size = areas.2; above = above; below = b.below; registers =
-        shown.registers } in
+    record {
+      bytes = areas.0;
+      memory = areas.1;
+      size = areas.2;
+      above = above;
+      below = b.below;
+      registers =
+          shown.registers;
+    } in
     let frames : shown.frames ≡ word_of Ebp s ∷ shown.older = shown.youngest in
     let chain = no-older x (active_of (main_state g)) shown.frames s (main_state g).current (word_of Ebp s) shown.older
-        shown.chain in
+    shown.chain in
     let (no_arguments, return_address, loaded, returns_to) = chain in
     let few : length g.current.arguments ≡ 0 = ap length no_arguments in
     let top : word_of Ebp s + 4 + 4 ≤ stack_end x.text [] =
-        load-place x.text (data_start x.text) (stack_end x.text []) 4 (word_of Ebp s + 4) return_address s sound
-        (omega arith) loaded (omega arith) in
+    load-place x.text (data_start x.text) (stack_end x.text []) 4 (word_of Ebp s + 4) return_address s sound
+    (omega arith) loaded (omega arith) in
     let frame : slice_get shown.frames 0 ≡ Some (word_of Ebp s) = ap (λ (l : List ℕ). slice_get l 0) frames in
     let stand = shown.frame_arrays 0 (main_state g).current (word_of Ebp s) refl frame in
     record {
@@ -172,9 +179,9 @@ shown-main x input g s h shown =
       variables = λ v value slot e f.
           let width = width-two x.flow.widths x.slots v slot h.has_slots.widths h.has_slots.as_many f in
           let In : Option Width → Type 0 = λ (w : Option Width).
-              InSlotOf (code_in x) (active_of (main_state g)) shown.frames s (word_of Ebp s - slot) w value in
+          InSlotOf (code_in x) (active_of (main_state g)) shown.frames s (word_of Ebp s - slot) w value in
           let held : In (Some Two) = subst In width
-              (shown.variables v value (InSlot slot) e (ap (λ (o : Option ℕ). option_map InSlot o) f)) in
+          (shown.variables v value (InSlot slot) e (ap (λ (o : Option ℕ). option_map InSlot o) f)) in
           (held.0, held.1, plain-word x (main_state g).current shown.frames value held.0 h held.2);
       no_arguments = no_arguments;
       no_arrays = arrays-none x s (word_of Ebp s) (main_state g).current g.current.arrays refl stand;
@@ -213,24 +220,24 @@ main-shown x input g s h at =
           let width = width-two x.flow.widths x.slots v slot.0 h.has_slots.widths h.has_slots.as_many slot.1 in
           let held = at.variables v value slot.0 e slot.1 in
           let In : Option Width → Type 0 = λ (w : Option Width).
-              InSlotOf (code_in x) (active_of (main_state g)) one s (word_of Ebp s - slot.0) w value in
+          InSlotOf (code_in x) (active_of (main_state g)) one s (word_of Ebp s - slot.0) w value in
           let there : In (Some Two) = (held.0, held.1, word-plain x (main_state g).current one value held.0 held.2) in
           subst (λ (p : Place). StandsIn (code_in x) (active_of (main_state g)) one s (word_of Ebp s)
-              (slice_get x.flow.widths v) value p) slot.2 (subst In (sym width) there);
+          (slice_get x.flow.widths v) value p) slot.2 (subst In (sym width) there);
       arguments = λ i a frame e f k value l.
           let first = only-one (main_state g).current a i e in
           absurd (none-some value (sym (ap (λ (values : List Value). slice_get values k)
-              (ap (λ (b : Activation). b.arguments) (sym first.1) ∙ at.no_arguments)) ∙ l));
+          (ap (λ (b : Activation). b.arguments) (sym first.1) ∙ at.no_arguments)) ∙ l));
       old_arrays = λ i a e.
           let first = only-one (main_state g).current a i e in
           subst (λ (b : Activation). HoldsOldArrays (1 - i) b) first.1
-              (subst (λ (j : ℕ). HoldsOldArrays (1 - j) (main_state g).current) (sym first.0) at.old_arrays);
+          (subst (λ (j : ℕ). HoldsOldArrays (1 - j) (main_state g).current) (sym first.0) at.old_arrays);
       objects = λ k elements e. absurd (none-some elements
           (sym (ap (λ (l : List (List ℤ)). slice_get l k) at.no_objects) ∙ e));
       frame_arrays = λ i a frame e f k elements l.
           let first = only-one (main_state g).current a i e in
           absurd (none-some elements (sym (ap (λ (arrays : List (List ℤ)). slice_get arrays k)
-              (ap (λ (b : Activation). b.arrays) (sym first.1) ∙ at.no_arrays)) ∙ l));
+          (ap (λ (b : Activation). b.arrays) (sym first.1) ∙ at.no_arrays)) ∙ l));
       left = at.left;
       taken = at.taken;
       written = at.written;

@@ -20,14 +20,18 @@ use Rattle.ia32_shows.specs.Sites.{ReadyAt}
 pub passed-main : (x : Setup) (input : List ℕ) (g : graph.State) (s : machine.State) (address q : ℕ) (back : List Item)
     → AtMain x input g s → following g.point (points_of x.flow g.block) ≡ Some q
     → ReadyAt (site_in x) (item.Point q ∷ back) (at_address address s)
-        → AtMain x input (record g { point = q }) (at_address address s)
+    → AtMain x input (record g { point = q }) (at_address address s)
 passed-main x input g s address q back at next ready =
     let t : machine.State = at_address address s in
     let one = point-passed x.symbols x.places x.text q back t ready in
     let site = site_in x in
     record {
-      framed = record { sound = sound-at site.text site.low site.high address s at.framed.sound; esp = at.framed.esp;
-          room = at.framed.room; top = at.framed.top };
+      framed = record {
+        sound = sound-at site.text site.low site.high address s at.framed.sound;
+        esp = at.framed.esp;
+        room = at.framed.room;
+        top = at.framed.top;
+      };
       ebp = at.ebp;
       placed = following-in g.point q (points_of x.flow g.block) next;
       eip = sym one.0;
@@ -51,7 +55,7 @@ passed-main x input g s address q back at next ready =
 pub nop-follows : (x : Setup) (input : List ℕ) (g : graph.State) (s : machine.State) (rest : List Item)
     (next : Option ℕ) → IsSetup x → AtMain x input g s → ReadyAt (site_in x) (item.Plain insn.Nop ∷ rest) s
     → following g.point (points_of x.flow g.block) ≡ next
-        → ((q : ℕ) → next ≡ Some q → (more : List Item) × (rest ≡ item.Point q ∷ more))
+    → ((q : ℕ) → next ≡ Some q → (more : List Item) × (rest ≡ item.Point q ∷ more))
     → Follows (code_in x) input s (main_state g) true (at_point g.block (main_state g) next)
 nop-follows x input g s rest None h at ready e f = tt
 nop-follows x input g s rest (Some q) h at ready e f =
@@ -60,6 +64,6 @@ nop-follows x input g s rest (Some q) h at ready e f =
     let t : machine.State = at_address went.0 s in
     let more = f q refl in
     let there : ReadyAt site (item.Point q ∷ more.0) t =
-        subst (λ (items : List Item). ReadyAt site items t) more.1 went.3 in
+    subst (λ (items : List Item). ReadyAt site items t) more.1 went.3 in
     let shown = main-shown x input (record g { point = q }) t h (passed-main x input g s went.0 q more.0 at e there) in
     (t, went.1, (t, comes-not site.text t, shown))

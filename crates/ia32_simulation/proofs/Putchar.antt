@@ -29,7 +29,7 @@ routine-stands : (x : Setup) (s : machine.State) → IsSetup x → StandsFrom (s
 routine-stands x s h =
     let t : machine.State = record s { eip = x.symbols.putchar } in
     let ready = stub-at x.flow x.slots (selected x.flow (over_slots x.flow x.slots)) (code_in x) x.places t h.is_code
-        refl in
+    refl in
     record { bytes = ready.bytes; here = ready.here; stand = ready.stand }
 
 -- what the call leaves of the stack
@@ -50,21 +50,21 @@ putchar-follows law x input g s d a h at fits r =
     let esp = at.framed.esp in
     let ebp = at.ebp in
     given-number (FollowsMain x input s g) (slice_get g.current.variables a) (puts (one_graph x.flow) (main_state g) d)
-        tt (λ n e.
+    tt (λ n e.
     let held = at.variables a (Number n) (slot_at x.slots a) e from.there in
     let byte : ℕ = held.0 % 256 in
     let wrote = law (site_in x) (frame_of x.flow) r.rest (slot_at x.slots d) (slot_at x.slots a) held.0 s at.framed
-        (omega arith) (routine-stands x s h) r.ready from.inside to.inside held.1
-        (plain-fits (Number n) held.0 held.2) in
+    (omega arith) (routine-stands x s h) r.ready from.inside to.inside held.1
+    (plain-fits (Number n) held.0 held.2) in
     let u : machine.State = wrote.0 in
     let K : ℕ → ℕ → Type 0 = OutsideCall (word_of Ebp s - slot_at x.slots d) (word_of Esp s) in
     let is : byte ≡ low_byte n = ap (λ (w : ℕ). w % 256) held.2.1 in
     let output : s.written ++ byte ∷ [] ≡ g.written ++ low_byte n ∷ [] = ap (λ (l : List ℕ). l ++ byte ∷ []) at.written
-        ∙ ap (λ (k : ℕ). g.written ++ k ∷ []) is in
+    ∙ ap (λ (k : ℕ). g.written ++ k ∷ []) is in
     let went : Went (site_in x) (frame_of x.flow) r.rest K (g.written ++ low_byte n ∷ []) s u =
-        subst (λ (out : List ℕ). Went (site_in x) (frame_of x.flow) r.rest K out s u) output wrote.1.went in
+    subst (λ (out : List ℕ). Went (site_in x) (frame_of x.flow) r.rest K out s u) output wrote.1.went in
     let byte_fits : FitsSigned w32 (pos (low_byte n)) = fits_signed_from_abs w32 (pos (low_byte n)) (omega arith) in
     write-follows x input g s u K r.rest d (Number (pos (low_byte n))) byte (g.written ++ low_byte n ∷ [])
-        (following g.point (points_of x.flow g.block)) h at to refl r.follows
-        (call-keeps (word_of Ebp s - slot_at x.slots d) (word_of Esp s) (omega arith)) went wrote.1.same
+    (following g.point (points_of x.flow g.block)) h at to refl r.follows
+    (call-keeps (word_of Ebp s - slot_at x.slots d) (word_of Esp s) (omega arith)) went wrote.1.same
     (byte_fits, is))

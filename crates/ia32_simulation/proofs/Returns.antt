@@ -43,18 +43,23 @@ return-follows returns ends x input g s a h at fits r =
     let from = has-slot x a Two h fits.0 in
     let site = site_in x in
     given-number (FollowsMain x input s g) (slice_get g.current.variables a) (λ n. Halts (Ended (low_byte n))) tt
-        (λ n e.
+    (λ n e.
     let held = at.variables a (Number n) (slot_at x.slots a) e from.there in
     let address : ℕ = at.return_address in
     let back = returns site (frame_of x.flow) r.rest (slot_at x.slots a) held.0 address s at.framed r.ready from.inside
-        held.1 (plain-fits (Number n) held.0 held.2) at.returns (return-fits x address h at.returns_to) in
+    held.1 (plain-fits (Number n) held.0 held.2) at.returns (return-fits x address h at.returns_to) in
     let u : machine.State = back.0 in
     let there : ReturnsToStart x.symbols x.text [] 0 u.eip =
-        subst (λ (k : ℕ). ReturnsToStart x.symbols x.text [] 0 k) (sym back.1.eip) at.returns_to in
+    subst (λ (k : ℕ). ReturnsToStart x.symbols x.text [] 0 k) (sym back.1.eip) at.returns_to in
     let end = ends x.symbols x.text [] 0 site.low site.high held.0 u back.1.sound there back.1.eax in
     let t : machine.State = end.0 in
     let byte : held.0 % 256 ≡ low_byte n = ap (λ (w : ℕ). w % 256) held.2.1 in
     let halts : Steps t (moved.Halts (Ended (low_byte n))) =
-        subst (λ (k : ℕ). Steps t (moved.Halts (Ended k))) byte end.1.halts in
-    (t, comes-then x.text s u t back.1.comes end.1.comes, end.1.clear, halts, end.1.taken ∙ back.1.taken ∙ at.taken,
-        end.1.written ∙ back.1.written ∙ at.written))
+    subst (λ (k : ℕ). Steps t (moved.Halts (Ended k))) byte end.1.halts in (
+      t,
+      comes-then x.text s u t back.1.comes end.1.comes,
+      end.1.clear,
+      halts,
+      end.1.taken ∙ back.1.taken ∙ at.taken,
+      end.1.written ∙ back.1.written ∙ at.written,
+    ))

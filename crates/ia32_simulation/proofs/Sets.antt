@@ -82,33 +82,36 @@ given-value P (Some value) go none some = some value refl
 pub write-follows : (x : Setup) (input : List ℕ) (g : graph.State) (s u : machine.State) (K : ℕ → ℕ → Type 0)
     (rest : List Item) (d : ℕ) (new : Value) (word : ℕ) (out : List ℕ) (next : Option ℕ)
     → IsSetup x → AtMain x input g s → HasSlot x.slots (frame_of x.flow) d
-        → following g.point (points_of x.flow g.block) ≡ next
-        → ((q : ℕ) → next ≡ Some q → (more : List Item) × (rest ≡ item.Point q ∷ more))
+    → following g.point (points_of x.flow g.block) ≡ next
+    → ((q : ℕ) → next ≡ Some q → (more : List Item) × (rest ≡ item.Point q ∷ more))
     → KeepsWords K (word_of Ebp s - slot_at x.slots d) (word_of Esp s)
-        → Went (site_in x) (frame_of x.flow) rest K out s u → load 4 (word_of Ebp s - slot_at x.slots d) u ≡ Ok word
-        → IsPlainWord new word
+    → Went (site_in x) (frame_of x.flow) rest K out s u → load 4 (word_of Ebp s - slot_at x.slots d) u ≡ Ok word
+    → IsPlainWord new word
     → FollowsMain x input s g (at_point g.block (with_value d new (main_state (record g { written = out }))) next)
 write-follows x input g s u K rest d new word out None h at slot e f keeps went same plain = tt
 write-follows x input g s u K rest d new word out (Some q) h at slot e f keeps went same plain =
     let more = f q refl in
     let there : Went (site_in x) (frame_of x.flow) (item.Point q ∷ more.0) K out s u =
-        subst (λ (items : List Item). Went (site_in x) (frame_of x.flow) items K out s u) more.1 went in
-    (u, went.comes, main-shown x input (set_at q d new out g) u h
-        (wrote-main x input g s u K more.0 d q new word out slot h at e keeps there same plain))
+    subst (λ (items : List Item). Went (site_in x) (frame_of x.flow) items K out s u) more.1 went in (
+      u,
+      went.comes,
+      main-shown x input (set_at q d new out g) u h
+          (wrote-main x input g s u K more.0 d q new word out slot h at e keeps there same plain),
+    )
 
 -- a row that wrote a word to the slot of a variable
 wrote-follows : (x : Setup) (input : List ℕ) (g : graph.State) (s u : machine.State) (o : Op) (d : ℕ) (new : Value)
     (word : ℕ)
     → IsSetup x → AtMain x input g s → HasSlot x.slots (frame_of x.flow) d → (r : RowAt x g o s)
-        → Wrote (site_in x) (frame_of x.flow) r.rest (word_of Ebp s - slot_at x.slots d) word s.written s u
-        → IsPlainWord new word
+    → Wrote (site_in x) (frame_of x.flow) r.rest (word_of Ebp s - slot_at x.slots d) word s.written s u
+    → IsPlainWord new word
     → FollowsMain x input s g (sets (one_graph x.flow) (main_state g) d new)
 wrote-follows x input g s u o d new word h at slot r wrote plain =
     let K : ℕ → ℕ → Type 0 = ApartFrom (word_of Ebp s - slot_at x.slots d) in
     let went : Went (site_in x) (frame_of x.flow) r.rest K g.written s u =
-        subst (λ (out : List ℕ). Went (site_in x) (frame_of x.flow) r.rest K out s u) at.written wrote.went in
+    subst (λ (out : List ℕ). Went (site_in x) (frame_of x.flow) r.rest K out s u) at.written wrote.went in
     write-follows x input g s u K r.rest d new word g.written (following g.point (points_of x.flow g.block)) h at slot
-        refl r.follows (λ b apart far. apart) went wrote.same plain
+    refl r.follows (λ b apart far. apart) went wrote.same plain
 
 -- ---- the ops
 
@@ -120,11 +123,11 @@ const-follows x input g s d n h at fits small r =
     let width = fits.0 in
     let slot = has-slot x d width.0 h width.1 in
     let wrote = const-row (site_in x) (frame_of x.flow) r.rest n (slot_at x.slots d) s at.framed r.ready slot.inside
-        (word-fits n small) in
+    (word-fits n small) in
     subst (λ (w : Option Width). FollowsMain x input s g
-        (sets (one_graph x.flow) (main_state g) d (Number (fitted w n)))) (sym (width-is x d width.0 h width.1))
+    (sets (one_graph x.flow) (main_state g) d (Number (fitted w n)))) (sym (width-is x d width.0 h width.1))
     (wrote-follows x input g s wrote.0 (op.Const d n) d (Number n) (cast_unsigned w32 n) h at slot r wrote.1
-        (small, refl))
+    (small, refl))
 
 -- the step of a copy
 pub copy-follows : (x : Setup) (input : List ℕ) (g : graph.State) (s : machine.State) (d a : ℕ) → IsSetup x
@@ -135,10 +138,10 @@ copy-follows x input g s d a h at fits r =
     let to = has-slot x d width.0 h width.1 in
     let from = has-slot x a width.0 h width.2 in
     given-value (FollowsMain x input s g) (slice_get g.current.variables a) (sets (one_graph x.flow) (main_state g) d)
-        tt (λ value e.
+    tt (λ value e.
     let held = at.variables a value (slot_at x.slots a) e from.there in
     let wrote = copy-row (site_in x) (frame_of x.flow) r.rest (slot_at x.slots a) (slot_at x.slots d) held.0 s at.framed
-        r.ready from.inside to.inside held.1 (plain-fits value held.0 held.2) in
+    r.ready from.inside to.inside held.1 (plain-fits value held.0 held.2) in
     wrote-follows x input g s wrote.0 (op.Copy d a) d value held.0 h at to r wrote.1 held.2)
 
 -- the word of a number that f makes of two is what ADD or SUB makes of their words
@@ -150,31 +153,31 @@ IsComputedBy how f = (y z : ℤ) → FitsSigned w32 y → FitsSigned w32 z → F
 operation-follows : (x : Setup) (input : List ℕ) (g : graph.State) (s : machine.State) (o : Op) (how : AluOp)
     (d a b : ℕ) (f : ℤ → ℤ → ℤ) → IsSetup x → AtMain x input g s
     → HasWidth x.flow d Two → HasWidth x.flow a Two → HasWidth x.flow b Two → (r : RowAt x g o s)
-        → ReadyAt (site_in x)
-        (operation how (slot_place x.slots d) (slot_place x.slots a) (slot_place x.slots b) ++ r.rest) s
+    → ReadyAt (site_in x)
+    (operation how (slot_place x.slots d) (slot_place x.slots a) (slot_place x.slots b) ++ r.rest) s
     → ((t : machine.State) → Operates how Esi t) → ((m n : ℕ) → alu_value how m n < 2 ^ 32) → IsComputedBy how f
     → FollowsMain x input s g (given (number_of (slice_get g.current.variables a))
-        (λ y. given (number_of (slice_get g.current.variables b))
-        (λ z. sets (one_graph x.flow) (main_state g) d (Number (f y z)))))
+    (λ y. given (number_of (slice_get g.current.variables b))
+    (λ z. sets (one_graph x.flow) (main_state g) d (Number (f y z)))))
 operation-follows x input g s o how d a b f h at wd wa wb r ready operates below computed =
     let to = has-slot x d Two h wd in
     let first = has-slot x a Two h wa in
     let second = has-slot x b Two h wb in
     let P : Moved → Type 0 = FollowsMain x input s g in
     given-number P (slice_get g.current.variables a)
-        (λ y. given (number_of (slice_get g.current.variables b))
-        (λ z. sets (one_graph x.flow) (main_state g) d (Number (f y z)))) tt (λ y e.
+    (λ y. given (number_of (slice_get g.current.variables b))
+    (λ z. sets (one_graph x.flow) (main_state g) d (Number (f y z)))) tt (λ y e.
     given-number P (slice_get g.current.variables b) (λ z. sets (one_graph x.flow) (main_state g) d (Number (f y z))) tt
-        (λ z k.
+    (λ z k.
     let one = at.variables a (Number y) (slot_at x.slots a) e first.there in
     let two = at.variables b (Number z) (slot_at x.slots b) k second.there in
     let word : ℕ = alu_value how one.0 two.0 in
     let wrote = operation-row (site_in x) (frame_of x.flow) r.rest how (slot_at x.slots a) (slot_at x.slots b)
-        (slot_at x.slots d) one.0 two.0 s at.framed ready first.inside second.inside to.inside one.1 two.1
+    (slot_at x.slots d) one.0 two.0 s at.framed ready first.inside second.inside to.inside one.1 two.1
     (plain-fits (Number y) one.0 one.2) (below one.0 two.0) operates in
     let result = computed y z one.2.0 two.2.0 in
     let is : word ≡ cast_unsigned w32 (f y z) = ap (λ (m : ℕ). alu_value how m two.0) one.2.1
-        ∙ ap (λ (n : ℕ). alu_value how (cast_unsigned w32 y) n) two.2.1 ∙ sym result.1 in
+    ∙ ap (λ (n : ℕ). alu_value how (cast_unsigned w32 y) n) two.2.1 ∙ sym result.1 in
     wrote-follows x input g s wrote.0 o d (Number (f y z)) word h at to r wrote.1 (result.0, is)))
 
 -- the step of a sum
@@ -183,8 +186,8 @@ pub add-follows : (x : Setup) (input : List ℕ) (g : graph.State) (s : machine.
     → FollowsMain x input s g (act (one_graph x.flow) (main_state g) (op.Add d a b))
 add-follows x input g s d a b h at fits r =
     operation-follows x input g s (op.Add d a b) alu.Add d a b (λ y z. int_wrap w32 (y +ℤ z)) h at fits.0 fits.1.0
-        fits.1.1.0 r r.ready (λ t c. refl) (λ m n. omega arith)
-        (λ y z p q. (SFits-int_wrap w32 (y +ℤ z), word-sum y z p q))
+    fits.1.1.0 r r.ready (λ t c. refl) (λ m n. omega arith)
+    (λ y z p q. (SFits-int_wrap w32 (y +ℤ z), word-sum y z p q))
 
 -- the step of a difference
 pub sub-follows : (x : Setup) (input : List ℕ) (g : graph.State) (s : machine.State) (d a b : ℕ) → IsSetup x
@@ -192,5 +195,5 @@ pub sub-follows : (x : Setup) (input : List ℕ) (g : graph.State) (s : machine.
     → FollowsMain x input s g (act (one_graph x.flow) (main_state g) (op.Sub d a b))
 sub-follows x input g s d a b h at fits r =
     operation-follows x input g s (op.Sub d a b) alu.Sub d a b (λ y z. int_wrap w32 (y -ℤ z)) h at fits.0 fits.1.0
-        fits.1.1.0 r r.ready (λ t c. refl) (λ m n. omega arith)
-        (λ y z p q. (SFits-int_wrap w32 (y -ℤ z), word-difference y z p q))
+    fits.1.1.0 r r.ready (λ t c. refl) (λ m n. omega arith)
+    (λ y z p q. (SFits-int_wrap w32 (y -ℤ z), word-difference y z p q))

@@ -33,15 +33,26 @@ code_in x =
 
 -- the site of its only function
 abbrev pub site_in : Setup → Site
-site_in x = record { symbols = x.symbols; places = x.places; text = x.text; low = data_start x.text; high =
-    stack_end x.text [] }
+site_in x = record {
+  symbols = x.symbols;
+  places = x.places;
+  text = x.text;
+  low = data_start x.text;
+  high =
+      stack_end x.text [];
+}
 
 -- the state with its current call that of main, for which no call waits
 abbrev pub main_state : graph.State → graph.State
 main_state g =
     record g {
-      current = record { function = 0; arguments = g.current.arguments; variables = g.current.variables; arrays =
-          g.current.arrays };
+      current = record {
+        function = 0;
+        arguments = g.current.arguments;
+        variables = g.current.variables;
+        arrays =
+            g.current.arrays;
+      };
       waiting = [];
     }
 

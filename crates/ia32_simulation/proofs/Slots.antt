@@ -84,5 +84,5 @@ following-in p q [] e = absurd (none-some q e)
 following-in p q (r ∷ rs) e =
     let P : Option ℕ → Type 0 = λ (o : Option ℕ). o ≡ Some q → IsIn q (r ∷ rs) in
     let by : P (following p (r ∷ rs)) = choose r p P (slice_get rs 0) (following p rs) (λ same k. inr (first-in q rs k))
-        (λ k. inr (following-in p q rs k)) in
+    (λ k. inr (following-in p q rs k)) in
     by e

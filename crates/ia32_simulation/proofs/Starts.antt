@@ -58,7 +58,7 @@ slot-zero frame back slot t u inside enter =
 entered-main : (x : Setup) (input : List ℕ) (p l : ℕ) (t u : machine.State) → IsSetup x
     → slice_get (points_of x.flow 0) 0 ≡ Some p → Started x.symbols x.text 0 l input t
     → Entered (site_in x) (frame_of x.flow) (block_rows (over_slots x.flow x.slots) x.flow.ops 0 x.flow.blocks) t u
-        → AtMain x input (first_state_at (one_graph x.flow) input p) u
+    → AtMain x input (first_state_at (one_graph x.flow) input p) u
 entered-main x input p l t u h first start enter =
     let b = bounds x h in
     let size = b.size in
@@ -67,7 +67,7 @@ entered-main x input p l t u h first start enter =
     let esp = start.esp in
     let ebp = enter.ebp in
     let at = first-ready x.flow x.slots (code_in x) (data_start x.text) (stack_end x.text []) p u h.is_code first
-        enter.ready in
+    enter.ready in
     let zero_fits : FitsSigned w32 (pos 0) = fits_signed_from_abs w32 (pos 0) (omega arith) in
     let same : word_of Esp t ≡ word_of Ebp u + 4 = sym ebp in
     let taken : u.taken ≡ 0 = enter.taken ∙ start.taken in
@@ -82,15 +82,20 @@ entered-main x input p l t u h first start enter =
           (enter.kept 4 (word_of Esp t) start.return_address (inl (omega arith)) start.returns);
       returns_to = start.returns_to;
       variables = λ v value slot e f.
-          let is : Number (pos 0) ≡ value = mapped x.flow.widths (Number (pos 0)) value v e in
-          (0, slot-zero (frame_of x.flow) (block_rows (over_slots x.flow x.slots) x.flow.ops 0 x.flow.blocks) slot t u
-              (every-at (IsSlot (frame_of x.flow)) x.slots v slot h.has_slots.within f) enter,
-              subst (λ (z : Value). IsPlainWord z 0) is (zero_fits, refl));
+          let is : Number (pos 0) ≡ value = mapped x.flow.widths (Number (pos 0)) value v e in (
+            0,
+            slot-zero (frame_of x.flow) (block_rows (over_slots x.flow x.slots) x.flow.ops 0 x.flow.blocks) slot t u
+                (every-at (IsSlot (frame_of x.flow)) x.slots v slot h.has_slots.within f) enter,
+            subst (λ (z : Value). IsPlainWord z 0) is (zero_fits, refl),
+          );
       no_arguments = refl;
       no_arrays = ap (map first_array) h.has_slots.no_arrays;
       no_objects = refl;
-      old_arrays = (λ v value e. subst (λ (z : Value). IsOldArray 1 z) (mapped x.flow.widths (Number (pos 0)) value v e)
-          tt, λ k value e. absurd (none-some value e));
+      old_arrays = (
+        λ v value e. subst (λ (z : Value). IsOldArray 1 z) (mapped x.flow.widths (Number (pos 0)) value v e)
+            tt,
+        λ k value e. absurd (none-some value e),
+      );
       left = enter.left ∙ start.left;
       taken = taken;
       written = enter.written ∙ start.written;
@@ -110,7 +115,7 @@ setup-starts starts enters x input g h first =
     let site = site_in x in
     let l = laid x.flow x.slots code h.is_code in
     let start = starts code.items code.order 0 code.places x.symbols x.text l.address input h.is_code.text
-        h.is_code.fits l.named in
+    h.is_code.fits l.named in
     let t : machine.State = start.0 in
     let ready = entry-ready x.flow x.slots code site.low site.high l.address t h.is_code l.named start.1.eip in
     let b = bounds x h in
@@ -118,11 +123,13 @@ setup-starts starts enters x input g h first =
     let small = h.has_slots.small in
     let esp = start.1.esp in
     let enter = enters site (frame_of x.flow) (entry_label x.flow)
-        (block_rows (over_slots x.flow x.slots) x.flow.ops 0 x.flow.blocks) t start.1.sound ready (omega arith)
-        (omega arith) (omega arith) (words-whole (length x.flow.widths)) in
+    (block_rows (over_slots x.flow x.slots) x.flow.ops 0 x.flow.blocks) t start.1.sound ready (omega arith)
+    (omega arith) (omega arith) (words-whole (length x.flow.widths)) in
     let u : machine.State = enter.0 in
     let at = entered-main x input point.0 l.address t u h point.1 start.1 enter.1 in
     let first_g : graph.State = first_state_at (one_graph x.flow) input point.0 in
-    subst (ComesTo code input (text_state x.text [] input)) point.2
-        (u, comes-then x.text (text_state x.text [] input) t u start.1.comes enter.1.comes,
-        main-shown x input first_g u h at)
+    subst (ComesTo code input (text_state x.text [] input)) point.2 (
+      u,
+      comes-then x.text (text_state x.text [] input) t u start.1.comes enter.1.comes,
+      main-shown x input first_g u h at,
+    )

@@ -17,9 +17,9 @@ word-sum x y f g =
     let n : ℕ = cast_unsigned w32 y in
     let bits = wrapping_add-bits w32 m n (word-fits x f) (word-fits y g) in
     let same : x +ℤ y ≡ cast_signed w32 m +ℤ cast_signed w32 n = ap (λ (z : ℤ). z +ℤ y) (sym (to_z-of_z w32 x f))
-        ∙ ap (λ (z : ℤ). cast_signed w32 m +ℤ z) (sym (to_z-of_z w32 y g)) in
+    ∙ ap (λ (z : ℤ). cast_signed w32 m +ℤ z) (sym (to_z-of_z w32 y g)) in
     ap (λ (z : ℤ). cast_unsigned w32 (int_wrap w32 z)) same ∙ ap (cast_unsigned w32) (sym bits)
-        ∙ of_z-to_z w32 (sum m n) (omega arith)
+    ∙ of_z-to_z w32 (sum m n) (omega arith)
 
 -- and the same of a difference
 pub word-difference : (x y : ℤ) → FitsSigned w32 x → FitsSigned w32 y → cast_unsigned w32 (int_wrap w32 (x -ℤ y))
@@ -29,6 +29,6 @@ word-difference x y f g =
     let n : ℕ = cast_unsigned w32 y in
     let bits = wrapping_sub-bits w32 m n (word-fits x f) (word-fits y g) in
     let same : x -ℤ y ≡ cast_signed w32 m -ℤ cast_signed w32 n = ap (λ (z : ℤ). z -ℤ y) (sym (to_z-of_z w32 x f))
-        ∙ ap (λ (z : ℤ). cast_signed w32 m -ℤ z) (sym (to_z-of_z w32 y g)) in
+    ∙ ap (λ (z : ℤ). cast_signed w32 m -ℤ z) (sym (to_z-of_z w32 y g)) in
     ap (λ (z : ℤ). cast_unsigned w32 (int_wrap w32 z)) same ∙ ap (cast_unsigned w32) (sym bits)
-        ∙ of_z-to_z w32 (difference m n) (omega arith)
+    ∙ of_z-to_z w32 (difference m n) (omega arith)

@@ -45,9 +45,9 @@ apart-below base a b h k (inr p) = inl (omega arith)
 pub wrote-main : (x : Setup) (input : List ℕ) (g : graph.State) (s u : machine.State) (K : ℕ → ℕ → Type 0)
     (back : List Item) (d q : ℕ) (new : Value) (word : ℕ) (out : List ℕ) (slot : HasSlot x.slots (frame_of x.flow) d)
     → IsSetup x → AtMain x input g s → following g.point (points_of x.flow g.block) ≡ Some q
-        → KeepsWords K (word_of Ebp s - slot_at x.slots d) (word_of Esp s)
+    → KeepsWords K (word_of Ebp s - slot_at x.slots d) (word_of Esp s)
     → Went (site_in x) (frame_of x.flow) (item.Point q ∷ back) K out s u → load 4 (word_of Ebp s - slot_at x.slots d) u
-        ≡ Ok word → IsPlainWord new word → AtMain x input (set_at q d new out g) u
+    ≡ Ok word → IsPlainWord new word → AtMain x input (set_at q d new out g) u
 wrote-main x input g s u K back d q new word out slot h at next keeps went same plain =
     let frame : ℕ = frame_of x.flow in
     let base : ℕ = word_of Ebp s in
@@ -61,10 +61,10 @@ wrote-main x input g s u K back d q new word out slot h at next keeps went same 
     let high = slot.inside.high in
     let depth_is = h.depth_is in
     let kept : (address w : ℕ) → AreDisjoint (base - slot_at x.slots d) 4 address 4 → (word_of Esp s ≤ address)
-        ⊎ (address + 16 ≤ word_of Esp s) → load 4 address s ≡ Ok w → load 4 address u ≡ Ok w =
+    ⊎ (address + 16 ≤ word_of Esp s) → load 4 address s ≡ Ok w → load 4 address u ≡ Ok w =
     λ address w apart far e. went.kept 4 address w (keeps address apart far) e in
     let moved : (distance w : ℕ) → load 4 (base - distance) u ≡ Ok w → load 4 (word_of Ebp u - distance) u ≡ Ok w =
-        λ distance w e. subst (λ (k : ℕ). load 4 (k - distance) u ≡ Ok w) (sym went.ebp) e in
+    λ distance w e. subst (λ (k : ℕ). load 4 (k - distance) u ≡ Ok w) (sym went.ebp) e in
     record {
       framed = went.framed;
       ebp = ap (λ (k : ℕ). k + 8) went.ebp ∙ ebp;
@@ -78,17 +78,22 @@ wrote-main x input g s u K back d q new word out slot h at next keeps went same 
       variables = λ v value other e f. elim (after-set g.current.variables d v new value e) [
         | inl p ↦
             let is : slot_at x.slots d ≡ other = same_Some (slot_at x.slots d) other
-                (sym slot.there ∙ ap (λ (k : ℕ). slice_get x.slots k) (sym p.0) ∙ f) in
-            (word, moved other word (subst (λ (k : ℕ). load 4 (base - k) u ≡ Ok word) is same),
-                subst (λ (z : Value). IsPlainWord z word) p.1 plain)
+            (sym slot.there ∙ ap (λ (k : ℕ). slice_get x.slots k) (sym p.0) ∙ f) in (
+              word,
+              moved other word (subst (λ (k : ℕ). load 4 (base - k) u ≡ Ok word) is same),
+              subst (λ (z : Value). IsPlainWord z word) p.1 plain,
+            )
         | inr p ↦
             let inside = every-at (IsSlot frame) x.slots v other h.has_slots.within f in
             let other_high = inside.high in
             let held = at.variables v value other p.1 f in
-            let apart = slots-apart x.slots d v (slot_at x.slots d) other h.has_slots.apart p.0 slot.there f in
-            (held.0, moved other held.0 (kept (base - other) held.0
-                (apart-below base (slot_at x.slots d) other (omega arith) (omega arith) apart) (inl (omega arith))
-                held.1), held.2)
+            let apart = slots-apart x.slots d v (slot_at x.slots d) other h.has_slots.apart p.0 slot.there f in (
+              held.0,
+              moved other held.0 (kept (base - other) held.0
+                  (apart-below base (slot_at x.slots d) other (omega arith) (omega arith) apart) (inl (omega arith))
+                  held.1),
+              held.2,
+            )
       ];
       no_arguments = at.no_arguments;
       no_arrays = at.no_arrays;

@@ -1,7 +1,9 @@
 //! The items of small graphs, by hand: what each instruction is to do in the frame.
 
 use flow_graph::{Graph, Op};
-use ia32_insn::Insn::{Alu, AluImm, AluLoad, Lea, Leave, Mov, MovImm, MovLoad, Nop, Pop, Push, Ret};
+use ia32_insn::Insn::{
+    Alu, AluImm, AluLoad, Lea, Leave, Mov, MovImm, MovLoad, Nop, Pop, Push, Ret,
+};
 use ia32_insn::Item::{self, CallStub, JumpIf, Label, Plain, Point};
 use ia32_insn::Rm32::{Mem as Memory, Reg};
 use ia32_insn::{AluOp, Cond, Mem, Stub};

@@ -1,6 +1,7 @@
 //! The bytes of instructions. They are those that GNU as gives for the text beside them.
 
 ghost use Rattle.std.specs.List.{AllByRecursion};
+
 use ia32_decode::decode;
 use ia32_encode::encode;
 use ia32_insn::{AluOp, Cond, Insn, Mem, Rm8, Rm32, ShiftOp};

@@ -32,43 +32,85 @@ text_loaded : (text : List ℕ) → area_of (record
     ≡ text_area text
 unfolding padded
 text_loaded text =
-    ap (λ (bytes : List ℕ). record { address = text_start; bytes = bytes; readable = true; writable = false; runnable =
-        true })
+    ap (λ (bytes : List ℕ). record {
+      address = text_start;
+      bytes = bytes;
+      readable = true;
+      writable = false;
+      runnable =
+          true;
+    })
     (ap (λ (xs : List ℕ). text ++ xs) (no_zeros (length text)) ∙ append-nil text)
 
 data_loaded : (text bytes : List ℕ) (address size address' size' : ℕ) → address ≡ address' → size ≡ size'
-    → area_of (record { address = address; bytes = bytes; size = size; readable = true; writable = true; runnable =
-        false })
-    ≡ record { address = address'; bytes = bytes ++ zeros (size' - length bytes); readable = true; writable = true;
-        runnable = false }
+    → area_of (record {
+      address = address;
+      bytes = bytes;
+      size = size;
+      readable = true;
+      writable = true;
+      runnable =
+          false;
+    })
+    ≡ record {
+      address = address';
+      bytes = bytes ++ zeros (size' - length bytes);
+      readable = true;
+      writable = true;
+      runnable = false;
+    }
 unfolding padded
 data_loaded text bytes address size address' size' a s =
-    ap (λ (n : ℕ). record { address = n; bytes = bytes ++ zeros (size - length bytes); readable = true; writable = true;
-        runnable = false }) a
-    ∙ ap (λ (n : ℕ). record { address = address'; bytes = bytes ++ zeros (n - length bytes); readable = true; writable =
-        true; runnable = false }) s
+    ap (λ (n : ℕ). record {
+      address = n;
+      bytes = bytes ++ zeros (size - length bytes);
+      readable = true;
+      writable = true;
+      runnable = false;
+    }) a
+    ∙ ap (λ (n : ℕ). record {
+      address = address';
+      bytes = bytes ++ zeros (n - length bytes);
+      readable = true;
+      writable =
+          true;
+      runnable = false;
+    }) s
 
 -- the segments of an image are the areas of its text
 pub areas_are : SegmentsAreMemory
 areas_are text objects input =
     let address : text_start + next_multiple_of (length text) 0x1000 ≡ data_start text =
-        ap (λ (n : ℕ). text_start + n) (round_up-pages (length text)) in
+    ap (λ (n : ℕ). text_start + n) (round_up-pages (length text)) in
     let size : next_multiple_of (length (data_bytes objects)) 4 + 0x04001000 ≡ data_memory objects =
-        ap (λ (n : ℕ). n + 0x04001000) (round_up-words (length (data_bytes objects))) in
-    ap (λ (area : Area). area ∷ area_of (record
-        { address = text_start + next_multiple_of (length text) 0x1000; bytes = data_bytes objects; size =
-        next_multiple_of (length (data_bytes objects)) 4 + 0x04001000; readable = true; writable = true; runnable =
-        false }) ∷ []) (text_loaded text)
+    ap (λ (n : ℕ). n + 0x04001000) (round_up-words (length (data_bytes objects))) in
+    ap (λ (area : Area). area ∷ area_of (record {
+      address = text_start + next_multiple_of (length text) 0x1000;
+      bytes = data_bytes objects;
+      size =
+          next_multiple_of (length (data_bytes objects)) 4 + 0x04001000;
+      readable = true;
+      writable = true;
+      runnable =
+          false;
+    }) ∷ []) (text_loaded text)
     ∙ ap (λ (area : Area). text_area text ∷ area ∷ [])
     (data_loaded text (data_bytes objects) (text_start + next_multiple_of (length text) 0x1000)
-        (next_multiple_of (length (data_bytes objects)) 4 + 0x04001000) (data_start text) (data_memory objects) address
-        size)
+    (next_multiple_of (length (data_bytes objects)) 4 + 0x04001000) (data_start text) (data_memory objects) address
+    size)
 
 -- the bytes of the image of a text have the text's state as their first
 pub text_begins : TextBegins
 text_begins text objects input fits =
     let state : text_state text objects input ≡ first_state (image_segments (parts_of_text text objects)) input =
-    ap (λ (areas : List Area). record { registers = zero_registers; flags = None; eip = text_start; memory = areas;
-        left = input; taken = 0; written = [] }) (sym (areas_are text objects input))
+    ap (λ (areas : List Area). record {
+      registers = zero_registers;
+      flags = None;
+      eip = text_start;
+      memory = areas;
+      left = input;
+      taken = 0;
+      written = [];
+    }) (sym (areas_are text objects input))
     in
     (image_segments (parts_of_text text objects), loads-image (parts_of_text text objects) fits, state)

@@ -62,7 +62,7 @@ held_alone object w e =
 pub example_link : (items : List Item) (section : Section) (sections : List Section) (object : DataObject)
     (objects : List DataObject) → items ≡ example_items
     → IsSection 0 items section → length section.bytes.items ≡ items_size items → sections ≡ section ∷ [] → objects
-        ≡ object ∷ []
+    ≡ object ∷ []
     → object.width ≡ 1 → object.elements.items ≡ pos 65 ∷ negsuc 0 ∷ [] → CanLink sections (map object_of objects) 0
 example_link items section sections object objects e is size s o w z =
     let few : length section.bytes.items ≡ 6 = size ∙ ap items_size e in
@@ -85,18 +85,18 @@ example_link items section sections object objects e is size s o w z =
 pub two_link : (items others : List Item) (section other : Section) (sections : List Section)
     (objects : List DataObject) → items ≡ example_items → others ≡ other_items
     → IsSection 0 items section → IsSection 1 others other → length section.bytes.items ≡ items_size items
-        → length other.bytes.items ≡ items_size others
+    → length other.bytes.items ≡ items_size others
     → sections ≡ other ∷ section ∷ [] → objects ≡ [] → CanLink sections (map object_of objects) 0
 two_link items others section other sections objects e f is are size long s o =
     let few : length section.bytes.items ≡ 6 = size ∙ ap items_size e in
     let short : length other.bytes.items ≡ 6 = long ∙ ap items_size f in
     let number : function_of section ≡ 0 = ap
-        (λ (symbols : List Symbol). (slice_index_or symbols 0 (record { function = 0; offset = 0 })).function)
-        is.one_symbol in
+    (λ (symbols : List Symbol). (slice_index_or symbols 0 (record { function = 0; offset = 0 })).function)
+    is.one_symbol in
     let higher : function_of other ≡ 1 = ap (λ (symbols : List Symbol).
-        (slice_index_or symbols 0 (record { function = 0; offset = 0 })).function) are.one_symbol in
+    (slice_index_or symbols 0 (record { function = 0; offset = 0 })).function) are.one_symbol in
     let order : order_of (other ∷ section ∷ []) ≡ 1 ∷ 0 ∷ [] = ap (λ (n : ℕ). n ∷ function_of section ∷ []) higher
-        ∙ ap (λ (n : ℕ). 1 ∷ n ∷ []) number in
+    ∙ ap (λ (n : ℕ). 1 ∷ n ∷ []) number in
     subst (λ (ss : List Section). CanLink ss (map object_of objects) 0) (sym s)
     (subst (λ (os : List DataObject). CanLink (other ∷ section ∷ []) (map object_of os) 0) (sym o)
     (record {

@@ -13,9 +13,13 @@ letter c low high = inr (inr (inr (low, high)))
 
 -- the names are identifiers
 name_x : IsName (codes "x")
-name_x = record { nonempty = omega arith; bytes =
-    All-cons IsNameByte 120 [] (letter 120 (omega arith) (omega arith)) (All-nil IsNameByte); begins =
-    λ (low, high). omega arith }
+name_x = record {
+  nonempty = omega arith;
+  bytes =
+      All-cons IsNameByte 120 [] (letter 120 (omega arith) (omega arith)) (All-nil IsNameByte);
+  begins =
+      λ (low, high). omega arith;
+}
 
 name_main : IsName (codes "main")
 name_main =
@@ -24,7 +28,7 @@ name_main =
       bytes = All-cons IsNameByte 109 (97 ∷ 105 ∷ 110 ∷ []) (letter 109 (omega arith) (omega arith))
           (All-cons IsNameByte 97 (105 ∷ 110 ∷ []) (letter 97 (omega arith) (omega arith))
           (All-cons IsNameByte 105 (110 ∷ []) (letter 105 (omega arith) (omega arith))
-              (All-cons IsNameByte 110 [] (letter 110 (omega arith) (omega arith)) (All-nil IsNameByte))));
+          (All-cons IsNameByte 110 [] (letter 110 (omega arith) (omega arith)) (All-nil IsNameByte))));
       begins = λ (low, high). omega arith;
     }
 
@@ -57,5 +61,9 @@ worked_slots =
     }
 
 pub worked_form : IsCompiledForm worked_program
-worked_form = record { form = worked_slots; names = (record { name = name_main; locals = (name_x, tt) }, tt); frames =
-    (omega arith, tt) }
+worked_form = record {
+  form = worked_slots;
+  names = (record { name = name_main; locals = (name_x, tt) }, tt);
+  frames =
+      (omega arith, tt);
+}

@@ -20,8 +20,14 @@ worked_body =
 
 abbrev pub worked_main : Function
 worked_main =
-    record { name = codes "main"; result = int; parameters = 0; locals = record { name = codes "x"; of = int } ∷ [];
-        arrays = []; body = worked_body }
+    record {
+      name = codes "main";
+      result = int;
+      parameters = 0;
+      locals = record { name = codes "x"; of = int } ∷ [];
+      arrays = [];
+      body = worked_body;
+    }
 
 abbrev pub worked_program : Program
 worked_program = record { objects = []; functions = worked_main ∷ []; main = 0 }

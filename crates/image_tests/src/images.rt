@@ -94,11 +94,20 @@ fn refuses_what_loads_nothing(rt: HostRuntime) -> Result<(), Fail> {
     ];
     for (row, changes) in rows.iter().enumerate() {
         let other = with(rt.alloc(), changes)?;
-        assert!(rt; matches!(read_image(rt.alloc(), &other), Err(ImageRefusal::NotImage)), "{row}");
+        assert!(rt;
+            matches!(read_image(rt.alloc(), &other), Err(ImageRefusal::NotImage)),
+            "{row}"
+        );
     }
     let file = halting(rt.alloc())?;
     for short in [0, 51, 52, 115, 8195] {
-        assert!(rt; matches!(read_image(rt.alloc(), &file[..short]), Err(ImageRefusal::NotImage)), "{short}");
+        assert!(rt;
+            matches!(
+                read_image(rt.alloc(), &file[..short]),
+                Err(ImageRefusal::NotImage)
+            ),
+            "{short}"
+        );
     }
     Ok(())
 }
@@ -108,15 +117,30 @@ fn reads_what_others_may_write(rt: HostRuntime) -> Result<(), Fail> {
     // the change; then the entry, and how many segments there are, and what may be done with the first
     let rows: [(&[(usize, &[u8])], u32, usize, [bool; 3]); 7] = [
         // fields that are not looked at: the ABI, where sections stand, what is between the parts
-        (&[(7, &[3]), (32, &[0xff, 0xff, 0xff, 0xff])], 0x0804_8000, 2, [true, false, true]),
-        (&[(200, &[9]), (4097, &[9])], 0x0804_8000, 2, [true, false, true]),
+        (
+            &[(7, &[3]), (32, &[0xff, 0xff, 0xff, 0xff])],
+            0x0804_8000,
+            2,
+            [true, false, true],
+        ),
+        (
+            &[(200, &[9]), (4097, &[9])],
+            0x0804_8000,
+            2,
+            [true, false, true],
+        ),
         (&[(24, &[0, 0, 0, 0])], 0, 2, [true, false, true]),
         (&[(76, &[4])], 0x0804_8000, 2, [true, false, false]),
         (&[(76, &[0xfa])], 0x0804_8000, 2, [false, true, false]),
         // the first header is no segment's to load
         (&[(52, &[4])], 0x0804_8000, 1, [true, true, false]),
         // a segment of size 0 within another
-        (&[(60, &[2, 0x90]), (68, &[0]), (72, &[0])], 0x0804_8000, 2, [true, false, true]),
+        (
+            &[(60, &[2, 0x90]), (68, &[0]), (72, &[0])],
+            0x0804_8000,
+            2,
+            [true, false, true],
+        ),
     ];
     for (row, (changes, entry, segments, flags)) in rows.iter().enumerate() {
         let loaded = read_image(rt.alloc(), &with(rt.alloc(), changes)?)?;

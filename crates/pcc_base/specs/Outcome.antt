@@ -64,5 +64,10 @@ AreKnown visits = All (λ visit. All IsKnown visit.values) visits
 
 -- the outcome with these visits before its own
 abbrev pub after_visits : List Visit → Outcome → Outcome
-after_visits visits outcome = record { visits = visits ++ outcome.visits; taken = outcome.taken; written =
-    outcome.written; end = outcome.end }
+after_visits visits outcome = record {
+  visits = visits ++ outcome.visits;
+  taken = outcome.taken;
+  written =
+      outcome.written;
+  end = outcome.end;
+}

@@ -25,8 +25,10 @@ use Rattle.pcc_compile.proofs.Sizes.{code_bound}
 slots_within : (frame a n : ℕ) → 16 + 4 * (a + n) ≤ frame
     → AllByRecursion (IsSlot frame) (map slot_at (range_with_len a n))
 slots_within frame a zero h = tt
-slots_within frame a (suc n) h = (record { low = omega arith; high = omega (arith, h) },
-    slots_within frame (a + 1) n (omega (arith, h)))
+slots_within frame a (suc n) h = (
+  record { low = omega arith; high = omega (arith, h) },
+  slots_within frame (a + 1) n (omega (arith, h)),
+)
 
 -- none of them has a byte in common with one before them
 apart_from : (slot a n : ℕ) → slot + 4 ≤ slot_at a → AllByRecursion (AreApart slot) (map slot_at (range_with_len a n))
@@ -75,7 +77,7 @@ pub has_frame : (program : Program) (slot : IsSlotProgram program) (flow : Flow)
 has_frame program slot flow low slots begins small frames =
     let f = slot.function in
     let frame : AllByRecursion IsSmallFrame (f ∷ []) =
-        subst (λ (fs : List Function). AllByRecursion IsSmallFrame fs) slot.one_function frames in
+    subst (λ (fs : List Function). AllByRecursion IsSmallFrame fs) slot.one_function frames in
     let bound = code_bound program (one_graph flow) small slot.small in
     let one : sum_by most_bytes (flow ∷ []) ≡ most_bytes flow + 0 = sum_by-cons most_bytes flow [] in
     record {
@@ -96,4 +98,4 @@ pub same_slots : (ks : List ℕ) → map distance (map offset_at ks) ≡ map slo
 same_slots [] = refl
 same_slots (k ∷ ks) =
     ap (λ (n : ℕ). n ∷ map distance (map offset_at ks)) (distance_below (slot_at k))
-        ∙ ap (λ (ns : List ℕ). slot_at k ∷ ns) (same_slots ks)
+    ∙ ap (λ (ns : List ℕ). slot_at k ∷ ns) (same_slots ks)

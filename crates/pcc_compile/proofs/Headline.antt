@@ -27,7 +27,7 @@ pub image_does : (program : Program) (code : Code) (map : Map) (image : List ℕ
     → ListsLocals program (listed map)
     → ShowsVisits code (variables_shown program (listed map)) (visits_of map)
     → ((input : List ℕ) (n : ℕ) (o : Outcome)
-        → GraphOutcome code.program (variables_shown program (listed map)) input n o
+    → GraphOutcome code.program (variables_shown program (listed map)) input n o
     → AreKnown o.visits)
     → ((input : List ℕ) → First image input (text_state code.text (objects_of code.program) input))
     → DoesAs image map program
@@ -42,5 +42,9 @@ image_does program code map image keeps runs lists shows known first input n byt
 pub text_fits : (text : List ℕ) → AreBytes text → length text < 2 ^ 30 + 1024 → Fits (parts_of_text text [])
 unfolding zeros
 text_fits text bytes small =
-    record { entry = omega arith; text = bytes; data_bytes = All-replicate (λ (b : ℕ). b < 256) 4 0 (omega arith);
-        size = omega (arith, small) }
+    record {
+      entry = omega arith;
+      text = bytes;
+      data_bytes = All-replicate (λ (b : ℕ). b < 256) 4 0 (omega arith);
+      size = omega (arith, small);
+    }

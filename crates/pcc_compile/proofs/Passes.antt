@@ -45,7 +45,7 @@ one-list (g ∷ h ∷ flows) flow one first = absurd (omega (arith, one))
 graphs-same : (functions others : List Flow) (objects : List Object) (main : ℕ) → functions ≡ others → objects ≡ []
     → main ≡ 0
     → ◌≡◌ {A = GraphProgram} (record { functions = functions; objects = objects; main = main })
-        (record { functions = others; objects = []; main = 0 })
+    (record { functions = others; objects = []; main = 0 })
 graphs-same functions others objects main one two three = cc
 
 -- the graphs of a program of one function are one graph, without objects
@@ -56,7 +56,7 @@ one-program program slot graphs flow low objects first =
     let many : length graphs.functions ≡ 1 = low.as_many ∙ ap length slot.one_function in
     let none : data_objects program ≡ [] = ap (map data_object) slot.no_objects in
     graphs-same graphs.functions (flow ∷ []) graphs.objects graphs.main (one-list graphs.functions flow many first)
-        (objects ∙ none) (low.main ∙ slot.main)
+    (objects ∙ none) (low.main ∙ slot.main)
 
 -- the one graph of a program that is compiled
 pub record IsLow (program : Program) (form : IsCompiledForm program) (graphs : Graphs) (flow : Flow) : Type 0 where
@@ -77,15 +77,15 @@ is_low program form graphs flow low objects once marks slots formed small first 
     let same = one-program program slot (graphs_of graphs) flow low objects first in
     let here : slice_get program.functions 0 ≡ Some f = ap (λ (fs : List Function). slice_get fs 0) slot.one_function in
     let there : slice_get graphs.functions.items 0 ≡ Some flow =
-        ap (λ (g : GraphProgram). slice_get g.functions 0) same in
+    ap (λ (g : GraphProgram). slice_get g.functions 0) same in
     let lowered = low.each 0 f flow here there in
     let marked : MarksStatements (first_statement (f ∷ []) 0) f flow =
     subst (λ (fs : List Function). MarksStatements (first_statement fs 0) f flow) slot.one_function
-        (marks 0 f flow here there) in
+    (marks 0 f flow here there) in
     let slotted = subst (λ (g : GraphProgram). AreSlotGraphs g) same slots in
     let each = subst (λ (g : GraphProgram). MarksOnce g) same once in
     let begins : 0 < length flow.blocks =
-        ((subst (λ (g : GraphProgram). IsGraphProgram g) same formed).functions 0 flow (omega arith)).begins in
+    ((subst (λ (g : GraphProgram). IsGraphProgram g) same formed).functions 0 flow (omega arith)).begins in
     record {
       graphs_are = same;
       lowered = lowered;
@@ -108,7 +108,7 @@ pub framed : {program : Program} {form : IsCompiledForm program} {graphs : Graph
     → HasSlots flow (slots_of offsets)
 framed {flow = flow} offsets n low many same =
     let slots : slots_of offsets ≡ slots_for (length flow.widths) = ap slots_of same ∙ same_slots (range_with_len 0 n)
-        ∙ ap slots_for many in
+    ∙ ap slots_for many in
     subst (λ (ns : List ℕ). HasSlots flow ns) (sym slots) low.frame.slots
 
 -- ---- linking
@@ -129,7 +129,7 @@ only_putchar : (items : List Item) → NamesOnlyPutchar items → (j : ℕ) (t :
 only_putchar [] names j t e = absurd (none-some t e)
 only_putchar (i ∷ items) names j t e =
     with_target (target_of i) (names 0 i refl) (filter_map target_of items)
-        (λ k u h. only_putchar items (λ m x q. names (suc m) x q) k u h) j t e
+    (λ k u h. only_putchar items (λ m x q. names (suc m) x q) k u h) j t e
 
 -- one graph has no objects, and main is the first
 no_objects : (graphs : Graphs) (flow : Flow) → graphs_of graphs ≡ one_graph flow → map object_of graphs.objects.items
@@ -143,12 +143,12 @@ main_first graphs flow same = ap (λ (g : GraphProgram). g.main) same
 pub links : (graphs : Graphs) (flow : Flow) (items : List Item) (section : Section) (sections : List Section)
     → graphs_of graphs ≡ one_graph flow
     → sections ≡ section ∷ [] → IsSection 0 items section → length section.bytes.items < 2 ^ 30 → NamesOnlyPutchar items
-        → CanLink sections (map object_of graphs.objects.items) graphs.main
+    → CanLink sections (map object_of graphs.objects.items) graphs.main
 links graphs flow items section sections same one is small names =
     subst (λ (ss : List Section). CanLink ss (map object_of graphs.objects.items) graphs.main) (sym one)
     (subst (λ (os : List Object). CanLink (section ∷ []) os graphs.main) (sym (no_objects graphs flow same))
     (subst (λ (n : ℕ). CanLink (section ∷ []) [] n) (sym (main_first graphs flow same))
-        (can_link items section is small (only_putchar items names))))
+    (can_link items section is small (only_putchar items names))))
 
 -- what was linked is the program of the function's items, and its text is small enough
 pub record OneLinked (items : List Item) (linked : Linked) : Type 0 where
@@ -159,18 +159,18 @@ pub one_linked : (graphs : Graphs) (flow : Flow) (items : List Item) (section : 
     (linked : Linked) → graphs_of graphs ≡ one_graph flow
     → sections ≡ section ∷ [] → IsSection 0 items section → length section.bytes.items < 2 ^ 30
     → ((functions : List (List Item)) → AreSections functions sections
-        → IsLinked functions (order_of sections) (map object_of graphs.objects.items) graphs.main linked)
+    → IsLinked functions (order_of sections) (map object_of graphs.objects.items) graphs.main linked)
     → vec_len linked.image.text ≡ sections_size sections + 104 → OneLinked items linked
 one_linked graphs flow items section sections linked same one is small links long =
     let are : AreSections (items ∷ []) sections =
-        subst (AreSections (items ∷ [])) (sym one) (sections-alone items section is) in
+    subst (AreSections (items ∷ [])) (sym one) (sections-alone items section is) in
     let order : order_of sections ≡ 0 ∷ [] = ap order_of one ∙ number-alone items section is in
     record {
       is = subst (λ (n : ℕ). IsLinked (items ∷ []) (0 ∷ []) [] n linked) (main_first graphs flow same)
           (subst (λ (os : List Object). IsLinked (items ∷ []) (0 ∷ []) os graphs.main linked)
-              (no_objects graphs flow same)
+          (no_objects graphs flow same)
           (subst (λ (ks : List ℕ). IsLinked (items ∷ []) ks (map object_of graphs.objects.items) graphs.main linked)
-              order (links (items ∷ []) are)));
+          order (links (items ∷ []) are)));
       small = omega (arith, long, linked.image.text.ok.0, ap sections_size one, small);
     }
 
@@ -200,4 +200,4 @@ pub has_entries : (flow : Flow) (slots : List ℕ) (items : List Item) (linked :
 has_entries flow slots items linked is table first stands p placed =
     let some : 0 < length linked.points.items = omega (arith, is.points_are) in
     point_entry flow slots items linked is table.items (first_entries linked.points.items table first some) p
-        (stands p placed)
+    (stands p placed)

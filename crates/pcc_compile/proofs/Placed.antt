@@ -44,8 +44,8 @@ linked_code flow slots items linked is = record {
 pub slot_code : (flow : Flow) (slots : List ℕ) (items : List Item) (linked : Linked)
     (is : IsLinked (items ∷ []) (0 ∷ []) [] 0 linked)
     → items ≡ selected flow (over_slots flow slots) → IsGraphProgram (one_graph flow) → (homes : List ℕ)
-        × IsFlow flow homes
-        → HasSlots flow slots → length linked.image.text.items < 2 ^ 30 + 1024 → AreBytes linked.image.text.items
+    × IsFlow flow homes
+    → HasSlots flow slots → length linked.image.text.items < 2 ^ 30 + 1024 → AreBytes linked.image.text.items
     → IsSlotCode flow slots (selected flow (over_slots flow slots)) (linked_code flow slots items linked is)
 slot_code flow slots items linked is same program flows has fits bytes =
     record {
@@ -74,14 +74,14 @@ pub point_entry : (flow : Flow) (slots : List ℕ) (items : List Item) (linked :
 point_entry flow slots items linked is entries there p stands =
     let (place, first) = one_places is.places is.text.places_are in
     (is.points 0 items place entries refl first there).addresses p stands
-        ∙ ap Some (ap (λ (o : Option Places). address_in o p) (sym first))
+    ∙ ap Some (ap (λ (o : Option Places). address_in o p) (sym first))
 
 -- ---- what is linked
 
 -- the section of a function whose only targets are routines can be linked
 pub can_link : (items : List Item) (section : Section) → IsSection 0 items section → length section.bytes.items < 2 ^ 30
     → ((j : ℕ) (t : Target) → slice_get (filter_map target_of items) j ≡ Some t → t ≡ target.Stub stub.Putchar)
-        → CanLink (section ∷ []) [] 0
+    → CanLink (section ∷ []) [] 0
 can_link items section is small named =
     record {
       main_there = omega arith;
@@ -93,15 +93,15 @@ can_link items section is small named =
   where
     fits : (items : List Item) (section : Section) → IsSection 0 items section
         → ((j : ℕ) (t : Target) → slice_get (filter_map target_of items) j ≡ Some t → t ≡ target.Stub stub.Putchar)
-            → FitsIn 1 0 section
+        → FitsIn 1 0 section
     fits items section is named =
         record {
           named = omega (arith, ap length is.one_symbol);
           targets = λ j r e.
               let found : slice_get (filter_map target_of items) j ≡ Some r.target =
               ap (λ (ts : List Target). slice_get ts j) (sym is.targets)
-                  ∙ slice_get-map (λ (r : Relocation). r.target) section.relocations.items j
-                  ∙ ap (option_map (λ (r : Relocation). r.target)) e
+              ∙ slice_get-map (λ (r : Relocation). r.target) section.relocations.items j
+              ∙ ap (option_map (λ (r : Relocation). r.target)) e
               in
               subst (λ (t : Target). IsThere 1 0 t) (sym (named j r.target found)) tt;
           inside = follow_inside 0 (length section.bytes.items) section.relocations.items is.apart;
@@ -124,5 +124,5 @@ pub same_parts : (items : List Item) (linked : Linked) → IsLinked (items ∷ [
     → parts_of linked.image ≡ parts_of_text linked.image.text.items []
 same_parts items linked is =
     ap (λ (e : ℕ). record { entry = e; text = linked.image.text.items; data_bytes = linked.image.data_bytes.items })
-        is.entry
+    is.entry
     ∙ ap (λ (d : List ℕ). record { entry = text_start; text = linked.image.text.items; data_bytes = d }) is.data_is

@@ -14,8 +14,14 @@ most_bytes-all : (flows : List Flow) → sum_by most_bytes flows
     ≡ 800 * sum_by points_in flows + 8 * sum_by words_in flows + 16 * sum_by arrays_in flows
 most_bytes-all [] = refl
 most_bytes-all (flow ∷ flows) =
-    omega (arith, most_bytes-all flows, sum_by-cons most_bytes flow flows, sum_by-cons points_in flow flows,
-    sum_by-cons words_in flow flows, sum_by-cons arrays_in flow flows)
+    omega (
+      arith,
+      most_bytes-all flows,
+      sum_by-cons most_bytes flow flows,
+      sum_by-cons points_in flow flows,
+      sum_by-cons words_in flow flows,
+      sum_by-cons arrays_in flow flows,
+    )
 
 -- The graphs of a program of at most 65536 tokens have fewer than 2^30 bytes of code.
 pub code_bound : (program : Program) (graphs : GraphProgram) → AreSmall program graphs → size_of program ≤ 65536

@@ -59,13 +59,15 @@ number-one n m r s small small' stop stop' e =
     let k : n < 2 ^ 64 = omega arith in
     let k' : m < 2 ^ 64 = omega arith in
     let fields = field-one IsDigit (decimal n) (decimal m) r s (decimal-digits n k) (decimal-digits m k') stop stop'
-        e in
+    e in
     (decimal_injective n m k k' fields.0, fields.1)
 
 hexadecimal-length : (k n : ℕ) → length (hexadecimal k n) ≡ k
 hexadecimal-length zero n = refl
-hexadecimal-length (suc k) n = rw (length-append (hexadecimal k (n / 16)) (hexadecimal_digit (n % 16) ∷ []),
-    hexadecimal-length k (n / 16)) (omega arith)
+hexadecimal-length (suc k) n = rw (
+  length-append (hexadecimal k (n / 16)) (hexadecimal_digit (n % 16) ∷ []),
+  hexadecimal-length k (n / 16),
+) (omega arith)
 
 -- hexadecimal digits differ
 digit-one : (d e : ℕ) → d < 16 → e < 16 → hexadecimal_digit d ≡ hexadecimal_digit e → d ≡ e
@@ -80,12 +82,12 @@ hexadecimal-one : (k n m : ℕ) → n < 16 ^ k → m < 16 ^ k → hexadecimal k 
 hexadecimal-one zero n m small small' e = omega arith
 hexadecimal-one (suc k) n m small small' e =
     let parts = fixed-one (hexadecimal k (n / 16)) (hexadecimal k (m / 16)) (hexadecimal_digit (n % 16) ∷ [])
-        (hexadecimal_digit (m % 16) ∷ [])
+    (hexadecimal_digit (m % 16) ∷ [])
     (hexadecimal-length k (n / 16) ∙ sym (hexadecimal-length k (m / 16))) e in
     let high : n / 16 ≡ m / 16 = hexadecimal-one k (n / 16) (m / 16) (sixteenth k n small) (sixteenth k m small')
-        parts.0 in
+    parts.0 in
     let low : n % 16 ≡ m % 16 = digit-one (n % 16) (m % 16) (omega arith) (omega arith)
-        (ap (λ l. get_or l 0 0) parts.1) in
+    (ap (λ l. get_or l 0 0) parts.1) in
     omega arith
 
 -- an address
@@ -93,7 +95,7 @@ pub address-one : (n m : ℕ) (r s : List ℕ) → IsNumber n → IsNumber m →
     → (n ≡ m) × (r ≡ s)
 address-one n m r s small small' e =
     let parts = fixed-one (hexadecimal 8 n) (hexadecimal 8 m) r s
-        (hexadecimal-length 8 n ∙ sym (hexadecimal-length 8 m)) e in
+    (hexadecimal-length 8 n ∙ sym (hexadecimal-length 8 m)) e in
     (hexadecimal-one 8 n m (omega arith) (omega arith) parts.0, parts.1)
 
 -- a number with a byte behind it that is no digit

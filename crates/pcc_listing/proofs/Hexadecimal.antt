@@ -18,7 +18,7 @@ bits-fewer n k h =
 -- the first k + 1 of the eight digits are the first k and the next one
 pub hexadecimal-next : (n k : ℕ) → k < 8
     → hexadecimal (k + 1) (n / 2 ^ (4 * (8 - (k + 1))))
-        ≡ hexadecimal k (n / 2 ^ (4 * (8 - k))) ++ hexadecimal_digit (n / 2 ^ (4 * (7 - k)) % 16) ∷ []
+    ≡ hexadecimal k (n / 2 ^ (4 * (8 - k))) ++ hexadecimal_digit (n / 2 ^ (4 * (7 - k)) % 16) ∷ []
 hexadecimal-next n k h =
     let place : 8 - (k + 1) ≡ 7 - k = omega arith in
     ap (λ (j : ℕ). hexadecimal (k + 1) (n / 2 ^ (4 * j))) place

@@ -60,6 +60,6 @@ pub named-one : (x y : Named) (r s : List ℕ) → IsNamed x → IsNamed y → n
     ≡ named_text y ++ (10 ∷ s) → (x ≡ y) × (r ≡ s)
 named-one x y r s ok ok' e =
     let parts = field-one IsNameByte (front x) (front y) (back x r) (back y s) (front-bytes x ok) (front-bytes y ok')
-        (back-stops x r) (back-stops y s)
+    (back-stops x r) (back-stops y s)
     (sym (named-parts x r) ∙ e ∙ named-parts y s) in
     kinds-one x y r s parts.0 parts.1

@@ -47,7 +47,7 @@ IsPointLine _ = ⊥
 
 object-made : (a c b a' c' b' : ℕ) → ObjectLine 0 a c b ≡ ObjectLine 0 a' c' b'
     → ◌≡◌ {A = MapObject} (record { address = a; count = c; bytes = b })
-        (record { address = a'; count = c'; bytes = b' })
+    (record { address = a'; count = c'; bytes = b' })
 object-made a c b a' c' b' e = let h : a ≡ a' = cc in let i : c ≡ c' = cc in let j : b ≡ b' = cc in cc (h, i, j)
 
 object-same : (k : ℕ) (x y : MapObject) → ObjectLine k x.address x.count x.bytes
@@ -73,7 +73,7 @@ variable-same k x y e = variable-made x.width y.width x.named y.named (cc)
 each-one : {X : Type 0} (Of : Line → Type 0) (line : ℕ → X → Line) → ((k : ℕ) (x : X) → Of (line k x))
     → ((k : ℕ) (x y : X) → line k x ≡ line k y → x ≡ y)
     → (k : ℕ) (xs ys : List X) (r s : List Line) → Ceases Of r → Ceases Of s → numbered (λ j x. line j x ∷ []) k xs ++ r
-        ≡ numbered (λ j x. line j x ∷ []) k ys ++ s → (xs ≡ ys) × (r ≡ s)
+    ≡ numbered (λ j x. line j x ∷ []) k ys ++ s → (xs ≡ ys) × (r ≡ s)
 each-one Of line is same k [] [] r s end end' e = (refl, e)
 each-one Of line is same k [] (y ∷ ys) [] s end end' e = absurd (cc)
 each-one Of line is same k [] (y ∷ ys) (l ∷ r) s end end' e = let h : line k y ≡ l = cc in
@@ -176,7 +176,7 @@ function-made name frame ars vs bs name' frame' ars' vs' bs' e1 e2 e3 e4 e5 = cc
 
 function-parts : (k : ℕ) (f : MapFunction) (r : List Line) → IsShortFunction f → function_lines k f ++ r
     ≡ FunctionLine k f.name f.frame ∷ (numbered array_lines 0 f.arrays
-        ++ (numbered variable_lines 0 f.variables ++ (flat_map point_lines (points_of f) ++ r)))
+    ++ (numbered variable_lines 0 f.variables ++ (flat_map point_lines (points_of f) ++ r)))
 function-parts k f r is = simp append_assoc
 
 -- the points of a function of one block
@@ -189,28 +189,30 @@ function-one k f g r s is is' end end' e =
     let ps = points_of f in
     let qs = points_of g in
     let e0 : FunctionLine k f.name f.frame ∷ (numbered array_lines 0 f.arrays
-        ++ (numbered variable_lines 0 f.variables ++ (flat_map point_lines ps ++ r)))
+    ++ (numbered variable_lines 0 f.variables ++ (flat_map point_lines ps ++ r)))
     ≡ FunctionLine k g.name g.frame ∷ (numbered array_lines 0 g.arrays
-        ++ (numbered variable_lines 0 g.variables ++ (flat_map point_lines qs ++ s))) =
+    ++ (numbered variable_lines 0 g.variables ++ (flat_map point_lines qs ++ s))) =
     sym (function-parts k f r is) ∙ e ∙ function-parts k g s is' in
     let name : f.name ≡ g.name = cc in
     let frame : f.frame ≡ g.frame = cc in
     let e1 : numbered array_lines 0 f.arrays ++
-        (numbered variable_lines 0 f.variables ++ (flat_map point_lines ps ++ r))
-        ≡ numbered array_lines 0 g.arrays ++ (numbered variable_lines 0 g.variables ++ (flat_map point_lines qs ++ s)) =
-        cc in
+    (numbered variable_lines 0 f.variables ++ (flat_map point_lines ps ++ r))
+    ≡ numbered array_lines 0 g.arrays ++ (numbered variable_lines 0 g.variables ++ (flat_map point_lines qs ++ s)) =
+    cc in
     let arrays = each-one IsArrayLine (λ k a. ArrayLine k a.below a.count a.bytes) (λ k a. tt) array-same 0 f.arrays
-        g.arrays _ _ (no-array 0 f.variables ps r end) (no-array 0 g.variables qs s end') e1 in
+    g.arrays _ _ (no-array 0 f.variables ps r end) (no-array 0 g.variables qs s end') e1 in
     let variables = each-one IsVariableLine (λ k v. VariableLine k v.width v.named) (λ k v. tt) variable-same 0
-        f.variables g.variables _ _ (no-variable ps r end) (no-variable qs s end') arrays.1 in
+    f.variables g.variables _ _ (no-variable ps r end) (no-variable qs s end') arrays.1 in
     let P : List MapPoint → Type 0 = λ points. AllByRecursion IsShort points in
     let points = points-one ps qs r s (subst P (sym (block-points f is)) is.short)
-        (subst P (sym (block-points g is')) is'.short) (no-point r end) (no-point s end') variables.1 in
+    (subst P (sym (block-points g is')) is'.short) (no-point r end) (no-point s end') variables.1 in
     let blocks : f.blocks ≡ g.blocks =
     is.block ∙ ap (λ (points : List MapPoint). points ∷ []) (sym (block-points f is) ∙ points.0 ∙ block-points g is')
-        ∙ sym is'.block in
-    (function-made f.name f.frame f.arrays f.variables f.blocks g.name g.frame g.arrays g.variables g.blocks name frame
-        arrays.0 variables.0 blocks, points.1)
+    ∙ sym is'.block in (
+      function-made f.name f.frame f.arrays f.variables f.blocks g.name g.frame g.arrays g.variables g.blocks name frame
+          arrays.0 variables.0 blocks,
+      points.1,
+    )
 
 ends-next : (k : ℕ) (fs : List MapFunction) → EndsFunction (numbered function_lines k fs)
 ends-next k [] = tt
@@ -223,7 +225,7 @@ functions-one k [] (g ∷ gs) is is' e = absurd (cc)
 functions-one k (f ∷ fs) [] is is' e = absurd (cc)
 functions-one k (f ∷ fs) (g ∷ gs) is is' e =
     let one = function-one k f g (numbered function_lines (suc k) fs) (numbered function_lines (suc k) gs) is.0 is'.0
-        (ends-next (suc k) fs) (ends-next (suc k) gs) e in
+    (ends-next (suc k) fs) (ends-next (suc k) gs) e in
     let more = functions-one (suc k) fs gs is.1 is'.1 one.1 in
     ap (λ (h : MapFunction). h ∷ fs) one.0 ∙ ap (λ (hs : List MapFunction). g ∷ hs) more
 
@@ -241,7 +243,7 @@ lines-one : (a b : Map) → AllByRecursion IsShortFunction a.functions → AllBy
     → lines_of a ≡ lines_of b → a ≡ b
 lines-one a b is is' e =
     let objects = each-one IsObjectLine (λ k o. ObjectLine k o.address o.count o.bytes) (λ k o. tt) object-same 0
-        a.objects b.objects _ _ (no-object 0 a.functions) (no-object 0 b.functions) e in
+    a.objects b.objects _ _ (no-object 0 a.functions) (no-object 0 b.functions) e in
     let functions = functions-one 0 a.functions b.functions is is' objects.1 in
     map-made a.objects a.functions b.objects b.functions objects.0 functions
 
@@ -281,7 +283,7 @@ numbered-lines : {X : Type 0} (P : X → Type 0) (line : ℕ → X → List Line
 numbered-lines P line each k [] few all = tt
 numbered-lines P line each k (x ∷ xs) few all =
     both-lines (line k x) _ (each k x (omega (arith, few)) all.0)
-        (numbered-lines P line each (suc k) xs (omega (arith, few)) all.1)
+    (numbered-lines P line each (suc k) xs (omega (arith, few)) all.1)
 
 element-bytes : (b : ℕ) → (b ≡ 1) ⊎ ((b ≡ 2) ⊎ (b ≡ 4)) → IsNumber b
 element-bytes b (inl e) = omega (arith, e)
@@ -325,20 +327,20 @@ function-line : (m : Map) (k : ℕ) (f : MapFunction) → IsNumber k → IsMapFu
     → AllByRecursion IsLine (function_lines k f)
 function-line m k f n is =
     let arrays = numbered-lines IsMapArray array_lines array-line 0 f.arrays (omega (arith, is.few_arrays))
-        (recursion_from_All IsMapArray f.arrays is.arrays) in
+    (recursion_from_All IsMapArray f.arrays is.arrays) in
     let variables = numbered-lines IsMapVariable variable_lines variable-line 0 f.variables
-        (omega (arith, is.few_variables)) (recursion_from_All IsMapVariable f.variables is.variables) in
+    (omega (arith, is.few_variables)) (recursion_from_All IsMapVariable f.variables is.variables) in
     let points = points-lines m f (points_of f) is.few_variables
-        (recursion_from_All (IsMapPoint m f) (points_of f) is.points) in
+    (recursion_from_All (IsMapPoint m f) (points_of f) is.points) in
     ((n, is.name, is.frame), both-lines _ _ (both-lines _ _ arrays variables) points)
 
 map-lines : (m : Map) → IsMap m → AreLines (lines_of m)
 map-lines m is =
     All-from_recursion IsLine (lines_of m)
     (both-lines _ _ (numbered-lines IsMapObject object_lines object-line 0 m.objects (omega (arith, is.few_objects))
-        (recursion_from_All IsMapObject m.objects is.objects))
+    (recursion_from_All IsMapObject m.objects is.objects))
     (numbered-lines (IsMapFunction m) function_lines (function-line m) 0 m.functions (omega (arith, is.few_functions))
-        (recursion_from_All (IsMapFunction m) m.functions is.functions)))
+    (recursion_from_All (IsMapFunction m) m.functions is.functions)))
 
 -- maps with one text are the same
 pub map-one : (a b : Map) → IsMap a → IsMap b → map_text a ≡ map_text b → a ≡ b

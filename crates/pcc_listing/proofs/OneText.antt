@@ -46,8 +46,8 @@ standing-one : (x y : Standing) (r s : List ℕ) → IsStandingText x → IsStan
     ≡ standing_text y ++ s → (x ≡ y) × (r ≡ s)
 standing-one x y r s ok ok' e =
     let e1 : 32 ∷ (decimal x.variable ++ (61 ∷ (place_text x.place ++ r)))
-        ≡ 32 ∷ (decimal y.variable ++ (61 ∷ (place_text y.place ++ s))) = sym (standing-parts x r) ∙ e
-        ∙ standing-parts y s in
+    ≡ 32 ∷ (decimal y.variable ++ (61 ∷ (place_text y.place ++ s))) = sym (standing-parts x r) ∙ e
+    ∙ standing-parts y s in
     let number = number-at 61 x.variable y.variable _ _ (λ h. omega arith) ok.variable ok'.variable (cc e1) in
     let place = place-one x.place y.place r s ok.place ok'.place number.1 in
     (standing-same x.variable y.variable x.place y.place number.0 place.0, place.1)
@@ -60,9 +60,9 @@ standings-one [] (y ∷ ys) r s ok ok' e = let h = first-same _ _ e in absurd (o
 standings-one (x ∷ xs) [] r s ok ok' e = let h = first-same _ _ e in absurd (omega arith)
 standings-one (x ∷ xs) (y ∷ ys) r s ok ok' e =
     let e1 : standing_text x ++ (flat_map standing_text xs ++ (10 ∷ r))
-        ≡ standing_text y ++ (flat_map standing_text ys ++ (10 ∷ s)) =
+    ≡ standing_text y ++ (flat_map standing_text ys ++ (10 ∷ s)) =
     sym (append_assoc (standing_text x) (flat_map standing_text xs) (10 ∷ r)) ∙ e
-        ∙ append_assoc (standing_text y) (flat_map standing_text ys) (10 ∷ s) in
+    ∙ append_assoc (standing_text y) (flat_map standing_text ys) (10 ∷ s) in
     let one = standing-one x y _ _ ok.0 ok'.0 e1 in
     let more = standings-one xs ys r s ok.1 ok'.1 one.1 in
     (cc (one.0, more.0), more.1)
@@ -74,7 +74,7 @@ object_parts n a c b r = decimal n ++ (32 ∷ (address_text a ++ (32 ∷ (decima
 
 object-joined : (n : ℕ) (t : List ℕ) (c b : ℕ) (r : List ℕ)
     → (codes "object " ++ decimal n ++ codes " " ++ t ++ codes " " ++ decimal c ++ codes " " ++ decimal b ++ newline
-        ∷ []) ++ r
+    ∷ []) ++ r
     ≡ codes "object " ++ (decimal n ++ (32 ∷ (t ++ (32 ∷ (decimal c ++ (32 ∷ (decimal b ++ (10 ∷ r))))))))
 object-joined n t c b r = simp append_assoc
 
@@ -87,7 +87,7 @@ object-one : (n a c b n' a' c' b' : ℕ) (r s : List ℕ) → IsLine (ObjectLine
     → (ObjectLine n a c b ≡ ObjectLine n' a' c' b') × (r ≡ s)
 object-one n a c b n' a' c' b' r s ok ok' e =
     let e1 : object_parts n a c b r ≡ object_parts n' a' c' b' s =
-        append_cancel_left (codes "object ") _ _ (sym (object-text n a c b r) ∙ e ∙ object-text n' a' c' b' s) in
+    append_cancel_left (codes "object ") _ _ (sym (object-text n a c b r) ∙ e ∙ object-text n' a' c' b' s) in
     let p1 = number-at 32 n n' _ _ space ok.0 ok'.0 e1 in
     let p2 = address-at a a' _ _ ok.1 ok'.1 p1.1 in
     let p3 = number-at 32 c c' _ _ space ok.2 ok'.2 p2.1 in
@@ -106,11 +106,11 @@ function-one : (n : ℕ) (name : List ℕ) (f n' : ℕ) (name' : List ℕ) (f' :
     ≡ line_text (FunctionLine n' name' f') ++ s → (FunctionLine n name f ≡ FunctionLine n' name' f') × (r ≡ s)
 function-one n name f n' name' f' r s ok ok' e =
     let e1 : function_parts n name f r ≡ function_parts n' name' f' s =
-        append_cancel_left (codes "function ") _ _ (sym (function-text n name f r) ∙ e ∙ function-text n' name' f' s) in
+    append_cancel_left (codes "function ") _ _ (sym (function-text n name f r) ∙ e ∙ function-text n' name' f' s) in
     let p1 = number-at 32 n n' _ _ space ok.0 ok'.0 e1 in
     let stop : IsNameByte 32 → ⊥ = no-name-byte 32 (omega arith) in
     let p2 = field-one IsNameByte name name' (codes " frame " ++ (decimal f ++ (10 ∷ r)))
-        (codes " frame " ++ (decimal f' ++ (10 ∷ s))) (name-bytes name ok.1) (name-bytes name' ok'.1) stop stop p1.1 in
+    (codes " frame " ++ (decimal f' ++ (10 ∷ s))) (name-bytes name ok.1) (name-bytes name' ok'.1) stop stop p1.1 in
     let p3 = number-at 10 f f' r s line_end ok.2 ok'.2 (append_cancel_left (codes " frame ") _ _ p2.1) in
     (cc (p1.0, p2.0, p3.0), p3.1)
 
@@ -125,7 +125,7 @@ array-one : (n a c b n' a' c' b' : ℕ) (r s : List ℕ) → IsLine (ArrayLine n
     → (ArrayLine n a c b ≡ ArrayLine n' a' c' b') × (r ≡ s)
 array-one n a c b n' a' c' b' r s ok ok' e =
     let e1 : array_parts n a c b r ≡ array_parts n' a' c' b' s =
-        append_cancel_left (codes "array ") _ _ (sym (array-text n a c b r) ∙ e ∙ array-text n' a' c' b' s) in
+    append_cancel_left (codes "array ") _ _ (sym (array-text n a c b r) ∙ e ∙ array-text n' a' c' b' s) in
     let p1 = number-at 32 n n' _ _ space ok.0 ok'.0 e1 in
     let p2 = number-at 32 a a' _ _ space ok.1 ok'.1 (append_cancel_left (codes "-") _ _ p1.1) in
     let p3 = number-at 32 c c' _ _ space ok.2 ok'.2 p2.1 in
@@ -150,7 +150,7 @@ variable-one : (n : ℕ) (w : Width) (x : Named) (n' : ℕ) (w' : Width) (x' : N
     ≡ line_text (VariableLine n' w' x') ++ s → (VariableLine n w x ≡ VariableLine n' w' x') × (r ≡ s)
 variable-one n w x n' w' x' r s ok ok' e =
     let e1 : variable_parts n w x r ≡ variable_parts n' w' x' s =
-        append_cancel_left (codes "var ") _ _ (sym (variable-text n w x r) ∙ e ∙ variable-text n' w' x' s) in
+    append_cancel_left (codes "var ") _ _ (sym (variable-text n w x r) ∙ e ∙ variable-text n' w' x' s) in
     let p1 = number-at 32 n n' _ _ space ok.0 ok'.0 e1 in
     let p2 = width-one w w' _ _ p1.1 in
     let p3 = named-one x x' r s ok.1 ok'.1 p2.1 in
@@ -172,7 +172,7 @@ point_parts n a o r = decimal n ++ (32 ∷ (address_text a ++ (32 ∷ (op_text o
 
 point-joined : (n : ℕ) (t w r : List ℕ)
     → (codes "point " ++ decimal n ++ codes " " ++ t ++ codes " " ++ w ++ newline ∷ []) ++ r
-        ≡ codes "point " ++ (decimal n ++ (32 ∷ (t ++ (32 ∷ (w ++ (10 ∷ r))))))
+    ≡ codes "point " ++ (decimal n ++ (32 ∷ (t ++ (32 ∷ (w ++ (10 ∷ r))))))
 point-joined n t w r = simp append_assoc
 
 point-text : (n a : ℕ) (o : Op) (r : List ℕ) → line_text (PointLine n a o) ++ r ≡ codes "point " ++ point_parts n a o r
@@ -183,7 +183,7 @@ point-one : (n a : ℕ) (o : Op) (n' a' : ℕ) (o' : Op) (r s : List ℕ) → Is
     → (PointLine n a o ≡ PointLine n' a' o') × (r ≡ s)
 point-one n a o n' a' o' r s ok ok' e =
     let e1 : point_parts n a o r ≡ point_parts n' a' o' s =
-        append_cancel_left (codes "point ") _ _ (sym (point-text n a o r) ∙ e ∙ point-text n' a' o' s) in
+    append_cancel_left (codes "point ") _ _ (sym (point-text n a o r) ∙ e ∙ point-text n' a' o' s) in
     let p1 = number-at 32 n n' _ _ space ok.0 ok'.0 e1 in
     let p2 = address-at a a' _ _ ok.1 ok'.1 p1.1 in
     let p3 = op-one o o' r s ok.2 ok'.2 p2.1 in
@@ -197,7 +197,7 @@ before-one : (xs ys : List Standing) (r s : List ℕ) → IsLine (BeforeLine xs)
     → line_text (BeforeLine xs) ++ r ≡ line_text (BeforeLine ys) ++ s → (BeforeLine xs ≡ BeforeLine ys) × (r ≡ s)
 before-one xs ys r s ok ok' e =
     let parts = standings-one xs ys r s (recursion_from_All IsStandingText xs ok)
-        (recursion_from_All IsStandingText ys ok')
+    (recursion_from_All IsStandingText ys ok')
     (append_cancel_left (codes "before") _ _ (sym (before-text xs r) ∙ e ∙ before-text ys s)) in
     (ap BeforeLine parts.0, parts.1)
 
@@ -226,14 +226,14 @@ lines-one : (a b : List Line) → AllByRecursion IsLine a → AllByRecursion IsL
 lines-one [] [] ok ok' e = refl
 lines-one [] (y ∷ ys) ok ok' e =
     absurd (line-first y (flat_map line_text ys ++ codes "end\n")
-        (first-same _ _ (sym (append_assoc (line_text y) (flat_map line_text ys) (codes "end\n")) ∙ sym e)))
+    (first-same _ _ (sym (append_assoc (line_text y) (flat_map line_text ys) (codes "end\n")) ∙ sym e)))
 lines-one (x ∷ xs) [] ok ok' e =
     absurd (line-first x (flat_map line_text xs ++ codes "end\n")
-        (first-same _ _ (sym (append_assoc (line_text x) (flat_map line_text xs) (codes "end\n")) ∙ e)))
+    (first-same _ _ (sym (append_assoc (line_text x) (flat_map line_text xs) (codes "end\n")) ∙ e)))
 lines-one (x ∷ xs) (y ∷ ys) ok ok' e =
     let one = line-one x y (flat_map line_text xs ++ codes "end\n") (flat_map line_text ys ++ codes "end\n") ok.0 ok'.0
     (sym (append_assoc (line_text x) (flat_map line_text xs) (codes "end\n")) ∙ e
-        ∙ append_assoc (line_text y) (flat_map line_text ys) (codes "end\n")) in
+    ∙ append_assoc (line_text y) (flat_map line_text ys) (codes "end\n")) in
     let more : xs ≡ ys = lines-one xs ys ok.1 ok'.1 one.1 in
     cc (one.0, more)
 

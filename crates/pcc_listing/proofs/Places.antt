@@ -102,7 +102,7 @@ slot-one : (n m : ℕ) (r s : List ℕ) → IsPlace (InSlot n) → IsPlace (InSl
     ≡ place_text (InSlot m) ++ s → (n ≡ m) × (r ≡ s)
 slot-one n m r s ok ok' e =
     let e1 : codes "[ebp-" ++ (decimal n ++ (93 ∷ r)) ≡ codes "[ebp-" ++ (decimal m ++ (93 ∷ s)) = sym (slot-text n r)
-        ∙ e ∙ slot-text m s in
+    ∙ e ∙ slot-text m s in
     number-at 93 n m r s (λ h. omega arith) (omega arith) (omega arith) (append_cancel_left (codes "[ebp-") _ _ e1)
 
 pub place-one : (x y : Place) (r s : List ℕ) → IsPlace x → IsPlace y → place_text x ++ r ≡ place_text y ++ s → (x ≡ y)

@@ -186,12 +186,12 @@ op_text op = spaced (op_words op)
 abbrev pub line_text : Line → List ℕ
 line_text (ObjectLine number address count bytes) =
     codes "object " ++ decimal number ++ codes " " ++ address_text address ++ codes " " ++ decimal count ++ codes " "
-        ++ decimal bytes ++ newline ∷ []
+    ++ decimal bytes ++ newline ∷ []
 line_text (FunctionLine number name frame) =
     codes "function " ++ decimal number ++ codes " " ++ name ++ codes " frame " ++ decimal frame ++ newline ∷ []
 line_text (ArrayLine number below count bytes) =
     codes "array " ++ decimal number ++ codes " -" ++ decimal below ++ codes " " ++ decimal count ++ codes " "
-        ++ decimal bytes ++ newline ∷ []
+    ++ decimal bytes ++ newline ∷ []
 line_text (VariableLine number width name) =
     codes "var " ++ decimal number ++ codes " " ++ width_text width ++ codes " " ++ named_text name ++ newline ∷ []
 line_text (PointLine number address op) =

@@ -116,7 +116,7 @@ abbrev pub number_at : ℕ → ℕ → List Area → Option ℕ
 number_at n address [] = None
 number_at n address (area ∷ areas) =
     if has_bytes area address n then Some (little_number n (drop (address - area.address) area.bytes)) else number_at n
-        address areas
+    address areas
 
 abbrev pub word_at : ℕ → List Area → Option ℕ
 word_at address memory = number_at 4 address memory
@@ -182,7 +182,7 @@ abbrev pub named_in_frames : Map → ℕ → List Frame → ArrayName
 named_in_frames m address [] = Unknown
 named_in_frames m address (frame ∷ frames) =
     in_frame frame.depth (named_in_frames m address frames)
-        (array_in 0 address frame.address (arrays_of m frame.function))
+    (array_in 0 address frame.address (arrays_of m frame.function))
 
 abbrev pub static_or : ArrayName → Option ℕ → ArrayName
 static_or otherwise None = otherwise

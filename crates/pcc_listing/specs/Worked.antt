@@ -68,7 +68,7 @@ worked_map =
 abbrev pub worked_data : List ℕ
 worked_data =
     little_bytes 4 2 ++ replicate 176 0 ++ little_bytes 4 3 ++ replicate 16 0 ++ little_bytes 4 2400
-        ++ little_bytes 4 1020 ++ replicate 192 0 ++ replicate 100 0
+    ++ little_bytes 4 1020 ++ replicate 192 0 ++ replicate 100 0
 
 -- EAX is -5, EBX this word, CH 255, EDX 9 and EBP 2200
 abbrev pub worked_state : ℕ → State
@@ -76,7 +76,7 @@ worked_state word =
     record {
       registers =
           little_bytes 4 4294967291 ++ (0 ∷ 255 ∷ 0 ∷ 0 ∷ []) ++ little_bytes 4 9 ++ little_bytes 4 word
-              ++ little_bytes 4 2100 ++ little_bytes 4 2200 ++ replicate 8 0;
+          ++ little_bytes 4 2100 ++ little_bytes 4 2200 ++ replicate 8 0;
       flags = None;
       eip = 1100;
       memory =

@@ -22,8 +22,11 @@ impl Model for MemSink {
 
     ghost Value = { SinkView };
 
-    ghost view = { λ s. record { taken = s.bytes.items; calls = s.log;
-        counts = record { faults = s.faults; wants = s.wants } } };
+    ghost view = { λ s. record {
+      taken = s.bytes.items;
+      calls = s.log;
+      counts = record { faults = s.faults; wants = s.wants };
+    } };
 }
 
 impl MemSink {

@@ -55,7 +55,7 @@ over-locals (l ∷ locals) widths ints =
     ap (λ (t : ValueType). variables_over (l ∷ locals) ((type_widths t ++ local_widths locals) ++ widths)) ints.0
     ∙ ap (λ (vs : List MapVariable). typed_variables l.name int ++ vs) (over-locals locals widths ints.1)
     ∙ ap (λ (t : ValueType). (typed_variables l.name t ++ flat_map local_variables locals) ++ map temporary widths)
-        (sym ints.0)
+    (sym ints.0)
 
 int-take : (n : ℕ) (locals : List Local) → AreIntLocals locals → AreIntLocals (take n locals)
 int-take zero [] ints = tt
@@ -83,7 +83,7 @@ places-stand placement slots p k (slot ∷ mine) in_slots each =
       in_slots k ∙ ap (option_map InSlot) (subst (λ (v : ℕ). slice_get slots v ≡ Some slot) from (each 0 slot refl)),
       places-stand placement slots p (suc k) mine in_slots
           (λ j other at. (let next : k + suc j ≡ suc k + j = omega arith in
-              subst (λ (v : ℕ). slice_get slots v ≡ Some other) next (each (suc j) other at))),
+          subst (λ (v : ℕ). slice_get slots v ≡ Some other) next (each (suc j) other at))),
     )
 
 taken-at : (n : ℕ) (slots : List ℕ) (j slot : ℕ) → slice_get (take n slots) j ≡ Some slot → slice_get slots j
@@ -139,10 +139,10 @@ numbers-listed f slots address ops [] p n within at = absurd within
 numbers-listed f slots address ops (q ∷ points) p n (inl same) at =
     subst (λ (r : ℕ). IsIn r (map (λ (x : MapPoint). x.number) (points_over f slots address ops (q ∷ points)))) same
     (number-here f slots address q n (slice_get ops q) (points_over f slots address ops points)
-        (ap (slice_get ops) same ∙ at))
+    (ap (slice_get ops) same ∙ at))
 numbers-listed f slots address ops (q ∷ points) p n (inr within) at =
     number-later f slots address q p (slice_get ops q) (points_over f slots address ops points)
-        (numbers-listed f slots address ops points p n within at)
+    (numbers-listed f slots address ops points p n within at)
 
 statement-here : (f : Function) (slots : List ℕ) (address : ℕ → ℕ) (p n : ℕ) (o : Option Op) (rest : List MarkAt) → o
     ≡ Some (op.Mark n) → IsIn n (map (λ (x : MarkAt). x.statement) (op_marks f slots address p o ++ rest))
@@ -161,10 +161,10 @@ statements-listed : (f : Function) (slots : List ℕ) (address : ℕ → ℕ) (o
 statements-listed f slots address ops [] p n within at = absurd within
 statements-listed f slots address ops (q ∷ points) p n (inl same) at =
     statement-here f slots address q n (slice_get ops q) (points_marks f slots address ops points)
-        (ap (slice_get ops) same ∙ at)
+    (ap (slice_get ops) same ∙ at)
 statements-listed f slots address ops (q ∷ points) p n (inr within) at =
     statement-later f slots address q n (slice_get ops q) (points_marks f slots address ops points)
-        (statements-listed f slots address ops points p n within at)
+    (statements-listed f slots address ops points p n within at)
 
 -- a statement that is listed has a mark at one of the points
 from-op : (f : Function) (slots : List ℕ) (address : ℕ → ℕ) (p n : ℕ) (o : Option Op) (rest : List MarkAt)
@@ -186,7 +186,7 @@ from-listed f slots address ops (p ∷ points) n within =
 
 distinct-statement : (f : Function) (slots : List ℕ) (address : ℕ → ℕ) (p : ℕ) (o : Option Op) (rest : List MarkAt)
     → ((n : ℕ) → o ≡ Some (op.Mark n) → AllByRecursion (λ m. m ≢ n) (map (λ (x : MarkAt). x.statement) rest))
-        → IsDistinct (map (λ (x : MarkAt). x.statement) rest)
+    → IsDistinct (map (λ (x : MarkAt). x.statement) rest)
     → IsDistinct (map (λ (x : MarkAt). x.statement) (op_marks f slots address p o ++ rest))
 distinct-statement f slots address p (Some (op.Mark n)) rest away once = (away n refl, once)
 distinct-statement f slots address p _ rest away once = once
@@ -195,7 +195,7 @@ distinct-statement f slots address p _ rest away once = once
 distinct-statements : (f : Function) (slots : List ℕ) (address : ℕ → ℕ) (ops : List Op) (points : List ℕ)
     → IsDistinct points
     → ((p q n : ℕ) → slice_get ops p ≡ Some (op.Mark n) → slice_get ops q ≡ Some (op.Mark n) → p ≡ q)
-        → IsDistinct (map (λ (x : MarkAt). x.statement) (points_marks f slots address ops points))
+    → IsDistinct (map (λ (x : MarkAt). x.statement) (points_marks f slots address ops points))
 distinct-statements f slots address ops [] once one = tt
 distinct-statements f slots address ops (p ∷ points) once one =
     distinct-statement f slots address p (slice_get ops p) (points_marks f slots address ops points)
@@ -210,18 +210,18 @@ distinct-statements f slots address ops (p ∷ points) once one =
 each-op-mark : (P : MarkAt → Type 0) (f : Function) (slots : List ℕ) (address : ℕ → ℕ) (p : ℕ) (o : Option Op)
     (rest : List MarkAt)
     → ((n : ℕ) → o ≡ Some (op.Mark n) → P (mark_at f slots address p n)) → AllByRecursion P rest
-        → AllByRecursion P (op_marks f slots address p o ++ rest)
+    → AllByRecursion P (op_marks f slots address p o ++ rest)
 each-op-mark P f slots address p (Some (op.Mark n)) rest here all = (here n refl, all)
 each-op-mark P f slots address p _ rest here all = all
 
 -- what holds of the marks of points holds of those that the map says
 each-mark : (P : MarkAt → Type 0) (f : Function) (slots : List ℕ) (address : ℕ → ℕ) (ops : List Op) (points : List ℕ)
     → ((p n : ℕ) → IsIn p points → slice_get ops p ≡ Some (op.Mark n) → P (mark_at f slots address p n))
-        → AllByRecursion P (points_marks f slots address ops points)
+    → AllByRecursion P (points_marks f slots address ops points)
 each-mark P f slots address ops [] each = tt
 each-mark P f slots address ops (p ∷ points) each =
     each-op-mark P f slots address p (slice_get ops p) (points_marks f slots address ops points)
-        (λ n at. each p n (inl refl) at)
+    (λ n at. each p n (inl refl) at)
     (each-mark P f slots address ops points (λ q n within at. each q n (inr within) at))
 
 -- ---- no two ops mark one statement
@@ -251,7 +251,7 @@ marks-one (i ∷ ops) (suc p) (suc q) n once at other = ap suc (marks-one ops p 
 function-belongs : (f : Function) (flow : Flow) (slots : List ℕ) (code : Code) → IsSlotFunction f
     → IsCodeOf f flow slots code
     → IsFunctionOf 0 f flow (placement_of code 0) (point_address code 0)
-        (slot_function f flow slots (point_address code 0))
+    (slot_function f flow slots (point_address code 0))
 function-belongs f flow slots code form is =
     let h = is.laid in
     let address = point_address code 0 in
@@ -262,16 +262,16 @@ function-belongs f flow slots code form is =
     let same = sym (points-are f flow slots address) in
     let P = IsMarkOf 0 f flow (placement_of code 0) address in
     let each : (p n : ℕ) → IsIn p (all_points flow) → slice_get flow.ops p ≡ Some (op.Mark n)
-        → P (marked_point p (address p) n (slots_before f slots n)) =
+    → P (marked_point p (address p) n (slots_before f slots n)) =
     λ p n within at.
     let declared = declared_before f n in
     let few = function-declares f n form in
     let fit = locals-fit f flow form is.lowered in
     let mine : length (slots_before f slots n) ≡ declared =
-        length-take-le declared slots (omega (arith, few, fit, h.has_slots.as_many)) in
+    length-take-le declared slots (omega (arith, few, fit, h.has_slots.as_many)) in
     let widths : length (local_widths (take declared f.locals)) ≡ declared =
     length-widths (take declared f.locals) (int-take declared f.locals form.locals)
-        ∙ length-take-le declared f.locals few in
+    ∙ length-take-le declared f.locals few in
     record {
       statement = n;
       own = is.marks.only p n at;
@@ -282,11 +282,11 @@ function-belongs f flow slots code form is =
       lists = variables-range 0 (slots_before f slots n) ∙ ap (range_with_len 0) (mine ∙ sym widths);
       places =
           All-from_recursion (λ (s : Standing). (placement_of code 0).before p s.variable ≡ Some s.place)
-              (standings_from 0 (slots_before f slots n))
+          (standings_from 0 (slots_before f slots n))
           (places-stand (placement_of code 0) slots p 0 (slots_before f slots n)
-              (λ v. ap (λ (x : Placement). x.before p v) placement)
+          (λ v. ap (λ (x : Placement). x.before p v) placement)
           (λ j slot e. (let from : j ≡ 0 + j = omega arith in
-              subst (λ (v : ℕ). slice_get slots v ≡ Some slot) from (taken-at declared slots j slot e))));
+          subst (λ (v : ℕ). slice_get slots v ≡ Some slot) from (taken-at declared slots j slot e))));
       apart = places-distinct 0 declared slots h.has_slots.apart;
     }
     in
@@ -303,7 +303,7 @@ function-belongs f flow slots code form is =
       all_marks = λ point statement (b, stands) at.
           subst (λ (xs : List MapPoint). IsIn point (map (λ (x : MapPoint). x.number) xs)) same
           (numbers-listed f slots address flow.ops (all_points flow) point statement (in-placed flow point b stands)
-              at);
+          at);
     }
 
 -- ---- the program
@@ -311,7 +311,7 @@ function-belongs f flow slots code form is =
 only-function : (f : Function) (flow : Flow) (g : MapFunction) (placement : ℕ → Placement) (address : ℕ → ℕ → ℕ) (k : ℕ)
     (f' : Function) (flow' : Flow) (g' : MapFunction)
     → slice_get (f ∷ []) k ≡ Some f' → slice_get (flow ∷ []) k ≡ Some flow' → slice_get (g ∷ []) k ≡ Some g'
-        → IsFunctionOf 0 f flow (placement 0) (address 0) g
+    → IsFunctionOf 0 f flow (placement 0) (address 0) g
     → IsFunctionOf (first_statement (f ∷ []) k) f' flow' (placement k) (address k) g'
 only-function f flow g placement address zero f' flow' g' one two three is =
     subst (λ (x : MapFunction). IsFunctionOf 0 f' flow' (placement 0) (address 0) x) (same_Some g g' three)
@@ -327,13 +327,13 @@ belongs program form flow slots code is =
     let marks = marks-are f flow slots address in
     let one : sum_by (λ (g : Function). numbers_of g.body) program.functions ≡ numbers_of f.body + 0 =
     ap (sum_by (λ (g : Function). numbers_of g.body)) form.one_function
-        ∙ sum_by-cons (λ (g : Function). numbers_of g.body) f [] in
+    ∙ sum_by-cons (λ (g : Function). numbers_of g.body) f [] in
     record {
       objects = sym (ap (λ (xs : List StaticObject). objects_at xs code.symbols.objects) form.no_objects);
       as_many = sym (ap length form.one_function);
       functions = λ k g fl x at there mine.
           subst (λ (fs : List Function). IsFunctionOf (first_statement fs k) g fl (placement_of code k)
-              (point_address code k) x) (sym form.one_function)
+          (point_address code k) x) (sym form.one_function)
           (only-function f flow (slot_function f flow slots address) (placement_of code) (point_address code) k g fl x
           (ap (λ (fs : List Function). slice_get fs k) (sym form.one_function) ∙ at)
           (ap (λ (p : GraphProgram). slice_get p.functions k) (sym h.program) ∙ there)
@@ -346,12 +346,12 @@ belongs program form flow slots code is =
       once =
           subst (λ (ms : List MarkAt). IsDistinct (map (λ (x : MarkAt). x.statement) ms)) (sym marks)
           (distinct-statements f slots address flow.ops (all_points flow) (all-distinct flow h.homes h.is_flow)
-              (λ p q n at other. marks-one flow.ops p q n is.once at other));
+          (λ p q n at other. marks-one flow.ops p q n is.once at other));
       nops =
           subst (λ (ms : List MarkAt). All (λ mark. IsAt code.text mark.address (144 ∷ [])) ms) (sym marks)
           (All-from_recursion (λ (mark : MarkAt). IsAt code.text mark.address (144 ∷ []))
-              (points_marks f slots address flow.ops (all_points flow))
+          (points_marks f slots address flow.ops (all_points flow))
           (each-mark (λ (mark : MarkAt). IsAt code.text mark.address (144 ∷ [])) f slots address flow.ops
-              (all_points flow)
+          (all_points flow)
           (λ p n within at. (let (b, stands) = placed-in flow p within in mark-at flow slots code p b n h stands at))));
     }

@@ -88,9 +88,12 @@ later-home : (homes : List ℕ) (k : ℕ) (blocks : List (List ℕ)) (q : ℕ)
     → ((j : ℕ) → AtHome homes (k + j) (slice_index_or blocks j [])) → IsIn q (flat_map (λ points. points) blocks)
     → (h : ℕ) × (k ≤ h) × (slice_get homes q ≡ Some h)
 later-home homes k blocks q homely within =
-    let (j, there) = one-block q blocks within in
-    (k + j, omega arith, every-in (λ p. slice_get homes p ≡ Some (k + j)) q (slice_index_or blocks j []) (homely j).0
-        there)
+    let (j, there) = one-block q blocks within in (
+      k + j,
+      omega arith,
+      every-in (λ p. slice_get homes p ≡ Some (k + j)) q (slice_index_or blocks j []) (homely j).0
+          there,
+    )
 
 blocks-distinct : (homes : List ℕ) (k : ℕ) (blocks : List (List ℕ))
     → ((j : ℕ) → AtHome homes (k + j) (slice_index_or blocks j [])) → IsDistinct (flat_map (λ points. points) blocks)
@@ -99,7 +102,7 @@ blocks-distinct homes k (points ∷ blocks) homely =
     let here : k + 0 ≡ k = omega arith in
     let others : (j : ℕ) → AtHome homes (suc k + j) (slice_index_or blocks j []) =
     λ j. (let next : k + suc j ≡ suc k + j = omega arith in
-        subst (λ (h : ℕ). AtHome homes h (slice_index_or blocks j [])) next (homely (suc j))) in
+    subst (λ (h : ℕ). AtHome homes h (slice_index_or blocks j [])) next (homely (suc j))) in
     let mine = subst (λ (h : ℕ). AtHome homes h points) here (homely 0) in
     distinct-both points (flat_map (λ points. points) blocks) mine.1 (blocks-distinct homes (suc k) blocks others)
     (λ p q front back same.
@@ -112,4 +115,4 @@ pub all-distinct : (flow : Flow) (homes : List ℕ) → IsFlow flow homes → Is
 all-distinct flow homes is =
     blocks-distinct homes 0 flow.blocks
     (λ j. (let e : j ≡ 0 + j = omega arith in
-        subst (λ (h : ℕ). AtHome homes h (points_of flow j)) e ((is.each_block j).at_home, (is.each_block j).once)))
+    subst (λ (h : ℕ). AtHome homes h (points_of flow j)) e ((is.each_block j).at_home, (is.each_block j).once)))

@@ -45,7 +45,7 @@ standings-more k (s ∷ slots) slot =
     let e : suc k + length slots ≡ k + suc (length slots) = omega arith in
     ap (λ (ss : List Standing). record { variable = k; place = InSlot s } ∷ ss)
     (standings-more (suc k) slots slot ∙ ap (λ (n : ℕ). standings_from (suc k) slots
-        ++ record { variable = n; place = InSlot slot } ∷ []) e)
+    ++ record { variable = n; place = InSlot slot } ∷ []) e)
 
 length-slots : (offsets : List ℤ) → length (slots_of offsets) ≡ length offsets
 length-slots [] = refl
@@ -67,7 +67,7 @@ pub standings-put : (old : List stood.Standing) (offsets : List ℤ) (i below : 
     ≡ distance (get_or offsets i d)
     → map standing_of old ≡ standings_from 0 (slots_of (take i offsets))
     → map standing_of (old ++ record { variable = i; below = below } ∷ [])
-        ≡ standings_from 0 (slots_of (take (i + 1) offsets))
+    ≡ standings_from 0 (slots_of (take (i + 1) offsets))
 standings-put old offsets i below d h is e =
     let front : List ℕ = slots_of (take i offsets) in
     let long : 0 + length front ≡ i = omega (arith, h, length-slots (take i offsets), length-take-le i offsets) in
@@ -84,7 +84,7 @@ standings-put old offsets i below d h is e =
 variables-more : (k : ℕ) (locals : List Local) (n : ℕ)
     → numbered variable_lines k (variables_over locals (replicate (suc n) Two))
     ≡ numbered variable_lines k (variables_over locals (replicate n Two))
-        ++ VariableLine (k + n) Two (named_by (option_map (λ l. l.name) (slice_get locals n))) ∷ []
+    ++ VariableLine (k + n) Two (named_by (option_map (λ l. l.name) (slice_get locals n))) ∷ []
 variables-more k [] zero = let e : k ≡ k + 0 = omega arith in ap (λ (m : ℕ). VariableLine m Two Temporary ∷ []) e
 variables-more k (l ∷ locals) zero = let e : k ≡ k + 0 = omega arith in
     ap (λ (m : ℕ). VariableLine m Two (NamesScalar l.name) ∷ []) e
@@ -92,28 +92,28 @@ variables-more k [] (suc n) =
     let e : suc k + n ≡ k + suc n = omega arith in
     ap (λ (ls : List Line). VariableLine k Two Temporary ∷ ls)
     (variables-more (suc k) [] n ∙ ap (λ (m : ℕ). numbered variable_lines (suc k) (variables_over [] (replicate n Two))
-        ++ VariableLine m Two Temporary ∷ []) e)
+    ++ VariableLine m Two Temporary ∷ []) e)
 variables-more k (l ∷ locals) (suc n) =
     let e : suc k + n ≡ k + suc n = omega arith in
     let name = named_by (option_map (λ l. l.name) (slice_get locals n)) in
     ap (λ (ls : List Line). VariableLine k Two (NamesScalar l.name) ∷ ls)
     (variables-more (suc k) locals n ∙ ap (λ (m : ℕ).
-        numbered variable_lines (suc k) (variables_over locals (replicate n Two)) ++ VariableLine m Two name ∷ []) e)
+    numbered variable_lines (suc k) (variables_over locals (replicate n Two)) ++ VariableLine m Two name ∷ []) e)
 
 -- the lines of the first variables and of the next one
 pub variable-put : (start old : List made.Line) (locals : List tree.Local) (n : ℕ) (name : Option (List ℕ)) → name
     ≡ option_map (λ l. l.name) (slice_get locals n)
     → map line_of old ≡ map line_of start ++ numbered variable_lines 0
-        (variables_over (map local_of locals) (replicate n Two))
+    (variables_over (map local_of locals) (replicate n Two))
     → map line_of (old ++ Variable n Two name ∷ [])
-        ≡ map line_of start ++ numbered variable_lines 0 (variables_over (map local_of locals) (replicate (n + 1) Two))
+    ≡ map line_of start ++ numbered variable_lines 0 (variables_over (map local_of locals) (replicate (n + 1) Two))
 variable-put start old locals n name is e =
     let ls : List Local = map local_of locals in
     let front : List Line = numbered variable_lines 0 (variables_over ls (replicate n Two)) in
     let long : n ≡ 0 + n = omega arith in
     let more : suc n ≡ n + 1 = omega arith in
     let same : name ≡ option_map (λ (l : Local). l.name) (slice_get ls n) = is ∙ names-kept (slice_get locals n)
-        ∙ ap (option_map (λ (l : Local). l.name)) (sym (slice_get-map local_of locals n)) in
+    ∙ ap (option_map (λ (l : Local). l.name)) (sym (slice_get-map local_of locals n)) in
     map-append line_of old (Variable n Two name ∷ [])
     ∙ ap (λ (ys : List Line). ys ++ VariableLine n Two (named_by name) ∷ []) e
     ∙ append_assoc (map line_of start) front (VariableLine n Two (named_by name) ∷ [])
@@ -133,7 +133,7 @@ variable-put start old locals n name is e =
 points-more : (f : Function) (slots : List ℕ) (address : ℕ → ℕ) (ops : List Op) (placed : List ℕ) (i d p : ℕ)
     → i < length placed → get_or placed i d ≡ p
     → points_over f slots address ops (take (i + 1) placed)
-        ≡ points_over f slots address ops (take i placed) ++ op_points f slots address p (slice_get ops p)
+    ≡ points_over f slots address ops (take i placed) ++ op_points f slots address p (slice_get ops p)
 points-more f slots address ops placed i d p h is =
     let e : i + 1 ≡ suc i = omega arith in
     let each : ℕ → List MapPoint = λ q. op_points f slots address q (slice_get ops q) in
@@ -153,19 +153,19 @@ other-points f slots address point _ other = refl
 pub point-put : (start old new : List Line) (f : Function) (slots : List ℕ) (address : ℕ → ℕ) (ops : List Op)
     (placed : List ℕ) (i d p : ℕ) (o : Op) → i < length placed → get_or placed i d ≡ p → slice_get ops p ≡ Some o
     → old ≡ start ++ flat_map point_lines (points_over f slots address ops (take i placed)) → new
-        ≡ old ++ flat_map point_lines (op_points f slots address p (Some o))
+    ≡ old ++ flat_map point_lines (op_points f slots address p (Some o))
     → new ≡ start ++ flat_map point_lines (points_over f slots address ops (take (i + 1) placed))
 point-put start old new f slots address ops placed i d p o h is at e put =
     let front : List MapPoint = points_over f slots address ops (take i placed) in
     let here : List MapPoint = op_points f slots address p (Some o) in
     let all : points_over f slots address ops (take (i + 1) placed) ≡ front ++ here =
     points-more f slots address ops placed i d p h is
-        ∙ ap (λ (x : Option Op). front ++ op_points f slots address p x) at in
+    ∙ ap (λ (x : Option Op). front ++ op_points f slots address p x) at in
     put
     ∙ ap (λ (ls : List Line). ls ++ flat_map point_lines here) e
     ∙ append_assoc start (flat_map point_lines front) (flat_map point_lines here)
     ∙ ap (λ (ls : List Line). start ++ ls) (sym (flat_map-append point_lines front here)
-        ∙ ap (flat_map point_lines) (sym all))
+    ∙ ap (flat_map point_lines) (sym all))
 
 -- ---- the whole
 
@@ -173,13 +173,13 @@ point-put start old new f slots address ops placed i d p o h is at e put =
 pub lines-whole : (f : Function) (flow : Flow) (slots : List ℕ) (address : ℕ → ℕ)
     → lines_of (slot_map f flow slots address)
     ≡ FunctionLine 0 f.name (frame_of flow) ∷
-        (numbered variable_lines 0 (variables_over f.locals flow.widths)
-        ++ flat_map point_lines (points_over f slots address flow.ops (all_points flow)))
+    (numbered variable_lines 0 (variables_over f.locals flow.widths)
+    ++ flat_map point_lines (points_over f slots address flow.ops (all_points flow)))
 lines-whole f flow slots address =
     append-nil (function_lines 0 (slot_function f flow slots address))
     ∙ ap (λ (ps : List MapPoint). FunctionLine 0 f.name (frame_of flow)
-        ∷ (numbered variable_lines 0 (variables_over f.locals flow.widths) ++ flat_map point_lines ps))
-        (points-are f flow slots address)
+    ∷ (numbered variable_lines 0 (variables_over f.locals flow.widths) ++ flat_map point_lines ps))
+    (points-are f flow slots address)
 
 -- ---- declarations
 
@@ -204,16 +204,22 @@ points-same : (f : Function) (slots : List ℕ) (one other : ℕ → ℕ) (ops :
 points-same f slots one other ops [] same = refl
 points-same f slots one other ops (p ∷ points) same =
     ap (λ (ps : List MapPoint). ps ++ points_over f slots one ops points)
-        (op-same f slots one other p (slice_get ops p) (same p (inl refl)))
+    (op-same f slots one other p (slice_get ops p) (same p (inl refl)))
     ∙ ap (λ (ps : List MapPoint). op_points f slots other p (slice_get ops p) ++ ps)
-        (points-same f slots one other ops points (λ q within. same q (inr within)))
+    (points-same f slots one other ops points (λ q within. same q (inr within)))
 
 -- the map is the same where the points have the same addresses
 pub map-same : MapBySameAddresses
 map-same f flow slots one other same =
     ap (λ (ps : List MapPoint).
-    let g : MapFunction = record { name = f.name; frame = frame_of flow; arrays = []; variables =
-        variables_over f.locals flow.widths; blocks = ps ∷ [] } in
+    let g : MapFunction = record {
+      name = f.name;
+      frame = frame_of flow;
+      arrays = [];
+      variables =
+          variables_over f.locals flow.widths;
+      blocks = ps ∷ [];
+    } in
     let m : Map = record { objects = []; functions = g ∷ [] } in
     m)
     (points-same f slots one other flow.ops (all_points flow) (λ p within. same p (placed-in flow p within)))

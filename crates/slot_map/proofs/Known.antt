@@ -93,7 +93,7 @@ turn-known true (suc turns) g go o later e = later turns e
 
 run-known : (flow : Flow) (listing : Listing) → AllByRecursion IsSlotOp flow.ops
     → ((statement : ℕ) → AllByRecursion (IsShown flow) (listing statement))
-        → (steps turns : ℕ) (g : State) (o : Outcome)
+    → (steps turns : ℕ) (g : State) (o : Outcome)
     → IsWhole flow g → run_within (one_graph flow) listing steps turns g ≡ Some o → AreKnown o.visits
 run-known flow listing ops shown zero turns g o whole e = absurd (none-some o e)
 run-known flow listing ops shown (suc steps) turns g o whole e =
@@ -108,7 +108,7 @@ run-known flow listing ops shown (suc steps) turns g o whole e =
 pub outcome-known : (flow : Flow) (listing : Listing) (input : List ℕ) (turns : ℕ) (o : Outcome)
     → AllByRecursion IsSlotOp flow.ops
     → ((statement : ℕ) → AllByRecursion (IsShown flow) (listing statement))
-        → GraphOutcome (one_graph flow) listing input turns o
+    → GraphOutcome (one_graph flow) listing input turns o
     → AreKnown o.visits
 outcome-known flow listing input turns o ops shown (s, first, steps, run) =
     run-known flow listing ops shown steps turns s o
@@ -144,6 +144,6 @@ shows-known program form flow slots code is listing lists input turns o run =
     (map (variable_part (locals_at fs statement)) (listing statement))) (sym form.one_function)
     (parts-listed flow f.locals (listing statement) form.accepted.locals enough
     (subst (λ (fs : List Function). AllByRecursion (IsPartOf (locals_at fs statement)) (listing statement))
-        form.one_function
+    form.one_function
     (lists statement))))
     (subst (λ (p : GraphProgram). GraphOutcome p (variables_shown program listing) input turns o) is.laid.program run)

@@ -82,7 +82,7 @@ declared-few : (locals declared number : ℕ) (ss : Statements) (k : ℕ) → Is
 declared-few locals declared number (Next (Declare (Scalar n v (Some e))) others) zero is few = omega (arith, few)
 declared-few locals declared number (Next (Declare (Scalar n v (Some e))) others) (suc k) is few =
     let more = declared-few locals (suc declared) (suc number) others k is.4 (omega (arith, is.2)) in
-        omega (arith, more)
+    omega (arith, more)
 declared-few locals declared number (Next (Evaluate n (Assign (Integer Int) (LocalPlace v) e)) others) zero is few =
     omega (arith, few)
 declared-few locals declared number (Next (Evaluate n (Assign (Integer Int) (LocalPlace v) e)) others) (suc k) is few =
@@ -159,7 +159,7 @@ among-more : (body : List built.Statement) (i : ℕ) (s : built.Statement) → i
 among-more [] i s h is = absurd (omega (arith, h))
 among-more (t ∷ body) zero s h is =
     ap (λ (u : built.Statement). declared_by (statement_of u) + among (statements_of body) 0) is
-        ∙ omega (arith, first (statements_of body))
+    ∙ omega (arith, first (statements_of body))
   where
     first : (ss : Statements) → among ss 0 ≡ 0
     first Done = refl
@@ -173,7 +173,7 @@ declared-more f body i s form same h is =
     let more = among-more body i s h is in
     let A : ℕ → ℕ = λ k. among f.body k in
     let one : among f.body (suc i) ≡ among (statements_of body) (suc i) =
-        ap (λ (ss : Statements). among ss (suc i)) same in
+    ap (λ (ss : Statements). among ss (suc i)) same in
     let two : among f.body i ≡ among (statements_of body) i = ap (λ (ss : Statements). among ss i) same in
     omega (arith, declared-among f (suc i) form, declared-among f i form, one, two, more)
 

@@ -49,7 +49,7 @@ standings-parts variables k [] locals = refl
 standings-parts variables k (slot ∷ slots) locals =
     let here = part-at variables k slot (locals k (omega arith) (omega arith)) in
     let later = standings-parts variables (suc k) slots
-        (λ v low high. locals v (omega (arith, low)) (omega (arith, high))) in
+    (λ v low high. locals v (omega (arith, low)) (omega (arith, high))) in
     rw here (ap (λ (ps : List Part). Scalar k ∷ ps) later)
 
 -- they are locals of type int
@@ -78,7 +78,7 @@ pub scalars-kept : (locals : List Local) (k : ℕ) (slots : List ℕ) → AreInt
 scalars-kept locals k [] ints room = refl
 scalars-kept locals k (slot ∷ slots) ints room =
     ap (λ (v : ℕ). Scalar v ∷ map (variable_part locals) (scalars (suc k) slots))
-        (first-is locals k ints (omega (arith, room)))
+    (first-is locals k ints (omega (arith, room)))
     ∙ ap (λ (ps : List Part). Scalar k ∷ ps) (scalars-kept locals (suc k) slots ints (omega (arith, room)))
 
 -- ---- the parts of a statement
@@ -114,7 +114,7 @@ parts-are f flow slots address n form low has =
     let mine = slots_before f slots n in
     let few = slots-few f slots n form in
     standings-parts (variables_over f.locals flow.widths) 0 mine
-        (λ v low' high. local-all f flow slots v form low has (omega (arith, high, few)))
+    (λ v low' high. local-all f flow slots v form low has (omega (arith, high, few)))
 
 -- ---- listings
 
@@ -126,7 +126,7 @@ each-if P false xs ys one other = other
 each-op : (P : Part → Type 0) (m : Map) (f : Function) (slots : List ℕ) (address : ℕ → ℕ) (statement p : ℕ)
     (o : Option Op) (rest : List MarkAt)
     → ((n : ℕ) → AllByRecursion P (parts_at m f slots n)) → AllByRecursion P (listed_by m rest statement)
-        → AllByRecursion P (listed_by m (op_marks f slots address p o ++ rest) statement)
+    → AllByRecursion P (listed_by m (op_marks f slots address p o ++ rest) statement)
 each-op P m f slots address statement p (Some (op.Mark n)) rest all more =
     each-if P (eqb n statement) (parts_at m f slots n) (listed_by m rest statement) (all n) more
 each-op P m f slots address statement p _ rest all more = more
@@ -135,11 +135,11 @@ each-op P m f slots address statement p _ rest all more = more
 each-listed : (P : Part → Type 0) (m : Map) (f : Function) (slots : List ℕ) (address : ℕ → ℕ) (ops : List Op)
     (statement : ℕ) (points : List ℕ)
     → ((n : ℕ) → AllByRecursion P (parts_at m f slots n))
-        → AllByRecursion P (listed_by m (points_marks f slots address ops points) statement)
+    → AllByRecursion P (listed_by m (points_marks f slots address ops points) statement)
 each-listed P m f slots address ops statement [] all = tt
 each-listed P m f slots address ops statement (p ∷ points) all =
     each-op P m f slots address statement p (slice_get ops p) (points_marks f slots address ops points) all
-        (each-listed P m f slots address ops statement points all)
+    (each-listed P m f slots address ops statement points all)
 
 pub function-lists : (f : Function) (flow : Flow) (slots : List ℕ) (address : ℕ → ℕ) (statement : ℕ) → IsSlotFunction f
     → IsLowered f flow → HasSlots flow slots
@@ -149,18 +149,18 @@ function-lists f flow slots address statement form low has =
     let P = IsPartOf f.locals in
     let each : (n : ℕ) → AllByRecursion P (parts_at m f slots n) =
     λ n. subst (AllByRecursion P) (sym (parts-are f flow slots address n form low has))
-        (scalars-listed f.locals 0 (slots_before f slots n) form.locals (omega (arith, slots-few f slots n form))) in
+    (scalars-listed f.locals 0 (slots_before f slots n) form.locals (omega (arith, slots-few f slots n form))) in
     subst (λ (ms : List MarkAt). AllByRecursion P (listed_by m ms statement)) (sym (marks-are f flow slots address))
-        (each-listed P m f slots address flow.ops statement (all_points flow) each)
+    (each-listed P m f slots address flow.ops statement (all_points flow) each)
 
 -- the map lists locals of the program
 pub lists-locals : MapListsLocals
 lists-locals program form flow slots code is statement =
     let m = slot_map form.function flow slots (point_address code 0) in
     subst (λ (fs : List Function). AllByRecursion (IsPartOf (locals_at fs statement)) (listed m statement))
-        (sym form.one_function)
+    (sym form.one_function)
     (function-lists form.function flow slots (point_address code 0) statement form.accepted is.lowered
-        is.laid.has_slots)
+    is.laid.has_slots)
 
 -- ---- the parts at a mark
 
@@ -176,7 +176,7 @@ listed-op m f slots address statement p (Some (op.Mark n)) rest or =
     elim (eqb_tells n statement) [
       | inl same ↦
           ap (λ (b : Bool). if b then parts_at m f slots n else listed_by m rest statement) same.0
-              ∙ ap (parts_at m f slots) same.1
+          ∙ ap (parts_at m f slots) same.1
       | inr other ↦
           ap (λ (b : Bool). if b then parts_at m f slots n else listed_by m rest statement) other.0
           ∙ (elim or [ inl here ↦ absurd (other.1 (mark-number n statement here)) | inr later ↦ later ])
@@ -188,11 +188,11 @@ listed-op m f slots address statement p _ rest (inr later) = later
 pub listed-mark : (m : Map) (f : Function) (slots : List ℕ) (address : ℕ → ℕ) (ops : List Op) (statement here : ℕ)
     (points : List ℕ) → IsIn here points
     → slice_get ops here ≡ Some (op.Mark statement) → listed_by m (points_marks f slots address ops points) statement
-        ≡ parts_at m f slots statement
+    ≡ parts_at m f slots statement
 listed-mark m f slots address ops statement here [] within at = absurd within
 listed-mark m f slots address ops statement here (p ∷ points) (inl same) at =
     listed-op m f slots address statement p (slice_get ops p) (points_marks f slots address ops points)
-        (inl (ap (slice_get ops) same ∙ at))
+    (inl (ap (slice_get ops) same ∙ at))
 listed-mark m f slots address ops statement here (p ∷ points) (inr within) at =
     listed-op m f slots address statement p (slice_get ops p) (points_marks f slots address ops points)
     (inr (listed-mark m f slots address ops statement here points within at))

@@ -41,8 +41,13 @@ point-whole flow block g h None whole e = absurd (cc)
 point-whole flow block g h (Some point) whole e =
     let there : State = record g { block = block; point = point } in
     let same : there ≡ h = cc in
-    subst (IsWhole flow) same (record { main = whole.main; alone = whole.alone; values = whole.values; numbers =
-        whole.numbers })
+    subst (IsWhole flow) same (record {
+      main = whole.main;
+      alone = whole.alone;
+      values = whole.values;
+      numbers =
+          whole.numbers;
+    })
 
 onward-whole : (program : GraphProgram) (flow : Flow) (g h : State) → IsWhole flow g → onward program g ≡ Moves h
     → IsWhole flow h
@@ -98,7 +103,7 @@ act-whole program flow g h (op.Sub d a b) is whole e =
 act-whole program flow g h (op.Putchar d a) is whole e =
     let (n, moves) = given-moves (number_at g a) (puts program g d) h e in
     let put : IsWhole flow (record g { written = g.written ++ low_byte n ∷ [] }) =
-        record { main = whole.main; alone = whole.alone; values = whole.values; numbers = whole.numbers } in
+    record { main = whole.main; alone = whole.alone; values = whole.values; numbers = whole.numbers } in
     sets-whole program flow (record g { written = g.written ++ low_byte n ∷ [] }) h d _ tt put moves
 act-whole program flow g h (op.Mark n) is whole e = onward-whole program flow g h whole e
 act-whole program flow g h op.Turn is whole e = onward-whole program flow g h whole e
@@ -146,7 +151,7 @@ first-whole flow input g (Some point) e =
     let first : State = first_state_at (one_graph flow) input point in
     let zero_of : Width → Value = λ width. Number (pos 0) in
     subst (IsWhole flow) (same_Some first g e)
-        (record { main = refl; alone = refl; values = length-map flow.widths zero_of; numbers = all-zero flow.widths })
+    (record { main = refl; alone = refl; values = length-map flow.widths zero_of; numbers = all-zero flow.widths })
 
 -- a state that the program comes to has a number for each variable
 pub reached-whole : (flow : Flow) (input : List ℕ) (k : ℕ) (g : State) → AllByRecursion IsSlotOp flow.ops

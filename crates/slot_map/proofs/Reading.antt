@@ -44,7 +44,7 @@ local-at (l ∷ locals) (width ∷ widths) (suc v) two h room =
     let rest = variables_over locals widths in
     let count : MapVariable → ℕ = λ x. cond (begins_local x.named) 1 0 in
     let more : count_by (λ x. begins_local x.named) (take (suc v) (first ∷ rest))
-        ≡ 1 + count_by (λ x. begins_local x.named) (take v rest) = sum_by-cons count first (take v rest) in
+    ≡ 1 + count_by (λ x. begins_local x.named) (take v rest) = sum_by-cons count first (take v rest) in
     record { name = later.name; at = later.at; before = omega (arith, more, later.before) }
 
 -- there are as many as widths, and they have these
@@ -65,8 +65,13 @@ all-two (width ∷ widths) two = ap (λ (w : Width). w ∷ widths) two.0
 
 -- the mark of a statement at a point
 abbrev pub mark_at : Function → List ℕ → (ℕ → ℕ) → ℕ → ℕ → MarkAt
-mark_at f slots address p n = record { address = address p; statement = n; function = 0; standings =
-    standings_from 0 (take (declared_before f n) slots) }
+mark_at f slots address p n = record {
+  address = address p;
+  statement = n;
+  function = 0;
+  standings =
+      standings_from 0 (take (declared_before f n) slots);
+}
 
 abbrev pub op_marks : Function → List ℕ → (ℕ → ℕ) → ℕ → Option Op → List MarkAt
 op_marks f slots address p (Some (op.Mark n)) = mark_at f slots address p n ∷ []
@@ -77,7 +82,7 @@ points_marks f slots address ops points = flat_map (λ p. op_marks f slots addre
 
 op-marked : (f : Function) (slots : List ℕ) (address : ℕ → ℕ) (p : ℕ) (o : Option Op) (rest : List MapPoint)
     → filter_map (mark_of 0) (op_points f slots address p o ++ rest)
-        ≡ op_marks f slots address p o ++ filter_map (mark_of 0) rest
+    ≡ op_marks f slots address p o ++ filter_map (mark_of 0) rest
 op-marked f slots address p (Some (op.Mark n)) rest = refl
 op-marked f slots address p _ rest = refl
 
@@ -87,7 +92,7 @@ points-marked f slots address ops [] = refl
 points-marked f slots address ops (p ∷ points) =
     op-marked f slots address p (slice_get ops p) (points_over f slots address ops points)
     ∙ ap (λ (ms : List MarkAt). op_marks f slots address p (slice_get ops p) ++ ms)
-        (points-marked f slots address ops points)
+    (points-marked f slots address ops points)
 
 -- the points of the map's function
 pub points-are : (f : Function) (flow : Flow) (slots : List ℕ) (address : ℕ → ℕ)

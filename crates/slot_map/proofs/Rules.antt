@@ -35,7 +35,7 @@ use Rattle.slot_map.proofs.Reading.{IsLocalAt, points-are, widths-over}
 each-op : (P : MapPoint → Type 0) (f : Function) (slots : List ℕ) (address : ℕ → ℕ) (p : ℕ) (o : Option Op)
     (rest : List MapPoint)
     → ((n : ℕ) → o ≡ Some (op.Mark n) → P (marked_point p (address p) n (slots_before f slots n)))
-        → AllByRecursion P rest → AllByRecursion P (op_points f slots address p o ++ rest)
+    → AllByRecursion P rest → AllByRecursion P (op_points f slots address p o ++ rest)
 each-op P f slots address p (Some (op.Mark n)) rest here all = (here n refl, all)
 each-op P f slots address p _ rest here all = all
 
@@ -43,18 +43,18 @@ each-op P f slots address p _ rest here all = all
 pub each-point : (P : MapPoint → Type 0) (f : Function) (slots : List ℕ) (address : ℕ → ℕ) (ops : List Op)
     (points : List ℕ)
     → ((p n : ℕ) → IsIn p points → slice_get ops p ≡ Some (op.Mark n)
-        → P (marked_point p (address p) n (slots_before f slots n)))
-        → AllByRecursion P (points_over f slots address ops points)
+    → P (marked_point p (address p) n (slots_before f slots n)))
+    → AllByRecursion P (points_over f slots address ops points)
 each-point P f slots address ops [] each = tt
 each-point P f slots address ops (p ∷ points) each =
     each-op P f slots address p (slice_get ops p) (points_over f slots address ops points)
-        (λ n at. each p n (inl refl) at)
+    (λ n at. each p n (inl refl) at)
     (each-point P f slots address ops points (λ q n within at. each q n (inr within) at))
 
 every-number : (P : ℕ → Type 0) (f : Function) (slots : List ℕ) (address : ℕ → ℕ) (p : ℕ) (o : Option Op)
     (rest : List MapPoint)
     → P p → AllByRecursion P (map (λ x. x.number) rest)
-        → AllByRecursion P (map (λ x. x.number) (op_points f slots address p o ++ rest))
+    → AllByRecursion P (map (λ x. x.number) (op_points f slots address p o ++ rest))
 every-number P f slots address p (Some (op.Mark n)) rest here all = (here, all)
 every-number P f slots address p _ rest here all = all
 
@@ -64,11 +64,11 @@ every-numbers : (P : ℕ → Type 0) (f : Function) (slots : List ℕ) (address 
 every-numbers P f slots address ops [] all = tt
 every-numbers P f slots address ops (p ∷ points) all =
     every-number P f slots address p (slice_get ops p) (points_over f slots address ops points) all.0
-        (every-numbers P f slots address ops points all.1)
+    (every-numbers P f slots address ops points all.1)
 
 distinct-number : (f : Function) (slots : List ℕ) (address : ℕ → ℕ) (p : ℕ) (o : Option Op) (rest : List MapPoint)
     → AllByRecursion (λ q. q ≢ p) (map (λ x. x.number) rest) → IsDistinct (map (λ x. x.number) rest)
-        → IsDistinct (map (λ x. x.number) (op_points f slots address p o ++ rest))
+    → IsDistinct (map (λ x. x.number) (op_points f slots address p o ++ rest))
 distinct-number f slots address p (Some (op.Mark n)) rest away once = (away, once)
 distinct-number f slots address p _ rest away once = once
 
@@ -119,7 +119,7 @@ address-small : (text : List ℕ) (address byte : ℕ) → length text < 2 ^ 30 
     → address < 2 ^ 32
 address-small text address byte short at =
     let whole = ap length at.whole ∙ length-append at.done (byte ∷ [] ++ at.rest) in
-        omega (arith, whole, at.place, short)
+    omega (arith, whole, at.place, short)
 
 -- the map keeps the rules, where the names are names
 pub is-map : MapKeepsRules
@@ -132,12 +132,12 @@ is-map program form flow slots code is name names =
     let small = h.has_slots.small in
     let vs = variables_over f.locals flow.widths in
     let many : length vs ≡ length flow.widths = sym (length-map vs (λ (v : MapVariable). v.width))
-        ∙ ap length (widths-over f.locals flow.widths) in
+    ∙ ap length (widths-over f.locals flow.widths) in
     let few = function-small program form in
     let statements = numbers-size f form.accepted in
     let ps = points_over f slots address flow.ops (all_points flow) in
     let each : (p n : ℕ) → IsIn p (all_points flow) → slice_get flow.ops p ≡ Some (op.Mark n)
-        → IsMapPoint m g (marked_point p (address p) n (slots_before f slots n)) =
+    → IsMapPoint m g (marked_point p (address p) n (slots_before f slots n)) =
     λ p n within at.
     let (b, stands) = placed-in flow p within in
     let mine = slots_before f slots n in
@@ -150,7 +150,7 @@ is-map program form flow slots code is name names =
         All-from_recursion (IsStanding vs) (standings_from 0 mine)
             (standings-ruled vs (frame_of flow) 0 mine
             (λ v above below. local-all f flow slots v form.accepted is.lowered h.has_slots
-                (omega (arith, below, slots-few f slots n form.accepted)))
+            (omega (arith, below, slots-few f slots n form.accepted)))
             (every-take (IsSlot (frame_of flow)) (declared_before f n) slots h.has_slots.within) small),
         ascending 0 mine,
       );
@@ -159,9 +159,9 @@ is-map program form flow slots code is name names =
     }
     in
     let ruled : All (IsMapPoint m g) ps = All-from_recursion (IsMapPoint m g) ps
-        (each-point (IsMapPoint m g) f slots address flow.ops (all_points flow) each) in
+    (each-point (IsMapPoint m g) f slots address flow.ops (all_points flow) each) in
     let apart : IsDistinct (map (λ x. x.number) ps) =
-        distinct-numbers f slots address flow.ops (all_points flow) (all-distinct flow h.homes h.is_flow) in
+    distinct-numbers f slots address flow.ops (all_points flow) (all-distinct flow h.homes h.is_flow) in
     let same = sym (points-are f flow slots address) in
     let function : IsMapFunction m g =
     record {

@@ -52,7 +52,7 @@ use Rattle.slot_map.proofs.Visits.{ShowsSlot, slot-before, slots-show, visits-he
 register-small : (r : Reg32) (bytes : List ℕ) → AreRegisters bytes → register r bytes < 2 ^ 32
 register-small r bytes h =
     let each : (k : ℕ) → get_or (drop (word_place r) bytes) k 0 < 256 = λ k. let below = h.below (word_place r + k) in
-        rw (get_or-drop (word_place r) bytes k 0) below in
+    rw (get_or-drop (word_place r) bytes k 0) below in
     little_from-lt 0 4 (drop (word_place r) bytes) each
 
 pub code-placement : (flow : Flow) (slots : List ℕ) (code : Code)
@@ -88,16 +88,16 @@ function-main flow (suc k) point o e = absurd (none-some o e)
 slot-shown : (flow : Flow) (slots : List ℕ) (code : Code) (input : List ℕ) (g : graph.State) (s : machine.State)
     (v slot : ℕ) → IsSlotCode flow slots (selected flow (over_slots flow slots)) code → Shows code input g s
     → g.current.function ≡ 0 → length g.current.variables ≡ length flow.widths → All IsNumber g.current.variables
-        → slice_get slots v ≡ Some slot → ShowsSlot s g v slot
+    → slice_get slots v ≡ Some slot → ShowsSlot s g v slot
 slot-shown flow slots code input g s v slot h shows main values numbers there =
     let function = g.current.function in
     let inside = slice_get_within slots v slot there in
     let known : v < length flow.widths = omega (arith, inside, h.has_slots.as_many) in
     let value : Value = get_or g.current.variables v (Number (pos 0)) in
     let at : slice_get g.current.variables v ≡ Some value =
-        slice_get-get_or g.current.variables v (Number (pos 0)) (omega (arith, known, values)) in
+    slice_get-get_or g.current.variables v (Number (pos 0)) (omega (arith, known, values)) in
     let place : placement_of code function ≡ in_slots (frame_of flow) [] slots = ap (placement_of code) main
-        ∙ code-placement flow slots code h in
+    ∙ code-placement flow slots code h in
     let before : (placement_of code function).before g.point v ≡ Some (InSlot slot) =
     ap (λ (p : Placement). p.before g.point v) place ∙ ap (option_map InSlot) there in
     let width : slice_get (flow_at code.program function).widths v ≡ Some Two =
@@ -105,18 +105,18 @@ slot-shown flow slots code input g s v slot h shows main values numbers there =
     ∙ ap (λ (n : ℕ). slice_get (flow_at (one_graph flow) n).widths v) main
     ∙ two-at flow.widths v h.has_slots.widths known in
     let stands = subst (λ (w : Option Width). InSlotOf code (active_of g) shows.frames s (word_of Ebp s - slot) w value)
-        width (shows.variables v value (InSlot slot) at before) in
+    width (shows.variables v value (InSlot slot) at before) in
     let readable = readable-by s.memory (subst (λ (l : List Shape). AllByRecursion (λ shape. shape.readable ≡ true) l)
-        (sym shows.shapes) (refl, (refl, tt))) in
+    (sym shows.shapes) (refl, (refl, tt))) in
     let fits = every-get (IsSlot (frame_of flow)) slots v slot h.has_slots.within there in
     let frame : (placement_of code function).frame ≡ frame_of flow = ap (λ (p : Placement). p.frame) place in
     let room : slot ≤ register Ebp s.registers = omega (arith, fits.high, frame, shows.esp) in
     let address = slot-address s slot room (register-small Ebp s.registers shows.registers) (omega (arith, fits.low)) in
     let number : number_in Two (InSlot slot) s ≡ Some stands.0 = ap (λ (a : ℕ). shown.number_at 4 a s.memory) address
-        ∙ load-number 4 (word_of Ebp s - slot) stands.0 s readable stands.1 in
+    ∙ load-number 4 (word_of Ebp s - slot) stands.0 s readable stands.1 in
     ap (signed_value Two) number
     ∙ word-shown code (active_of g) shows.frames value stands.0 (all-at IsNumber g.current.variables v value numbers at)
-        stands.2
+    stands.2
     ∙ ap shown_number (sym at)
 
 -- ---- marks
@@ -134,7 +134,7 @@ at-point flow slots code input g s o h shows at =
     let here : op_at (one_graph flow) g ≡ Some o = ap (λ (p : GraphProgram). op_at p g) (sym h.program) ∙ at in
     let main : g.current.function ≡ 0 = function-main flow g.current.function g.point o here in
     let is : flow_at code.program g.current.function ≡ flow =
-        ap (λ (p : GraphProgram). flow_at p g.current.function) h.program ∙ ap (flow_at (one_graph flow)) main in (
+    ap (λ (p : GraphProgram). flow_at p g.current.function) h.program ∙ ap (flow_at (one_graph flow)) main in (
       main,
       record {
         has = sym (op-main flow g main) ∙ here;
@@ -156,7 +156,7 @@ mark-values : (f : Function) (flow : Flow) (slots : List ℕ) (code : Code) (inp
     (s : machine.State) (statement p : ℕ) → IsSlotFunction f → IsCodeOf f flow slots code
     → GraphAt code.program input k g → Shows code input g s
     → values_of (map_in f flow slots code) (mark_at f slots (point_address code 0) p statement) s
-        ≡ map (part_value g) (scalars 0 (slots_before f slots statement))
+    ≡ map (part_value g) (scalars 0 (slots_before f slots statement))
 mark-values f flow slots code input k g s statement p form is reached shows =
     let h = is.laid in
     let m = map_in f flow slots code in
@@ -164,22 +164,23 @@ mark-values f flow slots code input k g s statement p form is reached shows =
     let vs = variables_over f.locals flow.widths in
     let frames = frames_of m (mark_at f slots (point_address code 0) p statement) s in
     let whole = reached-whole flow input k g h.has_slots.ops
-        (subst (λ (q : GraphProgram). GraphAt q input k g) h.program reached) in
+    (subst (λ (q : GraphProgram). GraphAt q input k g) h.program reached) in
     let few = function-declares f statement form in
     slots-show vs m frames s g 0 mine
     (λ j slot e.
     let there = slot-before slots (declared_before f statement) j slot e in
     let same : j ≡ 0 + j = omega arith in
-    subst (λ (v : ℕ). IsLocalAt vs v × ShowsSlot s g v slot) same
-    (local-all f flow slots j form is.lowered h.has_slots (omega (arith, there.0, few)),
-        slot-shown flow slots code input g s j slot h shows whole.main whole.values whole.numbers there.1))
+    subst (λ (v : ℕ). IsLocalAt vs v × ShowsSlot s g v slot) same (
+      local-all f flow slots j form is.lowered h.has_slots (omega (arith, there.0, few)),
+      slot-shown flow slots code input g s j slot h shows whole.main whole.values whole.numbers there.1,
+    ))
 
 -- what the listing of the map shows of the graph
 listed-shown : (program : Program) (form : IsSlotProgram program) (flow : Flow) (slots : List ℕ) (code : Code)
     (p statement : ℕ) → IsCodeOf form.function flow slots code → IsIn p (all_points flow)
     → slice_get flow.ops p ≡ Some (op.Mark statement)
     → variables_shown program (listed (map_in form.function flow slots code)) statement
-        ≡ scalars 0 (slots_before form.function slots statement)
+    ≡ scalars 0 (slots_before form.function slots statement)
 listed-shown program form flow slots code p statement is within at =
     let f = form.function in
     let m = map_in f flow slots code in
@@ -191,17 +192,17 @@ listed-shown program form flow slots code p statement is within at =
     ap (λ (fs : List Function). map (variable_part (locals_at fs statement)) (listed m statement)) form.one_function
     ∙ ap (map (variable_part f.locals)) list
     ∙ scalars-kept f.locals 0 (slots_before f slots statement) form.accepted.locals
-        (omega (arith, slots-few f slots statement form.accepted))
+    (omega (arith, slots-few f slots statement form.accepted))
 
 -- ---- visits
 
 marks-shown : (program : Program) (form : IsSlotProgram program) (flow : Flow) (slots : List ℕ) (code : Code)
     (input : List ℕ) (k : ℕ) (g : graph.State) (s : machine.State) (statement : ℕ)
     → IsCodeOf form.function flow slots code → GraphAt code.program input k g → Shows code input g s
-        → op_at code.program g ≡ Some (op.Mark statement)
+    → op_at code.program g ≡ Some (op.Mark statement)
     → visits_of (map_in form.function flow slots code) s
-        ≡ visits_at (variables_shown program (listed (map_in form.function flow slots code))) g
-        (Some (op.Mark statement))
+    ≡ visits_at (variables_shown program (listed (map_in form.function flow slots code))) g
+    (Some (op.Mark statement))
 marks-shown program form flow slots code input k g s statement is reached shows at =
     let h = is.laid in
     let f = form.function in
@@ -216,7 +217,7 @@ marks-shown program form flow slots code input k g s statement is reached shows 
     let values = mark-values f flow slots code input k g s statement g.point form.accepted is reached shows in
     let list = listed-shown program form flow slots code g.point statement is within here.has in
     seen ∙ ap (λ (vs : List Value). let one : Visit = record { statement = statement; values = vs } in one ∷ [])
-        (values ∙ ap (map (part_value g)) (sym list))
+    (values ∙ ap (map (part_value g)) (sym list))
 
 turns-shown : (f : Function) (flow : Flow) (slots : List ℕ) (code : Code) (input : List ℕ) (g : graph.State)
     (s : machine.State) → IsCodeOf f flow slots code → Shows code input g s
@@ -233,7 +234,7 @@ turns-shown f flow slots code input g s is shows at =
     cc
     in
     ap (visits_by m s) (marks-are f flow slots address)
-        ∙ visits-none m s f slots address flow.ops (all_points flow) away
+    ∙ visits-none m s f slots address flow.ops (all_points flow) away
 
 elsewhere-shown : (f : Function) (flow : Flow) (slots : List ℕ) (code : Code) (s : machine.State)
     → IsCodeOf f flow slots code → IsClear code.text s.eip → visits_of (map_in f flow slots code) s ≡ []

@@ -33,16 +33,16 @@ pub slots-show : (variables : List MapVariable) (m : Map) (frames : List Frame) 
     (slots : List ℕ)
     → ((j slot : ℕ) → slice_get slots j ≡ Some slot → IsLocalAt variables (k + j) × ShowsSlot s g (k + j) slot)
     → filter_map (λ standing. value_of m frames s standing.place (slice_get variables standing.variable))
-        (standings_from k slots) ≡ map (part_value g) (scalars k slots)
+    (standings_from k slots) ≡ map (part_value g) (scalars k slots)
 slots-show variables m frames s g k [] each = refl
 slots-show variables m frames s g k (slot ∷ slots) each =
     let from : k + 0 ≡ k = omega arith in
     let here = subst (λ (v : ℕ). IsLocalAt variables v × ShowsSlot s g v slot) from (each 0 slot refl) in
     let later = slots-show variables m frames s g (suc k) slots
     (λ j other at. let next : k + suc j ≡ suc k + j = omega arith in
-        subst (λ (v : ℕ). IsLocalAt variables v × ShowsSlot s g v other) next (each (suc j) other at)) in
+    subst (λ (v : ℕ). IsLocalAt variables v × ShowsSlot s g v other) next (each (suc j) other at)) in
     let one : value_of m frames s (InSlot slot) (slice_get variables k)
-        ≡ Some (shown_number (slice_get g.current.variables k)) =
+    ≡ Some (shown_number (slice_get g.current.variables k)) =
     ap (value_of m frames s (InSlot slot)) here.0.at ∙ ap Some here.1 in
     rw one (ap (λ (vs : List Value). shown_number (slice_get g.current.variables k) ∷ vs) later)
 
@@ -60,7 +60,7 @@ slot-before (x ∷ slots) (suc n) (suc j) slot e = let later = slot-before slots
 here-op : (m : Map) (s : State) (f : Function) (slots : List ℕ) (address : ℕ → ℕ) (ops : List Op) (here statement p : ℕ)
     (o : Option Op) (rest : List MarkAt)
     → slice_get ops here ≡ Some (op.Mark statement) → s.eip ≡ address here → slice_get ops p ≡ o
-        → (address p ≡ address here → p ≡ here)
+    → (address p ≡ address here → p ≡ here)
     → (p ≡ here) ⊎ (visits_by m s rest ≡ visit_at m s (mark_at f slots address here statement) ∷ [])
     → visits_by m s (op_marks f slots address p o ++ rest) ≡ visit_at m s (mark_at f slots address here statement) ∷ []
 here-op m s f slots address ops here statement p (Some (op.Mark n)) rest at eip is apart or =
@@ -70,7 +70,7 @@ here-op m s f slots address ops here statement p (Some (op.Mark n)) rest at eip 
           let q : p ≡ here = apart (same.1 ∙ eip) in
           let number : n ≡ statement = mark-number n statement (sym is ∙ ap (slice_get ops) q ∙ at) in
           ap (λ (b : Bool). if b then V p n else visits_by m s rest) same.0 ∙ ap (λ (x : ℕ). V x n) q
-              ∙ ap (V here) number
+          ∙ ap (V here) number
       | inr other ↦
           ap (λ (b : Bool). if b then V p n else visits_by m s rest) other.0
           ∙ (elim or [ inl q ↦ absurd (other.1 (ap address q ∙ sym eip)) | inr later ↦ later ])
@@ -83,16 +83,16 @@ here-op m s f slots address ops here statement p _ rest at eip is apart (inr lat
 pub visits-here : (m : Map) (s : State) (f : Function) (slots : List ℕ) (address : ℕ → ℕ) (ops : List Op)
     (here statement : ℕ) (points : List ℕ) → IsIn here points
     → slice_get ops here ≡ Some (op.Mark statement) → s.eip ≡ address here
-        → ((p : ℕ) → IsIn p points → address p ≡ address here → p ≡ here)
+    → ((p : ℕ) → IsIn p points → address p ≡ address here → p ≡ here)
     → visits_by m s (points_marks f slots address ops points)
-        ≡ visit_at m s (mark_at f slots address here statement) ∷ []
+    ≡ visit_at m s (mark_at f slots address here statement) ∷ []
 visits-here m s f slots address ops here statement [] within at eip apart = absurd within
 visits-here m s f slots address ops here statement (p ∷ points) (inl same) at eip apart =
     here-op m s f slots address ops here statement p (slice_get ops p) (points_marks f slots address ops points) at eip
-        refl (apart p (inl refl)) (inl same)
+    refl (apart p (inl refl)) (inl same)
 visits-here m s f slots address ops here statement (p ∷ points) (inr within) at eip apart =
     here-op m s f slots address ops here statement p (slice_get ops p) (points_marks f slots address ops points) at eip
-        refl (apart p (inl refl))
+    refl (apart p (inl refl))
     (inr (visits-here m s f slots address ops here statement points within at eip (λ q i. apart q (inr i))))
 
 none-op : (m : Map) (s : State) (f : Function) (slots : List ℕ) (address : ℕ → ℕ) (p : ℕ) (o : Option Op)
@@ -110,8 +110,8 @@ none-op m s f slots address p _ rest away later = later
 pub visits-none : (m : Map) (s : State) (f : Function) (slots : List ℕ) (address : ℕ → ℕ) (ops : List Op)
     (points : List ℕ)
     → ((p n : ℕ) → IsIn p points → slice_get ops p ≡ Some (op.Mark n) → address p ≡ s.eip → ⊥)
-        → visits_by m s (points_marks f slots address ops points) ≡ []
+    → visits_by m s (points_marks f slots address ops points) ≡ []
 visits-none m s f slots address ops [] away = refl
 visits-none m s f slots address ops (p ∷ points) away =
     none-op m s f slots address p (slice_get ops p) (points_marks f slots address ops points) (λ n. away p n (inl refl))
-        (visits-none m s f slots address ops points (λ q n i. away q n (inr i)))
+    (visits-none m s f slots address ops points (λ q n i. away q n (inr i)))

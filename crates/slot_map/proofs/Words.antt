@@ -34,7 +34,7 @@ readable-by (area ∷ areas) all = (all.0, readable-by areas all.1)
 read-if : (b : Bool) (n : ℕ) (bytes : List ℕ) (number : Option ℕ) (rest : Option (List ℕ)) → number
     ≡ option_map (little_number n) rest
     → (if b then Some (little_number n bytes) else number)
-        ≡ option_map (little_number n) (if b then Some (take n bytes) else rest)
+    ≡ option_map (little_number n) (if b then Some (take n bytes) else rest)
 read-if true n bytes number rest e = ap Some (sym (little_from-take 0 n n bytes (omega arith)))
 read-if false n bytes number rest e = e
 
@@ -45,7 +45,7 @@ number-read n address [] all = refl
 number-read n address (area ∷ areas) all =
     rw all.0
     (read-if (has_bytes area address n) n (drop (address - area.address) area.bytes) (shown.number_at n address areas)
-        (bytes_at n address areas) (number-read n address areas all.1))
+    (bytes_at n address areas) (number-read n address areas all.1))
 
 loaded : (n : ℕ) (o : Option (List ℕ)) (end : End) (word : ℕ)
     → and_then (or_end o end) (λ bytes. Ok (little_number n bytes)) ≡ Ok word → option_map (little_number n) o

@@ -79,7 +79,7 @@ fn push_mark(
     ensures { OnOk result (
         map line_of lines.new.items
         ≡ map line_of lines.old.items ++ point_lines
-            (marked_point mark.point mark.address mark.statement (slots_of offsets.now))) }
+        (marked_point mark.point mark.address mark.statement (slots_of offsets.now))) }
 {
     let standings = standings(alloc, offsets)?;
     lines.push(Line::Mark {
@@ -187,7 +187,7 @@ fn push_points(
         map line_of lines.new.items
         ≡ map line_of lines.old.items
         ++ flat_map point_lines (points_over (function_of function.now) (slots_of offsets.now)
-            (λ point. slice_index addresses.now point) graph.now.ops (all_points graph.now))) }
+        (λ point. slice_index addresses.now point) graph.now.ops (all_points graph.now))) }
 {
     let counts = declared_counts(alloc, function)?;
     let placed = placed_points(alloc, graph)?;
@@ -222,7 +222,7 @@ pub fn map_lines(
     ensures { IfOk result (λ lines.
         map line_of lines.items
         ≡ lines_of (slot_map (function_of function.now) graph.now (slots_of offsets.now)
-            (λ point. slice_index addresses.now point))) }
+        (λ point. slice_index addresses.now point))) }
 {
     let variables = graph.vars();
     let mut lines = Vec::new(alloc);

@@ -54,14 +54,14 @@ pub returns-clause-statements : goal.returns-clause-statements
 returns-clause-statements c =
     let p = program_of c.args.program.now in
     IfOk-weaker c.lower_program.result (λ graphs. graphs_of graphs ≡ slot_graphs p)
-        (λ graphs. HaveMarks p (graphs_of graphs))
+    (λ graphs. HaveMarks p (graphs_of graphs))
     (λ graphs is. subst (λ (g : GraphProgram). HaveMarks p g) (sym is) (marks-kept p c.requires))
-        c.lower_program.ensures.graphs
+    c.lower_program.ensures.graphs
 
 pub returns-clause-slots : goal.returns-clause-slots
 returns-clause-slots c =
     let p = program_of c.args.program.now in
     IfOk-weaker c.lower_program.result (λ graphs. graphs_of graphs ≡ slot_graphs p)
-        (λ graphs. AreSlotGraphs (graphs_of graphs))
+    (λ graphs. AreSlotGraphs (graphs_of graphs))
     (λ graphs is. subst (λ (g : GraphProgram). AreSlotGraphs g) (sym is) (slots-kept p c.requires))
-        c.lower_program.ensures.graphs
+    c.lower_program.ensures.graphs

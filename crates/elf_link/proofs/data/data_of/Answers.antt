@@ -11,19 +11,19 @@ pub loop-object-init : goal.loop-object-init
 loop-object-init c =
     ap (λ (xs : List ℕ). xs ++ flat_map object_bytes (map object_of c.args.objects.now.items))
     (depth_put c.new-bytes.result.items c.resize.new.self.items _ c.new-bytes.ensures.items c.new-bytes.ensures.len
-        c.in_ok-resize.ensures.items)
+    c.in_ok-resize.ensures.items)
 
 pub put_object-requires-clause-narrow : goal.put_object-requires-clause-narrow
 put_object-requires-clause-narrow c =
     (held_at c.args.objects.now.items c.deref-object-items.result.now c.loop-object.object-index c.object-item.result
-        c.requires c.deref-object-items.ensures.value (omega arith) c.object-item.is).narrow
+    c.requires c.deref-object-items.ensures.value (omega arith) c.object-item.is).narrow
 
 pub put_object-requires-clause-wide : goal.put_object-requires-clause-wide
 put_object-requires-clause-wide c =
     (held_at c.args.objects.now.items c.deref-object-items.result.now c.loop-object.object-index c.object-item.result
-        c.requires c.deref-object-items.ensures.value (omega arith) c.object-item.is).wide
+    c.requires c.deref-object-items.ensures.value (omega arith) c.object-item.is).wide
 
 pub put_object-requires-clause-size : goal.put_object-requires-clause-size
 put_object-requires-clause-size c =
     (held_at c.args.objects.now.items c.deref-object-items.result.now c.loop-object.object-index c.object-item.result
-        c.requires c.deref-object-items.ensures.value (omega arith) c.object-item.is).size
+    c.requires c.deref-object-items.ensures.value (omega arith) c.object-item.is).size

@@ -6,5 +6,8 @@ use Rattle.elf_link.proofs.data.put_elements.Given as goal
 
 abbrev pub invariant-loop-element : goal.invariant-loop-element
 invariant-loop-element l =
-    l.bytes.items ++ element_bytes (record { width = l.object.width; elements =
-        drop l.element-index l.object.elements.items }) ≡ l.fn.bytes.items ++ element_bytes (object_of l.object)
+    l.bytes.items ++ element_bytes (record {
+      width = l.object.width;
+      elements =
+          drop l.element-index l.object.elements.items;
+    }) ≡ l.fn.bytes.items ++ element_bytes (object_of l.object)

@@ -7,7 +7,7 @@ use Rattle.elf_link.proofs.linking.link.Goals as goal
 pub text_of-requires-clause-each : goal.text_of-requires-clause-each
 text_of-requires-clause-each c =
     each_fits c.args.sections.now.items (map object_of c.args.objects.now.items) c.args.main c.in_ok-addresses.addresses
-        c.requires c.in_ok-addresses.ensures
+    c.requires c.in_ok-addresses.ensures
 
 pub points_of-requires-clause-within : goal.points_of-requires-clause-within
 points_of-requires-clause-within c = λ k s e. (c.requires.each k s e).points
@@ -21,11 +21,11 @@ points_of-requires-clause-named c = λ i s e. (c.requires.each i s e).named
 pub returns-clause-program : goal.returns-clause-program
 returns-clause-program c = λ functions are.
     linked_is c.args.sections.now.items (map object_of c.args.objects.now.items) c.args.main c.in_ok-addresses.addresses
-        _ c.requires c.in_ok-addresses.ensures
+    _ c.requires c.in_ok-addresses.ensures
     c.in_ok-text.ensures c.in_ok-data_bytes.ensures refl c.in_ok-points.ensures.many c.in_ok-points.ensures.points refl
-        functions are
+    functions are
 
 pub returns-clause-size : goal.returns-clause-size
 returns-clause-size c =
     c.in_ok-text.text.ok.0 ∙ length-linked c.args.sections.now.items c.args.main c.in_ok-addresses.addresses _
-        c.requires.each c.in_ok-text.ensures
+    c.requires.each c.in_ok-text.ensures

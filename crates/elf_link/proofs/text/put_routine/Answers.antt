@@ -12,6 +12,6 @@ pub returns : goal.returns
 returns c =
     on_ok_weaker c.put_section.result
     (λ e. routine_put c.args.addresses.now 0 c.args.address c.args.items.now.items c.in_ok-section.section
-        c.args.text.now.items c.put_section.new.text.items
+    c.args.text.now.items c.put_section.new.text.items
     c.in_ok-section.ensures.section c.requires.named (omega (arith, c.in_ok-section.ensures.size)) c.requires.room e)
-        c.put_section.ensures
+    c.put_section.ensures

@@ -13,16 +13,16 @@ write_word-requires c =
       word_room (symbols_of c.args.addresses.now) c.args.address c.loop-relocation.relocation-index c.len-start.result
           c.args.section.now.relocations.items
           c.deref-relocation-items.result.now (record { at = 0; relative = false; target = target.Function 0 })
-              c.args.section.now.bytes.items c.args.text.now.items c.loop-relocation.text.items
+          c.args.section.now.bytes.items c.args.text.now.items c.loop-relocation.text.items
           c.deref-relocation-items.ensures.value (omega arith) c.requires.fits.inside (omega arith)
-              c.loop-relocation.invariant,
+          c.loop-relocation.invariant,
     )
 
 pub loop-relocation-preserved : goal.loop-relocation-preserved
 loop-relocation-preserved c =
     word_more (symbols_of c.args.addresses.now) c.args.address c.loop-relocation.relocation-index c.len-start.result
-        c.word.result c.args.section.now.relocations.items
+    c.word.result c.args.section.now.relocations.items
     c.deref-relocation-items.result.now _ c.args.section.now.bytes.items c.args.text.now.items
-        c.loop-relocation.text.items c.write_word.new.bytes.items
+    c.loop-relocation.text.items c.write_word.new.bytes.items
     c.deref-relocation-items.ensures.value (omega arith) c.requires.fits.inside (omega arith) c.word.ensures
-        c.write_word.ensures c.loop-relocation.invariant
+    c.write_word.ensures c.loop-relocation.invariant

@@ -7,4 +7,4 @@ use Rattle.elf_link.proofs.text.put_section.Given as goal
 abbrev pub invariant-loop-relocation : goal.invariant-loop-relocation
 invariant-loop-relocation l =
     l.text.items ≡ l.fn.text.items ++ resolved (symbols_of l.addresses) l.address
-        (take l.relocation-index l.section.relocations.items) l.section.bytes.items
+    (take l.relocation-index l.section.relocations.items) l.section.bytes.items

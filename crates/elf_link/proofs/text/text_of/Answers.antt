@@ -9,7 +9,7 @@ use Rattle.elf_link.proofs.text.text_of.Goals as goal
 pub put_routine-requires-clause-can : goal.put_routine-requires-clause-can
 put_routine-requires-clause-can c =
     start_can c.args.addresses.now.stack c.args.addresses.now.depth c.args.main c.in_ok-start.start.items
-        c.in_ok-start.ensures (omega arith) (omega arith)
+    c.in_ok-start.ensures (omega arith) (omega arith)
 
 pub put_routine-requires-2-clause-can : goal.put_routine-requires-2-clause-can
 put_routine-requires-2-clause-can c = subst CanAssemble (sym c.in_ok-putchar.ensures)
@@ -30,7 +30,7 @@ put_routine-requires-5-clause-can c = subst CanAssemble (sym c.in_ok-check.ensur
 pub put_routine-requires-clause-named : goal.put_routine-requires-clause-named
 put_routine-requires-clause-named c =
     start_named c.args.addresses.now c.args.sections.now.items c.args.addresses.now.stack c.args.addresses.now.depth
-        c.args.main c.in_ok-start.start.items
+    c.args.main c.in_ok-start.start.items
     c.in_ok-start.ensures c.requires.order c.requires.laid c.requires.main_there (omega arith)
 
 pub returns : goal.returns
@@ -44,18 +44,18 @@ returns c =
       starts = same_items c.args.addresses.now text_start c.in_ok-start.start.items
           (start_items c.args.addresses.now.stack c.args.addresses.now.depth c.args.main)
           c.new-text.result.items [] c.put_routine.new.text.items c.in_ok-start.ensures c.new-text.ensures.items
-              c.in_ok-put_routine.ensures;
+          c.in_ok-put_routine.ensures;
       calls = c.in_ok-put_sections.ensures;
       puts = same_items c.args.addresses.now c.args.addresses.now.putchar c.in_ok-putchar.putchar.items putchar_items
           c.put_sections.new.text.items c.put_sections.new.text.items c.put_routine-2.new.text.items
-              c.in_ok-putchar.ensures refl c.in_ok-put_routine-2.ensures;
+          c.in_ok-putchar.ensures refl c.in_ok-put_routine-2.ensures;
       gets = same_items c.args.addresses.now c.args.addresses.now.getchar c.in_ok-getchar.getchar.items getchar_items
           c.put_routine-2.new.text.items c.put_routine-2.new.text.items c.put_routine-3.new.text.items
-              c.in_ok-getchar.ensures refl c.in_ok-put_routine-3.ensures;
+          c.in_ok-getchar.ensures refl c.in_ok-put_routine-3.ensures;
       exits = same_items c.args.addresses.now c.args.addresses.now.exit c.in_ok-exit.exit.items exit_items
           c.put_routine-3.new.text.items c.put_routine-3.new.text.items c.put_routine-4.new.text.items
-              c.in_ok-exit.ensures refl c.in_ok-put_routine-4.ensures;
+          c.in_ok-exit.ensures refl c.in_ok-put_routine-4.ensures;
       checks = same_items c.args.addresses.now c.args.addresses.now.check c.in_ok-check.check.items check_items
           c.put_routine-4.new.text.items c.put_routine-4.new.text.items c.put_routine-5.new.text.items
-              c.in_ok-check.ensures refl c.in_ok-put_routine-5.ensures;
+          c.in_ok-check.ensures refl c.in_ok-put_routine-5.ensures;
     }

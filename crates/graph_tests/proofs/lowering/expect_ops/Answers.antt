@@ -16,7 +16,7 @@ op-requires g c =
     let i : ℕ = c.loop-place.place-counter in
     let within : i < length points = search rules in
     let element : c.index.result.now ≡ get_or points i 0 = c.index.ensures
-        ∙ get_or_default points i c.index.result.now 0 within in
+    ∙ get_or_default points i c.index.result.now 0 within in
     let placed : Stands c.args.graph.now (get_or points i 0) 0 =
-        subst (IsIn (get_or points i 0)) c.in_ok-points.ensures (in-at points i within) in
+    subst (IsIn (get_or points i 0)) c.in_ok-points.ensures (in-at points i within) in
     (0, subst (λ (p : ℕ). Stands c.args.graph.now p 0) (sym element) placed)

@@ -9,47 +9,47 @@ use Rattle.ia32_machine.proofs.system_calls.read_call.Goals as goal
 pub returns-then-count-eq0-clause-told : goal.returns-then-count-eq0-clause-told
 returns-then-count-eq0-clause-told g c = λ _ taken.
     rw (c.set_word.ensures, c.if-count-eq0.true)
-        (read_none c.args.processor.now (g.I.Source.left c.args.input.now) taken c.requires
-        (sym c.word-count.ensures ∙ c.if-count-eq0.true))
+    (read_none c.args.processor.now (g.I.Source.left c.args.input.now) taken c.requires
+    (sym c.word-count.ensures ∙ c.if-count-eq0.true))
 
 pub returns-then-not-may_store-clause-told : goal.returns-then-not-may_store-clause-told
 returns-then-not-may_store-clause-told g c = λ _ taken.
     let old : State = c.args.processor.now in
     let some = not_is (word_of Edx old) 0 (λ e. c.if-count-eq0.false (c.word-count.ensures ∙ e)) in
     let denies = may_so old c.word-count.result c.word-address.result c.may_store.result false c.word-count.ensures
-        c.word-address.ensures c.may_store.ensures c.if-not-may_store.true in
+    c.word-address.ensures c.may_store.ensures c.if-not-may_store.true in
     rw (c.word-address.ensures, c.eip.ensures.value)
-        (read_denied old (g.I.Source.left c.args.input.now) taken c.requires some denies)
+    (read_denied old (g.I.Source.left c.args.input.now) taken c.requires some denies)
 
 pub take_byte-requires : goal.take_byte-requires
 take_byte-requires g c =
     let more : 0 < c.word-count.result = omega arith in
     one_byte c.word-address.result c.word-count.result c.args.processor.now.memory more
-        (sym c.may_store.ensures ∙ c.if-not-may_store.false)
+    (sym c.may_store.ensures ∙ c.if-not-may_store.false)
 
 pub returns-in-Ok-Some-clause-told : goal.returns-in-Ok-Some-clause-told
 returns-in-Ok-Some-clause-told g c = λ i taken.
     let old : State = c.args.processor.now in
     let some = not_is (word_of Edx old) 0 (λ e. c.if-count-eq0.false (c.word-count.ensures ∙ e)) in
     let allows = may_so old c.word-count.result c.word-address.result c.may_store.result true c.word-count.ensures
-        c.word-address.ensures c.may_store.ensures c.if-not-may_store.false in
+    c.word-address.ensures c.may_store.ensures c.if-not-may_store.false in
     let left : g.I.Source.left c.args.input.now ≡ c.in-Ok-Some.byte ∷ g.I.Source.left c.next_byte.new.self =
-        rw c.in-Ok-Some.field-0-is at (c.in-Ok-Some.ensures.told i) in
+    rw c.in-Ok-Some.field-0-is at (c.in-Ok-Some.ensures.told i) in
     read_byte old c.take_byte.new.processor c.word-address.result c.in-Ok-Some.byte (g.I.Source.left c.args.input.now)
-        (g.I.Source.left c.next_byte.new.self) taken c.requires some allows left c.word-address.ensures
-        c.take_byte.ensures
+    (g.I.Source.left c.next_byte.new.self) taken c.requires some allows left c.word-address.ensures
+    c.take_byte.ensures
 
 pub returns-in-Ok-None-clause-told : goal.returns-in-Ok-None-clause-told
 returns-in-Ok-None-clause-told g c = λ i taken.
     let old : State = c.args.processor.now in
     let some = not_is (word_of Edx old) 0 (λ e. c.if-count-eq0.false (c.word-count.ensures ∙ e)) in
     let allows = may_so old c.word-count.result c.word-address.result c.may_store.result true c.word-count.ensures
-        c.word-address.ensures c.may_store.ensures c.if-not-may_store.false in
+    c.word-address.ensures c.may_store.ensures c.if-not-may_store.false in
     let ended = rw c.in-Ok-None.field-0-is at (c.in-Ok-None.ensures.told i) in
     rw c.set_word-in-Ok-None.ensures (read_end old (g.I.Source.left c.args.input.now)
-        (g.I.Source.left c.next_byte.new.self) taken c.requires some allows ended.0 ended.1)
+    (g.I.Source.left c.next_byte.new.self) taken c.requires some allows ended.0 ended.1)
 
 pub returns-in-Err-clause-told : goal.returns-in-Err-clause-told
 returns-in-Err-clause-told g c = λ i taken.
     read_fault c.args.processor.now (g.I.Source.left c.args.input.now) (g.I.Source.left c.next_byte.new.self) taken
-        c.requires (c.in-Err.ensures.told i)
+    c.requires (c.in-Err.ensures.told i)

@@ -17,7 +17,7 @@ overflow_cast-result g c = omega arith
 pub returns-then-call-eq1-clause-told : goal.returns-then-call-eq1-clause-told
 returns-then-call-eq1-clause-told g c = λ _ _.
     rw c.word-first.ensures (call_exit c.args.processor.now (g.I.Source.left c.args.input.now)
-        (g.O.Sink.taken c.args.out.now) c.requires (sym c.word-call.ensures ∙ c.if-call-eq1.true))
+    (g.O.Sink.taken c.args.out.now) c.requires (sym c.word-call.ensures ∙ c.if-call-eq1.true))
 
 pub returns-then-call-eq1-clause-counted : goal.returns-then-call-eq1-clause-counted
 returns-then-call-eq1-clause-counted g c = (refl, refl)
@@ -36,9 +36,9 @@ returns-then-first-eq0-clause-told g c = λ i _.
     let left : List ℕ = g.I.Source.left c.args.input.now in
     let taken : List ℕ = g.O.Sink.taken c.args.out.now in
     subst (λ (m : Moved). PartTold m (lent c.args.processor.now left) c.read_call.new.processor
-        (g.I.Source.left c.read_call.new.input) taken taken c.read_call.result)
+    (g.I.Source.left c.read_call.new.input) taken taken c.read_call.result)
     (call_read c.args.processor.now left (sym c.word-call.ensures ∙ c.if-call-eq3.true)
-        (sym c.word-first.ensures ∙ c.if-first-eq0.true)) (c.read_call.ensures.told i taken)
+    (sym c.word-first.ensures ∙ c.if-first-eq0.true)) (c.read_call.ensures.told i taken)
 
 pub returns-then-first-eq0-clause-counted : goal.returns-then-first-eq0-clause-counted
 returns-then-first-eq0-clause-counted g c = c.read_call.ensures.counted (g.O.Sink.counts c.args.out.now)
@@ -56,9 +56,9 @@ pub returns-then-first-eq1-clause-told : goal.returns-then-first-eq1-clause-told
 returns-then-first-eq1-clause-told g c = λ _ o.
     let left : List ℕ = g.I.Source.left c.args.input.now in
     subst (λ (m : Moved). PartTold m (lent c.args.processor.now left) c.write_call.new.processor left
-        (g.O.Sink.taken c.args.out.now) (g.O.Sink.taken c.write_call.new.out) c.write_call.result)
+    (g.O.Sink.taken c.args.out.now) (g.O.Sink.taken c.write_call.new.out) c.write_call.result)
     (call_write c.args.processor.now left (sym c.word-call.ensures ∙ c.if-call-eq4.true)
-        (sym c.word-first.ensures ∙ c.if-first-eq1.true)) (c.write_call.ensures.told o left)
+    (sym c.word-first.ensures ∙ c.if-first-eq1.true)) (c.write_call.ensures.told o left)
 
 pub returns-then-first-eq1-clause-counted : goal.returns-then-first-eq1-clause-counted
 returns-then-first-eq1-clause-counted g c = c.write_call.ensures.counted (g.I.Source.faults c.args.input.now)
@@ -84,7 +84,7 @@ returns-clause-told g c = λ _ _.
       | else-call-eq4-via-else-call-eq4 w ↦ w.if-call-eq4.false (c.word-call.ensures ∙ call)
     ] in
     rw c.eip.ensures.value (call_none old (g.I.Source.left c.args.input.now) (g.O.Sink.taken c.args.out.now) c.requires
-        exit read write)
+    exit read write)
 
 pub returns-clause-counted : goal.returns-clause-counted
 returns-clause-counted g c = (refl, refl)

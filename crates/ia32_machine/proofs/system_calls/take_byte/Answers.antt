@@ -8,4 +8,4 @@ pub returns : goal.returns
 returns c =
     let below : c.args.byte < 256 = omega arith in
     byte_stored (with_word Eax 1) c.args.processor.now c.store8.new.self c.args.address c.args.byte c.store8.result
-        below c.requires c.store8.ensures ∙ ap Ok (sym c.set_word.ensures)
+    below c.requires c.store8.ensures ∙ ap Ok (sym c.set_word.ensures)

@@ -9,8 +9,8 @@ use Rattle.ia32_machine.proofs.system_calls.write_call.Goals as goal
 pub returns-then-count-eq0-clause-told : goal.returns-then-count-eq0-clause-told
 returns-then-count-eq0-clause-told g c = λ _ left.
     rw (c.set_word.ensures, c.if-count-eq0.true)
-        (write_none c.args.processor.now left (g.O.Sink.taken c.args.out.now) c.requires
-        (sym c.word-count.ensures ∙ c.if-count-eq0.true))
+    (write_none c.args.processor.now left (g.O.Sink.taken c.args.out.now) c.requires
+    (sym c.word-count.ensures ∙ c.if-count-eq0.true))
 
 pub returns-then-count-eq0-clause-counted : goal.returns-then-count-eq0-clause-counted
 returns-then-count-eq0-clause-counted g c = λ _. (refl, refl)
@@ -23,9 +23,9 @@ returns-in_default-clause-told g c = λ _ left.
     let old : State = c.args.processor.now in
     let some = not_is (word_of Edx old) 0 (λ e. c.if-count-eq0.false (c.word-count.ensures ∙ e)) in
     let none = bytes_so old c.word-count.result c.word-address.result None c.word-count.ensures c.word-address.ensures
-        c.in_default.ensures.none in
+    c.in_default.ensures.none in
     rw (c.word-address.ensures, c.eip.ensures.value)
-        (write_denied old left (g.O.Sink.taken c.args.out.now) c.requires some none)
+    (write_denied old left (g.O.Sink.taken c.args.out.now) c.requires some none)
 
 pub returns-in_default-clause-counted : goal.returns-in_default-clause-counted
 returns-in_default-clause-counted g c = λ _. (refl, refl)
@@ -38,10 +38,10 @@ returns-in-Ok-clause-told g c = λ o left.
     let old : State = c.args.processor.now in
     let some = not_is (word_of Edx old) 0 (λ e. c.if-count-eq0.false (c.word-count.ensures ∙ e)) in
     let there = bytes_so old c.word-count.result c.word-address.result (Some c.in-Some.bytes.now) c.word-count.ensures
-        c.word-address.ensures c.in-Some.ensures.found in
+    c.word-address.ensures c.in-Some.ensures.found in
     rw (c.set_word-in-Ok.ensures, c.word-count.ensures)
     (write_done old c.in-Some.bytes.now left (g.O.Sink.taken c.args.out.now) (g.O.Sink.taken c.put_all.new.self)
-        c.requires some there (c.in-Ok.ensures.told o))
+    c.requires some there (c.in-Ok.ensures.told o))
 
 pub returns-in-Ok-clause-counted : goal.returns-in-Ok-clause-counted
 returns-in-Ok-clause-counted g c = λ _. (refl, c.in-Ok.ensures.counted)
@@ -54,10 +54,10 @@ returns-in-Err-Failed-clause-told g c = λ o left.
     let old : State = c.args.processor.now in
     let some = not_is (word_of Edx old) 0 (λ e. c.if-count-eq0.false (c.word-count.ensures ∙ e)) in
     let there = bytes_so old c.word-count.result c.word-address.result (Some c.in-Some.bytes.now) c.word-count.ensures
-        c.word-address.ensures c.in-Some.ensures.found in
+    c.word-address.ensures c.in-Some.ensures.found in
     let told = rw c.in-Err-Failed.field-0-is at (c.in-Err-Failed.ensures.told o) in
     write_failed old c.in-Some.bytes.now left (g.O.Sink.taken c.args.out.now) (g.O.Sink.taken c.put_all.new.self) told.0
-        c.requires some there told.1
+    c.requires some there told.1
 
 pub returns-in-Err-Failed-clause-counted : goal.returns-in-Err-Failed-clause-counted
 returns-in-Err-Failed-clause-counted g c = λ _. let counted =
@@ -71,11 +71,11 @@ returns-in-Err-NoMemory-clause-told g c = λ o left.
     let old : State = c.args.processor.now in
     let some = not_is (word_of Edx old) 0 (λ e. c.if-count-eq0.false (c.word-count.ensures ∙ e)) in
     let there = bytes_so old c.word-count.result c.word-address.result (Some c.in-Some.bytes.now) c.word-count.ensures
-        c.word-address.ensures c.in-Some.ensures.found in
+    c.word-address.ensures c.in-Some.ensures.found in
     let told = rw c.in-Err-NoMemory.field-0-is at (c.in-Err-NoMemory.ensures.told o) in
     let filled = some_bytes c.word-count.result c.in-Some.bytes.now c.in-Some.ensures.count c.if-count-eq0.false in
     write_wanted old c.in-Some.bytes.now left (g.O.Sink.taken c.args.out.now) (g.O.Sink.taken c.put_all.new.self)
-        c.requires some there filled told
+    c.requires some there filled told
 
 pub returns-in-Err-NoMemory-clause-counted : goal.returns-in-Err-NoMemory-clause-counted
 returns-in-Err-NoMemory-clause-counted g c = λ _. let counted =

@@ -7,6 +7,8 @@ use Rattle.ia32_select.proofs.blocks.emit_block.Goals as goal
 pub emit_point-requires-clause-placed : goal.emit_point-requires-clause-placed
 emit_point-requires-clause-placed c =
     let points : List ℕ = c.as_slice-point-items.result.now in
-    let i : ℕ = c.loop-point.point-index in
-    (c.args.block, subst (IsIn (get_or points i 0)) (c.as_slice-point-items.ensures.value ∙ c.in_ok-points.ensures)
-        (in-at points i c.loop-point-test.true))
+    let i : ℕ = c.loop-point.point-index in (
+      c.args.block,
+      subst (IsIn (get_or points i 0)) (c.as_slice-point-items.ensures.value ∙ c.in_ok-points.ensures)
+          (in-at points i c.loop-point-test.true),
+    )

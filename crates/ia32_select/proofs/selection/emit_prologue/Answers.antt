@@ -16,8 +16,8 @@ returns c =
     let saved : List Item = c.emit_saves.new.items.items in
     on_ok_weaker c.emit_fill.result
     (four-emitted _ _ _ _ _ _ _ _ _ _ _ c.in_ok-emit_saves.ensures
-        (c.in_ok-emit_address.ensures
-        ∙ ap (λ (z : ℤ). saved ++ plain (insn.Lea Esp (below (distance z))) ∷ [])
-        (to_z-of_z w32 c.args.frame (record { sfits = c.ranges.frame.sfits })))
-        c.in_ok-emit_number.ensures.items c.in_ok-emit_address-2.ensures)
+    (c.in_ok-emit_address.ensures
+    ∙ ap (λ (z : ℤ). saved ++ plain (insn.Lea Esp (below (distance z))) ∷ [])
+    (to_z-of_z w32 c.args.frame (record { sfits = c.ranges.frame.sfits })))
+    c.in_ok-emit_number.ensures.items c.in_ok-emit_address-2.ensures)
     c.emit_fill.ensures

@@ -18,7 +18,7 @@ returns-clause-right c =
     let flow : Flow = c.args.graph.now in
     let slots : List ℕ = slots_of c.args.offsets.now in
     IfOk-weaker c.select_items.result (λ v. v.items ≡ selected flow (over_slots flow slots))
-        (λ v. AreRight flow slots v.items)
+    (λ v. AreRight flow slots v.items)
     (λ v e. subst (AreRight flow slots) (sym e) (c.slots_are_right.ensures flow slots))
     c.select_items.ensures
 
@@ -27,9 +27,9 @@ returns-clause-assembles c =
     let flow : Flow = c.args.graph.now in
     let slots : List ℕ = slots_of c.args.offsets.now in
     IfOk-weaker c.select_items.result (λ v. v.items ≡ selected flow (over_slots flow slots))
-        (λ v. items_size v.items < 2 ^ 30 → CanAssemble v.items)
+    (λ v. items_size v.items < 2 ^ 30 → CanAssemble v.items)
     (λ v e. subst (λ (items : List Item). items_size items < 2 ^ 30 → CanAssemble items) (sym e)
-        (selected-assembles flow c.is_flow.ensures.0 slots c.is_flow.ensures.1 c.requires))
+    (selected-assembles flow c.is_flow.ensures.0 slots c.is_flow.ensures.1 c.requires))
     c.select_items.ensures
 
 pub returns-clause-size : goal.returns-clause-size
@@ -37,9 +37,9 @@ returns-clause-size c =
     let flow : Flow = c.args.graph.now in
     let slots : List ℕ = slots_of c.args.offsets.now in
     IfOk-weaker c.select_items.result (λ v. v.items ≡ selected flow (over_slots flow slots))
-        (λ v. items_size v.items ≤ most_bytes flow)
+    (λ v. items_size v.items ≤ most_bytes flow)
     (λ v e. subst (λ (items : List Item). items_size items ≤ most_bytes flow) (sym e)
-        (selected-size flow c.is_flow.ensures.0 slots c.is_flow.ensures.1 c.requires))
+    (selected-size flow c.is_flow.ensures.0 slots c.is_flow.ensures.1 c.requires))
     c.select_items.ensures
 
 pub returns-clause-points : goal.returns-clause-points
@@ -47,9 +47,11 @@ returns-clause-points c =
     let flow : Flow = c.args.graph.now in
     let slots : List ℕ = slots_of c.args.offsets.now in
     IfOk-weaker c.select_items.result (λ v. v.items ≡ selected flow (over_slots flow slots))
-        (λ v. (p : ℕ) → Stands (item.Point p) v.items ↔ IsPlaced flow p)
-    (λ v e p. (λ s. stands-placed flow slots p (subst (Stands (item.Point p)) e s),
-        λ s. subst (Stands (item.Point p)) (sym e) (placed-stands flow slots p s)))
+    (λ v. (p : ℕ) → Stands (item.Point p) v.items ↔ IsPlaced flow p)
+    (λ v e p. (
+      λ s. stands-placed flow slots p (subst (Stands (item.Point p)) e s),
+      λ s. subst (Stands (item.Point p)) (sym e) (placed-stands flow slots p s),
+    ))
     c.select_items.ensures
 
 pub returns-clause-names : goal.returns-clause-names
@@ -57,6 +59,6 @@ returns-clause-names c =
     let flow : Flow = c.args.graph.now in
     let slots : List ℕ = slots_of c.args.offsets.now in
     IfOk-weaker c.select_items.result (λ v. v.items ≡ selected flow (over_slots flow slots))
-        (λ v. NamesOnlyPutchar v.items)
+    (λ v. NamesOnlyPutchar v.items)
     (λ v e. subst NamesOnlyPutchar (sym e) (selected-names flow slots))
     c.select_items.ensures

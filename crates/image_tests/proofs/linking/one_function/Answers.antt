@@ -9,7 +9,7 @@ assemble-requires g c = example_can c.in_ok-items.items.items c.in_ok-items.ensu
 pub link-requires : goal.link-requires
 link-requires g c =
     example_link c.in_ok-items.items.items c.in_ok-section.section c.in_ok-sections.sections.items
-        (record { width = 1; elements = c.in_ok-elements.elements }) c.in_ok-objects.objects.items
+    (record { width = 1; elements = c.in_ok-elements.elements }) c.in_ok-objects.objects.items
     c.in_ok-items.ensures.items c.in_ok-section.ensures.section (omega (arith, c.in_ok-section.ensures.size))
-        c.in_ok-sections.ensures.items c.in_ok-objects.ensures.items refl
+    c.in_ok-sections.ensures.items c.in_ok-objects.ensures.items refl
     c.in_ok-elements.ensures.items

@@ -12,7 +12,7 @@ assemble-requires-2 g c = other_can c.in_ok-others.others.items c.in_ok-others.e
 pub link-requires : goal.link-requires
 link-requires g c =
     two_link c.in_ok-items.items.items c.in_ok-others.others.items c.in_ok-section.section c.in_ok-other.other
-        c.in_ok-sections.sections.items c.new-objects.result.items
+    c.in_ok-sections.sections.items c.new-objects.result.items
     c.in_ok-items.ensures.items c.in_ok-others.ensures.items c.in_ok-section.ensures.section
-        c.in_ok-other.ensures.section (omega (arith, c.in_ok-section.ensures.size))
+    c.in_ok-other.ensures.section (omega (arith, c.in_ok-section.ensures.size))
     (omega (arith, c.in_ok-other.ensures.size)) c.in_ok-sections.ensures.items c.new-objects.ensures.items

@@ -9,7 +9,7 @@ use Rattle.pcc_base.proofs.wrapping.wrapped.Goals as goal
 pub returns-then-low-half-clause-congruent : goal.returns-then-low-half-clause-congruent
 returns-then-low-half-clause-congruent c =
     let modulus : to_z w64 (of_z w64 (pos 2 *ℤ to_z w64 (of_z w64 c.args.half))) ≡ pos 2 *ℤ c.args.half =
-        omega (arith, ints) in
+    omega (arith, ints) in
     let number : to_z w64 (of_z w64 c.args.n) ≡ c.args.n = omega (arith, ints) in
     let low : to_z w64 (of_z w64 c.rem_euclid-low.result) ≡ c.rem_euclid-low.result = omega (arith, ints) in
     low_congruent c.args.n (pos 2 *ℤ c.args.half) _ (omega (arith, ints))
@@ -18,13 +18,13 @@ returns-then-low-half-clause-congruent c =
 pub returns-else-low-half-clause-congruent : goal.returns-else-low-half-clause-congruent
 returns-else-low-half-clause-congruent c =
     let modulus : to_z w64 (of_z w64 (pos 2 *ℤ to_z w64 (of_z w64 c.args.half))) ≡ pos 2 *ℤ c.args.half =
-        omega (arith, ints) in
+    omega (arith, ints) in
     let number : to_z w64 (of_z w64 c.args.n) ≡ c.args.n = omega (arith, ints) in
     let shown : to_z w64 (of_z w64 (to_z w64 (of_z w64 c.rem_euclid-low.result) -ℤ to_z w64
-        (of_z w64 (pos 2 *ℤ to_z w64 (of_z w64 c.args.half))))) ≡ c.rem_euclid-low.result -ℤ (pos 2 *ℤ c.args.half) =
-        omega (arith, ints) in
+    (of_z w64 (pos 2 *ℤ to_z w64 (of_z w64 c.args.half))))) ≡ c.rem_euclid-low.result -ℤ (pos 2 *ℤ c.args.half) =
+    omega (arith, ints) in
     let low : IsCongruent (pos 2 *ℤ c.args.half) c.args.n c.rem_euclid-low.result =
     low_congruent c.args.n (pos 2 *ℤ c.args.half) _ (omega (arith, ints))
     (c.rem_euclid-low.ensures.value ∙ (λ i. int_rem_euclid (number i) (modulus i))) in
     subst (λ x. IsCongruent (pos 2 *ℤ c.args.half) c.args.n x) (sym shown)
-        (less_congruent c.args.n (pos 2 *ℤ c.args.half) _ low)
+    (less_congruent c.args.n (pos 2 *ℤ c.args.half) _ low)

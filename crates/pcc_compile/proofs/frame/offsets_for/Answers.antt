@@ -24,11 +24,11 @@ offset_computed : (n : ℕ) (z : ℤ) → n < 4096 → z ≡ pos n
     → to_z w32 (of_z w32 (negsuc 19 -ℤ to_z w32 (of_z w32 (pos 4 *ℤ z)))) ≡ offset_at n
 offset_computed n z h e =
     let four : to_z w32 (of_z w32 (pos 4 *ℤ pos n)) ≡ pos (4 * n) = to_z-of_z w32 (pos 4 *ℤ pos n) (omega (arith, ints))
-        ∙ omega (arith, ints) in
+    ∙ omega (arith, ints) in
     let whole : to_z w32 (of_z w32 (negsuc 19 -ℤ pos (4 * n))) ≡ offset_at n =
-        to_z-of_z w32 (negsuc 19 -ℤ pos (4 * n)) (omega (arith, ints)) ∙ omega (arith, ints) in
+    to_z-of_z w32 (negsuc 19 -ℤ pos (4 * n)) (omega (arith, ints)) ∙ omega (arith, ints) in
     ap (λ (x : ℤ). to_z w32 (of_z w32 (negsuc 19 -ℤ to_z w32 (of_z w32 (pos 4 *ℤ x))))) e
-        ∙ ap (λ (x : ℤ). to_z w32 (of_z w32 (negsuc 19 -ℤ x))) four ∙ whole
+    ∙ ap (λ (x : ℤ). to_z w32 (of_z w32 (negsuc 19 -ℤ x))) four ∙ whole
 
 pub loop-variable-preserved : goal.loop-variable-preserved
 loop-variable-preserved c =

@@ -20,7 +20,7 @@ returns c = λ program form flow slots code keeps low is.
     let h = is.laid in
     let m = map_in f flow slots code in
     let named : AllByRecursion IsNamedFunction (f ∷ []) =
-        subst (λ (fs : List Function). AllByRecursion IsNamedFunction fs) form.form.one_function form.names in
+    subst (λ (fs : List Function). AllByRecursion IsNamedFunction fs) form.form.one_function form.names in
     let right = c.slots_are_right.ensures flow slots code h in
     let lists = c.map_lists_locals.ensures program form.form flow slots code is in
     let shows = c.map_shows_visits.ensures program form.form flow slots code is in
@@ -42,6 +42,6 @@ returns c = λ program form flow slots code keeps low is.
       correct = image_does program code m (image_bytes (parts_of_text code.text [])) keeps right.runs lists shows
           (c.map_shows_known.ensures program form.form flow slots code is (listed m) lists)
           (λ input. subst (λ (g : GraphProgram). First (image_bytes (parts_of_text code.text [])) input
-              (text_state code.text (objects_of g) input)) (sym h.program)
+          (text_state code.text (objects_of g) input)) (sym h.program)
           (c.text_begins.ensures code.text [] input (text_fits code.text h.bytes h.fits)));
     }

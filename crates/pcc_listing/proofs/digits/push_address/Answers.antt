@@ -13,4 +13,4 @@ pub returns : goal.returns
 returns c =
     let last : c.loop-place.place ≡ 8 = omega arith in
     c.loop-place.invariant ∙ ap (λ ds. c.args.out.now.items ++ ds)
-        (hexadecimal-all c.args.address c.loop-place.place last)
+    (hexadecimal-all c.args.address c.loop-place.place last)

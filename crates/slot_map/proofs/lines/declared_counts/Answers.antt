@@ -9,8 +9,11 @@ use Rattle.slot_map.proofs.lines.declared_counts.Goals as goal
 
 pub loop-statement-init : goal.loop-statement-init
 loop-statement-init c =
-    record { counts = c.new-counts.ensures.items; declared =
-        sym (declared-none (function_of c.args.function.now) c.requires.form) }
+    record {
+      counts = c.new-counts.ensures.items;
+      declared =
+          sym (declared-none (function_of c.args.function.now) c.requires.form);
+    }
 
 pub overflow_add-declared : goal.overflow_add-declared
 overflow_add-declared c =

@@ -29,13 +29,13 @@ pub op-requires : goal.op-requires
 op-requires c =
     let points = c.deref-point-items.result.now in
     placed-at c.args.graph.now points c.loop-point.point-index 0 _
-        (c.deref-point-items.ensures.value ∙ c.in_ok-placed.ensures) c.loop-point-test.true refl
+    (c.deref-point-items.ensures.value ∙ c.in_ok-placed.ensures) c.loop-point-test.true refl
 
 pub bounds-addresses-point : goal.bounds-addresses-point
 bounds-addresses-point c =
     let points = c.deref-point-items.result.now in
     let placed = placed-at c.args.graph.now points c.loop-point.point-index 0 _
-        (c.deref-point-items.ensures.value ∙ c.in_ok-placed.ensures) c.loop-point-test.true refl in
+    (c.deref-point-items.ensures.value ∙ c.in_ok-placed.ensures) c.loop-point-test.true refl in
     c.requires.addresses _ placed
 
 pub index-requires : goal.index-requires
@@ -54,11 +54,17 @@ slice_bounds-push_mark-end c =
     let at = c.op.ensures ∙ ap Some c.in-Mark.is in
     let below = marked-below f c.args.graph.now body _ c.in-Mark.statement c.requires.form c.requires.marks refl at in
     let is = declared-read c.in_ok-counts.counts.items f (length body) c.in-Mark.statement c.index.result.now
-        c.in_ok-counts.ensures below c.index.ensures in
+    c.in_ok-counts.ensures below c.index.ensures in
     let few = function-declares f c.in-Mark.statement c.requires.form in
     let room = locals-fit f c.args.graph.now c.requires.form c.requires.lowered in
-    omega (arith, is, few, room, length-offsets c.args.graph.now c.args.offsets.now c.requires.slots,
-        length-take {A = ℤ})
+    omega (
+      arith,
+      is,
+      few,
+      room,
+      length-offsets c.args.graph.now c.args.offsets.now c.requires.slots,
+      length-take {A = ℤ},
+    )
 
 pub push_mark-requires-clause-below : goal.push_mark-requires-clause-below
 push_mark-requires-clause-below c = every-take (λ z. 0 < distance z) c.index.result.now c.args.offsets.now
@@ -83,16 +89,16 @@ loop-point-preserved c =
           let at : slice_get ops p ≡ Some (op.Mark n) = c.op.ensures ∙ ap Some w.in-Mark.is in
           let below = marked-below f c.args.graph.now body p n c.requires.form c.requires.marks refl at in
           let is = declared-read c.in_ok-counts.counts.items f (length body) n w.index.result.now c.in_ok-counts.ensures
-              below w.index.ensures in
+          below w.index.ensures in
           let same = ap (λ (k : ℕ). slots_of (take k offsets)) is
-              ∙ sym (take-map distance (declared_before f n) offsets) in
+          ∙ sym (take-map distance (declared_before f n) offsets) in
           let put = w.in_ok-push_mark.ensures ∙ ap
-              (λ (slots : List ℕ). old ++ point_lines (marked_point p (address p) n slots)) same in
+          (λ (slots : List ℕ). old ++ point_lines (marked_point p (address p) n slots)) same in
           rw w.lines-is (point-put start old (map line_of w.push_mark.new.lines.items) f (slots_of offsets) address ops
-              points i 0 p (op.Mark n) c.loop-point-test.true refl at c.loop-point.invariant put)
+          points i 0 p (op.Mark n) c.loop-point-test.true refl at c.loop-point.invariant put)
       | in_default w ↦
           let none = other-points f (slots_of offsets) address p c.op.result.now w.in_default.not-Mark in
           let put = sym (append-nil old) ∙ ap (λ (ps : List MapPoint). old ++ flat_map point_lines ps) (sym none) in
           rw w.lines-is (point-put start old old f (slots_of offsets) address ops points i 0 p c.op.result.now
-              c.loop-point-test.true refl c.op.ensures c.loop-point.invariant put)
+          c.loop-point-test.true refl c.op.ensures c.loop-point.invariant put)
     ]

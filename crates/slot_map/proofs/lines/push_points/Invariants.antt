@@ -13,4 +13,4 @@ invariant-loop-point l =
     ≡ map line_of l.initial.lines.items
     ++ flat_map point_lines
     (points_over (function_of l.fn.function) (slots_of l.fn.offsets) (λ point. slice_index l.fn.addresses point)
-        l.fn.graph.ops (take l.point-index l.point-items))
+    l.fn.graph.ops (take l.point-index l.point-items))

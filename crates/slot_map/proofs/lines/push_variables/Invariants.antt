@@ -11,4 +11,4 @@ abbrev pub invariant-loop-number : goal.invariant-loop-number
 invariant-loop-number l =
     map line_of l.lines.items
     ≡ map line_of l.initial.lines.items ++ numbered variable_lines 0
-        (variables_over (map local_of l.locals) (replicate l.number Two))
+    (variables_over (map local_of l.locals) (replicate l.number Two))

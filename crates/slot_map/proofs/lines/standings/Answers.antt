@@ -14,6 +14,6 @@ loop-variable-preserved c =
     let whole : to_z w32 (of_z w32 (get_or offsets i (pos 0))) ≡ get_or offsets i (pos 0) = omega (arith, ints) in
     let far = far-at offsets i (pos 0) c.requires.below c.loop-variable-test.true in
     let below : c.unsigned_abs.result ≡ distance (get_or offsets i (pos 0)) = c.unsigned_abs.ensures.value
-        ∙ ap unsigned_abs whole ∙ far in
+    ∙ ap unsigned_abs whole ∙ far in
     rw c.in_ok-push.ensures.items (standings-put c.loop-variable.standings.items offsets i c.unsigned_abs.result (pos 0)
-        c.loop-variable-test.true below c.loop-variable.invariant)
+    c.loop-variable-test.true below c.loop-variable.invariant)

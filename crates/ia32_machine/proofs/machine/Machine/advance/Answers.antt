@@ -15,9 +15,9 @@ returns-in-Ok-clause-told g c = λ i o.
     let left : List ℕ = g.I.Source.left c.args.input.now in
     let after : ℕ = (c.eip-address.result + c.in-Ok.length) % 0x1_0000_0000 in
     let same : after ≡ (s.eip + c.in-Ok.length) % 0x1_0000_0000 =
-        ap (λ (n : ℕ). (n + c.in-Ok.length) % 0x1_0000_0000) c.eip-address.ensures.value in
+    ap (λ (n : ℕ). (n + c.in-Ok.length) % 0x1_0000_0000) c.eip-address.ensures.value in
     fetched s c.perform.new.self left (g.I.Source.left c.perform.new.input) (g.O.Sink.taken c.args.out.now)
-        (g.O.Sink.taken c.perform.new.out) c.in-Ok.insn c.in-Ok.length after c.perform.result
+    (g.O.Sink.taken c.perform.new.out) c.in-Ok.insn c.in-Ok.length after c.perform.result
     c.in-Ok.ensures.told same (c.perform.ensures.told i o)
 
 pub returns-in-Ok-clause-counted : goal.returns-in-Ok-clause-counted
@@ -33,7 +33,7 @@ pub returns-in-Err-clause-told : goal.returns-in-Err-clause-told
 returns-in-Err-clause-told g c = λ _ _.
     rw c.eip-address.ensures.value
     (unfetched c.args.self.now (g.I.Source.left c.args.input.now) (g.O.Sink.taken c.args.out.now) c.in-Err.cause
-        c.eip-address.ensures.bare c.in-Err.ensures.told)
+    c.eip-address.ensures.bare c.in-Err.ensures.told)
 
 pub returns-in-Err-clause-counted : goal.returns-in-Err-clause-counted
 returns-in-Err-clause-counted g c = (refl, refl)

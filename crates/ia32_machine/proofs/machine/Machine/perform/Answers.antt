@@ -27,21 +27,21 @@ returns-in_err-system_call-clause-told g c = λ i o.
     let end : MachineEnd = c.in_err-system_call.field-0.0 in
     let same : c.from_residual.result ≡ Err end = search rules in
     let told : PartTold (call_moved (lent c.args.self.now left)) (lent c.args.self.now left) c.system_call.new.processor
-        left' taken taken' (Err end) =
+    left' taken taken' (Err end) =
     subst (λ (s : State). PartTold (call_moved (lent s left)) (lent s left) c.system_call.new.processor left' taken
-        taken' (Err end)) c.self.view_is (c.in_err-system_call.ensures.told i o) in
+    taken' (Err end)) c.self.view_is (c.in_err-system_call.ensures.told i o) in
     subst (λ (r : Result Unit MachineEnd). PartTold (insn_moved c.args.insn c.args.after (lent c.args.self.now left))
-        (lent c.args.self.now left) c.system_call.new.processor left' taken taken' r) (sym same)
+    (lent c.args.self.now left) c.system_call.new.processor left' taken taken' r) (sym same)
     (call_ends c.args.insn c.args.after (lent c.args.self.now left) c.system_call.new.processor left' taken taken' end
-        (c.if-is_system_call.ensures.0 refl) told)
+    (c.if-is_system_call.ensures.0 refl) told)
 
 pub returns-in_err-system_call-clause-counted : goal.returns-in_err-system_call-clause-counted
 returns-in_err-system_call-clause-counted g c =
     let end : MachineEnd = c.in_err-system_call.field-0.0 in
     let same : c.from_residual.result ≡ Err end = search rules in
     subst (λ (r : Result Unit MachineEnd). PartCounts (g.I.Source.faults c.args.input.now)
-        (g.I.Source.faults c.system_call.new.input) (g.O.Sink.counts c.args.out.now)
-        (g.O.Sink.counts c.system_call.new.out) r) (sym same)
+    (g.I.Source.faults c.system_call.new.input) (g.O.Sink.counts c.args.out.now)
+    (g.O.Sink.counts c.system_call.new.out) r) (sym same)
     c.in_err-system_call.ensures.counted
 
 pub returns-in_err-system_call-clause-input_tells : goal.returns-in_err-system_call-clause-input_tells
@@ -57,12 +57,12 @@ returns-then-is_system_call-clause-told g c = λ i o.
     let taken : List ℕ = g.O.Sink.taken c.args.out.now in
     let taken' : List ℕ = g.O.Sink.taken c.system_call.new.out in
     let told : PartTold (call_moved (lent c.args.self.now left)) (lent c.args.self.now left) c.system_call.new.processor
-        left' taken taken' (Ok tt) =
+    left' taken taken' (Ok tt) =
     subst (λ (s : State). PartTold (call_moved (lent s left)) (lent s left) c.system_call.new.processor left' taken
-        taken' (Ok tt)) c.self.view_is (c.in_ok-system_call.ensures.told i o) in
+    taken' (Ok tt)) c.self.view_is (c.in_ok-system_call.ensures.told i o) in
     rw c.set_eip.ensures
     (call_goes c.args.insn c.args.after (lent c.args.self.now left) c.system_call.new.processor left' taken taken'
-        (c.if-is_system_call.ensures.0 refl) told)
+    (c.if-is_system_call.ensures.0 refl) told)
 
 pub returns-then-is_system_call-clause-counted : goal.returns-then-is_system_call-clause-counted
 returns-then-is_system_call-clause-counted g c = c.in_ok-system_call.ensures.counted
@@ -89,7 +89,7 @@ told-err : (i : Insn) (after : ℕ) (inside old new : State) (left taken : List 
     → PartTold (insn_moved i after (lent old left)) (lent old left) new left taken taken result
 told-err i after inside old new left taken why address result same bare other e kept at is =
     let there : perform i after old ≡ Halts (end_of why old) = ap (λ (s : State). perform i after s) (sym same) ∙ e
-        ∙ ap (λ (s : State). Halts (end_of why s)) same in
+    ∙ ap (λ (s : State). Halts (end_of why s)) same in
     let eip : address ≡ old.eip = at ∙ ap (λ (s : State). s.eip) same in
     rw (is, eip, kept, same) (insn_ends i after old left taken why bare other there)
 

@@ -9,4 +9,4 @@ pub returns : goal.returns
 returns c =
     c.is_some.ensures ∙ ap is_some c.find.ensures ∙ sym (may_store-found c.args.count c.args.address c.deref.result.now)
     ∙ ap (λ (areas : List Area). may_store c.args.count c.args.address areas)
-        (ap (map area_seen) c.deref.ensures.value ∙ c.self.view_is)
+    (ap (map area_seen) c.deref.ensures.value ∙ c.self.view_is)
