@@ -1,26 +1,27 @@
 -- The classes of bytes that tokens are made of (C99 5.2.1, 6.4.2.1, 6.4.4).
-use Rattle.std.specs.Prelude.{◌||◌, ◌&&◌, ℕ, ◌-◌, ◌*◌, ◌+◌, Bool, List, [], ◌∷◌, nat_le, ◌==◌, if◌then◌else◌}
+use Rattle.std.specs.Prelude.{◌||◌, ◌&&◌, ℕ, ◌-◌, ◌*◌, ◌+◌, Bool, List, [], ◌∷◌, nat_le, ◌==◌, if◌then◌else◌, codes}
+use Rattle.pcc_base.specs.Ascii.{tab, carriage_return, space, underscore, is_between}
 
--- space, and the bytes 9 to 13
+-- space, and tab to carriage return: tab, newline, vertical tab, form feed and carriage return
 abbrev pub is_space : ℕ → Bool
-is_space b = b == 32 || (nat_le 9 b && nat_le b 13)
+is_space b = b == space || (nat_le tab b && nat_le b carriage_return)
 
 -- space and tab
 abbrev pub is_blank : ℕ → Bool
-is_blank b = b == 32 || b == 9
+is_blank b = b == space || b == tab
 
 abbrev pub is_digit : ℕ → Bool
-is_digit b = nat_le 48 b && nat_le b 57
+is_digit b = is_between (codes "09") b
 
 abbrev pub is_octal_digit : ℕ → Bool
-is_octal_digit b = nat_le 48 b && nat_le b 55
+is_octal_digit b = is_between (codes "07") b
 
 -- a letter or `_`
 abbrev pub is_letter : ℕ → Bool
-is_letter b = (nat_le 65 b && nat_le b 90) || (b == 95 || (nat_le 97 b && nat_le b 122))
+is_letter b = is_between (codes "AZ") b || (b == underscore || is_between (codes "az") b)
 
 abbrev pub is_hexadecimal_digit : ℕ → Bool
-is_hexadecimal_digit b = is_digit b || ((nat_le 65 b && nat_le b 70) || (nat_le 97 b && nat_le b 102))
+is_hexadecimal_digit b = is_digit b || (is_between (codes "AF") b || is_between (codes "af") b)
 
 -- a byte of an identifier
 abbrev pub is_word_byte : ℕ → Bool

@@ -1,6 +1,7 @@
 -- How the inside of a literal is read from left to right, one character at a time (C99 6.4.4.4, 6.4.5).
 use Rattle.std.specs.Prelude.{◌≡◌, ◌≤◌, ◌<◌, ℕ, ◌+◌, Bool, List, [], ◌∷◌, length, take, drop, nat_le, Option, Some}
 use Rattle.std.specs.Prelude.{None, ⊤, ◌==◌, if◌then◌else◌}
+use Rattle.pcc_base.specs.Ascii.{newline, backslash}
 use Rattle.c_lexer.specs.declared.quotes.Reading.{Reading}
 use Rattle.c_lexer.specs.declared.quotes.Reading.TheVariants.{Character, Closing, Faulty}
 use Rattle.c_lexer.specs.Bytes.{is_octal_digit, is_hexadecimal_digit, number_in}
@@ -46,7 +47,7 @@ read_escape (e ∷ rest) =
 abbrev pub read_character : ℕ → List ℕ → Reading
 read_character quote [] = Faulty
 read_character quote (b ∷ rest) =
-    if b == quote then Closing else (if b == 10 then Faulty else (if b == 92 then read_escape rest else Character b 1))
+    if b == quote then Closing else (if b == newline then Faulty else (if b == backslash then read_escape rest else Character b 1))
 
 -- a character's bytes are some of so many
 abbrev pub IsWithin : ℕ → Reading → Type 0

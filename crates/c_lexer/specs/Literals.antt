@@ -1,8 +1,9 @@
 -- Constants and string literals (C99 6.4.4.1, 6.4.4.4, 6.4.5, 6.4.8).
-use Rattle.std.specs.Prelude.{◌≡◌, ◌≢◌, ◌≤◌, ◌<◌, ◌⊎◌, ℕ, Bool, true, false, ◌||◌, List, [], ◌∷◌, ◌++◌, length, ◌==◌}
+use Rattle.std.specs.Prelude.{◌≡◌, ◌≢◌, ◌≤◌, ◌<◌, ◌⊎◌, ℕ, Bool, true, false, ◌||◌, List, [], ◌∷◌, ◌++◌, length, ◌==◌, codes}
 use Rattle.std.specs.Prelude.{if◌then◌else◌, IsTrue, IsFalse, ℤ}
 use Rattle.std.specs.List.{AllByRecursion}
 use Rattle.byteorder.specs.Endian.{twos_complement}
+use Rattle.pcc_base.specs.Ascii.{newline, apostrophe, plus, minus, dot, backslash}
 use Rattle.c_lexer.specs.Bytes.{is_digit, is_octal_digit, is_hexadecimal_digit, is_letter, number_in}
 
 -- each of the bytes passes the test
@@ -19,22 +20,22 @@ is_exponent_letter b = (b == 101 || b == 69) || (b == 112 || b == 80)
 -- behind the letter of an exponent (C99 6.4.8)
 abbrev pub GoesOnAsNumber : List ℕ → Type 0
 GoesOnAsNumber [] = Unit {0}
-GoesOnAsNumber (b ∷ []) = IsTrue (is_digit b || (is_letter b || b == 46))
+GoesOnAsNumber (b ∷ []) = IsTrue (is_digit b || (is_letter b || b == dot))
 GoesOnAsNumber (b ∷ c ∷ rest) =
-    (IsTrue (is_digit b || (is_letter b || b == 46)) × GoesOnAsNumber (c ∷ rest))
-    ⊎ (IsTrue (is_exponent_letter b) × IsTrue (c == 43 || c == 45) × GoesOnAsNumber rest)
+    (IsTrue (is_digit b || (is_letter b || b == dot)) × GoesOnAsNumber (c ∷ rest))
+    ⊎ (IsTrue (is_exponent_letter b) × IsTrue (c == plus || c == minus) × GoesOnAsNumber rest)
 
 -- a preprocessing number begins with a digit, or a dot and a digit
 abbrev pub IsNumberText : List ℕ → Type 0
 IsNumberText [] = ⊥
 IsNumberText (b ∷ []) = IsTrue (is_digit b)
 IsNumberText (b ∷ c ∷ rest) = (IsTrue (is_digit b) × GoesOnAsNumber (c ∷ rest))
-    ⊎ ((b ≡ 46) × IsTrue (is_digit c) × GoesOnAsNumber rest)
+    ⊎ ((b ≡ dot) × IsTrue (is_digit c) × GoesOnAsNumber rest)
 
 abbrev pub StartsNumber : List ℕ → Type 0
 StartsNumber [] = ⊥
 StartsNumber (b ∷ []) = IsTrue (is_digit b)
-StartsNumber (b ∷ c ∷ rest) = IsTrue (is_digit b) ⊎ ((b ≡ 46) × IsTrue (is_digit c))
+StartsNumber (b ∷ c ∷ rest) = IsTrue (is_digit b) ⊎ ((b ≡ dot) × IsTrue (is_digit c))
 
 -- an integer constant without suffix: decimal, octal or hexadecimal (C99 6.4.4.1)
 abbrev pub ConstantValue : List ℕ → ℕ → Type 0
@@ -71,11 +72,11 @@ StartsNot test (b ∷ rest) = IsFalse (test b)
 -- all that follow.
 abbrev pub IsCharacter : ℕ → List ℕ → List ℕ → ℕ → Type 0
 IsCharacter quote bytes rest value =
-    ((bytes ≡ value ∷ []) × (value ≢ quote) × (value ≢ 92) × (value ≢ 10))
-    ⊎ ((letter : ℕ) × (bytes ≡ 92 ∷ letter ∷ []) × EscapeIn simple_escapes letter value)
-    ⊎ ((ds : List ℕ) × (bytes ≡ 92 ∷ ds) × (0 < length ds) × (length ds ≤ 3) × AllPass is_octal_digit ds
+    ((bytes ≡ value ∷ []) × (value ≢ quote) × (value ≢ backslash) × (value ≢ newline))
+    ⊎ ((letter : ℕ) × (bytes ≡ backslash ∷ letter ∷ []) × EscapeIn simple_escapes letter value)
+    ⊎ ((ds : List ℕ) × (bytes ≡ backslash ∷ ds) × (0 < length ds) × (length ds ≤ 3) × AllPass is_octal_digit ds
     × ((length ds ≡ 3) ⊎ StartsNot is_octal_digit rest) × (value ≡ number_in 8 ds))
-    ⊎ ((ds : List ℕ) × (bytes ≡ 92 ∷ 120 ∷ ds) × (0 < length ds) × AllPass is_hexadecimal_digit ds
+    ⊎ ((ds : List ℕ) × (bytes ≡ backslash ∷ codes "x" ++ ds) × (0 < length ds) × AllPass is_hexadecimal_digit ds
     × StartsNot is_hexadecimal_digit rest × (value ≡ number_in 16 ds))
 
 -- the inside of a literal has these values, each at most 255
@@ -92,7 +93,7 @@ IsLiteral quote bytes values = (inside : List ℕ) × (bytes ≡ quote ∷ insid
 
 -- a character constant holds one character, whose byte is read as a signed char
 abbrev pub IsCharacterConstant : List ℕ → ℤ → Type 0
-IsCharacterConstant bytes z = (value : ℕ) × IsLiteral 39 bytes (value ∷ []) × (z ≡ twos_complement 1 value)
+IsCharacterConstant bytes z = (value : ℕ) × IsLiteral apostrophe bytes (value ∷ []) × (z ≡ twos_complement 1 value)
 
 -- the literal whose inside begins so is closed before the end of the line: a backslash takes the next
 -- byte with it
@@ -101,5 +102,5 @@ is_closed quote [] = false
 is_closed quote (b ∷ []) = b == quote
 is_closed quote (b ∷ c ∷ rest) =
     if b == quote then true
-    else (if b == 10 then false
-    else (if b == 92 then (if c == 10 then false else is_closed quote rest) else is_closed quote (c ∷ rest)))
+    else (if b == newline then false
+    else (if b == backslash then (if c == newline then false else is_closed quote rest) else is_closed quote (c ∷ rest)))

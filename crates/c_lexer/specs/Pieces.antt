@@ -2,6 +2,7 @@
 -- Each is the longest that begins there.
 use Rattle.std.specs.Prelude.{◌≡◌, ◌≢◌, ◌≤◌, ◌<◌, ◌⊎◌, ℕ, Bool, true, List, [], ◌∷◌, ◌++◌, length, take, take_while}
 use Rattle.std.specs.Prelude.{not, ◌==◌, IsTrue, pos, codes, if◌then◌else◌}
+use Rattle.pcc_base.specs.Ascii.{newline, double_quote, hash, apostrophe, star, slash}
 use Rattle.pcc_base.specs.declared.keyword.Keyword.{Keyword}
 use Rattle.pcc_base.specs.declared.fault.FaultKind.{FaultKind}
 use Rattle.pcc_base.specs.declared.fault.FaultKind.TheVariants.{BadByte, BadNumber, Unclosed, BadEscape}
@@ -24,22 +25,22 @@ pub data Piece : Type 0 where
 
 -- to the end of the line
 abbrev pub line_of : List ℕ → List ℕ
-line_of rest = take_while (λ b. not (b == 10)) rest
+line_of rest = take_while (λ b. not (b == newline)) rest
 
 -- `//` and no newline
 abbrev pub IsLineComment : List ℕ → Type 0
-IsLineComment bytes = (body : List ℕ) × (bytes ≡ 47 ∷ 47 ∷ body) × AllPass (λ b. not (b == 10)) body
+IsLineComment bytes = (body : List ℕ) × (bytes ≡ codes "//" ++ body) × AllPass (λ b. not (b == newline)) body
 
 -- `/*` and the first `*/` behind it
 abbrev pub IsBlockComment : List ℕ → Type 0
 IsBlockComment bytes =
-    (body : List ℕ) × (bytes ≡ 47 ∷ 42 ∷ body ++ 42 ∷ 47 ∷ [])
-    × ((before after : List ℕ) → body ++ 42 ∷ [] ≢ before ++ 42 ∷ 47 ∷ after)
+    (body : List ℕ) × (bytes ≡ codes "/*" ++ body ++ codes "*/")
+    × ((before after : List ℕ) → body ++ codes "*" ≢ before ++ (codes "*/" ++ after))
 
 -- behind `#`, spaces and tabs comes a digit or the word `pragma`
 abbrev pub IsMarker : List ℕ → Type 0
 IsMarker line =
-    (blanks more : List ℕ) × (line ≡ 35 ∷ blanks ++ more) × AllPass is_blank blanks
+    (blanks more : List ℕ) × (line ≡ hash ∷ blanks ++ more) × AllPass is_blank blanks
     × (((d : ℕ) × (others : List ℕ) × (more ≡ d ∷ others) × IsTrue (is_digit d))
     ⊎ ((others : List ℕ) × (more ≡ codes "pragma" ++ others) × StartsNot is_word_byte others))
 
@@ -63,7 +64,7 @@ IsPiece fresh rest n (Spelled (kinds.Number z)) =
     (IsNumberText (take n rest) × ((m : ℕ) → n < m → m ≤ length rest → IsNumberText (take m rest) → ⊥)
     × ((value : ℕ) × IsConstant (take n rest) value × (z ≡ pos value)))
     ⊎ IsCharacterConstant (take n rest) z
-IsPiece fresh rest n (Spelled (kinds.Text bytes)) = IsLiteral 34 (take n rest) bytes
+IsPiece fresh rest n (Spelled (kinds.Text bytes)) = IsLiteral double_quote (take n rest) bytes
 IsPiece fresh rest n (Spelled (kinds.Mark mark)) = IsMark mark (take n rest)
 
 -- ---- where no piece begins
@@ -71,9 +72,9 @@ IsPiece fresh rest n (Spelled (kinds.Mark mark)) = IsMark mark (take n rest)
 -- `/*` with no `*/` behind it; `%:`; `L` and a quote; a preprocessing number that is no constant
 abbrev pub IsBarred : List ℕ → Type 0
 IsBarred rest =
-    ((body : List ℕ) × (rest ≡ 47 ∷ 42 ∷ body) × ((before after : List ℕ) → body ≢ before ++ 42 ∷ 47 ∷ after))
-    ⊎ ((others : List ℕ) × (rest ≡ 37 ∷ 58 ∷ others))
-    ⊎ ((quote : ℕ) × (others : List ℕ) × (rest ≡ 76 ∷ quote ∷ others) × ((quote ≡ 39) ⊎ (quote ≡ 34)))
+    ((body : List ℕ) × (rest ≡ codes "/*" ++ body) × ((before after : List ℕ) → body ≢ before ++ (codes "*/" ++ after)))
+    ⊎ ((others : List ℕ) × (rest ≡ codes "%:" ++ others))
+    ⊎ ((quote : ℕ) × (others : List ℕ) × (rest ≡ codes "L" ++ quote ∷ others) × ((quote ≡ apostrophe) ⊎ (quote ≡ double_quote)))
     ⊎ (StartsNumber rest
     × ((n value : ℕ) → IsNumberText (take n rest)
     → ((m : ℕ) → n < m → m ≤ length rest → IsNumberText (take m rest) → ⊥) → IsConstant (take n rest) value → ⊥))
@@ -91,13 +92,13 @@ NoneBegins fresh rest = (n : ℕ) (piece : Piece) → Begins fresh rest n piece 
 
 abbrev pub StartsWithStar : List ℕ → Type 0
 StartsWithStar [] = ⊥
-StartsWithStar (b ∷ rest) = b ≡ 42
+StartsWithStar (b ∷ rest) = b ≡ star
 
 -- which fault stands where no piece begins the rest
 abbrev pub IsFaultOf : List ℕ → FaultKind → Type 0
 IsFaultOf [] kind = ⊥
 IsFaultOf (b ∷ rest) kind =
-    ((b ≡ 47) × (kind ≡ Unclosed) × StartsWithStar rest)
-    ⊎ (((b ≡ 39) ⊎ (b ≡ 34)) × (kind ≡ (if is_closed b rest then BadEscape else Unclosed)))
+    ((b ≡ slash) × (kind ≡ Unclosed) × StartsWithStar rest)
+    ⊎ (((b ≡ apostrophe) ⊎ (b ≡ double_quote)) × (kind ≡ (if is_closed b rest then BadEscape else Unclosed)))
     ⊎ (StartsNumber (b ∷ rest) × (kind ≡ BadNumber))
-    ⊎ ((b ≢ 39) × (b ≢ 34) × (StartsNumber (b ∷ rest) → ⊥) × ((b ≡ 47) → StartsWithStar rest → ⊥) × (kind ≡ BadByte))
+    ⊎ ((b ≢ apostrophe) × (b ≢ double_quote) × (StartsNumber (b ∷ rest) → ⊥) × ((b ≡ slash) → StartsWithStar rest → ⊥) × (kind ≡ BadByte))

@@ -1,6 +1,7 @@
 -- The tokens of a text, and where a text has none.
 use Rattle.std.specs.Prelude.{◌≡◌, ◌≢◌, ℕ, zero, suc, ◌+◌, Bool, true, false, ◌&&◌, List, [], ◌∷◌, ◌++◌, take, drop}
 use Rattle.std.specs.Prelude.{◌==◌, if◌then◌else◌}
+use Rattle.pcc_base.specs.Ascii.{newline}
 use Rattle.pcc_base.specs.declared.span.Span.{Span}
 use Rattle.pcc_base.specs.declared.fault.Fault.{Fault}
 use Rattle.c_lexer.specs.declared.token.Token.{Token}
@@ -11,12 +12,12 @@ use Rattle.c_lexer.specs.Pieces.{Piece, Space, Spelled, Begins, NoneBegins, IsFa
 abbrev pub place_after : Span → List ℕ → Span
 place_after at [] = at
 place_after at (b ∷ bs) =
-    place_after (if b == 10 then record at { line = at.line + 1; col = 1 } else record at { col = at.col + 1 }) bs
+    place_after (if b == newline then record at { line = at.line + 1; col = 1 } else record at { col = at.col + 1 }) bs
 
 -- whether a line may be skipped behind a piece: behind a newline, and behind spaces and tabs where one
 -- might be before them
 abbrev pub fresh_after : Bool → Piece → List ℕ → Bool
-fresh_after fresh Space (b ∷ bs) = if b == 10 then true else (fresh && is_blank b)
+fresh_after fresh Space (b ∷ bs) = if b == newline then true else (fresh && is_blank b)
 fresh_after fresh piece bytes = false
 
 abbrev pub tokens_of : Piece → Span → List Token

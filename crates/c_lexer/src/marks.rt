@@ -1,6 +1,7 @@
 ghost use Rattle.std.specs.Prelude.{◌≡◌, ◌≢◌, ◌<◌, ◌≤◌, ◌∷◌, ◌++◌, ℕ, List, Bool, IsFalse, MatchOption, Contains};
 ghost use Rattle.std.specs.Prelude.{length, take};
 ghost use Rattle.std.specs.List.{AllByRecursion};
+ghost use Rattle.pcc_base.specs.Ascii.{apostrophe, double_quote, hash, slash};
 ghost use Rattle.c_lexer.specs.Bytes.{is_letter, is_space};
 ghost use Rattle.c_lexer.specs.Literals.{StartsNumber};
 ghost use Rattle.c_lexer.specs.Scans.{IsFound};
@@ -178,7 +179,7 @@ fn longest_at(rest: &[u8]) -> Option<(usize, Punct)>
 /// `%:`. The rest begins with no letter, white space, number, quote, `/` or `#`.
 pub fn mark_at(rest: &[u8]) -> Option<(usize, Scanned)>
     requires byte { (b : ℕ) × (others : List ℕ) × (rest.now ≡ b ∷ others) × IsFalse (is_letter b) × IsFalse (is_space b)
-        × (b ≢ 39) × (b ≢ 34) × (b ≢ 47) × (b ≢ 35) }
+        × (b ≢ apostrophe) × (b ≢ double_quote) × (b ≢ slash) × (b ≢ hash) }
     requires number { StartsNumber rest.now → ⊥ }
     ensures { (fresh : Bool) → IsFound fresh rest.now result }
 {

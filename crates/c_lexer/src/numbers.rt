@@ -1,5 +1,6 @@
 ghost use Rattle.std.specs.Prelude.{◌≡◌, ◌≤◌, ◌<◌, ◌==◌, ◌&&◌, ◌||◌, ℕ, Bool, IsTrue, IsFalse, MatchOption, pos};
 ghost use Rattle.std.specs.Prelude.{length, take};
+ghost use Rattle.pcc_base.specs.Ascii.{dot, minus, plus};
 ghost use Rattle.c_lexer.specs.Bytes.{is_digit, is_letter, digit_worth, number_in};
 ghost use Rattle.c_lexer.specs.Literals.{AllPass, StartsNumber, IsNumberText, IsConstant, is_exponent_letter};
 ghost use Rattle.c_lexer.specs.Radixes.{base_of, is_digit_of};
@@ -22,8 +23,8 @@ pub(crate) enum Radix {
 /// Whether a byte goes on with a preprocessing number behind another: a digit, a letter, a dot, or a sign
 /// behind the letter of an exponent (C99 6.4.8).
 fn goes_on(before: u8, b: u8) -> bool
-    ensures { result ≡ ((is_digit b || (is_letter b || b == 46)) ||
-        (is_exponent_letter before && (b == 43 || b == 45))) }
+    ensures { result ≡ ((is_digit b || (is_letter b || b == dot)) ||
+        (is_exponent_letter before && (b == plus || b == minus))) }
 {
     match b {
         b'0'..=b'9' | b'A'..=b'Z' | b'a'..=b'z' | b'_' | b'.' => true,

@@ -1,6 +1,7 @@
 ghost use Rattle.std.specs.Prelude.{◌≡◌, ◌<◌, ◌≤◌, ◌+◌, ◌*◌, ◌^◌, ◌⊎◌, nat_le, ◌∷◌, ◌==◌, if◌then◌else◌, ℕ, List, Bool};
 ghost use Rattle.std.specs.Prelude.{IfOk, MatchOption, length};
 ghost use Rattle.byteorder.specs.Endian.{twos_complement};
+ghost use Rattle.pcc_base.specs.Ascii.{apostrophe, double_quote};
 ghost use Rattle.c_lexer.specs.Bytes.{is_octal_digit};
 ghost use Rattle.c_lexer.specs.Radixes.{base_of, is_digit_of};
 ghost use Rattle.c_lexer.specs.Characters.{front_of, HasFront, value_in, read_escape, read_character, IsWithin};
@@ -175,7 +176,7 @@ fn signed(value: u8) -> i32
 /// it isn't closed, an escape is unknown or its value above 255, or a character constant doesn't hold one
 /// character.
 pub fn quote_at(alloc: Global, rest: &[u8]) -> Result<Option<(usize, Scanned)>, NoMemory>
-    requires { (b : ℕ) × (others : List ℕ) × (rest.now ≡ b ∷ others) × ((b ≡ 39) ⊎ (b ≡ 34)) }
+    requires { (b : ℕ) × (others : List ℕ) × (rest.now ≡ b ∷ others) × ((b ≡ apostrophe) ⊎ (b ≡ double_quote)) }
     ensures { (fresh : Bool) → IsScan fresh rest.now result }
 {
     let [quote, text @ ..] = rest else {

@@ -1,4 +1,5 @@
 ghost use Rattle.std.specs.Prelude.{◌≡◌, ◌<◌, ◌↔◌, ◌||◌, ◌==◌, length, IsTrue};
+ghost use Rattle.pcc_base.specs.Ascii.{apostrophe, double_quote};
 ghost use Rattle.c_lexer.specs.Bytes.{is_digit, is_letter, is_space};
 ghost use Rattle.c_lexer.specs.Literals.{StartsNumber};
 ghost use Rattle.c_lexer.specs.Scans.{IsScan};
@@ -64,7 +65,7 @@ pub fn starts_number(rest: &[u8]) -> bool
 
 /// Whether the byte begins a character constant or a string literal (C99 6.4.4.4, 6.4.5).
 pub fn is_quote(byte: u8) -> bool
-    ensures { result ≡ (byte == 39 || byte == 34) }
+    ensures { result ≡ (byte == apostrophe || byte == double_quote) }
 {
     byte == b'\'' || byte == b'"'
 }
@@ -73,19 +74,19 @@ pub fn is_quote(byte: u8) -> bool
 fn is_letter(byte: u8) -> bool
     ensures { result ≡ is_letter byte }
 {
-    (65 <= byte && byte <= 90) || (byte == b'_' || (97 <= byte && byte <= 122))
+    byte.is_ascii_alphabetic() || byte == b'_'
 }
 
 /// Whether the byte is a digit (C99 6.4.2.1).
 fn is_digit(byte: u8) -> bool
     ensures { result ≡ is_digit byte }
 {
-    48 <= byte && byte <= 57
+    byte.is_ascii_digit()
 }
 
 /// Whether the byte is white space (C99 6.4).
 fn is_space(byte: u8) -> bool
     ensures { result ≡ is_space byte }
 {
-    byte == b' ' || (9 <= byte && byte <= 13)
+    byte == b' ' || (b'\t' <= byte && byte <= b'\r')
 }

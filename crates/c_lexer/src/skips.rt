@@ -1,6 +1,7 @@
 ghost use Rattle.std.specs.Prelude.{◌≡◌, ◌≢◌, ◌≤◌, ◌<◌, ◌+◌, ◌==◌, ◌↔◌, ◌∷◌, ℕ, List, Bool, IsTrue, MatchOption};
 ghost use Rattle.std.specs.Prelude.{length, not, slice_index};
 ghost use Rattle.std.specs.List.{prefix_len};
+ghost use Rattle.pcc_base.specs.Ascii.{hash, newline, slash, star};
 ghost use Rattle.c_lexer.specs.Bytes.{is_blank, is_space, is_word_byte};
 ghost use Rattle.c_lexer.specs.Pieces.{IsMarker};
 ghost use Rattle.c_lexer.specs.Directives.{IsPragma, IsDirective};
@@ -21,7 +22,7 @@ pub fn space_at(rest: &[u8]) -> Option<(usize, Scanned)>
 
 /// How many bytes there are before the newline, or before the end where there is none.
 fn line_length(bytes: &[u8]) -> usize
-    ensures count { result ≡ prefix_len (λ b. not (b == 10)) bytes.now }
+    ensures count { result ≡ prefix_len (λ b. not (b == newline)) bytes.now }
     ensures within { result ≤ length bytes.now }
 {
     for (i, b) in bytes.iter().enumerate() {
@@ -35,9 +36,9 @@ fn line_length(bytes: &[u8]) -> usize
 /// Where the first `*/` stands.
 fn comment_end(body: &[u8]) -> Option<usize>
     ensures { MatchOption result
-        ((j : ℕ) → j + 1 < length body.now → slice_index body.now j ≡ 42 → slice_index body.now (j + 1) ≢ 47)
-        (λ k. (k + 1 < length body.now) × (slice_index body.now k ≡ 42) × (slice_index body.now (k + 1) ≡ 47)
-        × ((j : ℕ) → j < k → slice_index body.now j ≡ 42 → slice_index body.now (j + 1) ≢ 47)) }
+        ((j : ℕ) → j + 1 < length body.now → slice_index body.now j ≡ star → slice_index body.now (j + 1) ≢ slash)
+        (λ k. (k + 1 < length body.now) × (slice_index body.now k ≡ star) × (slice_index body.now (k + 1) ≡ slash)
+        × ((j : ℕ) → j < k → slice_index body.now j ≡ star → slice_index body.now (j + 1) ≢ slash)) }
 {
     for i in 1..body.len() {
         if body[i - 1] == b'*' && body[i] == b'/' {
@@ -49,7 +50,7 @@ fn comment_end(body: &[u8]) -> Option<usize>
 
 /// The comment (C99 6.4.9), `/` or `/=` that begins the rest, and None where a comment isn't closed.
 pub fn slash_at(rest: &[u8]) -> Option<(usize, Scanned)>
-    requires { (others : List ℕ) × (rest.now ≡ 47 ∷ others) }
+    requires { (others : List ℕ) × (rest.now ≡ slash ∷ others) }
     ensures { (fresh : Bool) → IsFound fresh rest.now result }
 {
     if rest.len() < 2 {
@@ -106,7 +107,7 @@ fn is_directive(bytes: &[u8]) -> bool
 
 /// Whether a line that goes on so behind its `#` is one that the preprocessor left behind.
 fn is_marker(behind: &[u8]) -> bool
-    ensures { IsTrue result ↔ IsMarker (35 ∷ behind.now) }
+    ensures { IsTrue result ↔ IsMarker (hash ∷ behind.now) }
 {
     let blanks = blank_count(behind);
     is_directive(&behind[blanks..])
@@ -115,7 +116,7 @@ fn is_marker(behind: &[u8]) -> bool
 /// The line that is skipped, where one may be and `#` is followed by a digit or the word `pragma`, and
 /// None elsewhere.
 pub fn hash_at(fresh: bool, rest: &[u8]) -> Option<(usize, Scanned)>
-    requires { (others : List ℕ) × (rest.now ≡ 35 ∷ others) }
+    requires { (others : List ℕ) × (rest.now ≡ hash ∷ others) }
     ensures { IsFound fresh rest.now result }
 {
     if !fresh {

@@ -66,9 +66,9 @@ length-first_values : (locals : List Local) → length (first_values locals []) 
 length-first_values [] = refl
 length-first_values (l ∷ locals) = ap suc (length-first_values locals)
 
-length-zeros : (n : ℕ) → length (map (λ (w : Width). Number (pos 0)) (replicate n Two)) ≡ n
-length-zeros zero = refl
-length-zeros (suc n) = ap suc (length-zeros n)
+length-first_zeros : (n : ℕ) → length (map (λ (w : Width). Number (pos 0)) (replicate n Two)) ≡ n
+length-first_zeros zero = refl
+length-first_zeros (suc n) = ap suc (length-first_zeros n)
 
 -- ---- what marks show
 
@@ -127,7 +127,7 @@ function-keeps f program listing shown input (suc turns) slot lists shows =
     ∙ parts-shown f.locals (listing statement) p values vs left taken written slot.locals (lists statement) m)
     types_int slot.result f.body 0 0 1 turns turns (first_values f.locals []) before input 0 [] [] slot.body
     (omega arith) (has_all (body_ops L f.body) (op.Turn ∷ [])) (omega arith) (omega arith)
-    (length-zeros (variables f)) (length-first_values f.locals) matches in (
+    (length-first_zeros (variables f)) (length-first_values f.locals) matches in (
       run.0,
       turn_step (variables f) (function_ops f) shown 0 turns before input 0 [] run.0 refl
           (omega (arith, body-positive (length f.locals) 0 0 f.body slot.body)) run.1,

@@ -2,11 +2,11 @@
 use Rattle.std.proofs.Common.{◌≡◌, ℕ, ◌+◌, ◌-◌, ◌≤◌, List, ◌++◌, length, take, drop, sym, ap, ◌∙◌, arith, append_assoc}
 use Rattle.std.proofs.Common.{◌<◌, ◌^◌, [], ◌∷◌, refl, length-append}
 use Rattle.std.proofs.Math.Seq.{take-append_seam, drop-append_seam}
-use Rattle.std.proofs.lemmas.List.{length-replicate}
 use Rattle.byteorder.specs.Endian.{little_number}
 use Rattle.byteorder.specs.Numbers.{little_from-take, little_number-reads_back}
 use Rattle.elf_image.specs.Fields.{Header, entry_in, header_at, loads_in}
 use Rattle.pcc_base.specs.Bytes.{zeros}
+use Rattle.pcc_base.proofs.Zeros.{length-zeros}
 use Rattle.elf_image.specs.Layout.{Parts, Fits, elf_header, program_header, text_address, text_span, data_memory}
 use Rattle.elf_image.specs.Layout.{image_bytes, word}
 
@@ -18,11 +18,6 @@ front parts =
     ++ program_header (0x1000 + text_span parts) (text_address + text_span parts) (length parts.data_bytes)
     (data_memory parts) 6
     ++ zeros (0x1000 - 116)
-
--- there are n zeros
-pub length-zeros : (n : ℕ) → length (zeros n) ≡ n
-unfolding zeros
-length-zeros n = length-replicate n 0
 
 -- the text begins at the first page
 pub length-front : (parts : Parts) → length (front parts) ≡ 0x1000

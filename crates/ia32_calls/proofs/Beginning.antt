@@ -36,7 +36,7 @@ pub record Begun (symbols : Symbols) (places : List Places) (text : List ℕ) (m
   pub started : Started symbols text main address input first
   pub entered : Entered (text_site symbols place text) frame back first u
 
-stack-room : (low f e h k : ℕ) → f ≤ 16384 → h ≡ low + k → k ≡ 67112964 → e + 4 ≡ h → low + f + 64 ≤ e
+stack-room : (low f e h k : ℕ) → f ≤ 16384 → h ≡ low + k → k ≡ 0x04001004 → e + 4 ≡ h → low + f + 64 ≤ e
 stack-room low f e h k some p q r = omega arith
 
 stack-top : (e h : ℕ) → e + 4 ≡ h → e + 4 ≤ h

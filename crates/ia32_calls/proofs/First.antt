@@ -8,6 +8,7 @@ use Rattle.std.proofs.lemmas.Bool.{cases_lt}
 use Rattle.std.proofs.lemmas.List.{length-replicate, get_or-replicate, get_or_past}
 use Rattle.ia32_regs.specs.Registers.{AreRegisters, zero_registers}
 use Rattle.pcc_base.specs.Bytes.{zeros}
+use Rattle.pcc_base.proofs.Zeros.{length-zeros}
 use Rattle.ia32_insn.specs.Items.{Object, Symbols, Places, IsText, ItemsAt, FunctionAt, FunctionsAt, round_up}
 use Rattle.ia32_insn.specs.Items.{text_start, text_state, data_bytes, data_start, data_memory, stack_end, putchar_items}
 use Rattle.ia32_insn.specs.declared.item.Item.{Item}
@@ -30,20 +31,16 @@ zero-registers = record { cells = length-replicate {A = ℕ} 32 0; below = λ k.
 
 -- ---- the memory
 
-length-zeros : (n : ℕ) → length (zeros n) ≡ n
-unfolding zeros
-length-zeros n = length-replicate n 0
-
 length-data : length (data_bytes []) ≡ 4
 length-data = length-append (zeros 4) [] ∙ (let l = length-zeros 4 in omega arith)
 
-filled : (n : ℕ) → n + (round_up 4 n + 67112960 - n) ≡ round_up 4 n + 67112960
+filled : (n : ℕ) → n + (round_up 4 n + 0x04001000 - n) ≡ round_up 4 n + 0x04001000
 filled n = omega arith
 
-data-fits : (n : ℕ) → n ≡ 4 → round_up 4 n + 67112960 ≡ 67112964
+data-fits : (n : ℕ) → n ≡ 4 → round_up 4 n + 0x04001000 ≡ 0x04001004
 data-fits n e = omega arith
 
-pub length-memory : data_memory [] ≡ 67112964
+pub length-memory : data_memory [] ≡ 0x04001004
 length-memory = data-fits (length (data_bytes [])) length-data
 
 length-area : length (data_bytes [] ++ zeros (data_memory [] - length (data_bytes []))) ≡ data_memory []
@@ -52,10 +49,10 @@ length-area =
     length-append (data_bytes []) (zeros (data_memory [] - n))
     ∙ ap (λ (k : ℕ). n + k) (length-zeros (data_memory [] - n)) ∙ filled n
 
-page-above : (n : ℕ) → 134512640 + n ≤ 134512640 + 4096 * ((n + 4095) / 4096)
+page-above : (n : ℕ) → 0x08048000 + n ≤ 0x08048000 + 4096 * ((n + 4095) / 4096)
 page-above n = omega arith
 
-page-below : (n k : ℕ) → n < 2 ^ 30 + 1024 → k ≡ 67112964 → 134512640 + 4096 * ((n + 4095) / 4096) + k < 4294967296
+page-below : (n k : ℕ) → n < 2 ^ 30 + 1024 → k ≡ 0x04001004 → 0x08048000 + 4096 * ((n + 4095) / 4096) + k < 4294967296
 page-below n k h e = omega arith
 
 -- the memory of the first state is sound

@@ -112,10 +112,10 @@ calls-function site f address last s sound h named room top =
 
 -- ---- the whole
 
-depth-room : (low h k : ℕ) → h ≡ low + k → k ≡ 67112964 → low + 4 ≤ h
+depth-room : (low h k : ℕ) → h ≡ low + k → k ≡ 0x04001004 → low + 4 ≤ h
 depth-room low h k p q = omega arith
 
-depth-apart : (low e h k : ℕ) → h ≡ low + k → k ≡ 67112964 → e + 4 ≡ h → AreDisjoint e 4 low 4
+depth-apart : (low e h k : ℕ) → h ≡ low + k → k ≡ 0x04001004 → e + 4 ≡ h → AreDisjoint e 4 low 4
 depth-apart low e h k p q r = inr (omega arith)
 
 low-fits : (low h k : ℕ) → h ≡ low + k → h < 4294967296 → low < 4294967296

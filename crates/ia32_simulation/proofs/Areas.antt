@@ -3,17 +3,12 @@ use Rattle.std.proofs.Common.{◌≡◌, ℕ, ◌+◌, ◌-◌, Bool, true, fals
 use Rattle.std.proofs.Common.{arith, length-append}
 use Rattle.std.specs.Prelude.{map, option_map, slice_get, slice_index_or}
 use Rattle.std.proofs.lemmas.Option.{same_Some}
-use Rattle.std.proofs.lemmas.List.{length-replicate}
 use Rattle.ia32_insn.specs.State.{Area, Shape, shape_of}
 use Rattle.pcc_base.specs.Bytes.{zeros}
+use Rattle.pcc_base.proofs.Zeros.{length-zeros}
 use Rattle.ia32_insn.specs.Items.{text_area, data_area, data_bytes, data_memory, data_start, stack_end}
 use Rattle.ia32_simulation.proofs.Setup.{Setup, length-data, data-size}
 use Rattle.ia32_shows.specs.Sites.{data_from}
-
--- n zeros are n
-length-zeros : (n : ℕ) → length (zeros n) ≡ n
-unfolding zeros
-length-zeros n = length-replicate n 0
 
 -- areas with the same parts are the same
 area-equal : (a b : ℕ) (xs ys : List ℕ) (r p w q u v : Bool) → a ≡ b → xs ≡ ys → r ≡ p → w ≡ q → u ≡ v

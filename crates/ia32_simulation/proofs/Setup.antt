@@ -73,19 +73,19 @@ pub length-data : length (data_bytes []) ≡ 4
 length-data = length-append (zeros 4) [] ∙ ap (λ (k : ℕ). k + 0) four-zeros
 
 -- and with the stack they are this much memory
-pub data-size : data_memory [] ≡ 67112964
-data-size = ap (λ (k : ℕ). round_up 4 k + 67112960) length-data
+pub data-size : data_memory [] ≡ 0x04001004
+data-size = ap (λ (k : ℕ). round_up 4 k + 0x04001000) length-data
 
 -- where the data begin and the stack ends
 pub record Bounds (x : Setup) : Type 0 where
-  pub size : stack_end x.text [] ≡ data_start x.text + 67112964
+  pub size : stack_end x.text [] ≡ data_start x.text + 0x04001004
   pub above : text_start + length x.text ≤ data_start x.text
   pub below : stack_end x.text [] < 4294967296
 
 -- the bounds of each such code
 pub bounds : (x : Setup) → IsSetup x → Bounds x
 bounds x h =
-    let size : stack_end x.text [] ≡ data_start x.text + 67112964 = ap (λ (k : ℕ). data_start x.text + k) data-size in
+    let size : stack_end x.text [] ≡ data_start x.text + 0x04001004 = ap (λ (k : ℕ). data_start x.text + k) data-size in
     let fits = h.is_code.fits in
-    let low : data_start x.text ≡ 134512640 + 4096 * ((length x.text + 4095) / 4096) = refl in
+    let low : data_start x.text ≡ 0x08048000 + 4096 * ((length x.text + 4095) / 4096) = refl in
     record { size = size; above = omega arith; below = omega arith }

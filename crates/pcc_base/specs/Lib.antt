@@ -1,3 +1,4 @@
+pub mod Ascii
 pub mod Bytes
 pub mod Counts
 pub mod Faults
