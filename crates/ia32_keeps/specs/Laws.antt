@@ -1,0 +1,95 @@
+-- What stays shown: the laws of a step of the machine beside a step of the program.
+use Rattle.std.specs.Prelude.{◌≡◌, ◌≤◌, ◌⊎◌, ◌+◌, ℕ, List, length, drop, slice_get, Some, None}
+use Rattle.pcc_base.specs.Outcome.{Value}
+use Rattle.ia32_regs.specs.declared.names.Reg32.TheVariants.{Esp, Ebp}
+use Rattle.ia32_places.specs.Places.{Place}
+use Rattle.ia32_insn.specs.State as machine
+use Rattle.ia32_insn.specs.Meaning.{word_of}
+use Rattle.ia32_insn.specs.Items.{data_bytes, data_start}
+use Rattle.flow_graph.specs.declared.op.Op.{Op}
+use Rattle.flow_graph.specs.Graphs.{Stands}
+use Rattle.flow_graph.specs.Liveness.{IsSuccessor, defined}
+use Rattle.flow_graph.specs.States as graph
+use Rattle.flow_graph.specs.States.{active_of, depth_of, flow_at, op_at, with_value}
+use Rattle.flow_graph.specs.WellFormed.{IsState}
+use Rattle.ia32_shows.specs.Placements.{Code, objects_of, placement_of, point_address}
+use Rattle.ia32_shows.specs.Shows.{IsOldArray, Shows, StandsIn}
+use Rattle.ia32_shows.specs.Sites.{Framed, SoundAt}
+use Rattle.ia32_effects.specs.Contains.{ApartFromPlace}
+use Rattle.ia32_keeps.specs.Supports.{IsPlaceFor, IsSupported, site_of}
+use Rattle.ia32_keeps.specs.Protected.{IsProtected, KeepsShown}
+
+-- ---- where a state is shown
+
+-- the end of the static data
+abbrev pub data_end : Code → ℕ
+data_end code = data_start code.text + length (data_bytes (objects_of code.program))
+
+-- A state of the machine that shows one of the program is in the frame of the current call. The stack begins 4,096
+-- bytes or more above the data.
+pub record InFrame (code : Code) (g : graph.State) (s : machine.State) : Type 0 where
+  pub framed : Framed (site_of code g.current.function) (placement_of code g.current.function).frame s
+  pub room : data_end code + 4096 ≤ word_of Esp s
+
+abbrev pub ShownInFrame : Type 0
+ShownInFrame =
+    (code : Code) (input : List ℕ) (g : graph.State) (s : machine.State) → IsSupported code → IsState code.program g
+    → Shows code input g s → InFrame code g s
+
+-- ---- what is protected
+
+-- Nothing that is protected is below ESP, but for the static data; and no place for a variable of the current call has
+-- a byte of it.
+pub record IsApart (code : Code) (g : graph.State) (s : machine.State) (a n : ℕ) : Type 0 where
+  pub above : (word_of Esp s ≤ a) ⊎ (a + n ≤ data_end code)
+  pub places : (v : ℕ) (place : Place)
+      → IsPlaceFor (flow_at code.program g.current.function) (placement_of code g.current.function) v place
+      → ApartFromPlace (word_of Ebp s) place a n
+
+abbrev pub ProtectedIsApart : Type 0
+ProtectedIsApart =
+    (code : Code) (input : List ℕ) (g : graph.State) (s : machine.State) (a n : ℕ) → IsSupported code
+    → IsState code.program g → (shown : Shows code input g s) → IsProtected code g shown.frames a n
+    → IsApart code g s a n
+
+-- ---- what stays shown
+
+-- the state at another point, of any block, with this input and output
+abbrev pub moved_to : ℕ → ℕ → List ℕ → ℕ → List ℕ → graph.State → graph.State
+moved_to block point left taken written g =
+    record g { block = block; point = point; left = left; taken = taken; written = written }
+
+-- The machine is at a next point of the current function, with the input and the output of this state.
+pub record Arrives (code : Code) (input : List ℕ) (g h : graph.State) (t : machine.State) : Type 0 where
+  pub leads : IsSuccessor (flow_at code.program g.current.function) g.point h.point
+  pub placed : Stands (flow_at code.program g.current.function) h.point h.block
+  pub sound : SoundAt (site_of code g.current.function) t
+  pub eip : t.eip ≡ point_address code g.current.function h.point
+  pub left : t.left ≡ h.left
+  pub taken : t.taken ≡ h.taken
+  pub written : t.written ≡ h.written
+  pub of_input : t.left ≡ drop t.taken input
+
+-- Where the op sets no variable, the next state is shown once all that is protected and all places are kept.
+abbrev pub MovedShows : Type 0
+MovedShows =
+    (code : Code) (input : List ℕ) (g : graph.State) (s t : machine.State) (o : Op) (block point : ℕ) (left : List ℕ)
+    (taken : ℕ) (written : List ℕ) → IsSupported code → IsState code.program g → (shown : Shows code input g s)
+    → op_at code.program g ≡ Some o → defined o ≡ None → KeepsShown code g shown.frames None s t
+    → Arrives code input g (moved_to block point left taken written g) t
+    → Shows code input (moved_to block point left taken written g) t
+
+-- Where it sets one, the next state is shown once the variable stands in its place, and all that is protected and all
+-- other places are kept.
+abbrev pub SetShows : Type 0
+SetShows =
+    (code : Code) (input : List ℕ) (g : graph.State) (s t : machine.State) (o : Op) (d : ℕ) (value : Value)
+    (block point : ℕ) (left : List ℕ) (taken : ℕ) (written : List ℕ) → IsSupported code → IsState code.program g
+    → (shown : Shows code input g s) → op_at code.program g ≡ Some o → defined o ≡ Some d
+    → KeepsShown code g shown.frames (Some d) s t
+    → ((place : Place) → (placement_of code g.current.function).after g.point d ≡ Some place
+    → StandsIn code (active_of g) shown.frames t (word_of Ebp t)
+    (slice_get (flow_at code.program g.current.function).widths d) value place)
+    → IsOldArray (depth_of g) value
+    → Arrives code input g (moved_to block point left taken written g) t
+    → Shows code input (with_value d value (moved_to block point left taken written g)) t

@@ -1,0 +1,22 @@
+ghost use Rattle.ia32_keeps.specs.Supports.{SlotsSupport};
+ghost use Rattle.ia32_keeps.specs.Laws.{ShownInFrame, ProtectedIsApart, MovedShows, SetShows};
+
+/// Slots for all variables, apart from each other and from the frame arrays, support every graph.
+pub fn slots_support()
+    ensures { SlotsSupport }
+{}
+
+/// A state of the machine that shows one of the program is in the frame of the current call, with the stack far above
+/// the data. What is protected has no byte in common with a place for a variable of the current call, and none below
+/// ESP but in the data.
+pub fn protected_is_apart()
+    ensures in_frame { ShownInFrame }
+    ensures apart { ProtectedIsApart }
+{}
+
+/// The next state is shown once all that is protected and all places are kept, but for the variable that the op sets,
+/// which stands in its place: for any number of waiting calls, arrays and static objects.
+pub fn kept_stays_shown()
+    ensures moved { MovedShows }
+    ensures set { SetShows }
+{}
