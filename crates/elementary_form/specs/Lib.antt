@@ -1,0 +1,6 @@
+pub mod FormLaws
+pub mod FormRuns
+pub mod Forms
+pub mod Names
+pub mod Passages
+pub mod Worked
