@@ -62,7 +62,7 @@ element-ends address width count a n room (inr (i, below, at, long)) =
 -- ---- static data
 
 -- the objects of the image, by those of the program
-image-object : (code : Code) (k : ℕ) (o : graph.Object) → slice_get code.program.objects k ≡ Some o
+pub image-object : (code : Code) (k : ℕ) (o : graph.Object) → slice_get code.program.objects k ≡ Some o
     → slice_get (objects_of code.program) k ≡ Some (record { width = o.width; elements = o.elements })
 image-object code k o e =
     slice_get-map (λ (object : graph.Object). record { width = object.width; elements = object.elements })
@@ -171,7 +171,7 @@ abbrev pub IsSomewhere : Code → graph.State → ℕ → ℕ → ℕ → Type 0
 IsSomewhere code g base a n = (a + n ≤ data_end code) ⊎ (base ≤ a + 4) ⊎ IsOwnArray code g base a n
 
 -- the current call's zone ends below those of others
-above-current : (code : Code) (input : List ℕ) (g : graph.State) (s : machine.State) (i : ℕ) (a : Activation)
+pub above-current : (code : Code) (input : List ℕ) (g : graph.State) (s : machine.State) (i : ℕ) (a : Activation)
     (frame : ℕ) → (shown : Shows code input g s) → 0 < i → IsCallAt g shown.frames i a frame
     → word_of Ebp s + 8 + frame_size code a ≤ frame
 above-current code input g s i a frame shown some at =

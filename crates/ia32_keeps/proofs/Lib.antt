@@ -5,3 +5,5 @@ pub mod Shown
 pub mod Objects
 pub mod Zones
 pub mod Apart
+pub mod Regions
+pub mod Changed

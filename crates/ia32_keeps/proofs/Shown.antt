@@ -29,7 +29,7 @@ use Rattle.ia32_keeps.proofs.Chain.{remade, same-place, stands-kept, wait_with, 
 -- ---- active calls
 
 -- calls that wait alike are alike
-alike-waits : (waiting after : List Waiting) → AllZip IsWaitAlike waiting after
+pub alike-waits : (waiting after : List Waiting) → AllZip IsWaitAlike waiting after
     → AreAlike (map (λ w. w.activation) waiting) (map (λ w. w.activation) after)
 alike-waits [] [] h = tt
 alike-waits [] (v ∷ after) h = absurd h

@@ -1,19 +1,20 @@
 -- What stays shown: the laws of a step of the machine beside a step of the program.
-use Rattle.std.specs.Prelude.{◌≡◌, ◌≤◌, ◌⊎◌, ◌+◌, ℕ, List, length, drop, slice_get, Some, None}
-use Rattle.pcc_base.specs.Outcome.{Value}
+use Rattle.std.specs.Prelude.{◌≡◌, ◌≤◌, ◌⊎◌, ◌+◌, ◌*◌, ⊤, ℕ, ℤ, List, length, drop, slice_get, Some, None, Ok}
+use Rattle.pcc_base.specs.Outcome.{ArrayName, Value}
 use Rattle.ia32_regs.specs.declared.names.Reg32.TheVariants.{Esp, Ebp}
-use Rattle.ia32_places.specs.Places.{Place}
+use Rattle.ia32_places.specs.Places.{Place, InWord, InByte, InSlot}
 use Rattle.ia32_insn.specs.State as machine
-use Rattle.ia32_insn.specs.Meaning.{word_of}
+use Rattle.ia32_insn.specs.Meaning.{load, word_of, byte_of}
+use Rattle.ia32_insn.specs.Keeps.{AreDisjoint}
 use Rattle.ia32_insn.specs.Items.{data_bytes, data_start}
 use Rattle.flow_graph.specs.declared.op.Op.{Op}
 use Rattle.flow_graph.specs.Graphs.{Stands}
 use Rattle.flow_graph.specs.Liveness.{IsSuccessor, defined}
 use Rattle.flow_graph.specs.States as graph
-use Rattle.flow_graph.specs.States.{active_of, depth_of, flow_at, op_at, with_value}
+use Rattle.flow_graph.specs.States.{active_of, depth_of, elements_of, flow_at, op_at, with_array, with_value}
 use Rattle.flow_graph.specs.WellFormed.{IsState}
 use Rattle.ia32_shows.specs.Placements.{Code, objects_of, placement_of, point_address}
-use Rattle.ia32_shows.specs.Shows.{IsOldArray, Shows, StandsIn}
+use Rattle.ia32_shows.specs.Shows.{ElementsStand, IsArrayAt, IsOldArray, Shows, StandsIn}
 use Rattle.ia32_shows.specs.Sites.{Framed, SoundAt}
 use Rattle.ia32_effects.specs.Contains.{ApartFromPlace}
 use Rattle.ia32_keeps.specs.Supports.{IsPlaceFor, IsSupported, site_of}
@@ -93,3 +94,33 @@ SetShows =
     → IsOldArray (depth_of g) value
     → Arrives code input g (moved_to block point left taken written g) t
     → Shows code input (with_value d value (moved_to block point left taken written g)) t
+
+-- ---- an array changes
+
+-- the word or the byte of a place that is a register
+abbrev pub IsSameRegister : Place → machine.State → machine.State → Type 0
+IsSameRegister (InWord r) s t = word_of r t ≡ word_of r s
+IsSameRegister (InByte r) s t = byte_of r t ≡ byte_of r s
+IsSameRegister (InSlot slot) s t = ⊤
+
+-- A step keeps ESP, EBP, all of memory outside so many bytes from an address on, and the registers that variables stand
+-- in after the point.
+pub record KeepsOutside (code : Code) (g : graph.State) (first bytes : ℕ) (s t : machine.State) : Type 0 where
+  pub esp : word_of Esp t ≡ word_of Esp s
+  pub ebp : word_of Ebp t ≡ word_of Ebp s
+  pub loads : (n a w : ℕ) → AreDisjoint first bytes a n → load n a s ≡ Ok w → load n a t ≡ Ok w
+  pub registers : (v : ℕ) (place : Place) → (placement_of code g.current.function).after g.point v ≡ Some place
+      → IsSameRegister place s t
+
+-- Where an array of any depth, or a static object, gets other elements, the next state is shown once these stand at the
+-- array's address, and all outside the old ones is kept.
+abbrev pub ArrayShows : Type 0
+ArrayShows =
+    (code : Code) (input : List ℕ) (g : graph.State) (s t : machine.State) (o : Op) (array : ArrayName)
+    (address width : ℕ) (elements new : List ℤ) (block point : ℕ) (left : List ℕ) (taken : ℕ) (written : List ℕ)
+    → IsSupported code → IsState code.program g → (shown : Shows code input g s) → op_at code.program g ≡ Some o
+    → defined o ≡ None → elements_of code.program g array ≡ Some (width, elements)
+    → IsArrayAt code (active_of g) shown.frames array address
+    → KeepsOutside code g address (width * length elements) s t → ElementsStand t address width new
+    → Arrives code input g (moved_to block point left taken written g) t
+    → Shows code input (with_array array new (moved_to block point left taken written g)) t

@@ -1,5 +1,5 @@
 ghost use Rattle.ia32_keeps.specs.Supports.{SlotsSupport};
-ghost use Rattle.ia32_keeps.specs.Laws.{ShownInFrame, ProtectedIsApart, MovedShows, SetShows};
+ghost use Rattle.ia32_keeps.specs.Laws.{ShownInFrame, ProtectedIsApart, MovedShows, SetShows, ArrayShows};
 
 /// Slots for all variables, apart from each other and from the frame arrays, support every graph.
 pub fn slots_support()
@@ -19,4 +19,10 @@ pub fn protected_is_apart()
 pub fn kept_stays_shown()
     ensures moved { MovedShows }
     ensures set { SetShows }
+{}
+
+/// The next state is shown once an array of any depth, or a static object, has other elements at its address, and all
+/// outside them is kept: for an element stored, and for an array cleared.
+pub fn changed_array_is_shown()
+    ensures { ArrayShows }
 {}
