@@ -7,3 +7,4 @@ pub mod Machine
 pub mod Weighing
 pub mod Serving
 pub mod Starting
+pub mod Going

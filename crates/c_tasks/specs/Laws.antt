@@ -1,9 +1,10 @@
 -- The laws of the machine of tasks.
 use Rattle.std.specs.Prelude.{◌≡◌, ◌≤◌, ◌-◌, ℕ, List, [], ◌∷◌, length, reverse, take, drop}
-use Rattle.pcc_base.specs.Outcome.{Ended, Listing}
+use Rattle.pcc_base.specs.Outcome.{Ended, Goes, Listing}
 use Rattle.c_tree.specs.Evaluation.{Found, first_state, low_byte, outcome_at, source_outcome}
 use Rattle.c_tree.specs.Program.{Arguments, Expression, Item, Place, Statement, Function, Program}
 use Rattle.c_tree.specs.Store.{Held, State}
+use Rattle.c_bounds.specs.Laws.{GoesOn}
 use Rattle.c_tasks.specs.Tasks.{Task, Declares, Evaluates, Executes, Locates, Passes, Way, Ahead, below_by, put_before}
 use Rattle.c_tasks.specs.Tasks.{rest, top}
 use Rattle.c_tasks.specs.Steps.{Configuration, Stepped, rest_after, rest_of, steps, arguments_step}
@@ -67,6 +68,11 @@ Starts = (p : Program) (l : Listing) (input : List ℕ) (n : ℕ) (f : Function)
 abbrev pub IsEnd : Type 0
 IsEnd = (p : Program) (l : Listing) (f : Function) (way : Way) (vs : List Held) (fs : List Found) (s : State)
     → rest p l f way [] vs fs s ≡ outcome_at (Ended (low_byte (top vs))) s
+
+-- What was visited, written and taken up to a state stays in front of what comes of the rest.
+abbrev pub RestGoesOn : Type 0
+RestGoesOn = (p : Program) (l : Listing) (f : Function) (way : Way) (ts : List Task) (vs : List Held)
+    (fs : List Found) (s : State) → GoesOn (outcome_at Goes s) (rest p l f way ts vs fs s)
 
 -- ---- weights
 

@@ -4,10 +4,9 @@ ghost use Rattle.std.specs.Prelude.{◌≡◌, [], ◌∷◌, Some, None};
 ghost use Rattle.pcc_base.specs.Outcome.{Ended, Goes, nothing_listed};
 ghost use Rattle.c_tree.specs.Evaluation.{source_outcome};
 ghost use Rattle.c_tasks.specs.Worked.{ended, stepped, writes_letters};
-ghost use Rattle.c_tasks.specs.Laws.{CallsStep, ExpressionsStep, ItemsStep, PlacesStep, StatementsStep};
-ghost use Rattle.c_tasks.specs.Laws.{ArgumentsAreLast, IsEnd, IsServed, ManyStepsKeep, StacksStayFit, Starts};
-ghost use Rattle.c_tasks.specs.Laws.{StartFits, StepsKeep, TasksStep};
-ghost use Rattle.c_tasks.specs.Laws.{WeightsFall};
+ghost use Rattle.c_tasks.specs.Laws.{ArgumentsAreLast, CallsStep, ExpressionsStep, IsEnd, IsServed};
+ghost use Rattle.c_tasks.specs.Laws.{ItemsStep, ManyStepsKeep, PlacesStep, RestGoesOn, StacksStayFit};
+ghost use Rattle.c_tasks.specs.Laws.{StartFits, Starts, StatementsStep, StepsKeep, TasksStep, WeightsFall};
 
 /// What comes of the call of `main` is the program's outcome, and where no task is left the last value is its status.
 pub fn start_and_end()
@@ -53,6 +52,11 @@ pub fn steps_keep()
 /// Several steps don't change the outcome of what is left.
 pub fn many_steps_keep()
     ensures { ManyStepsKeep }
+{}
+
+/// What was visited, written and taken stays in front of what comes of the rest.
+pub fn rest_goes_on()
+    ensures { RestGoesOn }
 {}
 
 /// Each step takes a turn, or lowers the weight of what is left.
