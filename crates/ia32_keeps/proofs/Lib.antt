@@ -7,3 +7,8 @@ pub mod Zones
 pub mod Apart
 pub mod Regions
 pub mod Changed
+pub mod Puts
+pub mod Words
+pub mod Ops
+pub mod Marks
+pub mod Copies

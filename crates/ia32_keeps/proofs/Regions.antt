@@ -282,7 +282,7 @@ other-array-apart code input g s c k address width elements at n supported state
 -- ---- above ESP
 
 -- each call's bytes are above ESP
-call-above : (code : Code) (input : List ℕ) (g : graph.State) (s : machine.State) (j : ℕ) (a : Activation) (frame : ℕ)
+pub call-above : (code : Code) (input : List ℕ) (g : graph.State) (s : machine.State) (j : ℕ) (a : Activation) (frame : ℕ)
     → (shown : Shows code input g s) → IsCallAt g shown.frames j a frame
     → word_of Esp s + frame_size code a ≤ frame
 call-above code input g s zero a frame shown at =

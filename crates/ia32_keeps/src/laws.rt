@@ -1,5 +1,7 @@
 ghost use Rattle.ia32_keeps.specs.Supports.{SlotsSupport};
 ghost use Rattle.ia32_keeps.specs.Laws.{ShownInFrame, ProtectedIsApart, MovedShows, SetShows, ArrayShows};
+ghost use Rattle.ia32_keeps.specs.Ops.{NumberFollows, CopyFollows, SumFollows, DifferenceFollows, AndFollows, OrFollows};
+ghost use Rattle.ia32_keeps.specs.Ops.{XorFollows, MarkFollows, TurnFollows};
 
 /// Slots for all variables, apart from each other and from the frame arrays, support every graph.
 pub fn slots_support()
@@ -25,4 +27,17 @@ pub fn kept_stays_shown()
 /// outside them is kept: for an element stored, and for an array cleared.
 pub fn changed_array_is_shown()
     ensures { ArrayShows }
+{}
+
+/// The machine follows these ops through their items, over any placement that supports the graph.
+pub fn rows_follow()
+    ensures number { NumberFollows }
+    ensures copy { CopyFollows }
+    ensures sum { SumFollows }
+    ensures difference { DifferenceFollows }
+    ensures and { AndFollows }
+    ensures or { OrFollows }
+    ensures xor { XorFollows }
+    ensures mark { MarkFollows }
+    ensures turn { TurnFollows }
 {}

@@ -4,4 +4,6 @@
 
 mod laws;
 
-pub use laws::{changed_array_is_shown, kept_stays_shown, protected_is_apart, slots_support};
+pub use laws::{
+    changed_array_is_shown, kept_stays_shown, protected_is_apart, rows_follow, slots_support,
+};
