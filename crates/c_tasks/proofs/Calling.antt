@@ -25,6 +25,7 @@ module _ (p : Program) (l : Listing) (f : Function) (ts : List Task) (vs : List 
   -- a call is over
   over-kept : (g : Function) (left : Left) (t : State) → finish (call_over left t) called
       ≡ behind (λ way ws u. rest p l g way (ReturnsTo f ∷ ts) ws fs u) vs left t
+  unfolding rest
   over-kept g Falls t = refl
   over-kept g Breaks t = refl
   over-kept g Continues t = refl
@@ -34,6 +35,7 @@ module _ (p : Program) (l : Listing) (f : Function) (ts : List Task) (vs : List 
   body-kept : (g : Function) (bound : ℕ) (s : State) → s.turns < bound → finish (and_then
       (execute_from (within (call_within bound p l) bound l (type_at g) g.result) g.body 0 s) call_over) called
       ≡ rest p l g Ahead (Follows g.body ∷ ReturnsTo f ∷ ts) vs fs s
+  unfolding rest
   body-kept g bound s lt =
       ap (λ (r : Evaluated Left). finish (and_then r call_over) called) (body-settles p l g bound s lt)
       ∙ finish-then (executed_from p l g g.body 0 s) call_over called
@@ -47,6 +49,7 @@ module _ (p : Program) (l : Listing) (f : Function) (ts : List Task) (vs : List 
       ≡ rest_after p l (if full then Ends (Trapped Check) s
       else take_turn s (λ t. Gives (go_on g (Follows g.body ∷ ReturnsTo f ∷ ts) vs fs)
       (record t { active = first_activation g arguments ∷ t.active })))
+  unfolding rest
   enter-kept g arguments s true = refl
   enter-kept g arguments s false = finish-turn s _ _ _ _ (λ n e.
       body-kept g (suc s.turns) (record s { turns = n; active = first_activation g arguments ∷ s.active })
@@ -56,18 +59,21 @@ module _ (p : Program) (l : Listing) (f : Function) (ts : List Task) (vs : List 
   function-kept : (g : Option Function) (arguments : List Held) (s : State)
       → finish (run_function (call_within (suc s.turns) p l) (suc s.turns) l g arguments s) called
       ≡ rest_after p l (call_step f g arguments ts vs fs s)
+  unfolding rest
   function-kept None arguments s = refl
   function-kept (Some g) arguments s = enter-kept g arguments s (nat_le most_active (length s.active))
 
   -- a function is called
   call-kept : (k : ℕ) (arguments : List Held) (s : State) → finish (calls_of p l k arguments s) called
       ≡ rest_after p l (call_step f (slice_get p.functions k) arguments ts vs fs s)
+  unfolding rest
   call-kept k arguments s =
       ap (λ (r : Evaluated Held). finish r called) (calls_unfold p l (suc s.turns) k arguments s (omega arith))
       ∙ function-kept (slice_get p.functions k) arguments s
 
 -- the next argument is evaluated, or the function is called
 pub calls_step : CallsStep
+unfolding rest
 calls_step p l f k NoMore count ts vs fs s =
     call-kept p l f ts (below_by count vs) fs k (put_before count vs []) s
 calls_step p l f k (Argument e others) count ts vs fs s =

@@ -7,12 +7,13 @@ use Rattle.c_tree.specs.Operators.{binary_value, is_true, step_op}
 use Rattle.c_tree.specs.Program.{Constant, Start, Read, Address, Unary, Binary, And, Or, Conditional, Cast}
 use Rattle.c_tree.specs.Program.{Assign, Update, Step, Comma, Call, Putchar, Getchar, Exit, LocalPlace}
 use Rattle.c_tree.specs.Program.{StaticPlace, Target, Element}
-use Rattle.c_tasks.specs.Tasks.{calls_of}
+use Rattle.c_tasks.specs.Tasks.{calls_of, rest}
 use Rattle.c_tasks.specs.Laws.{ExpressionsStep, PlacesStep}
 use Rattle.c_tasks.proofs.Finishing.{finish-then, finish-same}
 
 -- an expression is taken apart
 pub expressions_step : ExpressionsStep
+unfolding rest
 expressions_step p l f (Constant of n) ts vs fs s = refl
 expressions_step p l f (Start element array) ts vs fs s = refl
 expressions_step p l f (Read of place) ts vs fs s = finish-then (locate (calls_of p l) place s) _ _
@@ -42,6 +43,7 @@ expressions_step p l f (Exit e) ts vs fs s = finish-then (evaluate (calls_of p l
 
 -- a place is taken apart
 pub places_step : PlacesStep
+unfolding rest
 places_step p l f (LocalPlace v) ts vs fs s = refl
 places_step p l f (StaticPlace k) ts vs fs s = refl
 places_step p l f (Target element e) ts vs fs s = finish-then (evaluate (calls_of p l) e s) _ _

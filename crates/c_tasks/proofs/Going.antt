@@ -123,6 +123,7 @@ module _ (p : Program) (l : Listing) where
   -- the outcome of what is left goes on from the state
   pub goes-on : (ts : List Task) (f : Function) (way : Way) (vs : List Held) (fs : List Found) (s : State)
       → From s (rest p l f way ts vs fs s)
+  unfolding rest
   goes-on [] f way vs fs s = from-same _ s
   goes-on (Evaluates e ∷ ts) f Ahead vs fs s =
       finish-from s (evaluate (calls_of p l) e s) _ ((trees-keep p l 0).expressions e s)

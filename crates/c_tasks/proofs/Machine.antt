@@ -37,6 +37,7 @@ module _ (p : Program) (l : Listing) (f : Function) (ts : List Task) where
       else Gives (truth_value false) s) (λ v t. rest p l f Ahead ts (v ∷ vs) fs t)
       ≡ rest_of p l (if holds then go_on f (Evaluates b ∷ Truth ∷ ts) vs fs
       else go_on f ts (truth_value false ∷ vs) fs) s
+  unfolding rest
   and-kept b vs fs s true = finish-then (evaluate (calls_of p l) b s) _ _
   and-kept b vs fs s false = refl
 
@@ -46,6 +47,7 @@ module _ (p : Program) (l : Listing) (f : Function) (ts : List Task) where
       (λ v t. rest p l f Ahead ts (v ∷ vs) fs t)
       ≡ rest_of p l (if holds then go_on f ts (truth_value true ∷ vs) fs
       else go_on f (Evaluates b ∷ Truth ∷ ts) vs fs) s
+  unfolding rest
   or-kept b vs fs s true = refl
   or-kept b vs fs s false = finish-then (evaluate (calls_of p l) b s) _ _
 
@@ -70,6 +72,7 @@ module _ (p : Program) (l : Listing) (f : Function) (ts : List Task) where
     next-kept : (others : Statements) (bound : ℕ) (s : State) → s.turns < bound → (left : Left)
         → finish (after_statement (execute_from (setting_of p l f bound) others 0) left s) (left_to p l f ts vs fs)
         ≡ left_to p l f (Follows others ∷ ts) vs fs left s
+    unfolding rest
     next-kept others bound s lt Falls = ap (λ (r : Evaluated Left). finish r (left_to p l f ts vs fs))
         (statements-settle p l f bound others 0 s lt)
     next-kept others bound s lt Breaks = refl
@@ -80,6 +83,7 @@ module _ (p : Program) (l : Listing) (f : Function) (ts : List Task) where
     loop-body-kept : (test after : Option Expression) (body : Statement) (left : Left) (s : State)
         → finish (after_body (looped_again p l f test after body) left s) (left_to p l f ts vs fs)
         ≡ left_to p l f (LoopBody test after body ∷ ts) vs fs left s
+    unfolding rest
     loop-body-kept test after body Falls s = refl
     loop-body-kept test after body Breaks s = refl
     loop-body-kept test after body Continues s = refl
@@ -88,6 +92,7 @@ module _ (p : Program) (l : Listing) (f : Function) (ts : List Task) where
     do-body-kept : (body : Statement) (test : Expression) (left : Left) (s : State)
         → finish (after_body (do_looped_again p l f body test) left s) (left_to p l f ts vs fs)
         ≡ left_to p l f (DoBody body test ∷ ts) vs fs left s
+    unfolding rest
     do-body-kept body test Falls s = refl
     do-body-kept body test Breaks s = refl
     do-body-kept body test Continues s = refl
@@ -97,6 +102,7 @@ module _ (p : Program) (l : Listing) (f : Function) (ts : List Task) where
     loop-test-kept : (test after : Option Expression) (body : Statement) (s : State) (holds : Bool)
         → finish (looped_if p l f test after body holds s) (left_to p l f ts vs fs)
         ≡ rest_of p l (go_on f (body_if holds test after body ts) vs fs) s
+    unfolding rest
     loop-test-kept test after body s true = finish-then (executed p l f body s) _ _
         ∙ finish-same (executed p l f body s) _ _ (loop-body-kept test after body)
     loop-test-kept test after body s false = refl
@@ -105,6 +111,7 @@ module _ (p : Program) (l : Listing) (f : Function) (ts : List Task) where
     loop-again-kept : (test after : Option Expression) (body : Statement) (s : State)
         → finish (looped_again p l f test after body s) (left_to p l f ts vs fs)
         ≡ rest_of p l (go_on f (loop_again test after body ts) vs fs) s
+    unfolding rest
     loop-again-kept test None body s = refl
     loop-again-kept test (Some e) body s = finish-then (evaluated_if_any (calls_of p l) (Some e) s) _ _
         ∙ finish-then (evaluate (calls_of p l) e s) _ _
@@ -114,6 +121,7 @@ module _ (p : Program) (l : Listing) (f : Function) (ts : List Task) where
         → finish (and_then (tested_if_any (calls_of p l) test s) (looped_if p l f test after body))
         (left_to p l f ts vs fs)
         ≡ rest_of p l (go_on f (turn_of test after body ts) vs fs) s
+    unfolding rest
     turn-kept None after body s = loop-test-kept None after body s true
     turn-kept (Some e) after body s = finish-then (tested_if_any (calls_of p l) (Some e) s) _ _
         ∙ finish-then (evaluate (calls_of p l) e s) _ _
@@ -122,6 +130,7 @@ module _ (p : Program) (l : Listing) (f : Function) (ts : List Task) where
     loop-kept : (test after : Option Expression) (body : Statement) (s : State)
         → finish (looped p l f test after body s) (left_to p l f ts vs fs)
         ≡ rest_after p l (take_turn s (λ t. Gives (go_on f (turn_of test after body ts) vs fs) t))
+    unfolding rest
     loop-kept test after body s =
         ap (λ (r : Evaluated Left). finish r (left_to p l f ts vs fs))
         ((loops_unfold (suc s.turns) (tested_if_any (calls_of p l) test) (execute (setting_of p l f (suc s.turns)) body)
@@ -135,6 +144,7 @@ module _ (p : Program) (l : Listing) (f : Function) (ts : List Task) where
     do-kept : (body : Statement) (test : Expression) (s : State)
         → finish (do_looped p l f body test s) (left_to p l f ts vs fs)
         ≡ rest_after p l (take_turn s (λ t. Gives (go_on f (Executes body ∷ DoBody body test ∷ ts) vs fs) t))
+    unfolding rest
     do-kept body test s =
         ap (λ (r : Evaluated Left). finish r (left_to p l f ts vs fs))
         ((loops_unfold (suc s.turns) (tested (calls_of p l) test) (execute (setting_of p l f (suc s.turns)) body)
@@ -150,12 +160,14 @@ module _ (p : Program) (l : Listing) (f : Function) (ts : List Task) where
     do-again-kept : (body : Statement) (test : Expression) (s : State)
         → finish (do_looped_again p l f body test s) (left_to p l f ts vs fs)
         ≡ rest_of p l (go_on f (Evaluates test ∷ DoTest body test ∷ ts) vs fs) s
+    unfolding rest
     do-again-kept body test s = finish-then (tested (calls_of p l) test s) _ _
         ∙ finish-then (evaluate (calls_of p l) test s) _ _
 
     do-test-kept : (body : Statement) (test : Expression) (s : State) (holds : Bool)
         → finish (do_looped_if p l f body test holds s) (left_to p l f ts vs fs)
         ≡ rest_of p l (go_on f (do_if holds body test ts) vs fs) s
+    unfolding rest
     do-test-kept body test s true = refl
     do-test-kept body test s false = refl
 
@@ -169,6 +181,7 @@ module _ (p : Program) (l : Listing) (f : Function) (ts : List Task) where
     -- behind the body of a switch
     switch-body-kept : (left : Left) (s : State) → finish (after_switch left s) (left_to p l f ts vs fs)
         ≡ left_to p l f (SwitchBody ∷ ts) vs fs left s
+    unfolding rest
     switch-body-kept Falls s = refl
     switch-body-kept Breaks s = refl
     switch-body-kept Continues s = refl
@@ -178,6 +191,7 @@ module _ (p : Program) (l : Listing) (f : Function) (ts : List Task) where
     switch-kept : (place : Option ℕ) (body : Statements) (s : State)
         → finish (and_then (none_or_from place (executed_from p l f body) s) after_switch) (left_to p l f ts vs fs)
         ≡ rest_of p l (go_on f (from_label place body ts) vs fs) s
+    unfolding rest
     switch-kept None body s = refl
     switch-kept (Some place) body s =
         ap (λ (r : Evaluated Left). finish (and_then r after_switch) (left_to p l f ts vs fs))
@@ -187,6 +201,7 @@ module _ (p : Program) (l : Listing) (f : Function) (ts : List Task) where
 
 -- a task is done
 pub tasks_step : TasksStep
+unfolding rest
 tasks_step p l f (Evaluates e) ts vs fs s = expressions_step p l f e ts vs fs s
 tasks_step p l f (Locates place) ts vs fs s = places_step p l f place ts vs fs s
 tasks_step p l f Points ts vs fs s = refl
@@ -247,6 +262,7 @@ tasks_step p l f (ReturnsTo caller) ts vs fs s = refl
 passed : (p : Program) (l : Listing) (f : Function) (way : Way) (task : Task) (ts : List Task) (vs : List Held)
     (fs : List Found) (s : State)
     → Keeps p l f way (task ∷ ts) vs fs s (step p l f way (task ∷ ts) vs fs s)
+unfolding rest
 passed p l f Ahead task ts vs fs s = tasks_step p l f task ts vs fs s
 passed p l f Continuing (LoopBody test after body) ts vs fs s = loop-again-kept p l f ts vs fs test after body s
 passed p l f Continuing (DoBody body test) ts vs fs s = do-again-kept p l f ts vs fs body test s
@@ -258,5 +274,6 @@ passed p l f way task ts vs fs s = refl
 
 -- every step
 pub steps_keep : StepsKeep
+unfolding rest
 steps_keep p l f way [] vs fs s = refl
 steps_keep p l f way (task ∷ ts) vs fs s = passed p l f way task ts vs fs s

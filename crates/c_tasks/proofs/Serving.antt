@@ -88,6 +88,7 @@ module _ (p : Program) (l : Listing) (f : Function) (ts : List Task) where
   -- an expression
   expression-fits : (e : Expression) (vs : List Held) (fs : List Found) (s : State)
       → StacksFit Ahead ts (suc (length vs)) (length fs) → StacksFitAfter (expression_step f e ts vs fs s)
+  unfolding StacksFit
   expression-fits (Constant of n) vs fs s h = h
   expression-fits (Start element array) vs fs s h = h
   expression-fits (Read of place) vs fs s h = h
@@ -110,6 +111,7 @@ module _ (p : Program) (l : Listing) (f : Function) (ts : List Task) where
   -- a place
   place-fits : (place : Place) (vs : List Held) (fs : List Found) (s : State)
       → StacksFit Ahead ts (length vs) (suc (length fs)) → StacksFitAfter (place_step f place ts vs fs s)
+  unfolding StacksFit
   place-fits (LocalPlace v) vs fs s h = h
   place-fits (StaticPlace k) vs fs s h = h
   place-fits (Target element e) vs fs s h = h
@@ -118,6 +120,7 @@ module _ (p : Program) (l : Listing) (f : Function) (ts : List Task) where
   -- a declared item
   item-fits : (item : Item) (vs : List Held) (fs : List Found) (s : State)
       → StacksFit Ahead ts (length vs) (length fs) → StacksFitAfter (item_step l f item ts vs fs s)
+  unfolding StacksFit
   item-fits (Scalar n v None) vs fs s h = h
   item-fits (Scalar n v (Some e)) vs fs s h = h
   item-fits (Array n k element (Elements es)) vs fs s h = h
@@ -126,6 +129,7 @@ module _ (p : Program) (l : Listing) (f : Function) (ts : List Task) where
   -- a function is called
   call-fits : (g : Option Function) (arguments vs : List Held) (fs : List Found) (s : State)
       → StacksFit Ahead ts (suc (length vs)) (length fs) → StacksFitAfter (call_step f g arguments ts vs fs s)
+  unfolding StacksFit
   call-fits None arguments vs fs s h = h
   call-fits (Some g) arguments vs fs s h = unless-full s (nat_le most_active (length s.active)) _
       (turn-fits s _ _ (h, h, h, h))
@@ -134,6 +138,7 @@ module _ (p : Program) (l : Listing) (f : Function) (ts : List Task) where
   arguments-fit : (k : ℕ) (arguments : Arguments) (count : ℕ) (vs : List Held) (fs : List Found) (s : State)
       → With count (length vs) (λ n. StacksFit Ahead ts (suc n) (length fs))
       → StacksFitAfter (arguments_step p f k arguments count ts vs fs s)
+  unfolding StacksFit
   arguments-fit k NoMore count vs fs s h = call-fits (slice_get p.functions k) (put_before count vs [])
       (below_by count vs) fs s (with-many count vs (λ n. StacksFit Ahead ts (suc n) (length fs)) h)
   arguments-fit k (Argument e others) count vs fs s h = h
@@ -146,6 +151,7 @@ module _ (p : Program) (l : Listing) (f : Function) (ts : List Task) where
 
   statement-fits : (x : Statement) (vs : List Held) (fs : List Found) (s : State) → Each (length vs) (length fs)
       → StacksFitAfter (statement_step l f x ts vs fs s)
+  unfolding StacksFit
   statement-fits (Declare item) vs fs s h = h.0
   statement-fits (Empty n) vs fs s h = h.0
   statement-fits (Evaluate n e) vs fs s h = h.0
@@ -165,6 +171,7 @@ module _ (p : Program) (l : Listing) (f : Function) (ts : List Task) where
   -- the turn of a loop
   turn-of-fits : (test after : Option Expression) (body : Statement) (vs : List Held) (fs : List Found) (s : State)
       → Each (length vs) (length fs) → StacksFitAfter (Gives (go_on f (turn_of test after body ts) vs fs) s)
+  unfolding StacksFit
   turn-of-fits None after body vs fs s h = (h, h.0, h, h.3)
   turn-of-fits (Some e) after body vs fs s h = h
 
@@ -172,23 +179,27 @@ module _ (p : Program) (l : Listing) (f : Function) (ts : List Task) where
   body-fits : (holds : Bool) (test after : Option Expression) (body : Statement) (vs : List Held) (fs : List Found)
       (s : State) → Each (length vs) (length fs)
       → StacksFitAfter (Gives (go_on f (body_if holds test after body ts) vs fs) s)
+  unfolding StacksFit
   body-fits true test after body vs fs s h = (h, h.0, h, h.3)
   body-fits false test after body vs fs s h = h.0
 
   again-fits : (test after : Option Expression) (body : Statement) (vs : List Held) (fs : List Found) (s : State)
       → Each (length vs) (length fs) → StacksFitAfter (Gives (go_on f (loop_again test after body ts) vs fs) s)
+  unfolding StacksFit
   again-fits test None body vs fs s h = h
   again-fits test (Some e) body vs fs s h = h
 
   -- a `do` behind its test
   do-fits : (holds : Bool) (body : Statement) (test : Expression) (vs : List Held) (fs : List Found) (s : State)
       → Each (length vs) (length fs) → StacksFitAfter (Gives (go_on f (do_if holds body test ts) vs fs) s)
+  unfolding StacksFit
   do-fits true body test vs fs s h = h
   do-fits false body test vs fs s h = h.0
 
   -- a switch from its label on
   label-fits : (place : Option ℕ) (body : Statements) (vs : List Held) (fs : List Found) (s : State)
       → Each (length vs) (length fs) → StacksFitAfter (Gives (go_on f (from_label place body ts) vs fs) s)
+  unfolding StacksFit
   label-fits None body vs fs s h = h.0
   label-fits (Some place) body vs fs s h = (h.0, h.0, h.2, h.3)
 
@@ -196,12 +207,14 @@ module _ (p : Program) (l : Listing) (f : Function) (ts : List Task) where
   and-fits : (holds : Bool) (b : Expression) (v : Held) (vs : List Held) (fs : List Found) (s : State)
       → StacksFit Ahead ts (suc (length vs)) (length fs)
       → StacksFitAfter (Gives (if holds then go_on f (Evaluates b ∷ Truth ∷ ts) vs fs else go_on f ts (v ∷ vs) fs) s)
+  unfolding StacksFit
   and-fits true b v vs fs s h = h
   and-fits false b v vs fs s h = h
 
   or-fits : (holds : Bool) (b : Expression) (v : Held) (vs : List Held) (fs : List Found) (s : State)
       → StacksFit Ahead ts (suc (length vs)) (length fs)
       → StacksFitAfter (Gives (if holds then go_on f ts (v ∷ vs) fs else go_on f (Evaluates b ∷ Truth ∷ ts) vs fs) s)
+  unfolding StacksFit
   or-fits true b v vs fs s h = h
   or-fits false b v vs fs s h = h
 
@@ -234,6 +247,7 @@ module _ (p : Program) (l : Listing) (f : Function) (ts : List Task) where
 task-fits : (p : Program) (l : Listing) (f : Function) (task : Task) (ts : List Task) (vs : List Held)
     (fs : List Found) (s : State) → StacksFit Ahead (task ∷ ts) (length vs) (length fs)
     → StacksFitAfter (task_step p l f task ts vs fs s)
+unfolding StacksFit
 task-fits p l f (Evaluates e) ts vs fs s h = expression-fits p l f ts e vs fs s h
 task-fits p l f (Locates place) ts vs fs s h = place-fits p l f ts place vs fs s h
 task-fits p l f Points ts vs fs s h = with-one vs (λ n. StacksFit Ahead ts n (suc (length fs))) h
@@ -298,12 +312,14 @@ task-fits p l f (ReturnsTo caller) ts vs fs s h = h
 return-fits : (caller : Function) (ts : List Task) (vs : List Held) (fs : List Found) (s : State)
     → With 1 (length vs) (λ n. StacksFit Ahead ts (suc n) (length fs))
     → StacksFitAfter (Gives (go_on caller ts vs fs) s)
+unfolding StacksFit
 return-fits caller ts vs fs s h = with-same vs (λ n. StacksFit Ahead ts n (length fs)) h
 
 -- a task is passed over
 passing-fits : (p : Program) (l : Listing) (f : Function) (way : Way) (task : Task) (ts : List Task) (vs : List Held)
     (fs : List Found) (s : State) → StacksFit way (task ∷ ts) (length vs) (length fs)
     → StacksFitAfter (step p l f way (task ∷ ts) vs fs s)
+unfolding StacksFit
 passing-fits p l f Ahead task ts vs fs s h = task-fits p l f task ts vs fs s h
 passing-fits p l f Continuing (LoopBody test after body) ts vs fs s h = again-fits p l f ts test after body vs fs s h
 passing-fits p l f Continuing (DoBody body test) ts vs fs s h = h
@@ -318,12 +334,14 @@ stacks_stay_fit p l f way (task ∷ ts) vs fs s h = passing-fits p l f way task 
 
 -- the first tasks fit empty stacks
 pub start_fits : StartFits
+unfolding StacksFit
 start_fits p = (refl, refl)
 
 -- ---- what a task takes
 
 -- one value, two, and a place
 pub is_served : IsServed
+unfolding StacksFit
 is_served Points ts n m h = (with-enough 1 n _ h, omega arith)
 is_served Loads ts n m h = (omega arith, with-enough 1 m _ h)
 is_served LoadsOld ts n m h = (omega arith, with-enough 1 m _ h)

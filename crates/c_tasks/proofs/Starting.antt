@@ -18,15 +18,18 @@ use Rattle.c_tasks.proofs.Machine.{steps_keep}
 -- what `main` gives is the outcome
 main-gives : (p : Program) (l : Listing) (f : Function) (r : Evaluated Held)
     → finish r (λ v t. rest p l f Ahead [] (v ∷ []) [] t) ≡ outcome_of r
+unfolding rest
 main-gives p l f (Gives v t) = refl
 main-gives p l f (Ends end t) = refl
 
 -- the call of `main`
 pub starts : Starts
+unfolding rest
 starts p l input n f = main-gives p l f (call_within (suc n) p l p.main [] (first_state p input n))
 
 -- the end
 pub is_end : IsEnd
+unfolding rest
 is_end p l f way vs fs s = refl
 
 -- several steps

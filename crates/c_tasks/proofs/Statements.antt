@@ -23,12 +23,14 @@ local-kept : (p : Program) (l : Listing) (f : Function) (number local : ℕ) (va
     (vs : List Held) (fs : List Found) (s : State)
     → Keeps p l f Ahead (Declares (Scalar number local value) ∷ ts) vs fs s
     (item_step l f (Scalar number local value) ts vs fs s)
+unfolding rest
 local-kept p l f number local None ts vs fs s = refl
 local-kept p l f number local (Some e) ts vs fs s = finish-then (evaluate (calls_of p l) e
     (with_local local (zero_of (type_at f local)) (visited l number s))) _ _
 
 -- an item is declared
 pub items_step : ItemsStep
+unfolding rest
 items_step p l f (Scalar number local value) ts vs fs s = local-kept p l f number local value ts vs fs s
 items_step p l f (Array number k element (Elements es)) ts vs fs s = refl
 items_step p l f (Array number k element (Text object)) ts vs fs s = refl
@@ -44,6 +46,7 @@ for-kept : (p : Program) (l : Listing) (f : Function) (first : First) (test afte
     loop bound (tested_if_any (calls_of p l) test) (execute (setting_of p l f bound) body)
     (evaluated_if_any (calls_of p l) after) t)) (left_to p l f ts vs fs)
     ≡ rest_of p l (go_on f (before_loop first (Loops test after body ∷ ts)) vs fs) s
+unfolding rest
 for-kept p l f Nothing test after body bound ts vs fs s le =
     ap (λ (r : Evaluated Left). finish r (left_to p l f ts vs fs))
     (loop-settles p l f body test after bound s (omega (arith, le)))
@@ -65,11 +68,13 @@ for-kept p l f (Declared items) test after body bound ts vs fs s le =
 return-kept : (p : Program) (l : Listing) (f : Function) (n : ℕ) (value : Option Expression) (ts : List Task)
     (vs : List Held) (fs : List Found) (s : State)
     → Keeps p l f Ahead (Executes (Return n value) ∷ ts) vs fs s (statement_step l f (Return n value) ts vs fs s)
+unfolding rest
 return-kept p l f n None ts vs fs s = refl
 return-kept p l f n (Some e) ts vs fs s = finish-then (evaluate (calls_of p l) e (visited l n s)) _ _
 
 -- a statement is taken apart
 pub statements_step : StatementsStep
+unfolding rest
 statements_step p l f (Declare item) ts vs fs s = finish-then (declare (calls_of p l) l (type_at f) item s) _ _
 statements_step p l f (Empty n) ts vs fs s = refl
 statements_step p l f (Evaluate n e) ts vs fs s = finish-then (evaluate (calls_of p l) e (visited l n s)) _ _

@@ -20,7 +20,7 @@ EachWay Left values = Left Ahead values × Left Breaking values × Left Continui
 
 -- Each task finds on the stacks what it takes, if there are so many values and places now. At the end there is the one
 -- value of `main`, and no place.
-abbrev pub StacksFit : Way → List Task → ℕ → ℕ → Type 0
+unfoldable pub StacksFit : Way → List Task → ℕ → ℕ → Type 0
 StacksFit way [] n m = (n ≡ 1) × (m ≡ 0)
 StacksFit Ahead (Evaluates e ∷ ts) n m = StacksFit Ahead ts (suc n) m
 StacksFit Ahead (Locates place ∷ ts) n m = StacksFit Ahead ts n (suc m)

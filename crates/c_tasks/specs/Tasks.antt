@@ -185,7 +185,7 @@ behind go values (Returns value) s = go Returning (value_left (Returns value) �
 
 -- The outcome that comes of tasks, values, places and a state, in the body of a function. No task meets a stack that is
 -- too short where the first one fits (`specs/Stacks.antt`); on any other 0 is taken, and the local 0.
-abbrev pub rest : Program → Listing → Function → Way → List Task → List Held → List Found → State → Outcome
+unfoldable pub rest : Program → Listing → Function → Way → List Task → List Held → List Found → State → Outcome
 rest p l f way [] vs fs s = outcome_at (Ended (low_byte (top vs))) s
 rest p l f Ahead (Evaluates e ∷ ts) vs fs s =
     finish (evaluate (calls_of p l) e s) (λ v t. rest p l f Ahead ts (v ∷ vs) fs t)
