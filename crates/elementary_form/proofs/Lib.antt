@@ -3,4 +3,5 @@ pub mod Leading
 pub mod Naming
 pub mod Outcomes
 pub mod Overlays
+pub mod Placing
 pub mod Settling

@@ -85,7 +85,7 @@ pub placed-place : (flow : Flow) (p : ℕ) → IsPlaced flow p → (place : ℕ)
 placed-place flow p (b, stands) = in-place p (joined flow.blocks) (in-joined p b flow.blocks stands)
 
 -- and stands there
-place-at : (p : ℕ) (ps : List ℕ) (i : ℕ) → place_in p ps ≡ Some i → slice_get ps i ≡ Some p
+pub place-at : (p : ℕ) (ps : List ℕ) (i : ℕ) → place_in p ps ≡ Some i → slice_get ps i ≡ Some p
 place-at p [] i e = absurd (none-some i e)
 place-at p (q ∷ ps) i e = by (place_in p ps) (q == p) refl (λ j f. place-at p ps j f) e
   where

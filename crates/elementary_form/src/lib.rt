@@ -2,6 +2,9 @@
 //! before each point and another after it. The promise: the form keeps the graph's meaning (`specs/FormLaws.antt`).
 #![tactic(auto)]
 
+mod elementary;
 mod laws;
+mod places;
 
-pub use laws::{form_keeps_meaning, names_are_fresh, worked_example};
+pub use elementary::{Elementary, split};
+pub use laws::{form_keeps_meaning, names_are_fresh, worked_boards, worked_example, worked_maps};
