@@ -22,7 +22,8 @@ use Rattle.ia32_keeps.specs.Supports.{IsArrayIn, IsPlaceFor, IsSlotApart, IsSupp
 use Rattle.ia32_keeps.specs.Protected.{ElementReads, FrameArrayReads, IsProtected, ObjectReads}
 use Rattle.ia32_keeps.specs.Laws.{ProtectedIsApart, data_end}
 use Rattle.ia32_keeps.proofs.Objects.{depth-in, object-in}
-use Rattle.ia32_keeps.proofs.Zones.{Bounds, IsCallAt, IsReadOf, IsSlotOf, activation-at, argument-read-of, bounds, calls-above}
+use Rattle.ia32_keeps.proofs.Zones.{Bounds, IsCallAt, IsReadOf, IsSlotOf, activation-at, argument-read-of, bounds}
+use Rattle.ia32_keeps.proofs.Zones.{calls-above}
 use Rattle.ia32_keeps.proofs.Zones.{chain-read-of, frame_size, youngest-is}
 
 -- ---- arrays
@@ -46,7 +47,11 @@ element-within address width count a n (inr (i, below, at, long)) =
 -- and where four bytes are in front of it, behind no more than its last element
 pub element-ends : (address width count a n : ℕ) → 4 ≤ address → ElementReads address width count a n
     → (address ≤ a + 4) × (a + n ≤ address + width * count)
-element-ends address width count a n room (inl h) = (omega (arith, h.0), counted address a n (width * count) room h.0 h.1)
+element-ends address width count a n room (inl h) = (
+  omega (arith, h.0),
+  counted address a n
+      (width * count) room h.0 h.1,
+)
   where
     counted : (x a n m : ℕ) → 4 ≤ x → a ≡ x - 4 → n ≡ 4 → a + n ≤ x + m
     counted x a n m r e f = omega arith
@@ -247,7 +252,8 @@ array-read-somewhere code input g s a n supported state shown h =
                   slice_get (flow_at code.program b.function).arrays h.number ≡ Some h.array) (sym same) h.declared;
               placed = subst (λ (b : Activation).
                   slice_get (placement_of code b.function).arrays h.number ≡ Some h.below) (sym same) h.placed;
-              inside = subst (λ (b : Activation). IsArrayIn (frame_size code b) h.array h.below) (sym same) there.inside;
+              inside = subst (λ (b : Activation). IsArrayIn (frame_size code b) h.array h.below)
+                  (sym same) there.inside;
               low = subst (λ (e : ℕ). e ≤ a + h.below + 4) (sym ebp) spans.0;
               high = subst (λ (e : ℕ). a + n + h.below ≤ e + size_of h.array) (sym ebp) spans.1;
             }))

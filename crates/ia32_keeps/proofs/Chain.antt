@@ -192,7 +192,8 @@ pub record IsWaitAlike (w v : Waiting) : Type 0 where
 -- What is known of a program's functions and of the calls that wait: each function that waits supports its placement.
 abbrev pub WaitsSupported : Code → List Waiting → Type 0
 WaitsSupported code waiting =
-    AllByRecursion (λ w. Supports (flow_at code.program w.activation.function) (placement_of code w.activation.function))
+    AllByRecursion (λ w. Supports (flow_at code.program w.activation.function)
+    (placement_of code w.activation.function))
     waiting
 
 -- the numbers in these places are as before

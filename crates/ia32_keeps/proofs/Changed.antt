@@ -1,5 +1,6 @@
 -- The next state is shown where an array has other elements.
-use Rattle.std.proofs.Common.{◌≡◌, ◌≢◌, ◌⊎◌, ℕ, zero, suc, ◌+◌, ◌-◌, ◌*◌, ◌≤◌, Bool, true, false, ℤ, List, [], ◌∷◌, length}
+use Rattle.std.proofs.Common.{◌≡◌, ◌≢◌, ◌⊎◌, ℕ, zero, suc, ◌+◌, ◌-◌, ◌*◌, ◌≤◌, Bool, true, false, ℤ, List, [], ◌∷◌}
+use Rattle.std.proofs.Common.{length}
 use Rattle.std.proofs.Common.{Option, Some, None, inl, inr, refl, sym, ap, subst, ◌∙◌, arith}
 use Rattle.std.specs.Prelude.{◌==◌, map, option_map, slice_get, slice_set, if◌then◌else◌}
 use Rattle.std.specs.List.{AllZip}
@@ -78,7 +79,8 @@ array-has-apart : (code : Code) (input : List ℕ) (g : graph.State) (s : machin
 array-has-apart code input g s c k address width elements supported state shown h =
     record {
       calls = by-part code input g s (AreDisjoint address (width * length elements)) supported state shown
-          (inr (counted (data_start code.text) (length (data_bytes (objects_of code.program))) code.symbols.depth address
+          (inr (counted (data_start code.text) (length (data_bytes
+          (objects_of code.program))) code.symbols.depth address
           supported.is_code.text.depth_is (depth-in (objects_of code.program))
           (array-above code input g s c k address width elements supported state shown h)))
           (λ j a frame at n other part.

@@ -1,5 +1,6 @@
 -- The machine follows a copy of a word.
-use Rattle.std.proofs.Common.{◌≡◌, ℕ, zero, suc, false, ◌+◌, ◌-◌, ◌*◌, ◌^◌, ◌<◌, ◌≤◌, List, [], ◌∷◌, Option, Some, None, Ok}
+use Rattle.std.proofs.Common.{◌≡◌, ℕ, zero, suc, false, ◌+◌, ◌-◌, ◌*◌, ◌^◌, ◌<◌, ◌≤◌, List, [], ◌∷◌, Option, Some}
+use Rattle.std.proofs.Common.{None, Ok}
 use Rattle.std.proofs.Common.{refl, sym, subst, ◌∙◌, inl, arith, length}
 use Rattle.std.specs.Prelude.{slice_get}
 use Rattle.std.proofs.lemmas.Option.{none-some, same_Some}
@@ -74,7 +75,8 @@ word-small code input g s (Array (Static k)) w supported state shown h =
     let b = bounds code input g s supported state shown in
     let esp = b.esp in
     let fits = supported.fits in
-    counted w (object.width * length elements) (data_end code) (word_of Esp s) (frame_size code g.current) (word_of Ebp s)
+    counted w (object.width * length elements) (data_end code) (word_of Esp s) (frame_size code g.current)
+    (word_of Ebp s)
     (stack_end code.text (objects_of code.program)) at.high b.room b.esp b.top supported.fits
   where
     counted : (w m d x z e t : ℕ) → w + m ≤ d → d + 4096 ≤ x → x + z ≡ e → e + 8 ≤ t → t < 4294967296 → w < 2 ^ 32
@@ -84,12 +86,15 @@ word-small code input g s (Array (InFrame k depth)) w supported state shown h =
     let b = bounds code input g s supported state shown in
     let at : slice_get (word_of Ebp s ∷ shown.older) i ≡ Some h.frame =
     subst (λ (fs : List ℕ). slice_get fs i ≡ Some h.frame) shown.youngest h.at_frame in
-    let returns = frame-returns code (active_of g) shown.frames s g.current (word_of Ebp s) g.waiting shown.older i h.frame
+    let returns = frame-returns code (active_of g) shown.frames s g.current
+    (word_of Ebp s) g.waiting shown.older i h.frame
     shown.chain at in
     let above = call-above code input g s i h.activation h.frame shown
     (record { is_active = h.of_depth; at_frame = h.at_frame }) in
-    let top = load-place code.text (data_start code.text) (stack_end code.text (objects_of code.program)) 4 (h.frame + 4)
-    returns.0 s b.sound (low (data_start code.text) _ (word_of Esp s) (frame_size code h.activation) h.frame b.room above)
+    let top = load-place code.text (data_start code.text) (stack_end code.text (objects_of code.program)) 4
+    (h.frame + 4)
+    returns.0 s b.sound (low (data_start code.text) _ (word_of Esp s)
+    (frame_size code h.activation) h.frame b.room above)
     returns.1 (omega arith) in
     counted w h.below h.frame (stack_end code.text (objects_of code.program)) h.address top supported.fits
   where
@@ -128,7 +133,8 @@ copy-follows d a code input g s supported state shown has width r =
     let for_to = here.after d to at in
     let for_from = here.before a from before in
     let holds_to : HoldsWidth (Some Two) to = subst (λ (w : Option Width). HoldsWidth w to) same for_to.holds in
-    let holds_from : HoldsWidth (Some Two) from = subst (λ (w : Option Width). HoldsWidth w from) width for_from.holds in
+    let holds_from : HoldsWidth (Some Two) from = subst (λ
+    (w : Option Width). HoldsWidth w from) width for_from.holds in
     let stands = subst (λ (w : Option Width).
     StandsIn code (active_of g) shown.frames s (word_of Ebp s) w value from) width
     (shown.variables a value from e before) in

@@ -30,7 +30,8 @@ use Rattle.ia32_keeps.proofs.Zones.{shown-in-frame}
 use Rattle.ia32_keeps.proofs.Puts.{following-in, keeps-at}
 
 -- nothing changed
-pub keeps-all : (code : Code) (g : graph.State) (frames : List ℕ) (s : machine.State) → KeepsShown code g frames None s s
+pub keeps-all : (code : Code) (g : graph.State) (frames : List ℕ) (s : machine.State)
+    → KeepsShown code g frames None s s
 keeps-all code g frames s =
     record {
       esp = refl;

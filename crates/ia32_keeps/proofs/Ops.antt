@@ -171,7 +171,8 @@ operation-follows : (how : AluOp) (Row : Place → Place → Place → List Item
     → defined o ≡ Some d → IsIn a (uses o) → IsIn b (uses o)
     → ((next : ℕ) → IsBehind (flow_at code.program g.current.function) g.point next
     → LeadsTo (flow_at code.program g.current.function) g.point next o)
-    → HasWidth (flow_at code.program g.current.function) d Two → HasWidth (flow_at code.program g.current.function) a Two
+    → HasWidth (flow_at code.program g.current.function) d Two → HasWidth
+    (flow_at code.program g.current.function) a Two
     → HasWidth (flow_at code.program g.current.function) b Two → IsSupported code → IsState code.program g
     → Shows code input g s → op_at code.program g ≡ Some o
     → RowAt code g (Row (after_at code g d) (before_at code g a) (before_at code g b)) s

@@ -239,7 +239,8 @@ puts-follow code input g s o d w value place items supported state shown has def
               (λ other f. subst (StandsIn code (active_of g) shown.frames t (word_of Ebp t)
               (slice_get (flow_at code.program g.current.function).widths d) value)
               (same_Some place other (sym at ∙ f)) (stands-at code (active_of g) shown.frames went.0 u (word_of Ebp u)
-              (slice_get (flow_at code.program g.current.function).widths d) value place (stands-low code (active_of g) shown.frames u
+              (slice_get (flow_at code.program g.current.function).widths d) value place (stands-low code
+              (active_of g) shown.frames u
               (slice_get (flow_at code.program g.current.function).widths d) value place w for.holds low puts.holds)))
               old
               (record {

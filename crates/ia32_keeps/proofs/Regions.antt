@@ -58,7 +58,8 @@ pub record IsArrayOf (code : Code) (g : graph.State) (frames : List ℕ) (call n
 abbrev pub IsPart : Code → Activation → ℕ → ℕ → ℕ → Type 0
 IsPart code a frame at n =
     ((frame ≤ at + 4) × (at + n ≤ frame + 8 + 4 * length a.arguments))
-    ⊎ ((v : ℕ) × (slot : ℕ) × IsPlaceFor (flow_at code.program a.function) (placement_of code a.function) v (InSlot slot)
+    ⊎ ((v : ℕ) × (slot : ℕ) × IsPlaceFor (flow_at code.program a.function) (placement_of code a.function) v
+    (InSlot slot)
     × (at ≡ frame - slot) × (n ≤ 4))
 
 -- what is known of the bytes of the array's elements
@@ -75,7 +76,8 @@ region-of : (code : Code) (input : List ℕ) (g : graph.State) (s : machine.Stat
     → IsRegion h.frame (frame_size code h.activation) address (width * length elements) h.below (size_of h.array)
 region-of code input g s c k address width elements supported state shown h =
     let room = frame-room code input g s c h.activation h.frame supported state shown h.is in
-    let there = frame-array code g shown.frames c h.activation h.frame k h.below address h.array elements supported state
+    let there = frame-array code g shown.frames c h.activation h.frame k h.below address h.array elements supported
+    state
     h.is h.has h.declared h.placed room in
     record {
       at_frame = h.at_address;
@@ -282,7 +284,8 @@ other-array-apart code input g s c k address width elements at n supported state
 -- ---- above ESP
 
 -- each call's bytes are above ESP
-pub call-above : (code : Code) (input : List ℕ) (g : graph.State) (s : machine.State) (j : ℕ) (a : Activation) (frame : ℕ)
+pub call-above : (code : Code) (input : List ℕ) (g : graph.State) (s : machine.State) (j : ℕ) (a : Activation)
+    (frame : ℕ)
     → (shown : Shows code input g s) → IsCallAt g shown.frames j a frame
     → word_of Esp s + frame_size code a ≤ frame
 call-above code input g s zero a frame shown at =

@@ -138,7 +138,8 @@ next-shown code input g s t block point left taken written variables arrays afte
     λ n a w reads. loads n a w (inr (inl (subst (λ (fs : List ℕ). ChainReads code fs g.waiting a n)
     (sym shown.youngest) reads))) in
     let chain : WaitFrom code (active_of h) frames t h.current (word_of Ebp s) after shown.older =
-    chain-kept code (active_of g) (active_of h) frames s t g.current (word_of Ebp s) g.waiting after shown.older variables
+    chain-kept code (active_of g) (active_of h) frames s t g.current
+    (word_of Ebp s) g.waiting after shown.older variables
     arrays alike shown.registers sound.registers
     (waits-supported code g.waiting supported state.active.1) waits chain_loads shown.chain in
     record {

@@ -117,9 +117,16 @@ bounds code input g s h state shown =
     let low : data_start code.text ≤ word_of Ebp s + 4 =
     above (data_start code.text) (length (data_bytes objects)) (word_of Esp s)
     (placement_of code g.current.function).frame (word_of Ebp s) room shown.esp in
-    let top = load-place code.text (data_start code.text) (stack_end code.text objects) 4 (word_of Ebp s + 4) returns.0 s
+    let top = load-place code.text (data_start code.text) (stack_end code.text objects) 4
+    (word_of Ebp s + 4) returns.0 s
     sound low returns.1 (omega arith) in
-    record { sound = sound; esp = shown.esp; room = room; top = ended (word_of Ebp s) (stack_end code.text objects) top }
+    record {
+      sound = sound;
+      esp = shown.esp;
+      room = room;
+      top = ended (word_of Ebp s)
+          (stack_end code.text objects) top;
+    }
   where
     counted : (low bytes esp stack words n : ℕ) → low + (round_up 4 bytes + 0x04001000) ≤ esp + stack
         → stack + 4 * words ≤ 16384 * suc n → suc n ≤ 4096 → low + bytes + 4096 ≤ esp
@@ -150,7 +157,8 @@ shown-in-frame code input g s h state shown =
 -- ---- zones
 
 -- what is known of an active call
-pub activation-at : (code : Code) (active : List Activation) (i : ℕ) (a : Activation) → AreActivations code.program active
+pub activation-at : (code : Code) (active : List Activation) (i : ℕ) (a : Activation)
+    → AreActivations code.program active
     → slice_get active i ≡ Some a → (older : List ℕ) × IsActivation code.program older a
 activation-at code [] i a h e = absurd (none-some a e)
 activation-at code (b ∷ active) zero a h e =
@@ -217,7 +225,8 @@ pub calls-above : (code : Code) (input : List ℕ) (g : graph.State) (s : machin
     (e f : ℕ) → (shown : Shows code input g s) → i < j → IsCallAt g shown.frames i a e → IsCallAt g shown.frames j b f
     → e + 8 + 4 * length a.arguments + frame_size code b ≤ f
 calls-above code input g s i j a b e f shown lt one two =
-    zones-above code (active_of g) shown.frames s g.current (word_of Ebp s) g.waiting shown.older i j a b e f shown.chain
+    zones-above code (active_of g) shown.frames s g.current
+    (word_of Ebp s) g.waiting shown.older i j a b e f shown.chain
     lt one.is_active
     (subst (λ (fs : List ℕ). slice_get fs i ≡ Some e) shown.youngest one.at_frame) two.is_active
     (subst (λ (fs : List ℕ). slice_get fs j ≡ Some f) shown.youngest two.at_frame)

@@ -69,17 +69,20 @@ DifferenceFollows = (d a b : ℕ) → RowFollows (op.Sub d a b)
 abbrev pub AndFollows : Type 0
 AndFollows =
     (d a b : ℕ)
-    → ItemsFollow (op.And d a b) (λ code g. commuting alu.And (after_at code g d) (before_at code g a) (before_at code g b))
+    → ItemsFollow (op.And d a b) (λ code g. commuting alu.And (after_at code g d) (before_at code g a)
+    (before_at code g b))
 
 abbrev pub OrFollows : Type 0
 OrFollows =
     (d a b : ℕ)
-    → ItemsFollow (op.Or d a b) (λ code g. commuting alu.Or (after_at code g d) (before_at code g a) (before_at code g b))
+    → ItemsFollow (op.Or d a b) (λ code g. commuting alu.Or (after_at code g d) (before_at code g a)
+    (before_at code g b))
 
 abbrev pub XorFollows : Type 0
 XorFollows =
     (d a b : ℕ)
-    → ItemsFollow (op.Xor d a b) (λ code g. commuting alu.Xor (after_at code g d) (before_at code g a) (before_at code g b))
+    → ItemsFollow (op.Xor d a b) (λ code g. commuting alu.Xor (after_at code g d) (before_at code g a)
+    (before_at code g b))
 
 -- a mark and a turn
 abbrev pub MarkFollows : Type 0

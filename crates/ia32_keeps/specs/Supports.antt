@@ -168,7 +168,8 @@ pub record AreSlots (flow : Flow) (frame : ℕ) (arrays slots : List ℕ) : Type
   pub as_many : length slots ≡ length flow.widths
   pub within : AllByRecursion (IsSlot frame) slots
   pub apart : AllApart slots
-  pub clear : (v slot k below : ℕ) (array : ℕ × ℕ) → slice_get slots v ≡ Some slot → slice_get flow.arrays k ≡ Some array
+  pub clear : (v slot k below : ℕ) (array : ℕ × ℕ) → slice_get slots v ≡ Some slot
+      → slice_get flow.arrays k ≡ Some array
       → slice_get arrays k ≡ Some below → IsSlotApart slot array below
 
 -- slots for all variables support every graph

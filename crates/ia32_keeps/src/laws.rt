@@ -1,6 +1,7 @@
 ghost use Rattle.ia32_keeps.specs.Supports.{SlotsSupport};
 ghost use Rattle.ia32_keeps.specs.Laws.{ShownInFrame, ProtectedIsApart, MovedShows, SetShows, ArrayShows};
-ghost use Rattle.ia32_keeps.specs.Ops.{NumberFollows, CopyFollows, SumFollows, DifferenceFollows, AndFollows, OrFollows};
+ghost use Rattle.ia32_keeps.specs.Ops.{NumberFollows, CopyFollows, SumFollows, DifferenceFollows, AndFollows};
+ghost use Rattle.ia32_keeps.specs.Ops.{OrFollows};
 ghost use Rattle.ia32_keeps.specs.Ops.{XorFollows, MarkFollows, TurnFollows};
 
 /// Slots for all variables, apart from each other and from the frame arrays, support every graph.
