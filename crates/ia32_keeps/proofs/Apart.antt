@@ -10,6 +10,7 @@ use Rattle.ia32_regs.specs.declared.names.Reg32.TheVariants.{Esp, Ebp}
 use Rattle.ia32_places.specs.Places.{Place, InWord, InByte, InSlot}
 use Rattle.ia32_insn.specs.State as machine
 use Rattle.ia32_insn.specs.Meaning.{word_of}
+use Rattle.ia32_insn.specs.Keeps.{AreDisjoint}
 use Rattle.ia32_insn.specs.Items.{data_bytes, data_start}
 use Rattle.flow_graph.specs.States as graph
 use Rattle.flow_graph.specs.States.{Activation, active_of, flow_at}
@@ -20,7 +21,7 @@ use Rattle.ia32_shows.specs.Shows.{Shows}
 use Rattle.ia32_effects.specs.Contains.{ApartFromPlace}
 use Rattle.ia32_keeps.specs.Supports.{IsArrayIn, IsPlaceFor, IsSlotApart, IsSupported, size_of}
 use Rattle.ia32_keeps.specs.Protected.{ElementReads, FrameArrayReads, IsProtected, ObjectReads}
-use Rattle.ia32_keeps.specs.Laws.{ProtectedIsApart, data_end}
+use Rattle.ia32_keeps.specs.Laws.{ProtectedIsApart, PushedIsApart, data_end}
 use Rattle.ia32_keeps.proofs.Objects.{depth-in, object-in}
 use Rattle.ia32_keeps.proofs.Zones.{Bounds, IsCallAt, IsReadOf, IsSlotOf, activation-at, argument-read-of, bounds}
 use Rattle.ia32_keeps.proofs.Zones.{calls-above}
@@ -355,3 +356,29 @@ protected-is-apart code input g s a n supported state shown reads =
             inl (before (word_of Esp s) frame E slot h.below (size_of h.array) a n b.esp for.inside.high k h.low)
         beside (inr k) =
             inr (behind (word_of Esp s) frame E slot h.below (size_of h.array) a n b.esp for.inside.high k h.high)
+
+-- nor with what is pushed
+pub pushed-is-apart : PushedIsApart
+pushed-is-apart code input g s bytes supported state shown few =
+    let b = bounds code input g s supported state shown in
+    record {
+      protected = λ a n reads. either b a n (protected-is-apart code input g s a n supported state shown reads).above;
+      slots = λ v slot n for.
+          inl (slotted (data_end code) (word_of Esp s) (frame_size code g.current)
+          (word_of Ebp s) slot bytes b.room b.esp
+          for.inside.high few);
+    }
+  where
+    stacked : (d x m a : ℕ) → d + 4096 ≤ x → m ≤ 4096 → x ≤ a → x - m + m ≤ a
+    stacked d x m a h k l = omega arith
+
+    behind : (d x m a n : ℕ) → d + 4096 ≤ x → m ≤ 4096 → a + n ≤ d → a + n ≤ x - m
+    behind d x m a n h k l = omega arith
+
+    slotted : (d x w e k m : ℕ) → d + 4096 ≤ x → x + w ≡ e → k ≤ w → m ≤ 4096 → x - m + m ≤ e - k
+    slotted d x w e k m h i j l = omega arith
+
+    either : Bounds code g s → (a n : ℕ) → (word_of Esp s ≤ a) ⊎ (a + n ≤ data_end code)
+        → AreDisjoint (word_of Esp s - bytes) bytes a n
+    either b a n (inl h) = inl (stacked (data_end code) (word_of Esp s) bytes a b.room few h)
+    either b a n (inr h) = inr (behind (data_end code) (word_of Esp s) bytes a n b.room few h)

@@ -529,13 +529,13 @@ waiting-shows code input g s t o p k address width w elements new block point le
 -- ---- by the array's name
 
 -- an element that a function of it is read from
-mapped-some : {A : Type 0} (f : A → ℕ) (o : Option A) (width : ℕ) → option_map f o ≡ Some width
+pub mapped-some : {A : Type 0} (f : A → ℕ) (o : Option A) (width : ℕ) → option_map f o ≡ Some width
     → (x : A) × (o ≡ Some x) × (f x ≡ width)
 mapped-some f None width e = absurd (none-some width e)
 mapped-some f (Some x) width e = (x, refl, same_Some (f x) width e)
 
 -- the array of a depth is that of the call at its place
-array-of : (code : Code) (g : graph.State) (frames : List ℕ) (c k depth address width : ℕ) (a : Activation)
+pub array-of : (code : Code) (g : graph.State) (frames : List ℕ) (c k depth address width : ℕ) (a : Activation)
     (elements : List ℤ) → length (active_of g) - depth ≡ c → slice_get (active_of g) c ≡ Some a
     → elements_in code.program k (Some a) ≡ Some (width, elements)
     → IsFrameArrayAt code (active_of g) frames k depth address
@@ -565,11 +565,33 @@ array-of code g frames c k depth address width a elements place active e h =
     }
 
 -- the active call of a waiting one
-waiting-active : (waiting : List Waiting) (p : ℕ) (w : Waiting) → slice_get waiting p ≡ Some w
+pub waiting-active : (waiting : List Waiting) (p : ℕ) (w : Waiting) → slice_get waiting p ≡ Some w
     → slice_get (map (λ u. u.activation) waiting) p ≡ Some w.activation
 waiting-active [] p w e = absurd (none-some w e)
 waiting-active (v ∷ waiting) zero w e = ap (λ (x : Waiting). Some x.activation) (same_Some v w e)
 waiting-active (v ∷ waiting) (suc p) w e = waiting-active waiting p w e
+
+-- the call of a depth other than the youngest's is behind the current one, at its place among those that wait
+pub place-behind : (code : Code) (g : graph.State) (depth : ℕ) → (depth == depth_of g) ≡ false
+    → depth ≤ length (active_of g) → length (active_of g) - depth ≡ suc (waiting_place g depth)
+place-behind code g depth test young =
+    let many : length (active_of g) ≡ suc (length g.waiting) = length-active g in
+    let other : depth ≢ depth_of g = unlike depth (depth_of g) test in
+    let within : depth ≤ length g.waiting =
+    less depth (length (active_of g)) (length g.waiting) young many other in
+    let place_is : waiting_place g depth ≡ length g.waiting - depth =
+    ap (λ (y : Bool). if y then length g.waiting - depth else length g.waiting)
+    (le-leb depth (length g.waiting) within) in
+    counted (length (active_of g)) (length g.waiting) depth (waiting_place g depth) many within place_is
+  where
+    unlike : (a b : ℕ) → (a == b) ≡ false → a ≢ b
+    unlike a b e = grind (arith, nat_tests)
+
+    less : (d a w : ℕ) → d ≤ a → a ≡ suc w → d ≢ suc w → d ≤ w
+    less d a w h e n = omega (arith, n)
+
+    counted : (a w d p : ℕ) → a ≡ suc w → d ≤ w → p ≡ w - d → a - d ≡ suc p
+    counted a w d p e h f = omega arith
 
 pub array-shows : ArrayShows
 array-shows code input g s t o Null address width elements new block point left taken written supported state shown has
@@ -611,32 +633,7 @@ array-shows code input g s t o (InFrame k depth) address width elements new bloc
     older (Some w) e test found =
         waiting-shows code input g s t o place k address width w elements new block point left taken written supported
         state shown has none e (array-of code g shown.frames (suc place) k depth address width w.activation elements
-        behind (waiting-active g.waiting place w e) found at) keeps stand arrives
-      where
-        many : length (active_of g) ≡ suc (length g.waiting)
-        many = length-active g
-
-        other : depth ≢ depth_of g
-        other = unlike depth (depth_of g) test
-          where
-            unlike : (a b : ℕ) → (a == b) ≡ false → a ≢ b
-            unlike a b e = grind (arith, nat_tests)
-
-        within : depth ≤ length g.waiting
-        within = less depth (length (active_of g)) (length g.waiting) at.youngest many other
-          where
-            less : (d a w : ℕ) → d ≤ a → a ≡ suc w → d ≢ suc w → d ≤ w
-            less d a w h e n = omega (arith, n)
-
-        place_is : place ≡ length g.waiting - depth
-        place_is = ap (λ (y : Bool). if y then length g.waiting - depth else length g.waiting)
-            (le-leb depth (length g.waiting) within)
-
-        behind : length (active_of g) - depth ≡ suc place
-        behind = counted (length (active_of g)) (length g.waiting) depth place many within place_is
-          where
-            counted : (a w d p : ℕ) → a ≡ suc w → d ≤ w → p ≡ w - d → a - d ≡ suc p
-            counted a w d p e h f = omega arith
+        (place-behind code g depth test at.youngest) (waiting-active g.waiting place w e) found at) keeps stand arrives
 
     chosen : (test : Bool) → (depth == depth_of g) ≡ test
         → Shows code input

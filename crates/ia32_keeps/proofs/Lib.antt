@@ -12,3 +12,4 @@ pub mod Words
 pub mod Ops
 pub mod Marks
 pub mod Copies
+pub mod Stored

@@ -1,5 +1,7 @@
 -- What stays shown: the laws of a step of the machine beside a step of the program.
-use Rattle.std.specs.Prelude.{◌≡◌, ◌≤◌, ◌⊎◌, ◌+◌, ◌*◌, ⊤, ℕ, ℤ, List, length, drop, slice_get, Some, None, Ok}
+use Rattle.std.specs.Prelude.{◌≡◌, ◌<◌, ◌≤◌, ◌⊎◌, ◌+◌, ◌-◌, ◌*◌, ◌%◌, ◌^◌, ⊤, ℕ, ℤ, List, length, drop, slice_get}
+use Rattle.std.specs.Prelude.{slice_set, Some, None, Ok}
+use Rattle.std.specs.Int.{w32, cast_unsigned}
 use Rattle.pcc_base.specs.Outcome.{ArrayName, Value}
 use Rattle.ia32_regs.specs.declared.names.Reg32.TheVariants.{Esp, Ebp}
 use Rattle.ia32_places.specs.Places.{Place, InWord, InByte, InSlot}
@@ -52,6 +54,20 @@ ProtectedIsApart =
     (code : Code) (input : List ℕ) (g : graph.State) (s : machine.State) (a n : ℕ) → IsSupported code
     → IsState code.program g → (shown : Shows code input g s) → IsProtected code g shown.frames a n
     → IsApart code g s a n
+
+-- Nor has any of it, or a slot of the current call, a byte of what is pushed, up to 4,096 bytes.
+pub record IsAbovePushed (code : Code) (g : graph.State) (frames : List ℕ) (s : machine.State) (bytes : ℕ) : Type 0
+  where
+    pub protected : (a n : ℕ) → IsProtected code g frames a n → AreDisjoint (word_of Esp s - bytes) bytes a n
+    pub slots : (v slot n : ℕ)
+        → IsPlaceFor (flow_at code.program g.current.function) (placement_of code g.current.function) v (InSlot slot)
+        → AreDisjoint (word_of Esp s - bytes) bytes (word_of Ebp s - slot) n
+
+abbrev pub PushedIsApart : Type 0
+PushedIsApart =
+    (code : Code) (input : List ℕ) (g : graph.State) (s : machine.State) (bytes : ℕ) → IsSupported code
+    → IsState code.program g → (shown : Shows code input g s) → bytes ≤ 4096
+    → IsAbovePushed code g shown.frames s bytes
 
 -- ---- what stays shown
 
@@ -124,3 +140,16 @@ ArrayShows =
     → KeepsOutside code g address (width * length elements) s t → ElementsStand t address width new
     → Arrives code input g (moved_to block point left taken written g) t
     → Shows code input (with_array array new (moved_to block point left taken written g)) t
+
+-- Where one element is stored, it is shown once that stands in its place, and all outside its bytes is kept.
+abbrev pub ElementShows : Type 0
+ElementShows =
+    (code : Code) (input : List ℕ) (g : graph.State) (s t : machine.State) (o : Op) (array : ArrayName)
+    (address width : ℕ) (elements : List ℤ) (i : ℕ) (z : ℤ) (block point : ℕ) (left : List ℕ) (taken : ℕ)
+    (written : List ℕ) → IsSupported code → IsState code.program g → (shown : Shows code input g s)
+    → op_at code.program g ≡ Some o → defined o ≡ None → elements_of code.program g array ≡ Some (width, elements)
+    → IsArrayAt code (active_of g) shown.frames array address → i < length elements
+    → KeepsOutside code g (address + width * i) width s t
+    → load width (address + width * i) t ≡ Ok (cast_unsigned w32 z % 2 ^ (8 * width))
+    → Arrives code input g (moved_to block point left taken written g) t
+    → Shows code input (with_array array (slice_set elements i z) (moved_to block point left taken written g)) t

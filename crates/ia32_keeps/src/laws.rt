@@ -1,5 +1,6 @@
 ghost use Rattle.ia32_keeps.specs.Supports.{SlotsSupport};
-ghost use Rattle.ia32_keeps.specs.Laws.{ShownInFrame, ProtectedIsApart, MovedShows, SetShows, ArrayShows};
+ghost use Rattle.ia32_keeps.specs.Laws.{ShownInFrame, ProtectedIsApart, PushedIsApart, MovedShows, SetShows};
+ghost use Rattle.ia32_keeps.specs.Laws.{ArrayShows, ElementShows};
 ghost use Rattle.ia32_keeps.specs.Ops.{NumberFollows, CopyFollows, SumFollows, DifferenceFollows, AndFollows};
 ghost use Rattle.ia32_keeps.specs.Ops.{OrFollows};
 ghost use Rattle.ia32_keeps.specs.Ops.{XorFollows, MarkFollows, TurnFollows};
@@ -11,10 +12,11 @@ pub fn slots_support()
 
 /// A state of the machine that shows one of the program is in the frame of the current call, with the stack far above
 /// the data. What is protected has no byte in common with a place for a variable of the current call, and none below
-/// ESP but in the data.
+/// ESP but in the data, nor of what is pushed.
 pub fn protected_is_apart()
     ensures in_frame { ShownInFrame }
     ensures apart { ProtectedIsApart }
+    ensures pushed { PushedIsApart }
 {}
 
 /// The next state is shown once all that is protected and all places are kept, but for the variable that the op sets,
@@ -25,9 +27,10 @@ pub fn kept_stays_shown()
 {}
 
 /// The next state is shown once an array of any depth, or a static object, has other elements at its address, and all
-/// outside them is kept: for an element stored, and for an array cleared.
+/// outside them is kept; so it is where one element is stored.
 pub fn changed_array_is_shown()
-    ensures { ArrayShows }
+    ensures array { ArrayShows }
+    ensures element { ElementShows }
 {}
 
 /// The machine follows these ops through their items, over any placement that supports the graph.
