@@ -1,21 +1,21 @@
 -- The statements of a body have marks, and no others.
-use Rattle.std.proofs.Common.{◌≡◌, ℕ, zero, suc, ◌+◌, ◌<◌, ◌≤◌, List, [], ◌∷◌, ◌++◌, length, Some, sym, ap, ◌∙◌, subst}
+use Rattle.std.proofs.Common.{◌≡◌, ℕ, zero, suc, ◌+◌, ◌<◌, ◌≤◌, List, [], ◌∷◌, ◌++◌, length, Some, ap, subst}
 use Rattle.std.proofs.Common.{arith, inl, inr}
-use Rattle.std.specs.Prelude.{slice_get, sum_by, take}
+use Rattle.std.specs.Prelude.{slice_get}
 use Rattle.std.specs.List.{AllByRecursion, range_with_len}
 use Rattle.std.proofs.lemmas.Bool.{cases_lt}
 use Rattle.std.proofs.lemmas.Option.{none-some, same_Some, slice_get_within}
 use Rattle.c_tree.specs.declared.types.IntegerType.TheVariants.{Int}
 use Rattle.c_tree.specs.declared.types.ValueType.TheVariants.{Integer}
 use Rattle.c_tree.specs.Program.{Assign, Putchar, LocalPlace, Scalar, Declare, Evaluate, Return, Expression, Statement}
-use Rattle.c_tree.specs.Program.{Statements, Done, Next, Function, Program}
-use Rattle.c_tree.specs.SlotForm.{IsBody, IsSlotFunction, IsSlotProgram, IsSum}
+use Rattle.c_tree.specs.Program.{Statements, Done, Next, Function}
+use Rattle.c_tree.specs.SlotForm.{IsBody, IsSlotFunction, IsSum}
 use Rattle.c_tree.specs.Sizes.{height}
 use Rattle.flow_graph.specs.declared.op.Op.{Op}
 use Rattle.flow_graph.specs.declared.op.Op.TheVariants as op
-use Rattle.flow_graph.specs.Graphs.{Flow, IsIn, IsPlaced}
+use Rattle.flow_graph.specs.Graphs.{IsIn}
 use Rattle.c_lower.specs.Code.{body_ops, lowered, statement_ops, sum_ops}
-use Rattle.c_lower.specs.Lowering.{MarksStatements, first_statement}
+use Rattle.c_lower.specs.Lowering.{MarksStatements}
 use Rattle.c_lower.specs.Shown.{numbers_of}
 use Rattle.c_lower.proofs.Fitting.{every-append, every-sum}
 

@@ -145,7 +145,10 @@ puts-slot site frame i k w s framed (t, stored, makes) =
       t,
       record {
         leads = (t, makes, refl);
-        holds = subst (λ (e : ℕ). load 4 (e - k) t ≡ Ok w) (sym ebp) stored.same;
+        holds = (
+          subst (λ (e : ℕ). load 4 (e - k) t ≡ Ok w) (sym ebp) stored.same,
+          subst (λ (e : ℕ). load 1 (e - k) t ≡ Ok (w % 256)) (sym ebp) stored.byte,
+        );
         framed = framed-kept (λ c. ⊤) K site frame s t framed keeps makes.sound (λ m below. tt) (λ m below. tt);
         keeps = keeps-stricter (λ c. ⊤) (Untouched (InSlot k)) K K s t (λ c q. tt) (λ a n l. l) keeps;
       },

@@ -71,11 +71,11 @@ OperateGives =
 
 -- ---- a place
 
--- the place holds a word, or its low byte where it is one for bytes
+-- the place holds a word, or its low byte where it is one for bytes; a slot holds both
 abbrev pub HoldsLow : State → Place → ℕ → Type 0
 HoldsLow s (InWord r) w = Contains s Two (InWord r) w
 HoldsLow s (InByte r) w = Contains s One (InByte r) (w % 256)
-HoldsLow s (InSlot k) w = Contains s Two (InSlot k) w
+HoldsLow s (InSlot k) w = Contains s Two (InSlot k) w × Contains s One (InSlot k) (w % 256)
 
 -- The items put a word into a place. They change no other place of a variable: of the registers only the place's own,
 -- ESI

@@ -1,5 +1,9 @@
 pub mod Cells
-pub mod Finding
 pub mod Kept
 pub mod Removing
 pub mod Standings
+pub mod Classes
+pub mod Stored
+pub mod Fronts
+pub mod Spans
+pub mod Calls

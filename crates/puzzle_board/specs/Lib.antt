@@ -2,3 +2,5 @@ pub mod Areas
 pub mod Placements
 pub mod Boards
 pub mod Worked
+pub mod Classes
+pub mod Stored

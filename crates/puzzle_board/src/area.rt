@@ -1,5 +1,5 @@
-ghost use Rattle.std.specs.Prelude.{◌≡◌};
-ghost use Rattle.puzzle_board.specs.Areas.{cleared, cleared_column, kind_of};
+ghost use Rattle.std.specs.Prelude.{◌≡◌, ◌<◌};
+ghost use Rattle.puzzle_board.specs.Areas.{cleared, cleared_column, kind_of, place_of_kind};
 
 use crate::piece::{Columns, Kind};
 
@@ -58,6 +58,27 @@ pub enum AreaKind {
     LowerNone,
     /// Neither and neither.
     Full,
+}
+
+impl AreaKind {
+    /// The list of the areas of this kind.
+    pub(crate) fn list(self) -> u32
+        ensures value { result ≡ place_of_kind self }
+        ensures few { result < 10 }
+    {
+        match self {
+            AreaKind::E => 0,
+            AreaKind::U1 => 1,
+            AreaKind::L1 => 2,
+            AreaKind::C => 3,
+            AreaKind::U0 => 4,
+            AreaKind::L0 => 5,
+            AreaKind::UpperLower => 6,
+            AreaKind::UpperNone => 7,
+            AreaKind::LowerNone => 8,
+            AreaKind::Full => 9,
+        }
+    }
 }
 
 impl Area {

@@ -1,122 +1,54 @@
-ghost use Rattle.std.specs.Prelude.{◌≡◌, ◌≢◌, ◌<◌, ◌≤◌, ◌+◌, length, map, slice_get, Some, MatchOption, MatchResult, ⊤};
-ghost use Rattle.std.specs.Prelude.{◌&&◌, []};
+ghost use Rattle.std.specs.Prelude.{◌≡◌, ◌≢◌, ◌<◌, ◌≤◌, ◌+◌, length, slice_get, Some, MatchOption, MatchResult, ⊤};
+ghost use Rattle.std.specs.Prelude.{[]};
 ghost use Rattle.std.specs.List.{AllByRecursion};
-ghost use Rattle.puzzle_board.specs.Areas.{kind_of};
-ghost use Rattle.puzzle_board.specs.Boards.{IsAreaOf, IsBoard, IsPlaceable, IsUnplacedIn, IsUnplacedOf, area_count};
-ghost use Rattle.puzzle_board.specs.Boards.{areas_of_kind, board_of, free_areas, is_piece, is_unplaced, lifted};
-ghost use Rattle.puzzle_board.specs.Boards.{piece_count, pieces_of, removed_in, spot_of, standing, unplaced_in};
-ghost use Rattle.puzzle_board.specs.Boards.{with_none_placed, with_piece, with_spot, without_variable};
+ghost use Rattle.puzzle_board.specs.Boards.{IsAreaOf, IsBoard, IsPlaceable, IsUnplacedOf, area_count, board_of};
+ghost use Rattle.puzzle_board.specs.Boards.{free_areas, piece_count, spot_of, standing, with_none_placed};
+ghost use Rattle.puzzle_board.specs.Boards.{with_piece, with_spot, without_variable};
 
 use crate::area::{Area, AreaKind};
+use crate::by_kind::{file_areas, free_areas, set_area};
 use crate::piece::{Kind, Piece, Spot, State};
+use crate::waiting::{
+    file_piece, lift_pieces, list_of, remove_pieces, settle, span_of, stays_ascending,
+};
+use index_lists::IndexLists;
 use pcc_base::{NoMemory, Steps, Width};
 use std::alloc::Global;
-use std::marker::Model;
-use std::sync::ledger::Ledger;
+use std::marker::{Brand, Model};
+use std::sync::ledger::{Blank, Ledger};
 
 /// A board: areas, the cells of them that are free, and pieces, each of which is unplaced, placed or removed. A
-/// contract sees a `Puzzle`. The calls that read it or place a piece count their steps.
+/// contract sees a `Puzzle`. The areas stand in lists by kind, and the unplaced pieces in lists by kind and width
+/// (`specs/Stored.antt`). The calls that read the board or place a piece count their steps.
 #[derive(Drop)]
 pub struct Board {
     areas: Vec<Area>,
     free: Vec<Area>,
     pieces: Vec<Piece>,
     states: Vec<State>,
+    by_kind: IndexLists,
+    waiting: IndexLists,
+    ascending: bool,
 }
 
 impl Model for Board {
-    ghost use Rattle.puzzle_board.specs.Boards.{IsKept, Puzzle};
+    ghost use Rattle.puzzle_board.specs.Boards.{Puzzle};
+    ghost use Rattle.puzzle_board.specs.Stored.{IsStored};
 
     ghost Value = { Puzzle };
 
     ghost view = { λ b. record { areas = b.areas.items; pieces = b.pieces.items; states = b.states.items } };
 
-    ghost invariant = { λ b. IsKept
+    ghost invariant = { λ b. IsStored
         (record { areas = b.areas.items; pieces = b.pieces.items; states = b.states.items })
-        b.free.items };
+        b.free.items b.by_kind b.waiting b.ascending };
 }
 
-/// Removes the variable's pieces.
-fn remove_pieces(pieces: &[Piece], states: &mut [State], var: u32)
-    requires { length states.old ≡ length pieces.now }
-    ensures { states.new ≡ removed_in pieces.now states.old var }
-{
-    for i in 0..pieces.len() {
-        if pieces[i].var == var {
-            states[i] = State::Removed;
-        }
-    }
-}
+/// How many lists there are of areas, one for each kind.
+const KINDS: u32 = 10;
 
-/// Makes every piece unplaced that isn't removed.
-fn lift_pieces(states: &mut [State])
-    ensures { states.new ≡ map lifted states.old }
-{
-    for state in states {
-        *state = state.lifted();
-    }
-}
-
-/// The first area of a kind.
-fn first_of_kind(areas: &[Area], kind: AreaKind) -> Option<u32>
-    requires { length areas.now ≤ 4294967295 }
-    ensures { MatchOption result
-        (areas_of_kind areas.now kind ≡ 0)
-        (λ area. slice_get (map kind_of areas.now) area ≡ Some kind) }
-{
-    for i in 0..areas.len() {
-        if areas[i].kind() == kind {
-            return Some(i as u32);
-        }
-    }
-    None
-}
-
-/// How many areas are of a kind.
-fn count_of_kind(areas: &[Area], kind: AreaKind) -> u32
-    requires { length areas.now ≤ 4294967295 }
-    ensures { result ≡ areas_of_kind areas.now kind }
-{
-    areas.iter().filter(|area| area.kind() == kind).count() as u32
-}
-
-/// The piece is of this kind and width, and neither placed nor removed.
-fn is_waiting(piece: Piece, state: State, kind: Kind, width: Width) -> bool
-    ensures { result ≡ is_unplaced state && is_piece kind width piece }
-{
-    state.is_unplaced() && piece.is(kind, width)
-}
-
-/// The first piece of a kind and a width that is neither placed nor removed.
-fn first_unplaced(pieces: &[Piece], states: &[State], kind: Kind, width: Width) -> Option<u32>
-    requires same { length states.now ≡ length pieces.now }
-    requires few { length pieces.now ≤ 4294967295 }
-    ensures { MatchOption result
-        (pieces_of (unplaced_in pieces.now states.now) kind width ≡ 0)
-        (λ number. IsUnplacedIn pieces.now states.now kind width number) }
-{
-    for i in 0..pieces.len() {
-        if is_waiting(pieces[i], states[i], kind, width) {
-            return Some(i as u32);
-        }
-    }
-    None
-}
-
-/// How many pieces of a kind and a width are neither placed nor removed.
-fn count_unplaced(pieces: &[Piece], states: &[State], kind: Kind, width: Width) -> u32
-    requires same { length states.now ≡ length pieces.now }
-    requires few { length pieces.now ≤ 4294967295 }
-    ensures { result ≡ pieces_of (unplaced_in pieces.now states.now) kind width }
-{
-    let mut count = 0;
-    for i in 0..pieces.len() {
-        if is_waiting(pieces[i], states[i], kind, width) {
-            count += 1;
-        }
-    }
-    count
-}
+/// How many lists there are of unplaced pieces, one for each kind and width.
+const SORTS: u32 = 6;
 
 impl Board {
     /// A board with these areas and no pieces.
@@ -124,11 +56,16 @@ impl Board {
         requires { length areas.now ≤ 4294967295 }
         ensures { MatchResult result (λ board. board ≡ board_of areas.now) (λ _. ⊤) }
     {
+        let mut by_kind = IndexLists::new(alloc, areas.len() as u32, KINDS)?;
+        file_areas::<Brand>(&mut by_kind, areas, Blank::new(1));
         Ok(Board {
             areas: areas.to_vec(alloc)?,
             free: areas.to_vec(alloc)?,
             pieces: Vec::new(alloc),
             states: Vec::new(alloc),
+            by_kind,
+            waiting: IndexLists::new(alloc, 0, SORTS)?,
+            ascending: true,
         })
     }
 
@@ -143,6 +80,9 @@ impl Board {
         self.pieces.reserve(1)?;
         self.states.reserve(1)?;
         let number = self.pieces.len() as u32;
+        self.waiting.grow(number + 1)?;
+        file_piece::<Brand>(&mut self.waiting, piece, number, Blank::new(1));
+        self.ascending = stays_ascending(&self.pieces, self.ascending, piece);
         self.pieces.push_reserved(piece);
         self.states.push_reserved(State::Unplaced);
         Ok(number)
@@ -154,7 +94,15 @@ impl Board {
         ensures removed { self.new ≡ without_variable self.old var }
         ensures stands { standing self.new ≡ standing self.old }
     {
-        remove_pieces(&self.pieces, &mut self.states, var);
+        let span = span_of(&self.pieces, self.ascending, var);
+        remove_pieces::<Brand>(
+            &self.pieces,
+            &mut self.states,
+            &mut self.waiting,
+            var,
+            span,
+            Blank::new(1),
+        );
     }
 
     /// Makes every piece unplaced that isn't removed.
@@ -162,8 +110,18 @@ impl Board {
         ensures lifted { self.new ≡ with_none_placed self.old }
         ensures stands { standing self.new ≡ [] }
     {
-        lift_pieces(&mut self.states);
-        self.free.copy_from_slice(&self.areas);
+        lift_pieces::<Brand>(
+            &self.pieces,
+            &mut self.states,
+            &mut self.waiting,
+            Blank::new(1),
+        );
+        free_areas::<Brand>(
+            &mut self.free,
+            &self.areas,
+            &mut self.by_kind,
+            Blank::new(1),
+        );
     }
 
     /// Where a piece stands. None where it is unplaced or removed.
@@ -226,9 +184,11 @@ impl Board {
     {
         steps.tick();
         let kind = self.pieces[piece as usize].kind;
-        let area = self.free[spot.area as usize];
-        self.free[spot.area as usize] = area.cleared(kind, spot.columns);
-        self.states[piece as usize] = State::At(spot);
+        let free = self.free[spot.area as usize];
+        let area = free.cleared(kind, spot.columns);
+        set_area(&mut self.free, &mut self.by_kind, spot.area, area, steps);
+        let state = State::At(spot);
+        settle(&mut self.states, &mut self.waiting, piece, state, steps);
     }
 
     /// An area of this kind. None exactly where there is none.
@@ -236,8 +196,7 @@ impl Board {
         ensures found { MatchOption result (area_count self.now kind ≡ 0) (λ area. IsAreaOf self.now kind area) }
         ensures ticks { steps.new ≡ steps.old + 1 }
     {
-        steps.tick();
-        first_of_kind(&self.free, kind)
+        self.by_kind.first(kind.list(), steps)
     }
 
     /// The number of areas of this kind.
@@ -245,8 +204,7 @@ impl Board {
         ensures value { result ≡ area_count self.now kind }
         ensures ticks { steps.new ≡ steps.old + 1 }
     {
-        steps.tick();
-        count_of_kind(&self.free, kind)
+        self.by_kind.len(kind.list(), steps)
     }
 
     /// A piece of this kind and width that is neither placed nor removed. None exactly where there is none.
@@ -261,8 +219,7 @@ impl Board {
             (λ piece. IsUnplacedOf self.now kind width piece) }
         ensures ticks { steps.new ≡ steps.old + 1 }
     {
-        steps.tick();
-        first_unplaced(&self.pieces, &self.states, kind, width)
+        self.waiting.first(list_of(kind, width), steps)
     }
 
     /// The number of pieces of this kind and width that are neither placed nor removed.
@@ -270,8 +227,7 @@ impl Board {
         ensures value { result ≡ piece_count self.now kind width }
         ensures ticks { steps.new ≡ steps.old + 1 }
     {
-        steps.tick();
-        count_unplaced(&self.pieces, &self.states, kind, width)
+        self.waiting.len(list_of(kind, width), steps)
     }
 
     /// Every board keeps: its placed pieces stand legally.

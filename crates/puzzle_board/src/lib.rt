@@ -4,8 +4,11 @@
 
 mod area;
 mod board;
+mod by_kind;
+mod filing;
 mod laws;
 mod piece;
+mod waiting;
 
 pub use area::{Area, AreaKind, Column};
 pub use board::Board;

@@ -1,6 +1,3 @@
-ghost use Rattle.std.specs.Prelude.{◌≡◌};
-ghost use Rattle.puzzle_board.specs.Boards.{is_piece, is_unplaced, lifted};
-
 use pcc_base::Width;
 
 /// When a piece's variable is live at a point: an X is read there for the last time and takes the upper row, a Z is
@@ -18,15 +15,6 @@ pub struct Piece {
     pub kind: Kind,
     pub width: Width,
     pub var: u32,
-}
-
-impl Piece {
-    /// The piece is of this kind and width.
-    pub(crate) fn is(&self, kind: Kind, width: Width) -> bool
-        ensures { result ≡ is_piece kind width self.now }
-    {
-        self.kind == kind && self.width == width
-    }
 }
 
 /// The columns of an area that a piece takes.
@@ -51,26 +39,4 @@ pub enum State {
     At(Spot),
     /// Its variable was removed from the puzzle.
     Removed,
-}
-
-impl State {
-    /// The piece is neither placed nor removed.
-    pub(crate) fn is_unplaced(self) -> bool
-        ensures { result ≡ is_unplaced self }
-    {
-        match self {
-            State::Unplaced => true,
-            State::At(_) | State::Removed => false,
-        }
-    }
-
-    /// Unplaced, where the piece isn't removed.
-    pub(crate) fn lifted(self) -> State
-        ensures { result ≡ lifted self }
-    {
-        match self {
-            State::Unplaced | State::At(_) => State::Unplaced,
-            State::Removed => State::Removed,
-        }
-    }
 }

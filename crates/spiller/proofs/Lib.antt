@@ -1,1 +1,2 @@
 pub mod Spilling
+pub mod Orders

@@ -13,7 +13,8 @@ use Rattle.puzzle_board.specs.Boards.{Puzzle, remaining, remaining_in, removed_i
 use Rattle.puzzle_board.specs.Placements.{IsSolvable}
 use Rattle.puzzle_solver.specs.Solved.{IsSolved}
 use Rattle.puzzle_solver.proofs.Ends.{solved-solvable}
-use Rattle.spiller.specs.Prefixes.{Fits, IsAmong, IsShortest, without_variables}
+use Rattle.puzzle_board.specs.Classes.{IsAmong}
+use Rattle.spiller.specs.Prefixes.{Fits, IsShortest, without_variables}
 
 -- the first so many variables of the order are removed, nothing stands, and with fewer removed there was no placement
 pub record SoFar (old : Puzzle) (order : List ℕ) (i : ℕ) (removed : List ℕ) (new : Puzzle) : Type 0 where

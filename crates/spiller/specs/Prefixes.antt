@@ -1,12 +1,7 @@
 -- The shortest prefix of an order of variables without whose pieces a board is solvable.
-use Rattle.std.specs.Prelude.{ℕ, ◌≡◌, ◌<◌, ◌⊎◌, List, [], ◌∷◌, length, take}
+use Rattle.std.specs.Prelude.{ℕ, ◌≡◌, ◌<◌, List, [], ◌∷◌, length, take}
 use Rattle.puzzle_board.specs.Boards.{Puzzle, remaining, without_variable}
 use Rattle.puzzle_board.specs.Placements.{IsSolvable}
-
--- the variable is among these
-abbrev pub IsAmong : List ℕ → ℕ → Type 0
-IsAmong [] variable = ⊥
-IsAmong (v ∷ more) variable = (variable ≡ v) ⊎ IsAmong more variable
 
 -- the board with the pieces of all these variables removed
 abbrev pub without_variables : Puzzle → List ℕ → Puzzle

@@ -1,8 +1,9 @@
 ghost use Rattle.std.specs.Prelude.{◌≡◌, [], IfErr, IfOk};
 ghost use Rattle.std.specs.List.{AllByRecursion};
 ghost use Rattle.puzzle_board.specs.Boards.{remaining, standing};
+ghost use Rattle.puzzle_board.specs.Classes.{IsAmong};
 ghost use Rattle.puzzle_solver.specs.Solved.{IsSolved};
-ghost use Rattle.spiller.specs.Prefixes.{IsAmong, IsShortest, without_variables};
+ghost use Rattle.spiller.specs.Prefixes.{IsShortest, without_variables};
 
 use pcc_base::{NoMemory, Steps};
 use puzzle_board::Board;

@@ -3,5 +3,7 @@
 #![tactic(auto)]
 
 mod fitting;
+mod order;
 
 pub use fitting::fit;
+pub use order::{Candidate, spill_order};

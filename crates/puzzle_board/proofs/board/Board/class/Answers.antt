@@ -6,7 +6,7 @@ use Rattle.puzzle_board.proofs.board.Board.class.Goals as goal
 
 pub index-requires : goal.index-requires
 index-requires g c =
-    let same = kept-length _ _ c.self.invariant in
+    let same = kept-length _ _ c.self.invariant.kept in
     let now = ap (λ (b : Puzzle). length b.areas) c.self.view_is in
     omega (arith, same, now, c.requires)
 
@@ -19,6 +19,6 @@ read board now free i a kept same within is =
 
 pub returns-clause-value : goal.returns-clause-value
 returns-clause-value g c =
-    let same = kept-length _ _ c.self.invariant in
+    let same = kept-length _ _ c.self.invariant.kept in
     let now = ap (λ (b : Puzzle). length b.areas) c.self.view_is in
-    read _ _ _ _ _ c.self.invariant c.self.view_is (omega (arith, same, now, c.requires)) c.index.ensures
+    read _ _ _ _ _ c.self.invariant.kept c.self.view_is (omega (arith, same, now, c.requires)) c.index.ensures

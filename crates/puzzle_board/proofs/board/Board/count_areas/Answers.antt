@@ -1,8 +1,7 @@
-use Rattle.std.proofs.Common.{arith}
-use Rattle.puzzle_board.proofs.Kept.{kept-length}
+use Rattle.puzzle_board.proofs.Calls.{counted-areas}
 use Rattle.puzzle_board.proofs.board.Board.count_areas.Goals as goal
 
-pub count_of_kind-requires : goal.count_of_kind-requires
-count_of_kind-requires g c =
-    let same = kept-length _ _ c.self.invariant in
-    omega (arith, same, c.self.invariant.kept.few_areas, c.deref.ensures.len)
+pub returns-clause-value : goal.returns-clause-value
+returns-clause-value g c =
+    counted-areas _ _ _ _ _ _ c.args.kind c.list.result c.len.result c.self.invariant c.self.view_is
+    c.list.ensures.value c.list.ensures.few c.len.ensures.len

@@ -1,8 +1,7 @@
-use Rattle.std.proofs.Common.{arith}
-use Rattle.puzzle_board.proofs.Kept.{kept-length}
+use Rattle.puzzle_board.proofs.Calls.{found-area}
 use Rattle.puzzle_board.proofs.board.Board.first_area.Goals as goal
 
-pub first_of_kind-requires : goal.first_of_kind-requires
-first_of_kind-requires g c =
-    let same = kept-length _ _ c.self.invariant in
-    omega (arith, same, c.self.invariant.kept.few_areas, c.deref.ensures.len)
+pub returns-clause-found : goal.returns-clause-found
+returns-clause-found g c =
+    found-area _ _ _ _ _ _ c.args.kind c.list.result c.first.result c.self.invariant c.self.view_is
+    c.list.ensures.value c.list.ensures.few c.first.ensures.first

@@ -1,0 +1,241 @@
+//! What is known at a place of the text.
+
+ghost use Rattle.std.specs.Prelude.{◌≡◌, ◌-◌, ◌++◌, [], List, drop, length, map, option_map, IfOk, OnOk};
+ghost use Rattle.c_tree.specs.Erased.{array_of, local_of};
+ghost use Rattle.c_typing.specs.Names.{
+  bound,
+  entered,
+  first_scope,
+  is_declared_here,
+  left,
+  meaning_of,
+  next_file,
+  numbered,
+  object_number,
+  function_number,
+  with_array,
+  with_local,
+  Binding,
+  Scope,
+};
+ghost use Rattle.c_typing.specs.Files.{with_outer};
+ghost use Rattle.c_scopes.specs.Views as views;
+
+use crate::entity::Entity;
+use crate::library::{library_names, library_outers};
+use crate::meaning::{Meaning, Outer};
+use crate::names::Names;
+use crate::numbers::{Numbers, number};
+use crate::outers::Outers;
+use c_tree::{IntegerType, Local, LocalArray, ValueType};
+use pcc_base::{Name, NoMemory};
+use std::alloc::Global;
+use std::marker::Model;
+
+/// Where a scope was opened: how many names were seen, and how many scopes were around the place.
+#[derive(Clone, Copy, Debug, PartialEq, Eq)]
+pub struct Mark {
+    pub names: usize,
+    pub depth: u32,
+}
+
+/// What is known at a place of the text.
+#[derive(Drop)]
+pub struct Scopes {
+    numbers: Numbers,
+    /// The position of the file, and the declarations outside functions in it and in the files before it.
+    file: u32,
+    outers: Outers,
+    /// The names that are seen, and how many scopes are around the place.
+    names: Names,
+    depth: u32,
+    /// The locals and arrays of the function so far.
+    locals: Vec<Local>,
+    arrays: Vec<LocalArray>,
+    /// The number of the next statement or declared item.
+    next: u32,
+}
+
+impl Model for Scopes {
+    ghost use Rattle.std.specs.Prelude.{map};
+    ghost use Rattle.c_tree.specs.Erased.{array_of, local_of};
+    ghost use Rattle.c_typing.specs.Names.{Scope};
+
+    ghost Value = { Scope };
+
+    ghost view = { λ s. record {
+      numbers = s.numbers;
+      file = s.file;
+      outer = s.outers;
+      names = s.names;
+      depth = s.depth;
+      locals = map local_of s.locals.items;
+      arrays = map array_of s.arrays.items;
+      next = s.next;
+    } };
+}
+
+impl Scopes {
+    /// Before the first file, where objects and functions have these numbers.
+    pub fn new(alloc: Global, numbers: Numbers) -> Result<Scopes, NoMemory>
+        ensures { IfOk result (λ s. s ≡ first_scope numbers) }
+    {
+        let outers = library_outers(alloc)?;
+        let names = library_names(alloc)?;
+        Ok(Scopes {
+            numbers,
+            file: 0,
+            outers,
+            names,
+            depth: 0,
+            locals: Vec::new(alloc),
+            arrays: Vec::new(alloc),
+            next: 0,
+        })
+    }
+
+    /// Before the next file, which sees nothing of this one but what is shared.
+    pub fn next_file(&mut self, alloc: Global) -> Result<(), NoMemory>
+        ensures { OnOk result (self.new ≡ next_file self.old) }
+    {
+        let file = number(self.file as usize + 1)?;
+        self.names = library_names(alloc)?;
+        self.file = file;
+        Ok(())
+    }
+
+    // ---- scopes (C99 6.2.1)
+
+    /// Opens a scope.
+    pub fn enter(&mut self) -> Result<Mark, NoMemory>
+        ensures { IfOk result (λ m. (self.new ≡ entered self.old)
+            × (m.names ≡ length self.old.names) × (m.depth ≡ self.old.depth)) }
+    {
+        let depth = number(self.depth as usize + 1)?;
+        let mark = Mark {
+            names: self.names.len(),
+            depth: self.depth,
+        };
+        self.depth = depth;
+        Ok(mark)
+    }
+
+    /// Closes the scopes that were opened since a mark: their names are seen no more.
+    pub fn leave(&mut self, mark: Mark)
+        ensures { (outside : Scope) (more : List Binding) → self.old.names ≡ more ++ outside.names
+            → mark.names ≡ length outside.names → mark.depth ≡ outside.depth
+            → self.new ≡ left outside self.old }
+    {
+        self.names.forget_until(mark.names);
+        self.depth = mark.depth;
+    }
+
+    /// What a name means.
+    pub fn meaning(&self, name: &Name) -> Option<&Meaning>
+        ensures { option_map (λ m. views.meaning_of m.now) result ≡ meaning_of self.now.names name.now }
+    {
+        match self.names.find(name.as_bytes()) {
+            Some(entry) => Some(&entry.meaning),
+            None => None,
+        }
+    }
+
+    /// Whether a name is declared in this very scope.
+    pub fn is_declared_here(&self, name: &Name) -> bool
+        ensures { result ≡ is_declared_here self.now name.now }
+    {
+        match self.names.find(name.as_bytes()) {
+            Some(entry) => entry.depth == self.depth,
+            None => false,
+        }
+    }
+
+    /// Declares a name.
+    pub fn bind(&mut self, alloc: Global, name: &Name, meaning: Meaning) -> Result<(), NoMemory>
+        ensures { OnOk result (self.new ≡ bound name.now (views.meaning_of meaning) self.old) }
+    {
+        self.names.bind(alloc, name.as_bytes(), self.depth, meaning)
+    }
+
+    /// Declares a local that is no array, also a parameter. Its number is answered.
+    pub fn declare_local(
+        &mut self,
+        alloc: Global,
+        name: &Name,
+        of: ValueType,
+    ) -> Result<u32, NoMemory>
+        ensures { IfOk result (λ n. (n ≡ length self.old.locals)
+            × (self.new ≡ with_local name.now of self.old)) }
+    {
+        let number = number(self.locals.len())?;
+        let copy = Name::new(name.as_bytes().to_vec(alloc)?);
+        self.locals.push(Local { name: copy, of })?;
+        self.bind(alloc, name, Meaning::Local(number, of))?;
+        Ok(number)
+    }
+
+    /// Declares an array of the function. Its number is answered.
+    pub fn declare_array(
+        &mut self,
+        alloc: Global,
+        name: &Name,
+        element: IntegerType,
+        count: u32,
+    ) -> Result<u32, NoMemory>
+        ensures { IfOk result (λ n. (n ≡ length self.old.arrays)
+            × (self.new ≡ with_array name.now element count self.old)) }
+    {
+        let number = number(self.arrays.len())?;
+        let copy = Name::new(name.as_bytes().to_vec(alloc)?);
+        self.arrays.push(LocalArray {
+            name: copy,
+            element,
+            count,
+        })?;
+        self.bind(alloc, name, Meaning::LocalArray(number, element))?;
+        Ok(number)
+    }
+
+    /// Takes the number of a statement or declared item.
+    pub fn take_number(&mut self) -> Result<u32, NoMemory>
+        ensures { IfOk result (λ n. (n ≡ self.old.next) × (self.new ≡ numbered self.old)) }
+    {
+        let taken = self.next;
+        self.next = number(taken as usize + 1)?;
+        Ok(taken)
+    }
+
+    /// Takes the locals and arrays of the function so far away: none are left.
+    pub fn take_locals(&mut self, alloc: Global) -> (Vec<Local>, Vec<LocalArray>)
+        ensures locals { map local_of result.0.items ≡ self.old.locals }
+        ensures arrays { map array_of result.1.items ≡ self.old.arrays }
+        ensures left { self.new ≡ record self.old { locals = []; arrays = [] } }
+    {
+        let locals = std::mem::replace(&mut self.locals, Vec::new(alloc));
+        let arrays = std::mem::replace(&mut self.arrays, Vec::new(alloc));
+        (locals, arrays)
+    }
+
+    // ---- outside functions (C99 6.2.2)
+
+    /// The number of an object.
+    pub fn object_number(&self, entity: &Entity) -> Result<u32, NoMemory>
+        ensures { IfOk result (λ n. n ≡ object_number self.now (views.entity_of entity.now)) }
+    {
+        self.numbers.object(entity)
+    }
+
+    /// The number of a function.
+    pub fn function_number(&self, entity: &Entity) -> Result<u32, NoMemory>
+        ensures { IfOk result (λ n. n ≡ function_number self.now (views.entity_of entity.now)) }
+    {
+        self.numbers.function(entity)
+    }
+
+    /// One more declaration outside functions.
+    pub fn add_outer(&mut self, outer: Outer) -> Result<(), NoMemory>
+        ensures { OnOk result (self.new ≡ with_outer (views.outer_of outer) self.old) }
+    {
+        self.outers.push(outer)
+    }
+}

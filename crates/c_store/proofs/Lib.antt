@@ -1,0 +1,5 @@
+pub mod Pieces
+pub mod Spanned
+pub mod Active
+pub mod Named
+pub mod Seen

@@ -1,0 +1,10 @@
+pub mod Finishing
+pub mod Expressions
+pub mod Settling
+pub mod Statements
+pub mod Calling
+pub mod Machine
+pub mod Weighing
+pub mod Serving
+pub mod Starting
+pub mod Going

@@ -1,0 +1,7 @@
+pub mod Fitting
+pub mod Leading
+pub mod Naming
+pub mod Outcomes
+pub mod Overlays
+pub mod Placing
+pub mod Settling

@@ -1,0 +1,15 @@
+pub mod Slots
+pub mod Memory
+pub mod Chain
+pub mod Shown
+pub mod Objects
+pub mod Zones
+pub mod Apart
+pub mod Regions
+pub mod Changed
+pub mod Puts
+pub mod Words
+pub mod Ops
+pub mod Marks
+pub mod Copies
+pub mod Stored

@@ -1,0 +1,9 @@
+use Rattle.ia32_keeps.proofs.Changed.{array-shows}
+use Rattle.ia32_keeps.proofs.Stored.{element-shows}
+use Rattle.ia32_keeps.proofs.laws.changed_array_is_shown.Goals as goal
+
+pub returns-clause-array : goal.returns-clause-array
+returns-clause-array c = array-shows
+
+pub returns-clause-element : goal.returns-clause-element
+returns-clause-element c = element-shows

@@ -1,0 +1,4 @@
+pub mod Supports
+pub mod Protected
+pub mod Laws
+pub mod Ops

@@ -1,0 +1,15 @@
+pub mod Lines
+pub mod Shown
+pub mod Lowering
+pub mod Variables
+pub mod Parts
+pub mod Operators
+pub mod Expressions
+pub mod Statements
+pub mod Programs
+pub mod Agreeing
+pub mod Relation
+pub mod Following
+pub mod Words
+pub mod Laws
+pub mod Worked

@@ -1,6 +1,0 @@
-use Rattle.std.proofs.Common.{◌≡◌, take}
-use Rattle.puzzle_board.specs.Boards.{pieces_of, unplaced_in}
-use Rattle.puzzle_board.proofs.board.first_unplaced.Given as goal
-
-abbrev pub invariant-loop-i : goal.invariant-loop-i
-invariant-loop-i l = pieces_of (unplaced_in (take l.i l.pieces) l.states) l.kind l.width ≡ 0
