@@ -4,8 +4,8 @@ ghost use Rattle.std.specs.Prelude.{◌≡◌, ◌<◌, List, ℕ, ◌∷◌, le
 ghost use Rattle.c_store.specs.Kept.{over, entered, returned, Written, stored};
 ghost use Rattle.c_store.specs.Values.{name_of, held_of, found_of};
 ghost use Rattle.c_tree.specs.Erased.{function_of, program_of};
-ghost use Rattle.c_tree.specs.Evaluation.{element_read, element_written, first_state, load, store, most_active};
-ghost use Rattle.c_tree.specs.Evaluation.{own_array, text_then_zeros, zeroed};
+ghost use Rattle.c_tree.specs.Evaluation.{AtIndex, element_read, element_written, first_state, load, store};
+ghost use Rattle.c_tree.specs.Evaluation.{most_active, own_array, text_then_zeros, zeroed};
 ghost use Rattle.c_tree.specs.Store.{State, array_named, array_of, element_at, held, with_array, with_local, zero_of};
 ghost use Rattle.c_tree.specs.Store.{or_check};
 ghost use Rattle.pcc_base.specs.Outcome as outcome;
@@ -230,16 +230,6 @@ impl Store {
         }
     }
 
-    /// Gives an element of an array of the youngest call another value, as what initialises the array does (C99
-    /// 6.7.8p17). `false`, with nothing changed, where there is no such element.
-    pub fn set_own_element(&mut self, array: u32, index: usize, value: i32) -> bool
-        ensures { (s : State) → Written (over s self.old) (over s self.new) (own_array (over s self.old) array)
-            (pos index) value result }
-    {
-        let depth = self.depth();
-        self.set_frame_element(array, depth, index, value)
-    }
-
     /// The element of an array at an index as a value; none where there is no such element, at which the program traps.
     fn load_element(&self, array: ArrayName, index: i32) -> Option<Value>
         ensures { (s : State)
@@ -272,6 +262,15 @@ impl Store {
             ≡ stored result (held_of value) (over s self.new) }
     {
         self.set_element(array, index, value.number())
+    }
+
+    /// Gives the element of an array at a place another value, as what initialises the array does (C99 6.7.8p17).
+    /// `false`, with nothing changed, where there is no such element, at which the program traps.
+    pub fn store_at(&mut self, array: ArrayName, index: usize, value: Value) -> bool
+        ensures { (s : State) → store (AtIndex (name_of array) (pos index)) (held_of value) (over s self.old)
+            ≡ stored result (held_of value) (over s self.new) }
+    {
+        self.set_element_at(array, index, value.number())
     }
 
     /// Gives a place another value (C99 6.5.16). `false`, with nothing changed, where it is an element that isn't

@@ -97,6 +97,8 @@ fn expect_locals(rt: &impl Abort, store: &mut Store) {
 fn expect_elements(rt: &impl Abort, store: &mut Store, array: ArrayName) {
     assert_eq!(rt; store.load(Place::Object(0)), Some(Value::Number(5)));
     assert!(rt; store.store(Place::Element { array, index: 1 }, Value::Number(9)));
+    assert!(rt; store.store_at(array, 0, Value::Number(3)));
+    assert_eq!(rt; store.element(array, 0), Some(3));
     assert_eq!(rt; store.element(array, 1), Some(9));
     assert_eq!(rt; store.element(array, 2), None);
     assert_eq!(rt; store.element(array, -1), None);
