@@ -1,5 +1,6 @@
 -- The active calls that vectors stand for: what is read of them, and what stays when one of them changes.
-use Rattle.std.proofs.Common.{◌≡◌, ◌∙◌, ℕ, zero, suc, ◌+◌, ◌<◌, ◌≤◌, ℤ, List, [], ◌∷◌, ◌++◌, length, take, drop, refl, sym, ap, ap₂}
+use Rattle.std.proofs.Common.{◌≡◌, ◌∙◌, ℕ, zero, suc, ◌+◌, ◌<◌, ◌≤◌, ℤ, List, [], ◌∷◌, ◌++◌, length, take, drop, refl}
+use Rattle.std.proofs.Common.{sym, ap, ap₂}
 use Rattle.std.proofs.Common.{arith, slice_set, subst, inl, inr}
 use Rattle.std.specs.Prelude.{◌==◌, true, false, slice_index_or, Some, None}
 use Rattle.std.proofs.lemmas.Bool.{cases_eq}
@@ -8,7 +9,8 @@ use Rattle.c_store.proofs.Pieces.{piece-take, take-set}
 use Rattle.std.proofs.lemmas.List.{drop_at, take_at, take_all, take-set-le, drop-set-lt, drop-set-add}
 use Rattle.std.proofs.lemmas.List.{length-take-le, length-drop, get_or-take, get_or-drop}
 use Rattle.std.proofs.lemmas.List.{get_or_append_left, get_or_at}
-use Rattle.c_tree.specs.Store.{Held, Activation, youngest, with_youngest, call_of_depth, arrays_in, with_own, with_array_in}
+use Rattle.c_tree.specs.Store.{Held, Activation, youngest, with_youngest, call_of_depth, arrays_in, with_own}
+use Rattle.c_tree.specs.Store.{with_array_in}
 use Rattle.c_tree.specs.Evaluation.{older}
 use Rattle.c_store.specs.declared.calls.Call.{Call}
 use Rattle.c_store.specs.Kept.{active_in, AreCalls, call_at, no_call}
@@ -28,8 +30,11 @@ pub active-same : (calls other : List Call) (n : ℕ) (values : List Held) (arra
 active-same calls other zero values arrays same = refl
 active-same calls other (suc n) values arrays same =
     let e = same n (omega arith) in
-    rw e (ap (λ rest. record { values = drop (call_at calls n).locals values; arrays = drop (call_at calls n).arrays arrays } ∷ rest)
-    (active-same calls other n _ _ (λ i w. same i (omega (arith, w)))))
+    let call : Activation = record {
+      values = drop (call_at calls n).locals values;
+      arrays = drop (call_at calls n).arrays arrays;
+    } in
+    rw e (ap (λ rest. call ∷ rest) (active-same calls other n _ _ (λ i w. same i (omega (arith, w)))))
 
 pub calls-same : (calls other : List Call) (n values arrays : ℕ)
     → ((i : ℕ) → i < n → call_at other i ≡ call_at calls i)
@@ -54,7 +59,11 @@ pub active-push : (calls : List Call) (c : Call) (values more : List Held) (arra
     ≡ record { values = more; arrays = added } ∷ active_in calls (length calls) values arrays
 active-push calls c values more arrays added at from =
     let last = pushed-last calls c in
-    rw (last, at, from, drop_at values more (length values) refl, drop_at arrays added (length arrays) refl, take_at values more (length values) refl, take_at arrays added (length arrays) refl)
+    let locals = drop_at values more (length values) refl in
+    let rows = drop_at arrays added (length arrays) refl in
+    let older_locals = take_at values more (length values) refl in
+    let older_rows = take_at arrays added (length arrays) refl in
+    rw (last, at, from, locals, rows, older_locals, older_rows)
     (ap (λ rest. record { values = more; arrays = added } ∷ rest)
     (active-same calls (calls ++ c ∷ []) (length calls) values arrays (pushed-below calls c)))
 

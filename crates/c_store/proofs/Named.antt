@@ -1,5 +1,6 @@
 -- The arrays of active calls by their names: where they stand among all, and what is read and written there.
-use Rattle.std.proofs.Common.{◌≡◌, ◌∙◌, ℕ, zero, suc, ◌+◌, ◌<◌, ◌≤◌, ℤ, List, [], ◌∷◌, length, take, drop, refl, sym, ap, subst, arith, inl, inr}
+use Rattle.std.proofs.Common.{◌≡◌, ◌∙◌, ℕ, zero, suc, ◌+◌, ◌<◌, ◌≤◌, ℤ, List, [], ◌∷◌, length, take, drop, refl, sym}
+use Rattle.std.proofs.Common.{ap, subst, arith, inl, inr}
 use Rattle.std.specs.Prelude.{true, false, nat_lt, slice_index_or, slice_set, Some, None}
 use Rattle.std.proofs.lemmas.Bool.{cases_Bool}
 use Rattle.std.proofs.lemmas.Bool.Decides.{nat_tests}
@@ -49,7 +50,8 @@ frame-read calls values arrays count k (suc place) at h e =
     elim (cases_Bool (nat_lt place (length calls))) [
       | inl t ↦ (let found = array-in (call_at calls place) k at (rw t at e) in
           ap (λ rows. slice_index_or rows k [])
-          (frame-arrays calls (length calls) values arrays count (length arrays) place h refl (in-order place (length calls) t))
+          (frame-arrays calls (length calls) values arrays count (length arrays) place h refl (in-order place
+          (length calls) t))
           ∙ (piece-at arrays (call_at calls place).arrays (call_at calls place).count k [] found.0
           ∙ ap (λ n. slice_index_or arrays n []) found.1))
       | inr f ↦ absurd (not_some (rw f at e))
@@ -68,7 +70,8 @@ frame-unread calls values arrays count k (suc place) h e =
     elim (cases_Bool (nat_lt place (length calls))) [
       | inl t ↦ (let absent = array-absent (call_at calls place) k (rw t at e) in
           ap (λ rows. slice_index_or rows k [])
-          (frame-arrays calls (length calls) values arrays count (length arrays) place h refl (in-order place (length calls) t))
+          (frame-arrays calls (length calls) values arrays count (length arrays) place h refl (in-order place
+          (length calls) t))
           ∙ piece-past arrays (call_at calls place).arrays (call_at calls place).count k [] absent)
       | inr f ↦ ap (λ found. slice_index_or (arrays_in found) k [])
           (deeper-none calls (length calls) values arrays (suc place)
@@ -113,7 +116,8 @@ pub own-unwritten : (calls : List Call) (values : List Held) (arrays : List (Lis
     → with_array_in k (length calls) elements (active_in calls (length calls) values arrays)
     ≡ active_in calls (length calls) values arrays
 own-unwritten calls values arrays count k elements h e =
-    own-unwritten-in calls (length calls) values arrays count (length arrays) k elements h refl (λ place is. absent place is)
+    own-unwritten-in calls (length calls) values arrays count (length arrays) k elements h refl
+    (λ place is. absent place is)
   where
     absent : (place : ℕ) → length calls ≡ suc place → (call_at calls place).count ≤ k
     absent place is =

@@ -1,7 +1,9 @@
 -- Pieces of lists: the elements from a place on, so many of them.
-use Rattle.std.proofs.Common.{◌≡◌, ◌∙◌, ℕ, zero, suc, ◌+◌, ◌<◌, ◌≤◌, List, [], ◌∷◌, length, map, take, drop, refl, sym, ap, arith}
+use Rattle.std.proofs.Common.{◌≡◌, ◌∙◌, ℕ, zero, suc, ◌+◌, ◌<◌, ◌≤◌, List, [], ◌∷◌, length, map, take, drop, refl}
+use Rattle.std.proofs.Common.{sym, ap, arith}
 use Rattle.std.specs.Prelude.{◌-◌, slice_set, slice_index_or}
-use Rattle.std.proofs.lemmas.List.{take-take, drop-take, get_or-take, get_or-drop, get_or_past, length-take, map-set, set_past, length-map}
+use Rattle.std.proofs.lemmas.List.{take-take, drop-take, get_or-take, get_or-drop, get_or_past, length-take, map-set}
+use Rattle.std.proofs.lemmas.List.{set_past, length-map}
 
 -- a piece that ends within the first elements is one of these
 pub piece-take : {X : Type 0} → (xs : List X) (at count n : ℕ) → at + count ≤ n
@@ -13,7 +15,8 @@ piece-take xs at count n h =
     ap (take count) inner ∙ take-take count (n - at) (drop at xs) (omega (arith, h))
 
 -- the first elements, with one of them set
-pub take-set : {X : Type 0} → (n : ℕ) (xs : List X) (i : ℕ) (x : X) → take n (slice_set xs i x) ≡ slice_set (take n xs) i x
+pub take-set : {X : Type 0} → (n : ℕ) (xs : List X) (i : ℕ) (x : X) → take n (slice_set xs i x) ≡ slice_set
+    (take n xs) i x
 take-set zero xs i x = refl
 take-set (suc n) [] i x = refl
 take-set (suc n) (y ∷ ys) zero x = refl

@@ -1,19 +1,23 @@
 -- What the calls of a store do, over what a contract sees.
-use Rattle.std.proofs.Common.{◌≡◌, ◌∙◌, ℕ, zero, suc, ◌+◌, ◌<◌, ◌≤◌, ℤ, pos, negsuc, List, [], ◌∷◌, ◌++◌, length, map, take, drop, refl, sym, ap, subst, arith, length-append}
+use Rattle.std.proofs.Common.{◌≡◌, ◌∙◌, ℕ, zero, suc, ◌+◌, ◌<◌, ◌≤◌, ℤ, pos, negsuc, List, [], ◌∷◌, ◌++◌, length, map}
+use Rattle.std.proofs.Common.{take, drop, refl, sym, ap, subst, arith, length-append}
 use Rattle.std.specs.Prelude.{Bool, true, false, slice_get, slice_index_or, slice_set, Some, None, Option}
-use Rattle.std.proofs.lemmas.List.{length-map, take-map, length-take-le, map_push, append_assoc, take-append-le, length-take, get_or_read}
+use Rattle.std.proofs.lemmas.List.{length-map, take-map, length-take-le, map_push, append_assoc, take-append-le}
+use Rattle.std.proofs.lemmas.List.{length-take, get_or_read}
 use Rattle.std.proofs.lemmas.Option.{slice_get-get_or, slice_get_past, same_Some}
 use Rattle.pcc_base.specs.Outcome as outcome
 use Rattle.pcc_base.specs.declared.run.Trap.TheVariants.{Check}
 use Rattle.c_tree.specs.declared.program.Local.{Local}
 use Rattle.c_tree.specs.Erased.{local_of}
-use Rattle.c_tree.specs.Store.{Held, HoldsNumber, Gives, Ends, Activation, State, youngest, with_youngest, call_of_depth, arrays_in, with_array_in, array_named, element_at, first_values}
+use Rattle.c_tree.specs.Store.{Held, HoldsNumber, Gives, Ends, Activation, State, youngest, with_youngest}
+use Rattle.c_tree.specs.Store.{call_of_depth, arrays_in, with_array_in, array_named, element_at, first_values}
 use Rattle.c_tree.specs.Evaluation.{older, element_read, element_written, number_in}
 use Rattle.c_store.specs.declared.calls.Call.{Call}
 use Rattle.c_store.specs.declared.value.Value.{Value}
 use Rattle.c_store.specs.Values.{held_of}
 use Rattle.c_store.specs.Spans.{SetsElement}
-use Rattle.c_store.specs.Kept.{index_of, over, active_in, AreCalls, IsKept, call_at, no_call, first_value, frame_array, Written, stored}
+use Rattle.c_store.specs.Kept.{index_of, over, active_in, AreCalls, IsKept, call_at, no_call, first_value}
+use Rattle.c_store.specs.Kept.{frame_array, Written, stored}
 use Rattle.c_store.proofs.Active.{active-length, active-push, calls-push, active-pop, calls-pop, local-set}
 use Rattle.c_store.proofs.Named.{frame-read, frame-unread, frame-written, own-unwritten}
 
@@ -164,9 +168,11 @@ local-kept calls n first local values new arrays v long is are =
 there : (row : List ℤ) (i : ℕ) → i < length row → (old : ℤ) × (slice_get row i ≡ Some old)
 there row i w = (slice_index_or row i (pos 0), slice_get-get_or row i (pos 0) w)
 
-pub static-written : (s : State) (objects new : List (List ℤ)) (active : List Activation) (object i : ℕ) (v : ℤ) (b : Bool)
+pub static-written : (s : State) (objects new : List (List ℤ)) (active : List Activation) (object i : ℕ) (v : ℤ)
+    (b : Bool)
     → SetsElement objects new object i v b
-    → Written (over s (record { objects = objects; active = active })) (over s (record { objects = new; active = active }))
+    → Written (over s (record { objects = objects; active = active })) (over s
+    (record { objects = new; active = active }))
     (outcome.Static object) (pos i) v b
 static-written s objects new active object i v true h =
     let found = there (slice_index_or objects object []) i h.0 in
@@ -244,7 +250,8 @@ written-stored s t array index n value false is h = rw (h.0, h.1) refl
 
 -- ---- all elements of an array of the youngest call
 
-pub own-changed : (f : List ℤ → List ℤ) (calls : List Call) (values : List Held) (arrays : List (List ℤ)) (count k at : ℕ)
+pub own-changed : (f : List ℤ → List ℤ) (calls : List Call) (values : List Held) (arrays : List (List ℤ))
+    (count k at : ℕ)
     → AreCalls calls (length calls) count (length arrays) → frame_array calls k (length calls) ≡ Some at
     → active_in calls (length calls) values (slice_set arrays at (f (slice_index_or arrays at [])))
     ≡ with_array_in k (length (active_in calls (length calls) values arrays))
@@ -256,7 +263,8 @@ own-changed f calls values arrays count k at h is =
     ∙ ap (λ row. with_array_in k (length calls) (f row) (active_in calls (length calls) values arrays))
     (sym (frame-read calls values arrays count k (length calls) at h is)))
 
-pub own-unchanged : (f : List ℤ → List ℤ) (calls : List Call) (values : List Held) (arrays : List (List ℤ)) (count k : ℕ)
+pub own-unchanged : (f : List ℤ → List ℤ) (calls : List Call) (values : List Held) (arrays : List (List ℤ))
+    (count k : ℕ)
     → AreCalls calls (length calls) count (length arrays) → frame_array calls k (length calls) ≡ None
     → active_in calls (length calls) values arrays
     ≡ with_array_in k (length (active_in calls (length calls) values arrays))

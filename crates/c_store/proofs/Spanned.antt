@@ -1,8 +1,10 @@
 -- Arrays that stand one behind the other: where they are, and what stays when one changes or more come.
-use Rattle.std.proofs.Common.{◌≡◌, ◌∙◌, ℕ, zero, suc, ◌+◌, ◌<◌, ◌≤◌, ℤ, List, [], ◌∷◌, ◌++◌, length, map, take, drop, refl, sym, ap, ap₂}
+use Rattle.std.proofs.Common.{◌≡◌, ◌∙◌, ℕ, zero, suc, ◌+◌, ◌<◌, ◌≤◌, ℤ, List, [], ◌∷◌, ◌++◌, length, map, take, drop}
+use Rattle.std.proofs.Common.{refl, sym, ap, ap₂}
 use Rattle.std.proofs.Common.{arith, length-append, slice_set}
 use Rattle.std.specs.Prelude.{slice_index_or}
-use Rattle.std.proofs.lemmas.List.{take-append-le, drop-append-le, drop_at, take_all, take-set-le, drop-set-lt, drop-set-add}
+use Rattle.std.proofs.lemmas.List.{take-append-le, drop-append-le, drop_at, take_all, take-set-le, drop-set-lt}
+use Rattle.std.proofs.lemmas.List.{drop-set-add}
 use Rattle.std.proofs.lemmas.List.{length-take-le, length-drop, drop-drop, map-append}
 use Rattle.std.specs.Prelude.{◌-◌}
 use Rattle.c_store.specs.declared.arrays.Span.{Span}
@@ -233,7 +235,8 @@ text-none [] = refl
 text-none (x ∷ xs) = ap (λ rest. pos 0 ∷ rest) (text-none xs)
 
 -- one more element of a text is written
-pub text-step : (ys xs text : List ℤ) (start count i : ℕ) → length ys ≡ length xs → start + count ≤ length xs → i < count
+pub text-step : (ys xs text : List ℤ) (start count i : ℕ) → length ys ≡ length xs → start + count ≤ length xs
+    → i < count
     → take i (drop start ys) ≡ take i (text_then_zeros (take count (drop start xs)) text)
     → take (i + 1) (drop start (slice_set ys (start + i) (slice_index_or text i (pos 0))))
     ≡ take (i + 1) (text_then_zeros (take count (drop start xs)) text)
@@ -255,7 +258,12 @@ pub text-whole : (ys xs text : List ℤ) (start count : ℕ) → start + count �
     → take count (drop start ys) ≡ take count (text_then_zeros (take count (drop start xs)) text)
     → take count (drop start ys) ≡ text_then_zeros (take count (drop start xs)) text
 text-whole ys xs text start count room so =
-    so ∙ take_all count _ (omega (arith, text-length (take count (drop start xs)) text, length-take-le count (drop start xs) (omega (arith, room, length-drop start xs))))
+    so ∙ take_all count _ (omega (
+      arith,
+      text-length (take count (drop start xs)) text,
+      length-take-le count
+          (drop start xs) (omega (arith, room, length-drop start xs)),
+    ))
 
 -- ---- the calls, over what a contract sees
 
@@ -289,7 +297,11 @@ pub push-seen : (xs ys more : List ℤ) (spans new : List Span) (now : List (Lis
     → new ≡ spans ++ record { start = length xs; count = length more } ∷ []
     → AreSpans 0 new (length ys) × (map (elements_of ys) new ≡ now ++ more ∷ [])
 push-seen xs ys more spans new now seen h is are =
-    rw (is, are, ← seen, length-append xs more) (spans-push 0 (length xs) (length more) spans h, rows-push xs more spans h)
+    rw (is, are, ← seen, length-append xs more) (
+      spans-push 0 (length xs)
+          (length more) spans h,
+      rows-push xs more spans h,
+    )
 
 pub truncate-seen : (xs ys : List ℤ) (spans new : List Span) (now : List (List ℤ)) (k : ℕ) (s : Span)
     → map (elements_of xs) spans ≡ now → AreSpans 0 spans (length xs) → k < length spans → s ≡ slice_index_or spans k s

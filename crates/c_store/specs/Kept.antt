@@ -5,7 +5,8 @@ use Rattle.pcc_base.specs.Outcome.{ArrayName, Trapped}
 use Rattle.pcc_base.specs.declared.run.Trap.TheVariants.{Check}
 use Rattle.c_tree.specs.Program.{Function}
 use Rattle.c_tree.specs.declared.types.ValueType.{ValueType}
-use Rattle.c_tree.specs.Store.{Held, Activation, State, Evaluated, Gives, Ends, zero_of, in_type, array_named, with_array, element_at, with_element}
+use Rattle.c_tree.specs.Store.{Held, Activation, State, Evaluated, Gives, Ends, zero_of, in_type, array_named}
+use Rattle.c_tree.specs.Store.{with_array, element_at, with_element}
 use Rattle.c_tree.specs.Evaluation.{first_activation, older}
 use Rattle.c_store.specs.declared.calls.Call.{Call}
 

@@ -1,5 +1,6 @@
 -- Arrays that stand one behind the other in one list of elements.
-use Rattle.std.specs.Prelude.{ℕ, ◌≡◌, ◌+◌, ◌<◌, ◌≤◌, ℤ, List, [], ◌∷◌, length, take, drop, slice_set, slice_index_or, Bool, true, false}
+use Rattle.std.specs.Prelude.{ℕ, ◌≡◌, ◌+◌, ◌<◌, ◌≤◌, ℤ, List, [], ◌∷◌, length, take, drop, slice_set, slice_index_or}
+use Rattle.std.specs.Prelude.{Bool, true, false}
 use Rattle.c_store.specs.declared.arrays.Span.{Span}
 
 -- the elements of the array that stands there

@@ -1,6 +1,7 @@
 //! The active calls: where the locals and arrays of each begin (C99 6.2.4).
 
-ghost use Rattle.std.specs.Prelude.{◌≡◌, ◌≤◌, ◌+◌, ◌++◌, length, map, slice_index_or, slice_get, slice_set, pos, take, [], ◌∷◌, MatchResult};
+ghost use Rattle.std.specs.Prelude.{◌≡◌, ◌≤◌, ◌+◌, ◌++◌, length, map, slice_index_or, slice_get, slice_set, pos};
+ghost use Rattle.std.specs.Prelude.{take, [], ◌∷◌, MatchResult};
 ghost use Rattle.c_store.specs.Values.{held_of};
 ghost use Rattle.c_tree.specs.Erased.{local_of, array_of};
 ghost use Rattle.c_store.specs.Kept.{first_value, frame_array, index_of};

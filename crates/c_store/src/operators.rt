@@ -2,7 +2,8 @@
 
 ghost use Rattle.std.specs.Prelude.{◌≡◌};
 ghost use Rattle.c_store.specs.Values.{computed_of, held_of, name_of};
-ghost use Rattle.c_tree.specs.Operators.{Computes, binary_value, in_one_array, number, numbers_value, pointer_number_value};
+ghost use Rattle.c_tree.specs.Operators.{Computes, binary_value, in_one_array, number, numbers_value};
+ghost use Rattle.c_tree.specs.Operators.{pointer_number_value};
 ghost use Rattle.c_tree.specs.Operators.{pointers_value, same_array, unary_value};
 
 use crate::value::{ArrayName, Value};

@@ -4,8 +4,10 @@ ghost use Rattle.std.specs.Prelude.{◌≡◌, ◌<◌, List, ℕ, ◌∷◌, le
 ghost use Rattle.c_store.specs.Kept.{over, entered, returned, Written, stored};
 ghost use Rattle.c_store.specs.Values.{name_of, held_of, found_of};
 ghost use Rattle.c_tree.specs.Erased.{function_of, program_of};
-ghost use Rattle.c_tree.specs.Evaluation.{element_read, element_written, first_state, load, store, most_active, own_array, text_then_zeros, zeroed};
-ghost use Rattle.c_tree.specs.Store.{State, array_named, array_of, element_at, held, with_array, with_local, zero_of, or_check};
+ghost use Rattle.c_tree.specs.Evaluation.{AtIndex, element_read, element_written, first_state, load, store};
+ghost use Rattle.c_tree.specs.Evaluation.{most_active, own_array, text_then_zeros, zeroed};
+ghost use Rattle.c_tree.specs.Store.{State, array_named, array_of, element_at, held, with_array, with_local, zero_of};
+ghost use Rattle.c_tree.specs.Store.{or_check};
 ghost use Rattle.pcc_base.specs.Outcome as outcome;
 
 use crate::arrays::Arrays;
@@ -79,8 +81,8 @@ impl Store {
         self.calls.len() >= MOST_ACTIVE
     }
 
-    /// A call of a function begins (C99 6.5.2.2): its parameters have the arguments in their types, its other locals are
-    /// 0 or null, and the elements of its arrays are 0. Where there is no memory for it, nothing is changed.
+    /// A call of a function begins (C99 6.5.2.2): its parameters have the arguments in their types, its other locals
+    /// are 0 or null, and the elements of its arrays are 0. Where there is no memory for it, nothing is changed.
     pub fn enter(&mut self, function: &Function, arguments: &[Value]) -> Result<(), NoMemory>
         requires { length self.old.active < most_active }
         ensures { MatchResult result
@@ -194,7 +196,8 @@ impl Store {
         }
     }
 
-    /// Gives an element of a static object another value. `false`, with nothing changed, where there is no such element.
+    /// Gives an element of a static object another value. `false`, with nothing changed, where there is no such
+    /// element.
     fn set_object_element(&mut self, object: u32, index: usize, value: i32) -> bool
         ensures { (s : State) → Written (over s self.old) (over s self.new) (outcome.Static object)
             (pos index) value result }
@@ -225,16 +228,6 @@ impl Store {
             Some(index) => self.set_element_at(array, index, value),
             None => false,
         }
-    }
-
-    /// Gives an element of an array of the youngest call another value, as what initialises the array does (C99
-    /// 6.7.8p17). `false`, with nothing changed, where there is no such element.
-    pub fn set_own_element(&mut self, array: u32, index: usize, value: i32) -> bool
-        ensures { (s : State) → Written (over s self.old) (over s self.new) (own_array (over s self.old) array)
-            (pos index) value result }
-    {
-        let depth = self.depth();
-        self.set_frame_element(array, depth, index, value)
     }
 
     /// The element of an array at an index as a value; none where there is no such element, at which the program traps.
@@ -271,8 +264,17 @@ impl Store {
         self.set_element(array, index, value.number())
     }
 
-    /// Gives a place another value (C99 6.5.16). `false`, with nothing changed, where it is an element that isn't there,
-    /// at which the program traps. The value is in the type of the place.
+    /// Gives the element of an array at a place another value, as what initialises the array does (C99 6.7.8p17).
+    /// `false`, with nothing changed, where there is no such element, at which the program traps.
+    pub fn store_at(&mut self, array: ArrayName, index: usize, value: Value) -> bool
+        ensures { (s : State) → store (AtIndex (name_of array) (pos index)) (held_of value) (over s self.old)
+            ≡ stored result (held_of value) (over s self.new) }
+    {
+        self.set_element_at(array, index, value.number())
+    }
+
+    /// Gives a place another value (C99 6.5.16). `false`, with nothing changed, where it is an element that isn't
+    /// there, at which the program traps. The value is in the type of the place.
     pub fn store(&mut self, place: Place, value: Value) -> bool
         ensures { (s : State) → store (found_of place) (held_of value) (over s self.old)
             ≡ stored result (held_of value) (over s self.new) }

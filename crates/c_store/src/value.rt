@@ -2,7 +2,7 @@
 
 ghost use Rattle.std.specs.Prelude.{◌≡◌};
 ghost use Rattle.c_store.specs.Values.{held_of};
-ghost use Rattle.c_tree.specs.Evaluation.{address_of, number_in, target_of};
+ghost use Rattle.c_tree.specs.Evaluation.{address_of, low_byte, number_in, target_of, truth_value};
 ghost use Rattle.c_tree.specs.Operators.{is_true};
 ghost use Rattle.c_tree.specs.Store.{in_type, zero_of};
 ghost use Rattle.c_store.specs.Values.{found_of};
@@ -77,6 +77,20 @@ impl Value {
             Value::Number(n) => n,
             Value::Pointer { .. } => 0,
         }
+    }
+
+    /// The low byte of the number that is held, which `putchar` writes and `exit` ends with (C99 7.19.7.3, 7.20.4.3).
+    pub fn low_byte(self) -> u8
+        ensures { result ≡ low_byte (held_of self) }
+    {
+        (self.number().cast_unsigned() % 256) as u8
+    }
+
+    /// What `&&` and `||` give: 1 or 0 (C99 6.5.13 and 6.5.14).
+    pub fn truth(holds: bool) -> Value
+        ensures { held_of result ≡ truth_value holds }
+    {
+        Value::Number(i32::from(holds))
     }
 
     /// Whether the value counts as true: a number that isn't 0, or a pointer that isn't null (C99 6.5.3.3, 6.8.4.1).

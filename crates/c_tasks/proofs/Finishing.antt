@@ -1,9 +1,11 @@
 -- What comes after evaluations that are made of others.
-use Rattle.std.proofs.Common.{◌≡◌, ℕ, zero, suc, ◌≤◌, Bool, true, false, refl}
-use Rattle.std.specs.Prelude.{if◌then◌else◌}
-use Rattle.pcc_base.specs.Outcome.{Outcome}
+use Rattle.std.proofs.Common.{◌≡◌, ℕ, zero, suc, ◌≤◌, Bool, true, false, refl, ap}
+use Rattle.std.specs.Prelude.{length, if◌then◌else◌}
+use Rattle.pcc_base.specs.Outcome.{InFrame, Outcome}
+use Rattle.c_tree.specs.Evaluation.{own_array}
 use Rattle.c_tree.specs.Store.{State, Evaluated, Gives, Ends, and_then, turn_with, take_turn}
 use Rattle.c_bounds.specs.Bounds.{Keeps}
+use Rattle.c_bounds.proofs.Keeping.{same-depth}
 use Rattle.c_tasks.specs.Tasks.{finish}
 
 -- one evaluation after another
@@ -46,3 +48,15 @@ finish-turn {A} {B} s go go' last last' same = by_turns s.turns refl
     by_turns : (n : ℕ) → s.turns ≡ n → finish (turn_with n s go) last ≡ finish (turn_with n s go') last'
     by_turns zero e = refl
     by_turns (suc n) e = same n e
+
+-- ---- arrays of the youngest call
+
+-- where as many calls are active, an array of the youngest one has the same name
+pub same-array : (k : ℕ) (t s : State) → length t.active ≡ length s.active → own_array t k ≡ own_array s k
+same-array k t s e = ap (λ (depth : ℕ). InFrame k depth) e
+
+-- what comes after is the same from every state with as many active calls, as an evaluation comes to
+pub finish-depth : {A : Type 0} (s : State) (r : Evaluated A) (go go' : A → State → Outcome) → Keeps 0 s r
+    → ((v : A) (t : State) → length t.active ≡ length s.active → go v t ≡ go' v t) → finish r go ≡ finish r go'
+finish-depth s (Gives v t) go go' keeps same = same v t (same-depth 0 s t v keeps refl)
+finish-depth s (Ends end t) go go' keeps same = refl

@@ -7,7 +7,8 @@ use Rattle.pcc_base.specs.Outcome.{End, Goes, Listing, Outcome}
 use Rattle.c_tree.specs.declared.types.ValueType.TheVariants.{Integer}
 use Rattle.c_tree.specs.Evaluation.{AtIndex, Found, Left, Falls, Breaks, Continues, Returns, after_switch}
 use Rattle.c_tree.specs.Evaluation.{computed, declare, declare_all, evaluate, evaluate_all}
-use Rattle.c_tree.specs.Evaluation.{fill, load, locate, none_or_from, older, outcome_at, put, store, switched}
+use Rattle.c_tree.specs.Evaluation.{fill, load, locate, none_or_from, older}
+use Rattle.c_tree.specs.Evaluation.{own_array, outcome_at, put, store, switched}
 use Rattle.c_tree.specs.Evaluation.{truth_value, type_at, updated}
 use Rattle.c_tree.specs.Operators.{binary_value, is_true, step_op}
 use Rattle.c_tree.specs.Program.{Expression, Statement, Statements, Function, Program}
@@ -184,14 +185,14 @@ module _ (p : Program) (l : Listing) where
   goes-on (Initialises local of ∷ ts) f Ahead vs fs s =
       from-after s (with_local local (in_type of (top vs)) s) _ (local-follows local (in_type of (top vs)) s).after
       (goes-on ts f Ahead _ _ _)
-  goes-on (Fills array element i es ∷ ts) f Ahead vs fs s =
-      finish-from s (fill (calls_of p l) array element i es s) _ ((trees-keep p l 0).fills array element i es s)
-      (λ done t. goes-on ts f Ahead _ _ t)
-  goes-on (FillsElement array element i es ∷ ts) f Ahead vs fs s =
-      finish-from s (store (AtIndex array (pos i)) (in_type (Integer element) (top vs)) s) _
-      (store-keeps 0 (AtIndex array (pos i)) (in_type (Integer element) (top vs)) s) (λ stored t.
-      finish-from t (fill (calls_of p l) array element (suc i) es t) _
-      ((trees-keep p l 0).fills array element (suc i) es t) (λ done u. goes-on ts f Ahead _ _ u))
+  goes-on (Fills k element i es ∷ ts) f Ahead vs fs s =
+      finish-from s (fill (calls_of p l) (own_array s k) element i es s) _
+      ((trees-keep p l 0).fills (own_array s k) element i es s) (λ done t. goes-on ts f Ahead _ _ t)
+  goes-on (FillsElement k element i es ∷ ts) f Ahead vs fs s =
+      finish-from s (store (AtIndex (own_array s k) (pos i)) (in_type (Integer element) (top vs)) s) _
+      (store-keeps 0 (AtIndex (own_array s k) (pos i)) (in_type (Integer element) (top vs)) s) (λ stored t.
+      finish-from t (fill (calls_of p l) (own_array t k) element (suc i) es t) _
+      ((trees-keep p l 0).fills (own_array t k) element (suc i) es t) (λ done u. goes-on ts f Ahead (below vs) fs u))
   goes-on (Executes x ∷ ts) f Ahead vs fs s = finish-from s (executed p l f x s) _ (executed-keeps p l f x s)
       (behind-from _ vs (λ way ws t. goes-on ts f way ws fs t))
   goes-on (Follows xs ∷ ts) f Ahead vs fs s = finish-from s (executed_from p l f xs 0 s) _ (from-keeps p l f xs 0 s)

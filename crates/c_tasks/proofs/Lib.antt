@@ -8,3 +8,4 @@ pub mod Weighing
 pub mod Serving
 pub mod Starting
 pub mod Going
+pub mod Corollaries

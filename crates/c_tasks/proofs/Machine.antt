@@ -2,16 +2,18 @@
 use Rattle.std.proofs.Common.{◌≡◌, ℕ, zero, suc, Bool, true, false, List, [], ◌∷◌, Option, Some, None, refl, sym, ap}
 use Rattle.std.proofs.Common.{◌∙◌, ◌<◌, arith}
 use Rattle.std.specs.Prelude.{if◌then◌else◌, pos}
-use Rattle.pcc_base.specs.Outcome.{Listing, Outcome}
+use Rattle.pcc_base.specs.Outcome.{ArrayName, Listing, Outcome}
+use Rattle.c_tree.specs.declared.types.IntegerType.{IntegerType}
 use Rattle.c_tree.specs.declared.types.ValueType.TheVariants.{Integer}
 use Rattle.c_tree.specs.Evaluation.{AtIndex, Found, Left, Falls, Breaks, Continues, Returns, after_body, after_switch}
 use Rattle.c_tree.specs.Evaluation.{computed, declare, evaluate, evaluated_if_any, execute, execute_from, load}
 use Rattle.c_tree.specs.Evaluation.{none_or_from, store, switched, tested, tested_if_any, truth_value, updated}
-use Rattle.c_tree.specs.Evaluation.{after_statement, type_at, Setting}
+use Rattle.c_tree.specs.Evaluation.{after_statement, fill, own_array, type_at, Setting}
 use Rattle.c_tree.specs.Operators.{binary_value, is_true, step_op}
 use Rattle.c_tree.specs.Program.{Expression, Statement, Statements, Done, Next, Function, Program}
 use Rattle.c_tree.specs.Store.{Held, HoldsNumber, in_type, State, Evaluated, Gives, and_then, take_turn}
 use Rattle.c_bounds.proofs.Agreeing.{loops_unfold}
+use Rattle.c_bounds.proofs.Keeping.{store-keeps}
 use Rattle.c_tasks.specs.Tasks.{Task, Evaluates, Locates, Points, Loads, LoadsOld, Addresses, AppliesUnary}
 use Rattle.c_tasks.specs.Tasks.{AppliesBinary, AndThen, OrElse, Truth, Chooses, Converts, Stores, Updates, Steps, Drops}
 use Rattle.c_tasks.specs.Tasks.{Passes, Puts, Exits, Declares, DeclaresAll, Initialises, Fills, FillsElement, Executes}
@@ -20,11 +22,12 @@ use Rattle.c_tasks.specs.Tasks.{SwitchBody, ReturnsValue, ReturnsTo, Way, Ahead,
 use Rattle.c_tasks.specs.Tasks.{top_place, below, calls_of, do_looped, do_looped_again, do_looped_if, executed}
 use Rattle.c_tasks.specs.Tasks.{executed_from, finish, looped, looped_again, looped_if, rest, setting_of}
 use Rattle.c_tasks.specs.Steps.{body_if, do_if, from_label, go_on, loop_again, rest_after, rest_of}
-use Rattle.c_tasks.specs.Steps.{statements_from, step, turn_of}
+use Rattle.c_tasks.specs.Steps.{statements_from, step, task_step, turn_of}
 use Rattle.c_tasks.specs.Laws.{Keeps, StepsKeep, TasksStep}
 use Rattle.c_tasks.proofs.Calling.{calls_step}
 use Rattle.c_tasks.proofs.Expressions.{expressions_step, places_step}
-use Rattle.c_tasks.proofs.Finishing.{finish-same, finish-then, finish-turn, finish-under}
+use Rattle.c_tasks.proofs.Finishing.{finish-depth, finish-same, finish-then, finish-turn, finish-under}
+use Rattle.c_tasks.proofs.Finishing.{same-array}
 use Rattle.c_tasks.proofs.Settling.{do-body-settles, loop-parts, statements-settle, test-settles, trees-keep}
 use Rattle.c_tasks.proofs.Statements.{items_step, left_to, statements_step}
 
@@ -199,6 +202,25 @@ module _ (p : Program) (l : Listing) (f : Function) (ts : List Task) where
         ∙ finish-then (executed_from p l f (statements_from body place) 0 s) _ _
         ∙ finish-same (executed_from p l f (statements_from body place) 0 s) _ _ switch-body-kept
 
+-- an element of an array is evaluated, and then stored to: as many calls are active as before, so that the array is the
+-- same
+fill-kept : (p : Program) (l : Listing) (f : Function) (ts : List Task) (vs : List Held) (fs : List Found) (k : ℕ)
+    (element : IntegerType) (i : ℕ) (e : Expression) (es : List Expression) (s : State)
+    → Keeps p l f Ahead (Fills k element i (e ∷ es) ∷ ts) vs fs s
+    (task_step p l f (Fills k element i (e ∷ es)) ts vs fs s)
+unfolding rest
+fill-kept p l f ts vs fs k element i e es s =
+    finish-then (evaluate (calls_of p l) e s) _ _
+    ∙ finish-depth s (evaluate (calls_of p l) e s) _ _ ((trees-keep p l 0).expressions e s) (λ v t d.
+    finish-then (store (AtIndex (own_array s k) (pos i)) (in_type (Integer element) v) t) _ _
+    ∙ finish-depth t (store (AtIndex (own_array s k) (pos i)) (in_type (Integer element) v) t) _ _
+    (store-keeps 0 (AtIndex (own_array s k) (pos i)) (in_type (Integer element) v) t) (λ stored u d'.
+    ap (λ (a : ArrayName). finish (fill (calls_of p l) a element (suc i) es u) (λ done w. rest p l f Ahead ts vs fs w))
+    (sym (same-array k u s (d' ∙ d))))
+    ∙ ap (λ (a : ArrayName). finish (store (AtIndex a (pos i)) (in_type (Integer element) v) t) (λ stored u.
+    finish (fill (calls_of p l) (own_array u k) element (suc i) es u) (λ done w. rest p l f Ahead ts vs fs w)))
+    (sym (same-array k t s d)))
+
 -- a task is done
 pub tasks_step : TasksStep
 unfolding rest
@@ -231,12 +253,9 @@ tasks_step p l f (DeclaresAll (item ∷ items)) ts vs fs s =
     finish-then (declare (calls_of p l) l (type_at f) item s) _ _
 tasks_step p l f (Initialises local of) ts vs fs s = refl
 tasks_step p l f (Fills array element i []) ts vs fs s = refl
-tasks_step p l f (Fills array element i (e ∷ es)) ts vs fs s =
-    finish-then (evaluate (calls_of p l) e s) _ _
-    ∙ finish-same (evaluate (calls_of p l) e s) _ _ (λ v t.
-    finish-then (store (AtIndex array (pos i)) (in_type (Integer element) v) t) _ _)
-tasks_step p l f (FillsElement array element i es) ts vs fs s =
-    sym (finish-then (store (AtIndex array (pos i)) (in_type (Integer element) (top vs)) s) _ _)
+tasks_step p l f (Fills k element i (e ∷ es)) ts vs fs s = fill-kept p l f ts vs fs k element i e es s
+tasks_step p l f (FillsElement k element i es) ts vs fs s =
+    sym (finish-then (store (AtIndex (own_array s k) (pos i)) (in_type (Integer element) (top vs)) s) _ _)
 tasks_step p l f (Executes x) ts vs fs s = statements_step p l f x ts vs fs s
 tasks_step p l f (Follows Done) ts vs fs s = refl
 tasks_step p l f (Follows (Next x xs)) ts vs fs s = finish-then (executed p l f x s) _ _

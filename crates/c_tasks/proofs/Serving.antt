@@ -5,7 +5,8 @@ use Rattle.std.specs.Prelude.{pos, if◌then◌else◌, nat_le, slice_get}
 use Rattle.pcc_base.specs.Outcome.{Listing, Trapped}
 use Rattle.pcc_base.specs.declared.run.Trap.TheVariants.{Check}
 use Rattle.c_tree.specs.declared.types.ValueType.TheVariants.{Integer}
-use Rattle.c_tree.specs.Evaluation.{Found, AtIndex, load, store, computed, get_from, updated, most_active, switched}
+use Rattle.c_tree.specs.Evaluation.{Found, AtIndex, load, store, computed}
+use Rattle.c_tree.specs.Evaluation.{get_from, own_array, updated, most_active, switched}
 use Rattle.c_tree.specs.Operators.{binary_value, is_true, step_op}
 use Rattle.c_tree.specs.Program.{Expression, Constant, Start, Read, Address, Unary, Binary, And, Or, Conditional, Cast}
 use Rattle.c_tree.specs.Program.{Assign, Update, Step, Comma, Call, Putchar, Getchar, Exit, Place, LocalPlace}
@@ -285,7 +286,7 @@ task-fits p l f (Initialises local of) ts vs fs s h = with-one vs (λ n. StacksF
 task-fits p l f (Fills array element i []) ts vs fs s h = h
 task-fits p l f (Fills array element i (e ∷ es)) ts vs fs s h = h
 task-fits p l f (FillsElement array element i es) ts vs fs s h =
-    gives-fit (store (AtIndex array (pos i)) (in_type (Integer element) (top vs)) s) _
+    gives-fit (store (AtIndex (own_array s array) (pos i)) (in_type (Integer element) (top vs)) s) _
     (λ v t. with-one vs (λ n. StacksFit Ahead ts n (length fs)) h)
 task-fits p l f (Executes x) ts vs fs s h = statement-fits p l f ts x vs fs s h
 task-fits p l f (Follows Done) ts vs fs s h = h.0

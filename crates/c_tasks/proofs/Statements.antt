@@ -1,21 +1,25 @@
 -- Declared items and statements are taken apart.
-use Rattle.std.proofs.Common.{◌≡◌, ℕ, suc, ◌≤◌, List, ◌∷◌, Option, Some, None, refl, ap}
+use Rattle.std.proofs.Common.{◌≡◌, ℕ, suc, ◌≤◌, List, ◌∷◌, Option, Some, None, refl, sym, ap, ℤ}
 use Rattle.std.proofs.Common.{arith, ◌∙◌}
-use Rattle.pcc_base.specs.Outcome.{Listing, Outcome}
+use Rattle.pcc_base.specs.Outcome.{ArrayName, Listing, Outcome, Static}
 use Rattle.c_tree.specs.Evaluation.{Found, Left, after_switch, declare}
-use Rattle.c_tree.specs.Evaluation.{declare_all, evaluate, evaluated_if_any, execute}
+use Rattle.c_tree.specs.Evaluation.{declare_all, fill, own_array, text_then_zeros}
+use Rattle.c_tree.specs.Evaluation.{zeroed, evaluate, evaluated_if_any, execute}
 use Rattle.c_tree.specs.Evaluation.{loop, run_first, switched, tested, tested_if_any, type_at}
 use Rattle.c_tree.specs.Operators.{is_true}
 use Rattle.c_tree.specs.Program.{Expression, Elements, Text, Scalar, Array, First, Nothing}
 use Rattle.c_tree.specs.Program.{Evaluated as EvaluatedFirst, Declared, Statement, Declare, Empty, Evaluate, Block, If}
 use Rattle.c_tree.specs.Program.{While, Do, For, Switch, Break, Continue, Return, Function}
 use Rattle.c_tree.specs.Program.{Program}
-use Rattle.c_tree.specs.Store.{Held, State, visited, with_local, zero_of, Evaluated, and_then}
+use Rattle.c_tree.specs.Store.{Held, State, array_named, visited, with_array, with_local, zero_of, Evaluated, and_then}
+use Rattle.c_bounds.proofs.After.{Follows, array-follows, follows-then, length-zeroed, visit-follows}
+use Rattle.c_bounds.proofs.Keeping.{gives-keeps, same-depth}
 use Rattle.c_tasks.specs.Tasks.{Task, Declares, Executes, Loops, Ahead, behind, calls_of}
 use Rattle.c_tasks.specs.Tasks.{finish, rest, setting_of}
 use Rattle.c_tasks.specs.Steps.{before_loop, go_on, item_step, rest_of, statement_step}
 use Rattle.c_tasks.specs.Laws.{ItemsStep, Keeps, StatementsStep}
 use Rattle.c_tasks.proofs.Finishing.{either-same, finish-then, finish-under}
+use Rattle.c_tasks.proofs.Finishing.{same-array}
 use Rattle.c_tasks.proofs.Settling.{from-settles, loop-settles, statement-settles, trees-keep}
 
 -- a local has its first value
@@ -28,12 +32,29 @@ local-kept p l f number local None ts vs fs s = refl
 local-kept p l f number local (Some e) ts vs fs s = finish-then (evaluate (calls_of p l) e
     (with_local local (zero_of (type_at f local)) (visited l number s))) _ _
 
+-- an array that is made zero keeps its name
+zeroed-same : (l : Listing) (number k : ℕ) (s : State) → own_array
+    (with_array (own_array s k) (zeroed (array_named s (own_array s k))) (visited l number s)) k ≡ own_array s k
+zeroed-same l number k s =
+    let elements : List ℤ = array_named s (own_array s k) in
+    let t : State = with_array (own_array s k) (zeroed elements) (visited l number s) in
+    let follows : Follows s t = follows-then s (visited l number s) t (visit-follows l number s)
+    (array-follows (own_array s k) (zeroed elements) (visited l number s) (length-zeroed elements)) in
+    same-array k t s (same-depth 0 s t k (gives-keeps 0 s t k follows) refl)
+
 -- an item is declared
 pub items_step : ItemsStep
 unfolding rest
 items_step p l f (Scalar number local value) ts vs fs s = local-kept p l f number local value ts vs fs s
-items_step p l f (Array number k element (Elements es)) ts vs fs s = refl
-items_step p l f (Array number k element (Text object)) ts vs fs s = refl
+items_step p l f (Array number k element (Elements es)) ts vs fs s =
+    let t : State = with_array (own_array s k) (zeroed (array_named s (own_array s k))) (visited l number s) in
+    ap (λ (a : ArrayName). finish (fill (calls_of p l) a element 0 es t) (λ done u. rest p l f Ahead ts vs fs u))
+    (sym (zeroed-same l number k s))
+items_step p l f (Array number k element (Text object)) ts vs fs s =
+    let t : State = with_array (own_array s k) (zeroed (array_named s (own_array s k))) (visited l number s) in
+    ap (λ (a : ArrayName). rest p l f Ahead ts vs fs
+    (with_array a (text_then_zeros (array_named t a) (array_named t (Static object))) t))
+    (sym (zeroed-same l number k s))
 
 -- how a statement is left, behind the tasks that stand behind it
 abbrev pub left_to : Program → Listing → Function → List Task → List Held → List Found → Left → State → Outcome

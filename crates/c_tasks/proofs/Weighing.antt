@@ -8,7 +8,7 @@ use Rattle.c_tree.specs.declared.expression.BinaryOp.{BinaryOp}
 use Rattle.c_tree.specs.declared.types.ValueType.{ValueType}
 use Rattle.c_tree.specs.declared.types.ValueType.TheVariants.{Integer}
 use Rattle.c_tree.specs.Evaluation.{Found, InLocal, InObject, AtIndex, load, store, computed, element_read}
-use Rattle.c_tree.specs.Evaluation.{element_written, get_from, updated, most_active, switched}
+use Rattle.c_tree.specs.Evaluation.{element_written, get_from, own_array, updated, most_active, switched}
 use Rattle.c_tree.specs.Operators.{Computed, Computes, Traps, binary_value, is_true, step_op}
 use Rattle.c_tree.specs.Program.{Expression, Constant, Start, Read, Address, Unary, Binary, And, Or, Conditional, Cast}
 use Rattle.c_tree.specs.Program.{Assign, Update, Step, Comma, Call, Putchar, Getchar, Exit, Place, LocalPlace}
@@ -270,8 +270,8 @@ task-moves p l f (Initialises local of) ts vs fs s = (refl, omega arith)
 task-moves p l f (Fills array element i []) ts vs fs s = (refl, omega arith)
 task-moves p l f (Fills array element i (e ∷ es)) ts vs fs s = (refl, omega arith)
 task-moves p l f (FillsElement array element i es) ts vs fs s =
-    gives-less _ s (store (AtIndex array (pos i)) (in_type (Integer element) (top vs)) s) _
-    (store-still (AtIndex array (pos i)) (in_type (Integer element) (top vs)) s) (λ v. omega arith)
+    gives-less _ s (store (AtIndex (own_array s array) (pos i)) (in_type (Integer element) (top vs)) s) _
+    (store-still (AtIndex (own_array s array) (pos i)) (in_type (Integer element) (top vs)) s) (λ v. omega arith)
 task-moves p l f (Executes x) ts vs fs s = statement-moves l f x ts vs fs s
 task-moves p l f (Follows Done) ts vs fs s = (refl, omega arith)
 task-moves p l f (Follows (Next x xs)) ts vs fs s = (refl, omega arith)

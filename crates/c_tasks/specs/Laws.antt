@@ -1,9 +1,9 @@
 -- The laws of the machine of tasks.
-use Rattle.std.specs.Prelude.{◌≡◌, ◌≤◌, ◌-◌, ℕ, List, [], ◌∷◌, length, reverse, take, drop}
-use Rattle.pcc_base.specs.Outcome.{Ended, Goes, Listing}
+use Rattle.std.specs.Prelude.{◌≡◌, ◌<◌, ◌≤◌, suc, true, false, ◌-◌, ℕ, List, [], ◌∷◌, length, reverse, take, drop}
+use Rattle.pcc_base.specs.Outcome.{End, Ended, Goes, Listing}
 use Rattle.c_tree.specs.Evaluation.{Found, first_state, low_byte, outcome_at, source_outcome}
 use Rattle.c_tree.specs.Program.{Arguments, Expression, Item, Place, Statement, Function, Program}
-use Rattle.c_tree.specs.Store.{Held, State}
+use Rattle.c_tree.specs.Store.{Held, State, Gives, Ends}
 use Rattle.c_bounds.specs.Laws.{GoesOn}
 use Rattle.c_tasks.specs.Tasks.{Task, Declares, Evaluates, Executes, Locates, Passes, Way, Ahead, below_by, put_before}
 use Rattle.c_tasks.specs.Tasks.{rest, top}
@@ -103,3 +103,24 @@ abbrev pub ArgumentsAreLast : Type 0
 ArgumentsAreLast = (values : List Held) (count : ℕ) → count ≤ length values
     → (put_before count (reverse values) [] ≡ drop (length values - count) values)
     × (below_by count (reverse values) ≡ reverse (take (length values - count) values))
+
+-- ---- what is known of a step, by what it comes to
+
+-- A step that goes on keeps the outcome, and stacks that fit. It takes a turn, or the weight falls and it takes none.
+pub record WentOn (p : Program) (l : Listing) (f : Function) (way : Way) (ts : List Task) (vs : List Held)
+    (fs : List Found) (s : State) (c : Configuration) (t : State) : Type 0 where
+  pub same : rest p l f way ts vs fs s ≡ rest_of p l c t
+  pub fits : StacksFit way ts (length vs) (length fs) → StacksFit c.way c.tasks (length c.values) (length c.places)
+  pub falls : takes_turn p way ts ≡ false → (t.turns ≡ s.turns) × (weights c.tasks < weights ts)
+  pub turn : takes_turn p way ts ≡ true → suc t.turns ≡ s.turns
+
+abbrev pub StepsGoOn : Type 0
+StepsGoOn = (p : Program) (l : Listing) (f : Function) (way : Way) (ts : List Task) (vs : List Held)
+    (fs : List Found) (s : State) (c : Configuration) (t : State) → step p l f way ts vs fs s ≡ Gives c t
+    → WentOn p l f way ts vs fs s c t
+
+-- A step that ends the program comes to its outcome.
+abbrev pub StepsEnd : Type 0
+StepsEnd = (p : Program) (l : Listing) (f : Function) (way : Way) (ts : List Task) (vs : List Held)
+    (fs : List Found) (s : State) (end : End) (t : State) → step p l f way ts vs fs s ≡ Ends end t
+    → rest p l f way ts vs fs s ≡ outcome_at end t

@@ -121,13 +121,12 @@ abbrev pub item_step : Listing → Function → Item → List Task → List Held
 item_step l f (Scalar number local value) ts vs fs s =
     Gives (go_on f (first_value local (type_at f local) value ts) vs fs)
     (with_local local (zero_of (type_at f local)) (visited l number s))
-item_step l f (Array number k element (Elements es)) ts vs fs s =
-    Gives (go_on f (Fills (own_array s k) element 0 es ∷ ts) vs fs)
+item_step l f (Array number k element (Elements es)) ts vs fs s = Gives (go_on f (Fills k element 0 es ∷ ts) vs fs)
     (with_array (own_array s k) (zeroed (array_named s (own_array s k))) (visited l number s))
 item_step l f (Array number k element (Text object)) ts vs fs s =
     let t : State = with_array (own_array s k) (zeroed (array_named s (own_array s k))) (visited l number s) in
-    Gives (go_on f ts vs fs) (with_array (own_array s k)
-    (text_then_zeros (array_named t (own_array s k)) (array_named t (Static object))) t)
+    Gives (go_on f ts vs fs) (with_array (own_array t k)
+    (text_then_zeros (array_named t (own_array t k)) (array_named t (Static object))) t)
 
 -- ---- statements
 
@@ -231,9 +230,9 @@ task_step p l f (Initialises local of) ts vs fs s =
 task_step p l f (Fills array element i []) ts vs fs s = Gives (go_on f ts vs fs) s
 task_step p l f (Fills array element i (e ∷ es)) ts vs fs s =
     Gives (go_on f (Evaluates e ∷ FillsElement array element i es ∷ ts) vs fs) s
-task_step p l f (FillsElement array element i es) ts vs fs s =
-    and_then (store (AtIndex array (pos i)) (in_type (Integer element) (top vs)) s)
-    (λ stored t. Gives (go_on f (Fills array element (suc i) es ∷ ts) (below vs) fs) t)
+task_step p l f (FillsElement k element i es) ts vs fs s =
+    and_then (store (AtIndex (own_array s k) (pos i)) (in_type (Integer element) (top vs)) s)
+    (λ stored t. Gives (go_on f (Fills k element (suc i) es ∷ ts) (below vs) fs) t)
 task_step p l f (Executes x) ts vs fs s = statement_step l f x ts vs fs s
 task_step p l f (Follows Done) ts vs fs s = Gives (go_on f ts vs fs) s
 task_step p l f (Follows (Next x xs)) ts vs fs s = Gives (go_on f (Executes x ∷ Follows xs ∷ ts) vs fs) s

@@ -2,7 +2,7 @@
 -- that are found, and the state. `rest` is the outcome that comes of them, in the words of `specs/Evaluation.antt` of
 -- `c_tree`; `specs/Steps.antt` has the steps, none of which changes it.
 use Rattle.std.specs.Prelude.{ℕ, zero, suc, pos, Bool, true, false, List, [], ◌∷◌, Option, if◌then◌else◌}
-use Rattle.pcc_base.specs.Outcome.{Ended, ArrayName, Listing, Outcome}
+use Rattle.pcc_base.specs.Outcome.{Ended, Listing, Outcome}
 use Rattle.c_tree.specs.declared.expression.BinaryOp.{BinaryOp}
 use Rattle.c_tree.specs.declared.expression.StepOp.{StepOp}
 use Rattle.c_tree.specs.declared.expression.UnaryOp.{UnaryOp}
@@ -15,7 +15,7 @@ use Rattle.c_tree.specs.Evaluation.{put, Calls, truth_value, updated, evaluate, 
 use Rattle.c_tree.specs.Evaluation.{declare_all, Left, Falls, Breaks, Continues, Returns, Runs, after_body}
 use Rattle.c_tree.specs.Evaluation.{after_switch, loop, do_loop, tested, tested_if_any, evaluated_if_any, switched}
 use Rattle.c_tree.specs.Evaluation.{none_or_from, Setting, execute, execute_from, type_at, value_left, older}
-use Rattle.c_tree.specs.Evaluation.{call_within, outcome_at}
+use Rattle.c_tree.specs.Evaluation.{call_within, outcome_at, own_array}
 use Rattle.c_tree.specs.Operators.{is_true, unary_value, binary_value, step_op, step_result}
 use Rattle.c_tree.specs.Program.{Expression, Place, Arguments, Item, Statement, Statements, Function, Program}
 use Rattle.c_tree.specs.Store.{Held, HoldsNumber, in_type, State, with_local, Evaluated, Gives, Ends, and_then}
@@ -69,9 +69,9 @@ pub data Task : Type 0 where
   DeclaresAll : (items : List Item) → Task
   -- takes the first value of a local
   Initialises : (local : ℕ) (of : ValueType) → Task
-  -- the elements of an array from one on; the second takes the value of the one before them
-  Fills : (array : ArrayName) (element : IntegerType) (from : ℕ) (elements : List Expression) → Task
-  FillsElement : (array : ArrayName) (element : IntegerType) (at : ℕ) (others : List Expression) → Task
+  -- the elements of an array of the function from one on; the second takes the value of the one before them
+  Fills : (array : ℕ) (element : IntegerType) (from : ℕ) (elements : List Expression) → Task
+  FillsElement : (array : ℕ) (element : IntegerType) (at : ℕ) (others : List Expression) → Task
   -- a statement, and statements in order
   Executes : (statement : Statement) → Task
   Follows : (statements : Statements) → Task
@@ -234,11 +234,11 @@ rest p l f Ahead (DeclaresAll items ∷ ts) vs fs s =
     finish (declare_all (calls_of p l) l (type_at f) items s) (λ done t. rest p l f Ahead ts vs fs t)
 rest p l f Ahead (Initialises local of ∷ ts) vs fs s =
     rest p l f Ahead ts (below vs) fs (with_local local (in_type of (top vs)) s)
-rest p l f Ahead (Fills array element i es ∷ ts) vs fs s =
-    finish (fill (calls_of p l) array element i es s) (λ done t. rest p l f Ahead ts vs fs t)
-rest p l f Ahead (FillsElement array element i es ∷ ts) vs fs s =
-    finish (store (AtIndex array (pos i)) (in_type (Integer element) (top vs)) s) (λ stored t.
-    finish (fill (calls_of p l) array element (suc i) es t) (λ done u. rest p l f Ahead ts (below vs) fs u))
+rest p l f Ahead (Fills k element i es ∷ ts) vs fs s =
+    finish (fill (calls_of p l) (own_array s k) element i es s) (λ done t. rest p l f Ahead ts vs fs t)
+rest p l f Ahead (FillsElement k element i es ∷ ts) vs fs s =
+    finish (store (AtIndex (own_array s k) (pos i)) (in_type (Integer element) (top vs)) s) (λ stored t.
+    finish (fill (calls_of p l) (own_array t k) element (suc i) es t) (λ done u. rest p l f Ahead ts (below vs) fs u))
 rest p l f Ahead (Executes x ∷ ts) vs fs s =
     finish (executed p l f x s) (behind (λ way ws t. rest p l f way ts ws fs t) vs)
 rest p l f Ahead (Follows xs ∷ ts) vs fs s =

@@ -6,7 +6,8 @@ ghost use Rattle.c_tree.specs.Evaluation.{source_outcome};
 ghost use Rattle.c_tasks.specs.Worked.{ended, stepped, writes_letters};
 ghost use Rattle.c_tasks.specs.Laws.{ArgumentsAreLast, CallsStep, ExpressionsStep, IsEnd, IsServed};
 ghost use Rattle.c_tasks.specs.Laws.{ItemsStep, ManyStepsKeep, PlacesStep, RestGoesOn, StacksStayFit};
-ghost use Rattle.c_tasks.specs.Laws.{StartFits, Starts, StatementsStep, StepsKeep, TasksStep, WeightsFall};
+ghost use Rattle.c_tasks.specs.Laws.{StartFits, StatementsStep, Starts, StepsEnd, StepsGoOn, StepsKeep};
+ghost use Rattle.c_tasks.specs.Laws.{TasksStep, WeightsFall};
 
 /// What comes of the call of `main` is the program's outcome, and where no task is left the last value is its status.
 pub fn start_and_end()
@@ -52,6 +53,12 @@ pub fn steps_keep()
 /// Several steps don't change the outcome of what is left.
 pub fn many_steps_keep()
     ensures { ManyStepsKeep }
+{}
+
+/// What is known of a step that goes on, and of one that ends the program.
+pub fn steps_come_to()
+    ensures on { StepsGoOn }
+    ensures end { StepsEnd }
 {}
 
 /// What was visited, written and taken stays in front of what comes of the rest.

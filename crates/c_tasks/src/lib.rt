@@ -8,5 +8,5 @@ mod laws;
 pub use laws::{
     arguments_are_last, calls_step, expressions_step, is_served, items_step, many_steps_keep,
     places_step, rest_goes_on, stacks_stay_fit, start_and_end, start_fits, statements_step,
-    steps_keep, tasks_step, weights_fall, worked_example,
+    steps_come_to, steps_keep, tasks_step, weights_fall, worked_example,
 };

@@ -165,7 +165,7 @@ operation_load-makes site frame op r k v s framed some within held does =
     }
 
 -- a store is the same whatever EIP is
-store-at : (n a v address : ℕ) (s t : State) → store n a v s ≡ Ok t → store n a v (at_address address s)
+pub store-at : (n a v address : ℕ) (s t : State) → store n a v s ≡ Ok t → store n a v (at_address address s)
     ≡ Ok (at_address address t)
 store-at n a v address s t e =
     let new : List ℕ = little_bytes n v in

@@ -3,3 +3,4 @@ pub mod Instructions
 pub mod Kept
 pub mod Moves
 pub mod Sums
+pub mod Bytes

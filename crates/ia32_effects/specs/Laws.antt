@@ -15,7 +15,7 @@ use Rattle.ia32_insn.specs.State.{State, at_address}
 use Rattle.ia32_insn.specs.Arithmetic.{alu_value, extended8}
 use Rattle.ia32_insn.specs.Meaning.{word_of}
 use Rattle.ia32_shows.specs.Paths.{Comes}
-use Rattle.ia32_shows.specs.Sites.{Site, SoundAt, ReadyAt, Framed, Anywhere}
+use Rattle.ia32_shows.specs.Sites.{Site, SoundAt, ReadyAt, Framed, Anywhere, IsInFrame}
 use Rattle.ia32_rows.specs.Rows.{AreApart, read, write, operate, number_row, copy_row, operation, commuting}
 use Rattle.ia32_effects.specs.Effects.{Leads, Keeps, OutsideWord}
 use Rattle.ia32_effects.specs.Contains.{Contains, IsPlaceIn, HoldsWord, Untouched, ApartFromPlace}
@@ -110,6 +110,13 @@ abbrev pub CopyBytePuts : Type 0
 CopyBytePuts =
     (site : Site) (frame : ℕ) (r : Reg8) (q : Place) (b : ℕ) (s : State) → Framed site frame s → IsPlaceIn frame q
     → Contains s One q b → b < 256 → (u : State) × Puts site frame (copy_row q (InByte r)) (InByte r) b s u
+
+-- a copy of a byte to a slot, which holds a word with this low byte after it
+abbrev pub CopyToSlotPuts : Type 0
+CopyToSlotPuts =
+    (site : Site) (frame k : ℕ) (q : Place) (b : ℕ) (s : State) → Framed site frame s → IsInFrame frame k
+    → IsPlaceIn frame q → Contains s One q b → b < 256
+    → (w : ℕ) × (w % 256 ≡ b) × (u : State) × Puts site frame (copy_row q (InSlot k)) (InSlot k) w s u
 
 -- the result of an operation on the words of two places
 abbrev pub OperationPuts : Type 0

@@ -1,5 +1,5 @@
 ghost use Rattle.ia32_effects.specs.Laws.{StraightGoes, ReadGives, OperateGives, WritePuts, NumberPuts, CopyPuts};
-ghost use Rattle.ia32_effects.specs.Laws.{ExtendGives, CopyBytePuts, OperationPuts, CommutingPuts, OthersKept};
+ghost use Rattle.ia32_effects.specs.Laws.{ExtendGives, CopyBytePuts, CopyToSlotPuts, OperationPuts, CommutingPuts, OthersKept};
 
 /// The machine goes through straight code that stands at EIP to what follows it.
 pub fn straight_code_goes()
@@ -7,7 +7,8 @@ pub fn straight_code_goes()
 {}
 
 /// The word of a place comes to a register, and that of a register to a place; numbers and copies come to a place. A
-/// byte of a register comes to a register with its sign, and a byte of any place to a byte of a register.
+/// byte of a register comes to a register with its sign, and a byte of any place to a byte of a register or to
+/// a slot.
 pub fn rows_move_words()
     ensures read { ReadGives }
     ensures extend { ExtendGives }
@@ -15,6 +16,7 @@ pub fn rows_move_words()
     ensures number { NumberPuts }
     ensures copy { CopyPuts }
     ensures copy_byte { CopyBytePuts }
+    ensures copy_to_slot { CopyToSlotPuts }
 {}
 
 /// The result of an operation on the words of two places comes to a third, which may be one of them.

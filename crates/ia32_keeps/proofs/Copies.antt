@@ -1,16 +1,17 @@
 -- The machine follows a copy of a word.
-use Rattle.std.proofs.Common.{◌≡◌, ℕ, zero, suc, false, ◌+◌, ◌-◌, ◌*◌, ◌^◌, ◌<◌, ◌≤◌, List, [], ◌∷◌, Option, Some}
+use Rattle.std.proofs.Common.{◌≡◌, ℕ, zero, suc, false, ◌+◌, ◌-◌, ◌*◌, ◌%◌, ◌^◌, ◌<◌, ◌≤◌, List, [], ◌∷◌, Option, Some}
 use Rattle.std.proofs.Common.{None, Ok}
-use Rattle.std.proofs.Common.{refl, sym, subst, ◌∙◌, inl, arith, length}
+use Rattle.std.proofs.Common.{refl, sym, subst, inl, arith, length}
 use Rattle.std.specs.Prelude.{slice_get}
+use Rattle.std.proofs.Math.Nat.{mod-eq_of_lt}
 use Rattle.std.proofs.lemmas.Option.{none-some, same_Some}
 use Rattle.pcc_base.specs.Outcome.{Null, Static, InFrame, Unknown, Value, Number, Array}
 use Rattle.pcc_base.specs.declared.run.Width.{Width}
-use Rattle.pcc_base.specs.declared.run.Width.TheVariants.{Two}
+use Rattle.pcc_base.specs.declared.run.Width.TheVariants.{One, Two}
 use Rattle.ia32_regs.specs.declared.names.Reg32.TheVariants.{Esp, Ebp}
 use Rattle.ia32_places.specs.Places.{Place, InWord, InByte, InSlot}
 use Rattle.ia32_insn.specs.State as machine
-use Rattle.ia32_insn.specs.Meaning.{load, word_of}
+use Rattle.ia32_insn.specs.Meaning.{load, word_of, byte_of}
 use Rattle.ia32_insn.specs.Items.{data_start, stack_end}
 use Rattle.flow_graph.specs.declared.op.Op.TheVariants as op
 use Rattle.flow_graph.specs.Meaning.{Moved, Stuck, given, sets}
@@ -20,11 +21,14 @@ use Rattle.flow_graph.specs.WellFormed.{AreElementsIn, IsState}
 use Rattle.graph_states.proofs.Lists.{zip-second}
 use Rattle.ia32_shows.specs.Follows.{Follows}
 use Rattle.ia32_shows.specs.Placements.{Code, objects_of, placement_of}
-use Rattle.ia32_shows.specs.Shows.{IsOldArray, IsWord, Shows, StandsIn, WaitFrom}
+use Rattle.ia32_shows.specs.Shows.{IsByte, IsOldArray, IsWord, Shows, StandsIn, WaitFrom}
+use Rattle.ia32_shows.specs.Sites.{Framed, Site}
 use Rattle.ia32_shows.proofs.Sound.{load-place}
 use Rattle.ia32_rows.specs.Rows.{copy_row}
-use Rattle.ia32_effects.specs.Contains.{Contains}
-use Rattle.ia32_effects.proofs.Moves.{copy-puts}
+use Rattle.ia32_effects.specs.Contains.{Contains, IsPlaceIn}
+use Rattle.ia32_effects.proofs.Moves.{copy-puts, copy_byte-puts}
+use Rattle.ia32_effects.proofs.Bytes.{copy_to_slot-puts}
+use Rattle.ia32_effects.specs.Laws.{Puts}
 use Rattle.ia32_keeps.specs.Supports.{HoldsWidth, IsSupported, site_of}
 use Rattle.ia32_keeps.specs.Laws.{data_end}
 use Rattle.ia32_keeps.specs.Ops.{CopyFollows, before_at}
@@ -33,7 +37,7 @@ use Rattle.ia32_keeps.proofs.Zones.{bounds, frame_size, shown-in-frame}
 use Rattle.ia32_keeps.proofs.Apart.{object-at}
 use Rattle.ia32_keeps.proofs.Regions.{call-above}
 use Rattle.ia32_keeps.proofs.Puts.{IsLow, puts-follow}
-use Rattle.ia32_keeps.proofs.Words.{word-fits}
+use Rattle.ia32_keeps.proofs.Words.{byte-fits, word-fits}
 use Rattle.ia32_keeps.proofs.Ops.{at-after, at-before, holds-word, op-is}
 
 -- ---- words of values are below 2 ^ 32
@@ -121,32 +125,89 @@ given-value : (P : Moved → Type 0) (o : Option Value) (go : Value → Moved) �
 given-value P None go none some = none
 given-value P (Some value) go none some = some value refl
 
+-- the byte of a value in a place
+byte-in : (code : Code) (g : graph.State) (frames : List ℕ) (s : machine.State) (place : Place) (value : Value)
+    → HoldsWidth (Some One) place
+    → StandsIn code (active_of g) frames s (word_of Ebp s) (Some One) value place
+    → (b : ℕ) × Contains s One place b × IsByte value b
+byte-in code g frames s (InWord r) value for h = absurd for
+byte-in code g frames s (InByte r) value for h = (byte_of r s, refl, h)
+byte-in code g frames s (InSlot slot) value for h = (h.0, h.1, h.2)
+
+-- is a byte
+byte-small : (value : Value) (b : ℕ) → IsByte value b → b < 256
+byte-small (Number n) b h = subst (λ (k : ℕ). k < 256) (sym h.1) (byte-fits n h.0)
+byte-small (Array a) b h = absurd h
+
+-- what a copy to a place has to find there
+record IsCopied (site : Site) (frame : ℕ) (from to : Place) (s : machine.State) (Low : ℕ → Type 0) : Type 0 where
+  word : ℕ
+  low : Low word
+  puts : (u : machine.State) × Puts site frame (copy_row from to) to word s u
+
+-- a byte to a place for one
+byte-copied : (site : Site) (frame : ℕ) (from to : Place) (s : machine.State) (value : Value) (b : ℕ)
+    → Framed site frame s → HoldsWidth (Some One) to → IsPlaceIn frame to → IsPlaceIn frame from
+    → Contains s One from b → IsByte value b → IsCopied site frame from to s (λ w. IsByte value (w % 256))
+byte-copied site frame from (InWord r) s value b framed for to_placed placed contains is = absurd for
+byte-copied site frame from (InByte r) s value b framed for to_placed placed contains is =
+    record {
+      word = b;
+      low = subst (IsByte value) (sym (mod-eq_of_lt (byte-small value b is))) is;
+      puts = copy_byte-puts site frame r from b s framed placed contains (byte-small value b is);
+    }
+byte-copied site frame from (InSlot slot) s value b framed for to_placed placed contains is =
+    let (w, same, u, puts) = copy_to_slot-puts site frame slot from b s framed to_placed placed contains
+    (byte-small value b is) in
+    record { word = w; low = subst (IsByte value) (sym same) is; puts = (u, puts) }
+
+-- a variable's value by the width of both
+copied : (code : Code) (input : List ℕ) (g : graph.State) (s : machine.State) (from to : Place) (value : Value)
+    (width : Width) → IsSupported code → IsState code.program g → (shown : Shows code input g s)
+    → Framed (site_of code g.current.function) (placement_of code g.current.function).frame s
+    → HoldsWidth (Some width) to → HoldsWidth (Some width) from
+    → IsPlaceIn (placement_of code g.current.function).frame to
+    → IsPlaceIn (placement_of code g.current.function).frame from
+    → StandsIn code (active_of g) shown.frames s (word_of Ebp s) (Some width) value from
+    → IsCopied (site_of code g.current.function) (placement_of code g.current.function).frame from to s
+    (λ w. IsLow code (active_of g) shown.frames (Some width) value w)
+copied code input g s from to value Two supported state shown framed for_to for_from to_placed placed stands =
+    let (w, contains, word) = word-in code input g s from value shown for_from stands in
+    record {
+      word = w;
+      low = word;
+      puts = copy-puts (site_of code g.current.function) (placement_of code g.current.function).frame to from w s framed
+          (holds-word to for_to) to_placed (holds-word from for_from) placed contains
+          (word-small code input g s value w supported state shown word);
+    }
+copied code input g s from to value One supported state shown framed for_to for_from to_placed placed stands =
+    let (b, contains, byte) = byte-in code g shown.frames s from value for_from stands in
+    byte-copied (site_of code g.current.function) (placement_of code g.current.function).frame from to s value b framed
+    for_to to_placed placed contains byte
+
 pub copy-follows : CopyFollows
-copy-follows d a code input g s supported state shown has width r =
+copy-follows d a code input g s supported state shown has r =
     given-value (Follows code input s g false) (value_at g a) (sets code.program g d) tt (λ value e.
     let here = point-supported code g (op.Copy d a) supported state has in
     let fits = (op-is code g (op.Copy d a) supported state has).fits in
-    let same : slice_get (flow_at code.program g.current.function).widths d ≡ Some Two =
-    fits.0.1 ∙ sym fits.0.2 ∙ width in
+    let width : Width = fits.0.0 in
     let (to, at) = here.written d refl in
     let (from, before) = here.read a (inl refl) in
     let for_to = here.after d to at in
     let for_from = here.before a from before in
-    let holds_to : HoldsWidth (Some Two) to = subst (λ (w : Option Width). HoldsWidth w to) same for_to.holds in
-    let holds_from : HoldsWidth (Some Two) from = subst (λ
-    (w : Option Width). HoldsWidth w from) width for_from.holds in
+    let one : HoldsWidth (Some width) to = subst (λ (w : Option Width). HoldsWidth w to) fits.0.1 for_to.holds in
+    let two : HoldsWidth (Some width) from =
+    subst (λ (w : Option Width). HoldsWidth w from) fits.0.2 for_from.holds in
     let stands = subst (λ (w : Option Width).
-    StandsIn code (active_of g) shown.frames s (word_of Ebp s) w value from) width
+    StandsIn code (active_of g) shown.frames s (word_of Ebp s) w value from) fits.0.2
     (shown.variables a value from e before) in
-    let (w, contains, word) = word-in code input g s from value shown holds_from stands in
     let framed = (shown-in-frame code input g s supported state shown).framed in
+    let c = copied code input g s from to value width supported state shown framed one two for_to.inside for_from.inside
+    stands in
     let all : depth_of g - 0 ≡ depth_of g = omega arith in
-    puts-follow code input g s (op.Copy d a) d w value to (copy_row from to) supported state shown has refl
+    puts-follow code input g s (op.Copy d a) d c.word value to (copy_row from to) supported state shown has refl
     (λ next h. h)
     (at-before code g s a from (λ p. copy_row p to) before
-    (at-after code g s d to (λ p. copy_row (before_at code g a) p) at r)) at
-    (copy-puts (site_of code g.current.function) (placement_of code g.current.function).frame to from w s framed
-    (holds-word to holds_to) for_to.inside (holds-word from holds_from) for_from.inside contains
-    (word-small code input g s value w supported state shown word))
-    (subst (λ (v : Option Width). IsLow code (active_of g) shown.frames v value w) (sym same) word)
+    (at-after code g s d to (λ p. copy_row (before_at code g a) p) at r)) at c.puts
+    (subst (λ (v : Option Width). IsLow code (active_of g) shown.frames v value c.word) (sym fits.0.1) c.low)
     (subst (λ (k : ℕ). IsOldArray k value) all ((shown.old_arrays 0 g.current refl).0 a value e)))

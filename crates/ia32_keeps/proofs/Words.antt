@@ -14,6 +14,10 @@ use Rattle.ia32_insn.specs.Arithmetic.{alu_value, sum, difference}
 pub word-fits : (z : ℤ) → FitsSigned w32 z → cast_unsigned w32 z < 2 ^ 32
 word-fits z fits = omega (arith, ints)
 
+-- and those of a number of 8 bits a byte
+pub byte-fits : (z : ℤ) → FitsSigned w8 z → cast_unsigned w8 z < 256
+byte-fits z fits = omega (arith, ints)
+
 -- the low byte of a number's word is that of the number wrapped at 8 bits
 pub low-byte : (n : ℤ) → FitsSigned w32 n → cast_unsigned w32 n % 256 ≡ cast_unsigned w8 (int_wrap w8 n)
 unfolding int_wrap

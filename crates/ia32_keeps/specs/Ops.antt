@@ -1,6 +1,5 @@
 -- That the machine follows single ops of the program, over any placement that supports the graph.
-use Rattle.std.specs.Prelude.{◌≡◌, ℕ, ℤ, List, ◌∷◌, ◌++◌, slice_get, Some}
-use Rattle.pcc_base.specs.declared.run.Width.TheVariants.{Two}
+use Rattle.std.specs.Prelude.{◌≡◌, ℕ, ℤ, List, ◌∷◌, ◌++◌, Some}
 use Rattle.ia32_places.specs.Places.{Place}
 use Rattle.ia32_insn.specs.declared.insn.AluOp.TheVariants as alu
 use Rattle.ia32_insn.specs.declared.item.Item.{Item}
@@ -50,14 +49,9 @@ RowFollows o = ItemsFollow o (λ code g. row (placement_of code g.current.functi
 abbrev pub NumberFollows : Type 0
 NumberFollows = (d : ℕ) (n : ℤ) → RowFollows (op.Const d n)
 
--- a copy between variables of width Two
+-- a copy, between variables of either width
 abbrev pub CopyFollows : Type 0
-CopyFollows =
-    (d a : ℕ) (code : Code) (input : List ℕ) (g : graph.State) (s : machine.State) → IsSupported code
-    → IsState code.program g → Shows code input g s → op_at code.program g ≡ Some (op.Copy d a)
-    → slice_get (flow_at code.program g.current.function).widths a ≡ Some Two
-    → RowAt code g (row (placement_of code g.current.function) g.point (op.Copy d a)) s
-    → Follows code input s g (is_nop (Some (op.Copy d a))) (act code.program g (op.Copy d a))
+CopyFollows = (d a : ℕ) → RowFollows (op.Copy d a)
 
 abbrev pub SumFollows : Type 0
 SumFollows = (d a b : ℕ) → RowFollows (op.Add d a b)

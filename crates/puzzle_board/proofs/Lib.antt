@@ -7,3 +7,4 @@ pub mod Stored
 pub mod Fronts
 pub mod Spans
 pub mod Calls
+pub mod Sides

@@ -4,3 +4,4 @@ pub mod Boards
 pub mod Worked
 pub mod Classes
 pub mod Stored
+pub mod Places

@@ -1,6 +1,6 @@
 //! Boards that were solved by hand.
 
-use crate::solving::spots;
+use crate::solving::{spilled_at, spots, takes};
 use pcc_base::{NoMemory, Width};
 use puzzle_board::{Area, Column, Columns, Kind, Piece, Spot};
 use std::alloc::Global;
@@ -139,5 +139,29 @@ fn shares_an_area(rt: HostRuntime) -> Result<(), Fail> {
     assert_eq!(rt; areas.len(), 8);
     assert_eq!(rt; areas[0], areas[1]);
     assert!(rt; areas.iter().skip(2).all(|area| *area != areas[0]));
+    Ok(())
+}
+
+/// Two narrow Y fit in an area, and neither three nor a million do, which is known within 160 steps.
+#[test]
+fn knows_of_a_million(rt: HostRuntime) -> Result<(), Fail> {
+    assert!(rt; takes(rt.alloc(), 2)?);
+    assert!(rt; !takes(rt.alloc(), 3)?);
+    assert!(rt; !takes(rt.alloc(), 1_000_000)?);
+    Ok(())
+}
+
+/// The furthest next use is spilled first, of equal ones the smaller variable, and only as many as don't fit.
+#[test]
+fn spills_the_furthest(rt: HostRuntime) -> Result<(), Fail> {
+    let distances = [3, 9, 9, 1, 2, 4, 5, 6, 7].map(Some);
+    let (order, removed) = spilled_at(&rt, rt.alloc(), &distances)?;
+    assert_eq!(rt; order.as_slice(), [1, 2, 8, 7, 6, 5, 0, 4, 3].as_slice());
+    assert_eq!(rt; removed.as_slice(), [1].as_slice());
+    let (order, removed) = spilled_at(&rt, rt.alloc(), &distances[..8])?;
+    assert_eq!(rt; order.as_slice(), [1, 2, 7, 6, 5, 0, 4, 3].as_slice());
+    assert_eq!(rt; removed.len(), 0);
+    let (order, _) = spilled_at(&rt, rt.alloc(), &[Some(9), None, Some(0), None])?;
+    assert_eq!(rt; order.as_slice(), [1, 3, 0, 2].as_slice());
     Ok(())
 }

@@ -13,9 +13,11 @@ loop-i-preserved c =
     let i = c.loop-i.i in
     let arguments = map held_of c.args.arguments.now in
     let locals = map local_of c.args.locals.now in
-    let step = first-step c.args.locals.now arguments i c.index-locals-i.result c.loop-i-test.true c.index-locals-i.is in (
+    let step = first-step c.args.locals.now arguments i c.index-locals-i.result c.loop-i-test.true
+    c.index-locals-i.is in (
       local-pushed held_of c.loop-i.values.items c.push.new.self.items c.first_value.result _
-          (first_values (drop i locals) (drop i arguments)) (first_values (drop (i + 1) locals) (drop (i + 1) arguments)) _
+          (first_values (drop i locals) (drop i arguments)) (first_values (drop (i + 1) locals) (drop
+          (i + 1) arguments)) _
           h.0 step c.in_ok-push.ensures.items
           (c.first_value.ensures ∙ ap (λ l. first_value l.of (slice_get arguments i)) (sym c.index-locals-i.is)),
       kept-pushed c.args.values.now.items c.loop-i.values.items c.push.new.self.items c.first_value.result h.1

@@ -1,3 +1,4 @@
+use Rattle.ia32_effects.proofs.Bytes.{copy_to_slot-puts}
 use Rattle.ia32_effects.proofs.Moves.{read-gives, extend-gives, write-puts, number-puts, copy-puts, copy_byte-puts}
 use Rattle.ia32_effects.proofs.laws.rows_move_words.Goals as goal
 
@@ -18,3 +19,6 @@ returns-clause-copy c = copy-puts
 
 pub returns-clause-copy_byte : goal.returns-clause-copy_byte
 returns-clause-copy_byte c = copy_byte-puts
+
+pub returns-clause-copy_to_slot : goal.returns-clause-copy_to_slot
+returns-clause-copy_to_slot c = copy_to_slot-puts

@@ -6,4 +6,5 @@ use Rattle.c_store.proofs.arrays.Arrays.clear.Goals as goal
 pub returns : goal.returns
 returns c =
     c.write.ensures
-    ∙ ap (λ row. slice_set c.args.self.now c.args.array row) (text-none (slice_index_or c.args.self.now c.args.array []))
+    ∙ ap (λ row. slice_set c.args.self.now c.args.array row) (text-none
+    (slice_index_or c.args.self.now c.args.array []))

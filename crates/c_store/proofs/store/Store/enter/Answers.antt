@@ -24,7 +24,8 @@ invariant_of-self-2 c =
     omega (arith, length-map f.arrays.items array_of, length-map (map array_of f.arrays.items) first_array) in
     rw (e.0, e.2) (entered-kept i.calls.items call i.locals.items c.push_call.new.locals.items
     (first_values (map local_of f.locals.items) (map held_of c.args.arguments.now)) i.arrays
-    (map first_array (map array_of f.arrays.items)) c.self.invariant (omega (arith, depth, c.requires)) refl refl count e.1)
+    (map first_array (map array_of f.arrays.items)) c.self.invariant (omega
+    (arith, depth, c.requires)) refl refl count e.1)
 
 pub returns : goal.returns
 returns c =

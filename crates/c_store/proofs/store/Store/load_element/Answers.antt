@@ -11,7 +11,8 @@ pub returns-in-Some : goal.returns-in-Some
 returns-in-Some c =
     let same : to_z w32 (of_z w32 c.args.index) ≡ c.args.index =
     to_z-of_z w32 c.args.index (record { sfits = c.ranges.index.sfits }) in
-    λ s. let told = subst (λ n. c.element.result ≡ element_at (array_named (over s c.args.self.now) (name_of c.args.array)) n)
+    λ s. let told = subst (λ n. c.element.result ≡ element_at (array_named (over s c.args.self.now)
+    (name_of c.args.array)) n)
     same (c.element.ensures s) in
     read-some (over s c.args.self.now) _ c.element.result c.in-Some.element _ told c.in-Some.is
     (to_z-of_z w32 c.in-Some.element (search rules))
@@ -20,6 +21,7 @@ pub returns-in-None : goal.returns-in-None
 returns-in-None c =
     let same : to_z w32 (of_z w32 c.args.index) ≡ c.args.index =
     to_z-of_z w32 c.args.index (record { sfits = c.ranges.index.sfits }) in
-    λ s. let told = subst (λ n. c.element.result ≡ element_at (array_named (over s c.args.self.now) (name_of c.args.array)) n)
+    λ s. let told = subst (λ n. c.element.result ≡ element_at (array_named (over s c.args.self.now)
+    (name_of c.args.array)) n)
     same (c.element.ensures s) in
     read-none (over s c.args.self.now) _ c.element.result told c.in-None.is

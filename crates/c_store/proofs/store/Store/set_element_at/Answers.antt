@@ -19,5 +19,6 @@ returns-in-InFrame c =
     let same : to_z w32 (of_z w32 c.args.value) ≡ c.args.value =
     to_z-of_z w32 c.args.value (record { sfits = c.ranges.value.sfits }) in
     λ s. rw c.in-InFrame.is (written-same (over s c.args.self.now) (over s c.set_frame_element.new.self)
-    (outcome.InFrame c.in-InFrame.array c.in-InFrame.depth) (pos c.args.index) (to_z w32 (of_z w32 c.args.value)) c.args.value
+    (outcome.InFrame c.in-InFrame.array c.in-InFrame.depth) (pos c.args.index) (to_z w32
+    (of_z w32 c.args.value)) c.args.value
     c.set_frame_element.result same (c.set_frame_element.ensures s))

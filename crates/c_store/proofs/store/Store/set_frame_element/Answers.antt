@@ -18,7 +18,8 @@ returns-in-Some c =
     let sets = subst (λ v. SetsElement i.arrays c.set.new.self c.in-Some.place c.args.index v c.set.result) same
     c.set.ensures in
     λ s. rw (← c.self.view_is) (frame-element-written s i.objects i.calls.items (map held_of i.locals.items) i.arrays
-    c.set.new.self (length i.locals.items) c.args.array c.args.depth c.in-Some.place c.args.index c.args.value c.set.result
+    c.set.new.self (length i.locals.items) c.args.array c.args.depth c.in-Some.place c.args.index c.args.value
+    c.set.result
     c.self.invariant.nested told sets)
 
 pub returns-in-None : goal.returns-in-None

@@ -14,7 +14,8 @@ returns c =
     to_z-of_z w32 c.args.index (record { sfits = c.ranges.index.sfits }) in
     let number : to_z w32 (of_z w32 c.number.result) ≡ c.number.result =
     to_z-of_z w32 c.number.result (search rules) in
-    λ s. let told = subst (λ i. Written (over s c.args.self.now) (over s c.set_element.new.self) (name_of c.args.array) i
+    λ s. let told = subst (λ i. Written (over s c.args.self.now) (over s c.set_element.new.self)
+    (name_of c.args.array) i
     (to_z w32 (of_z w32 c.number.result)) c.set_element.result) same (c.set_element.ensures s) in
     written-stored (over s c.args.self.now) (over s c.set_element.new.self) (name_of c.args.array) c.args.index
     c.number.result (held_of c.args.value) c.set_element.result c.number.ensures

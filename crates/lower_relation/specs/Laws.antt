@@ -1,0 +1,78 @@
+-- The laws of the relation between states of a source and of its graphs (`specs/Relation.antt` of `lower_lines`): one
+-- for each kind of change that an op of scalar programs makes.
+use Rattle.std.specs.Prelude.{◌≡◌, ◌≤◌, ◌<◌, ℕ, suc, ◌+◌, ◌*◌, ℤ, List, [], ◌∷◌, ◌++◌, slice_get, Some}
+use Rattle.pcc_base.specs.Outcome.{ArrayName, Value, Number, Visit}
+use Rattle.c_tree.specs.declared.types.IntegerType.{IntegerType}
+use Rattle.c_tree.specs.declared.types.ValueType.TheVariants.{Integer, Pointer}
+use Rattle.c_tree.specs.Program.{Local, Function, Program}
+use Rattle.c_tree.specs.Store as source
+use Rattle.c_tree.specs.Store.{HoldsNumber, HoldsPointer, held, with_local}
+use Rattle.flow_graph.specs.States as graph
+use Rattle.flow_graph.specs.States.{with_value}
+use Rattle.lower_lines.specs.Relation.{HoldsAt, IsArrayOf, IsOf, Keeps, Shows, array_value}
+use Rattle.lower_lines.specs.Shown.{first_variable}
+use Rattle.lower_lines.specs.Variables.{local_variables, typed_spot}
+
+-- a temporary that changes is none of what the source shows
+abbrev pub TemporariesAreFree : Type 0
+TemporariesAreFree =
+    (p : Program) (f : Function) (older : List Function) (s : source.State) (g : graph.State) (v : ℕ) (x : Value)
+    → Shows p (f ∷ older) s g → local_variables f ≤ v → Shows p (f ∷ older) s (with_value v x g)
+
+-- the variables of a local hold its value, which is of its type
+abbrev pub LocalsAreHeld : Type 0
+LocalsAreHeld =
+    (p : Program) (f : Function) (older : List Function) (s : source.State) (g : graph.State) (k : ℕ) (l : Local)
+    → Shows p (f ∷ older) s g → slice_get f.locals k ≡ Some l
+    → HoldsAt g.current.variables l.of (typed_spot l.of (first_variable f.locals k)) (held s k)
+    × IsOf p (f ∷ older) l.of (held s k)
+
+-- a number goes to a local
+abbrev pub NumbersAreSet : Type 0
+NumbersAreSet =
+    (p : Program) (f : Function) (older : List Function) (s : source.State) (g : graph.State) (k : ℕ) (l : Local)
+    (t : IntegerType) (n : ℤ) → Shows p (f ∷ older) s g → slice_get f.locals k ≡ Some l → l.of ≡ Integer t
+    → Shows p (f ∷ older) (with_local k (HoldsNumber n) s) (with_value (first_variable f.locals k) (Number n) g)
+
+-- a pointer goes to a local, first its array and then its index
+abbrev pub PointersAreSet : Type 0
+PointersAreSet =
+    (p : Program) (f : Function) (older : List Function) (s : source.State) (g : graph.State) (k : ℕ) (l : Local)
+    (t : IntegerType) (array : ArrayName) (index : ℤ) → Shows p (f ∷ older) s g → slice_get f.locals k ≡ Some l
+    → l.of ≡ Pointer t → IsArrayOf p (f ∷ older) t array
+    → Shows p (f ∷ older) (with_local k (HoldsPointer array index) s) (with_value (suc (first_variable f.locals k))
+    (Number index) (with_value (first_variable f.locals k) (array_value array) g))
+
+-- a byte is written
+abbrev pub BytesAreWritten : Type 0
+BytesAreWritten =
+    (p : Program) (active : List Function) (s : source.State) (g : graph.State) (byte : ℕ) → Shows p active s g
+    → Shows p active (record s { written = s.written ++ byte ∷ [] }) (record g { written = g.written ++ byte ∷ [] })
+
+-- a byte is taken
+abbrev pub BytesAreTaken : Type 0
+BytesAreTaken =
+    (p : Program) (active : List Function) (s : source.State) (g : graph.State) (bytes : List ℕ) → Shows p active s g
+    → Shows p active (record s { left = bytes; taken = s.taken + 1 }) (record g { left = bytes; taken = g.taken + 1 })
+
+-- what is shown depends neither on turns and visits, nor on where a graph stands
+abbrev pub TurnsAndVisitsAreFree : Type 0
+TurnsAndVisitsAreFree =
+    (p : Program) (active : List Function) (s : source.State) (g : graph.State) (turns : ℕ) (visits : List Visit)
+    (block point : ℕ) → Shows p active s g
+    → Shows p active (record s { turns = turns; visits = visits }) (record g { block = block; point = point })
+
+-- what lines keep, they keep one after another
+abbrev pub KeptTwice : Type 0
+KeptTwice = (first level : ℕ) (g h i : graph.State) → Keeps first level g h → Keeps first level h i
+    → Keeps first level g i
+
+-- what is kept at a level is kept at a lower one
+abbrev pub KeptBelow : Type 0
+KeptBelow = (first level other : ℕ) (g h : graph.State) → level ≤ other → Keeps first other g h
+    → Keeps first level g h
+
+-- a variable that is no temporary below the level may change
+abbrev pub KeptByChange : Type 0
+KeptByChange = (first level v : ℕ) (x : Value) (g : graph.State) → (v < first → Keeps first level g (with_value v x g))
+    × (first + level * 5 ≤ v → Keeps first level g (with_value v x g))

@@ -1,0 +1,10 @@
+//! Laws of the relation between states of a source program and of its graphs: one for each kind of change that an op of
+//! scalar programs makes. No code; `specs/Laws.antt` has the laws.
+#![tactic(auto)]
+
+mod laws;
+
+pub use laws::{
+    bytes_are_taken, bytes_are_written, kept_below, kept_by_change, kept_twice, locals_are_held,
+    numbers_are_set, pointers_are_set, temporaries_are_free, turns_are_free,
+};
