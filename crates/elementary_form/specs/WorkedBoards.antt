@@ -1,8 +1,8 @@
 -- Small graphs and maps that the definitions of boards and legal maps are read on.
-use Rattle.std.specs.Prelude.{ℕ, ℤ, negsuc, List, [], ◌∷◌, Option, Some}
+use Rattle.std.specs.Prelude.{ℕ, ℤ, negsuc, List, [], ◌∷◌, Option, Some, pos, None}
 use Rattle.pcc_base.specs.declared.run.Width.TheVariants.{One, Two}
 use Rattle.flow_graph.specs.declared.op.Op.{Op}
-use Rattle.flow_graph.specs.declared.op.Op.TheVariants.{Add, Call, Div, Shl}
+use Rattle.flow_graph.specs.declared.op.Op.TheVariants.{Add, Call, Const, Div, Return, Shl}
 use Rattle.flow_graph.specs.Graphs.{Flow}
 use Rattle.flow_graph.specs.Lives.{Lives}
 use Rattle.puzzle_board.specs.declared.piece.Columns.TheVariants.{All}
@@ -89,3 +89,22 @@ moved_over_op = map_of (at_place 0 (in_area 0) ∷ at_place 1 (in_area 1) ∷ []
 abbrev pub in_slot : PointMap
 in_slot = map_of (at_place 0 (Slot (negsuc 19)) ∷ at_place 1 (in_area 1) ∷ [])
     (at_place 0 (Slot (negsuc 19)) ∷ at_place 2 (in_area 1) ∷ []) (0 ∷ []) (Some (negsuc 19) ∷ [])
+
+-- 5 is put into a variable and returned
+abbrev pub five_returned : Flow
+five_returned = record {
+  widths = Two ∷ [];
+  arrays = [];
+  blocks = (0 ∷ 1 ∷ []) ∷ [];
+  ops = Const 0 (pos 5) ∷ Return (Some 0) ∷ [];
+}
+
+-- a map of it, in which the variable stands in EAX, with so many bytes of frame
+abbrev pub five_in_eax : ℕ → PointMap
+five_in_eax frame = record {
+  before = [] ∷ (at_place 0 (in_area 0) ∷ []) ∷ [];
+  after = (at_place 0 (in_area 0) ∷ []) ∷ [] ∷ [];
+  spilled = [] ∷ [] ∷ [];
+  slots = None ∷ [];
+  frame = frame;
+}
