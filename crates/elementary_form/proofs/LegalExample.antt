@@ -6,7 +6,8 @@ use Rattle.std.proofs.lemmas.Option.{none-some, same_Some}
 use Rattle.flow_graph.specs.declared.op.Op.{Op}
 use Rattle.flow_graph.specs.declared.op.Op.TheVariants.{Const, Return}
 use Rattle.flow_graph.specs.Graphs.{IsIn, IsPlaced}
-use Rattle.flow_graph.specs.Liveness.{FixedDies, IsBehind, IsDefinedAt, IsLiveAfter, IsLiveBefore, IsSuccessor, IsUsedAt}
+use Rattle.flow_graph.specs.Liveness.{FixedDies, IsBehind, IsDefinedAt, IsLiveAfter}
+use Rattle.flow_graph.specs.Liveness.{IsLiveBefore, IsSuccessor, IsUsedAt}
 use Rattle.flow_graph.specs.Liveness.{BeginsWith, LeadsTo, ReachesUse, uses}
 use Rattle.flow_graph.specs.Lives.{AreLive, Lives, at_point}
 use Rattle.elementary_form.specs.PointMaps.{IsLegalMap, IsLegalPoint, slot_of, spilled_at}

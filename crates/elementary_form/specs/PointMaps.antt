@@ -1,6 +1,8 @@
 -- Maps of a graph: where each variable stands before and after each point, and when such a map is legal.
-use Rattle.std.specs.Prelude.{ℕ, ℤ, ◌≡◌, ◌<◌, ◌↔◌, ◌+◌, ◌*◌, ◌-◌, ◌==◌, Bool, true, false, ◌&&◌, if◌then◌else◌, pos, neg_ℤ}
-use Rattle.std.specs.Prelude.{List, [], ◌∷◌, ◌++◌, map, take, count_by, is_some, Option, Some, None, slice_get, slice_index_or}
+use Rattle.std.specs.Prelude.{ℕ, ℤ, ◌≡◌, ◌<◌, ◌↔◌, ◌+◌, ◌*◌, ◌-◌, ◌==◌, Bool, true, false, ◌&&◌}
+use Rattle.std.specs.Prelude.{if◌then◌else◌, pos, neg_ℤ}
+use Rattle.std.specs.Prelude.{List, [], ◌∷◌, ◌++◌, map, take, count_by, is_some, Option, Some}
+use Rattle.std.specs.Prelude.{None, slice_get, slice_index_or}
 use Rattle.flow_graph.specs.declared.op.Op.{Op}
 use Rattle.flow_graph.specs.Graphs.{Flow, IsIn, IsPlaced, has_point}
 use Rattle.flow_graph.specs.Liveness.{BeginsWith, IsLiveBefore, defined}
@@ -28,9 +30,9 @@ pub record PlaceOf : Type 0 where
   pub variable : ℕ
   pub place : Place
 
--- for each point the places of the variables that are live before it, of those that are live after it or defined by it,
--- and the variables that are spilled there; for each variable the offset of its slot, if it has one; and the bytes of the
--- frame
+-- for each point the places of the variables that are live before it, of those that are live after it or defined by
+-- it, and the variables that are spilled there; for each variable the offset of its slot, if it has one; and the
+-- bytes of the frame
 pub record PointMap : Type 0 where
   pub before : List (List PlaceOf)
   pub after : List (List PlaceOf)
@@ -121,9 +123,9 @@ SpilledInSlots places point pieces =
     (k : ℕ) (piece : Piece) → slice_get pieces k ≡ Some piece → IsIn piece.var (spilled_at places point)
     → (offset : ℤ) × (slot_of places piece.var ≡ Some offset) × InSlot places point offset piece.kind piece.var
 
--- A point of a legal map: it lists exactly the variables that are live before the point, and those that are live after it
--- or defined there; fixed pieces stand in their registers, pieces of spilled variables in their slots, and the others
--- have a legal placement on the board.
+-- A point of a legal map: it lists exactly the variables that are live before the point, and those that are live
+-- after it or defined there; fixed pieces stand in their registers, pieces of spilled variables in their slots, and
+-- the others have a legal placement on the board.
 pub record IsLegalPoint (flow : Flow) (lives : Lives) (places : PointMap) (point : ℕ) (op : Op) : Type 0 where
   pub lists_before : map (λ p. p.variable) (places_at places.before point) ≡ at_point lives.before point
   pub lists_after : map (λ p. p.variable) (places_at places.after point)
@@ -146,8 +148,9 @@ abbrev pub bytes_of_arrays : List (ℕ × ℕ) → ℕ
 bytes_of_arrays [] = 0
 bytes_of_arrays (array ∷ arrays) = array_bytes array + bytes_of_arrays arrays
 
--- How the frame below EBP is used: its first four words are the caller's EBX, ESI and EDI and a word for copies; below them
--- are the slots, of four bytes each, one for each variable that is spilled somewhere; and below these the frame arrays.
+-- How the frame below EBP is used: its first four words are the caller's EBX, ESI and EDI and a word for copies;
+-- below them are the slots, of four bytes each, one for each variable that is spilled somewhere; and below these the
+-- frame arrays.
 pub record FrameUse (flow : Flow) (places : PointMap) : Type 0 where
   pub slotted : (v : ℕ) → ((offset : ℤ) × (slot_of places v ≡ Some offset))
       ↔ ((point : ℕ) × IsPlaced flow point × IsIn v (spilled_at places point))
@@ -156,13 +159,13 @@ pub record FrameUse (flow : Flow) (places : PointMap) : Type 0 where
       → (k : ℕ) × (k < slot_count places) × (offset ≡ neg_ℤ (pos (20 + 4 * k)))
   pub apart : (v w : ℕ) (offset : ℤ) → slot_of places v ≡ Some offset → slot_of places w ≡ Some offset → v ≡ w
 
--- How far below EBP element 0 of a frame array stands: the word before array 0 is the frame's last, and each further array
--- stands directly above the one before it.
+-- How far below EBP element 0 of a frame array stands: the word before array 0 is the frame's last, and each further
+-- array stands directly above the one before it.
 abbrev pub array_below : Flow → PointMap → ℕ → ℕ
 array_below flow places k = places.frame - bytes_of_arrays (take k flow.arrays) - 4
 
--- A map is legal for a graph where each point of a block is, by the graph's live sets, the frame is used so, fixed operands
--- die, and nothing is live at the first point.
+-- A map is legal for a graph where each point of a block is, by the graph's live sets, the frame is used so, fixed
+-- operands die, and nothing is live at the first point.
 pub record IsLegalMap (flow : Flow) (places : PointMap) : Type 0 where
   pub lives : Lives
   pub live : AreLive flow lives

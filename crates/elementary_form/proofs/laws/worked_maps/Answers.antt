@@ -1,5 +1,6 @@
 -- The placements are computed.
-use Rattle.std.proofs.Common.{◌≡◌, ℕ, zero, suc, ℤ, negsuc, [], ◌∷◌, length, Some, inl, inr, refl, sym, ap, ◌∙◌, subst, arith}
+use Rattle.std.proofs.Common.{◌≡◌, ℕ, zero, suc, ℤ, negsuc, [], ◌∷◌, length, Some, inl, inr, refl, sym, ap}
+use Rattle.std.proofs.Common.{◌∙◌, subst, arith}
 use Rattle.std.proofs.lemmas.Option.{none-some, same_Some}
 use Rattle.flow_graph.specs.Graphs.{IsIn}
 use Rattle.puzzle_board.specs.declared.piece.Kind.TheVariants.{X, Y, Z}
