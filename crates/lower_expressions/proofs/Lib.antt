@@ -1,0 +1,4 @@
+pub mod Widths
+pub mod Going
+pub mod Made
+pub mod Atoms
