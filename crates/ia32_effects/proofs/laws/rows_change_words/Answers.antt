@@ -1,0 +1,8 @@
+use Rattle.ia32_effects.proofs.Unary.{complement-puts, negation-puts}
+use Rattle.ia32_effects.proofs.laws.rows_change_words.Goals as goal
+
+pub returns-clause-negation : goal.returns-clause-negation
+returns-clause-negation c = negation-puts
+
+pub returns-clause-complement : goal.returns-clause-complement
+returns-clause-complement c = complement-puts
