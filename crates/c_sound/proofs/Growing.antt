@@ -112,7 +112,7 @@ ObjectCounts (IntegerObject of) = Unit {0}
 ObjectCounts (PointerObject of) = Unit {0}
 ObjectCounts (ArrayObject element n) = 1 ≤ n
 
-allowed_counts : (static : Bool) (at : Span) (d : Declared) → Counts d
+pub allowed_counts : (static : Bool) (at : Span) (d : Declared) → Counts d
     → IfFits ObjectCounts (object_allowed static at d)
 allowed_counts static at (DeclaredValue None) h = tt
 allowed_counts static at (DeclaredValue (Some Void)) h = tt
