@@ -2,3 +2,5 @@ pub mod Widths
 pub mod Going
 pub mod Made
 pub mod Atoms
+pub mod Operands
+pub mod Unary

@@ -56,7 +56,7 @@ abbrev pub MayTake : Site → ℕ → ℕ → Type 0
 MayTake S level v = (slice_get (variable_widths S.function) v ≡ Some Two)
     × ((v ≡ (own (context_of S) level).number) ⊎ (v < local_variables S.function))
 
-some-and : {A : Type 0} (o : Option A) (P : A → Type 0) → IsSomeAnd o P → (x : A) × (o ≡ Some x) × P x
+pub some-and : {A : Type 0} (o : Option A) (P : A → Type 0) → IsSomeAnd o P → (x : A) × (o ≡ Some x) × P x
 some-and None P h = absurd h
 some-and (Some x) P h = (x, refl, h)
 

@@ -1,6 +1,7 @@
 //! Laws of the lines of expressions: each function's contract is one, and the function does nothing.
 
-ghost use Rattle.lower_expressions.specs.Laws.{CharsLower, ConstantsLower, GetcharLowers};
+ghost use Rattle.lower_expressions.specs.Laws.{CharsLower, ComplementsLower, ConstantsLower};
+ghost use Rattle.lower_expressions.specs.Laws.{GetcharLowers, MinusesLower};
 
 /// The lines of a constant do what the source does, whatever is wanted of it.
 pub fn constants_lower()
@@ -15,4 +16,14 @@ pub fn chars_lower()
 /// The lines of `getchar` do what the source does.
 pub fn getchar_lowers()
     ensures { GetcharLowers }
+{}
+
+/// The lines of `-` do what the source does, where those of its operand do.
+pub fn minuses_lower()
+    ensures { MinusesLower }
+{}
+
+/// The lines of `~` do what the source does, where those of its operand do.
+pub fn complements_lower()
+    ensures { ComplementsLower }
 {}

@@ -4,4 +4,4 @@
 
 mod laws;
 
-pub use laws::{chars_lower, constants_lower, getchar_lowers};
+pub use laws::{chars_lower, complements_lower, constants_lower, getchar_lowers, minuses_lower};
