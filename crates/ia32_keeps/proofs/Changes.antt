@@ -3,16 +3,16 @@ use Rattle.std.proofs.Common.{◌≡◌, ℕ, false, ◌+◌, ◌-◌, ◌%◌, 
 use Rattle.std.proofs.Common.{Some}
 use Rattle.std.proofs.Common.{inl, refl, sym, ap, subst, ◌∙◌, arith}
 use Rattle.std.specs.Prelude.{FitsSigned}
-use Rattle.std.specs.Int.{w32, cast_signed, cast_unsigned, int_bit_not, int_wrap}
+use Rattle.std.specs.Int.{w8, w32, cast_signed, cast_unsigned, int_bit_not, int_wrap}
 use Rattle.std.proofs.lemmas.Int.{ints, to_z-of_z, of_z-to_z, wrapping_sub-bits, SFits-int_wrap}
 use Rattle.pcc_base.specs.Outcome.{Number}
 use Rattle.pcc_base.specs.declared.run.Width.{Width}
-use Rattle.pcc_base.specs.declared.run.Width.TheVariants.{Two}
+use Rattle.pcc_base.specs.declared.run.Width.TheVariants.{One, Two}
 use Rattle.ia32_places.specs.Places.{Place}
 use Rattle.ia32_insn.specs.declared.insn.Insn.TheVariants as insn
 use Rattle.ia32_insn.specs.declared.item.Item.{Item}
 use Rattle.ia32_insn.specs.State as machine
-use Rattle.ia32_insn.specs.Arithmetic.{complement, negation}
+use Rattle.ia32_insn.specs.Arithmetic.{complement, extended8, negation}
 use Rattle.flow_graph.specs.declared.op.Op.{Op}
 use Rattle.flow_graph.specs.declared.op.Op.TheVariants as op
 use Rattle.flow_graph.specs.Graphs.{HasWidth, IsIn}
@@ -21,20 +21,23 @@ use Rattle.flow_graph.specs.Meaning.{given, sets}
 use Rattle.flow_graph.specs.States as graph
 use Rattle.flow_graph.specs.States.{active_of, flow_at, number_of, op_at, value_at}
 use Rattle.flow_graph.specs.WellFormed.{IsState}
-use Rattle.graph_states.proofs.Numbers.{not-fits}
+use Rattle.graph_states.proofs.Numbers.{byte-word, not-fits}
 use Rattle.ia32_shows.specs.Follows.{Follows}
 use Rattle.ia32_shows.specs.Placements.{Code, placement_of}
-use Rattle.ia32_shows.specs.Shows.{Shows}
+use Rattle.ia32_shows.specs.Shows.{Shows, StandsIn}
 use Rattle.ia32_shows.specs.Sites.{Framed, Site}
 use Rattle.ia32_effects.specs.Contains.{Contains, HoldsWord, IsPlaceIn}
 use Rattle.ia32_effects.specs.Laws.{Puts}
-use Rattle.ia32_effects.specs.Unary.{changing}
-use Rattle.ia32_effects.proofs.Unary.{complement-puts, negation-puts}
-use Rattle.ia32_keeps.specs.Supports.{IsSupported, site_of}
-use Rattle.ia32_keeps.specs.Ops.{ComplementFollows, NegationFollows, RowAt, after_at, before_at}
+use Rattle.ia32_effects.specs.Unary.{changing, widening}
+use Rattle.ia32_effects.proofs.Unary.{complement-puts, extension-puts, negation-puts}
+use Rattle.ia32_keeps.specs.Supports.{HoldsWidth, IsSupported, site_of}
+use Rattle.ia32_keeps.specs.Ops.{ComplementFollows, ExtensionFollows, NegationFollows, RowAt, after_at, before_at}
 use Rattle.ia32_keeps.proofs.Shown.{point-supported}
 use Rattle.ia32_keeps.proofs.Zones.{shown-in-frame}
 use Rattle.ia32_keeps.proofs.Puts.{IsLow, puts-follow}
+use Rattle.ia32_regs.specs.declared.names.Reg32.TheVariants.{Ebp}
+use Rattle.ia32_insn.specs.Meaning.{word_of}
+use Rattle.ia32_keeps.proofs.Copies.{byte-in, byte-small}
 use Rattle.ia32_keeps.proofs.Words.{word-fits}
 use Rattle.ia32_keeps.proofs.Ops.{at-after, at-before, given-number, has-number, op-is}
 
@@ -122,3 +125,39 @@ complement-follows d a code input g s supported state shown has r =
     let fits = (op-is code g (op.Not d a) supported state has).fits in
     unary-follows complement (changing insn.Not) _ (op.Not d a) d a code input g s complement-puts complemented refl
     (inl refl) (λ next h. h) fits.0 fits.1.0 supported state shown has r
+
+-- ---- a byte to a word
+
+-- the word of a byte with its sign is that of its number
+extended-word : (n : ℤ) (b : ℕ) → FitsSigned w8 n → b ≡ cast_unsigned w8 n → cast_unsigned w32 n ≡ extended8 b
+extended-word n b fits is =
+    ap (cast_unsigned w32) (sym (to_z-of_z w8 n fits)) ∙ ap (λ (k : ℕ). cast_unsigned w32 (cast_signed w8 k)) (sym is)
+
+pub extension-follows : ExtensionFollows
+extension-follows d a code input g s supported state shown has r =
+    given-number (Follows code input s g false) (value_at g a) (λ x. sets code.program g d (Number x)) tt (λ x e.
+    let o : Op = op.Wide d a in
+    let here = point-supported code g o supported state has in
+    let fits = (op-is code g o supported state has).fits in
+    let (to, at) = here.written d refl in
+    let (from, before) = here.read a (inl refl) in
+    let for_to = here.after d to at in
+    let for_from = here.before a from before in
+    let framed = (shown-in-frame code input g s supported state shown).framed in
+    let four = (supported.supports g.current.function state.active.0.function).four_words in
+    let two : HoldsWidth (Some One) from = subst (λ (w : Option Width). HoldsWidth w from) fits.1.0 for_from.holds in
+    let stands = subst (λ (w : Option Width).
+    StandsIn code (active_of g) shown.frames s (word_of Ebp s) w (Number x) from) fits.1.0
+    (shown.variables a (Number x) from e before) in
+    let (b, contains, byte) = byte-in code g shown.frames s from (Number x) two stands in
+    let low : IsLow code (active_of g) shown.frames (Some Two) (Number x) (extended8 b) =
+    (byte-word x byte.0, sym (extended-word x b byte.0 byte.1)) in
+    puts-follow code input g s o d (extended8 b) (Number x) to (widening to from) supported state shown has refl
+    (λ next h. h)
+    (at-before code g s a from (λ p. widening to p) before
+    (at-after code g s d to (λ p. widening p (before_at code g a)) at r)) at
+    (extension-puts (site_of code g.current.function) (placement_of code g.current.function).frame to from b s framed
+    four
+    for_to.inside for_from.inside contains (byte-small (Number x) b byte))
+    (subst (λ (v : Option Width). IsLow code (active_of g) shown.frames v (Number x) (extended8 b)) (sym fits.0) low)
+    tt)

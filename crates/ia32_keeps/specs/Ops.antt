@@ -18,7 +18,7 @@ use Rattle.ia32_shows.specs.Shows.{Shows}
 use Rattle.ia32_shows.specs.Sites.{ReadyAt}
 use Rattle.ia32_rows.specs.Rows.{commuting, place_after, place_before, row}
 use Rattle.ia32_effects.specs.Products.{multiplying}
-use Rattle.ia32_effects.specs.Unary.{changing}
+use Rattle.ia32_effects.specs.Unary.{changing, widening}
 use Rattle.ia32_keeps.specs.Supports.{IsSupported, site_of}
 
 -- where variables of the current call stand before and after the state's point
@@ -95,6 +95,11 @@ NegationFollows =
 abbrev pub ComplementFollows : Type 0
 ComplementFollows =
     (d a : ℕ) → ItemsFollow (op.Not d a) (λ code g. changing insn.Not (after_at code g d) (before_at code g a))
+
+-- MOVSX of a byte through its items
+abbrev pub ExtensionFollows : Type 0
+ExtensionFollows =
+    (d a : ℕ) → ItemsFollow (op.Wide d a) (λ code g. widening (after_at code g d) (before_at code g a))
 
 -- a mark and a turn
 abbrev pub MarkFollows : Type 0

@@ -1,6 +1,7 @@
 ghost use Rattle.ia32_keeps.specs.Supports.{SlotsSupport};
 ghost use Rattle.ia32_keeps.specs.Laws.{ShownInFrame, ProtectedIsApart, PushedIsApart, MovedShows, SetShows};
 ghost use Rattle.ia32_keeps.specs.Laws.{ArrayShows, ElementShows};
+ghost use Rattle.ia32_keeps.specs.Ops.{ExtensionFollows};
 ghost use Rattle.ia32_keeps.specs.Ops.{NumberFollows, CopyFollows, SumFollows, DifferenceFollows, AndFollows};
 ghost use Rattle.ia32_keeps.specs.Ops.{OrFollows};
 ghost use Rattle.ia32_keeps.specs.Ops.{XorFollows, ProductFollows, NegationFollows, ComplementFollows, MarkFollows, TurnFollows};
@@ -45,6 +46,7 @@ pub fn rows_follow()
     ensures product { ProductFollows }
     ensures negation { NegationFollows }
     ensures complement { ComplementFollows }
+    ensures extension { ExtensionFollows }
     ensures mark { MarkFollows }
     ensures turn { TurnFollows }
 {}

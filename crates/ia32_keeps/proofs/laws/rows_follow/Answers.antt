@@ -1,5 +1,5 @@
 use Rattle.ia32_keeps.proofs.Ops.{product-follows}
-use Rattle.ia32_keeps.proofs.Changes.{complement-follows, negation-follows}
+use Rattle.ia32_keeps.proofs.Changes.{complement-follows, extension-follows, negation-follows}
 use Rattle.ia32_keeps.proofs.Copies.{copy-follows}
 use Rattle.ia32_keeps.proofs.Marks.{mark-follows, turn-follows}
 use Rattle.ia32_keeps.proofs.Ops.{number-follows, sum-follows, difference-follows, and-follows, or-follows, xor-follows}
@@ -40,3 +40,6 @@ returns-clause-complement c = complement-follows
 
 pub returns-clause-product : goal.returns-clause-product
 returns-clause-product c = product-follows
+
+pub returns-clause-extension : goal.returns-clause-extension
+returns-clause-extension c = extension-follows
