@@ -2,7 +2,7 @@
 use Rattle.std.proofs.Common.{arith, ◌≡◌, refl, sym, ap, subst, ◌∙◌, ℕ, zero, suc, ◌≤◌, Bool, true, false, List, []}
 use Rattle.std.proofs.Common.{◌∷◌}
 use Rattle.std.proofs.Common.{map, length, inl, inr}
-use Rattle.std.specs.Prelude.{Option, Some, None, IsSomeAnd, slice_get, take, ◌&&◌, ◌||◌, All}
+use Rattle.std.specs.Prelude.{Option, Some, None, IsSomeAnd, slice_get, take, ◌||◌, All}
 use Rattle.std.specs.Prelude.{unwrap_or, if◌then◌else◌}
 use Rattle.std.specs.List.{AllByRecursion, list_any}
 use Rattle.pcc_base.specs.declared.fault.Fault.{Fault}
@@ -33,7 +33,7 @@ use Rattle.c_typing.specs.Typed.{Typed}
 use Rattle.c_typing.proofs.CountUp.{IfFits}
 use Rattle.c_typing.proofs.FilesAgree.{numbers_change_nothing}
 use Rattle.c_sound.proofs.Setting.{Setting, Holds, IsAt, IsKept, Kept}
-use Rattle.c_sound.proofs.RowsSound.{not_true}
+use Rattle.c_sound.proofs.RowsSound.{both_true, not_true}
 use Rattle.c_sound.proofs.ExpressionsSound.{is_some_on}
 use Rattle.c_sound.proofs.ItemsSound.{all_by}
 use Rattle.c_sound.proofs.ParametersSound.{types_of}
@@ -92,10 +92,6 @@ not_both (At place) h k = k
 abbrev pub ArePlaced : List Note → Type 0
 ArePlaced ns = (x y : Stored) → IsIn (Stores x) ns → IsIn (Stores y) ns → IsAt x.entity → x.entity ≡ y.entity
     → (x.element ≡ y.element) × (x.count ≡ y.count)
-
-both_true : (a b : Bool) → (a && b) ≡ true → (a ≡ true) × (b ≡ true)
-both_true true b h = (refl, h)
-both_true false b h = not_true h
 
 -- ---- static objects
 
