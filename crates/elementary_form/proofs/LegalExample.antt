@@ -10,7 +10,8 @@ use Rattle.flow_graph.specs.Liveness.{FixedDies, IsBehind, IsDefinedAt, IsLiveAf
 use Rattle.flow_graph.specs.Liveness.{IsLiveBefore, IsSuccessor, IsUsedAt}
 use Rattle.flow_graph.specs.Liveness.{BeginsWith, LeadsTo, ReachesUse, uses}
 use Rattle.flow_graph.specs.Lives.{AreLive, Lives, at_point}
-use Rattle.elementary_form.specs.PointMaps.{IsLegalMap, IsLegalPoint, slot_of, spilled_at}
+use Rattle.elementary_form.specs.PointMaps.{IsLegalMap, IsLegalPoint, slot_of}
+use Rattle.puzzle_board.specs.Places.{spilled_at}
 use Rattle.elementary_form.specs.SplitForms.{FixedOperandsDie}
 use Rattle.elementary_form.specs.WorkedBoards.{five_in_eax, five_returned}
 
