@@ -16,7 +16,8 @@ both_ways false true f g = g refl
 both_ways false false f g = refl
 
 name_turned : (a b : List ℕ) → same_name a b ≡ same_name b a
-name_turned a b = both_ways (same_name a b) (same_name b a) (λ h. (bytes_eq-Decides b a).1 (sym ((bytes_eq-Decides a b).0 h)))
+name_turned a b = both_ways (same_name a b) (same_name b a)
+    (λ h. (bytes_eq-Decides b a).1 (sym ((bytes_eq-Decides a b).0 h)))
     (λ h. (bytes_eq-Decides a b).1 (sym ((bytes_eq-Decides b a).0 h)))
 
 number_turned : (a b : ℕ) → nat_eq a b ≡ nat_eq b a

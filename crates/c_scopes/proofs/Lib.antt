@@ -1,3 +1,5 @@
+pub mod Declarations
 pub mod Entities
 pub mod Numbering
+pub mod Sameness
 pub mod Tables

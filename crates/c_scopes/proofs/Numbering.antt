@@ -1,10 +1,18 @@
 -- The number of an entity, by its place in a table.
-use Rattle.std.proofs.Common.{◌≡◌, ℕ, suc, ◌+◌, ◌≤◌, List, [], ◌∷◌, map, length, Bool, true, false, cond, not, Option}
+use Rattle.std.proofs.Common.{◌≡◌, ◌||◌, ◌++◌, ℕ, suc, ◌+◌, ◌≤◌, List, [], ◌∷◌, map, length, Bool, true, false, cond}
+use Rattle.std.proofs.Common.{not, Option}
 use Rattle.std.proofs.Common.{Some, None, refl, ap, sym, ◌∙◌, arith, IfOk, if◌then◌else◌}
 use Rattle.std.specs.Prelude.{Result, Ok, Err, position, nat_lt}
 use Rattle.std.specs.List.{position_or_len}
 use Rattle.std.proofs.lemmas.Grind.{common_steps}
+use Rattle.std.specs.List.{list_any}
+use Rattle.std.proofs.lemmas.List.{map_push}
+use Rattle.indexmap.specs.IndexSet.{insert_key}
 use Rattle.c_typing.specs.Library.{Entity, same_entity, number_among}
+use Rattle.c_scopes.specs.declared.entity.Entity.{Entity as Stored}
+use Rattle.c_scopes.specs.contracts.entity.EntityPartialEq.TheImpl.{ghosts}
+use Rattle.c_scopes.specs.Views.{entity_of, with_entity}
+use Rattle.c_scopes.proofs.Entities.{turned}
 
 among : {K : Type 0} (test : K → Bool) (view : K → Entity) (ks : List K) (e : Entity)
     → ((k : K) → test k ≡ same_entity (view k) e) → position_or_len test ks ≡ number_among (map view ks) e
@@ -54,3 +62,22 @@ module _ {K E : Type 0} (test : K → Bool) (view : K → Entity) (ks : List K) 
       let at : m ≡ position_or_len test ks = omega (arith, size, past, within test ks) in
       IfOk-is answer m (number_among entities e)
       (at ∙ among test view ks e same ∙ ap (λ es. number_among es e) (sym all)) says
+
+-- ---- one more
+
+listed : (a : Stored) (ks : List Stored) → list_any (ghosts.eq a) ks
+    ≡ list_any (λ x. same_entity x (entity_of a)) (map entity_of ks)
+listed a [] = refl
+listed a (k ∷ ks) = ap (λ b. b || list_any (ghosts.eq a) ks) (turned a k)
+    ∙ ap (λ b. same_entity (entity_of k) (entity_of a) || b) (listed a ks)
+
+-- an entity is put behind those that have numbers, unless it is among them
+pub with_one : (ks new : List Stored) (k : Stored) → new ≡ insert_key ghosts.eq ks k
+    → map entity_of new ≡ with_entity (map entity_of ks) (entity_of k)
+with_one ks new k is = ap (map entity_of) is ∙ by (list_any (ghosts.eq k) ks)
+    ∙ ap (λ b. if b then map entity_of ks else map entity_of ks ++ entity_of k ∷ []) (listed k ks)
+  where
+    by : (b : Bool) → map entity_of (if b then ks else ks ++ k ∷ [])
+        ≡ (if b then map entity_of ks else map entity_of ks ++ entity_of k ∷ [])
+    by true = refl
+    by false = map_push entity_of ks k

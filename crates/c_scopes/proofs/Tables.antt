@@ -1,6 +1,7 @@
 -- Where the innermost binding of a name stands, behind a binding and where one is forgotten.
 use Rattle.std.proofs.Common.{◌≡◌, ℕ, zero, suc, ◌<◌, List, [], ◌∷◌, ◌++◌, map, length, reverse, Bool, true, false}
-use Rattle.std.proofs.Common.{Option, Some, None, refl, ap, sym, subst, ◌∙◌, slice_get, get_or, drop, arith, if◌then◌else◌}
+use Rattle.std.proofs.Common.{Option, Some, None, refl, ap, sym, subst, ◌∙◌, slice_get, get_or, drop, arith}
+use Rattle.std.proofs.Common.{if◌then◌else◌}
 use Rattle.std.proofs.Common.{true≢false, ◌-◌, ◌≤◌}
 use Rattle.std.specs.Prelude.{nat_eq}
 use Rattle.std.specs.Cmp.Lexicographic.{pointwise}
@@ -82,19 +83,20 @@ module _ {K : Type 0} (items : K → List ℕ) (old new : List (K × ℕ)) (e : 
 -- ---- the innermost binding of a name
 
 -- the last of a list
-last_at : {X : Type 0} (xs : List X) (x : X) → slice_get (xs ++ x ∷ []) (length xs) ≡ Some x
+pub last_at : {X : Type 0} (xs : List X) (x : X) → slice_get (xs ++ x ∷ []) (length xs) ≡ Some x
 last_at [] x = refl
 last_at (y ∷ ys) x = last_at ys x
 
 -- what stands in a list stands in a longer one
-still_at : {X : Type 0} (xs ys : List X) (i : ℕ) (x : X) → slice_get xs i ≡ Some x → slice_get (xs ++ ys) i ≡ Some x
+pub still_at : {X : Type 0} (xs ys : List X) (i : ℕ) (x : X) → slice_get xs i ≡ Some x → slice_get (xs ++ ys) i ≡ Some x
 still_at [] ys i x e = absurd (none-some x e)
 still_at (z ∷ zs) ys zero x e = e
 still_at (z ∷ zs) ys (suc i) x e = still_at zs ys i x e
 
 -- a name with a place is bound there
 pub bound_at : (es : List Entry) (name : List ℕ) (p : ℕ) → place_of es name ≡ Some p
-    → (e : Entry) × (slice_get (reverse es) p ≡ Some e) × (binding_of (map binding_from es) name ≡ Some (binding_from e))
+    → (e : Entry) × (slice_get (reverse es) p ≡ Some e)
+    × (binding_of (map binding_from es) name ≡ Some (binding_from e))
 bound_at [] name p h = absurd (none-some p h)
 bound_at (e ∷ es) name p h = by (same_name e.name.items name) refl (λ g. bound_at es name p g)
   where
@@ -168,7 +170,8 @@ if_there : {X Y : Type 0} (hidden : Option X) (o : Option Y) → IsSome o → If
 if_there None o h = tt
 if_there (Some x) o h = h
 
-module _ {K : Type 0} (items : K → List ℕ) (old new : List (K × ℕ)) (es after : List Entry) (e : Entry) (key : List ℕ) where
+module _ {K : Type 0} (items : K → List ℕ) (old new : List (K × ℕ)) (es after : List Entry) (e : Entry)
+    (key : List ℕ) where
   -- a binding is put behind the others
   pub bind_keeps : (place : ℕ) → after ≡ es ++ e ∷ [] → e.name.items ≡ key → Keeps items old (reverse es)
       → e.hidden ≡ lookup (λ k. pointwise nat_eq key (items k)) old → place ≡ length es

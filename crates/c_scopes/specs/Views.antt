@@ -1,4 +1,6 @@
 -- What the entities, meanings and declarations of the tables are to the definitions of typing.
+use Rattle.std.specs.Prelude.{List, [], ◌∷◌, ◌++◌, if◌then◌else◌}
+use Rattle.std.specs.List.{list_any}
 use Rattle.c_typing.specs.Library as library
 use Rattle.c_typing.specs.Names as names
 use Rattle.c_typing.specs.Types as types
@@ -12,6 +14,8 @@ use Rattle.c_scopes.specs.declared.meaning.Meaning.TheVariants as meanings
 use Rattle.c_scopes.specs.declared.meaning.Declared.{Declared}
 use Rattle.c_scopes.specs.declared.meaning.Declared.TheVariants as kinds
 use Rattle.c_scopes.specs.declared.meaning.Outer.{Outer}
+use Rattle.c_scopes.specs.declared.meaning.Storage.{Storage}
+use Rattle.c_scopes.specs.declared.meaning.Storage.TheVariants as storages
 
 abbrev pub library_of : LibraryFunction → library.LibraryFunction
 library_of functions.Putchar = library.Putchar
@@ -41,3 +45,14 @@ declared_of (kinds.Function result parameters) = types.DeclaredFunction result p
 
 abbrev pub outer_of : Outer → names.Outer
 outer_of o = record { entity = entity_of o.entity; type = declared_of o.declared; whole = o.whole }
+
+abbrev pub storage_of : Storage → types.Storage
+storage_of storages.Unsaid = types.Unsaid
+storage_of storages.Auto = types.Auto
+storage_of storages.Register = types.Register
+storage_of storages.Static = types.Static
+storage_of storages.Extern = types.Extern
+
+-- one more entity has a number, unless it has one
+abbrev pub with_entity : List library.Entity → library.Entity → List library.Entity
+with_entity es e = if list_any (λ x. library.same_entity x e) es then es else es ++ e ∷ []

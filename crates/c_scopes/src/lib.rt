@@ -8,13 +8,15 @@
 
 mod entity;
 mod library;
+mod linkage;
 mod meaning;
 mod names;
 mod numbers;
 mod outers;
+mod same;
 mod scopes;
 
 pub use entity::{Entity, LibraryFunction};
-pub use meaning::{Declared, Meaning, Outer, Signature};
+pub use meaning::{Declared, Meaning, Outer, Signature, Storage};
 pub use numbers::Numbers;
 pub use scopes::{Mark, Scopes};

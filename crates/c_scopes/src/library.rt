@@ -88,8 +88,8 @@ pub(crate) fn library_outers(alloc: Global) -> Result<Outers, NoMemory>
         o ≡ library_outer Putchar ∷ library_outer Getchar ∷ library_outer Exit ∷ []) }
 {
     let mut outers = Outers::new(alloc);
-    outers.push(outer(alloc, LibraryFunction::Exit)?)?;
-    outers.push(outer(alloc, LibraryFunction::Getchar)?)?;
-    outers.push(outer(alloc, LibraryFunction::Putchar)?)?;
+    outers.push(alloc, outer(alloc, LibraryFunction::Exit)?)?;
+    outers.push(alloc, outer(alloc, LibraryFunction::Getchar)?)?;
+    outers.push(alloc, outer(alloc, LibraryFunction::Putchar)?)?;
     Ok(outers)
 }

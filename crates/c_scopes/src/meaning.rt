@@ -24,6 +24,16 @@ pub enum Meaning {
     Function(Entity, Signature),
 }
 
+/// The storage word of a declaration, of which there is one at most (C99 6.7.1p2).
+#[derive(Clone, Copy, Debug, PartialEq, Eq)]
+pub enum Storage {
+    Unsaid,
+    Auto,
+    Register,
+    Static,
+    Extern,
+}
+
 /// What a declarator says of its name; no type where it is a pointer to `void`, which the profile hasn't.
 #[derive(Drop)]
 pub enum Declared {

@@ -2,7 +2,7 @@
 
 ghost use Rattle.std.specs.Prelude.{◌≡◌, ◌∷◌, ◌++◌, [], IfOk, OnOk};
 ghost use Rattle.c_typing.specs.Library.{number_among};
-ghost use Rattle.c_scopes.specs.Views.{entity_of};
+ghost use Rattle.c_scopes.specs.Views.{entity_of, with_entity};
 
 use crate::entity::Entity;
 use indexmap::IndexSet;
@@ -51,6 +51,24 @@ impl Numbers {
             objects: IndexSet::new(alloc),
             functions: IndexSet::new(alloc),
         }
+    }
+
+    /// One more object has a number, unless it has one.
+    pub fn add_object(&mut self, entity: Entity) -> Result<(), NoMemory>
+        ensures { OnOk result (self.new
+            ≡ record self.old { objects = with_entity self.old.objects (entity_of entity) }) }
+    {
+        self.objects.insert(entity)?;
+        Ok(())
+    }
+
+    /// One more function has a number, unless it has one.
+    pub fn add_function(&mut self, entity: Entity) -> Result<(), NoMemory>
+        ensures { OnOk result (self.new
+            ≡ record self.old { functions = with_entity self.old.functions (entity_of entity) }) }
+    {
+        self.functions.insert(entity)?;
+        Ok(())
     }
 
     /// The number of an object, and how many have one where it has none.

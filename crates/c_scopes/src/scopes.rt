@@ -7,7 +7,9 @@ ghost use Rattle.c_typing.specs.Names.{
   entered,
   first_scope,
   is_declared_here,
+  is_redeclared,
   left,
+  linked,
   meaning_of,
   next_file,
   numbered,
@@ -23,7 +25,8 @@ ghost use Rattle.c_scopes.specs.Views as views;
 
 use crate::entity::Entity;
 use crate::library::{library_names, library_outers};
-use crate::meaning::{Meaning, Outer};
+use crate::linkage::{as_before, entity_meant, external, is_function, is_other};
+use crate::meaning::{Declared, Meaning, Outer, Storage};
 use crate::names::Names;
 use crate::numbers::{Numbers, number};
 use crate::outers::Outers;
@@ -232,10 +235,45 @@ impl Scopes {
         self.numbers.function(entity)
     }
 
+    /// What a declaration outside functions declares (C99 6.2.2p3 to p5).
+    pub fn linked(
+        &self,
+        alloc: Global,
+        storage: Storage,
+        declared: &Declared,
+        name: &Name,
+    ) -> Result<Entity, NoMemory>
+        ensures { IfOk result (λ e. views.entity_of e ≡ linked self.now (views.storage_of storage)
+            (views.declared_of declared.now) name.now) }
+    {
+        match storage {
+            Storage::Static => {
+                let bytes = name.as_bytes().to_vec(alloc)?;
+                Ok(Entity::OfFile(self.file, bytes))
+            }
+            Storage::Extern => as_before(alloc, name.as_bytes(), self.meaning(name)),
+            Storage::Unsaid => {
+                if is_function(declared) {
+                    return as_before(alloc, name.as_bytes(), self.meaning(name));
+                }
+                external(alloc, name.as_bytes())
+            }
+            Storage::Auto | Storage::Register => external(alloc, name.as_bytes()),
+        }
+    }
+
+    /// Whether a declaration outside functions goes against an earlier one: in this file with another linkage (C99
+    /// 6.2.2p7), or of the same thing in any file (C99 6.2.7p2 and 6.9p5).
+    pub fn is_redeclared(&self, name: &Name, outer: &Outer) -> bool
+        ensures { result ≡ is_redeclared self.now name.now (views.outer_of outer.now) }
+    {
+        is_other(&outer.entity, entity_meant(self.meaning(name))) || self.outers.clashes(outer)
+    }
+
     /// One more declaration outside functions.
-    pub fn add_outer(&mut self, outer: Outer) -> Result<(), NoMemory>
+    pub fn add_outer(&mut self, alloc: Global, outer: Outer) -> Result<(), NoMemory>
         ensures { OnOk result (self.new ≡ with_outer (views.outer_of outer) self.old) }
     {
-        self.outers.push(outer)
+        self.outers.push(alloc, outer)
     }
 }

@@ -13,11 +13,7 @@ use Rattle.c_typing.specs.Library.{same_function, same_place, same_entity}
 use Rattle.c_typing.specs.Names.{Outer, clashes}
 use Rattle.c_typing.specs.Types.{same_value, same_values, same_pointed, same_type, Declared, DeclaredValue}
 use Rattle.c_typing.specs.Types.{DeclaredArray, DeclaredFunction}
-use Rattle.c_sound.proofs.RowsSound.{not_true, same_integer_is}
-
-both_true : (a b : Bool) → (a && b) ≡ true → (a ≡ true) × (b ≡ true)
-both_true true b h = (refl, h)
-both_true false b h = not_true h
+use Rattle.c_sound.proofs.RowsSound.{either_false, both_true, not_true, same_integer_is}
 
 number_is : (m n : ℕ) → (m == n) ≡ true → m ≡ n
 number_is m n = (Decides-eqb m n).0
@@ -157,10 +153,6 @@ type_by : (a b c : Bool) → a ≡ true → (a && (not b || c)) ≡ false → b 
 type_by true true c e h = refl
 type_by true false c e h = grind arith
 type_by false b c e h = not_true e
-
-either_false : (a b : Bool) → (a || b) ≡ false → (a ≡ false) × (b ≡ false)
-either_false true b h = grind arith
-either_false false b h = (refl, h)
 
 no_clash : (o : Outer) (os : List Outer) → list_any (clashes o) os ≡ false → AllByRecursion (OneType o) os
 no_clash o [] h = tt

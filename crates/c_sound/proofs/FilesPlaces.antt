@@ -65,20 +65,33 @@ use Rattle.c_sound.proofs.Places.{Sub, sub_skip, sub_behind, sub_before, sub_on,
 use Rattle.c_sound.proofs.Places.{placed_if, placed_after, placed_pair, placed_both, plain_first}
 use Rattle.c_sound.proofs.Places.{placed_also, never_fits, PlacedAll, text_first, typed_placed, given_placed}
 use Rattle.c_sound.proofs.Growing.{are_items, Each, items_each, cases_each}
+use Rattle.std.proofs.Common.{◌≤◌}
+use Rattle.pcc_base.specs.Objects.{FitsBytes}
+use Rattle.pcc_base.specs.declared.fault.Fault.{Fault}
+use Rattle.c_tree.specs.Sizes.{bytes_of}
+use Rattle.c_typing.specs.Types.{pointed}
+use Rattle.c_typing.specs.Checked.{Contents}
+use Rattle.c_typing.specs.Initialisers.{no_values}
+use Rattle.c_typing.specs.Statements.{elements_of, size_of}
+use Rattle.c_typing.proofs.CountUp.{IfFits, holds_if, holds_both}
+use Rattle.c_sound.proofs.Growing.{Counts, part_counts, ObjectCounts, allowed_counts}
+use Rattle.c_sound.proofs.Places.{placed_knowing, one_more}
+use Rattle.c_sound.proofs.Ranges.{InRange}
+use Rattle.c_sound.proofs.Ranged.{HasInts, ints_left, ints_right, ranged, Fitting, text_fits, constant_fits}
 
 -- ---- initialisers
 
 values_placed : {A : Type 0} (row : Span → Expression → Checked A)
     → ((at : Span) (e : Expression) → Plain (row at e)) → (room : ℕ) (gs : List Given) (T : List Token) → PlacedAll gs T
     → Placed T (values_for row room gs)
-values_placed row one room [] T h = tt
-values_placed {A} row one zero (g ∷ gs) T (U, V, e, h, k) =
+values_placed row one room [] T h = (tt, λ z. tt)
+values_placed {A} row one zero (g ∷ gs) T (U, V, e, h, r, k) =
     subst (λ W. Placed W (values_for row zero (g ∷ gs))) (sym e)
     (placed_both U V (if_fits g.value (λ x. Fails (record { kind = kinds.Initialiser; at = g.at }) []))
     (values_for row zero gs) (λ x xs. fits (x ∷ xs))
     (never_fits A U g.value (record { kind = kinds.Initialiser; at = g.at }) [])
     (values_placed row one zero gs V k) (λ a b. refl))
-values_placed row one (suc room) (g ∷ gs) T (U, V, e, h, k) =
+values_placed row one (suc room) (g ∷ gs) T (U, V, e, h, r, k) =
     subst (λ W. Placed W (values_for row (suc room) (g ∷ gs))) (sym e)
     (placed_both U V (if_fits g.value (row g.at)) (values_for row room gs) (λ x xs. fits (x ∷ xs))
     (placed_if U g.value (row g.at) h (λ x. one g.at x)) (values_placed row one room gs V k) (λ a b. refl))
@@ -87,7 +100,7 @@ values_placed row one (suc room) (g ∷ gs) T (U, V, e, h, k) =
 scalar_placed : (s : Scope) (v : InitialiserTree) → IsInitialiser v
     → PlacedAll (given s (scalar_values v)) (initialiser_tokens v)
 scalar_placed s (Single e) h =
-    (expr_tokens e, [], sym (append-nil (expr_tokens e)), typed_placed s e h.0, tt)
+    (expr_tokens e, [], sym (append-nil (expr_tokens e)), typed_placed s e h.0, (λ z. ranged s e z), tt)
 scalar_placed s (Braces o NoExpr commas trailing c) h = absurd h
 scalar_placed s (Braces o (OneExpr e es) commas trailing c) h =
     inside_all (given s (OneExpr e es)) (exprs_tokens (OneExpr e es) commas)
@@ -95,17 +108,18 @@ scalar_placed s (Braces o (OneExpr e es) commas trailing c) h =
   where
     append_all : (gs : List Given) (T U : List Token) → PlacedAll gs T → PlacedAll gs (T ++ U)
     append_all [] T U k = tt
-    append_all (g ∷ gs) T U (V, W, q, k, l) =
-        (V, W ++ U, ap (λ x. x ++ U) q ∙ append_assoc V W U, k, append_all gs W U l)
+    append_all (g ∷ gs) T U (V, W, q, k, r, l) =
+        (V, W ++ U, ap (λ x. x ++ U) q ∙ append_assoc V W U, k, r, append_all gs W U l)
 
     inside_all : (gs : List Given) (T : List Token) → PlacedAll gs T → (t : Token) (U : List Token)
         → PlacedAll gs (t ∷ (T ++ U))
     inside_all [] T k t U = tt
-    inside_all (g ∷ gs) T (V, W, q, k, l) t U = (
+    inside_all (g ∷ gs) T (V, W, q, k, r, l) t U = (
       t ∷ V,
       W ++ U,
       ap (λ x. t ∷ (x ++ U)) q ∙ ap (λ x. t ∷ x) (append_assoc V W U),
       behind (t ∷ []) V g.value k,
+      (λ z. r z.1),
       append_all gs W U l,
     )
 
@@ -170,7 +184,7 @@ letters_placed {A} T n pieces value h = by_test (nat_le (length (text_bytes piec
   where
     by_test : (b : Bool) → Placed {A = A} T (if b then Fits value (text_note pieces ∷ [])
         else Fails (record { kind = kinds.Initialiser; at = first_piece pieces }) [])
-    by_test true = h
+    by_test true = (h, λ z. ((one_more (length (text_bytes pieces)), text_fits pieces), tt))
     by_test false = tt
 
 elements_placed : (s : Scope) (t : IntegerType) (n : ℕ) (values : ArrayValues) (T : List Token) → AtTokens s T values
@@ -202,7 +216,7 @@ constants_in_placed s t n (NoValues e) T h =
 
 pub contents_placed : (s : Scope) (type : ObjectType) (otherwise : Contents) (v : Option ValueTree) → IsMaybeValue v
     → Placed (value_tokens v) (contents_for s type otherwise v)
-contents_placed s type otherwise None h = tt
+contents_placed s type otherwise None h = (tt, λ z. tt)
 contents_placed s (IntegerObject of) otherwise (Some v) h =
     behind (_ ∷ []) (initialiser_tokens v.value) (constants_for s of 1 (scalar_values v.value))
     (constants_placed s of 1 (scalar_values v.value) (initialiser_tokens v.value) (scalar_placed s v.value h))
@@ -215,7 +229,7 @@ contents_placed s (ArrayObject t n) otherwise (Some v) h =
 
 scalar_initialiser_placed : (s : Scope) (of : ValueType) (v : Option ValueTree) → IsMaybeValue v
     → Placed (value_tokens v) (scalar_initialiser s of v)
-scalar_initialiser_placed s of None h = tt
+scalar_initialiser_placed s of None h = (tt, λ z. tt)
 scalar_initialiser_placed s of (Some v) h =
     let T = initialiser_tokens v.value in
     let gs = given s (scalar_values v.value) in
@@ -225,19 +239,104 @@ scalar_initialiser_placed s of (Some v) h =
 
 array_initialiser_placed : (s : Scope) (t : IntegerType) (n : ℕ) (v : Option ValueTree) → IsMaybeValue v
     → Placed (value_tokens v) (array_initialiser s t n v)
-array_initialiser_placed s t n None h = tt
+array_initialiser_placed s t n None h = (tt, λ z. tt)
 array_initialiser_placed s t n (Some v) h =
     behind (_ ∷ []) (initialiser_tokens v.value) (elements_for s t n (array_values t v.value))
     (elements_placed s t n (array_values t v.value) (initialiser_tokens v.value) (array_at s t v.value h))
 
 -- ---- declared items
 
+-- where all of a list's values are rightly made, so is the list
+values_fit : {A : Type 0} (P : A → Type 0) (row : Span → Expression → Checked A)
+    → ((at : Span) (e : Expression) → InRange e → IfFits P (row at e)) → (room : ℕ) (gs : List Given) (T : List Token)
+    → PlacedAll gs T → HasInts T → IfFits (AllByRecursion P) (values_for row room gs)
+values_fit P row one room [] T h z = tt
+values_fit {A} P row one zero (g ∷ gs) T (U, V, e, h, r, k) z =
+    let N : A → Type 0 = λ a. ⊥ in
+    let f : Fault = record { kind = kinds.Initialiser; at = g.at } in
+    holds_both N (AllByRecursion P) (AllByRecursion P) (if_fits g.value (λ x. Fails f [])) (values_for row zero gs)
+    (λ x xs. fits (x ∷ xs)) (none_fits g.value f)
+    (values_fit P row one zero gs V k (ints_right U V (subst HasInts e z))) (λ a b x y. absurd x)
+  where
+    none_fits : (c : Checked Expression) (f : Fault) → IfFits (λ (a : A). ⊥) (if_fits c (λ x. Fails f []))
+    none_fits (Fits a ns) f = tt
+    none_fits (Fails x xs) f = tt
+values_fit P row one (suc room) (g ∷ gs) T (U, V, e, h, r, k) z =
+    let y = subst HasInts e z in
+    holds_both P (AllByRecursion P) (AllByRecursion P) (if_fits g.value (row g.at)) (values_for row room gs)
+    (λ x xs. fits (x ∷ xs))
+    (holds_if InRange P g.value (row g.at) (r (ints_left U V y)) (λ x q. one g.at x q))
+    (values_fit P row one room gs V k (ints_right U V y)) (λ a b x y. (x, y))
+
+constants_right : (s : Scope) (t : IntegerType) (n : ℕ) (es : Exprs) (T : List Token) → PlacedAll (given s es) T
+    → HasInts T → IfFits (Fitting t) (constants_for s t n es)
+constants_right s t n es T h z =
+    holds_if (AllByRecursion (FitsBytes (bytes_of t))) (Fitting t) (values_for (constant_for t) n (given s es))
+    (λ ns. fits (Values ns))
+    (values_fit (FitsBytes (bytes_of t)) (constant_for t) (λ at e q. constant_fits t at e q) n (given s es) T h z)
+    (λ ns k. k)
+
+no_values_right : (t : IntegerType) (s : Scope) (e : Expr) → IfFits (Fitting t) (no_values s e)
+no_values_right t s e = by_value (typed_expression s e)
+  where
+    by_value : (c : Checked Expression) → IfFits (Fitting t) (if_fits c (λ x.
+        Fails (record { kind = kinds.Initialiser; at = first_token e }) []))
+    by_value (Fits a ns) = tt
+    by_value (Fails f fs) = tt
+
+letters_right : (n : ℕ) (pieces : List TextPiece)
+    → IfFits (Fitting Char) (letters_for n pieces (Values (text_values pieces)))
+letters_right n pieces = by_test (nat_le (length (text_bytes pieces)) n)
+  where
+    by_test : (b : Bool) → IfFits (Fitting Char) (if b then Fits (Values (text_values pieces)) (text_note pieces ∷ [])
+        else Fails (record { kind = kinds.Initialiser; at = first_piece pieces }) [])
+    by_test true = text_fits pieces
+    by_test false = tt
+
+chars_right : (s : Scope) (n : ℕ) (values : ArrayValues) (T : List Token) → AtTokens s T values → HasInts T
+    → IfFits (Fitting Char) (constants_in s Char n values)
+chars_right s n (Letters pieces) T h z = letters_right n pieces
+chars_right s n (Listed es) T h z = constants_right s Char n es T h z
+chars_right s n (NoValues e) T h z = no_values_right Char s e
+
+others_right : (s : Scope) (t : IntegerType) (n : ℕ) (v : InitialiserTree) → IsInitialiser v
+    → HasInts (initialiser_tokens v) → IfFits (Fitting t) (constants_in s t n (other_values v))
+others_right s t n (Single e) h z = no_values_right t s e
+others_right s t n (Braces o es commas trailing c) h z =
+    constants_right s t n es (initialiser_tokens (Braces o es commas trailing c))
+    (scalar_placed s (Braces o es commas trailing c) h) z
+
+array_right : (s : Scope) (t : IntegerType) (n : ℕ) (v : InitialiserTree) → IsInitialiser v
+    → HasInts (initialiser_tokens v) → IfFits (Fitting t) (constants_in s t n (array_values t v))
+array_right s Char n v h z = chars_right s n (array_values Char v) (initialiser_tokens v) (char_at s v h) z
+array_right s Short n v h z = others_right s Short n v h z
+array_right s Int n v h z = others_right s Int n v h z
+
+-- the values of an object fit its elements
+pub contents_right : (s : Scope) (type : ObjectType) (otherwise : Contents) (v : Option ValueTree) → IsMaybeValue v
+    → Fitting (elements_of type) otherwise → HasInts (value_tokens v)
+    → IfFits (Fitting (elements_of type)) (contents_for s type otherwise v)
+contents_right s type otherwise None h k z = k
+contents_right s (IntegerObject of) otherwise (Some v) h k z =
+    constants_right s of 1 (scalar_values v.value) (initialiser_tokens v.value) (scalar_placed s v.value h) z.1
+contents_right s (PointerObject of) otherwise (Some v) h k z =
+    constants_right s of 1 (scalar_values v.value) (initialiser_tokens v.value) (scalar_placed s v.value h) z.1
+contents_right s (ArrayObject t n) otherwise (Some v) h k z = array_right s t n v.value h z.1
+
+pub some_size : (type : ObjectType) → ObjectCounts type → 1 ≤ size_of type
+some_size (IntegerObject of) h = one_more 0
+some_size (PointerObject of) h = one_more 0
+some_size (ArrayObject t n) h = h
+
 stored_placed : {A : Type 0} (d : DeclaratorTree) (type : ObjectType) (value : A) (c : Checked Contents)
-    (T : List Token) → Placed T c → Placed (declarator_tokens d ++ T) (stored (At d.name.at) type value c)
-stored_placed d type value (Fits contents ns) T h =
-    sub_on (d.name.at ∷ []) (places ns) (declarator_tokens d) T
-    (sub_behind (d.name.at ∷ []) (pointer_tokens d.pointer) (_ ∷ part_tokens d.part) (inl (refl, tt))) h
-stored_placed d type value (Fails f fs) T h = tt
+    (T : List Token) → ObjectCounts type → Placed T c → (HasInts T → IfFits (Fitting (elements_of type)) c)
+    → Placed (declarator_tokens d ++ T) (stored (At d.name.at) type value c)
+stored_placed d type value (Fits contents ns) T n h r = (
+  sub_on (d.name.at ∷ []) (places ns) (declarator_tokens d) T
+      (sub_behind (d.name.at ∷ []) (pointer_tokens d.pointer) (_ ∷ part_tokens d.part) (inl (refl, tt))) h.0,
+  λ z. let y = ints_right (declarator_tokens d) T z in ((some_size type n, r y), h.1 y),
+)
+stored_placed d type value (Fails f fs) T n h r = tt
 
 local_placed : (s t : Scope) (type : ObjectType) (v : Option ValueTree) → IsMaybeValue v
     → Placed (value_tokens v) (local_item s t type v)
@@ -255,10 +354,12 @@ local_placed s t (ArrayObject element n) v h =
     (λ i. refl)
 
 object_placed : (static : Bool) (s t : Scope) (d : DeclaratorTree) (v : Option ValueTree) → IsMaybeValue v
-    → (type : ObjectType) → Placed (declarator_tokens d ++ value_tokens v) (object_item static s t d.name v type)
-object_placed true s t d v h type =
-    stored_placed d type [] (contents_for t type Zeros v) (value_tokens v) (contents_placed t type Zeros v h)
-object_placed false s t d v h type =
+    → (type : ObjectType) → ObjectCounts type
+    → Placed (declarator_tokens d ++ value_tokens v) (object_item static s t d.name v type)
+object_placed true s t d v h type n =
+    stored_placed d type [] (contents_for t type Zeros v) (value_tokens v) n (contents_placed t type Zeros v h)
+    (contents_right t type Zeros v h tt)
+object_placed false s t d v h type n =
     behind (declarator_tokens d) (value_tokens v) (local_item s t type v) (local_placed s t type v h)
 
 item_placed : (said : Specified) (i : ItemTree) → IsItem i → (s : Scope) → Placed (item_tokens i) (typed_item said i s)
@@ -267,12 +368,14 @@ item_placed said i h s =
     let d = i.declarator in
     let T = item_tokens i in
     let make = object_item static s (after_item said i s) d.name i.initialiser in
-    placed_after T (object_declared s said d i.initialiser) (λ declared.
+    placed_knowing Counts T (object_declared s said d i.initialiser) (λ declared.
     also (scope_faults s d.name) (if_fits (object_allowed static d.name.at declared) make))
-    (declared_plain s said d i.initialiser) (λ declared.
+    (declared_plain s said d i.initialiser)
+    (part_counts s (pointed said.base d.pointer) d.name i.initialiser d.part h.1) (λ declared n.
     placed_also T (scope_faults s d.name) (if_fits (object_allowed static d.name.at declared) make)
-    (placed_after T (object_allowed static d.name.at declared) make (allowed_plain static d.name.at declared)
-    (λ type. object_placed static s (after_item said i s) d i.initialiser h.1 type)))
+    (placed_knowing ObjectCounts T (object_allowed static d.name.at declared) make
+    (allowed_plain static d.name.at declared) (allowed_counts static d.name.at declared n)
+    (λ type k. object_placed static s (after_item said i s) d i.initialiser h.1 type k)))
 
 pub few_commas : (n : ℕ) → 0 ≡ suc n → ⊥
 few_commas n e = grind arith
@@ -282,7 +385,7 @@ one_less m n e = omega (arith, e)
 
 followed_placed : (said : Specified) (is : List ItemTree) → AllByRecursion IsItem is → (commas : List Span)
     → length commas ≡ length is → (s : Scope) → Placed (followed item_tokens is commas) (typed_items said is s)
-followed_placed said [] h commas e s = tt
+followed_placed said [] h commas e s = (tt, λ z. tt)
 followed_placed said (i ∷ is) h [] e s = absurd (few_commas (length is) e)
 followed_placed said (i ∷ is) h (at ∷ commas) e s =
     let t = after_item said i s in
@@ -293,7 +396,7 @@ followed_placed said (i ∷ is) h (at ∷ commas) e s =
 
 items_placed : (said : Specified) (is : List ItemTree) → AllByRecursion IsItem is → (commas : List Span)
     → AreApart is commas → (s : Scope) → Placed (separated item_tokens is commas) (typed_items said is s)
-items_placed said [] h commas e s = tt
+items_placed said [] h commas e s = (tt, λ z. tt)
 items_placed said (i ∷ is) h commas e s =
     let t = after_item said i s in
     placed_both (item_tokens i) (followed item_tokens is commas) (typed_item said i s) (typed_items said is t)
@@ -311,7 +414,7 @@ declaration_placed position d h s =
 -- ---- statements
 
 maybe_placed : (s : Scope) (o : Option Expr) → IsMaybeExpr o → Placed (maybe_expr_tokens o) (typed_if_any s o)
-maybe_placed s None h = tt
+maybe_placed s None h = (tt, λ z. tt)
 maybe_placed s (Some e) h =
     placed_if (expr_tokens e) (typed_expression s e) (λ x. fits (Some x)) (typed_placed s e h) (λ x. refl)
 
@@ -321,7 +424,7 @@ condition_placed s at e h =
 
 condition_if_placed : (s : Scope) (at : Span) (o : Option Expr) → IsMaybeExpr o
     → Placed (maybe_expr_tokens o) (condition_if_any s at o)
-condition_if_placed s at None h = tt
+condition_if_placed s at None h = (tt, λ z. tt)
 condition_if_placed s at (Some e) h =
     placed_if (expr_tokens e) (condition s at e) (λ x. fits (Some x)) (condition_placed s at e h) (λ x. refl)
 
@@ -342,7 +445,7 @@ returned_plain (Pointer t) at (Some e) =
     plain_if (assigned (Pointer t) at e) (λ x. fits (Some x)) (assigned_plain (Pointer t) at e) (λ x. refl)
 
 jump_placed : (T : List Token) (may : Bool) (at : Span) (st : Statement) → Placed T (one (jump may at st))
-jump_placed T true at st = tt
+jump_placed T true at st = (tt, λ z. tt)
 jump_placed T false at st = tt
 
 four_placed : (n : ℕ) (A B C D : List Token) (a : Checked First) (b c : Checked (Option Expression))
@@ -367,7 +470,7 @@ mutual
       inside (_ ∷ []) T (_ ∷ []) (one r)
       (one_placed T r (placed_if T (typed_statements w items (entered s)) (λ body. fits (tree.Block body))
       (statements_placed w items (items_each items h) (entered s)) (λ b. refl)))
-  statement_placed w (trees.Simple None semicolon) h s = tt
+  statement_placed w (trees.Simple None semicolon) h s = (tt, λ z. tt)
   statement_placed w (trees.Simple (Some e) semicolon) h s =
       let T = expr_tokens e in
       let r = if_fits (typed_expression s e) (λ x. fits (tree.Evaluate s.next x)) in
@@ -488,7 +591,7 @@ mutual
 
   pub statements_placed : (w : Around) (sts : Stmts) → Each sts → (s : Scope)
       → Placed (stmts_tokens sts) (typed_statements w sts s)
-  statements_placed w NoStmt h s = tt
+  statements_placed w NoStmt h s = (tt, λ z. tt)
   statements_placed w (OneStmt st others) h s =
       placed_both (stmt_tokens st) (stmts_tokens others) (typed_statement w st s)
       (typed_statements w others (after_statement st s)) (λ sts rest. fits (row_before sts rest))

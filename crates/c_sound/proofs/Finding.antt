@@ -63,7 +63,7 @@ in_filter test x (y ∷ ys) (inr i) h = by_test (test y) (in_filter test x ys i 
     by_test true k = inr k
     by_test false k = k
 
-of_filter : {A : Type 0} (test : A → Bool) (x : A) (xs : List A) → IsIn x (filter test xs) → IsIn x xs
+pub of_filter : {A : Type 0} (test : A → Bool) (x : A) (xs : List A) → IsIn x (filter test xs) → IsIn x xs
 of_filter test x [] i = absurd i
 of_filter test x (y ∷ ys) i = by_test (test y) i (λ k. of_filter test x ys k)
   where
@@ -99,7 +99,7 @@ of_objects x (Stores y ∷ ns) (inl e) = inl (ap Stores e)
 of_objects x (Stores y ∷ ns) (inr i) = inr (of_objects x ns i)
 of_objects x (Defines e d ∷ ns) i = inr (of_objects x ns i)
 
-of_first : (x : Stored) (os : List Stored) → IsIn x (first_ones os) → IsIn x os
+pub of_first : (x : Stored) (os : List Stored) → IsIn x (first_ones os) → IsIn x os
 of_first x [] i = absurd i
 of_first x (o ∷ os) (inl e) = inl e
 of_first x (o ∷ os) (inr i) = inr (of_first x os (of_filter (is_not o.entity) x (first_ones os) i))

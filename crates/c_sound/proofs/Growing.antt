@@ -39,6 +39,7 @@ use Rattle.c_typing.specs.Names.{Scope, entered, left, numbered}
 use Rattle.c_typing.specs.Statements.{bound_object, bound_item, after_item, after_items, after_specified}
 use Rattle.c_typing.specs.Statements.{after_declaration, after_statement, after_statements}
 use Rattle.c_typing.proofs.CountUp.{IfFits, holds_if, Always, always}
+use Rattle.c_sound.proofs.Setting.{all_on}
 
 -- ---- sizes of arrays
 
@@ -112,7 +113,7 @@ ObjectCounts (IntegerObject of) = Unit {0}
 ObjectCounts (PointerObject of) = Unit {0}
 ObjectCounts (ArrayObject element n) = 1 ≤ n
 
-allowed_counts : (static : Bool) (at : Span) (d : Declared) → Counts d
+pub allowed_counts : (static : Bool) (at : Span) (d : Declared) → Counts d
     → IfFits ObjectCounts (object_allowed static at d)
 allowed_counts static at (DeclaredValue None) h = tt
 allowed_counts static at (DeclaredValue (Some Void)) h = tt
@@ -152,11 +153,6 @@ pub record Grows (s t : Scope) : Type 0 where
   pub arrays : t.arrays ≡ s.arrays ++ more_arrays
   pub counts : AllByRecursion (λ (a : tree.LocalArray). 1 ≤ a.count) more_arrays
 
-all_both : {A : Type 0} (P : A → Type 0) (xs ys : List A) → AllByRecursion P xs → AllByRecursion P ys
-    → AllByRecursion P (xs ++ ys)
-all_both P [] ys h k = k
-all_both P (x ∷ xs) ys h k = (h.0, all_both P xs ys h.1 k)
-
 pub grows_same : (s t : Scope) → t.numbers ≡ s.numbers → t.outer ≡ s.outer → t.locals ≡ s.locals
     → t.arrays ≡ s.arrays → Grows s t
 grows_same s t n o l a = record {
@@ -180,11 +176,11 @@ grows_on s t u g h = record {
   more_locals = g.more_locals ++ h.more_locals;
   locals = h.locals ∙ ap (λ xs. xs ++ h.more_locals) g.locals
       ∙ append_assoc s.locals g.more_locals h.more_locals;
-  scalars = all_both (λ (l : tree.Local). IsScalar l.of) g.more_locals h.more_locals g.scalars h.scalars;
+  scalars = all_on (λ (l : tree.Local). IsScalar l.of) g.more_locals h.more_locals g.scalars h.scalars;
   more_arrays = g.more_arrays ++ h.more_arrays;
   arrays = h.arrays ∙ ap (λ xs. xs ++ h.more_arrays) g.arrays
       ∙ append_assoc s.arrays g.more_arrays h.more_arrays;
-  counts = all_both (λ (a : tree.LocalArray). 1 ≤ a.count) g.more_arrays h.more_arrays g.counts h.counts;
+  counts = all_on (λ (a : tree.LocalArray). 1 ≤ a.count) g.more_arrays h.more_arrays g.counts h.counts;
 }
 
 pub grows_entered : (s : Scope) → Grows s (entered s)

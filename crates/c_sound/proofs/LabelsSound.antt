@@ -2,7 +2,7 @@
 use Rattle.std.proofs.Common.{arith, ◌≡◌, refl, sym, ap, subst, ◌∙◌, ℕ, zero, suc, ◌+◌, ◌≤◌, Bool, true, false, List}
 use Rattle.std.proofs.Common.{[]}
 use Rattle.std.proofs.Common.{◌∷◌, length, map}
-use Rattle.std.specs.Prelude.{ℤ, Option, Some, None, ◌<◌, AllPairs, ◌||◌, if◌then◌else◌}
+use Rattle.std.specs.Prelude.{ℤ, Option, Some, None, ◌<◌, AllPairs, if◌then◌else◌}
 use Rattle.std.specs.List.{AllByRecursion, list_any}
 use Rattle.std.proofs.lemmas.Bool.Decides.{Decides-int_eq}
 use Rattle.pcc_base.specs.declared.span.Span.{Span}
@@ -27,7 +27,7 @@ use Rattle.c_typing.specs.Statements.{typed_declaration, typed_statement, typed_
 use Rattle.c_typing.specs.Statements.{after_declaration}
 use Rattle.c_typing.proofs.CountUp.{IfFits, holds_noted, holds_both, Always, always}
 use Rattle.c_sound.proofs.Setting.{Setting, Sound, sound_fits, sound_if, sound_both, all_on}
-use Rattle.c_sound.proofs.RowsSound.{Good}
+use Rattle.c_sound.proofs.RowsSound.{either_false, Good}
 use Rattle.c_sound.proofs.ExpressionsSound.{Sees, Any, typed_sound}
 use Rattle.c_sound.proofs.ItemsSound.{all_by}
 
@@ -40,10 +40,6 @@ label_itself (Some n) = (Decides-int_eq n n).1 refl
 -- the value is none of these
 abbrev ApartFrom : List (Option ℤ) → Option ℤ → Type 0
 ApartFrom earlier v = AllByRecursion (λ u. u ≡ v → ⊥) earlier
-
-either_false : (a b : Bool) → (a || b) ≡ false → (a ≡ false) × (b ≡ false)
-either_false true b h = grind arith
-either_false false b h = (refl, h)
 
 both_ways : (b : Bool) → b ≡ true → b ≡ false → ⊥
 both_ways b h k = grind arith

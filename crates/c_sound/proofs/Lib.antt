@@ -17,3 +17,5 @@ pub mod Places
 pub mod FilesPlaces
 pub mod UnitsPlaces
 pub mod Sound
+pub mod Ranges
+pub mod Ranged

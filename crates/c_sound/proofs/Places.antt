@@ -1,6 +1,12 @@
 -- Objects of blocks and string literals are noted in the order of the tokens that they are told apart by.
 use Rattle.std.proofs.Common.{◌≡◌, refl, sym, ap, subst, ◌∙◌, List, [], ◌∷◌, ◌++◌}
-use Rattle.std.proofs.Common.{inl, inr}
+use Rattle.std.proofs.Common.{inl, inr, arith, ℕ, suc, ◌≤◌, length}
+use Rattle.std.specs.List.{AllByRecursion}
+use Rattle.c_typing.specs.Expressions.{text_bytes}
+use Rattle.c_typing.proofs.CountUp.{IfFits}
+use Rattle.c_sound.proofs.Setting.{all_on}
+use Rattle.c_sound.proofs.Ranges.{InRange}
+use Rattle.c_sound.proofs.Ranged.{HasInts, ints_left, ints_right, ranged, Fitting, text_fits}
 use Rattle.std.specs.Prelude.{Option, Some, None, ◌⊎◌}
 use Rattle.std.proofs.lemmas.List.{append-nil}
 use Rattle.pcc_base.specs.declared.span.Span.{Span}
@@ -78,42 +84,56 @@ sub_on (p ∷ ps) qs (t ∷ ts) us (inr h) k = inr (sub_on (p ∷ ps) qs ts us h
 pub sub_before : (ps : List Span) (ts us : List Token) → Sub ps ts → Sub ps (ts ++ us)
 sub_before ps ts us h = subst (λ qs. Sub qs (ts ++ us)) (append-nil ps) (sub_on ps [] ts us h tt)
 
--- what is noted stands at these tokens
+-- an object that is noted has elements, and its values fit them
+abbrev pub IsRight : Note → Type 0
+IsRight (Uses e at) = Unit {0}
+IsRight (Stores x) = (1 ≤ x.count) × Fitting x.element x.contents
+IsRight (Defines e d) = Unit {0}
+
+abbrev pub AreRight : List Note → Type 0
+AreRight ns = AllByRecursion IsRight ns
+
+-- what is noted stands at these tokens, and is right where their numbers are of `int`
 abbrev pub Placed : {A : Type 0} → List Token → Checked A → Type 0
-Placed T (Fits a ns) = Sub (places ns) T
+Placed T (Fits a ns) = Sub (places ns) T × (HasInts T → AreRight ns)
 Placed T (Fails f fs) = Unit {0}
 
-pub widen : {A : Type 0} (T U : List Token) (c : Checked A) → ((ps : List Span) → Sub ps T → Sub ps U) → Placed T c
+pub widen : {A : Type 0} (T U : List Token) (c : Checked A) → ((ps : List Span) → Sub ps T → Sub ps U) → (HasInts U →
+    HasInts T)
+    → Placed T c
     → Placed U c
-widen T U (Fits a ns) f h = f (places ns) h
-widen T U (Fails x xs) f h = tt
+widen T U (Fits a ns) f g h = (f (places ns) h.0, λ z. h.1 (g z))
+widen T U (Fails x xs) f g h = tt
 
 pub inside : {A : Type 0} (before T after : List Token) (c : Checked A) → Placed T c
     → Placed (before ++ (T ++ after)) c
 inside before T after c h =
-    widen T (before ++ (T ++ after)) c (λ ps k. sub_behind ps before (T ++ after) (sub_before ps T after k)) h
+    widen T (before ++ (T ++ after)) c (λ ps k. sub_behind ps before (T ++ after) (sub_before ps T after k))
+    (λ z. ints_left T after (ints_right before (T ++ after) z)) h
 
 pub behind : {A : Type 0} (before T : List Token) (c : Checked A) → Placed T c → Placed (before ++ T) c
-behind before T c h = widen T (before ++ T) c (λ ps k. sub_behind ps before T k) h
+behind before T c h = widen T (before ++ T) c (λ ps k. sub_behind ps before T k) (λ z. ints_right before T z) h
 
 -- nothing is noted that stands at a token
 abbrev pub Bare : {A : Type 0} → Checked A → Type 0
-Bare (Fits a ns) = places ns ≡ []
+Bare (Fits a ns) = (places ns ≡ []) × AreRight ns
 Bare (Fails f fs) = Unit {0}
 
 pub bare_plain : {A : Type 0} (c : Checked A) → Plain c → Bare c
-bare_plain (Fits a ns) h = ap places h
+bare_plain (Fits a ns) h = (ap places h, subst AreRight (sym h) tt)
 bare_plain (Fails f fs) h = tt
 
-noted_bare : {A : Type 0} (T : List Token) (ns : List Note) (c : Checked A) → Sub (places ns) T → Bare c
-    → Placed T (noted ns c)
-noted_bare T ns (Fits a ms) h k =
-    subst (λ ps. Sub ps T) (sym (places_on ns ms ∙ ap (λ qs. places ns ++ qs) k ∙ append-nil (places ns))) h
-noted_bare T ns (Fails f fs) h k = tt
+noted_bare : {A : Type 0} (T : List Token) (ns : List Note) (c : Checked A) → Sub (places ns) T
+    → (HasInts T → AreRight ns) → Bare c → Placed T (noted ns c)
+noted_bare T ns (Fits a ms) h r k = (
+  subst (λ ps. Sub ps T) (sym (places_on ns ms ∙ ap (λ qs. places ns ++ qs) k.0 ∙ append-nil (places ns))) h,
+  λ z. all_on IsRight ns ms (r z) k.1,
+)
+noted_bare T ns (Fails f fs) h r k = tt
 
 pub placed_bare : {A B : Type 0} (T : List Token) (c : Checked A) (f : A → Checked B) → Placed T c
     → ((a : A) → Bare (f a)) → Placed T (if_fits c f)
-placed_bare T (Fits a ns) f h k = noted_bare T ns (f a) h (k a)
+placed_bare T (Fits a ns) f h k = noted_bare T ns (f a) h.0 h.1 (k a)
 placed_bare T (Fails x xs) f h k = tt
 
 pub placed_if : {A B : Type 0} (T : List Token) (c : Checked A) (f : A → Checked B) → Placed T c
@@ -122,8 +142,15 @@ placed_if T c f h k = placed_bare T c f h (λ a. bare_plain (f a) (k a))
 
 noted_plain : {A : Type 0} (T : List Token) (ns : List Note) (c : Checked A) → ns ≡ [] → Placed T c
     → Placed T (noted ns c)
-noted_plain T ns (Fits a ms) e h = subst (λ ks. Sub (places (ks ++ ms)) T) (sym e) h
+noted_plain T ns (Fits a ms) e h =
+    subst (λ ks. Sub (places (ks ++ ms)) T × (HasInts T → AreRight (ks ++ ms))) (sym e) h
 noted_plain T ns (Fails f fs) e h = tt
+
+-- behind a part that notes nothing, and of which P holds
+pub placed_knowing : {A B : Type 0} (P : A → Type 0) (T : List Token) (c : Checked A) (f : A → Checked B) → Plain c
+    → IfFits P c → ((a : A) → P a → Placed T (f a)) → Placed T (if_fits c f)
+placed_knowing P T (Fits a ns) f h p k = noted_plain T ns (f a) h (k a p)
+placed_knowing P T (Fails x xs) f h p k = tt
 
 -- behind a part that notes nothing
 pub placed_after : {A B : Type 0} (T : List Token) (c : Checked A) (f : A → Checked B) → Plain c
@@ -133,8 +160,10 @@ placed_after T (Fails x xs) f h k = tt
 
 pub placed_pair : {A B : Type 0} (T U : List Token) (c : Checked A) (d : Checked B) → Placed T c → Placed U d
     → Placed (T ++ U) (pair c d)
-placed_pair T U (Fits a ns) (Fits b ms) h k =
-    subst (λ ps. Sub ps (T ++ U)) (sym (places_on ns ms)) (sub_on (places ns) (places ms) T U h k)
+placed_pair T U (Fits a ns) (Fits b ms) h k = (
+  subst (λ ps. Sub ps (T ++ U)) (sym (places_on ns ms)) (sub_on (places ns) (places ms) T U h.0 k.0),
+  λ z. all_on IsRight ns ms (h.1 (ints_left T U z)) (k.1 (ints_right T U z)),
+)
 placed_pair T U (Fits a ns) (Fails g gs) h k = tt
 placed_pair T U (Fails f fs) d h k = tt
 
@@ -146,7 +175,8 @@ placed_both T U c d f h k on =
 -- a first part that notes nothing
 pub plain_first : {A B : Type 0} (T : List Token) (c : Checked A) (d : Checked B) → Plain c → Placed T d
     → Placed T (pair c d)
-plain_first T (Fits a ns) (Fits b ms) h k = subst (λ ks. Sub (places (ks ++ ms)) T) (sym h) k
+plain_first T (Fits a ns) (Fits b ms) h k =
+    subst (λ ks. Sub (places (ks ++ ms)) T × (HasInts T → AreRight (ks ++ ms))) (sym h) k
 plain_first T (Fits a ns) (Fails g gs) h k = tt
 plain_first T (Fails f fs) d h k = tt
 
@@ -163,29 +193,30 @@ never_fits B T (Fails f fs) g gs = tt
 
 abbrev pub PlacedAll : List Given → List Token → Type 0
 PlacedAll [] T = Unit {0}
-PlacedAll (g ∷ gs) T = (U : List Token) × (V : List Token) × (T ≡ U ++ V) × Placed U g.value × PlacedAll gs V
+PlacedAll (g ∷ gs) T = (U : List Token) × (V : List Token) × (T ≡ U ++ V) × Placed U g.value
+    × (HasInts U → IfFits InRange g.value) × PlacedAll gs V
 
 arguments_placed : (types : List ValueType) (gs : List Given) (T : List Token) → PlacedAll gs T
     → Placed T (arguments_for types gs)
-arguments_placed types [] T h = tt
-arguments_placed [] (g ∷ gs) T (U, V, e, h, k) =
+arguments_placed types [] T h = (tt, λ z. tt)
+arguments_placed [] (g ∷ gs) T (U, V, e, h, r, k) =
     subst (λ W. Placed W (arguments_for [] (g ∷ gs))) (sym e)
     (placed_both U V g.value (arguments_for [] gs) (λ e es. fits (Argument e es)) h (arguments_placed [] gs V k)
     (λ a b. refl))
-arguments_placed (t ∷ ts) (g ∷ gs) T (U, V, e, h, k) =
+arguments_placed (t ∷ ts) (g ∷ gs) T (U, V, e, h, r, k) =
     subst (λ W. Placed W (arguments_for (t ∷ ts) (g ∷ gs))) (sym e)
     (placed_both U V (if_fits g.value (assigned t g.at)) (arguments_for ts gs) (λ e es. fits (Argument e es))
     (placed_if U g.value (assigned t g.at) h (λ x. assigned_plain t g.at x)) (arguments_placed ts gs V k) (λ a b. refl))
 
 call_bare : (s : Scope) (at : Span) (e : Entity) (of : ValueType) (es : Arguments) → Bare (call_of s at e of es)
 call_bare s at (Library library.Putchar) of NoMore = tt
-call_bare s at (Library library.Putchar) of (Argument e es) = refl
-call_bare s at (Library library.Getchar) of es = refl
+call_bare s at (Library library.Putchar) of (Argument e es) = (refl, tt)
+call_bare s at (Library library.Getchar) of es = (refl, tt)
 call_bare s at (Library library.Exit) of NoMore = tt
-call_bare s at (Library library.Exit) of (Argument e es) = refl
-call_bare s at (Shared name) of es = refl
-call_bare s at (OfFile file name) of es = refl
-call_bare s at (At place) of es = refl
+call_bare s at (Library library.Exit) of (Argument e es) = (refl, tt)
+call_bare s at (Shared name) of es = (refl, (tt, tt))
+call_bare s at (OfFile file name) of es = (refl, (tt, tt))
+call_bare s at (At place) of es = (refl, (tt, tt))
 
 called_placed : (s : Scope) (x : Ident) (gs : List Given) (o : Option Meaning) (T : List Token) → PlacedAll gs T
     → Placed T (called s x gs o)
@@ -202,15 +233,18 @@ called_placed s x gs (Some (Function e g)) T h =
 
 named_placed : (s : Scope) (x : Ident) (o : Option Meaning) (T : List Token) → Placed T (named s x o)
 named_placed s x None T = tt
-named_placed s x (Some (Local v of)) T = tt
-named_placed s x (Some (LocalArray k element)) T = tt
-named_placed s x (Some (Object e of)) T = tt
-named_placed s x (Some (ObjectArray e element)) T = tt
+named_placed s x (Some (Local v of)) T = (tt, λ z. tt)
+named_placed s x (Some (LocalArray k element)) T = (tt, λ z. tt)
+named_placed s x (Some (Object e of)) T = (tt, λ z. (tt, tt))
+named_placed s x (Some (ObjectArray e element)) T = (tt, λ z. (tt, tt))
 named_placed s x (Some (Function e g)) T = tt
 
 pub text_first : (pieces : List TextPiece) → IsText pieces → Sub (first_piece pieces ∷ []) (text_tokens pieces)
 text_first [] h = absurd h
 text_first (p ∷ ps) h = inl (refl, tt)
+
+pub one_more : (n : ℕ) → 1 ≤ suc n
+one_more n = omega arith
 
 -- ---- expressions
 
@@ -218,8 +252,9 @@ mutual
   pub typed_placed : (s : Scope) (e : Expr) → IsExpr e → Placed (expr_tokens e) (typed_expression s e)
   typed_placed s (trees.Identifier x) h =
       named_placed s x (meaning_of s.names x.name) (expr_tokens (trees.Identifier x))
-  typed_placed s (trees.Number value at) h = tt
-  typed_placed s (trees.Text pieces) h = text_first pieces h
+  typed_placed s (trees.Number value at) h = (tt, λ z. tt)
+  typed_placed s (trees.Text pieces) h =
+      (text_first pieces h, λ z. ((one_more (length (text_bytes pieces)), text_fits pieces), tt))
   typed_placed s (trees.Parenthesised o e c) h =
       inside (_ ∷ []) (expr_tokens e) (_ ∷ []) (typed_expression s e) (typed_placed s e h)
   typed_placed s (trees.Call x o arguments commas c) h =
@@ -279,8 +314,14 @@ mutual
   pub given_placed : (s : Scope) (es : Exprs) (commas : List Span) → AreValues es → Separate es commas
       → PlacedAll (given s es) (exprs_tokens es commas)
   given_placed s NoExpr commas h k = tt
-  given_placed s (OneExpr e es) commas h k =
-      (expr_tokens e, more_tokens es commas, refl, typed_placed s e h.0, more_placed s es commas h.2 k)
+  given_placed s (OneExpr e es) commas h k = (
+    expr_tokens e,
+    more_tokens es commas,
+    refl,
+    typed_placed s e h.0,
+    (λ z. ranged s e z),
+    more_placed s es commas h.2 k,
+  )
 
   more_placed : (s : Scope) (es : Exprs) (commas : List Span) → AreValues es → Follow es commas
       → PlacedAll (given s es) (more_tokens es commas)
@@ -291,5 +332,6 @@ mutual
     more_tokens es commas,
     refl,
     behind (_ ∷ []) (expr_tokens e) (typed_expression s e) (typed_placed s e h.0),
+    (λ z. ranged s e z.1),
     more_placed s es commas h.2 k,
   )

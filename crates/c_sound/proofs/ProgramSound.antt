@@ -2,7 +2,7 @@
 use Rattle.std.proofs.Common.{arith, ◌≡◌, refl, sym, ap, subst, ◌∙◌, ℕ, zero, suc, ◌≤◌, Bool, true, false, List, []}
 use Rattle.std.proofs.Common.{◌∷◌}
 use Rattle.std.proofs.Common.{map, length, inl, inr}
-use Rattle.std.specs.Prelude.{Option, Some, None, IsSomeAnd, slice_get, take, ◌&&◌, ◌||◌, All}
+use Rattle.std.specs.Prelude.{Option, Some, None, IsSomeAnd, slice_get, take, ◌||◌, All}
 use Rattle.std.specs.Prelude.{unwrap_or, if◌then◌else◌}
 use Rattle.std.specs.List.{AllByRecursion, list_any}
 use Rattle.pcc_base.specs.declared.fault.Fault.{Fault}
@@ -33,7 +33,7 @@ use Rattle.c_typing.specs.Typed.{Typed}
 use Rattle.c_typing.proofs.CountUp.{IfFits}
 use Rattle.c_typing.proofs.FilesAgree.{numbers_change_nothing}
 use Rattle.c_sound.proofs.Setting.{Setting, Holds, IsAt, IsKept, Kept}
-use Rattle.c_sound.proofs.RowsSound.{not_true}
+use Rattle.c_sound.proofs.RowsSound.{both_true, not_true}
 use Rattle.c_sound.proofs.ExpressionsSound.{is_some_on}
 use Rattle.c_sound.proofs.ItemsSound.{all_by}
 use Rattle.c_sound.proofs.ParametersSound.{types_of}
@@ -46,6 +46,17 @@ use Rattle.c_sound.proofs.OneTypeEach.{units_one}
 use Rattle.c_sound.proofs.Finding.{any_is, any_in, none_of, in_objects, of_objects, object_found, defined_one}
 use Rattle.c_sound.proofs.Finding.{filled_length}
 use Rattle.c_sound.proofs.Finding.{function_found, matched, StaticOf, FunctionOf}
+use Rattle.std.proofs.Common.{ℤ, pos}
+use Rattle.c_tree.specs.declared.types.IntegerType.TheVariants.{Char, Short, Int}
+use Rattle.c_tree.specs.Objects.{IsObject, data_object, data_objects}
+use Rattle.c_tree.specs.Sizes.{bytes_of}
+use Rattle.pcc_base.specs.Objects.{FitsBytes}
+use Rattle.c_typing.specs.Checked.{Contents, Elsewhere, Zeros, Values}
+use Rattle.c_typing.specs.Numbering.{values_or, first_ones, filled, static_object, defined_ones}
+use Rattle.std.proofs.Common.{◌⊎◌}
+use Rattle.c_sound.proofs.Finding.{of_filter, of_first}
+use Rattle.c_sound.proofs.Places.{IsRight, AreRight}
+use Rattle.c_sound.proofs.Ranged.{Fitting, zero_fits}
 
 -- ---- types that are told apart
 
@@ -82,9 +93,61 @@ abbrev pub ArePlaced : List Note → Type 0
 ArePlaced ns = (x y : Stored) → IsIn (Stores x) ns → IsIn (Stores y) ns → IsAt x.entity → x.entity ≡ y.entity
     → (x.element ≡ y.element) × (x.count ≡ y.count)
 
-both_true : (a b : Bool) → (a && b) ≡ true → (a ≡ true) × (b ≡ true)
-both_true true b h = (refl, h)
-both_true false b h = not_true h
+-- ---- static objects
+
+values_from : (t : IntegerType) (e : Entity) (os : List Stored)
+    → ((o : Stored) → IsIn o os → o.entity ≡ e → Fitting t o.contents)
+    → AllByRecursion (FitsBytes (bytes_of t)) (values_of os e)
+values_from t e [] h = tt
+values_from t e (o ∷ os) h =
+    by_test (same_entity o.entity e) refl (values_from t e os (λ x i k. h x (inr i) k))
+  where
+    by_contents : (c : Contents) → Fitting t c → AllByRecursion (FitsBytes (bytes_of t)) (values_of os e)
+        → AllByRecursion (FitsBytes (bytes_of t)) (values_or (values_of os e) c)
+    by_contents Elsewhere k r = r
+    by_contents Zeros k r = r
+    by_contents (Values vs) k r = k
+
+    by_test : (b : Bool) → same_entity o.entity e ≡ b → AllByRecursion (FitsBytes (bytes_of t)) (values_of os e)
+        → AllByRecursion (FitsBytes (bytes_of t))
+        (if b then values_or (values_of os e) o.contents else values_of os e)
+    by_test true q r = by_contents o.contents (h o (inl refl) (entity_is o.entity e q)) r
+    by_test false q r = r
+
+filled_fits : (P : ℤ → Type 0) (n : ℕ) (vs : List ℤ) → P (pos 0) → AllByRecursion P vs
+    → AllByRecursion P (filled n vs)
+filled_fits P zero vs z h = tt
+filled_fits P (suc n) [] z h = (z, filled_fits P n [] z tt)
+filled_fits P (suc n) (v ∷ vs) z h = (h.0, filled_fits P n vs z h.1)
+
+width_is : (t : IntegerType) → (bytes_of t ≡ 1) ⊎ (bytes_of t ≡ 2) ⊎ (bytes_of t ≡ 4)
+width_is Char = inl refl
+width_is Short = inr (inl refl)
+width_is Int = inr (inr refl)
+
+-- objects that agree, whose values fit and which have elements, are right
+object_right : (all : List Stored) (y : Stored) → 1 ≤ y.count
+    → ((o : Stored) → IsIn o all → o.entity ≡ y.entity → Fitting y.element o.contents)
+    → IsObject (data_object (static_object all y))
+object_right all y n h =
+    let vs = values_of all y.entity in
+    record {
+      width = width_is y.element;
+      some_elements = subst (λ k. 1 ≤ k) (sym (filled_length y.count vs)) n;
+      elements = all_by (FitsBytes (bytes_of y.element)) (filled y.count vs)
+          (filled_fits (FitsBytes (bytes_of y.element)) y.count vs (zero_fits y.element)
+          (values_from y.element y.entity all h));
+    }
+
+objects_right : (all ds : List Stored) → AllByRecursion (λ d. IsIn d all) ds
+    → ((d : Stored) → IsIn d all → IsObject (data_object (static_object all d)))
+    → AllByRecursion IsObject (map data_object (map (static_object all) ds))
+objects_right all [] h k = tt
+objects_right all (d ∷ ds) h k = (k d h.0, objects_right all ds h.1 k)
+
+all_defined : (all ds : List Stored) → ((d : Stored) → IsIn d ds → IsIn d all) → AllByRecursion (λ d. IsIn d all) ds
+all_defined all [] h = tt
+all_defined all (d ∷ ds) h = (h d (inl refl), all_defined all ds (λ x i. h x (inr i)))
 
 -- ---- a program of notes
 
@@ -170,6 +233,18 @@ module _ (fs : List tree.Function) (ns : List Note) (outer : List Outer) where
     agree_stored : (x y : Stored) → IsIn (Stores x) ns → IsIn (Stores y) ns → x.entity ≡ y.entity
         → (x.element ≡ y.element) × (x.count ≡ y.count)
     agree_stored x y i j e = agree_by x y i j e (backed_at (Stores x) i) (backed_at (Stores y) j)
+
+    -- static objects are right where their notes are
+    pub objects_of : AreRight ns → AllByRecursion IsObject (map data_object (static_objects ns))
+    objects_of right =
+        let all = objects_noted ns in
+        objects_right all (defined_ones all) (all_defined all (defined_ones all) (λ d i.
+        of_first d all (of_filter (λ o. is_defined all o.entity) d (first_ones all) i))) (λ d i.
+        let here = of_objects d ns i in
+        object_right all d (in_all IsRight (Stores d) ns right here).0 (λ o j e.
+        let there = of_objects o ns j in
+        subst (λ t. Fitting t o.contents) (agree_stored o d there here e).0
+        (in_all IsRight (Stores o) ns right there).1))
 
     -- a function is no object
     function_apart : (o : Outer) → IsIn o outer → NotAt o.entity → (r : Option ValueType) (ps : List ValueType)
@@ -293,6 +368,7 @@ module _ (units : List (List ExternalTree)) (fs : List tree.Function) (ns : List
   pub files_right : AllByRecursion (AllByRecursion IsExternal) units → typed_units units start ≡ Fits fs ns
       → missing ns ≡ [] → list_any is_main ns ≡ true → ArePlaced ns
       → AllByRecursion (IsTypedFunction here.program) fs × IsSomeAnd (slice_get fs here.program.main) IsMain
+      × (AreRight ns → AllByRecursion IsObject (data_objects here.program))
   files_right trees e m k placed =
       let D : Outer → Type 0 = λ o. IsIn o outer_of_all in
       let link = link_of fs ns outer_of_all in
@@ -314,6 +390,7 @@ module _ (units : List (List ExternalTree)) (fs : List tree.Function) (ns : List
             (all_get (IsTypedFunction here.program) (λ f. (f.result ≡ int) × (types_of (parameters_of f) ≡ [])) fs
             here.program.main right (main_found fs ns outer_of_all one whole.0 found.0 placed holds k))
             (λ f p. (p.1.0, no_parameters f.parameters f.locals p.0.parameters p.1.1)),
+        objects_of fs ns outer_of_all one whole.0 found.0 placed,
       )
     where
       library_in : AllByRecursion (λ o. IsIn o outer_of_all) start.outer → (l : LibraryFunction)
@@ -326,10 +403,15 @@ module _ (units : List (List ExternalTree)) (fs : List tree.Function) (ns : List
           → here.called (Library l) (library_signature l) × NotAt (Library l)
       library_known h l = ((library_outer l, library_in h l, refl, refl, tt), tt)
 
+-- what typed programs keep, but for the numbers of statements
+abbrev pub IsRightProgram : Program → Type 0
+IsRightProgram p = All (IsTypedFunction p) p.functions × IsSomeAnd (slice_get p.functions p.main) IsMain
+    × All IsObject (data_objects p)
+
 typed_by : (units : List (List ExternalTree)) (p : Program) → AllByRecursion (AllByRecursion IsExternal) units
-    → Typed units p → ArePlaced (notes_of units) → (c : Checked (List tree.Function)) → checked units ≡ c
-    → All (IsTypedFunction p) p.functions × IsSomeAnd (slice_get p.functions p.main) IsMain
-typed_by units p trees t placed (Fits fs ns) e =
+    → Typed units p → ArePlaced (notes_of units) → AreRight (notes_of units) → (c : Checked (List tree.Function))
+    → checked units ≡ c → IsRightProgram p
+typed_by units p trees t placed right (Fits fs ns) e =
     let n : notes_of units ≡ ns = ap notes_in e in
     let m : numbers_in units ≡ numbers_of ns =
     ap numbers_of ((numbers_change_nothing no_numbers (numbers_in units) units).1 ∙ n) in
@@ -341,13 +423,13 @@ typed_by units p trees t placed (Fits fs ns) e =
     ap (λ o. unwrap_or o p) (sym (ap (λ k. program_with k ns (Some fs)) m)
     ∙ sym (ap (λ l. program_with (numbers_in units) l (Some fs)) n)
     ∙ sym (ap (λ d. program_with (numbers_in units) (notes_of units) (value_in d)) e) ∙ t.is) in
-    subst (λ (x : Program). All (IsTypedFunction x) x.functions × IsSomeAnd (slice_get x.functions x.main) IsMain) same
-    (all_by (IsTypedFunction q) fs r.0, r.1)
-typed_by units p trees t placed (Fails f gs) e =
+    subst IsRightProgram same
+    (all_by (IsTypedFunction q) fs r.0, r.1, all_by IsObject (data_objects q) (r.2 (subst AreRight n right)))
+typed_by units p trees t placed right (Fails f gs) e =
     let z : f ∷ gs ≡ [] = sym (ap faults_in e) ∙ t.no_fault in grind arith
 
--- Functions of a typed program are well typed, and `main` is there, where what is noted at one place is one.
-pub functions_typed : (units : List (List ExternalTree)) (p : Program)
+-- Functions and objects of a typed program are right, and `main` is there, where what is noted is.
+pub program_right : (units : List (List ExternalTree)) (p : Program)
     → AllByRecursion (AllByRecursion IsExternal) units → Typed units p → ArePlaced (notes_of units)
-    → All (IsTypedFunction p) p.functions × IsSomeAnd (slice_get p.functions p.main) IsMain
-functions_typed units p trees t placed = typed_by units p trees t placed (checked units) refl
+    → AreRight (notes_of units) → IsRightProgram p
+program_right units p trees t placed right = typed_by units p trees t placed right (checked units) refl

@@ -49,6 +49,16 @@ use Rattle.c_sound.proofs.Plain.{declared_plain, allowed_plain, signature_plain,
 use Rattle.c_sound.proofs.Places.{place_of, places, Sub, Placed, inside, behind, placed_bare, placed_after, placed_both}
 use Rattle.c_sound.proofs.Places.{placed_also}
 use Rattle.c_sound.proofs.FilesPlaces.{contents_placed, few_commas, one_less, statements_placed}
+use Rattle.c_tree.specs.declared.types.IntegerType.{IntegerType}
+use Rattle.c_typing.specs.Checked.{Elsewhere, Zeros}
+use Rattle.c_typing.specs.Laws.{HasIntIfAny}
+use Rattle.c_typing.specs.Statements.{elements_of}
+use Rattle.c_typing.specs.Types.{is_extern, pointed}
+use Rattle.c_typing.proofs.CountUp.{IfFits}
+use Rattle.c_sound.proofs.Growing.{Counts, part_counts, ObjectCounts, allowed_counts}
+use Rattle.c_sound.proofs.Places.{placed_knowing, AreRight}
+use Rattle.c_sound.proofs.FilesPlaces.{contents_right, some_size}
+use Rattle.c_sound.proofs.Ranged.{HasInts, Fitting}
 
 -- ---- names outside functions have no place
 
@@ -148,9 +158,18 @@ place_none (OfFile file name) ps h = refl
 place_none (At place) ps h = absurd h
 
 stored_free : {A : Type 0} (e : Entity) (type : ObjectType) (value : A) (c : Checked Contents) (T : List Token)
-    → NotAt e → Placed T c → Placed T (stored e type value c)
-stored_free e type value (Fits contents ns) T n h = subst (λ ps. Sub ps T) (sym (place_none e (places ns) n)) h
-stored_free e type value (Fails f fs) T n h = tt
+    → NotAt e → ObjectCounts type → Placed T c → (HasInts T → IfFits (Fitting (elements_of type)) c)
+    → Placed T (stored e type value c)
+stored_free e type value (Fits contents ns) T n k h r =
+    (subst (λ ps. Sub ps T) (sym (place_none e (places ns) n)) h.0, λ z. ((some_size type k, r z), h.1 z))
+stored_free e type value (Fails f fs) T n k h r = tt
+
+without_fits : (t : IntegerType) (said : Specified) → Fitting t (without_value said)
+without_fits t said = by_storage (is_extern said.storage)
+  where
+    by_storage : (b : Bool) → Fitting t (if b then Elsewhere else Zeros)
+    by_storage true = tt
+    by_storage false = tt
 
 object_placed : (said : Specified) (i : ItemTree) → IsItem i → (s : Scope) → AllFree s
     → Placed (item_tokens i) (typed_object said i s)
@@ -159,27 +178,29 @@ object_placed said i h s free =
     let T = value_tokens i.initialiser in
     let t = after_object said i s in
     behind (declarator_tokens d) T (typed_object said i s)
-    (placed_after T (object_declared s said d i.initialiser) (λ type.
+    (placed_knowing Counts T (object_declared s said d i.initialiser) (λ type.
     let o = outer_of s said d.name (is_some i.initialiser) type in
     also (redeclared_faults s d.name o) (if_fits (object_allowed true d.name.at type) (λ allowed.
     stored o.entity allowed [] (contents_for t allowed (without_value said) i.initialiser))))
-    (declared_plain s said d i.initialiser) (λ type.
+    (declared_plain s said d i.initialiser)
+    (part_counts s (pointed said.base d.pointer) d.name i.initialiser d.part h.1) (λ type n.
     let o = outer_of s said d.name (is_some i.initialiser) type in
     placed_also T (redeclared_faults s d.name o) (if_fits (object_allowed true d.name.at type) (λ allowed.
     stored o.entity allowed [] (contents_for t allowed (without_value said) i.initialiser)))
-    (placed_after T (object_allowed true d.name.at type) (λ allowed.
+    (placed_knowing ObjectCounts T (object_allowed true d.name.at type) (λ allowed.
     stored o.entity allowed [] (contents_for t allowed (without_value said) i.initialiser))
-    (allowed_plain true d.name.at type) (λ allowed.
+    (allowed_plain true d.name.at type) (allowed_counts true d.name.at type n) (λ allowed k.
     stored_free o.entity allowed [] (contents_for t allowed (without_value said) i.initialiser) T
-    (free_linked s free said.storage type d.name.name)
-    (contents_placed t allowed (without_value said) i.initialiser h.1)))))
+    (free_linked s free said.storage type d.name.name) k
+    (contents_placed t allowed (without_value said) i.initialiser h.1)
+    (contents_right t allowed (without_value said) i.initialiser h.1 (without_fits (elements_of allowed) said))))))
 
 prototype_placed : (said : Specified) (i : ItemTree) (ps : List ParameterTree) (s : Scope) (T : List Token)
     → Placed T (typed_prototype said i ps s)
 prototype_placed said i ps s T =
     let c = function_signature s said i.declarator false ps in
     placed_also T (no_initialiser i.initialiser) (if_fits c (λ g. fits []))
-    (placed_after T c (λ g. fits []) (signature_plain s said i.declarator false ps) (λ g. tt))
+    (placed_after T c (λ g. fits []) (signature_plain s said i.declarator false ps) (λ g. (tt, λ z. tt)))
 
 outer_item_placed : (said : Specified) (i : ItemTree) → IsItem i → (p : PartTree) (s : Scope) → AllFree s
     → Placed (item_tokens i) (typed_outer_item said i p s)
@@ -190,7 +211,7 @@ outer_item_placed said i h (parts.Function ps) s free = prototype_placed said i 
 followed_placed : (said : Specified) (is : List ItemTree) → AllByRecursion IsItem is → (commas : List Span)
     → length commas ≡ length is → (s : Scope) → AllFree s
     → Placed (followed item_tokens is commas) (typed_outer_items said is s)
-followed_placed said [] h commas e s free = tt
+followed_placed said [] h commas e s free = (tt, λ z. tt)
 followed_placed said (i ∷ is) h [] e s free = absurd (few_commas (length is) e)
 followed_placed said (i ∷ is) h (at ∷ commas) e s free =
     let t = after_outer_item said i i.declarator.part s in
@@ -203,7 +224,7 @@ followed_placed said (i ∷ is) h (at ∷ commas) e s free =
 outer_items_placed : (said : Specified) (is : List ItemTree) → AllByRecursion IsItem is → (commas : List Span)
     → AreApart is commas → (s : Scope) → AllFree s
     → Placed (separated item_tokens is commas) (typed_outer_items said is s)
-outer_items_placed said [] h commas e s free = tt
+outer_items_placed said [] h commas e s free = (tt, λ z. tt)
 outer_items_placed said (i ∷ is) h commas e s free =
     let t = after_outer_item said i i.declarator.part s in
     placed_both (item_tokens i) (followed item_tokens is commas) (typed_outer_item said i i.declarator.part s)
@@ -242,7 +263,7 @@ definition_placed said d body h b s =
     (signature_plain s said d true ps) (λ g.
     placed_bare T (typed_statements (in_function g.result) (body_of body) first) (λ statements.
     defined said d.name s g (function_with d.name g first last statements))
-    (body_placed (in_function g.result) body h b first) (λ statements. refl))
+    (body_placed (in_function g.result) body h b first) (λ statements. (refl, (tt, tt))))
 
 external_placed : (e : ExternalTree) → IsExternal e → (s : Scope) → AllFree s
     → Placed (external_tokens e) (typed_external e s)
@@ -262,7 +283,7 @@ external_placed (DeclaredTree d) h s free =
 
 unit_placed : (es : List ExternalTree) → AllByRecursion IsExternal es → (s : Scope) → AllFree s
     → Placed (unit_tokens es) (typed_unit es s)
-unit_placed [] h s free = tt
+unit_placed [] h s free = (tt, λ z. tt)
 unit_placed (e ∷ es) h s free =
     placed_both (external_tokens e) (unit_tokens es) (typed_external e s) (typed_unit es (after_external e s))
     (λ fs gs. fits (fs ++ gs)) (external_placed e h.0 s free)
@@ -270,7 +291,7 @@ unit_placed (e ∷ es) h s free =
 
 units_placed : (us : List (List ExternalTree)) → AllByRecursion (AllByRecursion IsExternal) us → (s : Scope)
     → AllFree s → Placed (flat_map unit_tokens us) (typed_units us s)
-units_placed [] h s free = tt
+units_placed [] h s free = (tt, λ z. tt)
 units_placed (u ∷ us) h s free =
     let n = next_file (after_unit u s) in
     placed_both (unit_tokens u) (flat_map unit_tokens us) (typed_unit u s) (typed_units us n)
@@ -379,7 +400,7 @@ placed_of (Defines f d ∷ ns) h x y (inr i) (inl q) a e = grind arith
 placed_of (Defines f d ∷ ns) h x y (inr i) (inr j) a e = placed_of ns h x y i j a e
 
 placed_in : (T : List Token) (c : Checked (List tree.Function)) → Placed T c → TokensApart T → ArePlaced (notes_in c)
-placed_in T (Fits fs ns) h k = placed_of ns (distinct (places ns) T h k)
+placed_in T (Fits fs ns) h k = placed_of ns (distinct (places ns) T h.0 k)
 placed_in T (Fails f fs) h k = placed_of [] tt
 
 -- what files note at one place is one object
@@ -390,3 +411,16 @@ units_are_placed us h k m =
     let T = flat_map unit_tokens us in
     placed_in T (typed_units us (first_scope m)) (units_placed us h (first_scope m) (tt, (tt, (tt, tt))))
     (tokens_apart T k)
+
+right_in : (T : List Token) (c : Checked (List tree.Function)) → Placed T c → HasInts T → AreRight (notes_in c)
+right_in T (Fits fs ns) h z = h.1 z
+right_in T (Fails f fs) h z = tt
+
+-- objects of files have elements, and their values fit them
+pub units_are_right : (us : List (List ExternalTree)) → AllByRecursion (AllByRecursion IsExternal) us
+    → All (λ (t : Token). HasIntIfAny t.kind) (flat_map unit_tokens us) → (m : Numbers)
+    → AreRight (notes_in (typed_units us (first_scope m)))
+units_are_right us h k m =
+    let T = flat_map unit_tokens us in
+    right_in T (typed_units us (first_scope m)) (units_placed us h (first_scope m) (tt, (tt, (tt, tt))))
+    (by_places (λ (t : Token). HasIntIfAny t.kind) T k)

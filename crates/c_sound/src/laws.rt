@@ -1,10 +1,9 @@
-//! Laws of typed programs: each function's contract is one, and the function does nothing.
+//! The law of typed programs: a function's contract is the law, and the function does nothing.
 
-ghost use Rattle.c_sound.specs.Laws.{FunctionsAreTyped, MainIsThere};
+ghost use Rattle.c_typing.specs.Laws.{TypedIsWellTyped};
 
-/// Each function of a typed program is well typed, and `int main(void)` is there.
-#[tactic(auto, using(crate::proofs::Sound::functions_are_typed, crate::proofs::Sound::main_is_there))]
-pub fn functions_are_typed()
-    ensures functions { FunctionsAreTyped }
-    ensures main { MainIsThere }
+/// Typed programs of files are well typed, where the files are raw trees of the grammar over tokens at different
+/// places, whose numbers are of `int`, as those of texts are.
+pub fn typed_is_well_typed()
+    ensures { TypedIsWellTyped }
 {}

@@ -1,8 +1,8 @@
-//! Laws without code: typed programs of files are well typed.
+//! A law without code: typed programs of files are well typed.
 //!
-//! `specs/Laws.antt` states them, over `Typed` of `c_typing` and `WellTyped` of `c_tree`.
+//! `TypedIsWellTyped` of `c_typing` states it, over `Typed` of that crate and `WellTyped` of `c_tree`.
 #![tactic(auto)]
 
 mod laws;
 
-pub use laws::functions_are_typed;
+pub use laws::typed_is_well_typed;

@@ -1,5 +1,6 @@
 pub mod Fitting
 pub mod Leading
+pub mod LegalExample
 pub mod Naming
 pub mod Outcomes
 pub mod Overlays

@@ -1,8 +1,8 @@
--- The board of a point: the areas that are free for its pieces, and the pieces. The areas are the registers EAX, EBX, ECX
--- and EDX, in this order, the low column being AL, BL, CL or DL. What an op fixes or takes is as its instructions have
--- it: a shift by a variable count has the count in CL (Intel manual, volume 2, "SAL/SAR/SHL/SHR"), a division has its
--- dividend in EDX:EAX, its quotient in EAX and its remainder in EDX (the same, "IDIV"), and a call has its result in EAX
--- and keeps EBX, but not ECX and EDX (System V ABI, Intel386 supplement, section 3).
+-- The board of a point: the areas that are free for its pieces, and the pieces. The areas are the registers EAX, EBX,
+-- ECX and EDX, in this order, the low column being AL, BL, CL or DL. What an op fixes or takes is as its instructions
+-- have it: a shift by a variable count has the count in CL (Intel manual, volume 2, "SAL/SAR/SHL/SHR"), a division
+-- has its dividend in EDX:EAX, its quotient in EAX and its remainder in EDX (the same, "IDIV"), and a call has its
+-- result in EAX and keeps EBX, but not ECX and EDX (System V ABI, Intel386 supplement, section 3).
 use Rattle.std.specs.Prelude.{ℕ, Bool, true, false, cond, eqb, ltb, ◌&&◌, not, if◌then◌else◌, List, [], ◌∷◌, ◌++◌}
 use Rattle.std.specs.Prelude.{Option, Some, None, slice_index_or}
 use Rattle.pcc_base.specs.declared.run.Width.{Width}
@@ -217,8 +217,8 @@ if_so false piece = []
 abbrev pub use_kind : Bool → Bool → Kind
 use_kind live_after is_defined = if live_after && not is_defined then Y else X
 
--- the pieces of one variable: an X or a Y where it is live before the op, and a Z where it is defined there, also where it
--- is dead after; but none that is fixed
+-- the pieces of one variable: an X or a Y where it is live before the op, and a Z where it is defined there, also
+-- where it is dead after; but none that is fixed
 abbrev pub pieces_of_variable : Flow → Lives → ℕ → Op → ℕ → List Piece
 pieces_of_variable flow lives point op v =
     if_so (has_point v (at_point lives.before point) && not (is_named (fixed_variable (fixed_use op)) v))

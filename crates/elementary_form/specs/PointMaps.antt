@@ -1,6 +1,8 @@
 -- Maps of a graph: where each variable stands before and after each point, and when such a map is legal.
-use Rattle.std.specs.Prelude.{ℕ, ℤ, ◌≡◌, ◌<◌, ◌↔◌, ◌+◌, ◌*◌, ◌-◌, ◌==◌, Bool, true, false, ◌&&◌, if◌then◌else◌, pos, neg_ℤ}
-use Rattle.std.specs.Prelude.{List, [], ◌∷◌, ◌++◌, map, take, count_by, is_some, Option, Some, None, slice_get, slice_index_or}
+use Rattle.std.specs.Prelude.{ℕ, ℤ, ◌≡◌, ◌<◌, ◌↔◌, ◌+◌, ◌*◌, ◌-◌, ◌==◌, Bool, true, false, ◌&&◌}
+use Rattle.std.specs.Prelude.{if◌then◌else◌, pos, neg_ℤ}
+use Rattle.std.specs.Prelude.{List, [], ◌∷◌, ◌++◌, map, take, count_by, is_some, Option, Some}
+use Rattle.std.specs.Prelude.{None, slice_get, slice_index_or}
 use Rattle.flow_graph.specs.declared.op.Op.{Op}
 use Rattle.flow_graph.specs.Graphs.{Flow, IsIn, IsPlaced, has_point}
 use Rattle.flow_graph.specs.Liveness.{BeginsWith, IsLiveBefore, defined}
@@ -12,50 +14,24 @@ use Rattle.puzzle_board.specs.declared.piece.Kind.{Kind}
 use Rattle.puzzle_board.specs.declared.piece.Kind.TheVariants.{X, Y, Z}
 use Rattle.puzzle_board.specs.declared.piece.Piece.{Piece}
 use Rattle.puzzle_board.specs.declared.piece.Spot.{Spot}
+use Rattle.puzzle_board.specs.declared.place.Place.{Place}
+use Rattle.puzzle_board.specs.declared.place.Place.TheVariants.{Cells, Slot}
 use Rattle.puzzle_board.specs.Placements.{IsLegalPlacement, Standing}
+use Rattle.puzzle_board.specs.Places.{PlaceMap, entries_at, place_in, spilled_at}
 use Rattle.elementary_form.specs.PointBoards.{Fixed, areas_of, fixed_result, fixed_use, point_pieces, with_result}
 use Rattle.elementary_form.specs.SplitForms.{FixedOperandsDie}
 
 -- ---- maps
 
--- a place: columns of an area, or a slot of the frame, which is named by its offset from EBP in bytes
-pub data Place : Type 0 where
-  Cells : (spot : Spot) → Place
-  Slot : (offset : ℤ) → Place
-
--- a variable, and its place
-pub record PlaceOf : Type 0 where
-  pub variable : ℕ
-  pub place : Place
-
--- for each point the places of the variables that are live before it, of those that are live after it or defined by it,
--- and the variables that are spilled there; for each variable the offset of its slot, if it has one; and the bytes of the
--- frame
-pub record PointMap : Type 0 where
-  pub before : List (List PlaceOf)
-  pub after : List (List PlaceOf)
-  pub spilled : List (List ℕ)
-  pub slots : List (Option ℤ)
-  pub frame : ℕ
-
-abbrev pub places_at : List (List PlaceOf) → ℕ → List PlaceOf
-places_at lists point = slice_index_or lists point []
-
-abbrev pub place_among : ℕ → List PlaceOf → Option Place
-place_among v [] = None
-place_among v (p ∷ ps) = if p.variable == v then Some p.place else place_among v ps
-
 -- where a variable stands before a point, and after it
-abbrev pub place_before : PointMap → ℕ → ℕ → Option Place
-place_before places point v = place_among v (places_at places.before point)
+abbrev pub place_before : PlaceMap → ℕ → ℕ → Option Place
+place_before places point v = place_in (entries_at places.before point) v
 
-abbrev pub place_after : PointMap → ℕ → ℕ → Option Place
-place_after places point v = place_among v (places_at places.after point)
+abbrev pub place_after : PlaceMap → ℕ → ℕ → Option Place
+place_after places point v = place_in (entries_at places.after point) v
 
-abbrev pub spilled_at : PointMap → ℕ → List ℕ
-spilled_at places point = slice_index_or places.spilled point []
-
-abbrev pub slot_of : PointMap → ℕ → Option ℤ
+-- the slot of a variable, by its offset from EBP
+abbrev pub slot_of : PlaceMap → ℕ → Option ℤ
 slot_of places v = slice_index_or places.slots v None
 
 -- ---- where pieces stand: read off the map
@@ -85,7 +61,7 @@ both_cells (Some spot) None = None
 both_cells (Some spot) (Some after) = if same_spot spot after then Some spot else None
 
 -- an X stands where its variable does before the op, a Z where it does after it, and a Y at one spot before and after
-abbrev pub spot_on : PointMap → ℕ → Kind → ℕ → Option Spot
+abbrev pub spot_on : PlaceMap → ℕ → Kind → ℕ → Option Spot
 spot_on places point X v = cells_of (place_before places point v)
 spot_on places point Y v = both_cells (cells_of (place_before places point v)) (cells_of (place_after places point v))
 spot_on places point Z v = cells_of (place_after places point v)
@@ -95,7 +71,7 @@ standing_at piece None = []
 standing_at piece (Some spot) = record { piece = piece; spot = spot } ∷ []
 
 -- the pieces that stand on the board, each with its spot
-abbrev pub standings_of : PointMap → ℕ → List Piece → List Standing
+abbrev pub standings_of : PlaceMap → ℕ → List Piece → List Standing
 standings_of places point [] = []
 standings_of places point (piece ∷ pieces) =
     standing_at piece (spot_on places point piece.kind piece.var) ++ standings_of places point pieces
@@ -109,24 +85,24 @@ unspilled spilled (piece ∷ pieces) =
 -- ---- legal maps
 
 -- the piece stands in this slot, before the op, after it, or both
-abbrev pub InSlot : PointMap → ℕ → ℤ → Kind → ℕ → Type 0
+abbrev pub InSlot : PlaceMap → ℕ → ℤ → Kind → ℕ → Type 0
 InSlot places point offset X v = place_before places point v ≡ Some (Slot offset)
 InSlot places point offset Y v =
     (place_before places point v ≡ Some (Slot offset)) × (place_after places point v ≡ Some (Slot offset))
 InSlot places point offset Z v = place_after places point v ≡ Some (Slot offset)
 
 -- each piece of a spilled variable stands in the variable's one slot
-abbrev pub SpilledInSlots : PointMap → ℕ → List Piece → Type 0
+abbrev pub SpilledInSlots : PlaceMap → ℕ → List Piece → Type 0
 SpilledInSlots places point pieces =
     (k : ℕ) (piece : Piece) → slice_get pieces k ≡ Some piece → IsIn piece.var (spilled_at places point)
     → (offset : ℤ) × (slot_of places piece.var ≡ Some offset) × InSlot places point offset piece.kind piece.var
 
--- A point of a legal map: it lists exactly the variables that are live before the point, and those that are live after it
--- or defined there; fixed pieces stand in their registers, pieces of spilled variables in their slots, and the others
--- have a legal placement on the board.
-pub record IsLegalPoint (flow : Flow) (lives : Lives) (places : PointMap) (point : ℕ) (op : Op) : Type 0 where
-  pub lists_before : map (λ p. p.variable) (places_at places.before point) ≡ at_point lives.before point
-  pub lists_after : map (λ p. p.variable) (places_at places.after point)
+-- A point of a legal map: it lists exactly the variables that are live before the point, and those that are live
+-- after it or defined there; fixed pieces stand in their registers, pieces of spilled variables in their slots, and
+-- the others have a legal placement on the board.
+pub record IsLegalPoint (flow : Flow) (lives : Lives) (places : PlaceMap) (point : ℕ) (op : Op) : Type 0 where
+  pub lists_before : map (λ e. e.0) (entries_at places.before point) ≡ at_point lives.before point
+  pub lists_after : map (λ e. e.0) (entries_at places.after point)
       ≡ with_result (defined op) (at_point lives.after point)
   pub operand : (fixed : Fixed) → fixed_use op ≡ Some fixed
       → place_before places point fixed.variable ≡ Some (Cells fixed.spot)
@@ -138,7 +114,7 @@ pub record IsLegalPoint (flow : Flow) (lives : Lives) (places : PointMap) (point
       (standings_of places point (unspilled (spilled_at places point) (point_pieces flow lives point op)))
 
 -- how many variables have slots
-abbrev pub slot_count : PointMap → ℕ
+abbrev pub slot_count : PlaceMap → ℕ
 slot_count places = count_by is_some places.slots
 
 -- the bytes of frame arrays, each with the word before it
@@ -146,9 +122,10 @@ abbrev pub bytes_of_arrays : List (ℕ × ℕ) → ℕ
 bytes_of_arrays [] = 0
 bytes_of_arrays (array ∷ arrays) = array_bytes array + bytes_of_arrays arrays
 
--- How the frame below EBP is used: its first four words are the caller's EBX, ESI and EDI and a word for copies; below them
--- are the slots, of four bytes each, one for each variable that is spilled somewhere; and below these the frame arrays.
-pub record FrameUse (flow : Flow) (places : PointMap) : Type 0 where
+-- How the frame below EBP is used: its first four words are the caller's EBX, ESI and EDI and a word for copies;
+-- below them are the slots, of four bytes each, one for each variable that is spilled somewhere; and below these the
+-- frame arrays.
+pub record FrameUse (flow : Flow) (places : PlaceMap) : Type 0 where
   pub slotted : (v : ℕ) → ((offset : ℤ) × (slot_of places v ≡ Some offset))
       ↔ ((point : ℕ) × IsPlaced flow point × IsIn v (spilled_at places point))
   pub frame : places.frame ≡ 16 + 4 * slot_count places + bytes_of_arrays flow.arrays
@@ -156,14 +133,14 @@ pub record FrameUse (flow : Flow) (places : PointMap) : Type 0 where
       → (k : ℕ) × (k < slot_count places) × (offset ≡ neg_ℤ (pos (20 + 4 * k)))
   pub apart : (v w : ℕ) (offset : ℤ) → slot_of places v ≡ Some offset → slot_of places w ≡ Some offset → v ≡ w
 
--- How far below EBP element 0 of a frame array stands: the word before array 0 is the frame's last, and each further array
--- stands directly above the one before it.
-abbrev pub array_below : Flow → PointMap → ℕ → ℕ
+-- How far below EBP element 0 of a frame array stands: the word before array 0 is the frame's last, and each further
+-- array stands directly above the one before it.
+abbrev pub array_below : Flow → PlaceMap → ℕ → ℕ
 array_below flow places k = places.frame - bytes_of_arrays (take k flow.arrays) - 4
 
--- A map is legal for a graph where each point of a block is, by the graph's live sets, the frame is used so, fixed operands
--- die, and nothing is live at the first point.
-pub record IsLegalMap (flow : Flow) (places : PointMap) : Type 0 where
+-- A map is legal for a graph where each point of a block is, by the graph's live sets, the frame is used so, fixed
+-- operands die, and nothing is live at the first point.
+pub record IsLegalMap (flow : Flow) (places : PlaceMap) : Type 0 where
   pub lives : Lives
   pub live : AreLive flow lives
   pub dies : FixedOperandsDie flow

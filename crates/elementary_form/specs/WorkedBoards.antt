@@ -1,14 +1,16 @@
 -- Small graphs and maps that the definitions of boards and legal maps are read on.
-use Rattle.std.specs.Prelude.{ℕ, ℤ, negsuc, List, [], ◌∷◌, Option, Some}
+use Rattle.std.specs.Prelude.{ℕ, ℤ, negsuc, List, [], ◌∷◌, Option, Some, pos, None}
 use Rattle.pcc_base.specs.declared.run.Width.TheVariants.{One, Two}
 use Rattle.flow_graph.specs.declared.op.Op.{Op}
-use Rattle.flow_graph.specs.declared.op.Op.TheVariants.{Add, Call, Div, Shl}
+use Rattle.flow_graph.specs.declared.op.Op.TheVariants.{Add, Call, Const, Div, Return, Shl}
 use Rattle.flow_graph.specs.Graphs.{Flow}
 use Rattle.flow_graph.specs.Lives.{Lives}
 use Rattle.puzzle_board.specs.declared.piece.Columns.TheVariants.{All}
 use Rattle.puzzle_board.specs.declared.piece.Kind.{Kind}
 use Rattle.puzzle_board.specs.declared.piece.Piece.{Piece}
-use Rattle.elementary_form.specs.PointMaps.{Cells, Place, PlaceOf, PointMap, Slot}
+use Rattle.puzzle_board.specs.declared.place.Place.{Place}
+use Rattle.puzzle_board.specs.declared.place.Place.TheVariants.{Cells, Slot}
+use Rattle.puzzle_board.specs.Places.{Entry, PlaceMap}
 
 -- one point with this op; variable 4 has width One, and 0 to 3 width Two
 abbrev pub one_op : Op → Flow
@@ -57,11 +59,11 @@ addition_lives = live_at (0 ∷ 1 ∷ []) (0 ∷ 2 ∷ [])
 abbrev pub in_area : ℕ → Place
 in_area area = Cells (record { area = area; columns = All })
 
-abbrev pub at_place : ℕ → Place → PlaceOf
-at_place v place = record { variable = v; place = place }
+abbrev pub at_place : ℕ → Place → Entry
+at_place v place = (v, place)
 
 -- a map of the one point
-abbrev pub map_of : List PlaceOf → List PlaceOf → List ℕ → List (Option ℤ) → PointMap
+abbrev pub map_of : List Entry → List Entry → List ℕ → List (Option ℤ) → PlaceMap
 map_of before after spilled slots = record {
   before = before ∷ [];
   after = after ∷ [];
@@ -71,21 +73,40 @@ map_of before after spilled slots = record {
 }
 
 -- 0 in EAX, 1 in EBX before, and 2 in EBX after
-abbrev pub in_registers : PointMap
+abbrev pub in_registers : PlaceMap
 in_registers = map_of (at_place 0 (in_area 0) ∷ at_place 1 (in_area 1) ∷ [])
     (at_place 0 (in_area 0) ∷ at_place 2 (in_area 1) ∷ []) [] []
 
 -- 2 in EAX, where 0 is still
-abbrev pub result_on_top : PointMap
+abbrev pub result_on_top : PlaceMap
 result_on_top = map_of (at_place 0 (in_area 0) ∷ at_place 1 (in_area 1) ∷ [])
     (at_place 0 (in_area 0) ∷ at_place 2 (in_area 0) ∷ []) [] []
 
 -- 0 in EAX before and in ECX after
-abbrev pub moved_over_op : PointMap
+abbrev pub moved_over_op : PlaceMap
 moved_over_op = map_of (at_place 0 (in_area 0) ∷ at_place 1 (in_area 1) ∷ [])
     (at_place 0 (in_area 2) ∷ at_place 2 (in_area 1) ∷ []) [] []
 
 -- 0 in its slot, 20 bytes below EBP
-abbrev pub in_slot : PointMap
+abbrev pub in_slot : PlaceMap
 in_slot = map_of (at_place 0 (Slot (negsuc 19)) ∷ at_place 1 (in_area 1) ∷ [])
     (at_place 0 (Slot (negsuc 19)) ∷ at_place 2 (in_area 1) ∷ []) (0 ∷ []) (Some (negsuc 19) ∷ [])
+
+-- 5 is put into a variable and returned
+abbrev pub five_returned : Flow
+five_returned = record {
+  widths = Two ∷ [];
+  arrays = [];
+  blocks = (0 ∷ 1 ∷ []) ∷ [];
+  ops = Const 0 (pos 5) ∷ Return (Some 0) ∷ [];
+}
+
+-- a map of it, in which the variable stands in EAX, with so many bytes of frame
+abbrev pub five_in_eax : ℕ → PlaceMap
+five_in_eax frame = record {
+  before = [] ∷ (at_place 0 (in_area 0) ∷ []) ∷ [];
+  after = (at_place 0 (in_area 0) ∷ []) ∷ [] ∷ [];
+  spilled = [] ∷ [] ∷ [];
+  slots = None ∷ [];
+  frame = frame;
+}

@@ -7,9 +7,10 @@ ghost use Rattle.elementary_form.specs.FormLaws.{StepFits};
 ghost use Rattle.elementary_form.specs.FormRuns.{FormOutcome};
 ghost use Rattle.elementary_form.specs.Names.{edge_copy, name_after, name_before};
 ghost use Rattle.elementary_form.specs.PointBoards.{areas_of, callee_saved, count_taken, ends_taken, point_pieces};
-ghost use Rattle.elementary_form.specs.PointMaps.{IsLegalPoint};
+ghost use Rattle.elementary_form.specs.PointMaps.{IsLegalMap, IsLegalPoint};
 ghost use Rattle.elementary_form.specs.Worked.{calling_outcome, calling_program, sum_graph, sum_lives};
 ghost use Rattle.elementary_form.specs.WorkedBoards.{addition, addition_lives, call_lives, division, division_lives};
+ghost use Rattle.elementary_form.specs.WorkedBoards.{five_in_eax, five_returned};
 ghost use Rattle.elementary_form.specs.WorkedBoards.{in_registers, in_slot, moved_over_op, one_call, one_op};
 ghost use Rattle.elementary_form.specs.WorkedBoards.{result_on_top, shift, shift_lives, wide_piece};
 ghost use Rattle.puzzle_board.specs.declared.piece.Kind.TheVariants.{X, Y, Z};
@@ -56,10 +57,13 @@ pub fn worked_boards()
 {}
 
 /// At an addition whose first operand stays live a map is legal that has it in one register before and after, or in its
-/// slot, and not one that puts the result on top of it, or has it elsewhere after the op.
+/// slot, and not one that puts the result on top of it, or has it elsewhere after the op. A whole map of a small graph
+/// is legal, and not with four bytes more of frame.
 pub fn worked_maps()
     ensures registers { IsLegalPoint (one_op addition) addition_lives in_registers 0 addition }
     ensures slot { IsLegalPoint (one_op addition) addition_lives in_slot 0 addition }
     ensures on_top { IsLegalPoint (one_op addition) addition_lives result_on_top 0 addition → ⊥ }
     ensures moved { IsLegalPoint (one_op addition) addition_lives moved_over_op 0 addition → ⊥ }
+    ensures whole { IsLegalMap five_returned (five_in_eax 16) }
+    ensures frame { IsLegalMap five_returned (five_in_eax 20) → ⊥ }
 {}

@@ -26,7 +26,7 @@ use Rattle.ia32_shows.proofs.Frames.{with_result, below-address}
 use Rattle.ia32_effects.specs.Effects.{Makes}
 
 -- a register gets a word, and the flags are set
-result-makes : (site : Site) (r : Reg32) (v : ℕ) (flags : Option Flags) (s : State) → SoundAt site s
+pub result-makes : (site : Site) (r : Reg32) (v : ℕ) (flags : Option Flags) (s : State) → SoundAt site s
     → SoundAt site (with_result r v flags s)
 result-makes site r v flags s sound =
     sound-with_flags site.text site.low site.high flags (with_word r v s)
@@ -112,7 +112,7 @@ operation-makes site op r q s sound does =
 -- ---- memory
 
 -- a word of the frame, at its address
-below-loaded : (site : Site) (frame k n v : ℕ) (s : State) → Framed site frame s → 0 < k → k ≤ frame
+pub below-loaded : (site : Site) (frame k n v : ℕ) (s : State) → Framed site frame s → 0 < k → k ≤ frame
     → load n (word_of Ebp s - k) s ≡ Ok v → load n (address_of (below k) s) s ≡ Ok v
 below-loaded site frame k n v s framed some within held =
     let esp = framed.esp in

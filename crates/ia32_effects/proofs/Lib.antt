@@ -4,3 +4,5 @@ pub mod Kept
 pub mod Moves
 pub mod Sums
 pub mod Bytes
+pub mod Unary
+pub mod Multiplying

@@ -87,7 +87,7 @@ operate-gives site frame how t (InSlot k) x y s framed works writes holds placed
 -- ---- on two places
 
 -- the place is not the register
-abbrev IsOutside : Reg32 → Place → Type 0
+abbrev pub IsOutside : Reg32 → Place → Type 0
 IsOutside t (InWord r) = number32 r ≢ number32 t
 IsOutside t (InByte r) = ⊥
 IsOutside t (InSlot k) = ⊤
@@ -103,11 +103,11 @@ still-there t (InSlot k) y s m works outside keeps contains =
     contains-kept (OutsideWord t) Anywhere s m Two (InSlot k) y keeps (other-cells Ebp t works.1) tt (tt, tt) contains
 
 -- the second operand stands outside the register, or the first is in it already
-abbrev IsSafe : Reg32 → Place → Place → Type 0
+abbrev pub IsSafe : Reg32 → Place → Place → Type 0
 IsSafe t first second = IsOutside t second ⊎ (read t first ≡ [])
 
 -- the second operand is there after the first was read
-second-there : (site : Site) (frame : ℕ) (t : Reg32) (q r : Place) (x y : ℕ) (s m : State) → IsWorking t
+pub second-there : (site : Site) (frame : ℕ) (t : Reg32) (q r : Place) (x y : ℕ) (s m : State) → IsWorking t
     → IsSafe t q r → Gives site frame (read t q) t x s m → Contains s Two r y → Contains m Two r y
 second-there site frame t q r x y s m works (inl outside) gives contains =
     still-there t r y s m works outside gives.keeps contains
@@ -150,23 +150,23 @@ in-register site frame how t p q r x y s framed room writes works within safe to
     )
 
 -- ESI may be changed, and no operand is in it
-esi-works : IsWorking Esi
+pub esi-works : IsWorking Esi
 esi-works = ((λ e. omega arith), (λ e. omega arith))
 
-esi-outside : (frame : ℕ) (r : Place) → HoldsWord r → IsPlaceIn frame r → IsOutside Esi r
+pub esi-outside : (frame : ℕ) (r : Place) → HoldsWord r → IsPlaceIn frame r → IsOutside Esi r
 esi-outside frame (InWord r) holds placed = let b = general-below r placed in λ e. omega (arith, e)
 esi-outside frame (InByte r) holds placed = absurd holds
 esi-outside frame (InSlot k) holds placed = tt
 
 -- a place that is the register has nothing to be read
-nothing-read : (t : Reg32) (q : Place) → HoldsWord q → is_in t q ≡ true → read t q ≡ []
+pub nothing-read : (t : Reg32) (q : Place) → HoldsWord q → is_in t q ≡ true → read t q ≡ []
 nothing-read t (InWord r) holds e =
     ap (λ (b : Bool). if b then [] else plain (insn.Mov (rm.Reg t) r) ∷ []) e
 nothing-read t (InByte r) holds e = absurd holds
 nothing-read t (InSlot k) holds e = absurd (let no : false ≡ true = e in cc)
 
 -- and one that isn't is outside
-not-in : (t : Reg32) (r : Place) → HoldsWord r → is_in t r ≡ false → IsOutside t r
+pub not-in : (t : Reg32) (r : Place) → HoldsWord r → is_in t r ≡ false → IsOutside t r
 not-in t (InWord r) holds e = unlike (number32 r) (number32 t) e
 not-in t (InByte r) holds e = absurd holds
 not-in t (InSlot k) holds e = tt

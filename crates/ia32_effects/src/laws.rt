@@ -1,5 +1,7 @@
 ghost use Rattle.ia32_effects.specs.Laws.{StraightGoes, ReadGives, OperateGives, WritePuts, NumberPuts, CopyPuts};
 ghost use Rattle.ia32_effects.specs.Laws.{ExtendGives, CopyBytePuts, CopyToSlotPuts, OperationPuts, CommutingPuts, OthersKept};
+ghost use Rattle.ia32_effects.specs.Unary.{NegationPuts, ComplementPuts, ExtensionPuts};
+ghost use Rattle.ia32_effects.specs.Products.{ProductPuts};
 
 /// The machine goes through straight code that stands at EIP to what follows it.
 pub fn straight_code_goes()
@@ -24,6 +26,15 @@ pub fn rows_compute_words()
     ensures in_register { OperateGives }
     ensures operation { OperationPuts }
     ensures commuting { CommutingPuts }
+    ensures product { ProductPuts }
+{}
+
+/// The negation and the complement of the word of a place come to another, which may be the same; so does a byte with its
+/// sign.
+pub fn rows_change_words()
+    ensures negation { NegationPuts }
+    ensures complement { ComplementPuts }
+    ensures extension { ExtensionPuts }
 {}
 
 /// A place that is apart from the one that a row writes contains what it did.

@@ -4,4 +4,7 @@
 
 mod laws;
 
-pub use laws::{other_places_are_kept, rows_compute_words, rows_move_words, straight_code_goes};
+pub use laws::{
+    other_places_are_kept, rows_change_words, rows_compute_words, rows_move_words,
+    straight_code_goes,
+};

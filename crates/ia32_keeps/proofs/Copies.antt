@@ -126,7 +126,7 @@ given-value P None go none some = none
 given-value P (Some value) go none some = some value refl
 
 -- the byte of a value in a place
-byte-in : (code : Code) (g : graph.State) (frames : List ℕ) (s : machine.State) (place : Place) (value : Value)
+pub byte-in : (code : Code) (g : graph.State) (frames : List ℕ) (s : machine.State) (place : Place) (value : Value)
     → HoldsWidth (Some One) place
     → StandsIn code (active_of g) frames s (word_of Ebp s) (Some One) value place
     → (b : ℕ) × Contains s One place b × IsByte value b
@@ -135,7 +135,7 @@ byte-in code g frames s (InByte r) value for h = (byte_of r s, refl, h)
 byte-in code g frames s (InSlot slot) value for h = (h.0, h.1, h.2)
 
 -- is a byte
-byte-small : (value : Value) (b : ℕ) → IsByte value b → b < 256
+pub byte-small : (value : Value) (b : ℕ) → IsByte value b → b < 256
 byte-small (Number n) b h = subst (λ (k : ℕ). k < 256) (sym h.1) (byte-fits n h.0)
 byte-small (Array a) b h = absurd h
 

@@ -13,3 +13,4 @@ pub mod Ops
 pub mod Marks
 pub mod Copies
 pub mod Stored
+pub mod Changes

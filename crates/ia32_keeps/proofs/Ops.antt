@@ -15,7 +15,7 @@ use Rattle.ia32_insn.specs.declared.insn.AluOp.{AluOp}
 use Rattle.ia32_insn.specs.declared.insn.AluOp.TheVariants as alu
 use Rattle.ia32_insn.specs.declared.item.Item.{Item}
 use Rattle.ia32_insn.specs.State as machine
-use Rattle.ia32_insn.specs.Arithmetic.{alu_value}
+use Rattle.ia32_insn.specs.Arithmetic.{alu_value, product}
 use Rattle.ia32_insn.specs.Meaning.{word_of}
 use Rattle.flow_graph.specs.declared.op.Op.{Op}
 use Rattle.flow_graph.specs.declared.op.Op.TheVariants as op
@@ -35,9 +35,12 @@ use Rattle.ia32_effects.specs.Contains.{Contains, HoldsWord, IsPlaceIn}
 use Rattle.ia32_effects.specs.Laws.{IsWriting, Puts}
 use Rattle.ia32_effects.proofs.Moves.{number-puts}
 use Rattle.ia32_effects.proofs.Sums.{commuting-puts, operation-puts}
+use Rattle.ia32_effects.specs.Products.{multiplying}
+use Rattle.ia32_effects.proofs.Multiplying.{product-puts}
+use Rattle.ia32_keeps.proofs.Words.{product-computed}
 use Rattle.ia32_keeps.specs.Supports.{HoldsWidth, IsSupported, site_of}
 use Rattle.ia32_keeps.specs.Ops.{AndFollows, DifferenceFollows, NumberFollows, OrFollows, RowAt, SumFollows}
-use Rattle.ia32_keeps.specs.Ops.{XorFollows, after_at, before_at}
+use Rattle.ia32_keeps.specs.Ops.{ProductFollows, XorFollows, after_at, before_at}
 use Rattle.ia32_keeps.proofs.Shown.{point-supported}
 use Rattle.ia32_keeps.proofs.Zones.{shown-in-frame}
 use Rattle.ia32_keeps.proofs.Puts.{IsLow, puts-follow}
@@ -150,7 +153,7 @@ has-number code input g s o a x supported state shown has used width e =
     }
 
 -- a step with the number in a variable, where it holds one
-given-number : (P : Moved → Type 0) (o : Option Value) (go : ℤ → Moved) → P Stuck
+pub given-number : (P : Moved → Type 0) (o : Option Value) (go : ℤ → Moved) → P Stuck
     → ((n : ℤ) → o ≡ Some (Number n) → P (go n)) → P (given (number_of o) go)
 given-number P None go none some = none
 given-number P (Some (Number n)) go none some = some n refl
@@ -159,14 +162,14 @@ given-number P (Some (Array a)) go none some = none
 -- ---- operations
 
 -- the row of an operation puts its result into any place
-abbrev PutsResult : AluOp → (Place → Place → Place → List Item) → Type 0
+abbrev PutsResult : (ℕ → ℕ → ℕ) → (Place → Place → Place → List Item) → Type 0
 PutsResult how Row =
     (site : Site) (frame : ℕ) (p q r : Place) (x y : ℕ) (s : machine.State) → Framed site frame s → 16 ≤ frame
     → IsPlaceIn frame p → HoldsWord q → IsPlaceIn frame q → HoldsWord r → IsPlaceIn frame r
-    → Contains s Two q x → Contains s Two r y → x < 2 ^ 32 → y < 2 ^ 32 → alu_value how x y < 2 ^ 32
-    → (u : machine.State) × Puts site frame (Row p q r) p (alu_value how x y) s u
+    → Contains s Two q x → Contains s Two r y → x < 2 ^ 32 → y < 2 ^ 32 → how x y < 2 ^ 32
+    → (u : machine.State) × Puts site frame (Row p q r) p (how x y) s u
 
-operation-follows : (how : AluOp) (Row : Place → Place → Place → List Item) (f : ℤ → ℤ → ℤ) (o : Op) (d a b : ℕ)
+operation-follows : (how : ℕ → ℕ → ℕ) (Row : Place → Place → Place → List Item) (f : ℤ → ℤ → ℤ) (o : Op) (d a b : ℕ)
     (code : Code) (input : List ℕ) (g : graph.State) (s : machine.State) → PutsResult how Row → IsComputedBy how f
     → defined o ≡ Some d → IsIn a (uses o) → IsIn b (uses o)
     → ((next : ℕ) → IsBehind (flow_at code.program g.current.function) g.point next
@@ -190,7 +193,7 @@ operation-follows how Row f o d a b code input g s puts computed sets_d reads_a 
     let four = (supported.supports g.current.function state.active.0.function).four_words in
     let one = has-number code input g s o a x supported state shown has reads_a wa e in
     let two = has-number code input g s o b y supported state shown has reads_b wb k in
-    let w : ℕ = alu_value how (cast_unsigned w32 x) (cast_unsigned w32 y) in
+    let w : ℕ = how (cast_unsigned w32 x) (cast_unsigned w32 y) in
     let low : IsLow code (active_of g) shown.frames (Some Two) (Number (f x y)) w =
     (computed.fits x y one.fits two.fits, sym (computed.word x y one.fits two.fits)) in
     puts-follow code input g s o d w (Number (f x y)) place (Row place one.place two.place) supported state shown has
@@ -206,7 +209,7 @@ operation-follows how Row f o d a b code input g s puts computed sets_d reads_a 
 
 -- where the operands commute
 commuting-result : (how : AluOp) → IsWriting how → ((x y : ℕ) → alu_value how y x ≡ alu_value how x y)
-    → PutsResult how (commuting how)
+    → PutsResult (alu_value how) (commuting how)
 commuting-result how writes same site frame p q r x y s framed room to a a_placed b b_placed one two fits also all =
     commuting-puts site frame how p q r x y s framed room writes (same x y) to a a_placed b b_placed one two fits also
     all
@@ -214,14 +217,14 @@ commuting-result how writes same site frame p q r x y s framed room to a a_place
 pub sum-follows : SumFollows
 sum-follows d a b code input g s supported state shown has r =
     let fits = (op-is code g (op.Add d a b) supported state has).fits in
-    operation-follows alu.Add (commuting alu.Add) _ (op.Add d a b) d a b code input g s
+    operation-follows (alu_value alu.Add) (commuting alu.Add) _ (op.Add d a b) d a b code input g s
     (commuting-result alu.Add tt (λ x y. omega arith)) sum-computed refl (inl refl) (inr (inl refl)) (λ next h. h)
     fits.0 fits.1.0 fits.1.1.0 supported state shown has r
 
 pub difference-follows : DifferenceFollows
 difference-follows d a b code input g s supported state shown has r =
     let fits = (op-is code g (op.Sub d a b) supported state has).fits in
-    operation-follows alu.Sub (operation alu.Sub) _ (op.Sub d a b) d a b code input g s
+    operation-follows (alu_value alu.Sub) (operation alu.Sub) _ (op.Sub d a b) d a b code input g s
     (λ site frame p q v x y t framed room to f f_placed h h_placed one two small also all.
     operation-puts site frame alu.Sub p q v x y t framed room tt to f f_placed h h_placed one two small also all)
     difference-computed refl (inl refl) (inr (inl refl)) (λ next h. h) fits.0 fits.1.0 fits.1.1.0 supported state shown
@@ -230,20 +233,28 @@ difference-follows d a b code input g s supported state shown has r =
 pub and-follows : AndFollows
 and-follows d a b code input g s supported state shown has r =
     let fits = (op-is code g (op.And d a b) supported state has).fits in
-    operation-follows alu.And (commuting alu.And) _ (op.And d a b) d a b code input g s
+    operation-follows (alu_value alu.And) (commuting alu.And) _ (op.And d a b) d a b code input g s
     (commuting-result alu.And tt (λ x y. and_comm y x)) and-computed refl (inl refl) (inr (inl refl)) (λ next h. h)
     fits.0 fits.1.0 fits.1.1.0 supported state shown has r
 
 pub or-follows : OrFollows
 or-follows d a b code input g s supported state shown has r =
     let fits = (op-is code g (op.Or d a b) supported state has).fits in
-    operation-follows alu.Or (commuting alu.Or) _ (op.Or d a b) d a b code input g s
+    operation-follows (alu_value alu.Or) (commuting alu.Or) _ (op.Or d a b) d a b code input g s
     (commuting-result alu.Or tt (λ x y. or_comm y x)) or-computed refl (inl refl) (inr (inl refl)) (λ next h. h)
     fits.0 fits.1.0 fits.1.1.0 supported state shown has r
 
 pub xor-follows : XorFollows
 xor-follows d a b code input g s supported state shown has r =
     let fits = (op-is code g (op.Xor d a b) supported state has).fits in
-    operation-follows alu.Xor (commuting alu.Xor) _ (op.Xor d a b) d a b code input g s
+    operation-follows (alu_value alu.Xor) (commuting alu.Xor) _ (op.Xor d a b) d a b code input g s
     (commuting-result alu.Xor tt (λ x y. xor_comm y x)) xor-computed refl (inl refl) (inr (inl refl)) (λ next h. h)
     fits.0 fits.1.0 fits.1.1.0 supported state shown has r
+
+pub product-follows : ProductFollows
+product-follows d a b code input g s supported state shown has r =
+    let fits = (op-is code g (op.Mul d a b) supported state has).fits in
+    operation-follows product multiplying _ (op.Mul d a b) d a b code input g s
+    (λ site frame p q v x y t framed room to f f_placed h h_placed one two small also all.
+    product-puts site frame p q v x y t framed room to f f_placed h h_placed one two small) product-computed refl
+    (inl refl) (inr (inl refl)) (λ next h. h) fits.0 fits.1.0 fits.1.1.0 supported state shown has r

@@ -1,14 +1,14 @@
 -- Signed numbers as words and bytes: what operations on words make of them.
-use Rattle.std.proofs.Common.{◌≡◌, ℕ, ◌-◌, ◌%◌, ◌^◌, ◌<◌, ℤ, ◌+ℤ◌, ◌-ℤ◌, pos, negsuc, sym, ap, ◌∙◌, arith}
+use Rattle.std.proofs.Common.{◌≡◌, ℕ, ◌-◌, ◌*◌, ◌%◌, ◌^◌, ◌<◌, ℤ, ◌+ℤ◌, ◌-ℤ◌, ◌*ℤ◌, pos, negsuc, sym, ap, ◌∙◌, arith}
 use Rattle.std.specs.Prelude.{FitsSigned, bit_and, bit_or, bit_xor}
 use Rattle.std.specs.Int.{w8, w32, cast_unsigned, cast_signed, int_wrap, int_bit_and, int_bit_or, int_bit_xor}
 use Rattle.std.proofs.Math.Nat.{mod-lt}
 use Rattle.std.proofs.lemmas.Nat.{and_le_l, or_of_32, xor_of_32}
-use Rattle.std.proofs.lemmas.Int.{ints, to_z-of_z, of_z-to_z, wrapping_add-bits, wrapping_sub-bits, SFits-int_wrap}
+use Rattle.std.proofs.lemmas.Int.{ints, to_z-of_z, of_z-to_z, wrapping_add-bits, wrapping_sub-bits, wrapping_mul-bits}
+use Rattle.std.proofs.lemmas.Int.{SFits-int_wrap}
 use Rattle.graph_states.proofs.Numbers.{and-fits, or-fits, xor-fits}
-use Rattle.ia32_insn.specs.declared.insn.AluOp.{AluOp}
 use Rattle.ia32_insn.specs.declared.insn.AluOp.TheVariants as alu
-use Rattle.ia32_insn.specs.Arithmetic.{alu_value, sum, difference}
+use Rattle.ia32_insn.specs.Arithmetic.{alu_value, sum, difference, product}
 
 -- the bits of a number are a word
 pub word-fits : (z : ℤ) → FitsSigned w32 z → cast_unsigned w32 z < 2 ^ 32
@@ -28,14 +28,14 @@ low-byte (negsuc a) h =
     same ∙ sym (of_z-to_z w8 (256 - 1 - a % 256) (omega arith))
 
 -- What an operation makes of the words of two numbers is the word of what the function makes of the numbers.
-pub record IsComputedBy (how : AluOp) (f : ℤ → ℤ → ℤ) : Type 0 where
+pub record IsComputedBy (how : ℕ → ℕ → ℕ) (f : ℤ → ℤ → ℤ) : Type 0 where
   pub fits : (x y : ℤ) → FitsSigned w32 x → FitsSigned w32 y → FitsSigned w32 (f x y)
   pub word : (x y : ℤ) → FitsSigned w32 x → FitsSigned w32 y
-      → cast_unsigned w32 (f x y) ≡ alu_value how (cast_unsigned w32 x) (cast_unsigned w32 y)
-  pub below : (m n : ℕ) → m < 2 ^ 32 → n < 2 ^ 32 → alu_value how m n < 2 ^ 32
+      → cast_unsigned w32 (f x y) ≡ how (cast_unsigned w32 x) (cast_unsigned w32 y)
+  pub below : (m n : ℕ) → m < 2 ^ 32 → n < 2 ^ 32 → how m n < 2 ^ 32
 
 -- ADD
-pub sum-computed : IsComputedBy alu.Add (λ x y. int_wrap w32 (x +ℤ y))
+pub sum-computed : IsComputedBy (alu_value alu.Add) (λ x y. int_wrap w32 (x +ℤ y))
 sum-computed =
     record {
       fits = λ x y f g. SFits-int_wrap w32 (x +ℤ y);
@@ -55,7 +55,7 @@ sum-computed =
         ∙ of_z-to_z w32 (sum m n) (omega arith)
 
 -- SUB
-pub difference-computed : IsComputedBy alu.Sub (λ x y. int_wrap w32 (x -ℤ y))
+pub difference-computed : IsComputedBy (alu_value alu.Sub) (λ x y. int_wrap w32 (x -ℤ y))
 difference-computed =
     record {
       fits = λ x y f g. SFits-int_wrap w32 (x -ℤ y);
@@ -74,11 +74,31 @@ difference-computed =
         ap (λ (z : ℤ). cast_unsigned w32 (int_wrap w32 z)) same ∙ ap (cast_unsigned w32) (sym bits)
         ∙ of_z-to_z w32 (difference m n) (omega arith)
 
+-- IMUL
+pub product-computed : IsComputedBy product (λ x y. int_wrap w32 (x *ℤ y))
+product-computed =
+    record {
+      fits = λ x y f g. SFits-int_wrap w32 (x *ℤ y);
+      word = λ x y f g. word x y f g;
+      below = λ m n f g. mod-lt (m * n) (omega arith);
+    }
+  where
+    word : (x y : ℤ) → FitsSigned w32 x → FitsSigned w32 y
+        → cast_unsigned w32 (int_wrap w32 (x *ℤ y)) ≡ product (cast_unsigned w32 x) (cast_unsigned w32 y)
+    word x y f g =
+        let m : ℕ = cast_unsigned w32 x in
+        let n : ℕ = cast_unsigned w32 y in
+        let bits = wrapping_mul-bits w32 m n (word-fits x f) (word-fits y g) in
+        let same : x *ℤ y ≡ cast_signed w32 m *ℤ cast_signed w32 n = ap (λ (z : ℤ). z *ℤ y) (sym (to_z-of_z w32 x f))
+        ∙ ap (λ (z : ℤ). cast_signed w32 m *ℤ z) (sym (to_z-of_z w32 y g)) in
+        ap (λ (z : ℤ). cast_unsigned w32 (int_wrap w32 z)) same ∙ ap (cast_unsigned w32) (sym bits)
+        ∙ of_z-to_z w32 (product m n) (mod-lt (m * n) (omega arith))
+
 -- AND, OR, XOR
 and-below : (m n : ℕ) → m < 2 ^ 32 → bit_and m n < 2 ^ 32
 and-below m n h = let less = and_le_l m n in omega arith
 
-pub and-computed : IsComputedBy alu.And (int_bit_and w32)
+pub and-computed : IsComputedBy (alu_value alu.And) (int_bit_and w32)
 and-computed =
     record {
       fits = λ x y f g. and-fits x y;
@@ -87,7 +107,7 @@ and-computed =
       below = λ m n f g. and-below m n f;
     }
 
-pub or-computed : IsComputedBy alu.Or (int_bit_or w32)
+pub or-computed : IsComputedBy (alu_value alu.Or) (int_bit_or w32)
 or-computed =
     record {
       fits = λ x y f g. or-fits x y;
@@ -96,7 +116,7 @@ or-computed =
       below = λ m n f g. or_of_32 m n f g;
     }
 
-pub xor-computed : IsComputedBy alu.Xor (int_bit_xor w32)
+pub xor-computed : IsComputedBy (alu_value alu.Xor) (int_bit_xor w32)
 xor-computed =
     record {
       fits = λ x y f g. xor-fits x y;

@@ -1,9 +1,10 @@
 ghost use Rattle.ia32_keeps.specs.Supports.{SlotsSupport};
 ghost use Rattle.ia32_keeps.specs.Laws.{ShownInFrame, ProtectedIsApart, PushedIsApart, MovedShows, SetShows};
 ghost use Rattle.ia32_keeps.specs.Laws.{ArrayShows, ElementShows};
+ghost use Rattle.ia32_keeps.specs.Ops.{ExtensionFollows};
 ghost use Rattle.ia32_keeps.specs.Ops.{NumberFollows, CopyFollows, SumFollows, DifferenceFollows, AndFollows};
 ghost use Rattle.ia32_keeps.specs.Ops.{OrFollows};
-ghost use Rattle.ia32_keeps.specs.Ops.{XorFollows, MarkFollows, TurnFollows};
+ghost use Rattle.ia32_keeps.specs.Ops.{XorFollows, ProductFollows, NegationFollows, ComplementFollows, MarkFollows, TurnFollows};
 
 /// Slots for all variables, apart from each other and from the frame arrays, support every graph.
 pub fn slots_support()
@@ -42,6 +43,10 @@ pub fn rows_follow()
     ensures and { AndFollows }
     ensures or { OrFollows }
     ensures xor { XorFollows }
+    ensures product { ProductFollows }
+    ensures negation { NegationFollows }
+    ensures complement { ComplementFollows }
+    ensures extension { ExtensionFollows }
     ensures mark { MarkFollows }
     ensures turn { TurnFollows }
 {}

@@ -1,11 +1,13 @@
 -- The placements are computed.
-use Rattle.std.proofs.Common.{◌≡◌, ℕ, zero, suc, ℤ, negsuc, [], ◌∷◌, length, Some, inl, inr, refl, sym, ap, ◌∙◌, subst, arith}
+use Rattle.std.proofs.Common.{◌≡◌, ℕ, zero, suc, ℤ, negsuc, [], ◌∷◌, length, Some, inl, inr, refl, sym, ap}
+use Rattle.std.proofs.Common.{◌∙◌, subst, arith}
 use Rattle.std.proofs.lemmas.Option.{none-some, same_Some}
 use Rattle.flow_graph.specs.Graphs.{IsIn}
 use Rattle.puzzle_board.specs.declared.piece.Kind.TheVariants.{X, Y, Z}
 use Rattle.puzzle_board.specs.declared.piece.Piece.{Piece}
 use Rattle.elementary_form.specs.PointMaps.{InSlot, SpilledInSlots, slot_of}
 use Rattle.elementary_form.specs.WorkedBoards.{in_slot, wide_piece}
+use Rattle.elementary_form.proofs.LegalExample.{legal-map}
 use Rattle.elementary_form.proofs.laws.worked_maps.Goals as goal
 
 pub returns-clause-registers : goal.returns-clause-registers
@@ -50,3 +52,9 @@ returns-clause-on_top c h = let e = h.placed.legal.1.1.0 in absurd (cc)
 
 pub returns-clause-moved : goal.returns-clause-moved
 returns-clause-moved c h = let e = ap length h.placed.each in absurd (omega (arith, e))
+
+pub returns-clause-whole : goal.returns-clause-whole
+returns-clause-whole c = legal-map
+
+pub returns-clause-frame : goal.returns-clause-frame
+returns-clause-frame c h = let e = h.frame.frame in absurd (omega (arith, e))

@@ -1,3 +1,4 @@
+use Rattle.ia32_effects.proofs.Multiplying.{product-puts}
 use Rattle.ia32_effects.proofs.Sums.{operate-gives, operation-puts, commuting-puts}
 use Rattle.ia32_effects.proofs.laws.rows_compute_words.Goals as goal
 
@@ -9,3 +10,6 @@ returns-clause-operation c = operation-puts
 
 pub returns-clause-commuting : goal.returns-clause-commuting
 returns-clause-commuting c = commuting-puts
+
+pub returns-clause-product : goal.returns-clause-product
+returns-clause-product c = product-puts

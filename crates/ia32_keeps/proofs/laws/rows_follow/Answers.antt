@@ -1,3 +1,5 @@
+use Rattle.ia32_keeps.proofs.Ops.{product-follows}
+use Rattle.ia32_keeps.proofs.Changes.{complement-follows, extension-follows, negation-follows}
 use Rattle.ia32_keeps.proofs.Copies.{copy-follows}
 use Rattle.ia32_keeps.proofs.Marks.{mark-follows, turn-follows}
 use Rattle.ia32_keeps.proofs.Ops.{number-follows, sum-follows, difference-follows, and-follows, or-follows, xor-follows}
@@ -29,3 +31,15 @@ returns-clause-mark c = mark-follows
 
 pub returns-clause-turn : goal.returns-clause-turn
 returns-clause-turn c = turn-follows
+
+pub returns-clause-negation : goal.returns-clause-negation
+returns-clause-negation c = negation-follows
+
+pub returns-clause-complement : goal.returns-clause-complement
+returns-clause-complement c = complement-follows
+
+pub returns-clause-product : goal.returns-clause-product
+returns-clause-product c = product-follows
+
+pub returns-clause-extension : goal.returns-clause-extension
+returns-clause-extension c = extension-follows

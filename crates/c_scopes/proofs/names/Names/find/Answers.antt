@@ -10,7 +10,8 @@ index-requires c = omega (
   arith,
   c.self.inside.entries.ok,
   found_within c.self.inside.entries.items c.args.name.now
-      c.in-Some.place.now (sym (c.self.invariant.1 c.args.name.now) ∙ sym c.get.ensures.value ∙ ap option_copied c.in-Some.is),
+      c.in-Some.place.now (sym (c.self.invariant.1 c.args.name.now) ∙ sym c.get.ensures.value
+      ∙ ap option_copied c.in-Some.is),
 )
 
 pub returns-in-Some : goal.returns-in-Some

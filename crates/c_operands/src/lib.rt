@@ -1,0 +1,23 @@
+//! What expressions are by the rows of typing (C99 6.5).
+//!
+//! In: operands that have types, each a typed tree with what it is as a constant, and an operator with its place. Out:
+//! the typed tree of the whole, with what it is as a constant, or the fault. `specs/Judged.antt` says when that is what
+//! `c_typing` has. The only refusal is want of memory.
+#![tactic(auto)]
+
+mod choice;
+mod judged;
+mod lvalues;
+mod one;
+mod parts;
+mod prefix;
+mod two;
+mod types;
+
+pub use choice::conditional;
+pub use judged::{Judged, Operand};
+pub use lvalues::{address, assignment, dereferenced, index, place_named, step};
+pub use one::{assigned, cast, negated, on_number, selected, tested};
+pub use parts::{both, earlier};
+pub use prefix::unary;
+pub use two::binary;

@@ -1,0 +1,6 @@
+pub mod Widths
+pub mod Going
+pub mod Made
+pub mod Atoms
+pub mod Operands
+pub mod Unary

@@ -1,0 +1,29 @@
+//! Laws of the lines of expressions: each function's contract is one, and the function does nothing.
+
+ghost use Rattle.lower_expressions.specs.Laws.{CharsLower, ComplementsLower, ConstantsLower};
+ghost use Rattle.lower_expressions.specs.Laws.{GetcharLowers, MinusesLower};
+
+/// The lines of a constant do what the source does, whatever is wanted of it.
+pub fn constants_lower()
+    ensures { ConstantsLower }
+{}
+
+/// The lines that read a local of type `char` do what the source does.
+pub fn chars_lower()
+    ensures { CharsLower }
+{}
+
+/// The lines of `getchar` do what the source does.
+pub fn getchar_lowers()
+    ensures { GetcharLowers }
+{}
+
+/// The lines of `-` do what the source does, where those of its operand do.
+pub fn minuses_lower()
+    ensures { MinusesLower }
+{}
+
+/// The lines of `~` do what the source does, where those of its operand do.
+pub fn complements_lower()
+    ensures { ComplementsLower }
+{}

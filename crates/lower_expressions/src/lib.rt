@@ -1,0 +1,7 @@
+//! Laws of the lines of expressions: they do what the source does, whatever is wanted of them. No code;
+//! `specs/Laws.antt` has the laws.
+#![tactic(auto)]
+
+mod laws;
+
+pub use laws::{chars_lower, complements_lower, constants_lower, getchar_lowers, minuses_lower};
