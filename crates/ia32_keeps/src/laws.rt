@@ -1,4 +1,4 @@
-ghost use Rattle.ia32_keeps.specs.Supports.{SlotsSupport};
+ghost use Rattle.ia32_keeps.specs.Supports.{SlotsSupport, OverSlotsSupport};
 ghost use Rattle.ia32_keeps.specs.Laws.{ShownInFrame, ProtectedIsApart, PushedIsApart, MovedShows, SetShows};
 ghost use Rattle.ia32_keeps.specs.Laws.{ArrayShows, ElementShows};
 ghost use Rattle.ia32_keeps.specs.Ops.{ExtensionFollows};
@@ -6,9 +6,11 @@ ghost use Rattle.ia32_keeps.specs.Ops.{NumberFollows, CopyFollows, SumFollows, D
 ghost use Rattle.ia32_keeps.specs.Ops.{OrFollows};
 ghost use Rattle.ia32_keeps.specs.Ops.{XorFollows, ProductFollows, NegationFollows, ComplementFollows, MarkFollows, TurnFollows};
 
-/// Slots for all variables, apart from each other and from the frame arrays, support every graph.
+/// Slots for all variables, apart from each other and from the frame arrays, support every graph; so do those of
+/// the graphs that have code so far.
 pub fn slots_support()
-    ensures { SlotsSupport }
+    ensures slots { SlotsSupport }
+    ensures over_slots { OverSlotsSupport }
 {}
 
 /// A state of the machine that shows one of the program is in the frame of the current call, with the stack far above

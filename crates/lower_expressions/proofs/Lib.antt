@@ -4,3 +4,4 @@ pub mod Made
 pub mod Atoms
 pub mod Operands
 pub mod Unary
+pub mod Reading

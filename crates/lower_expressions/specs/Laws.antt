@@ -1,5 +1,5 @@
 -- The laws of the lines of expressions, by their kinds; each is a part of `ExpressionsLower` of `lower_lines`.
-use Rattle.std.specs.Prelude.{◌≡◌, ◌≤◌, ℕ, ℤ, slice_get, Some}
+use Rattle.std.specs.Prelude.{◌≡◌, ◌≢◌, ◌≤◌, ℕ, ℤ, slice_get, Some}
 use Rattle.c_tree.specs.declared.expression.UnaryOp.TheVariants.{Complement, Minus}
 use Rattle.c_tree.specs.declared.types.IntegerType.{IntegerType}
 use Rattle.c_tree.specs.declared.types.IntegerType.TheVariants.{Char, Int}
@@ -19,6 +19,12 @@ abbrev pub CharsLower : Type 0
 CharsLower = (S : Site) → IsSite S → (k : ℕ) (l : Local) → slice_get S.function.locals k ≡ Some l
     → l.of ≡ Integer Char → Lowers S (part_of (context_of S) (Read (Integer Char) (LocalPlace k)))
     (evaluate S.calls (Read (Integer Char) (LocalPlace k)))
+
+-- a local of the types `short` and `int`, which an op may use where it stands
+abbrev pub LocalsLower : Type 0
+LocalsLower = (S : Site) → IsSite S → (k : ℕ) (l : Local) (t : IntegerType) → slice_get S.function.locals k ≡ Some l
+    → l.of ≡ Integer t → t ≢ Char → Lowers S (part_of (context_of S) (Read (Integer t) (LocalPlace k)))
+    (evaluate S.calls (Read (Integer t) (LocalPlace k)))
 
 -- `getchar`
 abbrev pub GetcharLowers : Type 0

@@ -1,7 +1,7 @@
 //! Laws of the lines of expressions: each function's contract is one, and the function does nothing.
 
 ghost use Rattle.lower_expressions.specs.Laws.{CharsLower, ComplementsLower, ConstantsLower};
-ghost use Rattle.lower_expressions.specs.Laws.{GetcharLowers, MinusesLower};
+ghost use Rattle.lower_expressions.specs.Laws.{GetcharLowers, LocalsLower, MinusesLower};
 
 /// The lines of a constant do what the source does, whatever is wanted of it.
 pub fn constants_lower()
@@ -16,6 +16,11 @@ pub fn chars_lower()
 /// The lines of `getchar` do what the source does.
 pub fn getchar_lowers()
     ensures { GetcharLowers }
+{}
+
+/// The lines that read a local of the types `short` and `int` do what the source does.
+pub fn locals_lower()
+    ensures { LocalsLower }
 {}
 
 /// The lines of `-` do what the source does, where those of its operand do.

@@ -4,4 +4,6 @@
 
 mod laws;
 
-pub use laws::{chars_lower, complements_lower, constants_lower, getchar_lowers, minuses_lower};
+pub use laws::{
+    chars_lower, complements_lower, constants_lower, getchar_lowers, locals_lower, minuses_lower,
+};

@@ -1,0 +1,4 @@
+pub mod OneText
+pub mod Lines
+pub mod Read
+pub mod Boards
