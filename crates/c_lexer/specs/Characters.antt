@@ -47,7 +47,8 @@ read_escape (e ∷ rest) =
 abbrev pub read_character : ℕ → List ℕ → Reading
 read_character quote [] = Faulty
 read_character quote (b ∷ rest) =
-    if b == quote then Closing else (if b == newline then Faulty else (if b == backslash then read_escape rest else Character b 1))
+    if b == quote then Closing else (if b == newline then Faulty else
+    (if b == backslash then read_escape rest else Character b 1))
 
 -- a character's bytes are some of so many
 abbrev pub IsWithin : ℕ → Reading → Type 0

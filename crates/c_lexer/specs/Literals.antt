@@ -1,5 +1,6 @@
 -- Constants and string literals (C99 6.4.4.1, 6.4.4.4, 6.4.5, 6.4.8).
-use Rattle.std.specs.Prelude.{◌≡◌, ◌≢◌, ◌≤◌, ◌<◌, ◌⊎◌, ℕ, Bool, true, false, ◌||◌, List, [], ◌∷◌, ◌++◌, length, ◌==◌, codes}
+use Rattle.std.specs.Prelude.{◌≡◌, ◌≢◌, ◌≤◌, ◌<◌, ◌⊎◌, ℕ, Bool, true, false, ◌||◌, List, [], ◌∷◌, ◌++◌, length, ◌==◌}
+use Rattle.std.specs.Prelude.{codes}
 use Rattle.std.specs.Prelude.{if◌then◌else◌, IsTrue, IsFalse, ℤ}
 use Rattle.std.specs.List.{AllByRecursion}
 use Rattle.byteorder.specs.Endian.{twos_complement}
@@ -103,4 +104,5 @@ is_closed quote (b ∷ []) = b == quote
 is_closed quote (b ∷ c ∷ rest) =
     if b == quote then true
     else (if b == newline then false
-    else (if b == backslash then (if c == newline then false else is_closed quote rest) else is_closed quote (c ∷ rest)))
+    else (if b == backslash then (if c == newline then false else is_closed quote rest) else is_closed quote
+    (c ∷ rest)))

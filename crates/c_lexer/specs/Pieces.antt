@@ -74,7 +74,8 @@ abbrev pub IsBarred : List ℕ → Type 0
 IsBarred rest =
     ((body : List ℕ) × (rest ≡ codes "/*" ++ body) × ((before after : List ℕ) → body ≢ before ++ (codes "*/" ++ after)))
     ⊎ ((others : List ℕ) × (rest ≡ codes "%:" ++ others))
-    ⊎ ((quote : ℕ) × (others : List ℕ) × (rest ≡ codes "L" ++ quote ∷ others) × ((quote ≡ apostrophe) ⊎ (quote ≡ double_quote)))
+    ⊎ ((quote : ℕ) × (others : List ℕ) × (rest ≡ codes "L" ++ quote ∷ others) ×
+    ((quote ≡ apostrophe) ⊎ (quote ≡ double_quote)))
     ⊎ (StartsNumber rest
     × ((n value : ℕ) → IsNumberText (take n rest)
     → ((m : ℕ) → n < m → m ≤ length rest → IsNumberText (take m rest) → ⊥) → IsConstant (take n rest) value → ⊥))
@@ -101,4 +102,5 @@ IsFaultOf (b ∷ rest) kind =
     ((b ≡ slash) × (kind ≡ Unclosed) × StartsWithStar rest)
     ⊎ (((b ≡ apostrophe) ⊎ (b ≡ double_quote)) × (kind ≡ (if is_closed b rest then BadEscape else Unclosed)))
     ⊎ (StartsNumber (b ∷ rest) × (kind ≡ BadNumber))
-    ⊎ ((b ≢ apostrophe) × (b ≢ double_quote) × (StartsNumber (b ∷ rest) → ⊥) × ((b ≡ slash) → StartsWithStar rest → ⊥) × (kind ≡ BadByte))
+    ⊎ ((b ≢ apostrophe) × (b ≢ double_quote) × (StartsNumber (b ∷ rest) → ⊥) ×
+    ((b ≡ slash) → StartsWithStar rest → ⊥) × (kind ≡ BadByte))

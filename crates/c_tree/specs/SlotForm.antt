@@ -1,5 +1,5 @@
--- Slot programs, which are those that are compiled so far: one function `main` whose locals are of type `int`, with declared
--- items that have initialisers, assignments, `putchar`, and a return at its end; expressions are sums and
+-- Slot programs, which are those that are compiled so far: one function `main` whose locals are of type `int`, with
+-- declared items that have initialisers, assignments, `putchar`, and a return at its end; expressions are sums and
 -- differences of constants and locals. Statements are numbered from 0, and locals in the order of their
 -- declarations; a local is used only after its declaration has ended.
 use Rattle.std.specs.Prelude.{◌≡◌, ◌<◌, ◌≤◌, ℕ, suc, List, [], ◌∷◌, length, Some}

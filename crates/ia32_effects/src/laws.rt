@@ -1,5 +1,6 @@
 ghost use Rattle.ia32_effects.specs.Laws.{StraightGoes, ReadGives, OperateGives, WritePuts, NumberPuts, CopyPuts};
-ghost use Rattle.ia32_effects.specs.Laws.{ExtendGives, CopyBytePuts, CopyToSlotPuts, OperationPuts, CommutingPuts, OthersKept};
+ghost use Rattle.ia32_effects.specs.Laws.{ExtendGives, CopyBytePuts, CopyToSlotPuts, OperationPuts, CommutingPuts};
+ghost use Rattle.ia32_effects.specs.Laws.{OthersKept};
 ghost use Rattle.ia32_effects.specs.Unary.{NegationPuts, ComplementPuts, ExtensionPuts};
 ghost use Rattle.ia32_effects.specs.Products.{ProductPuts};
 
@@ -29,8 +30,8 @@ pub fn rows_compute_words()
     ensures product { ProductPuts }
 {}
 
-/// The negation and the complement of the word of a place come to another, which may be the same; so does a byte with its
-/// sign.
+/// The negation and the complement of the word of a place come to another, which may be the same; so does a byte with
+/// its sign.
 pub fn rows_change_words()
     ensures negation { NegationPuts }
     ensures complement { ComplementPuts }

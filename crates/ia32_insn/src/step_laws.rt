@@ -55,7 +55,8 @@ pub fn worked_steps()
     ensures divides_by_zero { perform (IDiv (Reg Ebx)) 2 (bare (with_register Eax 7 zero_registers))
         ≡ Halts (Trapped Divide) }
     ensures quotient_too_large { perform (IDiv (Reg Ebx)) 2
-        (bare (with_register Eax 0x80000000 (with_register Edx 0xffffffff (with_register Ebx 0xffffffff zero_registers))))
+        (bare (with_register Eax 0x80000000
+        (with_register Edx 0xffffffff (with_register Ebx 0xffffffff zero_registers))))
         ≡ Halts (Trapped Divide) }
     ensures unknown_flags { perform (SetCc E (Reg8 Al)) 3 (bare zero_registers) ≡ Halts (Stopped UnknownFlags 0) }
     ensures sete_al { Spells (SetCc E (Reg8 Al)) (15 ∷ 148 ∷ 192 ∷ []) }

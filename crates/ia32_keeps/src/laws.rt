@@ -4,7 +4,8 @@ ghost use Rattle.ia32_keeps.specs.Laws.{ArrayShows, ElementShows};
 ghost use Rattle.ia32_keeps.specs.Ops.{ExtensionFollows};
 ghost use Rattle.ia32_keeps.specs.Ops.{NumberFollows, CopyFollows, SumFollows, DifferenceFollows, AndFollows};
 ghost use Rattle.ia32_keeps.specs.Ops.{OrFollows};
-ghost use Rattle.ia32_keeps.specs.Ops.{XorFollows, ProductFollows, NegationFollows, ComplementFollows, MarkFollows, TurnFollows};
+ghost use Rattle.ia32_keeps.specs.Ops.{XorFollows, ProductFollows, NegationFollows, ComplementFollows, MarkFollows};
+ghost use Rattle.ia32_keeps.specs.Ops.{TurnFollows};
 
 /// Slots for all variables, apart from each other and from the frame arrays, support every graph; so do those of
 /// the graphs that have code so far.
