@@ -1,0 +1,4 @@
+pub mod Visits
+pub mod Ways
+pub mod Onward
+pub mod Straight
