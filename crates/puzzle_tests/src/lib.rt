@@ -1,7 +1,10 @@
-//! Tests of the public calls of `puzzle_board` and `puzzle_solver`: rows worked by hand (`rows`), and every small board
-//! compared with a plain search (`search`), and boards and placements as texts (`texts`).
+//! Tests of the public calls of `puzzle_board`, `puzzle_solver`, `spiller` and `puzzle_texts`: rows worked by hand (`rows`),
+//! every small board compared with a plain search (`search`), boards and placements as texts (`texts`), and a map of
+//! points (`maps`).
 #![tactic(auto)]
 
+#[cfg(test)]
+mod maps;
 #[cfg(test)]
 mod rows;
 #[cfg(test)]
