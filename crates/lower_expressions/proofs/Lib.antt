@@ -5,3 +5,4 @@ pub mod Atoms
 pub mod Operands
 pub mod Unary
 pub mod Reading
+pub mod Levels
