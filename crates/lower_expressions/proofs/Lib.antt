@@ -6,3 +6,4 @@ pub mod Operands
 pub mod Unary
 pub mod Reading
 pub mod Levels
+pub mod Pairs
