@@ -29,8 +29,8 @@ use Rattle.lower_expressions.proofs.Atoms.{with-older}
 use Rattle.lower_expressions.proofs.Going.{stand-back, stand-front}
 use Rattle.lower_expressions.proofs.Made.{start-stands, variable-there}
 use Rattle.lower_expressions.proofs.Widths.{temporary-width}
-use Rattle.lower_statements.specs.Ways.{From}
-use Rattle.lower_statements.proofs.Ways.{LeftBy, from-goes, from-here, from-then, next-begins}
+use Rattle.lower_statements.specs.Ways.{From, LeftBy}
+use Rattle.lower_statements.proofs.Ways.{from-goes, from-here, from-then, next-begins}
 
 -- ---- blocks
 

@@ -27,10 +27,10 @@ use Rattle.lower_expressions.proofs.Going.{stand-back, stand-front}
 use Rattle.lower_expressions.proofs.Operands.{NumberStands, number-operand}
 use Rattle.lower_statements.proofs.Onward.{jump-goes, onward-goes}
 use Rattle.lower_statements.proofs.Visits.{mark-goes, visit_of, visited-begins}
-use Rattle.lower_statements.proofs.Ways.{LeftBy, from-both, from-here, from-then, of-dropped, of-run, to-run}
+use Rattle.lower_statements.proofs.Ways.{from-both, from-here, from-then, of-dropped, of-run, to-run}
 use Rattle.lower_statements.specs.Laws.{BreaksLower, ContinuesLower, DeclarationsLower, EmptiesLower}
 use Rattle.lower_statements.specs.Laws.{EvaluationsLower, PlainReturnsLower, ReturnsLower}
-use Rattle.lower_statements.specs.Ways.{Behind, From, Keeping, LowersLines}
+use Rattle.lower_statements.specs.Ways.{Behind, From, Keeping, LeftBy, LowersLines}
 
 -- what stands behind a mark goes on from its visit
 pub behind-mark : {A : Type 0} (S : Site) → IsSite S → (n : ℕ) → IsOwn S n → (active : List Function)

@@ -11,7 +11,7 @@ use Rattle.c_tree.specs.declared.types.ValueType.{ValueType}
 use Rattle.c_tree.specs.Store as source
 use Rattle.c_tree.specs.Store.{Evaluated, Gives, Ends, Held, and_then}
 use Rattle.flow_graph.specs.States as graph
-use Rattle.lower_lines.specs.Following.{Begins, Comes, ComesLeft, Follows, FollowsRun, Site, at_start}
+use Rattle.lower_lines.specs.Following.{Begins, Comes, Follows, FollowsRun, Site, at_start}
 use Rattle.lower_lines.specs.Following.{behind}
 use Rattle.lower_lines.specs.Lines.{Line}
 use Rattle.lower_lines.specs.Parts.{Dropped, Tests}
@@ -20,7 +20,7 @@ use Rattle.lower_lines.specs.Statements.{After, Exits}
 use Rattle.lower_lines.specs.Variables.{local_variables}
 use Rattle.lower_relation.proofs.Changes.{kept-none, kept-twice}
 use Rattle.lower_expressions.proofs.Going.{Goes, goes-end}
-use Rattle.lower_statements.specs.Ways.{Behind, From}
+use Rattle.lower_statements.specs.Ways.{Behind, From, LeftBy}
 
 visits-append : (us vs : List Visit) (o : Outcome) → after_visits us (after_visits vs o) ≡ after_visits (us ++ vs) o
 visits-append us vs o = ap (λ (ws : List Visit). record {
@@ -117,10 +117,6 @@ from-aim S active level from s g aim last (Gives v t) b leads (h, us, shows, kee
 -- a test's block
 abbrev pub Chosen : Site → ℕ → ℕ → Bool → source.State → graph.State → Outcome → Type 0
 Chosen S holds fails b t h o = Comes S t.turns (at_start S (if b then holds else fails) h) o
-
--- by how a statement is left
-abbrev pub LeftBy : Site → List Line → Exits → After → Left → source.State → graph.State → Outcome → Type 0
-LeftBy S lines exits after left t h o = ComesLeft S lines exits after left t.turns h o
 
 pub of-dropped : (S : Site) (active : List Function) (before lines : List Line) (level : ℕ) (of : ValueType)
     (s : source.State) (g : graph.State) (r : Evaluated Held) → Follows S active before lines level Dropped of s g r

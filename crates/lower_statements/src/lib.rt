@@ -5,6 +5,7 @@
 mod laws;
 
 pub use laws::{
-    breaks_lower, continues_lower, declarations_lower, empties_lower, evaluations_lower,
-    plain_returns_lower, returns_lower,
+    blocks_lower, breaks_lower, conditions_lower, continues_lower, declarations_lower,
+    empties_lower, empty_blocks_lower, evaluations_lower, lasts_lower, plain_returns_lower,
+    returns_lower, sequences_lower,
 };
