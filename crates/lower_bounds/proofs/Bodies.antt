@@ -223,4 +223,5 @@ module _ (p : Program) (f : Function) (all : All (IsTypedFunction p) p.functions
     pub runs-laid : (breaks continues : Bool) (xs : Statements) → AreStatements p f breaks continues xs
         → AllByRecursion IsLaidRun (runs_of c xs)
     runs-laid breaks continues Done h = tt
-    runs-laid breaks continues (Next s others) h = (run-laid breaks continues s h.0, runs-laid breaks continues others h.1)
+    runs-laid breaks continues (Next s others) h =
+        (run-laid breaks continues s h.0, runs-laid breaks continues others h.1)

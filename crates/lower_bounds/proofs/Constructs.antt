@@ -377,7 +377,8 @@ pointer-scalar c t (Pointer u) a e = subst (λ (s : ValueType). IsScalar s) (sym
 pointer-scalar c t Void a e = tt
 pointer-scalar c t (Integer u) a e = tt
 
-pub turned-scalar : (c : Context) (of : ValueType) (a : Part) → Turns of a.of → IsScalar of → IsScalar (in_type c of a).of
+pub turned-scalar : (c : Context) (of : ValueType) (a : Part) → Turns of a.of → IsScalar of
+    → IsScalar (in_type c of a).of
 turned-scalar c Void a t s = absurd s
 turned-scalar c (Integer Char) a t s = tt
 turned-scalar c (Integer Short) a t s = tt
@@ -408,7 +409,8 @@ comma-laid a b h k = record {
 
 -- `?:` on parts that have its type
 ways-laid : (t a b : Part) → IsLaid t → IsLaid a → IsLaid b → IsScalar t.of → (w : Wanted) → May w a.of → May w b.of
-    → (block level : ℕ) → Lays block (block + (own_blocks w + test_blocks_of t + a.blocks w + b.blocks w)) true (opens w)
+    → (block level : ℕ)
+    → Lays block (block + (own_blocks w + test_blocks_of t + a.blocks w + b.blocks w)) true (opens w)
     (conditional_lines t a b block level w)
 ways-laid t a b ht ha hb s Dropped m n block level = meeting-lays block (test_blocks_of t) (a.blocks Dropped)
     (b.blocks Dropped) _ _ _ (test-laid t ht s (block + 3) level block (suc block))

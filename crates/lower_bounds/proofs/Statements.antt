@@ -191,7 +191,8 @@ IsLaidAny c None = Unit {0}
 IsLaidAny c (Some e) = IsLaid (part_of c e)
 
 test-any-lays : (c : Context) (test : Option Expression) → IsLaidTest c test → (start exit : ℕ)
-    → Lays (suc start) (suc start + test_blocks_if_any c test) true true (test_if_any c test (start + 2) (suc start) exit)
+    → Lays (suc start) (suc start + test_blocks_if_any c test) true true
+    (test_if_any c test (start + 2) (suc start) exit)
 test-any-lays c None h start exit = lays-to (suc start) (suc start) (suc start) (suc start + 0) refl (omega arith)
     (none-lays (suc start) true)
 test-any-lays c (Some e) h start exit =
@@ -347,7 +348,8 @@ sequences labelled before numbers c place r (q ∷ rs) h hs exits block after =
           (r.lines exits block next ++ lines) (started-closes (labelled place))
           (closes-append true (stays next) (stays after) (r.lines exits block next) lines
           (h.lays exits block next).closes
-          (subst (λ (o : Bool). Closes o lines (stays after)) (sym (towards-stays (labelled (suc place)))) rest.closes));
+          (subst (λ (o : Bool). Closes o lines (stays after)) (sym (towards-stays (labelled (suc place))))
+          rest.closes));
     }
 
 none-numbers : Numbers none_labelled (λ place. 0)
