@@ -51,7 +51,7 @@ constants-lower S site t n = record {
       (kept-none _ level g) (nothing-seen s.visits)
       (λ to takes there o r. const-step S site before g b.function to.number (converted t n) s.turns o there takes.0 r)
       block wanted t stands may) begins;
-  typed = λ active s g begins. tt;
+  typed = λ active block level wanted before s g stands room may begins. tt;
   simple = λ e active s g begins. refl;
   stands = λ spot e. absurd (cc);
 }
@@ -97,7 +97,7 @@ chars-lower S site k l e of = record {
       (Gives (held s k) s)) begins.youngest
       (λ older b. char-follows S site k l e of older block level wanted before s g stands
       (deeper level (levels_of S.function) room) may b) begins;
-  typed = λ active s g begins.
+  typed = λ active block level wanted before s g stands room may begins.
       with-older S.function active (λ calls. Begins S calls s g → GivesOf S.program calls (Integer Char)
       (Gives (held s k) s)) begins.youngest
       (λ older b. subst (λ (m : ValueType). IsOf S.program (S.function ∷ older) m (held s k)) of
@@ -148,7 +148,7 @@ getchar-lowers S site = record {
       begins.youngest
       (λ older b. getchar-follows S site older block level wanted before s g s.left refl stands
       (deeper level (levels_of S.function) room) may b) begins;
-  typed = λ active s g begins. getchar-typed S active s s.left;
+  typed = λ active block level wanted before s g stands room may begins. getchar-typed S active s s.left;
   simple = λ same active s g begins. absurd (cc);
   stands = λ spot same. absurd (cc);
 }

@@ -5,3 +5,5 @@ pub mod Atoms
 pub mod Operands
 pub mod Unary
 pub mod Reading
+pub mod Levels
+pub mod Pairs

@@ -45,7 +45,7 @@ own-stands S active before lines level u s g (Gives value t) (h, visits, shows, 
     (h, visits, n, is, shows, keeps, seen, ap number_of there, goes)
 
 -- where it stands: the variable of a local has it
-local-stands : (S : Site) (older : List Function) (before : List Line) (level k : ℕ) (l : Local) (u : IntegerType)
+pub local-stands : (S : Site) (older : List Function) (before : List Line) (level k : ℕ) (l : Local) (u : IntegerType)
     (s : source.State) (g : graph.State) → slice_get S.function.locals k ≡ Some l → l.of ≡ Integer u
     → Shows S.program (S.function ∷ older) s g
     → NumberStands S (S.function ∷ older) before [] level (local_spot (context_of S) k) s g (Gives (held s k) s)
@@ -72,7 +72,7 @@ integer-not-void : (u : IntegerType) → Integer u ≢ Void
 integer-not-void u e = cc
 
 -- either way
-standing-number : (S : Site) (older : List Function) (a : Part) (run : source.State → Evaluated Held)
+pub standing-number : (S : Site) (older : List Function) (a : Part) (run : source.State → Evaluated Held)
     (u : IntegerType) (spot : Option Spot) → ((p : Spot) → spot ≡ Some p → a.stands ≡ Some p) → Lowers S a run
     → a.of ≡ Integer u → (block level : ℕ) (before : List Line) (s : source.State) (g : graph.State)
     → Stand S before ((standing (context_of S) a spot).lines block level) → level + a.levels ≤ levels_of S.function

@@ -228,14 +228,14 @@ pub locals-lower : LocalsLower
 locals-lower S site k l Char e of wide = absurd (wide refl)
 locals-lower S site k l Short e of wide = record {
   follows = read-local S site k l Short e of;
-  typed = typed-local S k l Short e of;
+  typed = λ active block level wanted before s g stands room may. typed-local S k l Short e of active s g;
   simple = λ same active s g begins. refl;
   stands = λ spot same.
       (k, sym (same-some (local_spot (context_of S) k) spot same), stands-there S k l Short e of tt, λ s. refl);
 }
 locals-lower S site k l Int e of wide = record {
   follows = read-local S site k l Int e of;
-  typed = typed-local S k l Int e of;
+  typed = λ active block level wanted before s g stands room may. typed-local S k l Int e of active s g;
   simple = λ same active s g begins. refl;
   stands = λ spot same.
       (k, sym (same-some (local_spot (context_of S) k) spot same), stands-there S k l Int e of tt, λ s. refl);

@@ -119,7 +119,7 @@ op-lowers S site made_by f fz a run u lowers of deep does kind value typed = rec
       (made (context_of S) (block + (operand (context_of S) true a).blocks) level wanted int
       (λ to. Emit (made_by to.number ((operand (context_of S) true a).spot level).number) ∷ [])) stands)
       room b)) begins;
-  typed = λ active s g begins. op-typed S active f (run s) (typed active);
+  typed = λ active block level wanted before s g stands room may begins. op-typed S active f (run s) (typed active);
   simple = λ same active s g begins. absurd (cc);
   stands = λ spot same. absurd (cc);
 }

@@ -182,8 +182,9 @@ pub record Lowers (S : Site) (part : Part) (run : source.State → Evaluated Hel
       (g : graph.State) → Stand S before (part.lines block level wanted) → level + part.levels ≤ levels_of S.function
       → MayWant S wanted part.of → Begins S active s g
       → Follows S active before (part.lines block level wanted) level wanted part.of s g (run s)
-  pub typed : (active : List Function) (s : source.State) (g : graph.State) → Begins S active s g
-      → GivesOf S.program active part.of (run s)
+  pub typed : (active : List Function) (block level : ℕ) (wanted : Wanted) (before : List Line) (s : source.State)
+      (g : graph.State) → Stand S before (part.lines block level wanted) → level + part.levels ≤ levels_of S.function
+      → MayWant S wanted part.of → Begins S active s g → GivesOf S.program active part.of (run s)
   pub simple : part.simple ≡ true → (active : List Function) (s : source.State) (g : graph.State) → Begins S active s g
       → GivesAlone s (run s)
   -- where its value stands, it is that of a local

@@ -13,7 +13,8 @@ use Rattle.puzzle_board.specs.declared.piece.Piece.{Piece}
 use Rattle.puzzle_board.specs.declared.piece.Spot.{Spot}
 use Rattle.puzzle_board.specs.Areas.{cleared, kind_of, place_of_kind}
 use Rattle.puzzle_board.specs.Boards.{Puzzle, IsPlaceable, board_of, standing, with_none_placed, with_piece}
-use Rattle.puzzle_board.specs.Boards.{with_spot, without_variable, IsAreaOf, IsUnplacedOf, area_count, areas_of_kind, free_areas}
+use Rattle.puzzle_board.specs.Boards.{with_spot, without_variable, IsAreaOf, IsUnplacedOf}
+use Rattle.puzzle_board.specs.Boards.{area_count, areas_of_kind, free_areas}
 use Rattle.puzzle_board.specs.Boards.{piece_count}
 use Rattle.puzzle_board.specs.Classes.{IsFiled, class_count}
 use Rattle.puzzle_board.specs.Stored.{IsAscending, IsStored, area_classes, piece_classes, place_of_piece}
@@ -82,7 +83,8 @@ pub stored-placed :
     → read ≡ slice_index_or board.pieces number read → a ≡ slice_index_or free spot.area a
     → IsFiled kinds 10 (area_classes (slice_set free spot.area (cleared a read.kind spot.columns)))
     → IsFiled less 6 (piece_classes board.pieces (with_spot board number spot).states)
-    → less.nodes ≡ waiting.nodes → IsStored (with_spot board number spot) (slice_set free spot.area (cleared a read.kind spot.columns)) kinds less
+    → less.nodes ≡ waiting.nodes
+    → IsStored (with_spot board number spot) (slice_set free spot.area (cleared a read.kind spot.columns)) kinds less
     rises
 stored-placed board free by_kind waiting kinds less rises number spot read a s asked read-is a-is areas filed nodes =
     record {

@@ -95,7 +95,8 @@ all-beyond [] m n h all = tt
 all-beyond (e ∷ entries) m n h all = (let first = all.0 in omega arith, all-beyond entries m n h all.1)
 
 -- the first entry is greater, where it is no smaller and not the variable's
-first-greater : (e : Entry) (entries : List Entry) (v : ℕ) → IsPosition (e ∷ entries) v zero → (e.0 == v) ≡ false → v < e.0
+first-greater :
+    (e : Entry) (entries : List Entry) (v : ℕ) → IsPosition (e ∷ entries) v zero → (e.0 == v) ≡ false → v < e.0
 first-greater e entries v p other =
     let least = p.above zero e refl (omega arith) in
     let apart = eqb-false e.0 v other in

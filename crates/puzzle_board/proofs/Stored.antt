@@ -125,7 +125,8 @@ area_classes-set :
     → area_classes (set areas i a) ≡ set (area_classes areas) i (Some (place_of_kind (kind_of a)))
 area_classes-set [] i a = refl
 area_classes-set (b ∷ areas) zero a = refl
-area_classes-set (b ∷ areas) (suc i) a = ap (λ more. Some (place_of_kind (kind_of b)) ∷ more) (area_classes-set areas i a)
+area_classes-set (b ∷ areas) (suc i) a =
+    ap (λ more. Some (place_of_kind (kind_of b)) ∷ more) (area_classes-set areas i a)
 
 -- an area goes out of its list
 pub area-out :
@@ -341,7 +342,8 @@ pub piece-new :
     → IsFiled s 6 (piece_classes pieces states) → IsListed s (length pieces) → ⊥
 piece-new s pieces states same f =
     filed-unlisted s 6 (piece_classes pieces states) (length pieces) f
-    (class_at-past (piece_classes pieces states) (length pieces) (omega (arith, length-piece_classes pieces states same)))
+    (class_at-past (piece_classes pieces states) (length pieces)
+    (omega (arith, length-piece_classes pieces states same)))
 
 -- tests of kinds and widths by their numbers
 same-place :

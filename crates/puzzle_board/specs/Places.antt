@@ -1,5 +1,6 @@
 -- Where variables are before and after each point, as a contract sees it, and what each call leaves.
-use Rattle.std.specs.Prelude.{ℕ, ℤ, ◌≡◌, ◌<◌, ◌≤◌, ◌==◌, Bool, false, if◌then◌else◌, nat_lt, List, [], ◌∷◌, ◌++◌, length}
+use Rattle.std.specs.Prelude.{ℕ, ℤ, ◌≡◌, ◌<◌, ◌≤◌, ◌==◌, Bool, false}
+use Rattle.std.specs.Prelude.{if◌then◌else◌, nat_lt, List, [], ◌∷◌, ◌++◌, length}
 use Rattle.std.specs.Prelude.{Option, Some, None, replicate, slice_get, slice_index_or, slice_set}
 use Rattle.std.specs.List.{AllByRecursion}
 use Rattle.puzzle_board.specs.declared.place.Place.{Place}
@@ -40,7 +41,8 @@ is_entry_of (Some e) variable = e.0 == variable
 
 -- ---- all points
 
--- for each point the places of variables before it and after it, and the variables that are spilled there, in order; for
+-- for each point the places of variables before it and after it, and the variables that are spilled there, in
+-- order; for
 -- each variable its slot's offset from EBP, if it has a slot; and the bytes of the frame
 pub record PlaceMap : Type 0 where
   pub before : List (List Entry)

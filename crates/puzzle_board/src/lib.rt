@@ -1,4 +1,5 @@
-//! In: areas and pieces. Out: a board on which pieces are placed, found and counted by kind, and a map of where variables
+//! In: areas and pieces. Out: a board on which pieces are placed, found and counted by kind, and a map of where
+//! variables
 //! are before and after each point. The promise: each call changes exactly what it names, and the placed pieces always
 //! stand legally (`specs/Placements.antt`).
 #![tactic(auto)]

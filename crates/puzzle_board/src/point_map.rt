@@ -1,5 +1,6 @@
 ghost use Rattle.std.specs.Prelude.{◌≡◌, ◌<◌, ◌++◌, ◌∷◌, [], length, slice_get, Some, MatchResult, ⊤};
-ghost use Rattle.puzzle_board.specs.Places.{IsPlaceMap, entries_at, no_places, place_in, spilled_at, with_after, with_before};
+ghost use Rattle.puzzle_board.specs.Places.{IsPlaceMap, entries_at, no_places, place_in};
+ghost use Rattle.puzzle_board.specs.Places.{spilled_at, with_after, with_before};
 ghost use Rattle.puzzle_board.specs.Places.{with_frame, with_slot, with_spilled};
 
 use crate::place::Place;
@@ -50,7 +51,8 @@ impl Spilled {
     }
 }
 
-/// Where the variables of a function are before and after each of its points, which are spilled there, the slots, and the
+/// Where the variables of a function are before and after each of its points, which are spilled there, the slots,
+/// and the
 /// bytes of the frame. A contract sees a `PlaceMap`.
 #[derive(Debug, Drop)]
 pub struct PointMap {

@@ -1,5 +1,6 @@
 -- The variables of narrow pieces are in their spill order.
-use Rattle.std.proofs.Common.{ℕ, zero, suc, ◌≡◌, ◌<◌, List, [], ◌∷◌, ◌+◌, ◌++◌, ◌∙◌, add-one, ap, take, length, map, arith, refl, get_or}
+use Rattle.std.proofs.Common.{ℕ, zero, suc, ◌≡◌, ◌<◌, List, [], ◌∷◌, ◌+◌, ◌++◌}
+use Rattle.std.proofs.Common.{◌∙◌, add-one, ap, take, length, map, arith, refl, get_or}
 use Rattle.std.specs.List.{AllByRecursion, Contains}
 use Rattle.std.proofs.lemmas.List.{length_push}
 use Rattle.puzzle_board.specs.declared.piece.Piece.{Piece}
@@ -16,7 +17,8 @@ contains-later :
 contains-later d candidates c (k, within, is) = (suc k, omega arith, is)
 
 all-among :
-    (candidates : List Candidate) (order : List ℕ) → ((c : Candidate) → Contains candidates c → IsAmong order c.variable)
+    (candidates : List Candidate) (order : List ℕ)
+    → ((c : Candidate) → Contains candidates c → IsAmong order c.variable)
     → AllByRecursion (λ p. IsAmong order p.var) (map narrow_of candidates)
 all-among [] order h = tt
 all-among (d ∷ candidates) order h = (

@@ -126,7 +126,8 @@ fn board_for(alloc: Global, candidates: &[Candidate]) -> Result<Board, NoMemory>
     Ok(board)
 }
 
-/// The spill order of at most 16 variables, and those of them that are spilled on four empty areas where each is a piece Y
+/// The spill order of at most 16 variables, and those of them that are spilled on four empty areas where each is a
+/// piece Y
 /// of width One.
 fn spilled(alloc: Global, candidates: &[Candidate]) -> Result<(Vec<u32>, Vec<u32>), NoMemory>
     requires { length candidates.now ≤ 16 }

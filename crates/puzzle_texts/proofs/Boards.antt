@@ -76,7 +76,8 @@ pub two-lines :
     → shapes ≡ (words_read shape_of (take (length middle - 7) (drop 7 middle))).0
     → end ≡ (words_read shape_of (take (length middle - 7) (drop 7 middle))).1
     → t ≡ is_newline end → t ≡ true → text ≡ shapes_text areas shapes
-two-lines text middle end areas shapes q r t first begins areas_are middle_is second goes shapes_are end_is newline ends =
+two-lines text middle end areas shapes q r t first begins areas_are middle_is second goes shapes_are end_is newline
+    ends =
     let front : text ≡ codes "areas" ++ drop 5 text = (starts_is Decides-eqb text (codes "areas") q first).0 begins in
     let line : middle ≡ 10 ∷ (codes "pieces" ++ drop 7 middle) =
     (starts_is Decides-eqb middle (10 ∷ codes "pieces") r second).0 goes in
@@ -183,7 +184,8 @@ fresh-with :
     (areas : List Area) (pieces : List Piece) (p : Piece)
     → with_piece (fresh_board areas pieces) p ≡ fresh_board areas (pieces ++ p ∷ [])
 fresh-with areas pieces p =
-    ap (λ (states : List State). let b : Puzzle = record { areas = areas; pieces = pieces ++ p ∷ []; states = states } in b)
+    ap (λ (states : List State).
+    let b : Puzzle = record { areas = areas; pieces = pieces ++ p ∷ []; states = states } in b)
     (fresh-states pieces p)
 
 -- one piece more is added

@@ -38,7 +38,8 @@ pub lines-more :
     → slice_get states i ≡ Some s
     → lines_from 0 (take (i + 1) pieces) states ≡ lines_from 0 (take i pieces) states ++ line_of i p s
 lines-more pieces states i p s e d =
-    rw add-one (lines-more-from 0 pieces states i p s e d ∙ ap (λ m. lines_from 0 (take i pieces) states ++ line_of m p s)
+    rw add-one (lines-more-from 0 pieces states i p s e d
+    ∙ ap (λ m. lines_from 0 (take i pieces) states ++ line_of m p s)
     (none-less i))
 
 -- a line that is put together piece by piece

@@ -13,7 +13,8 @@ use Rattle.puzzle_board.specs.declared.piece.Kind.TheVariants.{X, Y, Z}
 use Rattle.puzzle_board.specs.declared.piece.Piece.{Piece}
 use Rattle.puzzle_texts.specs.Texts.{IsNumbered, area_word, kind_letter, letter_of, piece_word, spaced, width_digit}
 use Rattle.puzzle_texts.specs.Reading.{pieces_from, shapes_text}
-use Rattle.puzzle_texts.specs.Reading.{area_of, both_of, column_of, kind_of_letter, shape_of, shape_word, width_of_digit, word_at}
+use Rattle.puzzle_texts.specs.Reading.{area_of, both_of, column_of, kind_of_letter}
+use Rattle.puzzle_texts.specs.Reading.{shape_of, shape_word, width_of_digit, word_at}
 use Rattle.puzzle_texts.specs.Reading.{words_by, words_read}
 
 -- ---- letters
@@ -203,7 +204,8 @@ parts-are text behind areas_rest pieces_rest areas shapes is areas_are middle sh
     ∙ ap (λ (r : List ℕ). spaced (map area_word areas) ++ r) middle) in
     let two : areas_rest ≡ spaced (map shape_word shapes) ++ 10 ∷ [] =
     words-are shape_of shape_word shape-is areas_rest
-    ∙ (ap (λ (ss : List (Kind × Width)). spaced (map shape_word ss) ++ (words_read shape_of areas_rest).1) (sym shapes_are)
+    ∙ (ap (λ (ss : List (Kind × Width)). spaced (map shape_word ss) ++ (words_read shape_of areas_rest).1)
+    (sym shapes_are)
     ∙ ap (λ (r : List ℕ). spaced (map shape_word shapes) ++ r) end) in
     is ∙ (ap (λ (r : List ℕ). codes "areas" ++ r) one
     ∙ ap (λ (r : List ℕ). codes "areas" ++ (spaced (map area_word areas) ++ 10 ∷ (codes "pieces" ++ r))) two)
@@ -214,7 +216,8 @@ pub first-line :
     → codes "areas" ++ behind ≡ shapes_text areas shapes
     → words_read area_of behind ≡ (areas, 10 ∷ (codes "pieces" ++ (spaced (map shape_word shapes) ++ 10 ∷ [])))
 first-line behind areas shapes e =
-    let same : behind ≡ spaced (map area_word areas) ++ 10 ∷ (codes "pieces" ++ (spaced (map shape_word shapes) ++ 10 ∷ [])) =
+    let same : behind
+    ≡ spaced (map area_word areas) ++ 10 ∷ (codes "pieces" ++ (spaced (map shape_word shapes) ++ 10 ∷ [])) =
     cc in
     rw same (areas-read areas (codes "pieces" ++ (spaced (map shape_word shapes) ++ 10 ∷ [])))
 

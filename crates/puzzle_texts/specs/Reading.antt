@@ -1,5 +1,6 @@
 -- The text of a board as a map from bytes: words of two letters behind a space, as far as there are any.
-use Rattle.std.specs.Prelude.{ℕ, suc, Bool, false, ◌≡◌, ◌≢◌, ◌==◌, if◌then◌else◌, List, [], ◌∷◌, ◌++◌, codes, map, Option, Some, None}
+use Rattle.std.specs.Prelude.{ℕ, suc, Bool, false, ◌≡◌, ◌≢◌, ◌==◌, if◌then◌else◌, List}
+use Rattle.std.specs.Prelude.{[], ◌∷◌, ◌++◌, codes, map, Option, Some, None}
 use Rattle.pcc_base.specs.declared.run.Width.{Width}
 use Rattle.pcc_base.specs.declared.run.Width.TheVariants.{One, Two}
 use Rattle.puzzle_board.specs.declared.area.Area.{Area}
@@ -73,7 +74,8 @@ shape_word s = kind_letter s.0 ∷ width_digit s.1 ∷ []
 -- the text of a board by its areas and its pieces' kinds and widths
 abbrev pub shapes_text : List Area → List (Kind × Width) → List ℕ
 shapes_text areas shapes =
-    codes "areas" ++ (spaced (map area_word areas) ++ 10 ∷ (codes "pieces" ++ (spaced (map shape_word shapes) ++ 10 ∷ [])))
+    codes "areas"
+    ++ (spaced (map area_word areas) ++ 10 ∷ (codes "pieces" ++ (spaced (map shape_word shapes) ++ 10 ∷ [])))
 
 -- pieces of these kinds and widths, with the variables from n on
 abbrev pub pieces_from : ℕ → List (Kind × Width) → List Piece

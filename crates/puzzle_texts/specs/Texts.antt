@@ -56,7 +56,8 @@ IsNumbered n (p ∷ pieces) = (p.var ≡ n) × IsNumbered (suc n) pieces
 -- the text of a board: a line of areas and a line of pieces, and nothing behind them
 abbrev pub board_text : List Area → List Piece → List ℕ
 board_text areas pieces =
-    codes "areas" ++ (spaced (map area_word areas) ++ 10 ∷ (codes "pieces" ++ (spaced (map piece_word pieces) ++ 10 ∷ [])))
+    codes "areas"
+    ++ (spaced (map area_word areas) ++ 10 ∷ (codes "pieces" ++ (spaced (map piece_word pieces) ++ 10 ∷ [])))
 
 -- ---- placements
 
@@ -68,7 +69,8 @@ columns_word All = codes "all"
 -- the line of a piece that stands somewhere: its number, its word, its area and its columns
 abbrev pub placed_line : ℕ → Piece → Spot → List ℕ
 placed_line number p spot =
-    decimal number ++ (32 ∷ (piece_word p ++ (32 ∷ (decimal spot.area ++ (32 ∷ (columns_word spot.columns ++ 10 ∷ []))))))
+    decimal number
+    ++ (32 ∷ (piece_word p ++ (32 ∷ (decimal spot.area ++ (32 ∷ (columns_word spot.columns ++ 10 ∷ []))))))
 
 -- any other piece has none
 abbrev pub line_of : ℕ → Piece → State → List ℕ

@@ -1,4 +1,5 @@
-//! In: the text of a board, or a solved board. Out: the board, or the text of its placement. The promise: a text is refused
+//! In: the text of a board, or a solved board. Out: the board, or the text of its placement. The promise: a text
+//! is refused
 //! exactly where it is no board's, and is that of one board at most (`specs/Texts.antt`).
 #![tactic(auto)]
 

@@ -1,0 +1,11 @@
+pub mod Filling
+pub mod Pieces
+pub mod Joining
+pub mod Constructs
+pub mod Types
+pub mod Trees
+pub mod Levels
+pub mod Statements
+pub mod Switches
+pub mod Bodies
+pub mod Closing

@@ -1,0 +1,7 @@
+//! Laws on the bounds of lines and of their graphs: blocks, levels, variables, points and marks. No code;
+//! `specs/Laws.antt` of `lower_lines` has the laws.
+#![tactic(auto)]
+
+mod laws;
+
+pub use laws::{all_lines_close, objects_hold};

@@ -1,0 +1,24 @@
+//! Laws of calls: each function's contract is one, and the function does nothing.
+
+ghost use Rattle.lower_calls.specs.Laws.{BodiesLeaveSo, CallsAreFresh, CallsGoBack, StatementsAreOwn};
+
+/// A body is left by `break` and `continue` only where they may stand, and returns values in the type of its result
+/// (C99 6.8.6).
+pub fn bodies_leave_so()
+    ensures { BodiesLeaveSo }
+{}
+
+/// The statements of a function's body are its own, by their numbers.
+pub fn statements_are_own()
+    ensures { StatementsAreOwn }
+{}
+
+/// A call that has just begun shows the source's without its arguments.
+pub fn calls_are_fresh()
+    ensures { CallsAreFresh }
+{}
+
+/// A call that is over leaves its caller where it was, and shows the source's calls without the youngest.
+pub fn calls_go_back()
+    ensures { CallsGoBack }
+{}

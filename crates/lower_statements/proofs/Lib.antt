@@ -1,0 +1,6 @@
+pub mod Visits
+pub mod Ways
+pub mod Onward
+pub mod Straight
+pub mod Sequences
+pub mod Conditions

@@ -1,0 +1,107 @@
+-- The laws of the lines of statements, by their kinds; each is a part of `StatementsLower` of `lower_lines`. They are
+-- stated over the parts of a statement, so that the walk over trees is one call for each construct.
+use Rattle.std.specs.Prelude.{◌≡◌, ◌≢◌, ◌≤◌, ℕ, suc, Bool, true, if◌then◌else◌, List, [], ◌∷◌, ◌++◌, Some, None}
+use Rattle.c_tree.specs.declared.types.IntegerType.{IntegerType}
+use Rattle.c_tree.specs.declared.types.ValueType.TheVariants.{Void, Integer}
+use Rattle.c_tree.specs.Evaluation.{Runs, after_statement}
+use Rattle.c_tree.specs.Evaluation.{Falls, Breaks, Continues, Returns}
+use Rattle.c_tree.specs.Operators.{is_true}
+use Rattle.c_tree.specs.Store as source
+use Rattle.c_tree.specs.Store.{Evaluated, Gives, Held, and_then, visited}
+use Rattle.flow_graph.specs.declared.op.Op.TheVariants as op
+use Rattle.lower_lines.specs.Following.{IsSite, Lowers, LowersRun, Site, context_of}
+use Rattle.lower_lines.specs.Laws.{IsOwn}
+use Rattle.lower_lines.specs.Lines.{Line, Emit}
+use Rattle.lower_lines.specs.Parts.{Dropped, Part, operand}
+use Rattle.lower_lines.specs.Statements.{Labelled, Run, block_run, ending, if_run, none_labelled, straight}
+use Rattle.lower_statements.specs.Ways.{Keeping, LowersFrom, LowersLines}
+
+-- ---- a mark, and what stands behind it
+
+-- the empty statement is its mark
+abbrev pub EmptiesLower : Type 0
+EmptiesLower = (S : Site) → IsSite S → (breaks continues : Bool) (n : ℕ) → IsOwn S n
+    → LowersRun S breaks continues (straight (context_of S) 0 0 (λ block. Emit (op.Mark n) ∷ []))
+    (λ s. Gives Falls (visited S.listing n s))
+
+-- an expression whose value is dropped
+abbrev pub EvaluationsLower : Type 0
+EvaluationsLower = (S : Site) → IsSite S → (breaks continues : Bool) (n : ℕ) (e : Part)
+    (run : source.State → Evaluated Held) → IsOwn S n → Lowers S e run → Keeping S run
+    → LowersRun S breaks continues (straight (context_of S) e.levels (e.blocks Dropped)
+    (λ block. Emit (op.Mark n) ∷ e.lines block 0 Dropped))
+    (λ s. and_then (run (visited S.listing n s)) (λ v t. Gives Falls t))
+
+-- a declared item, of which its lines and its mark are one
+abbrev pub DeclarationsLower : Type 0
+DeclarationsLower = (S : Site) → IsSite S → (breaks continues : Bool) (levels blocks : ℕ) (lines : ℕ → List Line)
+    (run : source.State → Evaluated Unit) → LowersLines S levels lines run → Keeping S run
+    → LowersRun S breaks continues (straight (context_of S) levels blocks lines)
+    (λ s. and_then (run s) (λ done t. Gives Falls t))
+
+-- ---- statements that end a block
+
+-- `break` and `continue`, where they may stand
+abbrev pub BreaksLower : Type 0
+BreaksLower = (S : Site) → IsSite S → (continues : Bool) (n : ℕ) → IsOwn S n
+    → LowersRun S true continues (ending 0 0 (λ exits block. Emit (op.Mark n) ∷ Emit (op.Jump exits.breaks) ∷ []))
+    (λ s. Gives Breaks (visited S.listing n s))
+
+abbrev pub ContinuesLower : Type 0
+ContinuesLower = (S : Site) → IsSite S → (breaks : Bool) (n : ℕ) → IsOwn S n
+    → LowersRun S breaks true (ending 0 0 (λ exits block. Emit (op.Mark n) ∷ Emit (op.Jump exits.continues) ∷ []))
+    (λ s. Gives Continues (visited S.listing n s))
+
+-- a return from a function without a value, and from one with a number, which the part of its value has in its type
+abbrev pub PlainReturnsLower : Type 0
+PlainReturnsLower = (S : Site) → IsSite S → (breaks continues : Bool) (n : ℕ) → IsOwn S n → S.function.result ≡ Void
+    → LowersRun S breaks continues (ending 0 0 (λ exits block. Emit (op.Mark n) ∷ Emit (op.Return None) ∷ []))
+    (λ s. Gives (Returns None) (visited S.listing n s))
+
+abbrev pub ReturnsLower : Type 0
+ReturnsLower = (S : Site) → IsSite S → (breaks continues : Bool) (n levels blocks : ℕ) (t u : IntegerType) (a : Part)
+    (run : source.State → Evaluated Held) → IsOwn S n → S.function.result ≡ Integer t → a.of ≡ Integer u
+    → a.levels ≤ levels → Lowers S a run → Keeping S run
+    → LowersRun S breaks continues (ending levels blocks (λ exits block. Emit (op.Mark n)
+    ∷ ((operand (context_of S) true a).lines block 0
+    ++ Emit (op.Return (Some ((operand (context_of S) true a).spot 0).number)) ∷ [])))
+    (λ s. and_then (run (visited S.listing n s)) (λ v t. Gives (Returns (Some v)) t))
+
+-- ---- statements in order
+
+-- no statement at all
+abbrev pub EmptyBlocksLower : Type 0
+EmptyBlocksLower = (S : Site) → IsSite S → (breaks continues : Bool)
+    → LowersRun S breaks continues (block_run (context_of S) []) (λ s. Gives Falls s)
+
+-- the last statement
+abbrev pub LastsLower : Type 0
+LastsLower = (S : Site) → IsSite S → (breaks continues : Bool) (labelled : Labelled) (place : ℕ) (r : Run) (run : Runs)
+    → LowersRun S breaks continues r run → LowersFrom S breaks continues labelled place (r ∷ [])
+    (λ s. and_then (run s) (after_statement (λ t. Gives Falls t)))
+
+-- one before others
+abbrev pub SequencesLower : Type 0
+SequencesLower = (S : Site) → IsSite S → (breaks continues : Bool) (labelled : Labelled) (place : ℕ) (r q : Run)
+    (rs : List Run) (run others : Runs) → LowersRun S breaks continues r run → Keeping S run
+    → LowersFrom S breaks continues labelled (suc place) (q ∷ rs) others
+    → LowersFrom S breaks continues labelled place (r ∷ q ∷ rs) (λ s. and_then (run s) (after_statement others))
+
+-- a block is its statements in order, without labels
+abbrev pub BlocksLower : Type 0
+BlocksLower = (S : Site) → (breaks continues : Bool) (r : Run) (rs : List Run) (run : Runs)
+    → LowersFrom S breaks continues none_labelled 0 (r ∷ rs) run
+    → LowersRun S breaks continues (block_run (context_of S) (r ∷ rs)) run
+
+-- ---- `if`
+
+-- A second way without statements has no lines.
+abbrev pub ConditionsLower : Type 0
+ConditionsLower = (S : Site) → IsSite S → (breaks continues : Bool) (n : ℕ) (e : Part) (a b : Run)
+    (test : source.State → Evaluated Held) (first second : Runs) → IsOwn S n → e.of ≢ Void → Lowers S e test
+    → Keeping S test → LowersRun S breaks continues a first → Keeping S first
+    → LowersRun S breaks continues b second → Keeping S second
+    → (b.nothing ≡ true → (s : source.State) → second s ≡ Gives Falls s)
+    → LowersRun S breaks continues (if_run (context_of S) n e a b)
+    (λ s. and_then (and_then (test (visited S.listing n s)) (λ v t. Gives (is_true v) t))
+    (λ holds t. if holds then first t else second t))

@@ -1,0 +1,66 @@
+//! Laws of the lines of statements: each function's contract is one, and the function does nothing.
+
+ghost use Rattle.lower_statements.specs.Laws.{BlocksLower, BreaksLower, ConditionsLower};
+ghost use Rattle.lower_statements.specs.Laws.{ContinuesLower, DeclarationsLower, EmptiesLower};
+ghost use Rattle.lower_statements.specs.Laws.{EmptyBlocksLower, EvaluationsLower, LastsLower};
+ghost use Rattle.lower_statements.specs.Laws.{PlainReturnsLower, ReturnsLower, SequencesLower};
+
+/// The lines of an empty statement do what the source does.
+pub fn empties_lower()
+    ensures { EmptiesLower }
+{}
+
+/// Those of an expression whose value is dropped do so, where those of the expression do.
+pub fn evaluations_lower()
+    ensures { EvaluationsLower }
+{}
+
+/// Those of a declaration do so, where those of its item do.
+pub fn declarations_lower()
+    ensures { DeclarationsLower }
+{}
+
+/// Those of `break` do so.
+pub fn breaks_lower()
+    ensures { BreaksLower }
+{}
+
+/// Those of `continue` do so.
+pub fn continues_lower()
+    ensures { ContinuesLower }
+{}
+
+/// Those of a return without a value do so.
+pub fn plain_returns_lower()
+    ensures { PlainReturnsLower }
+{}
+
+/// Those of a return of a number do so, where those of the value in its type do.
+pub fn returns_lower()
+    ensures { ReturnsLower }
+{}
+
+/// Those of a block without statements do so.
+pub fn empty_blocks_lower()
+    ensures { EmptyBlocksLower }
+{}
+
+/// Those of a last statement do so, with a label or without, where those of the statement do.
+pub fn lasts_lower()
+    ensures { LastsLower }
+{}
+
+/// Those of a statement before others do so, where those of both do.
+pub fn sequences_lower()
+    ensures { SequencesLower }
+{}
+
+/// Those of a block do so, where those of its statements in order do.
+pub fn blocks_lower()
+    ensures { BlocksLower }
+{}
+
+/// Those of an `if` do so, where those of its condition and of both statements do.
+pub fn conditions_lower()
+    ensures { ConditionsLower }
+{}
