@@ -1,3 +1,4 @@
 pub mod Leaving
 pub mod Numbering
 pub mod Beginning
+pub mod Parameters
