@@ -10,7 +10,7 @@ use Rattle.c_tree.specs.declared.types.IntegerType.{IntegerType}
 use Rattle.c_tree.specs.declared.types.IntegerType.TheVariants.{Char, Short, Int}
 use Rattle.c_tree.specs.declared.types.ValueType.{ValueType}
 use Rattle.c_tree.specs.declared.types.ValueType.TheVariants.{Void, Integer, Pointer}
-use Rattle.c_tree.specs.Evaluation.{type_at, type_of}
+use Rattle.c_tree.specs.Evaluation.{type_of}
 use Rattle.c_tree.specs.Program.{Function, Local, Program}
 use Rattle.c_tree.specs.Store as source
 use Rattle.c_tree.specs.Store.{Held, HoldsNumber, HoldsPointer, in_type, with_local}
@@ -20,7 +20,7 @@ use Rattle.flow_graph.specs.Meaning.{one_more, values_at}
 use Rattle.flow_graph.specs.States as graph
 use Rattle.flow_graph.specs.States.{active_of, number_at, number_of, value_at, with_value}
 use Rattle.lower_lines.specs.Expressions.{words_of}
-use Rattle.lower_lines.specs.Following.{Comes, IsSite, Site, Stand, WordsHold, behind, context_of, site_lines}
+use Rattle.lower_lines.specs.Following.{Comes, IsSite, Site, Stand, behind, context_of}
 use Rattle.lower_lines.specs.Lines.{Line, Emit}
 use Rattle.lower_lines.specs.Programs.{parameter_of, parameters_lines, words_in}
 use Rattle.lower_lines.specs.Relation.{HoldsAt, IsOf, ShowCalls, Shows, array_value}
@@ -277,13 +277,13 @@ module _ (S : Site) (site : IsSite S) (older : List Function) where
       → Takes S (S.function ∷ older) before (xs ++ ys) t g
   takes-both before xs ys s t g (h, shows, same, arguments, waiting, comes)
       (i, shows', same', arguments', waiting', comes') = (
-    i,
-    shows',
-    same' ∙ same,
-    arguments' ∙ arguments,
-    waiting' ∙ waiting,
-    λ turns o r. comes turns o (comes' turns o (comes-joined S before xs ys i turns o r)),
-  )
+        i,
+        shows',
+        same' ∙ same,
+        arguments' ∙ arguments,
+        waiting' ∙ waiting,
+        λ turns o r. comes turns o (comes' turns o (comes-joined S before xs ys i turns o r)),
+      )
 
   all-taken : (ls : List Local) (k word : ℕ) (others : List Value) (xs : List Held) (before : List Line)
       (s : source.State) (g : graph.State) → word ≡ length others
@@ -318,7 +318,8 @@ module _ (S : Site) (site : IsSite S) (older : List Function) where
       subst (λ (p : Spot). Takes S (S.function ∷ older) before (parameter_of c l.of p word)
       (with_local k (in_type l.of x) s) g) (sym spot)
       (one-taken l k word before s g at own shows l.of x others more w refl scalars.0 are.0
-      (subst (λ (p : Spot). Stand S before (parameter_of c l.of p word)) spot (stand-front S before front behind' stands))
+      (subst (λ (p : Spot). Stand S before (parameter_of c l.of p word)) spot
+      (stand-front S before front behind' stands))
       e) in
       takes-both before front behind' (with_local k (in_type l.of x) s)
       (with_parameters (suc k) ls xs (with_local k (in_type l.of x) s)) g one

@@ -2,6 +2,7 @@
 
 ghost use Rattle.lower_calls.specs.Laws.{BodiesLeaveSo, CallsAreFresh, CallsGoBack, ParametersAreTaken};
 ghost use Rattle.lower_calls.specs.Laws.{StatementsAreOwn, WordsAreRead};
+ghost use Rattle.lower_lines.specs.Laws.{CallsLower};
 
 /// A body is left by `break` and `continue` only where they may stand, and returns values in the type of its result
 /// (C99 6.8.6).
@@ -32,4 +33,10 @@ pub fn words_are_read()
 /// Parameters take their argument words, each in its type (C99 6.5.2.2p7).
 pub fn parameters_are_taken()
     ensures { ParametersAreTaken }
+{}
+
+/// Calls over every bound do what the op of a call does, where the lines of each function close, and those of bodies
+/// and expressions do what the source does (C99 6.5.2.2).
+pub fn calls_lower()
+    ensures { CallsLower }
 {}
