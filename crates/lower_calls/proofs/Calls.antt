@@ -64,6 +64,12 @@ FollowsBegun S active s g (Ends end t) = EndsSo S end s t (behind (Start 0 ∷ [
 false-true : false ≡ true → ⊥
 false-true e = cc
 
+-- a turn before a call that goes back is one before all of it
+pub turn-over : (n : ℕ) (s : source.State) (go : source.State → Evaluated Left)
+    → and_then (turn_with n s go) call_over ≡ turn_with n s (λ t. and_then (go t) call_over)
+turn-over zero s go = refl
+turn-over (suc n) s go = refl
+
 -- the streams of an outcome are those of either side
 pub ends-here : (S : Site) (active : List Function) (s : source.State) (g h : graph.State) (turns : ℕ)
     (end : End) → Shows S.program active s g → Comes S turns h (outcome_at g end)
@@ -310,11 +316,6 @@ module _ (p : Program) (listing : Listing) (typed : WellTyped p) (lists : ListsL
       more,
       first (record { visits = visits; taken = t.taken; written = t.written; end = end }) comes,
     )
-
-  turn-over : (n : ℕ) (s : source.State) (go : source.State → Evaluated Left)
-      → and_then (turn_with n s go) call_over ≡ turn_with n s (λ t. and_then (go t) call_over)
-  turn-over zero s go = refl
-  turn-over (suc n) s go = refl
 
   -- ---- calls over every bound
 

@@ -4,3 +4,4 @@ pub mod Beginning
 pub mod Parameters
 pub mod Passing
 pub mod Calls
+pub mod Programs

@@ -1,7 +1,7 @@
 //! Laws of calls: each function's contract is one, and the function does nothing.
 
 ghost use Rattle.lower_calls.specs.Laws.{BodiesLeaveSo, CallsAreFresh, CallsGoBack, ParametersAreTaken};
-ghost use Rattle.lower_calls.specs.Laws.{StatementsAreOwn, WordsAreRead};
+ghost use Rattle.lower_calls.specs.Laws.{ProgramsLowerSo, StatementsAreOwn, WordsAreRead};
 ghost use Rattle.lower_lines.specs.Laws.{CallsLower};
 
 /// A body is left by `break` and `continue` only where they may stand, and returns values in the type of its result
@@ -39,4 +39,10 @@ pub fn parameters_are_taken()
 /// and expressions do what the source does (C99 6.5.2.2).
 pub fn calls_lower()
     ensures { CallsLower }
+{}
+
+/// Lowering keeps the outcome of every typed program, where lines close, and those of bodies and expressions do what
+/// the source does.
+pub fn programs_lower()
+    ensures { ProgramsLowerSo }
 {}

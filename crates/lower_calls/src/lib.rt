@@ -6,5 +6,5 @@ mod laws;
 
 pub use laws::{
     bodies_leave_so, calls_are_fresh, calls_go_back, calls_lower, parameters_are_taken,
-    statements_are_own, words_are_read,
+    programs_lower, statements_are_own, words_are_read,
 };
