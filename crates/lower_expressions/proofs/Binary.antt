@@ -71,21 +71,21 @@ trap-ends S active before t g end shows comes = (
 
 pub works-follow : (S : Site) (site : IsSite S) (older : List Function) (level : ℕ) (ops : ℕ → List Line)
     (before : List Line) (t : source.State) (g : graph.State) (c : Computed) (block : ℕ) (wanted : Wanted)
-    → level < levels_of S.function → Shows S.program (S.function ∷ older) t g → g.current.function ≡ S.number
+    (u : IntegerType) → level < levels_of S.function → Shows S.program (S.function ∷ older) t g → g.current.function ≡ S.number
     → Works S (S.function ∷ older) level ops before t g c
-    → Stand S before (made (context_of S) block level wanted int (λ to. ops to.number)) → MayWant S wanted int
-    → Follows S (S.function ∷ older) before (made (context_of S) block level wanted int (λ to. ops to.number)) level
-    wanted int t g (computed c t)
-works-follow S site older level ops before t g (Computes (HoldsNumber r)) block wanted room shows fits
+    → Stand S before (made (context_of S) block level wanted (Integer u) (λ to. ops to.number)) → MayWant S wanted (Integer u)
+    → Follows S (S.function ∷ older) before (made (context_of S) block level wanted (Integer u) (λ to. ops to.number)) level
+    wanted (Integer u) t g (computed c t)
+works-follow S site older level ops before t g (Computes (HoldsNumber r)) block wanted u room shows fits
     (h, shown, keeps, goes) stands may =
     number-made S site older level before t t g h r [] (λ to. ops to.number) room shown (keeps.function ∙ fits) keeps
-    (sym (append-nil t.visits)) goes block wanted Int stands may
-works-follow S site older level ops before t g (Computes (HoldsPointer array index)) block wanted room shows fits works
+    (sym (append-nil t.visits)) goes block wanted u stands may
+works-follow S site older level ops before t g (Computes (HoldsPointer array index)) block wanted u room shows fits works
     stands may = absurd works
-works-follow S site older level ops before t g (Traps trap) block wanted room shows fits works stands may =
+works-follow S site older level ops before t g (Traps trap) block wanted u room shows fits works stands may =
     trap-ends S (S.function ∷ older) before t g (Trapped trap) shows
     (works (target (context_of S) level wanted)
-    (stand-front S before (ops (target (context_of S) level wanted).number) (tested (context_of S) block level wanted int)
+    (stand-front S before (ops (target (context_of S) level wanted).number) (tested (context_of S) block level wanted (Integer u))
     stands))
 
 -- ---- a comparison that is tested
@@ -155,7 +155,7 @@ module _ (S : Site) (site : IsSite S) (older : List Function) (level x y : ℕ) 
       (computed (numbers_value operator m n) t)
   otherwise-follows block wanted stands may =
       works-follow S site older level (λ to. computing (context_of S) level operator to x y) before t g
-      (numbers_value operator m n) block wanted room shows fits
+      (numbers_value operator m n) block wanted Int room shows fits
       (computing-works S site older level x y m n before t g fits shows room at_x at_y px py operator counts) stands may
 
   by-comparison : (how : Option Comparison) → comparison_of operator ≡ how → (block : ℕ) (wanted : Wanted)

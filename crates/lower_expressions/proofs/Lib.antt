@@ -9,3 +9,4 @@ pub mod Reading
 pub mod Pairs
 pub mod Working
 pub mod Binary
+pub mod Converting

@@ -9,7 +9,7 @@ use Rattle.c_tree.specs.declared.types.IntegerType.TheVariants.{Char, Int}
 use Rattle.c_tree.specs.declared.types.ValueType.TheVariants.{Integer}
 use Rattle.c_tree.specs.Evaluation.{evaluate}
 use Rattle.c_tree.specs.Operators.{shift_count}
-use Rattle.c_tree.specs.Program.{int, Binary, Constant, Expression, Getchar, Local, LocalPlace, Read, Unary}
+use Rattle.c_tree.specs.Program.{Cast, int, Binary, Constant, Expression, Getchar, Local, LocalPlace, Read, Unary}
 use Rattle.c_tree.specs.Store.{Evaluated, Gives, Ends, Held, HoldsNumber, HoldsPointer, State}
 use Rattle.lower_lines.specs.Expressions.{part_of}
 use Rattle.lower_lines.specs.Following.{IsSite, Lowers, Site, context_of}
@@ -71,3 +71,9 @@ BinariesLower = (S : Site) → IsSite S → (operator : BinaryOp) (a b : Express
     → Lowers S (part_of (context_of S) b) (evaluate S.calls b) → (part_of (context_of S) b).of ≡ Integer u
     → (IsShift operator → (s : State) → GivesCount (evaluate S.calls b s))
     → Lowers S (part_of (context_of S) (Binary int operator a b)) (evaluate S.calls (Binary int operator a b))
+
+-- a cast of a number to an integer type
+abbrev pub CastsLower : Type 0
+CastsLower = (S : Site) → IsSite S → (w : IntegerType) (e : Expression) (u : IntegerType)
+    → Lowers S (part_of (context_of S) e) (evaluate S.calls e) → (part_of (context_of S) e).of ≡ Integer u
+    → Lowers S (part_of (context_of S) (Cast (Integer w) e)) (evaluate S.calls (Cast (Integer w) e))

@@ -1,5 +1,6 @@
 //! Laws of the lines of expressions: each function's contract is one, and the function does nothing.
 
+ghost use Rattle.lower_expressions.specs.Laws.{CastsLower};
 ghost use Rattle.lower_expressions.specs.Laws.{BinariesLower, CharsLower, ComplementsLower, ConstantsLower};
 ghost use Rattle.lower_expressions.specs.Laws.{GetcharLowers, LocalsLower, MinusesLower};
 
@@ -36,4 +37,9 @@ pub fn complements_lower()
 /// The lines of an operator on two numbers do what the source does, where those of its operands do.
 pub fn binaries_lower()
     ensures { BinariesLower }
+{}
+
+/// The lines of a cast to an integer type do what the source does, where those of its operand do.
+pub fn casts_lower()
+    ensures { CastsLower }
 {}

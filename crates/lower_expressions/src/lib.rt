@@ -5,6 +5,6 @@
 mod laws;
 
 pub use laws::{
-    binaries_lower, chars_lower, complements_lower, constants_lower, getchar_lowers, locals_lower,
-    minuses_lower,
+    binaries_lower, casts_lower, chars_lower, complements_lower, constants_lower, getchar_lowers,
+    locals_lower, minuses_lower,
 };
