@@ -1,1 +1,4 @@
 pub mod Numbers
+pub mod Goes
+pub mod Shifts
+pub mod Halves

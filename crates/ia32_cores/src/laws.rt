@@ -1,4 +1,5 @@
 ghost use Rattle.ia32_cores.specs.Words.{ComparisonDecides, LeftShiftIs, RightShiftIs, DivisionTraps, DivisionIs, LowHalfIs};
+ghost use Rattle.ia32_cores.specs.Laws.{LowPuts, HalfPuts, ShiftPuts};
 
 /// What instructions make of the words of numbers is what the ops make of the numbers: the conditions of comparisons
 /// after CMP, SHL and SAR by a byte, CDQ with IDIV, and MOVSX of 16 bits.
@@ -9,4 +10,11 @@ pub fn words_are_numbers()
     ensures no_quotient { DivisionTraps }
     ensures quotient { DivisionIs }
     ensures low_half { LowHalfIs }
+{}
+
+/// The low byte and the low 16 bits of the word of a place, and a word shifted by a byte, come to another place.
+pub fn rows_of_words()
+    ensures low { LowPuts }
+    ensures half { HalfPuts }
+    ensures shift { ShiftPuts }
 {}

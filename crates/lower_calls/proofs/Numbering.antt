@@ -175,4 +175,6 @@ statements-own p counts k f at = All-from_recursion (λ n. locals_at p.functions
     plain : (xs : List ℕ) → AllByRecursion (λ m. (0 ≤ m) × (locals_at p.functions (m - 0) ≡ f.locals)) xs
         → AllByRecursion (λ n. locals_at p.functions n ≡ f.locals) xs
     plain [] is = tt
-    plain (x ∷ xs) is = (let e : x - 0 ≡ x = omega arith in subst (λ (m : ℕ). locals_at p.functions m ≡ f.locals) e is.0.1, plain xs is.1)
+    plain (x ∷ xs) is =
+        let e : x - 0 ≡ x = omega arith in
+        (subst (λ (m : ℕ). locals_at p.functions m ≡ f.locals) e is.0.1, plain xs is.1)

@@ -1,5 +1,5 @@
--- The laws of calls: how a body is left, which statements are a function's own, what a call's state shows when it begins
--- and when it is over, how parameters are taken, and programs. `CallsLower` stands in `lower_lines`.
+-- The laws of calls: how a body is left, which statements are a function's own, what a call's state shows when it
+-- begins and when it is over, how parameters are taken, and programs. `CallsLower` stands in `lower_lines`.
 use Rattle.std.specs.Prelude.{◌≡◌, ℕ, suc, ◌+◌, Bool, true, List, [], ◌∷◌, ◌++◌, length, map, slice_get}
 use Rattle.std.specs.Prelude.{Some, None}
 use Rattle.std.specs.List.{All, AllZip}

@@ -4,4 +4,7 @@
 
 mod laws;
 
-pub use laws::{bodies_leave_so, calls_are_fresh, calls_go_back, statements_are_own};
+pub use laws::{
+    bodies_leave_so, calls_are_fresh, calls_go_back, calls_lower, parameters_are_taken,
+    programs_lower, statements_are_own, words_are_read,
+};

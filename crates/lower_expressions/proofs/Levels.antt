@@ -1,5 +1,5 @@
 -- Every expression's lines take at least one level.
-use Rattle.std.proofs.Common.{◌≡◌, ℕ, suc, ◌≤◌, List, [], ◌∷◌, max, arith, Option, Some, None}
+use Rattle.std.proofs.Common.{ℕ, suc, ◌≤◌, max, arith}
 use Rattle.std.proofs.Math.Nat.{le-max_left, le-max_right}
 use Rattle.c_tree.specs.declared.expression.BinaryOp.{BinaryOp}
 use Rattle.c_tree.specs.declared.expression.StepOp.{StepOp}

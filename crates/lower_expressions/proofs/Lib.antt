@@ -3,7 +3,10 @@ pub mod Going
 pub mod Made
 pub mod Atoms
 pub mod Operands
+pub mod Levels
 pub mod Unary
 pub mod Reading
-pub mod Levels
 pub mod Pairs
+pub mod Working
+pub mod Binary
+pub mod Converting

@@ -1,10 +1,10 @@
 -- Two operands that are numbers: where nothing that is evaluated after the first one stores anything, it may stand in
 -- the variable of a local.
-use Rattle.std.proofs.Common.{◌≡◌, ◌⊎◌, ℕ, suc, ◌+◌, ◌*◌, ◌<◌, ◌≤◌, Bool, true, false, ℤ, List, [], ◌∷◌, ◌++◌, max}
+use Rattle.std.proofs.Common.{◌≡◌, ◌⊎◌, ℕ, suc, ◌+◌, ◌*◌, ◌<◌, ◌≤◌, Bool, true, false, ℤ, List, ◌∷◌, ◌++◌, max}
 use Rattle.std.proofs.Common.{Option, Some, None, refl, sym, ap, ◌∙◌, subst, arith, append_assoc, inl, inr, length}
 use Rattle.std.proofs.Math.Nat.{le-max_left, le-max_right}
 use Rattle.std.specs.Prelude.{slice_get}
-use Rattle.pcc_base.specs.Outcome.{Visit, Value}
+use Rattle.pcc_base.specs.Outcome.{Visit}
 use Rattle.c_bounds.specs.Bounds.{state_of}
 use Rattle.c_tree.specs.declared.types.IntegerType.{IntegerType}
 use Rattle.c_tree.specs.declared.types.IntegerType.TheVariants.{Char, Short, Int}
@@ -16,7 +16,7 @@ use Rattle.c_tree.specs.Store as source
 use Rattle.c_tree.specs.Store.{Evaluated, Gives, Ends, Held, HoldsNumber, held}
 use Rattle.flow_graph.specs.States as graph
 use Rattle.flow_graph.specs.States.{number_at, number_of}
-use Rattle.lower_lines.specs.Following.{Begins, Comes, EndsSo, Follows, GivesAlone, GoesInto, Lowers, Site, Stand}
+use Rattle.lower_lines.specs.Following.{Begins, EndsSo, GivesAlone, GoesInto, Lowers, Site, Stand}
 use Rattle.lower_lines.specs.Following.{behind, context_of}
 use Rattle.lower_lines.specs.Lines.{Line}
 use Rattle.lower_lines.specs.Parts.{Part, if_stays, operand, standing}

@@ -47,7 +47,7 @@ abbrev if_same : Bool → ℕ → ℕ → List Line
 if_same same to from = if same then [] else Emit (op.Copy to from) ∷ []
 
 -- a copy, which takes no op where both are one variable
-copied-goes : (S : Site) (site : IsSite S) (before : List Line) (g : graph.State) (to from turns : ℕ) (n : ℤ)
+pub copied-goes : (S : Site) (site : IsSite S) (before : List Line) (g : graph.State) (to from turns : ℕ) (n : ℤ)
     → g.current.function ≡ S.number → value_at g from ≡ Some (Number n) → Stand S before (copied to from)
     → Goes S turns (behind before g) turns (behind (before ++ copied to from) (with_value to (Number n) g)) []
 copied-goes S site before g to from turns n fits there stands o r =

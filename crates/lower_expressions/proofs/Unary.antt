@@ -30,6 +30,7 @@ use Rattle.lower_relation.proofs.Changes.{kept-none, kept-twice}
 use Rattle.lower_steps.proofs.Steps.{one-step}
 use Rattle.lower_expressions.proofs.Atoms.{with-older}
 use Rattle.lower_expressions.proofs.Going.{Goes, goes-end, goes-then, stand-back, stand-front}
+use Rattle.lower_expressions.proofs.Levels.{levels-one}
 use Rattle.lower_expressions.proofs.Made.{number-made}
 use Rattle.lower_expressions.proofs.Operands.{NumberStands, number-operand}
 use Rattle.lower_expressions.specs.Laws.{ComplementsLower, MinusesLower}
@@ -134,11 +135,13 @@ number-of-complement S active (HoldsNumber n) = tt
 number-of-complement S active (HoldsPointer array index) = tt
 
 pub minuses-lower : MinusesLower
-minuses-lower S site e u lowers of deep =
-    op-lowers S site op.Neg (unary_value Int Minus) (λ n. int_wrap w32 (neg_ℤ n)) _ _ u lowers of deep
+minuses-lower S site e u lowers of =
+    op-lowers S site op.Neg (unary_value Int Minus) (λ n. int_wrap w32 (neg_ℤ n)) _ _ u lowers of
+    (levels-one (context_of S) e)
     (λ program v d x. refl) (λ d x. (refl, refl, refl)) (λ n. refl) (number-of-unary S)
 
 pub complements-lower : ComplementsLower
-complements-lower S site e u lowers of deep =
-    op-lowers S site op.Not (unary_value Int Complement) (int_bit_not w32) _ _ u lowers of deep
+complements-lower S site e u lowers of =
+    op-lowers S site op.Not (unary_value Int Complement) (int_bit_not w32) _ _ u lowers of
+    (levels-one (context_of S) e)
     (λ program v d x. refl) (λ d x. (refl, refl, refl)) (λ n. refl) (number-of-complement S)

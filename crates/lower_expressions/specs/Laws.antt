@@ -1,11 +1,16 @@
 -- The laws of the lines of expressions, by their kinds; each is a part of `ExpressionsLower` of `lower_lines`.
-use Rattle.std.specs.Prelude.{◌≡◌, ◌≢◌, ◌≤◌, ℕ, ℤ, slice_get, Some}
+use Rattle.std.specs.Int.{w8, int_wrap}
+use Rattle.std.specs.Prelude.{◌≡◌, ◌≢◌, ℕ, ℤ, slice_get, Some}
+use Rattle.c_tree.specs.declared.expression.BinaryOp.{BinaryOp}
+use Rattle.c_tree.specs.declared.expression.BinaryOp.TheVariants.{ShiftLeft, ShiftRight}
 use Rattle.c_tree.specs.declared.expression.UnaryOp.TheVariants.{Complement, Minus}
 use Rattle.c_tree.specs.declared.types.IntegerType.{IntegerType}
 use Rattle.c_tree.specs.declared.types.IntegerType.TheVariants.{Char, Int}
 use Rattle.c_tree.specs.declared.types.ValueType.TheVariants.{Integer}
 use Rattle.c_tree.specs.Evaluation.{evaluate}
-use Rattle.c_tree.specs.Program.{Constant, Expression, Getchar, Local, LocalPlace, Read, Unary}
+use Rattle.c_tree.specs.Operators.{shift_count}
+use Rattle.c_tree.specs.Program.{Cast, int, Binary, Constant, Expression, Getchar, Local, LocalPlace, Read, Unary}
+use Rattle.c_tree.specs.Store.{Evaluated, Gives, Ends, Held, HoldsNumber, HoldsPointer, State}
 use Rattle.lower_lines.specs.Expressions.{part_of}
 use Rattle.lower_lines.specs.Following.{IsSite, Lowers, Site, context_of}
 
@@ -34,11 +39,41 @@ GetcharLowers = (S : Site) → IsSite S → Lowers S (part_of (context_of S) Get
 abbrev pub MinusesLower : Type 0
 MinusesLower = (S : Site) → IsSite S → (e : Expression) (u : IntegerType)
     → Lowers S (part_of (context_of S) e) (evaluate S.calls e) → (part_of (context_of S) e).of ≡ Integer u
-    → 1 ≤ (part_of (context_of S) e).levels
     → Lowers S (part_of (context_of S) (Unary Int Minus e)) (evaluate S.calls (Unary Int Minus e))
 
 abbrev pub ComplementsLower : Type 0
 ComplementsLower = (S : Site) → IsSite S → (e : Expression) (u : IntegerType)
     → Lowers S (part_of (context_of S) e) (evaluate S.calls e) → (part_of (context_of S) e).of ≡ Integer u
-    → 1 ≤ (part_of (context_of S) e).levels
     → Lowers S (part_of (context_of S) (Unary Int Complement e)) (evaluate S.calls (Unary Int Complement e))
+
+-- ---- operators on two numbers
+
+abbrev pub IsShift : BinaryOp → Type 0
+IsShift ShiftLeft = Unit {0}
+IsShift ShiftRight = Unit {0}
+IsShift _ = ⊥
+
+-- Its lowest byte is the same count of a shift. This holds of every number of an `int`; it doesn't hold of numbers below
+-- -4294967296, which the definitions have, too.
+abbrev pub IsCount : ℤ → Type 0
+IsCount n = shift_count (int_wrap w8 n) ≡ shift_count n
+
+-- what an expression gives is a count
+abbrev pub GivesCount : Evaluated Held → Type 0
+GivesCount (Gives (HoldsNumber n) t) = IsCount n
+GivesCount (Gives (HoldsPointer array index) t) = Unit {0}
+GivesCount (Ends end t) = Unit {0}
+
+-- an operator on two numbers
+abbrev pub BinariesLower : Type 0
+BinariesLower = (S : Site) → IsSite S → (operator : BinaryOp) (a b : Expression) (t u : IntegerType)
+    → Lowers S (part_of (context_of S) a) (evaluate S.calls a) → (part_of (context_of S) a).of ≡ Integer t
+    → Lowers S (part_of (context_of S) b) (evaluate S.calls b) → (part_of (context_of S) b).of ≡ Integer u
+    → (IsShift operator → (s : State) → GivesCount (evaluate S.calls b s))
+    → Lowers S (part_of (context_of S) (Binary int operator a b)) (evaluate S.calls (Binary int operator a b))
+
+-- a cast of a number to an integer type
+abbrev pub CastsLower : Type 0
+CastsLower = (S : Site) → IsSite S → (w : IntegerType) (e : Expression) (u : IntegerType)
+    → Lowers S (part_of (context_of S) e) (evaluate S.calls e) → (part_of (context_of S) e).of ≡ Integer u
+    → Lowers S (part_of (context_of S) (Cast (Integer w) e)) (evaluate S.calls (Cast (Integer w) e))

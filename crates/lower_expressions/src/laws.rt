@@ -1,6 +1,7 @@
 //! Laws of the lines of expressions: each function's contract is one, and the function does nothing.
 
-ghost use Rattle.lower_expressions.specs.Laws.{CharsLower, ComplementsLower, ConstantsLower};
+ghost use Rattle.lower_expressions.specs.Laws.{CastsLower};
+ghost use Rattle.lower_expressions.specs.Laws.{BinariesLower, CharsLower, ComplementsLower, ConstantsLower};
 ghost use Rattle.lower_expressions.specs.Laws.{GetcharLowers, LocalsLower, MinusesLower};
 
 /// The lines of a constant do what the source does, whatever is wanted of it.
@@ -31,4 +32,14 @@ pub fn minuses_lower()
 /// The lines of `~` do what the source does, where those of its operand do.
 pub fn complements_lower()
     ensures { ComplementsLower }
+{}
+
+/// The lines of an operator on two numbers do what the source does, where those of its operands do.
+pub fn binaries_lower()
+    ensures { BinariesLower }
+{}
+
+/// The lines of a cast to an integer type do what the source does, where those of its operand do.
+pub fn casts_lower()
+    ensures { CastsLower }
 {}

@@ -5,5 +5,6 @@
 mod laws;
 
 pub use laws::{
-    chars_lower, complements_lower, constants_lower, getchar_lowers, locals_lower, minuses_lower,
+    binaries_lower, casts_lower, chars_lower, complements_lower, constants_lower, getchar_lowers,
+    locals_lower, minuses_lower,
 };

@@ -4,3 +4,5 @@ pub mod Onward
 pub mod Straight
 pub mod Sequences
 pub mod Conditions
+pub mod Loops
+pub mod Looping

@@ -76,7 +76,21 @@ next-begins S active level s t g h b le shows keeps = record {
     lower : (a b n : ℕ) → b ≤ a → a < n → b < n
     lower a b n le lt = omega (arith, le, lt)
 
--- one evaluation after another: the second goes on where what has to come for the first stands
+-- one evaluation after another: the second goes on where what has to come for the first stands, with no more turns left
+pub from-turns : {A B : Type 0} (S : Site) (active : List Function) (level : ℕ) (from : graph.State) (s : source.State)
+    (g : graph.State) (aim : A → source.State → graph.State → Outcome → Type 0)
+    (last : B → source.State → graph.State → Outcome → Type 0) (r : Evaluated A)
+    (go : A → source.State → Evaluated B) → Begins S active s g → (state_of r).turns ≤ s.turns
+    → From S active level from s g aim r
+    → ((v : A) (t : source.State) (h : graph.State) → Begins S active t h
+    → Keeps (local_variables S.function) level g h → t.turns ≤ s.turns → (m : graph.State)
+    × ((o : Outcome) → Comes S t.turns m o → aim v t h o) × From S active level m t h last (go v t))
+    → From S active level from s g last (and_then r go)
+from-turns S active level from s g aim last (Ends end t) go b le ends next = ends
+from-turns S active level from s g aim last (Gives v t) go b le (h, us, shows, keeps, seen, on) next =
+    let (m, leads, then') = next v t h (next-begins S active level s t g h b le shows keeps) keeps le in
+    from-then S active level from m s t g h us last (go v t) keeps seen (λ o k. on o (leads o k)) then'
+
 pub from-both : {A B : Type 0} (S : Site) (active : List Function) (level : ℕ) (from : graph.State) (s : source.State)
     (g : graph.State) (aim : A → source.State → graph.State → Outcome → Type 0)
     (last : B → source.State → graph.State → Outcome → Type 0) (r : Evaluated A)
@@ -86,10 +100,8 @@ pub from-both : {A B : Type 0} (S : Site) (active : List Function) (level : ℕ)
     → Keeps (local_variables S.function) level g h → (m : graph.State)
     × ((o : Outcome) → Comes S t.turns m o → aim v t h o) × From S active level m t h last (go v t))
     → From S active level from s g last (and_then r go)
-from-both S active level from s g aim last (Ends end t) go b le ends next = ends
-from-both S active level from s g aim last (Gives v t) go b le (h, us, shows, keeps, seen, on) next =
-    let (m, leads, then') = next v t h (next-begins S active level s t g h b le shows keeps) keeps in
-    from-then S active level from m s t g h us last (go v t) keeps seen (λ o k. on o (leads o k)) then'
+from-both S active level from s g aim last r go b le first next =
+    from-turns S active level from s g aim last r go b le first (λ v t h bt keeps less. next v t h bt keeps)
 
 -- something else is made of what is given
 pub from-made : {A B : Type 0} (S : Site) (active : List Function) (level : ℕ) (from : graph.State) (s : source.State)

@@ -6,6 +6,11 @@ use Rattle.c_tree.specs.declared.types.ValueType.TheVariants.{Void, Integer}
 use Rattle.c_tree.specs.Evaluation.{Runs, after_statement}
 use Rattle.c_tree.specs.Evaluation.{Falls, Breaks, Continues, Returns}
 use Rattle.c_tree.specs.Operators.{is_true}
+use Rattle.c_tree.specs.Evaluation.{Left, do_loop, evaluate, evaluated_if_any, loop, tested, tested_if_any}
+use Rattle.c_tree.specs.Program.{Expression, First}
+use Rattle.lower_lines.specs.Expressions.{part_of}
+use Rattle.lower_lines.specs.Statements.{do_run, first_levels, first_lines, for_run, while_run}
+use Rattle.std.specs.Prelude.{IfSome, Option}
 use Rattle.c_tree.specs.Store as source
 use Rattle.c_tree.specs.Store.{Evaluated, Gives, Held, and_then, visited}
 use Rattle.flow_graph.specs.declared.op.Op.TheVariants as op
@@ -105,3 +110,35 @@ ConditionsLower = (S : Site) → IsSite S → (breaks continues : Bool) (n : ℕ
     → LowersRun S breaks continues (if_run (context_of S) n e a b)
     (λ s. and_then (and_then (test (visited S.listing n s)) (λ v t. Gives (is_true v) t))
     (λ holds t. if holds then first t else second t))
+
+-- ---- loops: their bound isn't lower than that of calls
+
+-- a test, if there is one, and what is evaluated after the body, if anything
+abbrev pub TestLowers : Site → Expression → Type 0
+TestLowers S e = ((part_of (context_of S) e).of ≢ Void) × Lowers S (part_of (context_of S) e) (evaluate S.calls e)
+
+abbrev pub AfterLowers : Site → Expression → Type 0
+AfterLowers S e = Lowers S (part_of (context_of S) e) (evaluate S.calls e)
+
+abbrev pub WhilesLower : Type 0
+WhilesLower = (S : Site) → IsSite S → (breaks continues : Bool) (n bound : ℕ) (e : Expression) (body : Run) (run : Runs)
+    → IsOwn S n → S.bound ≤ bound → TestLowers S e → Keeping S (tested S.calls e) → LowersRun S true true body run
+    → Keeping S run → LowersRun S breaks continues (while_run (context_of S) n e body)
+    (λ s. loop bound (tested S.calls e) run (λ t. Gives Falls t) (visited S.listing n s))
+
+abbrev pub ForsLower : Type 0
+ForsLower = (S : Site) → IsSite S → (breaks continues : Bool) (n bound : ℕ) (first : First)
+    (test after : Option Expression) (body : Run) (begin : source.State → Evaluated Left) (run : Runs) → IsOwn S n
+    → S.bound ≤ bound → LowersLines S (first_levels (context_of S) first) (first_lines (context_of S) first) begin
+    → Keeping S begin → IfSome test (TestLowers S) → Keeping S (tested_if_any S.calls test)
+    → IfSome after (AfterLowers S) → Keeping S (evaluated_if_any S.calls after) → LowersRun S true true body run
+    → Keeping S run → LowersRun S breaks continues (for_run (context_of S) n first test after body)
+    (λ s. and_then (begin (visited S.listing n s))
+    (λ done t. loop bound (tested_if_any S.calls test) run (evaluated_if_any S.calls after) t))
+
+abbrev pub DosLower : Type 0
+DosLower = (S : Site) → IsSite S → (breaks continues : Bool) (n bound : ℕ) (e : Part) (body : Run)
+    (test : source.State → Evaluated Held) (run : Runs) → IsOwn S n → S.bound ≤ bound → e.of ≢ Void → Lowers S e test
+    → Keeping S (λ s. and_then (test s) (λ v t. Gives (is_true v) t)) → LowersRun S true true body run → Keeping S run
+    → LowersRun S breaks continues (do_run (context_of S) n body e)
+    (λ s. do_loop bound (λ t. and_then (test t) (λ v u. Gives (is_true v) u)) run (visited S.listing n s))

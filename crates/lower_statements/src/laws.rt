@@ -1,9 +1,10 @@
 //! Laws of the lines of statements: each function's contract is one, and the function does nothing.
 
 ghost use Rattle.lower_statements.specs.Laws.{BlocksLower, BreaksLower, ConditionsLower};
-ghost use Rattle.lower_statements.specs.Laws.{ContinuesLower, DeclarationsLower, EmptiesLower};
-ghost use Rattle.lower_statements.specs.Laws.{EmptyBlocksLower, EvaluationsLower, LastsLower};
-ghost use Rattle.lower_statements.specs.Laws.{PlainReturnsLower, ReturnsLower, SequencesLower};
+ghost use Rattle.lower_statements.specs.Laws.{ContinuesLower, DeclarationsLower, DosLower};
+ghost use Rattle.lower_statements.specs.Laws.{EmptiesLower, EmptyBlocksLower, EvaluationsLower};
+ghost use Rattle.lower_statements.specs.Laws.{ForsLower, LastsLower, PlainReturnsLower};
+ghost use Rattle.lower_statements.specs.Laws.{ReturnsLower, SequencesLower, WhilesLower};
 
 /// The lines of an empty statement do what the source does.
 pub fn empties_lower()
@@ -63,4 +64,19 @@ pub fn blocks_lower()
 /// Those of an `if` do so, where those of its condition and of both statements do.
 pub fn conditions_lower()
     ensures { ConditionsLower }
+{}
+
+/// Those of a `while` do so, where those of its test and its body do.
+pub fn whiles_lower()
+    ensures { WhilesLower }
+{}
+
+/// Those of a `for` do so, where those of its parts do.
+pub fn fors_lower()
+    ensures { ForsLower }
+{}
+
+/// Those of a `do` do so, where those of its body and its test do.
+pub fn dos_lower()
+    ensures { DosLower }
 {}

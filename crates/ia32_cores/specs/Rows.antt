@@ -1,0 +1,142 @@
+-- Rows of the ops on halves and bytes of words, of shifts, divisions and comparisons: each in the result's register where
+-- it may, with operands where they stand.
+use Rattle.std.specs.Prelude.{◌≢◌, ◌==◌, ◌||◌, ℕ, List, [], ◌∷◌, ◌++◌, if◌then◌else◌}
+use Rattle.ia32_regs.specs.declared.names.Reg32.{Reg32}
+use Rattle.ia32_regs.specs.declared.names.Reg32.TheVariants.{Eax, Ecx, Edx, Ebx, Esp, Ebp, Esi, Edi}
+use Rattle.ia32_regs.specs.declared.names.Reg8.{Reg8}
+use Rattle.ia32_regs.specs.declared.names.Reg8.TheVariants.{Al, Cl, Dl, Bl}
+use Rattle.ia32_regs.specs.Registers.{number32, number8, byte_place}
+use Rattle.ia32_places.specs.Places.{Place, InWord, InByte, InSlot}
+use Rattle.ia32_insn.specs.declared.operand.Rm32.{Rm32}
+use Rattle.ia32_insn.specs.declared.operand.Rm32.TheVariants as rm
+use Rattle.ia32_insn.specs.declared.operand.Rm8.TheVariants as rm8
+use Rattle.ia32_insn.specs.declared.insn.AluOp.TheVariants as alu
+use Rattle.ia32_insn.specs.declared.insn.Cond.{Cond}
+use Rattle.ia32_insn.specs.declared.insn.Insn.TheVariants as insn
+use Rattle.ia32_insn.specs.declared.insn.ShiftOp.{ShiftOp}
+use Rattle.ia32_insn.specs.declared.item.Item.{Item}
+use Rattle.ia32_insn.specs.declared.item.Item.TheVariants as item
+use Rattle.ia32_insn.specs.Items.{plain}
+use Rattle.flow_graph.specs.declared.op.Comparison.{Comparison}
+use Rattle.ia32_shows.specs.Placements.{below}
+use Rattle.ia32_rows.specs.Rows.{copy_row, operate, read, working, write}
+use Rattle.ia32_effects.specs.Effects.{OutsideWord}
+use Rattle.ia32_effects.specs.Unary.{target_of}
+use Rattle.ia32_cores.specs.Words.{cond_of}
+
+-- ---- bytes and halves
+
+-- the lowest byte of a register for variables; the others have none of their own
+abbrev pub low_byte : Reg32 → Reg8
+low_byte Eax = Al
+low_byte Ecx = Cl
+low_byte Edx = Dl
+low_byte Ebx = Bl
+low_byte Esp = Al
+low_byte Ebp = Al
+low_byte Esi = Al
+low_byte Edi = Al
+
+-- the low byte of the operand's word to the result
+abbrev pub lowering : Place → Place → List Item
+lowering (InWord r) operand = copy_row operand (InWord r)
+lowering (InByte r) (InWord q) = copy_row (InByte (low_byte q)) (InByte r)
+lowering (InByte r) (InByte q) = copy_row (InByte q) (InByte r)
+lowering (InByte r) (InSlot k) = read Esi (InSlot k) ++ write (InByte r) Esi
+lowering (InSlot k) operand = copy_row operand (InSlot k)
+
+-- MOVSX of the low 16 bits of a place's word to a register
+abbrev pub extend_half : Reg32 → Place → List Item
+extend_half t (InWord r) = plain (insn.MovSx16 t (rm.Reg r)) ∷ []
+extend_half t (InByte r) = read t (InByte r) ++ plain (insn.MovSx16 t (rm.Reg t)) ∷ []
+extend_half t (InSlot k) = read t (InSlot k) ++ plain (insn.MovSx16 t (rm.Reg t)) ∷ []
+
+-- these 16 bits with their sign to the result
+abbrev pub halving : Place → Place → List Item
+halving result operand = extend_half (target_of result) operand ++ write result (target_of result)
+
+-- ---- shifts
+
+-- the count's byte to CL, unless it stands there
+abbrev pub into_count : Place → List Item
+into_count (InWord r) = plain (insn.Mov8 (rm8.Reg Cl) (low_byte r)) ∷ []
+into_count (InByte r) = if number8 r == number8 Cl then [] else plain (insn.Mov8 (rm8.Reg Cl) r) ∷ []
+into_count (InSlot k) = plain (insn.Mov8Load Cl (below k)) ∷ []
+
+-- The register that is shifted: the result's own, unless the count stands in it and the first operand would be read over
+-- it, or it is ECX; else ESI.
+abbrev pub shifted_in : Place → Place → Place → Reg32
+shifted_in (InWord r) first count = if number32 r == number32 Ecx then Esi else working (InWord r) first count
+shifted_in (InByte r) first count = Esi
+shifted_in (InSlot k) first count = Esi
+
+-- the first operand to that register, unless it stands there, the count to CL, the shift (Intel manual, volume 2,
+-- SAL/SAR/SHL/SHR), and the result to its place
+abbrev pub shifting : ShiftOp → Place → Place → Place → List Item
+shifting how result first count =
+    read (shifted_in result first count) first
+    ++ (into_count count ++ plain (insn.ShiftCl how (rm.Reg (shifted_in result first count))) ∷ [])
+    ++ write result (shifted_in result first count)
+
+-- the cells of registers that a shift leaves: all but CL
+abbrev pub SparedByShift : ℕ → Type 0
+SparedByShift k = k ≢ byte_place Cl
+
+-- ---- divisions
+
+-- the divisor's word to ESI, where it stands in EAX or EDX
+abbrev pub clear_divisor : Place → List Item
+clear_divisor (InWord r) =
+    if number32 r == number32 Eax || number32 r == number32 Edx then read Esi (InWord r) else []
+clear_divisor (InByte r) = read Esi (InByte r)
+clear_divisor (InSlot k) = []
+
+-- and where it is then
+abbrev pub divisor_of : Place → Rm32
+divisor_of (InWord r) =
+    if number32 r == number32 Eax || number32 r == number32 Edx then rm.Reg Esi else rm.Reg r
+divisor_of (InByte r) = rm.Reg Esi
+divisor_of (InSlot k) = rm.Mem (below k)
+
+-- what stands before the division: the divisor out of the way, the first operand to EAX, and its sign to EDX
+abbrev pub before_division : Place → Place → List Item
+before_division first second = clear_divisor second ++ read Eax first ++ plain insn.Cdq ∷ []
+
+-- the division (Intel manual, volume 2, CDQ and IDIV); the quotient, in EAX, or the remainder, in EDX, to the result
+abbrev pub dividing : Reg32 → Place → Place → Place → List Item
+dividing part result first second =
+    before_division first second ++ plain (insn.IDiv (divisor_of second)) ∷ [] ++ write result part
+
+-- the cells of registers that a division leaves
+abbrev pub SparedByDivision : ℕ → Type 0
+SparedByDivision k = OutsideWord Eax k × OutsideWord Edx k
+
+-- ---- comparisons
+
+-- CMP of two words where they stand; the first through ESI where both are in memory
+abbrev pub comparing : Place → Place → List Item
+comparing (InWord r) second = operate alu.Cmp r second
+comparing (InByte r) second = read Esi (InByte r) ++ operate alu.Cmp Esi second
+comparing (InSlot k) (InWord q) = plain (insn.Alu alu.Cmp (rm.Mem (below k)) q) ∷ []
+comparing (InSlot k) (InByte q) = read Esi (InSlot k) ++ operate alu.Cmp Esi (InByte q)
+comparing (InSlot k) (InSlot b) = read Esi (InSlot k) ++ operate alu.Cmp Esi (InSlot b)
+
+-- 1 or 0 to a place, by a condition (Intel manual, volume 2, SETcc and MOVZX)
+abbrev pub set_row : Cond → Place → List Item
+set_row c (InWord r) =
+    plain (insn.SetCc c (rm8.Reg (low_byte r))) ∷ plain (insn.MovZx8 r (rm8.Reg (low_byte r))) ∷ []
+set_row c (InByte r) = plain (insn.SetCc c (rm8.Reg r)) ∷ []
+set_row c (InSlot k) =
+    plain (insn.SetCc c (rm8.Mem (below k)))
+    ∷ plain (insn.MovZx8 Esi (rm8.Mem (below k)))
+    ∷ plain (insn.Mov (rm.Mem (below k)) Esi)
+    ∷ []
+
+-- whether two words, as signed numbers, compare so
+abbrev pub setting : Comparison → Place → Place → Place → List Item
+setting how result first second = comparing first second ++ set_row (cond_of how) result
+
+-- to one label where they compare so, to the other where they don't
+abbrev pub branching : Comparison → Place → Place → ℕ → ℕ → List Item
+branching how first second taken other =
+    comparing first second ++ item.JumpIf (cond_of how) taken ∷ item.JumpTo other ∷ []

@@ -1,0 +1,5 @@
+use Rattle.lower_calls.proofs.Programs.{programs-lower}
+use Rattle.lower_calls.proofs.laws.programs_lower.Goals as goal
+
+pub returns : goal.returns
+returns c = programs-lower
