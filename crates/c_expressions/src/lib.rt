@@ -1,0 +1,16 @@
+//! The typed tree of an expression where names are seen, or the least of its faults (C99 6.5).
+//!
+//! In: the raw tree of an expression, and what is known at its place. Out: the typed tree with what it is as a constant,
+//! or the fault that is answered; what a tree that fits says beside (`Note`) is put behind a list. `specs/Said.antt` says
+//! when that is what `c_typing` has. The only refusal is want of memory.
+#![tactic(auto)]
+
+mod named;
+mod notes;
+mod places;
+mod rows;
+mod texts;
+mod type_names;
+
+pub use notes::{Contents, Note, Notes, Stored};
+pub use places::first_token;
