@@ -6,3 +6,4 @@ pub mod Sequences
 pub mod Conditions
 pub mod Loops
 pub mod Looping
+pub mod Declared

@@ -9,7 +9,7 @@ use Rattle.c_tree.specs.declared.types.ValueType.TheVariants.{Integer}
 use Rattle.c_tree.specs.Evaluation.{Left, Falls, Breaks, Continues, Returns}
 use Rattle.c_tree.specs.Program.{Function}
 use Rattle.c_tree.specs.Store as source
-use Rattle.c_tree.specs.Store.{Evaluated, Gives, Ends, Held, HoldsNumber, and_then, visited}
+use Rattle.c_tree.specs.Store.{Evaluated, Gives, Ends, Held, HoldsNumber, and_then, number_held, visited}
 use Rattle.flow_graph.specs.declared.op.Op.TheVariants as op
 use Rattle.flow_graph.specs.Meaning.{returns_to}
 use Rattle.flow_graph.specs.States as graph
@@ -204,13 +204,14 @@ plain-returns-lower S site breaks continues n own is = record {
 -- a number that stands somewhere is returned
 number-returns : (S : Site) → IsSite S → (t : IntegerType) → S.function.result ≡ Integer t → (active : List Function)
     (before lines rest whole : List Line) (spot : Spot) (exits : Exits) (after : After) (s : source.State)
-    (g : graph.State) (r : Evaluated Held) → Begins S active s g
+    (g : graph.State) (r : Evaluated Held) (f : Held → Held)
+    → ((m : ℤ) → number_held (Some (f (HoldsNumber m))) ≡ m) → Begins S active s g
     → Stand S (before ++ lines) (Emit (op.Return (Some spot.number)) ∷ rest)
     → NumberStands S active before lines 0 spot s g r
     → From S active 0 (behind before g) s g (LeftBy S whole exits after)
-    (and_then r (λ v u. Gives (Returns (Some v)) u))
-number-returns S site t is active before lines rest whole spot exits after s g (Ends end u) b stands ends = ends
-number-returns S site t is active before lines rest whole spot exits after s g (Gives v u) b stands
+    (and_then r (λ v u. Gives (Returns (Some (f v))) u))
+number-returns S site t is active before lines rest whole spot exits after s g (Ends end u) f same b stands ends = ends
+number-returns S site t is active before lines rest whole spot exits after s g (Gives v u) f same b stands
     (h, us, n, value, shows, keeps, seen, there, goes) = (
       h,
       us,
@@ -220,12 +221,12 @@ number-returns S site t is active before lines rest whole spot exits after s g (
       λ o r. goes o (return-step S site (before ++ lines) h (keeps.function ∙ b.function) spot.number u.turns n o
           (stand-front S (before ++ lines) (Emit (op.Return (Some spot.number)) ∷ []) rest stands) there
           (subst (λ (m : Option ℤ). ComesOf S u.turns h (returns_to (graphs_of S) h h.waiting m) o)
-          (ap (λ (m : ValueType). number_returned m (Some v)) is
-          ∙ ap (λ (w : Held). number_returned (Integer t) (Some w)) value) r)),
+          (ap (λ (m : ValueType). number_returned m (Some (f v))) is
+          ∙ ap (λ (w : Held). number_returned (Integer t) (Some (f w))) value ∙ ap Some (same n)) r)),
     )
 
 pub returns-lower : ReturnsLower
-returns-lower S site breaks continues n levels blocks t u a run own is of low lowers keeping = record {
+returns-lower S site breaks continues n levels blocks t u a run f own is of low same lowers keeping = record {
   follows = λ active exits block after before s g stands room exit may b.
       let mark = Emit (op.Mark n) in
       let x = operand (context_of S) true a in
@@ -240,11 +241,11 @@ returns-lower S site breaks continues n levels blocks t u a run own is of low lo
       behind_mark) in
       let front = stand-front S (before ++ mark ∷ []) (x.lines at 0) (leave ∷ [])
       (stand-front S (before ++ mark ∷ []) (x.lines at 0 ++ leave ∷ []) rest behind_mark) in
-      to-run S active before whole exits after s g (and_then (run v) (λ w q. Gives (Returns (Some w)) q))
+      to-run S active before whole exits after s g (and_then (run v) (λ w q. Gives (Returns (Some (f w))) q))
       (behind-mark S site n own active before ((x.lines at 0 ++ leave ∷ []) ++ rest) s g
-      (LeftBy S (before ++ whole) exits after) (and_then (run v) (λ w q. Gives (Returns (Some w)) q)) b stands
+      (LeftBy S (before ++ whole) exits after) (and_then (run v) (λ w q. Gives (Returns (Some (f w))) q)) b stands
       (number-returns S site t is active (before ++ mark ∷ []) (x.lines at 0) rest (before ++ whole) (x.spot 0) exits
-      after v g (run v) (visited-begins S n active s g b) back
+      after v g (run v) f same (visited-begins S n active s g b) back
       (with-older S.function active (λ calls. Begins S calls v g → NumberStands S calls (before ++ mark ∷ [])
       (x.lines at 0) 0 (x.spot 0) v g (run v)) b.youngest
       (λ older bv. number-operand S older a run u lowers of at 0 (before ++ mark ∷ []) v g front

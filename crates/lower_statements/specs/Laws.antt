@@ -11,6 +11,13 @@ use Rattle.c_tree.specs.Program.{Expression, First}
 use Rattle.lower_lines.specs.Expressions.{part_of}
 use Rattle.lower_lines.specs.Statements.{do_run, first_levels, first_lines, for_run, while_run}
 use Rattle.std.specs.Prelude.{IfSome, Option}
+use Rattle.std.specs.Prelude.{ℤ}
+use Rattle.c_tree.specs.Store.{HoldsNumber, number_held, in_type, with_local, zero_of}
+use Rattle.c_tree.specs.Evaluation.{type_at}
+use Rattle.c_tree.specs.WellTyped.{IsScalar}
+use Rattle.c_tree.specs.Program.{Local}
+use Rattle.std.specs.Prelude.{slice_get, max, ◌+◌}
+use Rattle.lower_lines.specs.Statements.{zeroing}
 use Rattle.c_tree.specs.Store as source
 use Rattle.c_tree.specs.Store.{Evaluated, Gives, Held, and_then, visited}
 use Rattle.flow_graph.specs.declared.op.Op.TheVariants as op
@@ -57,7 +64,8 @@ ContinuesLower = (S : Site) → IsSite S → (breaks : Bool) (n : ℕ) → IsOwn
     → LowersRun S breaks true (ending 0 0 (λ exits block. Emit (op.Mark n) ∷ Emit (op.Jump exits.continues) ∷ []))
     (λ s. Gives Continues (visited S.listing n s))
 
--- a return from a function without a value, and from one with a number, which the part of its value has in its type
+-- a return from a function without a value, and from one with a number: what is returned is made of the part's value,
+-- and is the same number
 abbrev pub PlainReturnsLower : Type 0
 PlainReturnsLower = (S : Site) → IsSite S → (breaks continues : Bool) (n : ℕ) → IsOwn S n → S.function.result ≡ Void
     → LowersRun S breaks continues (ending 0 0 (λ exits block. Emit (op.Mark n) ∷ Emit (op.Return None) ∷ []))
@@ -65,12 +73,12 @@ PlainReturnsLower = (S : Site) → IsSite S → (breaks continues : Bool) (n : �
 
 abbrev pub ReturnsLower : Type 0
 ReturnsLower = (S : Site) → IsSite S → (breaks continues : Bool) (n levels blocks : ℕ) (t u : IntegerType) (a : Part)
-    (run : source.State → Evaluated Held) → IsOwn S n → S.function.result ≡ Integer t → a.of ≡ Integer u
-    → a.levels ≤ levels → Lowers S a run → Keeping S run
-    → LowersRun S breaks continues (ending levels blocks (λ exits block. Emit (op.Mark n)
+    (run : source.State → Evaluated Held) (f : Held → Held) → IsOwn S n → S.function.result ≡ Integer t
+    → a.of ≡ Integer u → a.levels ≤ levels → ((m : ℤ) → number_held (Some (f (HoldsNumber m))) ≡ m) → Lowers S a run
+    → Keeping S run → LowersRun S breaks continues (ending levels blocks (λ exits block. Emit (op.Mark n)
     ∷ ((operand (context_of S) true a).lines block 0
     ++ Emit (op.Return (Some ((operand (context_of S) true a).spot 0).number)) ∷ [])))
-    (λ s. and_then (run (visited S.listing n s)) (λ v t. Gives (Returns (Some v)) t))
+    (λ s. and_then (run (visited S.listing n s)) (λ v t. Gives (Returns (Some (f v))) t))
 
 -- ---- statements in order
 
@@ -142,3 +150,50 @@ DosLower = (S : Site) → IsSite S → (breaks continues : Bool) (n bound : ℕ)
     → Keeping S (λ s. and_then (test s) (λ v t. Gives (is_true v) t)) → LowersRun S true true body run → Keeping S run
     → LowersRun S breaks continues (do_run (context_of S) n body e)
     (λ s. do_loop bound (λ t. and_then (test t) (λ v u. Gives (is_true v) u)) run (visited S.listing n s))
+
+-- ---- declared scalars
+
+-- the value of an initialiser goes to its local, in the local's type
+abbrev pub initialised : Site → ℕ → (source.State → Evaluated Held) → source.State → Evaluated Held
+initialised S local run s = and_then (run s) (λ v t. Gives (in_type (type_at S.function local) v)
+    (with_local local (in_type (type_at S.function local) v) t))
+
+-- where a declared scalar is 0 or null: behind its visit
+abbrev pub zeroed_at : Site → ℕ → ℕ → source.State → source.State
+zeroed_at S n local s = with_local local (zero_of (type_at S.function local)) (visited S.listing n s)
+
+-- a scalar without an initialiser
+abbrev pub PlainScalarsLower : Type 0
+PlainScalarsLower = (S : Site) → IsSite S → (n local : ℕ) (l : Local) → IsOwn S n
+    → slice_get S.function.locals local ≡ Some l → IsScalar l.of
+    → LowersLines S 0 (λ block. Emit (op.Mark n) ∷ zeroing (context_of S) local) (λ s. Gives (tt {0}) (zeroed_at S n local s))
+
+-- one with an initialiser, whose part `a` assigns it
+abbrev pub ScalarsLower : Type 0
+ScalarsLower = (S : Site) → IsSite S → (n local levels : ℕ) (l : Local) (a : Part) (run : source.State → Evaluated Held)
+    → IsOwn S n → slice_get S.function.locals local ≡ Some l → IsScalar l.of → a.levels ≤ levels
+    → Lowers S a (initialised S local run) → Keeping S run → LowersLines S levels
+    (λ block. Emit (op.Mark n) ∷ (zeroing (context_of S) local ++ a.lines block 0 Dropped))
+    (λ s. and_then (run (zeroed_at S n local s))
+    (λ v t. Gives (tt {0}) (with_local local (in_type (type_at S.function local) v) t)))
+
+-- one whose initialiser is the same whatever locals are: the zero before it has no lines
+abbrev pub SteadyScalarsLower : Type 0
+SteadyScalarsLower = (S : Site) → IsSite S → (n local levels : ℕ) (a : Part) (run : source.State → Evaluated Held)
+    → IsOwn S n → a.levels ≤ levels → Lowers S a (initialised S local run) → ((s : source.State) (x : Held)
+    → (v : Held) × (run s ≡ Gives v s) × (run (with_local local x s) ≡ Gives v (with_local local x s)))
+    → LowersLines S levels (λ block. Emit (op.Mark n) ∷ a.lines block 0 Dropped)
+    (λ s. and_then (run (zeroed_at S n local s))
+    (λ v t. Gives (tt {0}) (with_local local (in_type (type_at S.function local) v) t)))
+
+-- ---- declared items in order
+
+abbrev pub NoItemsLower : Type 0
+NoItemsLower = (S : Site) → LowersLines S 0 (λ block. []) (λ s. Gives (tt {0}) s)
+
+abbrev pub ItemsLower : Type 0
+ItemsLower = (S : Site) → (levels more blocks : ℕ) (lines others : ℕ → List Line)
+    (run rest : source.State → Evaluated Unit) → LowersLines S levels lines run → Keeping S run
+    → LowersLines S more others rest
+    → LowersLines S (max levels more) (λ block. lines block ++ others (block + blocks))
+    (λ s. and_then (run s) (λ done t. rest t))

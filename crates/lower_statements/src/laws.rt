@@ -3,8 +3,10 @@
 ghost use Rattle.lower_statements.specs.Laws.{BlocksLower, BreaksLower, ConditionsLower};
 ghost use Rattle.lower_statements.specs.Laws.{ContinuesLower, DeclarationsLower, DosLower};
 ghost use Rattle.lower_statements.specs.Laws.{EmptiesLower, EmptyBlocksLower, EvaluationsLower};
-ghost use Rattle.lower_statements.specs.Laws.{ForsLower, LastsLower, PlainReturnsLower};
-ghost use Rattle.lower_statements.specs.Laws.{ReturnsLower, SequencesLower, WhilesLower};
+ghost use Rattle.lower_statements.specs.Laws.{ForsLower, ItemsLower, LastsLower, NoItemsLower};
+ghost use Rattle.lower_statements.specs.Laws.{PlainReturnsLower, PlainScalarsLower, ReturnsLower};
+ghost use Rattle.lower_statements.specs.Laws.{ScalarsLower, SequencesLower, SteadyScalarsLower};
+ghost use Rattle.lower_statements.specs.Laws.{WhilesLower};
 
 /// The lines of an empty statement do what the source does.
 pub fn empties_lower()
@@ -79,4 +81,29 @@ pub fn fors_lower()
 /// Those of a `do` do so, where those of its body and its test do.
 pub fn dos_lower()
     ensures { DosLower }
+{}
+
+/// Those of a declared scalar without an initialiser do so.
+pub fn plain_scalars_lower()
+    ensures { PlainScalarsLower }
+{}
+
+/// Those of one with an initialiser do so, where those of its assignment do.
+pub fn scalars_lower()
+    ensures { ScalarsLower }
+{}
+
+/// So do those of one whose initialiser reads no local, which have no zero before it.
+pub fn steady_scalars_lower()
+    ensures { SteadyScalarsLower }
+{}
+
+/// No lines do what no items do.
+pub fn no_items_lower()
+    ensures { NoItemsLower }
+{}
+
+/// Those of a declared item before others do so, where those of both do.
+pub fn items_lower()
+    ensures { ItemsLower }
 {}

@@ -6,6 +6,7 @@ mod laws;
 
 pub use laws::{
     blocks_lower, breaks_lower, conditions_lower, continues_lower, declarations_lower, dos_lower,
-    empties_lower, empty_blocks_lower, evaluations_lower, fors_lower, lasts_lower,
-    plain_returns_lower, returns_lower, sequences_lower, whiles_lower,
+    empties_lower, empty_blocks_lower, evaluations_lower, fors_lower, items_lower, lasts_lower,
+    no_items_lower, plain_returns_lower, plain_scalars_lower, returns_lower, scalars_lower,
+    sequences_lower, steady_scalars_lower, whiles_lower,
 };
