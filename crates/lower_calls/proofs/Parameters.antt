@@ -220,7 +220,16 @@ module _ (S : Site) (site : IsSite S) (older : List Function) where
               r)),
         )
 
-    -- of any type, where its words stand behind others
+    -- the words of a parameter stand behind others
+    first-word : (others : List Value) (v : Value) (vs : List Value) → word ≡ length others
+        → g.current.arguments ≡ others ++ (v ∷ vs) → slice_get g.current.arguments word ≡ Some v
+    first-word others v vs w e = rw (w, e) (get-seam others v vs)
+
+    next-word : (others : List Value) (u v : Value) (vs : List Value) → word ≡ length others
+        → g.current.arguments ≡ others ++ (u ∷ v ∷ vs) → slice_get g.current.arguments (suc word) ≡ Some v
+    next-word others u v vs w e = rw (w, e) (get-next others u v vs)
+
+    -- a parameter of any type
     one-taken : (of : ValueType) (x : Held) (others more : List Value) → word ≡ length others → l.of ≡ of
         → IsScalar of → IsOf S.program (S.function ∷ older) of x
         → Stand S before (parameter_of (context_of S) of (typed_spot of first) word)
@@ -231,35 +240,14 @@ module _ (S : Site) (site : IsSite S) (older : List Function) where
     one-taken (Integer t) (HoldsPointer array index) others more w of scalar is stands e = absurd is
     one-taken (Pointer t) (HoldsNumber n) others more w of scalar is stands e = absurd is
     one-taken (Integer Char) (HoldsNumber n) others more w of scalar is stands e =
-        char-taken n of stands (first-word (Number n) more w e)
-      where
-        first-word : (v : Value) (vs : List Value) → word ≡ length others → g.current.arguments ≡ others ++ (v ∷ vs)
-            → slice_get g.current.arguments word ≡ Some v
-        first-word v vs w e = rw (w, e) (get-seam others v vs)
+        char-taken n of stands (first-word others (Number n) more w e)
     one-taken (Integer Short) (HoldsNumber n) others more w of scalar is stands e =
-        short-taken n of stands (first-word (Number n) more w e)
-      where
-        first-word : (v : Value) (vs : List Value) → word ≡ length others → g.current.arguments ≡ others ++ (v ∷ vs)
-            → slice_get g.current.arguments word ≡ Some v
-        first-word v vs w e = rw (w, e) (get-seam others v vs)
+        short-taken n of stands (first-word others (Number n) more w e)
     one-taken (Integer Int) (HoldsNumber n) others more w of scalar is stands e =
-        int-taken n of stands (first-word (Number n) more w e)
-      where
-        first-word : (v : Value) (vs : List Value) → word ≡ length others → g.current.arguments ≡ others ++ (v ∷ vs)
-            → slice_get g.current.arguments word ≡ Some v
-        first-word v vs w e = rw (w, e) (get-seam others v vs)
+        int-taken n of stands (first-word others (Number n) more w e)
     one-taken (Pointer t) (HoldsPointer array index) others more w of scalar is stands e =
-        pointer-taken t array index of is stands
-        (first-word (array_value array) (Number index ∷ more) w e)
-        (next-word (array_value array) (Number index) more w e)
-      where
-        first-word : (v : Value) (vs : List Value) → word ≡ length others → g.current.arguments ≡ others ++ (v ∷ vs)
-            → slice_get g.current.arguments word ≡ Some v
-        first-word v vs w e = rw (w, e) (get-seam others v vs)
-
-        next-word : (u v : Value) (vs : List Value) → word ≡ length others
-            → g.current.arguments ≡ others ++ (u ∷ v ∷ vs) → slice_get g.current.arguments (suc word) ≡ Some v
-        next-word u v vs w e = rw (w, e) (get-next others u v vs)
+        pointer-taken t array index of is stands (first-word others (array_value array) (Number index ∷ more) w e)
+        (next-word others (array_value array) (Number index) more w e)
 
   -- ---- all parameters
 

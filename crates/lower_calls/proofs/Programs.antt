@@ -22,7 +22,7 @@ use Rattle.flow_graph.specs.States as graph
 use Rattle.flow_graph.specs.States.{entry_of, first_state_at}
 use Rattle.lower_lines.specs.Following.{Comes, ComesBack, ComesOf, Site, all_as_passed, behind, context_of, graphs_of}
 use Rattle.lower_lines.specs.Following.{number_returned, parameters_in}
-use Rattle.lower_lines.specs.Laws.{BodiesLower, ExpressionsLower, LinesClose, site_within}
+use Rattle.lower_lines.specs.Laws.{AllLinesClose, BodiesLower, ExpressionsLower, LinesClose, site_within}
 use Rattle.lower_lines.specs.Lines.{Start, Emit}
 use Rattle.lower_lines.specs.Programs.{body_run, lowered, no_exits, parameters_lines}
 use Rattle.lower_lines.specs.Relation.{IsOf, SameWaiting, Shows}
@@ -182,7 +182,7 @@ module _ (p : Program) (listing : Listing) (typed : WellTyped p) (lists : ListsL
       (omega arith) refl (no-words f.parameters f.locals is.1) (no-types (IsOf p []) f.parameters f.locals is.1)
       shown)))
 
-pub programs-lower : ProgramsLowerSo
+pub programs-lower : AllLinesClose → ProgramsLowerSo
 programs-lower all bodies expressions p typed listing lists input turns =
     let m = some-and IsMain (slice_get p.functions p.main) typed.main in
     let close = all p typed in

@@ -1,8 +1,10 @@
-//! Laws of calls: each function's contract is one, and the function does nothing.
+//! Laws of calls: each function's contract is one, and the function does nothing of its own.
 
 ghost use Rattle.lower_calls.specs.Laws.{BodiesLeaveSo, CallsAreFresh, CallsGoBack, ParametersAreTaken};
 ghost use Rattle.lower_calls.specs.Laws.{ProgramsLowerSo, StatementsAreOwn, WordsAreRead};
 ghost use Rattle.lower_lines.specs.Laws.{CallsLower};
+
+use lower_bounds::all_lines_close;
 
 /// A body is left by `break` and `continue` only where they may stand, and returns values in the type of its result
 /// (C99 6.8.6).
@@ -41,8 +43,10 @@ pub fn calls_lower()
     ensures { CallsLower }
 {}
 
-/// Lowering keeps the outcome of every typed program, where lines close, and those of bodies and expressions do what
-/// the source does.
+/// Lowering keeps the outcome of every typed program, where the lines of bodies and expressions do what the source
+/// does.
 pub fn programs_lower()
     ensures { ProgramsLowerSo }
-{}
+{
+    all_lines_close();
+}
