@@ -10,3 +10,4 @@ pub mod Pairs
 pub mod Working
 pub mod Binary
 pub mod Converting
+pub mod Assigning

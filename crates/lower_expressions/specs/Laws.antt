@@ -9,7 +9,7 @@ use Rattle.c_tree.specs.declared.types.IntegerType.TheVariants.{Char, Int}
 use Rattle.c_tree.specs.declared.types.ValueType.TheVariants.{Integer}
 use Rattle.c_tree.specs.Evaluation.{evaluate}
 use Rattle.c_tree.specs.Operators.{shift_count}
-use Rattle.c_tree.specs.Program.{Cast, int, Binary, Constant, Expression, Getchar, Local, LocalPlace, Read, Unary}
+use Rattle.c_tree.specs.Program.{Assign, Cast, int, Binary, Constant, Expression, Getchar, Local, LocalPlace, Read, Unary}
 use Rattle.c_tree.specs.Store.{Evaluated, Gives, Ends, Held, HoldsNumber, HoldsPointer, State}
 use Rattle.lower_lines.specs.Expressions.{part_of}
 use Rattle.lower_lines.specs.Following.{IsSite, Lowers, Site, context_of}
@@ -77,3 +77,11 @@ abbrev pub CastsLower : Type 0
 CastsLower = (S : Site) → IsSite S → (w : IntegerType) (e : Expression) (u : IntegerType)
     → Lowers S (part_of (context_of S) e) (evaluate S.calls e) → (part_of (context_of S) e).of ≡ Integer u
     → Lowers S (part_of (context_of S) (Cast (Integer w) e)) (evaluate S.calls (Cast (Integer w) e))
+
+-- an assignment of a number to a local
+abbrev pub AssignsLower : Type 0
+AssignsLower = (S : Site) → IsSite S → (k : ℕ) (l : Local) (w : IntegerType) → slice_get S.function.locals k ≡ Some l
+    → l.of ≡ Integer w → (e : Expression) (u : IntegerType)
+    → Lowers S (part_of (context_of S) e) (evaluate S.calls e) → (part_of (context_of S) e).of ≡ Integer u
+    → Lowers S (part_of (context_of S) (Assign (Integer w) (LocalPlace k) e))
+    (evaluate S.calls (Assign (Integer w) (LocalPlace k) e))

@@ -1,5 +1,6 @@
 //! Laws of the lines of expressions: each function's contract is one, and the function does nothing.
 
+ghost use Rattle.lower_expressions.specs.Laws.{AssignsLower};
 ghost use Rattle.lower_expressions.specs.Laws.{CastsLower};
 ghost use Rattle.lower_expressions.specs.Laws.{BinariesLower, CharsLower, ComplementsLower, ConstantsLower};
 ghost use Rattle.lower_expressions.specs.Laws.{GetcharLowers, LocalsLower, MinusesLower};
@@ -42,4 +43,9 @@ pub fn binaries_lower()
 /// The lines of a cast to an integer type do what the source does, where those of its operand do.
 pub fn casts_lower()
     ensures { CastsLower }
+{}
+
+/// The lines of an assignment to a local of an integer type do what the source does.
+pub fn assigns_lower()
+    ensures { AssignsLower }
 {}

@@ -4,7 +4,7 @@
 
 mod laws;
 
-pub use laws::{
+pub use laws::{assigns_lower, 
     binaries_lower, casts_lower, chars_lower, complements_lower, constants_lower, getchar_lowers,
     locals_lower, minuses_lower,
 };
