@@ -81,7 +81,8 @@ half-of : (site : Site) (frame : ℕ) (t r : Reg32) (x : ℕ) (s : State) → Fr
 half-of site frame t r x s framed works is =
     let v : ℕ = extended16 (word_of r s % 2 ^ 16) in (
       with_result t v s.flags s,
-      result-goes site frame (insn.MovSx16 t (rm.Reg r)) t v s.flags s framed works (half-makes site t r s framed.sound),
+      result-goes site frame (insn.MovSx16 t (rm.Reg r)) t v s.flags s framed works
+          (half-makes site t r s framed.sound),
       word-same site.text site.low site.high t v s framed.sound (extended-small (word_of r s % 2 ^ 16) (omega arith))
           ∙ ap (λ (k : ℕ). extended16 (k % 2 ^ 16)) is,
     )
@@ -107,6 +108,7 @@ half-puts site frame p q x s framed room to holds placed contains fits =
     let t : Reg32 = target_of p in
     let works = target-works frame p to in
     let first = half-goes site frame t q x s framed works holds placed contains fits in
-    let last = then-written (OutsideWord t) (λ c. ⊤) site frame (extend_half t q) p t (extended16 (x % 2 ^ 16)) s first.0
+    let last = then-written (OutsideWord t) (λ c. ⊤) site frame (extend_half t q) p t (extended16 (x % 2 ^ 16)) s
+    first.0
     first.1 (other-cells Ebp t works.1) (λ c h g. target-within p c h) room to first.2 in
     (last.0, puts-plain site frame (halving p q) p (extended16 (x % 2 ^ 16)) s last.0 last.1)

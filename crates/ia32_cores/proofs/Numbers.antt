@@ -1,4 +1,4 @@
--- What SHL and MOVSX make of words.
+-- What CMP, SHL and MOVSX make of words.
 use Rattle.std.proofs.Common.{◌≡◌, ℕ, suc, ◌-◌, ◌*◌, ◌%◌, ◌^◌, ◌<◌, ℤ, pos, negsuc, ◌*ℤ◌, refl, sym, ap, ◌∙◌, arith}
 use Rattle.std.specs.Prelude.{FitsSigned}
 use Rattle.std.specs.Int.{w8, w16, w32, cast_signed, cast_unsigned, int_wrap}
@@ -6,7 +6,10 @@ use Rattle.std.proofs.Math.Nat.{mod-eq_of_lt, mod-lt}
 use Rattle.std.proofs.lemmas.Nat.{pow_below}
 use Rattle.std.proofs.lemmas.Int.{ints, to_z-of_z, of_z-to_z, int_wrap-mul_right, wrapping_mul-bits}
 use Rattle.flow_graph.specs.Meaning.{shift_count}
-use Rattle.ia32_cores.specs.Words.{LeftShiftIs, LowHalfIs}
+use Rattle.std.proofs.Common.{Some}
+use Rattle.std.proofs.lemmas.Bool.Decides.{nat_tests}
+use Rattle.flow_graph.specs.declared.op.Comparison.TheVariants.{Eq, Ne, Lt, Le, Gt, Ge}
+use Rattle.ia32_cores.specs.Words.{ComparisonDecides, LeftShiftIs, LowHalfIs}
 
 -- ---- 16 bits
 
@@ -45,3 +48,13 @@ pub left-shift-is : LeftShiftIs
 left-shift-is x n f g =
     shifted-left x (2 ^ shift_count n) f (pow_below (shift_count n) 32 (mod-lt (cast_unsigned w32 n) (omega arith)))
     ∙ ap (λ (k : ℕ). cast_unsigned w32 x * 2 ^ k % 2 ^ 32) (same-count n g)
+
+-- ---- comparisons
+
+pub comparison-decides : ComparisonDecides
+comparison-decides Eq m n h k = ap Some (grind (arith, ints, nat_tests))
+comparison-decides Ne m n h k = ap Some (grind (arith, ints, nat_tests))
+comparison-decides Lt m n h k = ap Some (grind (arith, ints, nat_tests))
+comparison-decides Le m n h k = ap Some (grind (arith, ints, nat_tests))
+comparison-decides Gt m n h k = ap Some (grind (arith, ints, nat_tests))
+comparison-decides Ge m n h k = ap Some (grind (arith, ints, nat_tests))

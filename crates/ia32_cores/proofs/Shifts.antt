@@ -1,5 +1,6 @@
 -- Rows of shifts.
-use Rattle.std.proofs.Common.{◌≡◌, ◌≢◌, ◌⊎◌, ℕ, ◌+◌, ◌-◌, ◌*◌, ◌%◌, ◌^◌, ◌<◌, ◌≤◌, Bool, true, false, List, [], ◌∷◌, ◌++◌}
+use Rattle.std.proofs.Common.{◌≡◌, ◌≢◌, ◌⊎◌, ℕ, ◌+◌, ◌-◌, ◌*◌, ◌%◌, ◌^◌, ◌<◌, ◌≤◌, Bool, true, false, List, []}
+use Rattle.std.proofs.Common.{◌∷◌, ◌++◌}
 use Rattle.std.proofs.Common.{None, refl, sym, ap, subst, ◌∙◌, inl, inr, arith}
 use Rattle.std.specs.Prelude.{◌==◌, ◌&&◌, not, ⊤, nat_lt, slice_index, if◌then◌else◌}
 use Rattle.std.proofs.lemmas.List.{get_or-set_same}
@@ -28,7 +29,8 @@ use Rattle.ia32_rows.specs.Rows.{is_in, read, write}
 use Rattle.ia32_effects.specs.Effects.{Keeps, Leads, Makes, OutsideWord}
 use Rattle.ia32_effects.specs.Contains.{Contains, HoldsWord, IsPlaceIn, Untouched}
 use Rattle.ia32_effects.specs.Laws.{Gives, IsWorking}
-use Rattle.ia32_effects.proofs.Kept.{HasCells, byte-keeps, contains-kept, framed-kept, keeps-same, other-cells, word-kept}
+use Rattle.ia32_effects.proofs.Kept.{HasCells, byte-keeps, contains-kept, framed-kept, keeps-same, other-cells}
+use Rattle.ia32_effects.proofs.Kept.{word-kept}
 use Rattle.ia32_effects.proofs.Instructions.{byte-makes, load_byte-makes, result-makes}
 use Rattle.ia32_effects.proofs.Moves.{alike, byte-below, general-works, read-gives, unlike}
 use Rattle.ia32_effects.proofs.Sums.{esi-works, nothing-read}
@@ -162,7 +164,8 @@ shift-in site frame how t p q c x b s framed room works other within safe to a a
     let v : ℕ = shift_value how (word_of t n) (byte_of Cl n) in
     let same : v ≡ shift_value how x b = ap (λ (k : ℕ). shift_value how k (byte_of Cl n)) is
     ∙ ap (shift_value how x) second.2 in
-    let third = result-goes site frame i t v None n second.1.framed works (shift-makes site frame how t n second.1.framed)
+    let third = result-goes site frame i t v None n second.1.framed works
+    (shift-makes site frame how t n second.1.framed)
     in
     let u : State = with_result t v None n in
     let value : word_of t u ≡ shift_value how x b = word-same site.text site.low site.high t v n

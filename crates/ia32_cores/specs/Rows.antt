@@ -1,5 +1,5 @@
--- Rows of the ops on halves and bytes of words, of shifts, divisions and comparisons: each in the result's register where
--- it may, with operands where they stand.
+-- Rows of the ops on halves and bytes of words, of shifts, divisions and comparisons: each in the result's register
+-- where it may, with operands where they stand.
 use Rattle.std.specs.Prelude.{◌≢◌, ◌==◌, ◌||◌, ℕ, List, [], ◌∷◌, ◌++◌, if◌then◌else◌}
 use Rattle.ia32_regs.specs.declared.names.Reg32.{Reg32}
 use Rattle.ia32_regs.specs.declared.names.Reg32.TheVariants.{Eax, Ecx, Edx, Ebx, Esp, Ebp, Esi, Edi}
@@ -63,8 +63,8 @@ into_count (InWord r) = plain (insn.Mov8 (rm8.Reg Cl) (low_byte r)) ∷ []
 into_count (InByte r) = if number8 r == number8 Cl then [] else plain (insn.Mov8 (rm8.Reg Cl) r) ∷ []
 into_count (InSlot k) = plain (insn.Mov8Load Cl (below k)) ∷ []
 
--- The register that is shifted: the result's own, unless the count stands in it and the first operand would be read over
--- it, or it is ECX; else ESI.
+-- The register that is shifted: the result's own, unless the count stands in it and the first operand would be read
+-- over it, or it is ECX; else ESI.
 abbrev pub shifted_in : Place → Place → Place → Reg32
 shifted_in (InWord r) first count = if number32 r == number32 Ecx then Esi else working (InWord r) first count
 shifted_in (InByte r) first count = Esi

@@ -1,5 +1,6 @@
-ghost use Rattle.ia32_cores.specs.Words.{ComparisonDecides, LeftShiftIs, RightShiftIs, DivisionTraps, DivisionIs, LowHalfIs};
-ghost use Rattle.ia32_cores.specs.Laws.{LowPuts, HalfPuts, ShiftPuts};
+ghost use Rattle.ia32_cores.specs.Words.{ComparisonDecides, LeftShiftIs, RightShiftIs, LowHalfIs};
+ghost use Rattle.ia32_cores.specs.Words.{DivisionTraps, DivisionIs};
+ghost use Rattle.ia32_cores.specs.Laws.{LowPuts, HalfPuts, ShiftPuts, PlacesCompare, SetPuts, BranchGoes};
 
 /// What instructions make of the words of numbers is what the ops make of the numbers: the conditions of comparisons
 /// after CMP, SHL and SAR by a byte, CDQ with IDIV, and MOVSX of 16 bits.
@@ -17,4 +18,12 @@ pub fn rows_of_words()
     ensures low { LowPuts }
     ensures half { HalfPuts }
     ensures shift { ShiftPuts }
+{}
+
+/// Two words compare where they stand: 1 or 0 comes to a place by how the signed numbers in them compare, and a branch
+/// leads to what stands behind the label that they choose.
+pub fn rows_compare_words()
+    ensures flags { PlacesCompare }
+    ensures set { SetPuts }
+    ensures branch { BranchGoes }
 {}

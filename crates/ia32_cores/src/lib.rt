@@ -1,8 +1,8 @@
-//! Rows of the ops on halves and bytes of words, of shifts, divisions and comparisons, over places of any kind, and their
-//! laws (`specs/Rows.antt`, `specs/Laws.antt`); and what instructions make of words, as the ops of a graph mean it of
-//! numbers (`specs/Words.antt`).
+//! Rows of the ops on halves and bytes of words, of shifts, divisions and comparisons, over places of any kind, and
+//! their laws (`specs/Rows.antt`, `specs/Laws.antt`); and what instructions make of words, as the ops of a graph mean
+//! it of numbers (`specs/Words.antt`).
 #![tactic(auto)]
 
 mod laws;
 
-pub use laws::{rows_of_words, words_are_numbers};
+pub use laws::{rows_compare_words, rows_of_words, words_are_numbers};
