@@ -11,3 +11,4 @@ pub mod Working
 pub mod Binary
 pub mod Converting
 pub mod Assigning
+pub mod Outside

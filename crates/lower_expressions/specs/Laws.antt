@@ -9,7 +9,7 @@ use Rattle.c_tree.specs.declared.types.IntegerType.TheVariants.{Char, Int}
 use Rattle.c_tree.specs.declared.types.ValueType.TheVariants.{Integer}
 use Rattle.c_tree.specs.Evaluation.{evaluate}
 use Rattle.c_tree.specs.Operators.{shift_count}
-use Rattle.c_tree.specs.Program.{Assign, Cast, int, Binary, Constant, Expression, Getchar, Local, LocalPlace, Read, Unary}
+use Rattle.c_tree.specs.Program.{Comma, Exit, Putchar, Assign, Cast, int, Binary, Constant, Expression, Getchar, Local, LocalPlace, Read, Unary}
 use Rattle.c_tree.specs.Store.{Evaluated, Gives, Ends, Held, HoldsNumber, HoldsPointer, State}
 use Rattle.lower_lines.specs.Expressions.{part_of}
 use Rattle.lower_lines.specs.Following.{IsSite, Lowers, Site, context_of}
@@ -85,3 +85,21 @@ AssignsLower = (S : Site) → IsSite S → (k : ℕ) (l : Local) (w : IntegerTyp
     → Lowers S (part_of (context_of S) e) (evaluate S.calls e) → (part_of (context_of S) e).of ≡ Integer u
     → Lowers S (part_of (context_of S) (Assign (Integer w) (LocalPlace k) e))
     (evaluate S.calls (Assign (Integer w) (LocalPlace k) e))
+
+-- `putchar`
+abbrev pub PutcharsLower : Type 0
+PutcharsLower = (S : Site) → IsSite S → (e : Expression) (u : IntegerType)
+    → Lowers S (part_of (context_of S) e) (evaluate S.calls e) → (part_of (context_of S) e).of ≡ Integer u
+    → Lowers S (part_of (context_of S) (Putchar e)) (evaluate S.calls (Putchar e))
+
+-- `exit`
+abbrev pub ExitsLower : Type 0
+ExitsLower = (S : Site) → IsSite S → (e : Expression) (u : IntegerType)
+    → Lowers S (part_of (context_of S) e) (evaluate S.calls e) → (part_of (context_of S) e).of ≡ Integer u
+    → Lowers S (part_of (context_of S) (Exit e)) (evaluate S.calls (Exit e))
+
+-- the comma, of expressions of any type
+abbrev pub CommasLower : Type 0
+CommasLower = (S : Site) → IsSite S → (a b : Expression) → Lowers S (part_of (context_of S) a) (evaluate S.calls a)
+    → Lowers S (part_of (context_of S) b) (evaluate S.calls b)
+    → Lowers S (part_of (context_of S) (Comma a b)) (evaluate S.calls (Comma a b))

@@ -1,5 +1,8 @@
 //! Laws of the lines of expressions: each function's contract is one, and the function does nothing.
 
+ghost use Rattle.lower_expressions.specs.Laws.{CommasLower};
+ghost use Rattle.lower_expressions.specs.Laws.{ExitsLower};
+ghost use Rattle.lower_expressions.specs.Laws.{PutcharsLower};
 ghost use Rattle.lower_expressions.specs.Laws.{AssignsLower};
 ghost use Rattle.lower_expressions.specs.Laws.{CastsLower};
 ghost use Rattle.lower_expressions.specs.Laws.{BinariesLower, CharsLower, ComplementsLower, ConstantsLower};
@@ -48,4 +51,19 @@ pub fn casts_lower()
 /// The lines of an assignment to a local of an integer type do what the source does.
 pub fn assigns_lower()
     ensures { AssignsLower }
+{}
+
+/// The lines of `putchar` do what the source does, where those of its argument do.
+pub fn putchars_lower()
+    ensures { PutcharsLower }
+{}
+
+/// The lines of `exit` do what the source does, where those of its argument do.
+pub fn exits_lower()
+    ensures { ExitsLower }
+{}
+
+/// The lines of a comma do what the source does, where those of its operands do.
+pub fn commas_lower()
+    ensures { CommasLower }
 {}
