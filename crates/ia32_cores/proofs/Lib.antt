@@ -5,3 +5,4 @@ pub mod Halves
 pub mod Flags
 pub mod Branches
 pub mod Conditions
+pub mod Dividing

@@ -1,6 +1,7 @@
 ghost use Rattle.ia32_cores.specs.Words.{ComparisonDecides, LeftShiftIs, RightShiftIs, LowHalfIs};
 ghost use Rattle.ia32_cores.specs.Words.{DivisionTraps, DivisionIs};
 ghost use Rattle.ia32_cores.specs.Laws.{LowPuts, HalfPuts, ShiftPuts, PlacesCompare, SetPuts, BranchGoes};
+ghost use Rattle.ia32_cores.specs.Laws.{DivisionStops, QuotientPuts, RemainderPuts};
 
 /// What instructions make of the words of numbers is what the ops make of the numbers: the conditions of comparisons
 /// after CMP, SHL and SAR by a byte, CDQ with IDIV, and MOVSX of 16 bits.
@@ -26,4 +27,12 @@ pub fn rows_compare_words()
     ensures flags { PlacesCompare }
     ensures set { SetPuts }
     ensures branch { BranchGoes }
+{}
+
+/// A division of the words of two places comes to IDIV and traps there where they have no quotient; else the quotient or
+/// the remainder comes to a third place.
+pub fn rows_divide_words()
+    ensures stops { DivisionStops }
+    ensures quotient { QuotientPuts }
+    ensures remainder { RemainderPuts }
 {}
