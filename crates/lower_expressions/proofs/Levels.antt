@@ -22,10 +22,10 @@ use Rattle.lower_lines.specs.Parts.{Part, as_pointer, in_type}
 use Rattle.lower_lines.specs.Variables.{Context}
 
 -- the greater of two is one at least where one of them is
-max-first : (a b : ℕ) → 1 ≤ a → 1 ≤ max a b
+pub max-first : (a b : ℕ) → 1 ≤ a → 1 ≤ max a b
 max-first a b h = let m = le-max_left a b in omega (arith, h, m)
 
-max-behind : (a b : ℕ) → 1 ≤ max a (suc b)
+pub max-behind : (a b : ℕ) → 1 ≤ max a (suc b)
 max-behind a b = let m = le-max_right a (suc b) in omega (arith, m)
 
 -- a place whose address and its value take one level at least

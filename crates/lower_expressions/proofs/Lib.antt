@@ -12,3 +12,4 @@ pub mod Binary
 pub mod Converting
 pub mod Assigning
 pub mod Outside
+pub mod Stepping

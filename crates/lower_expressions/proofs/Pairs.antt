@@ -100,7 +100,7 @@ any-operand S older a run u stays lowers of block level before s g stands room b
 -- ---- the first of two stays
 
 -- its own temporaries are below the second one's level
-own-stays : (S : Site) (level : ℕ) (h i : graph.State) (m : ℤ) → Keeps (local_variables S.function) (suc level) h i
+pub own-stays : (S : Site) (level : ℕ) (h i : graph.State) (m : ℤ) → Keeps (local_variables S.function) (suc level) h i
     → number_at h (own (context_of S) level).number ≡ Some m
     → number_at i (own (context_of S) level).number ≡ Some m
 own-stays S level h i m keeps at =

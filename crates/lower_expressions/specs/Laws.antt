@@ -3,13 +3,14 @@ use Rattle.std.specs.Int.{w8, int_wrap}
 use Rattle.std.specs.Prelude.{◌≡◌, ◌≢◌, ℕ, ℤ, slice_get, Some}
 use Rattle.c_tree.specs.declared.expression.BinaryOp.{BinaryOp}
 use Rattle.c_tree.specs.declared.expression.BinaryOp.TheVariants.{ShiftLeft, ShiftRight}
+use Rattle.c_tree.specs.declared.expression.StepOp.{StepOp}
 use Rattle.c_tree.specs.declared.expression.UnaryOp.TheVariants.{Complement, Minus}
 use Rattle.c_tree.specs.declared.types.IntegerType.{IntegerType}
 use Rattle.c_tree.specs.declared.types.IntegerType.TheVariants.{Char, Int}
 use Rattle.c_tree.specs.declared.types.ValueType.TheVariants.{Integer}
 use Rattle.c_tree.specs.Evaluation.{evaluate}
 use Rattle.c_tree.specs.Operators.{shift_count}
-use Rattle.c_tree.specs.Program.{Comma, Exit, Putchar, Assign, Cast, int, Binary, Constant, Expression, Getchar, Local, LocalPlace, Read, Unary}
+use Rattle.c_tree.specs.Program.{Step, Update, Comma, Exit, Putchar, Assign, Cast, int, Binary, Constant, Expression, Getchar, Local, LocalPlace, Read, Unary}
 use Rattle.c_tree.specs.Store.{Evaluated, Gives, Ends, Held, HoldsNumber, HoldsPointer, State}
 use Rattle.lower_lines.specs.Expressions.{part_of}
 use Rattle.lower_lines.specs.Following.{IsSite, Lowers, Site, context_of}
@@ -103,3 +104,19 @@ abbrev pub CommasLower : Type 0
 CommasLower = (S : Site) → IsSite S → (a b : Expression) → Lowers S (part_of (context_of S) a) (evaluate S.calls a)
     → Lowers S (part_of (context_of S) b) (evaluate S.calls b)
     → Lowers S (part_of (context_of S) (Comma a b)) (evaluate S.calls (Comma a b))
+
+-- an assignment with an operator to a local
+abbrev pub UpdatesLower : Type 0
+UpdatesLower = (S : Site) → IsSite S → (operator : BinaryOp) (k : ℕ) (l : Local) (w : IntegerType)
+    → slice_get S.function.locals k ≡ Some l → l.of ≡ Integer w → (e : Expression) (u : IntegerType)
+    → Lowers S (part_of (context_of S) e) (evaluate S.calls e) → (part_of (context_of S) e).of ≡ Integer u
+    → (IsShift operator → (s : State) → GivesCount (evaluate S.calls e s))
+    → Lowers S (part_of (context_of S) (Update (Integer w) operator (LocalPlace k) e))
+    (evaluate S.calls (Update (Integer w) operator (LocalPlace k) e))
+
+-- `++` and `--` of a local
+abbrev pub StepsLower : Type 0
+StepsLower = (S : Site) → IsSite S → (operator : StepOp) (k : ℕ) (l : Local) (w : IntegerType)
+    → slice_get S.function.locals k ≡ Some l → l.of ≡ Integer w
+    → Lowers S (part_of (context_of S) (Step (Integer w) operator (LocalPlace k)))
+    (evaluate S.calls (Step (Integer w) operator (LocalPlace k)))

@@ -1,5 +1,7 @@
 //! Laws of the lines of expressions: each function's contract is one, and the function does nothing.
 
+ghost use Rattle.lower_expressions.specs.Laws.{StepsLower};
+ghost use Rattle.lower_expressions.specs.Laws.{UpdatesLower};
 ghost use Rattle.lower_expressions.specs.Laws.{CommasLower};
 ghost use Rattle.lower_expressions.specs.Laws.{ExitsLower};
 ghost use Rattle.lower_expressions.specs.Laws.{PutcharsLower};
@@ -66,4 +68,14 @@ pub fn exits_lower()
 /// The lines of a comma do what the source does, where those of its operands do.
 pub fn commas_lower()
     ensures { CommasLower }
+{}
+
+/// The lines of an assignment with an operator to a local of an integer type do what the source does.
+pub fn updates_lower()
+    ensures { UpdatesLower }
+{}
+
+/// The lines of `++` and `--` of a local of an integer type do what the source does.
+pub fn steps_lower()
+    ensures { StepsLower }
 {}
