@@ -7,3 +7,5 @@ pub mod Conditions
 pub mod Loops
 pub mod Looping
 pub mod Declared
+pub mod Comparing
+pub mod Switching

@@ -18,6 +18,11 @@ use Rattle.c_tree.specs.WellTyped.{IsScalar}
 use Rattle.c_tree.specs.Program.{Local}
 use Rattle.std.specs.Prelude.{slice_get, max, ◌+◌}
 use Rattle.lower_lines.specs.Statements.{zeroing}
+use Rattle.c_tree.specs.declared.statement.Label.{Label}
+use Rattle.c_tree.specs.Evaluation.{after_switch, none_or_from, switched}
+use Rattle.c_tree.specs.WellTyped.{AreLabels}
+use Rattle.std.specs.Prelude.{drop, length, ◌<◌}
+use Rattle.lower_lines.specs.Statements.{switch_run}
 use Rattle.c_tree.specs.Store as source
 use Rattle.c_tree.specs.Store.{Evaluated, Gives, Held, and_then, visited}
 use Rattle.flow_graph.specs.declared.op.Op.TheVariants as op
@@ -197,3 +202,17 @@ ItemsLower = (S : Site) → (levels more blocks : ℕ) (lines others : ℕ → L
     → LowersLines S more others rest
     → LowersLines S (max levels more) (λ block. lines block ++ others (block + blocks))
     (λ s. and_then (run s) (λ done t. rest t))
+
+-- ---- `switch`
+
+-- The value is a number, and whichever of the statements it goes to, they do from there what the source does.
+abbrev pub SwitchesLower : Type 0
+SwitchesLower = (S : Site) → IsSite S → (breaks continues : Bool) (n : ℕ) (u : IntegerType) (e : Part)
+    (labels : List Label) (rs : List Run) (run : source.State → Evaluated Held) (from : ℕ → Runs) → IsOwn S n
+    → e.of ≡ Integer u → Lowers S e run → Keeping S run → AreLabels labels (length rs)
+    → ((labelled : Labelled) (place : ℕ) → place < length rs
+    → LowersFrom S true continues labelled place (drop place rs) (from place))
+    → ((place : ℕ) → Keeping S (from place))
+    → LowersRun S breaks continues (switch_run (context_of S) n e labels rs)
+    (λ s. and_then (run (visited S.listing n s))
+    (λ v t. and_then (none_or_from (switched labels v) from t) after_switch))

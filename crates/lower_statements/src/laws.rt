@@ -6,7 +6,7 @@ ghost use Rattle.lower_statements.specs.Laws.{EmptiesLower, EmptyBlocksLower, Ev
 ghost use Rattle.lower_statements.specs.Laws.{ForsLower, ItemsLower, LastsLower, NoItemsLower};
 ghost use Rattle.lower_statements.specs.Laws.{PlainReturnsLower, PlainScalarsLower, ReturnsLower};
 ghost use Rattle.lower_statements.specs.Laws.{ScalarsLower, SequencesLower, SteadyScalarsLower};
-ghost use Rattle.lower_statements.specs.Laws.{WhilesLower};
+ghost use Rattle.lower_statements.specs.Laws.{SwitchesLower, WhilesLower};
 
 /// The lines of an empty statement do what the source does.
 pub fn empties_lower()
@@ -106,4 +106,9 @@ pub fn no_items_lower()
 /// Those of a declared item before others do so, where those of both do.
 pub fn items_lower()
     ensures { ItemsLower }
+{}
+
+/// Those of a `switch` do so, where those of its value and of its statements do.
+pub fn switches_lower()
+    ensures { SwitchesLower }
 {}
