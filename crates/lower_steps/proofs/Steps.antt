@@ -1,7 +1,7 @@
 -- What each kind of op does behind lines: in continuation style, from what comes behind the op to what comes before it.
 use Rattle.std.proofs.Common.{◌≡◌, ℕ, suc, ◌+◌, ◌++◌, Bool, true, false, ℤ, pos, List, [], ◌∷◌}
 use Rattle.std.proofs.Common.{Option, Some, None, refl, sym, ap, ◌∙◌, subst}
-use Rattle.std.specs.Prelude.{slice_get, option_map, if◌then◌else◌, negsuc, ◌==◌}
+use Rattle.std.specs.Prelude.{slice_get, option_map, if◌then◌else◌, negsuc, ◌==◌, length, replicate}
 use Rattle.pcc_base.specs.declared.run.Width.{Width}
 use Rattle.pcc_base.specs.declared.run.Width.TheVariants.{Two}
 use Rattle.pcc_base.specs.declared.run.Trap.TheVariants.{Divide, Check}
@@ -17,7 +17,7 @@ use Rattle.flow_graph.specs.Graphs.{Flow, is_end}
 use Rattle.flow_graph.specs.Kinds.{is_turn, marked}
 use Rattle.flow_graph.specs.Meaning.{Moved, Moves, Halts, Stuck, accessed, act, checked, comparison, given}
 use Rattle.flow_graph.specs.Meaning.{into_block, low_byte, no_quotient, onward, one_number, puts, sets, stored}
-use Rattle.flow_graph.specs.Meaning.{divided, gets, loads, result_to, returns_to, stores}
+use Rattle.flow_graph.specs.Meaning.{divided, gets, loads, puts_scalar, result_to, returns_to, scalar_of, stores}
 use Rattle.flow_graph.specs.Meaning.{two_numbers}
 use Rattle.flow_graph.specs.Running.{outcome_at, outcome_from, run_within, takes_turn, visits_at, visits_of}
 use Rattle.flow_graph.specs.Running.{with_turn}
@@ -449,6 +449,49 @@ module _ (S : Site) (site : IsSite S) (before : List Line) (g : graph.State) (ow
       end-step (op.Store bits p i a) (Trapped Check) turns stands refl refl
       (found p i Null index (λ b j. given (number_at g a) (stores (graphs_of S) (behind before g) bits b j)) at_p at_i
       ∙ ap (λ (m : Option ℤ). given m (stores (graphs_of S) (behind before g) bits Null index)) at_a)
+
+  -- ---- static objects that are no arrays, and arrays that become zero
+
+  scalars : (bits : Bits) (k : ℕ) (go : List ℤ → ℤ → Moved) (elements : List ℤ) (n : ℤ)
+      → ((to : List ℤ → Moved) → accessed (graphs_of S) (behind before g) bits (Static k) to ≡ to elements)
+      → slice_get elements 0 ≡ Some n → scalar_of (graphs_of S) (behind before g) bits k go ≡ go elements n
+  scalars bits k go elements n reaches there = reaches (λ numbers. given (slice_get numbers 0) (go numbers))
+      ∙ ap (λ (m : Option ℤ). given m (go elements)) there
+
+  pub get-step : (bits : Bits) (d k turns : ℕ) (n : ℤ) (elements : List ℤ) (o : Outcome)
+      → Stand S before (Emit (op.Get bits d k) ∷ [])
+      → ((go : List ℤ → Moved) → accessed (graphs_of S) (behind before g) bits (Static k) go ≡ go elements)
+      → slice_get elements 0 ≡ Some n → Comes S turns (past (op.Get bits d k) (with_value d (Number n) g)) o
+      → Comes S turns (behind before g) o
+  get-step bits d k turns n elements o stands reaches there r =
+      sets-step (op.Get bits d k) d (Number n) turns o stands refl refl refl
+      (scalars bits k (λ numbers m. sets (graphs_of S) (behind before g) d (Number m)) elements n reaches there) r
+
+  pub put-step : (bits : Bits) (k a turns : ℕ) (n old : ℤ) (elements : List ℤ) (o : Outcome)
+      → Stand S before (Emit (op.Put bits k a) ∷ []) → number_at g a ≡ Some n
+      → ((go : List ℤ → Moved) → accessed (graphs_of S) (behind before g) bits (Static k) go ≡ go elements)
+      → slice_get elements 0 ≡ Some old → Comes S turns
+      (past (op.Put bits k a) (with_array (Static k) (with_element elements (pos 0) (stored bits n)) g)) o
+      → Comes S turns (behind before g) o
+  put-step bits k a turns n old elements o stands at_a reaches there r =
+      change-step (op.Put bits k a) (with_array (Static k) (with_element elements (pos 0) (stored bits n)) g) turns o
+      stands refl refl refl refl
+      (ap (λ (m : Option ℤ). given m (puts_scalar (graphs_of S) (behind before g) bits k)) at_a
+      ∙ scalars bits k (λ numbers m. onward (graphs_of S)
+      (with_array (Static k) (with_element numbers (pos 0) (stored bits n)) (behind before g))) elements old reaches
+      there) r
+
+  pub clear-step : (k turns : ℕ) (elements : List ℤ) (o : Outcome) → Stand S before (Emit (op.Clear k) ∷ [])
+      → slice_get g.current.arrays k ≡ Some elements → Comes S turns (past (op.Clear k)
+      (with_array (InFrame k (depth_of g)) (replicate (length elements) (pos 0)) g)) o
+      → Comes S turns (behind before g) o
+  clear-step k turns elements o stands there r =
+      let zeros = replicate (length elements) (pos 0) in
+      change-step (op.Clear k) (with_array (InFrame k (depth_of g)) zeros g) turns o stands refl refl refl
+      (function-kept (InFrame k (depth_of g)) zeros)
+      (ap (λ (e : Option (List ℤ)). given e (λ es. onward (graphs_of S)
+      (with_array (InFrame k (depth_of g)) (replicate (length es) (pos 0)) (behind before g)))) there
+      ∙ ap (onward (graphs_of S)) (array-behind (InFrame k (depth_of g)) zeros)) r
 
   -- ---- the input
 
