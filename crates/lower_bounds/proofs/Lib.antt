@@ -9,3 +9,9 @@ pub mod Statements
 pub mod Switches
 pub mod Bodies
 pub mod Closing
+pub mod Weights
+pub mod Weighed
+pub mod Burdens
+pub mod Weighings
+pub mod Shapes
+pub mod Marks

@@ -1,6 +1,6 @@
 //! Laws of lines and of their graphs: each function's contract is one, and the function does nothing.
 
-ghost use Rattle.lower_lines.specs.Laws.{AllLinesClose, ObjectsHold};
+ghost use Rattle.lower_lines.specs.Laws.{AllLinesClose, MarksHold, ObjectsHold, ShapesHold};
 
 /// The static objects of the graphs are the program's, with their first contents.
 pub fn objects_hold()
@@ -11,4 +11,15 @@ pub fn objects_hold()
 /// of temporaries that they use are there.
 pub fn all_lines_close()
     ensures { AllLinesClose }
+{}
+
+/// The first variables of the graphs of a typed program are those of the locals, their frame arrays are the functions',
+/// every block is ended, and the words of frames and of calls are within the frame bound.
+pub fn shapes_hold()
+    ensures { ShapesHold }
+{}
+
+/// The marks of the graphs of a typed program are its statements, once each.
+pub fn marks_hold()
+    ensures { MarksHold }
 {}

@@ -4,4 +4,4 @@
 
 mod laws;
 
-pub use laws::{all_lines_close, objects_hold};
+pub use laws::{all_lines_close, marks_hold, objects_hold, shapes_hold};
