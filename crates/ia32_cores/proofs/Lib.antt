@@ -6,3 +6,5 @@ pub mod Flags
 pub mod Branches
 pub mod Conditions
 pub mod Dividing
+pub mod Changing
+pub mod Setting

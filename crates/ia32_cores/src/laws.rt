@@ -2,6 +2,7 @@ ghost use Rattle.ia32_cores.specs.Words.{ComparisonDecides, LeftShiftIs, RightSh
 ghost use Rattle.ia32_cores.specs.Words.{DivisionTraps, DivisionIs};
 ghost use Rattle.ia32_cores.specs.Laws.{LowPuts, HalfPuts, ShiftPuts, PlacesCompare, SetPuts, BranchGoes};
 ghost use Rattle.ia32_cores.specs.Laws.{DivisionStops, QuotientPuts, RemainderPuts};
+ghost use Rattle.ia32_cores.specs.Ops.{LowFollows, HalfFollows, NumbersSetFollow};
 
 /// What instructions make of the words of numbers is what the ops make of the numbers: the conditions of comparisons
 /// after CMP, SHL and SAR by a byte, CDQ with IDIV, and MOVSX of 16 bits.
@@ -29,10 +30,18 @@ pub fn rows_compare_words()
     ensures branch { BranchGoes }
 {}
 
-/// A division of the words of two places comes to IDIV and traps there where they have no quotient; else the quotient or
-/// the remainder comes to a third place.
+/// A division of the words of two places comes to IDIV and traps there where they have no quotient; else the quotient
+/// or the remainder comes to a third place.
 pub fn rows_divide_words()
     ensures stops { DivisionStops }
     ensures quotient { QuotientPuts }
     ensures remainder { RemainderPuts }
+{}
+
+/// Where a state of the machine shows one of the program at one of these ops, the machine follows the op's step through
+/// its row.
+pub fn rows_follow_steps()
+    ensures low { LowFollows }
+    ensures half { HalfFollows }
+    ensures set { NumbersSetFollow }
 {}

@@ -5,4 +5,6 @@
 
 mod laws;
 
-pub use laws::{rows_compare_words, rows_divide_words, rows_of_words, words_are_numbers};
+pub use laws::{
+    rows_compare_words, rows_divide_words, rows_follow_steps, rows_of_words, words_are_numbers,
+};

@@ -1,0 +1,59 @@
+-- That the machine follows single ops through these rows, over any placement that supports the graph.
+use Rattle.std.specs.Prelude.{◌≡◌, ℕ, ℤ, false, List, Some}
+use Rattle.ia32_regs.specs.declared.names.Reg32.TheVariants.{Eax, Edx}
+use Rattle.ia32_insn.specs.declared.insn.ShiftOp.TheVariants as shift
+use Rattle.ia32_insn.specs.State as machine
+use Rattle.flow_graph.specs.declared.op.Comparison.{Comparison}
+use Rattle.flow_graph.specs.declared.op.Op.TheVariants as op
+use Rattle.flow_graph.specs.Meaning.{act}
+use Rattle.flow_graph.specs.States as graph
+use Rattle.flow_graph.specs.States.{number_at, op_at}
+use Rattle.flow_graph.specs.WellFormed.{IsState}
+use Rattle.ia32_shows.specs.Follows.{Follows}
+use Rattle.ia32_shows.specs.Placements.{Code}
+use Rattle.ia32_shows.specs.Shows.{Shows}
+use Rattle.ia32_keeps.specs.Supports.{IsSupported}
+use Rattle.ia32_keeps.specs.Ops.{ItemsFollow, RowAt, after_at, before_at}
+use Rattle.ia32_cores.specs.Rows.{dividing, halving, lowering, setting, shifting}
+
+-- the low byte of a number, and its low 16 bits
+abbrev pub LowFollows : Type 0
+LowFollows = (d a : ℕ) → ItemsFollow (op.Low d a) (λ code g. lowering (after_at code g d) (before_at code g a))
+
+abbrev pub HalfFollows : Type 0
+HalfFollows = (d a : ℕ) → ItemsFollow (op.Low16 d a) (λ code g. halving (after_at code g d) (before_at code g a))
+
+-- shifts
+abbrev pub LeftShiftFollows : Type 0
+LeftShiftFollows =
+    (d a c : ℕ)
+    → ItemsFollow (op.Shl d a c)
+    (λ code g. shifting shift.Shl (after_at code g d) (before_at code g a) (before_at code g c))
+
+abbrev pub RightShiftFollows : Type 0
+RightShiftFollows =
+    (d a c : ℕ)
+    → ItemsFollow (op.Sar d a c)
+    (λ code g. shifting shift.Sar (after_at code g d) (before_at code g a) (before_at code g c))
+
+-- divisions, with their traps
+abbrev pub QuotientFollows : Type 0
+QuotientFollows =
+    (d a b : ℕ)
+    → ItemsFollow (op.Div d a b)
+    (λ code g. dividing Eax (after_at code g d) (before_at code g a) (before_at code g b))
+
+abbrev pub RemainderFollows : Type 0
+RemainderFollows =
+    (d a b : ℕ)
+    → ItemsFollow (op.Rem d a b)
+    (λ code g. dividing Edx (after_at code g d) (before_at code g a) (before_at code g b))
+
+-- a comparison of two numbers
+abbrev pub NumbersSetFollow : Type 0
+NumbersSetFollow =
+    (how : Comparison) (d a b : ℕ) (code : Code) (input : List ℕ) (g : graph.State) (s : machine.State) (x y : ℤ)
+    → IsSupported code → IsState code.program g → Shows code input g s
+    → op_at code.program g ≡ Some (op.Set how d a b) → number_at g a ≡ Some x → number_at g b ≡ Some y
+    → RowAt code g (setting how (after_at code g d) (before_at code g a) (before_at code g b)) s
+    → Follows code input s g false (act code.program g (op.Set how d a b))
