@@ -13,3 +13,5 @@ pub mod Converting
 pub mod Assigning
 pub mod Outside
 pub mod Stepping
+pub mod Leading
+pub mod Conditions

@@ -4,10 +4,10 @@ use Rattle.std.specs.Prelude.{◌≡◌, ◌≢◌, ℕ, ℤ, slice_get, Some}
 use Rattle.c_tree.specs.declared.expression.BinaryOp.{BinaryOp}
 use Rattle.c_tree.specs.declared.expression.BinaryOp.TheVariants.{ShiftLeft, ShiftRight}
 use Rattle.c_tree.specs.declared.expression.StepOp.{StepOp}
-use Rattle.c_tree.specs.declared.expression.UnaryOp.TheVariants.{Complement, Minus}
+use Rattle.c_tree.specs.declared.expression.UnaryOp.TheVariants.{Not, Complement, Minus}
 use Rattle.c_tree.specs.declared.types.IntegerType.{IntegerType}
 use Rattle.c_tree.specs.declared.types.IntegerType.TheVariants.{Char, Int}
-use Rattle.c_tree.specs.declared.types.ValueType.TheVariants.{Integer}
+use Rattle.c_tree.specs.declared.types.ValueType.TheVariants.{Void, Integer}
 use Rattle.c_tree.specs.Evaluation.{evaluate}
 use Rattle.c_tree.specs.Operators.{shift_count}
 use Rattle.c_tree.specs.Program.{Step, Update, Comma, Exit, Putchar, Assign, Cast, int, Binary, Constant, Expression, Getchar, Local, LocalPlace, Read, Unary}
@@ -120,3 +120,9 @@ StepsLower = (S : Site) → IsSite S → (operator : StepOp) (k : ℕ) (l : Loca
     → slice_get S.function.locals k ≡ Some l → l.of ≡ Integer w
     → Lowers S (part_of (context_of S) (Step (Integer w) operator (LocalPlace k)))
     (evaluate S.calls (Step (Integer w) operator (LocalPlace k)))
+
+-- `!`, of a number or a pointer
+abbrev pub NotsLower : Type 0
+NotsLower = (S : Site) → IsSite S → (e : Expression) → Lowers S (part_of (context_of S) e) (evaluate S.calls e)
+    → (part_of (context_of S) e).of ≢ Void
+    → Lowers S (part_of (context_of S) (Unary Int Not e)) (evaluate S.calls (Unary Int Not e))

@@ -1,5 +1,6 @@
 //! Laws of the lines of expressions: each function's contract is one, and the function does nothing.
 
+ghost use Rattle.lower_expressions.specs.Laws.{NotsLower};
 ghost use Rattle.lower_expressions.specs.Laws.{StepsLower};
 ghost use Rattle.lower_expressions.specs.Laws.{UpdatesLower};
 ghost use Rattle.lower_expressions.specs.Laws.{CommasLower};
@@ -78,4 +79,9 @@ pub fn updates_lower()
 /// The lines of `++` and `--` of a local of an integer type do what the source does.
 pub fn steps_lower()
     ensures { StepsLower }
+{}
+
+/// The lines of `!` do what the source does, where those of its operand do.
+pub fn nots_lower()
+    ensures { NotsLower }
 {}
