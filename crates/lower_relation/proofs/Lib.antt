@@ -1,2 +1,4 @@
 pub mod Locals
 pub mod Changes
+pub mod Depths
+pub mod Arrays

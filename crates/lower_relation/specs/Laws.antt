@@ -1,14 +1,19 @@
 -- The laws of the relation between states of a source and of its graphs (`specs/Relation.antt` of `lower_lines`): one
 -- for each kind of change that an op of scalar programs makes.
-use Rattle.std.specs.Prelude.{◌≡◌, ◌≤◌, ◌<◌, ℕ, suc, ◌+◌, ◌*◌, ℤ, List, [], ◌∷◌, ◌++◌, slice_get, Some}
-use Rattle.pcc_base.specs.Outcome.{ArrayName, Value, Number, Visit}
+use Rattle.std.specs.Prelude.{◌≡◌, ◌≢◌, ◌≤◌, ◌<◌, ℕ, suc, ◌+◌, ◌*◌, ℤ, List, [], ◌∷◌, ◌++◌, length, slice_get}
+use Rattle.std.specs.Prelude.{Some}
+use Rattle.pcc_base.specs.Outcome.{ArrayName, Null, Value, Number, Visit}
 use Rattle.c_tree.specs.declared.types.IntegerType.{IntegerType}
 use Rattle.c_tree.specs.declared.types.ValueType.TheVariants.{Integer, Pointer}
 use Rattle.c_tree.specs.Program.{Local, Function, Program}
+use Rattle.c_tree.specs.Sizes.{bytes_of}
 use Rattle.c_tree.specs.Store as source
 use Rattle.c_tree.specs.Store.{HoldsNumber, HoldsPointer, held, with_local}
+use Rattle.flow_graph.specs.Meaning.{Moved, accessed}
 use Rattle.flow_graph.specs.States as graph
-use Rattle.flow_graph.specs.States.{with_value}
+use Rattle.flow_graph.specs.States.{elements_of, with_value}
+use Rattle.lower_lines.specs.Parts.{bits_of}
+use Rattle.lower_lines.specs.Programs.{lowered}
 use Rattle.lower_lines.specs.Relation.{HoldsAt, IsArrayOf, IsOf, Keeps, Shows, array_value}
 use Rattle.lower_lines.specs.Shown.{first_variable}
 use Rattle.lower_lines.specs.Variables.{local_variables, typed_spot}
@@ -76,3 +81,32 @@ KeptBelow = (first level other : ℕ) (g h : graph.State) → level ≤ other �
 abbrev pub KeptByChange : Type 0
 KeptByChange = (first level v : ℕ) (x : Value) (g : graph.State) → (v < first → Keeps first level g (with_value v x g))
     × (first + level * 5 ≤ v → Keeps first level g (with_value v x g))
+
+-- ---- arrays
+
+-- An array that a pointer of the type names is there in the graphs, with elements of this width, which are those that
+-- the source has: a static object, or an array of an active call of any depth.
+abbrev pub ArraysAreThere : Type 0
+ArraysAreThere =
+    (p : Program) (active : List Function) (s : source.State) (g : graph.State) (t : IntegerType) (array : ArrayName)
+    → Shows p active s g → IsArrayOf p active t array → array ≢ Null
+    → elements_of (lowered p) g array ≡ Some (bytes_of t, source.array_named s array)
+
+-- so an access of the type reaches these elements
+abbrev pub ArraysAreReached : Type 0
+ArraysAreReached =
+    (p : Program) (active : List Function) (s : source.State) (g : graph.State) (t : IntegerType) (array : ArrayName)
+    → Shows p active s g → IsArrayOf p active t array → array ≢ Null → (go : List ℤ → Moved)
+    → accessed (lowered p) g (bits_of t) array go ≡ go (source.array_named s array)
+
+-- an array gets other elements on both sides, as many as before
+abbrev pub ArraysAreSet : Type 0
+ArraysAreSet =
+    (p : Program) (active : List Function) (s : source.State) (g : graph.State) (array : ArrayName)
+    (elements : List ℤ) → Shows p active s g → length elements ≡ length (source.array_named s array)
+    → Shows p active (source.with_array array elements s) (graph.with_array array elements g)
+
+-- where an array gets other elements, all temporaries are kept
+abbrev pub KeptByArrays : Type 0
+KeptByArrays = (first level : ℕ) (g : graph.State) (array : ArrayName) (elements : List ℤ)
+    → Keeps first level g (graph.with_array array elements g)

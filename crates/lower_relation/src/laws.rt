@@ -1,5 +1,6 @@
 //! Laws of the relation between states: each function's contract is one, and the function does nothing.
 
+ghost use Rattle.lower_relation.specs.Laws.{ArraysAreReached, ArraysAreSet, ArraysAreThere, KeptByArrays};
 ghost use Rattle.lower_relation.specs.Laws.{BytesAreTaken, BytesAreWritten, KeptBelow};
 ghost use Rattle.lower_relation.specs.Laws.{KeptByChange, KeptTwice, LocalsAreHeld};
 ghost use Rattle.lower_relation.specs.Laws.{NumbersAreSet, PointersAreSet, TemporariesAreFree};
@@ -53,4 +54,24 @@ pub fn kept_below()
 /// A variable that is no temporary below the level may change.
 pub fn kept_by_change()
     ensures { KeptByChange }
+{}
+
+/// An array that a typed pointer names is there, with the elements that the source has.
+pub fn arrays_are_there()
+    ensures { ArraysAreThere }
+{}
+
+/// An access of its type reaches these elements.
+pub fn arrays_are_reached()
+    ensures { ArraysAreReached }
+{}
+
+/// An array gets other elements on both sides, as many as before.
+pub fn arrays_are_set()
+    ensures { ArraysAreSet }
+{}
+
+/// Where an array gets other elements, all temporaries are kept.
+pub fn kept_by_arrays()
+    ensures { KeptByArrays }
 {}
