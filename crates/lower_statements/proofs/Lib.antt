@@ -9,3 +9,4 @@ pub mod Looping
 pub mod Declared
 pub mod Comparing
 pub mod Switching
+pub mod Walk

@@ -23,6 +23,11 @@ use Rattle.c_tree.specs.Evaluation.{after_switch, none_or_from, switched}
 use Rattle.c_tree.specs.WellTyped.{AreLabels}
 use Rattle.std.specs.Prelude.{drop, length, ◌<◌}
 use Rattle.lower_lines.specs.Statements.{switch_run}
+use Rattle.c_tree.specs.Program.{Initialiser, Array}
+use Rattle.c_tree.specs.Evaluation.{declare}
+use Rattle.c_tree.specs.WellTyped.{IsItem, WellTyped}
+use Rattle.lower_lines.specs.Laws.{BodiesLower, ExpressionsFollow, StatementsLower}
+use Rattle.lower_lines.specs.Statements.{item_levels, item_lines}
 use Rattle.c_tree.specs.Store as source
 use Rattle.c_tree.specs.Store.{Evaluated, Gives, Held, and_then, visited}
 use Rattle.flow_graph.specs.declared.op.Op.TheVariants as op
@@ -216,3 +221,20 @@ SwitchesLower = (S : Site) → IsSite S → (breaks continues : Bool) (n : ℕ) 
     → LowersRun S breaks continues (switch_run (context_of S) n e labels rs)
     (λ s. and_then (run (visited S.listing n s))
     (λ v t. and_then (none_or_from (switched labels v) from t) after_switch))
+
+-- ---- every statement
+
+-- a declared array does what the source does, where expressions do
+abbrev pub ArraysLower : Type 0
+ArraysLower = (S : Site) → IsSite S → WellTyped S.program → ExpressionsFollow S
+    → (n k : ℕ) (element : IntegerType) (value : Initialiser) → IsItem S.program S.function (Array n k element value)
+    → IsOwn S n → LowersLines S (item_levels (context_of S) (Array n k element value))
+    (item_lines (context_of S) (Array n k element value))
+    (declare S.calls S.listing (type_at S.function) (Array n k element value))
+
+-- every statement and every body, given arrays
+abbrev pub StatementsLowerWithArrays : Type 0
+StatementsLowerWithArrays = ArraysLower → StatementsLower
+
+abbrev pub BodiesLowerWithArrays : Type 0
+BodiesLowerWithArrays = ArraysLower → BodiesLower

@@ -1,12 +1,13 @@
 //! Laws of the lines of statements: each function's contract is one, and the function does nothing.
 
-ghost use Rattle.lower_statements.specs.Laws.{BlocksLower, BreaksLower, ConditionsLower};
-ghost use Rattle.lower_statements.specs.Laws.{ContinuesLower, DeclarationsLower, DosLower};
-ghost use Rattle.lower_statements.specs.Laws.{EmptiesLower, EmptyBlocksLower, EvaluationsLower};
-ghost use Rattle.lower_statements.specs.Laws.{ForsLower, ItemsLower, LastsLower, NoItemsLower};
-ghost use Rattle.lower_statements.specs.Laws.{PlainReturnsLower, PlainScalarsLower, ReturnsLower};
-ghost use Rattle.lower_statements.specs.Laws.{ScalarsLower, SequencesLower, SteadyScalarsLower};
-ghost use Rattle.lower_statements.specs.Laws.{SwitchesLower, WhilesLower};
+ghost use Rattle.lower_statements.specs.Laws.{BlocksLower, BodiesLowerWithArrays, BreaksLower};
+ghost use Rattle.lower_statements.specs.Laws.{ConditionsLower, ContinuesLower, DeclarationsLower};
+ghost use Rattle.lower_statements.specs.Laws.{DosLower, EmptiesLower, EmptyBlocksLower};
+ghost use Rattle.lower_statements.specs.Laws.{EvaluationsLower, ForsLower, ItemsLower};
+ghost use Rattle.lower_statements.specs.Laws.{LastsLower, NoItemsLower, PlainReturnsLower};
+ghost use Rattle.lower_statements.specs.Laws.{PlainScalarsLower, ReturnsLower, ScalarsLower};
+ghost use Rattle.lower_statements.specs.Laws.{SequencesLower, StatementsLowerWithArrays};
+ghost use Rattle.lower_statements.specs.Laws.{SteadyScalarsLower, SwitchesLower, WhilesLower};
 
 /// The lines of an empty statement do what the source does.
 pub fn empties_lower()
@@ -111,4 +112,14 @@ pub fn items_lower()
 /// Those of a `switch` do so, where those of its value and of its statements do.
 pub fn switches_lower()
     ensures { SwitchesLower }
+{}
+
+/// Every statement's lines do what the source does, given those of declared arrays.
+pub fn statements_lower_with_arrays()
+    ensures { StatementsLowerWithArrays }
+{}
+
+/// So do those of every body.
+pub fn bodies_lower_with_arrays()
+    ensures { BodiesLowerWithArrays }
 {}
