@@ -15,3 +15,4 @@ pub mod Burdens
 pub mod Weighings
 pub mod Shapes
 pub mod Marks
+pub mod Sizes

@@ -1,5 +1,6 @@
 //! Laws of lines and of their graphs: each function's contract is one, and the function does nothing.
 
+ghost use Rattle.lower_bounds.specs.Laws.{DeclaredAreSmall, NotAllAreSmall};
 ghost use Rattle.lower_lines.specs.Laws.{AllLinesClose, MarksHold, ObjectsHold, ShapesHold};
 
 /// The static objects of the graphs are the program's, with their first contents.
@@ -22,4 +23,15 @@ pub fn shapes_hold()
 /// The marks of the graphs of a typed program are its statements, once each.
 pub fn marks_hold()
     ensures { MarksHold }
+{}
+
+/// The graphs of a program have at most 20 points and 2 argument words for each token of it, and one frame array where
+/// no function has more arrays than tokens.
+pub fn declared_are_small()
+    ensures { DeclaredAreSmall }
+{}
+
+/// A typed program may have more frame arrays than tokens: nothing says that an item declares each.
+pub fn not_all_are_small()
+    ensures { NotAllAreSmall }
 {}

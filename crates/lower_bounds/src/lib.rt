@@ -4,4 +4,6 @@
 
 mod laws;
 
-pub use laws::{all_lines_close, marks_hold, objects_hold, shapes_hold};
+pub use laws::{
+    all_lines_close, declared_are_small, marks_hold, not_all_are_small, objects_hold, shapes_hold,
+};
