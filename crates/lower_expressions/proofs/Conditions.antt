@@ -53,7 +53,7 @@ truth-same : (r : Evaluated Held) → IsTruth r → and_then r (λ v t. Gives (t
 truth-same (Gives v t) is = ap (λ (w : Held). Gives w t) (sym is)
 truth-same (Ends end t) is = refl
 
-truth-typed : (S : Site) (active : List Function) (r : Evaluated Held) → IsTruth r → GivesOf S.program active int r
+pub truth-typed : (S : Site) (active : List Function) (r : Evaluated Held) → IsTruth r → GivesOf S.program active int r
 truth-typed S active (Gives v t) is = subst (λ (w : Held). IsOf S.program active int w) (sym is) tt
 truth-typed S active (Ends end t) is = tt
 
@@ -213,7 +213,7 @@ true-same true = refl
 true-same false = refl
 
 -- the truth value of a value goes where it does
-truth-test : (S : Site) (active : List Function) (level p q : ℕ) (of : ValueType) (s : source.State)
+pub truth-test : (S : Site) (active : List Function) (level p q : ℕ) (of : ValueType) (s : source.State)
     (start g : graph.State) (r : Evaluated Held)
     → LeadsTo S active level (Tests p q) of s start g (tests_place S p q) r
     → LeadsTo S active level (Tests p q) int s start g (tests_place S p q)
@@ -224,7 +224,7 @@ truth-test S active level p q of s start g (Gives v t) leads =
     (ap (λ (bit : Bool). if bit then p else q) (true-same (is_true v))) leads
 
 -- where nothing is wanted, any value will do
-dropped-any : (S : Site) (active : List Function) (level : ℕ) (of of' : ValueType) (s : source.State)
+pub dropped-any : (S : Site) (active : List Function) (level : ℕ) (of of' : ValueType) (s : source.State)
     (start g : graph.State) (lines : List Line) (r : Evaluated Held) (f : Held → Held)
     → LeadsTo S active level Dropped of s start g (λ v i. behind lines i) r
     → LeadsTo S active level Dropped of' s start g (λ v i. behind lines i) (and_then r (λ v t. Gives (f v) t))

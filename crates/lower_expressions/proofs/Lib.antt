@@ -15,3 +15,4 @@ pub mod Outside
 pub mod Stepping
 pub mod Leading
 pub mod Conditions
+pub mod Logical

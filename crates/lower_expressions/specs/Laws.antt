@@ -10,7 +10,7 @@ use Rattle.c_tree.specs.declared.types.IntegerType.TheVariants.{Char, Int}
 use Rattle.c_tree.specs.declared.types.ValueType.TheVariants.{Void, Integer}
 use Rattle.c_tree.specs.Evaluation.{evaluate}
 use Rattle.c_tree.specs.Operators.{shift_count}
-use Rattle.c_tree.specs.Program.{Step, Update, Comma, Exit, Putchar, Assign, Cast, int, Binary, Constant, Expression, Getchar, Local, LocalPlace, Read, Unary}
+use Rattle.c_tree.specs.Program.{Or, And, Step, Update, Comma, Exit, Putchar, Assign, Cast, int, Binary, Constant, Expression, Getchar, Local, LocalPlace, Read, Unary}
 use Rattle.c_tree.specs.Store.{Evaluated, Gives, Ends, Held, HoldsNumber, HoldsPointer, State}
 use Rattle.lower_lines.specs.Expressions.{part_of}
 use Rattle.lower_lines.specs.Following.{IsSite, Lowers, Site, context_of}
@@ -126,3 +126,14 @@ abbrev pub NotsLower : Type 0
 NotsLower = (S : Site) → IsSite S → (e : Expression) → Lowers S (part_of (context_of S) e) (evaluate S.calls e)
     → (part_of (context_of S) e).of ≢ Void
     → Lowers S (part_of (context_of S) (Unary Int Not e)) (evaluate S.calls (Unary Int Not e))
+
+-- `&&` and `||`, of numbers or pointers
+abbrev pub AndsLower : Type 0
+AndsLower = (S : Site) → IsSite S → (a b : Expression) → Lowers S (part_of (context_of S) a) (evaluate S.calls a)
+    → Lowers S (part_of (context_of S) b) (evaluate S.calls b) → (part_of (context_of S) a).of ≢ Void
+    → (part_of (context_of S) b).of ≢ Void → Lowers S (part_of (context_of S) (And a b)) (evaluate S.calls (And a b))
+
+abbrev pub OrsLower : Type 0
+OrsLower = (S : Site) → IsSite S → (a b : Expression) → Lowers S (part_of (context_of S) a) (evaluate S.calls a)
+    → Lowers S (part_of (context_of S) b) (evaluate S.calls b) → (part_of (context_of S) a).of ≢ Void
+    → (part_of (context_of S) b).of ≢ Void → Lowers S (part_of (context_of S) (Or a b)) (evaluate S.calls (Or a b))

@@ -1,5 +1,7 @@
 //! Laws of the lines of expressions: each function's contract is one, and the function does nothing.
 
+ghost use Rattle.lower_expressions.specs.Laws.{OrsLower};
+ghost use Rattle.lower_expressions.specs.Laws.{AndsLower};
 ghost use Rattle.lower_expressions.specs.Laws.{NotsLower};
 ghost use Rattle.lower_expressions.specs.Laws.{StepsLower};
 ghost use Rattle.lower_expressions.specs.Laws.{UpdatesLower};
@@ -84,4 +86,14 @@ pub fn steps_lower()
 /// The lines of `!` do what the source does, where those of its operand do.
 pub fn nots_lower()
     ensures { NotsLower }
+{}
+
+/// The lines of `&&` do what the source does, where those of its operands do.
+pub fn ands_lower()
+    ensures { AndsLower }
+{}
+
+/// The lines of `||` do what the source does, where those of its operands do.
+pub fn ors_lower()
+    ensures { OrsLower }
 {}
