@@ -16,3 +16,4 @@ pub mod Stepping
 pub mod Leading
 pub mod Conditions
 pub mod Logical
+pub mod Conditional

@@ -4,13 +4,13 @@ use Rattle.std.specs.Prelude.{◌≡◌, ◌≢◌, ℕ, ℤ, slice_get, Some}
 use Rattle.c_tree.specs.declared.expression.BinaryOp.{BinaryOp}
 use Rattle.c_tree.specs.declared.expression.BinaryOp.TheVariants.{ShiftLeft, ShiftRight}
 use Rattle.c_tree.specs.declared.expression.StepOp.{StepOp}
-use Rattle.c_tree.specs.declared.expression.UnaryOp.TheVariants.{Not, Complement, Minus}
+use Rattle.c_tree.specs.declared.expression.UnaryOp.TheVariants.{Plus, Not, Complement, Minus}
 use Rattle.c_tree.specs.declared.types.IntegerType.{IntegerType}
 use Rattle.c_tree.specs.declared.types.IntegerType.TheVariants.{Char, Int}
 use Rattle.c_tree.specs.declared.types.ValueType.TheVariants.{Void, Integer}
 use Rattle.c_tree.specs.Evaluation.{evaluate}
 use Rattle.c_tree.specs.Operators.{shift_count}
-use Rattle.c_tree.specs.Program.{Or, And, Step, Update, Comma, Exit, Putchar, Assign, Cast, int, Binary, Constant, Expression, Getchar, Local, LocalPlace, Read, Unary}
+use Rattle.c_tree.specs.Program.{Conditional, Or, And, Step, Update, Comma, Exit, Putchar, Assign, Cast, int, Binary, Constant, Expression, Getchar, Local, LocalPlace, Read, Unary}
 use Rattle.c_tree.specs.Store.{Evaluated, Gives, Ends, Held, HoldsNumber, HoldsPointer, State}
 use Rattle.lower_lines.specs.Expressions.{part_of}
 use Rattle.lower_lines.specs.Following.{IsSite, Lowers, Site, context_of}
@@ -137,3 +137,17 @@ abbrev pub OrsLower : Type 0
 OrsLower = (S : Site) → IsSite S → (a b : Expression) → Lowers S (part_of (context_of S) a) (evaluate S.calls a)
     → Lowers S (part_of (context_of S) b) (evaluate S.calls b) → (part_of (context_of S) a).of ≢ Void
     → (part_of (context_of S) b).of ≢ Void → Lowers S (part_of (context_of S) (Or a b)) (evaluate S.calls (Or a b))
+
+-- `?:`, of two numbers
+abbrev pub ConditionalsLower : Type 0
+ConditionalsLower = (S : Site) → IsSite S → (q a b : Expression) (t u : IntegerType)
+    → Lowers S (part_of (context_of S) q) (evaluate S.calls q) → (part_of (context_of S) q).of ≢ Void
+    → Lowers S (part_of (context_of S) a) (evaluate S.calls a) → (part_of (context_of S) a).of ≡ Integer t
+    → Lowers S (part_of (context_of S) b) (evaluate S.calls b) → (part_of (context_of S) b).of ≡ Integer u
+    → Lowers S (part_of (context_of S) (Conditional int q a b)) (evaluate S.calls (Conditional int q a b))
+
+-- the unary `+`
+abbrev pub PlusesLower : Type 0
+PlusesLower = (S : Site) → IsSite S → (e : Expression) (u : IntegerType)
+    → Lowers S (part_of (context_of S) e) (evaluate S.calls e) → (part_of (context_of S) e).of ≡ Integer u
+    → Lowers S (part_of (context_of S) (Unary Int Plus e)) (evaluate S.calls (Unary Int Plus e))

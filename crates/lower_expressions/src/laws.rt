@@ -1,5 +1,7 @@
 //! Laws of the lines of expressions: each function's contract is one, and the function does nothing.
 
+ghost use Rattle.lower_expressions.specs.Laws.{PlusesLower};
+ghost use Rattle.lower_expressions.specs.Laws.{ConditionalsLower};
 ghost use Rattle.lower_expressions.specs.Laws.{OrsLower};
 ghost use Rattle.lower_expressions.specs.Laws.{AndsLower};
 ghost use Rattle.lower_expressions.specs.Laws.{NotsLower};
@@ -96,4 +98,14 @@ pub fn ands_lower()
 /// The lines of `||` do what the source does, where those of its operands do.
 pub fn ors_lower()
     ensures { OrsLower }
+{}
+
+/// The lines of `?:` with numbers do what the source does, where those of its operands do.
+pub fn conditionals_lower()
+    ensures { ConditionalsLower }
+{}
+
+/// The lines of the unary `+` do what the source does, where those of its operand do.
+pub fn pluses_lower()
+    ensures { PlusesLower }
 {}

@@ -1,0 +1,315 @@
+-- `?:` of two numbers, and the unary `+`, whatever is wanted of them.
+use Rattle.std.proofs.Common.{◌≡◌, ◌≢◌, ℕ, zero, suc, ◌+◌, ◌*◌, ◌<◌, ◌≤◌, Bool, true, false, not, ℤ, pos, List, [], ◌∷◌, ◌++◌}
+use Rattle.std.proofs.Common.{length, max, Option, Some, None, refl, sym, ap, ◌∙◌, subst, arith, append-nil, append_assoc}
+use Rattle.std.proofs.Math.Nat.{le-max_left, le-max_right}
+use Rattle.std.specs.List.{Contains}
+use Rattle.std.specs.Ordering.{int_eq}
+use Rattle.std.specs.Prelude.{if◌then◌else◌}
+use Rattle.pcc_base.specs.Outcome.{Outcome, Visit}
+use Rattle.c_bounds.specs.Bounds.{state_of}
+use Rattle.c_tree.specs.declared.expression.UnaryOp.TheVariants.{Not, Plus}
+use Rattle.c_tree.specs.declared.types.IntegerType.{IntegerType}
+use Rattle.c_tree.specs.declared.types.IntegerType.TheVariants.{Int}
+use Rattle.c_tree.specs.declared.types.ValueType.{ValueType}
+use Rattle.c_tree.specs.declared.types.ValueType.TheVariants.{Void, Integer, Pointer}
+use Rattle.c_tree.specs.Evaluation.{evaluate, truth_value}
+use Rattle.c_tree.specs.Operators.{is_true, unary_value}
+use Rattle.c_tree.specs.Program.{Function, int}
+use Rattle.c_tree.specs.Store as source
+use Rattle.c_tree.specs.Store.{Evaluated, Gives, Ends, Held, HoldsNumber, HoldsPointer, and_then}
+use Rattle.flow_graph.specs.declared.op.Op.TheVariants as op
+use Rattle.flow_graph.specs.States as graph
+use Rattle.lower_lines.specs.Expressions.{conditional_part, unary_part, and_dropped, and_part, and_test, negated, or_dropped, or_part, or_test, part_of}
+use Rattle.lower_lines.specs.Expressions.{test_blocks_of}
+use Rattle.lower_lines.specs.Following.{Begins, Comes, EndsSo, Follows, GivesOf, HoldsWanted, IsSite, Lowers, MayWant, Site, Stand}
+use Rattle.lower_lines.specs.Following.{at_start, behind, context_of, shown_state, site_lines}
+use Rattle.lower_lines.specs.Lines.{Line, Start, Emit, starts_in}
+use Rattle.lower_lines.specs.Parts.{Wanted, Dropped, Own, ToLocal, Tests, Part, target, truth}
+use Rattle.lower_lines.specs.Relation.{IsOf, Keeps, Shows}
+use Rattle.lower_lines.specs.Variables.{levels_of, local_variables}
+use Rattle.lower_relation.proofs.Changes.{kept-none}
+use Rattle.lower_steps.proofs.Steps.{jump-step}
+use Rattle.lower_expressions.proofs.Binary.{Fits, compound-lowers, turns-fall}
+use Rattle.lower_expressions.proofs.Converting.{IsOnward, as_type, begins-again, fits-any, in_type-fits, int-same}
+use Rattle.lower_expressions.proofs.Converting.{lowers-fit, may-any}
+use Rattle.lower_expressions.proofs.Going.{Goes, stand-back, stand-front}
+use Rattle.lower_expressions.proofs.Leading.{IsTruth, IsValue, LeadsTo, choose-leads, follows-lead, leads-behind}
+use Rattle.lower_expressions.proofs.Leading.{leads-follow, leads-on, one-more, one-way, seven-more, start-goes, start-there}
+use Rattle.lower_expressions.proofs.Leading.{tests_place}
+use Rattle.lower_expressions.proofs.Levels.{levels-one}
+use Rattle.lower_expressions.proofs.Pairs.{Falls}
+use Rattle.lower_expressions.proofs.Stepping.{lowers-same}
+use Rattle.lower_expressions.proofs.Conditions.{TestsSo, dropped-any, tests-fit, truth-fits, truth-test, truth-typed}
+use Rattle.lower_expressions.specs.Laws.{ConditionalsLower, PlusesLower}
+
+-- ---- a number is given
+
+type-typed : (S : Site) (active : List Function) (r : Evaluated Held)
+    → GivesOf S.program active int (and_then r (as_type int))
+type-typed S active (Gives (HoldsNumber n) t) = tt
+type-typed S active (Gives (HoldsPointer array index) t) = tt
+type-typed S active (Ends end t) = tt
+
+-- where the lines of a part lead whose value isn't tested
+onward-lead : (S : Site) (active : List Function) (before lines : List Line) (level : ℕ) (wanted : Wanted)
+    (of : ValueType) (s : source.State) (g : graph.State) (r : Evaluated Held) → IsOnward wanted
+    → Follows S active before lines level wanted of s g r
+    → LeadsTo S active level wanted of s (behind before g) g (λ v h. behind (before ++ lines) h) r
+onward-lead S active before lines level Dropped of s g r on f = follows-lead S active before lines level Dropped of s g r f
+onward-lead S active before lines level Own of s g r on f = follows-lead S active before lines level Own of s g r f
+onward-lead S active before lines level (ToLocal k) of s g r on f =
+    follows-lead S active before lines level (ToLocal k) of s g r f
+onward-lead S active before lines level (Tests yes' no') of s g r on f = absurd on
+
+onward-follow : (S : Site) (active : List Function) (before lines : List Line) (level : ℕ) (wanted : Wanted)
+    (of : ValueType) (s : source.State) (g : graph.State) (r : Evaluated Held) → IsOnward wanted
+    → LeadsTo S active level wanted of s (behind before g) g (λ v h. behind (before ++ lines) h) r
+    → Follows S active before lines level wanted of s g r
+onward-follow S active before lines level Dropped of s g r on f = leads-follow S active before lines level Dropped of s g r f
+onward-follow S active before lines level Own of s g r on f = leads-follow S active before lines level Own of s g r f
+onward-follow S active before lines level (ToLocal k) of s g r on f =
+    leads-follow S active before lines level (ToLocal k) of s g r f
+onward-follow S active before lines level (Tests yes' no') of s g r on f = absurd on
+
+first-room : (level i j k top : ℕ) → level + max i (max j k) ≤ top → level + i ≤ top
+first-room level i j k top h = let m = le-max_left i (max j k) in omega (arith, h, m)
+
+second-room : (level i j k top : ℕ) → level + max i (max j k) ≤ top → level + j ≤ top
+second-room level i j k top h =
+    let m = le-max_right i (max j k) in
+    let n = le-max_left j k in omega (arith, h, m, n)
+
+third-room : (level i j k top : ℕ) → level + max i (max j k) ≤ top → level + k ≤ top
+third-room level i j k top h =
+    let m = le-max_right i (max j k) in
+    let n = le-max_right j k in omega (arith, h, m, n)
+
+-- ---- `?:`
+
+module _ (S : Site) (site : IsSite S) (q a b : Part) (run run' run'' : source.State → Evaluated Held) (t u : IntegerType)
+    (lq : Lowers S q run) (scalar : q.of ≢ Void) (la : Lowers S a run') (of : a.of ≡ Integer t) (lb : Lowers S b run'')
+    (of' : b.of ≡ Integer u) (one : 1 ≤ a.levels) (one' : 1 ≤ b.levels) (falls : Falls run) (falls' : Falls run')
+    (falls'' : Falls run'') where
+  abbrev arms : Held → source.State → Evaluated Held
+  arms v s = and_then (if is_true v then run' s else run'' s) (as_type int)
+
+  abbrev pub conditional_run : source.State → Evaluated Held
+  conditional_run s = and_then (run s) arms
+
+  conditional-typed : (active : List Function) (r : Evaluated Held) → GivesOf S.program active int (and_then r arms)
+  conditional-typed active (Gives v s) = type-typed S active (if is_true v then run' s else run'' s)
+  conditional-typed active (Ends end s) = tt
+
+  -- an arm, from the start of its block to behind its lines
+  arm-leads : (older : List Function) (p : Part) (runs : source.State → Evaluated Held) (w : IntegerType) → Lowers S p runs
+      → p.of ≡ Integer w → 1 ≤ p.levels → Falls runs → (block inner level : ℕ) (wanted : Wanted) (front : List Line)
+      (s : source.State) (h : graph.State) → Stand S front (Start block ∷ p.lines inner level wanted)
+      → level + p.levels ≤ levels_of S.function → MayWant S wanted int → Begins S (S.function ∷ older) s h
+      → Fits S (S.function ∷ older) (front ++ Start block ∷ []) (p.lines inner level wanted) level wanted int s h
+      (and_then (runs s) (as_type int))
+  arm-leads older p runs w lp is high fall block inner level wanted front s h stands room may begins =
+      in_type-fits S site older Int p runs w lp is high fall inner level wanted (front ++ Start block ∷ []) s h
+      (stand-back S front (Start block ∷ []) (p.lines inner level wanted) stands) room may begins
+
+  from-start : (older : List Function) (block level : ℕ) (wanted : Wanted) (front : List Line) (s : source.State)
+      (h : graph.State) (place : Held → graph.State → graph.State) (r : Evaluated Held)
+      → Stand S front (Start block ∷ []) → Begins S (S.function ∷ older) s h
+      → LeadsTo S (S.function ∷ older) level wanted int s (behind (front ++ Start block ∷ []) h) h place r
+      → LeadsTo S (S.function ∷ older) level wanted int s (at_start S block h) h place r
+  from-start older block level wanted front s h place r stands begins leads =
+      leads-behind S (S.function ∷ older) level wanted int s s (at_start S block h)
+      (behind (front ++ Start block ∷ []) h) h h [] place r (kept-none (local_variables S.function) level h)
+      (sym (append-nil s.visits)) (start-goes S site front block s.turns h stands begins.function) leads
+
+  -- ---- both are tested
+
+  tested-fits : (older : List Function) (block i j n level yes' no' : ℕ) (before : List Line) (s : source.State)
+      (g : graph.State)
+      → Stand S before (q.lines i level (Tests block (suc block)) ++ (Start block ∷ (a.lines j level (Tests yes' no')
+      ++ (Start (suc block) ∷ (b.lines n level (Tests yes' no') ++ [])))))
+      → level + max q.levels (max a.levels b.levels) ≤ levels_of S.function → MayWant S (Tests yes' no') int
+      → Begins S (S.function ∷ older) s g
+      → LeadsTo S (S.function ∷ older) level (Tests yes' no') int s (behind before g) g (tests_place S yes' no')
+      (conditional_run s)
+  tested-fits older block i j n level yes' no' before s g stands room may begins =
+      let xs = q.lines i level (Tests block (suc block)) in
+      let ms = a.lines j level (Tests yes' no') in
+      let ns = b.lines n level (Tests yes' no') in
+      let first = stand-back S before xs (Start block ∷ (ms ++ (Start (suc block) ∷ (ns ++ [])))) stands in
+      let front = before ++ xs in
+      let front' = (front ++ Start block ∷ []) ++ ms in
+      let second = stand-back S (front ++ Start block ∷ []) ms (Start (suc block) ∷ (ns ++ []))
+      (stand-back S front (Start block ∷ []) (ms ++ (Start (suc block) ∷ (ns ++ []))) first) in
+      choose-leads S older level block (suc block) q.of (Tests yes' no') int s (behind before g) g
+      (tests_place S yes' no') (run s) arms begins (falls s)
+      (follows-lead S (S.function ∷ older) before xs level (Tests block (suc block)) q.of s g (run s)
+      (lq.follows (S.function ∷ older) i level (Tests block (suc block)) before s g
+      (stand-front S before xs (Start block ∷ (ms ++ (Start (suc block) ∷ (ns ++ [])))) stands)
+      (first-room level q.levels a.levels b.levels _ room)
+      (scalar, start-there S front (ms ++ (Start (suc block) ∷ (ns ++ []))) block first,
+      start-there S front' (ns ++ []) (suc block) second) begins))
+      (λ v s' h again. pick (is_true v) s' h front front'
+      (stand-front S front (Start block ∷ ms) (Start (suc block) ∷ (ns ++ [])) first)
+      (stand-front S front' (Start (suc block) ∷ ns) [] second) again)
+    where
+      pick : (bit : Bool) (s' : source.State) (h : graph.State) (front front' : List Line)
+          → Stand S front (Start block ∷ a.lines j level (Tests yes' no'))
+          → Stand S front' (Start (suc block) ∷ b.lines n level (Tests yes' no')) → Begins S (S.function ∷ older) s' h
+          → LeadsTo S (S.function ∷ older) level (Tests yes' no') int s' (at_start S (if bit then block else suc block) h)
+          h (tests_place S yes' no') (and_then (if bit then run' s' else run'' s') (as_type int))
+      pick true s' h front front' first second again =
+          from-start older block level (Tests yes' no') front s' h (tests_place S yes' no')
+          (and_then (run' s') (as_type int)) (stand-front S front (Start block ∷ []) _ first) again
+          (follows-lead S (S.function ∷ older) (front ++ Start block ∷ []) (a.lines j level (Tests yes' no')) level
+          (Tests yes' no') int s' h (and_then (run' s') (as_type int))
+          (arm-leads older a run' t la of one falls' block j level (Tests yes' no') front s' h first
+          (second-room level q.levels a.levels b.levels _ room) may again).0)
+      pick false s' h front front' first second again =
+          from-start older (suc block) level (Tests yes' no') front' s' h (tests_place S yes' no')
+          (and_then (run'' s') (as_type int)) (stand-front S front' (Start (suc block) ∷ []) _ second) again
+          (follows-lead S (S.function ∷ older) (front' ++ Start (suc block) ∷ []) (b.lines n level (Tests yes' no')) level
+          (Tests yes' no') int s' h (and_then (run'' s') (as_type int))
+          (arm-leads older b run'' u lb of' one' falls'' (suc block) n level (Tests yes' no') front' s' h second
+          (third-room level q.levels a.levels b.levels _ room) may again).0)
+
+  -- ---- both go to the block behind
+
+  -- an arm, and then to the block behind both
+  arm-jumps : (older : List Function) (p : Part) (runs : source.State → Evaluated Held) (w : IntegerType) → Lowers S p runs
+      → p.of ≡ Integer w → 1 ≤ p.levels → Falls runs → (block inner last level : ℕ) (wanted : Wanted) → IsOnward wanted
+      → (front other rest : List Line) (s : source.State) (h : graph.State)
+      → Stand S front (Start block ∷ (p.lines inner level wanted ++ (Emit (op.Jump last) ∷ rest)))
+      → Stand S other (Start last ∷ [])
+      → level + p.levels ≤ levels_of S.function → MayWant S wanted int → Begins S (S.function ∷ older) s h
+      → LeadsTo S (S.function ∷ older) level wanted int s (at_start S block h) h
+      (λ v i. behind (other ++ Start last ∷ []) i) (and_then (runs s) (as_type int))
+  arm-jumps older p runs w lp is high fall block inner last level wanted on front other rest s h stands there room may
+      begins =
+      let ps = p.lines inner level wanted in
+      let inside = stand-back S front (Start block ∷ []) (ps ++ (Emit (op.Jump last) ∷ rest)) stands in
+      let leave = stand-front S ((front ++ Start block ∷ []) ++ ps) (Emit (op.Jump last) ∷ []) rest
+      (stand-back S (front ++ Start block ∷ []) ps (Emit (op.Jump last) ∷ rest) inside) in
+      from-start older block level wanted front s h (λ v i. behind (other ++ Start last ∷ []) i)
+      (and_then (runs s) (as_type int))
+      (stand-front S front (Start block ∷ []) (ps ++ (Emit (op.Jump last) ∷ rest)) stands) begins
+      (leads-on S (S.function ∷ older) level wanted int s (behind (front ++ Start block ∷ []) h) h
+      (λ v i. behind ((front ++ Start block ∷ []) ++ ps) i) (λ v i. behind (other ++ Start last ∷ []) i)
+      (and_then (runs s) (as_type int)) begins.function
+      (λ v turns i own o c. jump-step S site ((front ++ Start block ∷ []) ++ ps) i own last turns o other leave there
+      (start-goes S site other last turns i there own o c))
+      (onward-lead S (S.function ∷ older) (front ++ Start block ∷ []) ps level wanted int s h
+      (and_then (runs s) (as_type int)) on
+      (arm-leads older p runs w lp is high fall block inner level wanted front s h
+      (stand-front S front (Start block ∷ ps) (Emit (op.Jump last) ∷ rest) stands) room may begins).0))
+
+  onward-fits : (older : List Function) (block i j n level : ℕ) (wanted : Wanted) → IsOnward wanted → (before : List Line)
+      (s : source.State) (g : graph.State)
+      → Stand S before (q.lines i level (Tests block (suc block)) ++ (Start block ∷ (a.lines j level wanted
+      ++ (Emit (op.Jump (block + 2)) ∷ (Start (suc block) ∷ (b.lines n level wanted
+      ++ (Emit (op.Jump (block + 2)) ∷ Start (block + 2) ∷ [])))))))
+      → level + max q.levels (max a.levels b.levels) ≤ levels_of S.function → MayWant S wanted int
+      → Begins S (S.function ∷ older) s g
+      → Fits S (S.function ∷ older) before (q.lines i level (Tests block (suc block)) ++ (Start block
+      ∷ (a.lines j level wanted ++ (Emit (op.Jump (block + 2)) ∷ (Start (suc block) ∷ (b.lines n level wanted
+      ++ (Emit (op.Jump (block + 2)) ∷ Start (block + 2) ∷ []))))))) level wanted int s g (conditional_run s)
+  onward-fits older block i j n level wanted on before s g stands room may begins =
+      let xs = q.lines i level (Tests block (suc block)) in
+      let ms = a.lines j level wanted in
+      let ns = b.lines n level wanted in
+      let leave = Emit (op.Jump (block + 2)) in
+      let ends = Start (block + 2) ∷ [] in
+      let tail' = Start (suc block) ∷ (ns ++ (leave ∷ ends)) in
+      let tail = Start block ∷ (ms ++ (leave ∷ tail')) in
+      let front = before ++ xs in
+      let f1 = front ++ Start block ∷ [] in
+      let front' = (f1 ++ ms) ++ leave ∷ [] in
+      let f4 = front' ++ Start (suc block) ∷ [] in
+      let other = (f4 ++ ns) ++ leave ∷ [] in
+      let first = stand-back S before xs tail stands in
+      let second = stand-back S (f1 ++ ms) (leave ∷ []) tail'
+      (stand-back S f1 ms (leave ∷ tail') (stand-back S front (Start block ∷ []) (ms ++ (leave ∷ tail')) first)) in
+      let third = stand-back S (f4 ++ ns) (leave ∷ []) ends
+      (stand-back S f4 ns (leave ∷ ends) (stand-back S front' (Start (suc block) ∷ []) (ns ++ (leave ∷ ends)) second)) in
+      let all : other ++ ends ≡ before ++ (xs ++ tail) =
+      one-more (f4 ++ ns) leave ends ∙ append_assoc f4 ns (leave ∷ ends)
+      ∙ one-more front' (Start (suc block)) (ns ++ (leave ∷ ends)) ∙ one-more (f1 ++ ms) leave tail'
+      ∙ append_assoc f1 ms (leave ∷ tail') ∙ one-more front (Start block) (ms ++ (leave ∷ tail'))
+      ∙ append_assoc before xs tail in (
+        onward-follow S (S.function ∷ older) before (xs ++ tail) level wanted int s g (conditional_run s) on
+            (subst (λ (ls : List Line). LeadsTo S (S.function ∷ older) level wanted int s (behind before g) g
+            (λ v h. behind ls h) (conditional_run s)) all
+            (choose-leads S older level block (suc block) q.of wanted int s (behind before g) g
+            (λ v h. behind (other ++ ends) h) (run s) arms begins (falls s)
+            (follows-lead S (S.function ∷ older) before xs level (Tests block (suc block)) q.of s g (run s)
+            (lq.follows (S.function ∷ older) i level (Tests block (suc block)) before s g
+            (stand-front S before xs tail stands) (first-room level q.levels a.levels b.levels _ room)
+            (scalar, start-there S front (ms ++ (leave ∷ tail')) block first,
+            start-there S front' (ns ++ (leave ∷ ends)) (suc block) second) begins))
+            (λ v s' h again. pick (is_true v) s' h front front' other tail' first second third again))),
+        conditional-typed (S.function ∷ older) (run s),
+      )
+    where
+      pick : (bit : Bool) (s' : source.State) (h : graph.State) (front front' other tail' : List Line)
+          → Stand S front (Start block ∷ (a.lines j level wanted ++ (Emit (op.Jump (block + 2)) ∷ tail')))
+          → Stand S front' (Start (suc block) ∷ (b.lines n level wanted
+          ++ (Emit (op.Jump (block + 2)) ∷ Start (block + 2) ∷ [])))
+          → Stand S other (Start (block + 2) ∷ []) → Begins S (S.function ∷ older) s' h
+          → LeadsTo S (S.function ∷ older) level wanted int s' (at_start S (if bit then block else suc block) h) h
+          (λ v i. behind (other ++ Start (block + 2) ∷ []) i)
+          (and_then (if bit then run' s' else run'' s') (as_type int))
+      pick true s' h front front' other tail' first second third again =
+          arm-jumps older a run' t la of one falls' block j (block + 2) level wanted on front other tail' s' h first third
+          (second-room level q.levels a.levels b.levels _ room) may again
+      pick false s' h front front' other tail' first second third again =
+          arm-jumps older b run'' u lb of' one' falls'' (suc block) n (block + 2) level wanted on front' other
+          (Start (block + 2) ∷ []) s' h second third (third-room level q.levels a.levels b.levels _ room) may again
+
+  conditional-fits : (older : List Function) (block level : ℕ) (wanted : Wanted) (before : List Line) (s : source.State)
+      (g : graph.State) → Stand S before ((conditional_part (context_of S) int q a b).lines block level wanted)
+      → level + max q.levels (max a.levels b.levels) ≤ levels_of S.function → MayWant S wanted int
+      → Begins S (S.function ∷ older) s g
+      → Fits S (S.function ∷ older) before ((conditional_part (context_of S) int q a b).lines block level wanted) level
+      wanted int s g (conditional_run s)
+  conditional-fits older block level Dropped before s g stands room may begins =
+      onward-fits older block _ _ _ level Dropped tt before s g stands room may begins
+  conditional-fits older block level Own before s g stands room may begins =
+      onward-fits older block _ _ _ level Own tt before s g stands room may begins
+  conditional-fits older block level (ToLocal k) before s g stands room may begins =
+      onward-fits older block _ _ _ level (ToLocal k) tt before s g stands room may begins
+  conditional-fits older block level (Tests yes' no') before s g stands room may begins = (
+    leads-follow S (S.function ∷ older) before
+        ((conditional_part (context_of S) int q a b).lines block level (Tests yes' no')) level (Tests yes' no') int s g
+        (conditional_run s)
+        (tested-fits older block (block + 2) (block + 2 + test_blocks_of q)
+        (block + 2 + test_blocks_of q + a.blocks (Tests yes' no')) level yes' no' before s g stands room may begins),
+    conditional-typed (S.function ∷ older) (run s),
+  )
+
+  pub conditional-lowers : Lowers S (conditional_part (context_of S) int q a b) conditional_run
+  conditional-lowers = compound-lowers S (conditional_part (context_of S) int q a b) conditional_run refl refl
+      (λ older block level wanted before s g stands room may begins.
+      conditional-fits older block level wanted before s g stands room may begins)
+
+pub conditionals-lower : ConditionalsLower
+conditionals-lower S site q a b t u lq scalar la of lb of' =
+    lowers-same S (conditional_part (context_of S) int (part_of (context_of S) q) (part_of (context_of S) a)
+    (part_of (context_of S) b)) _ _ (λ s. refl)
+    (conditional-lowers S site (part_of (context_of S) q) (part_of (context_of S) a) (part_of (context_of S) b)
+    (evaluate S.calls q) (evaluate S.calls a) (evaluate S.calls b) t u lq scalar la of lb of'
+    (levels-one (context_of S) a) (levels-one (context_of S) b) (turns-fall S site q) (turns-fall S site a)
+    (turns-fall S site b))
+
+-- ---- the unary `+`
+
+plus-same : (r : Evaluated Held) → and_then r (as_type int) ≡ and_then r (λ v t. Gives (unary_value Int Plus v) t)
+plus-same (Gives (HoldsNumber n) t) = refl
+plus-same (Gives (HoldsPointer array index) t) = refl
+plus-same (Ends end t) = refl
+
+pub pluses-lower : PlusesLower
+pluses-lower S site e u lowers of =
+    lowers-same S (unary_part (context_of S) Plus (part_of (context_of S) e)) _ _ (λ s. plus-same (evaluate S.calls e s))
+    (compound-lowers S (unary_part (context_of S) Plus (part_of (context_of S) e)) _ refl refl
+    (λ older block level wanted before s g stands room may b.
+    in_type-fits S site older Int (part_of (context_of S) e) (evaluate S.calls e) u lowers of (levels-one (context_of S) e)
+    (turns-fall S site e) block level wanted before s g stands room may b))
