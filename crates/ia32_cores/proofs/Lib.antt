@@ -8,3 +8,7 @@ pub mod Conditions
 pub mod Dividing
 pub mod Changing
 pub mod Setting
+pub mod Beside
+pub mod Counting
+pub mod Quotients
+pub mod Stopping

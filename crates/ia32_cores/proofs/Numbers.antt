@@ -1,15 +1,15 @@
 -- What CMP, SHL and MOVSX make of words.
 use Rattle.std.proofs.Common.{◌≡◌, ℕ, suc, ◌-◌, ◌*◌, ◌%◌, ◌^◌, ◌<◌, ℤ, pos, negsuc, ◌*ℤ◌, refl, sym, ap, ◌∙◌, arith}
 use Rattle.std.specs.Prelude.{FitsSigned}
-use Rattle.std.specs.Int.{w8, w16, w32, cast_signed, cast_unsigned, int_wrap}
+use Rattle.std.specs.Int.{w8, w16, w32, cast_signed, cast_unsigned, int_shr, int_wrap}
 use Rattle.std.proofs.Math.Nat.{mod-eq_of_lt, mod-lt}
 use Rattle.std.proofs.lemmas.Nat.{pow_below}
 use Rattle.std.proofs.lemmas.Int.{ints, to_z-of_z, of_z-to_z, int_wrap-mul_right, wrapping_mul-bits}
-use Rattle.flow_graph.specs.Meaning.{shift_count}
+use Rattle.flow_graph.specs.Meaning.{shift_count, shifted_right}
 use Rattle.std.proofs.Common.{Some}
 use Rattle.std.proofs.lemmas.Bool.Decides.{nat_tests}
 use Rattle.flow_graph.specs.declared.op.Comparison.TheVariants.{Eq, Ne, Lt, Le, Gt, Ge}
-use Rattle.ia32_cores.specs.Words.{ComparisonDecides, LeftShiftIs, LowHalfIs}
+use Rattle.ia32_cores.specs.Words.{ComparisonDecides, LeftShiftIs, LowHalfIs, RightShiftIs}
 
 -- ---- 16 bits
 
@@ -48,6 +48,17 @@ pub left-shift-is : LeftShiftIs
 left-shift-is x n f g =
     shifted-left x (2 ^ shift_count n) f (pow_below (shift_count n) 32 (mod-lt (cast_unsigned w32 n) (omega arith)))
     ∙ ap (λ (k : ℕ). cast_unsigned w32 x * 2 ^ k % 2 ^ 32) (same-count n g)
+
+-- an arithmetic shift rounds down
+same-right : (x : ℤ) (k : ℕ) → int_shr x k ≡ shifted_right x k
+same-right (pos a) k = refl
+same-right (negsuc a) k = refl
+
+pub right-shift-is : RightShiftIs
+right-shift-is x n f g =
+    ap (λ (k : ℕ). cast_unsigned w32 (shifted_right x k)) (same-count n g)
+    ∙ ap (cast_unsigned w32) (sym (same-right x (cast_unsigned w8 n % 32)))
+    ∙ ap (λ (z : ℤ). cast_unsigned w32 (int_shr z (cast_unsigned w8 n % 32))) (sym (to_z-of_z w32 x f))
 
 -- ---- comparisons
 

@@ -2,7 +2,8 @@ ghost use Rattle.ia32_cores.specs.Words.{ComparisonDecides, LeftShiftIs, RightSh
 ghost use Rattle.ia32_cores.specs.Words.{DivisionTraps, DivisionIs};
 ghost use Rattle.ia32_cores.specs.Laws.{LowPuts, HalfPuts, ShiftPuts, PlacesCompare, SetPuts, BranchGoes};
 ghost use Rattle.ia32_cores.specs.Laws.{DivisionStops, QuotientPuts, RemainderPuts};
-ghost use Rattle.ia32_cores.specs.Ops.{LowFollows, HalfFollows, NumbersSetFollow};
+ghost use Rattle.ia32_cores.specs.Ops.{LowFollows, HalfFollows, LeftShiftFollows, RightShiftFollows, NumbersSetFollow};
+ghost use Rattle.ia32_cores.specs.Ops.{QuotientFollows, RemainderFollows};
 
 /// What instructions make of the words of numbers is what the ops make of the numbers: the conditions of comparisons
 /// after CMP, SHL and SAR by a byte, CDQ with IDIV, and MOVSX of 16 bits.
@@ -44,4 +45,8 @@ pub fn rows_follow_steps()
     ensures low { LowFollows }
     ensures half { HalfFollows }
     ensures set { NumbersSetFollow }
+    ensures shl { LeftShiftFollows }
+    ensures sar { RightShiftFollows }
+    ensures div { QuotientFollows }
+    ensures rem { RemainderFollows }
 {}

@@ -1,4 +1,6 @@
 use Rattle.ia32_cores.proofs.Changing.{half-follows, low-follows}
+use Rattle.ia32_cores.proofs.Counting.{left-shift-follows, right-shift-follows}
+use Rattle.ia32_cores.proofs.Stopping.{quotient-follows, remainder-follows}
 use Rattle.ia32_cores.proofs.Setting.{numbers-set-follow}
 use Rattle.ia32_cores.proofs.laws.rows_follow_steps.Goals as goal
 
@@ -10,3 +12,15 @@ returns-clause-half c = half-follows
 
 pub returns-clause-set : goal.returns-clause-set
 returns-clause-set c = numbers-set-follow
+
+pub returns-clause-shl : goal.returns-clause-shl
+returns-clause-shl c = left-shift-follows
+
+pub returns-clause-sar : goal.returns-clause-sar
+returns-clause-sar c = right-shift-follows
+
+pub returns-clause-div : goal.returns-clause-div
+returns-clause-div c = quotient-follows
+
+pub returns-clause-rem : goal.returns-clause-rem
+returns-clause-rem c = remainder-follows
