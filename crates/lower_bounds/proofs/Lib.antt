@@ -16,3 +16,4 @@ pub mod Weighings
 pub mod Shapes
 pub mod Marks
 pub mod Sizes
+pub mod Ordered

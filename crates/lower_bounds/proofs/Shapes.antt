@@ -34,10 +34,10 @@ last-more ops p [] h = absurd h
 last-more ops p (q ∷ ps) h = h
 
 -- the ops of lines stand in the graph from a point on
-abbrev StandFrom : List Op → ℕ → List Line → Type 0
+abbrev pub StandFrom : List Op → ℕ → List Line → Type 0
 StandFrom ops p lines = (j : ℕ) → slice_get ops (p + j) ≡ slice_get (ops_in lines) j
 
-stand-behind : (ops : List Op) (p : ℕ) (i : Op) (lines : List Line) → StandFrom ops p (Emit i ∷ lines)
+pub stand-behind : (ops : List Op) (p : ℕ) (i : Op) (lines : List Line) → StandFrom ops p (Emit i ∷ lines)
     → StandFrom ops (suc p) lines
 stand-behind ops p i lines h j =
     let e : suc p + j ≡ p + suc j = omega arith in
@@ -61,7 +61,7 @@ last-here : (ops : List Op) (p : ℕ) (ps : List ℕ) (block : ℕ) (lines : Lis
 last-here ops p ps block lines h (inl last) = last-more ops p ps last
 last-here ops p ps block lines h (inr none) = rw none.0 h
 
-not-same : (b block : ℕ) → (b == block) ≡ false → same block b ≡ 0
+pub not-same : (b block : ℕ) → (b == block) ≡ false → same block b ≡ 0
 not-same b block e = grind (arith, nat_tests)
 
 either-bool : (b : Bool) → (b ≡ true) ⊎ (b ≡ false)

@@ -1,12 +1,14 @@
--- Laws on how large graphs are, beside those of `lower_lines`.
-use Rattle.std.specs.Prelude.{◌≤◌, codes, length, [], ◌∷◌}
-use Rattle.std.specs.List.{All}
+-- Laws on how large graphs are, and on the order of their points, beside those of `lower_lines`.
+use Rattle.std.specs.Prelude.{◌≡◌, ◌<◌, ◌≤◌, ℕ, List, codes, length, slice_get, Some, [], ◌∷◌}
+use Rattle.std.specs.List.{All, AllByRecursion}
 use Rattle.c_tree.specs.declared.types.IntegerType.TheVariants.{Int}
-use Rattle.c_tree.specs.Program.{Done, Program, int}
+use Rattle.c_tree.specs.Program.{Done, Function, Program, int}
 use Rattle.c_tree.specs.Sizes.{function_size}
+use Rattle.c_tree.specs.WellTyped.{WellTyped}
+use Rattle.flow_graph.specs.Graphs.{EndsOnlyLast, Flow, IsArray, IsDistinct, LastIsEnd, points_of}
 use Rattle.lower_lines.specs.Laws.{GraphsAreSmall}
 use Rattle.lower_lines.specs.Lowering.{AreSmall}
-use Rattle.lower_lines.specs.Programs.{lowered}
+use Rattle.lower_lines.specs.Programs.{graph_of_function, lowered}
 
 -- no function has more arrays than tokens, as where each is declared by an item of its own
 abbrev pub HasFewArrays : Program → Type 0
@@ -39,3 +41,26 @@ undeclared = record {
 -- Without that, not every typed program has graphs so small.
 abbrev pub NotAllAreSmall : Type 0
 NotAllAreSmall = GraphsAreSmall → ⊥
+
+-- ---- the order of points
+
+-- what the points of a block keep: each is at home there, none stands twice, and an end stands only last
+pub record IsOrdered (flow : Flow) (homes : List ℕ) (block : ℕ) : Type 0 where
+  pub at_home : AllByRecursion (λ p. slice_get homes p ≡ Some block) (points_of flow block)
+  pub once : IsDistinct (points_of flow block)
+  pub ends : EndsOnlyLast flow.ops (points_of flow block)
+
+-- what a graph keeps, but for what its ops name: each point has one block, each block is ended, there is a first
+-- block, and frame arrays have elements
+pub record IsLaidOut (flow : Flow) : Type 0 where
+  pub homes : List ℕ
+  pub one_home : length homes ≡ length flow.ops
+  pub each_block : (block : ℕ) → IsOrdered flow homes block
+  pub begins : 0 < length flow.blocks
+  pub ended : All (LastIsEnd flow.ops) flow.blocks
+  pub arrays_fit : AllByRecursion IsArray flow.arrays
+
+-- the graphs of a typed program are laid out so
+abbrev pub GraphsAreLaidOut : Type 0
+GraphsAreLaidOut = (p : Program) → WellTyped p → (k : ℕ) (f : Function) → slice_get p.functions k ≡ Some f
+    → IsLaidOut (graph_of_function p f)

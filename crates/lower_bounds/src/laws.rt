@@ -1,6 +1,6 @@
 //! Laws of lines and of their graphs: each function's contract is one, and the function does nothing.
 
-ghost use Rattle.lower_bounds.specs.Laws.{DeclaredAreSmall, NotAllAreSmall};
+ghost use Rattle.lower_bounds.specs.Laws.{DeclaredAreSmall, GraphsAreLaidOut, NotAllAreSmall};
 ghost use Rattle.lower_lines.specs.Laws.{AllLinesClose, MarksHold, ObjectsHold, ShapesHold};
 
 /// The static objects of the graphs are the program's, with their first contents.
@@ -34,4 +34,10 @@ pub fn declared_are_small()
 /// A typed program may have more frame arrays than tokens: nothing says that an item declares each.
 pub fn not_all_are_small()
     ensures { NotAllAreSmall }
+{}
+
+/// In the graphs of a typed program each point is in one block, each block has an end as its last op alone, there is a
+/// first block, and each frame array has elements of 1, 2 or 4 bytes.
+pub fn graphs_are_laid_out()
+    ensures { GraphsAreLaidOut }
 {}

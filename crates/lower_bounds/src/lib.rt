@@ -5,5 +5,6 @@
 mod laws;
 
 pub use laws::{
-    all_lines_close, declared_are_small, marks_hold, not_all_are_small, objects_hold, shapes_hold,
+    all_lines_close, declared_are_small, graphs_are_laid_out, marks_hold, not_all_are_small,
+    objects_hold, shapes_hold,
 };
