@@ -1,0 +1,23 @@
+//! Laws of the lines of places: each function's contract is one, and the function does nothing.
+
+ghost use Rattle.lower_places.specs.Laws.{ElementsAreRead, ObjectsAreRead, TargetsAreRead, TargetsFollow};
+
+/// The lines that read an element do what the source does, where those of its address do.
+pub fn elements_are_read()
+    ensures { ElementsAreRead }
+{}
+
+/// The lines of the address of what a pointer goes to do what the source does, where those of the pointer do.
+pub fn targets_follow()
+    ensures { TargetsFollow }
+{}
+
+/// The lines that read what a pointer goes to do what the source does, where those of the pointer do.
+pub fn targets_are_read()
+    ensures { TargetsAreRead }
+{}
+
+/// The lines that read a static object that is no array do what the source does.
+pub fn objects_are_read()
+    ensures { ObjectsAreRead }
+{}

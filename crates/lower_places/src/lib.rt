@@ -1,0 +1,6 @@
+//! Laws of the lines of places: elements of arrays, and static objects. No code; `specs/Laws.antt` has the laws.
+#![tactic(auto)]
+
+mod laws;
+
+pub use laws::{elements_are_read, objects_are_read, targets_are_read, targets_follow};
