@@ -17,3 +17,4 @@ pub mod Leading
 pub mod Conditions
 pub mod Logical
 pub mod Conditional
+pub mod Walking

@@ -225,7 +225,7 @@ update_of S w operator k = update_part (context_of S) (Integer w) (step_op opera
 abbrev new_given : IntegerType → StepOp → ℕ → source.State → Evaluated Held
 new_given w operator k s = updated (Integer w) (step_op operator) (InLocal k) (held s k) (HoldsNumber (pos 1)) s
 
-assigned-of : (S : Site) (w : IntegerType) (k : ℕ) (a : Part)
+pub assigned-of : (S : Site) (w : IntegerType) (k : ℕ) (a : Part)
     → (assigned_local (context_of S) (Integer w) k a).of ≡ Integer w
 assigned-of S Char k a = refl
 assigned-of S Short k a = refl

@@ -1,5 +1,6 @@
 //! Laws of the lines of expressions: each function's contract is one, and the function does nothing.
 
+ghost use Rattle.lower_expressions.specs.Walk.{NumbersLower};
 ghost use Rattle.lower_expressions.specs.Laws.{PlusesLower};
 ghost use Rattle.lower_expressions.specs.Laws.{ConditionalsLower};
 ghost use Rattle.lower_expressions.specs.Laws.{OrsLower};
@@ -108,4 +109,9 @@ pub fn conditionals_lower()
 /// The lines of the unary `+` do what the source does, where those of its operand do.
 pub fn pluses_lower()
     ensures { PlusesLower }
+{}
+
+/// The lines of every typed expression of numbers do what the source does (`specs/Numeric.antt`).
+pub fn numbers_lower()
+    ensures { NumbersLower }
 {}
