@@ -102,7 +102,7 @@ pub record Spares (R : ℕ → Type 0) (o : Op) : Type 0 where
   pub places : (q : Place) → IsSpared o q → PlaceHasCells R q
 
 -- what a place contains, from its words and bytes
-same-from : (q : Place) (s u : machine.State) → word_of Ebp u ≡ word_of Ebp s
+pub same-from : (q : Place) (s u : machine.State) → word_of Ebp u ≡ word_of Ebp s
     → ((width : Width) (w : ℕ) → Contains s width q w → Contains u width q w) → IsSame (word_of Ebp s) q s u
 same-from (InWord r) s u ebp kept = kept Two (word_of r s) refl
 same-from (InByte r) s u ebp kept = kept One (byte_of r s) refl

@@ -12,3 +12,4 @@ pub mod Beside
 pub mod Counting
 pub mod Quotients
 pub mod Stopping
+pub mod Choosing

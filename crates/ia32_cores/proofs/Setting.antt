@@ -29,7 +29,7 @@ use Rattle.ia32_cores.specs.Ops.{NumbersSetFollow}
 use Rattle.ia32_cores.proofs.Conditions.{set-puts}
 
 -- what holds a number has it as its value
-value-is : (o : Option Value) (x : ℤ) → number_of o ≡ Some x → o ≡ Some (Number x)
+pub value-is : (o : Option Value) (x : ℤ) → number_of o ≡ Some x → o ≡ Some (Number x)
 value-is None x e = absurd (let no : None ≡ Some x = e in cc)
 value-is (Some (Number n)) x e = ap (λ (v : Option ℤ). number_back v) e
   where

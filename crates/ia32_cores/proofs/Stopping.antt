@@ -217,8 +217,8 @@ pub quotient-follows : QuotientFollows
 quotient-follows d a b code input g s supported state shown has r =
     let fits = (op-is code g (op.Div d a b) supported state has).fits in
     division-follows Eax int_div (op.Div d a b) d a b code input g s quotient-part quotient-fits
-    (division-spares (op.Div d a b) (λ q h. h)) refl (inl refl) (inr (inl refl)) (λ next h. h) fits.0 fits.1.0 fits.1.1.0
-    supported state shown has r
+    (division-spares (op.Div d a b) (λ q h. h)) refl (inl refl) (inr (inl refl)) (λ next h. h) fits.0 fits.1.0
+    fits.1.1.0 supported state shown has r
 
 pub remainder-follows : RemainderFollows
 remainder-follows d a b code input g s supported state shown has r =

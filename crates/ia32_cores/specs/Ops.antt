@@ -1,20 +1,23 @@
 -- That the machine follows single ops through these rows, over any placement that supports the graph.
-use Rattle.std.specs.Prelude.{◌≡◌, ℕ, ℤ, false, List, Some}
+use Rattle.std.specs.Prelude.{◌≡◌, ℕ, ℤ, false, List, ◌∷◌, ◌++◌, Some}
 use Rattle.ia32_regs.specs.declared.names.Reg32.TheVariants.{Eax, Edx}
 use Rattle.ia32_insn.specs.declared.insn.ShiftOp.TheVariants as shift
+use Rattle.ia32_insn.specs.declared.item.Item.{Item}
+use Rattle.ia32_insn.specs.declared.item.Item.TheVariants as item
 use Rattle.ia32_insn.specs.State as machine
 use Rattle.flow_graph.specs.declared.op.Comparison.{Comparison}
 use Rattle.flow_graph.specs.declared.op.Op.TheVariants as op
 use Rattle.flow_graph.specs.Meaning.{act}
 use Rattle.flow_graph.specs.States as graph
-use Rattle.flow_graph.specs.States.{number_at, op_at}
+use Rattle.flow_graph.specs.States.{entry_of, number_at, op_at}
 use Rattle.flow_graph.specs.WellFormed.{IsState}
 use Rattle.ia32_shows.specs.Follows.{Follows}
 use Rattle.ia32_shows.specs.Placements.{Code}
 use Rattle.ia32_shows.specs.Shows.{Shows}
-use Rattle.ia32_keeps.specs.Supports.{IsSupported}
+use Rattle.ia32_shows.specs.Sites.{ReadyAt, StandsFrom}
+use Rattle.ia32_keeps.specs.Supports.{IsSupported, site_of}
 use Rattle.ia32_keeps.specs.Ops.{ItemsFollow, RowAt, after_at, before_at}
-use Rattle.ia32_cores.specs.Rows.{dividing, halving, lowering, setting, shifting}
+use Rattle.ia32_cores.specs.Rows.{branching, dividing, halving, lowering, setting, shifting}
 
 -- the low byte of a number, and its low 16 bits
 abbrev pub LowFollows : Type 0
@@ -57,3 +60,23 @@ NumbersSetFollow =
     → op_at code.program g ≡ Some (op.Set how d a b) → number_at g a ≡ Some x → number_at g b ≡ Some y
     → RowAt code g (setting how (after_at code g d) (before_at code g a) (before_at code g b)) s
     → Follows code input s g false (act code.program g (op.Set how d a b))
+
+-- Behind the label of a block of the current function stand the block's first point and more.
+pub record BlockAt (code : Code) (g : graph.State) (block : ℕ) : Type 0 where
+  pub front : List Item
+  pub back : List Item
+  pub start : ℕ
+  pub stands : StandsFrom (site_of code g.current.function) (front ++ (item.Label block ∷ back)) start
+  pub begins : (q : ℕ) → entry_of code.program g.current.function block ≡ Some q
+      → (more : List Item) × (back ≡ item.Point q ∷ more)
+
+-- a branch on a comparison of two numbers
+abbrev pub NumbersBranchFollow : Type 0
+NumbersBranchFollow =
+    (how : Comparison) (a b first second : ℕ) (code : Code) (input : List ℕ) (g : graph.State) (s : machine.State)
+    (x y : ℤ) (rest : List Item) → IsSupported code → IsState code.program g → Shows code input g s
+    → op_at code.program g ≡ Some (op.Branch how a b first second) → number_at g a ≡ Some x → number_at g b ≡ Some y
+    → BlockAt code g first → BlockAt code g second
+    → ReadyAt (site_of code g.current.function)
+    (branching how (before_at code g a) (before_at code g b) first second ++ rest) s
+    → Follows code input s g false (act code.program g (op.Branch how a b first second))

@@ -3,7 +3,7 @@ ghost use Rattle.ia32_cores.specs.Words.{DivisionTraps, DivisionIs};
 ghost use Rattle.ia32_cores.specs.Laws.{LowPuts, HalfPuts, ShiftPuts, PlacesCompare, SetPuts, BranchGoes};
 ghost use Rattle.ia32_cores.specs.Laws.{DivisionStops, QuotientPuts, RemainderPuts};
 ghost use Rattle.ia32_cores.specs.Ops.{LowFollows, HalfFollows, LeftShiftFollows, RightShiftFollows, NumbersSetFollow};
-ghost use Rattle.ia32_cores.specs.Ops.{QuotientFollows, RemainderFollows};
+ghost use Rattle.ia32_cores.specs.Ops.{QuotientFollows, RemainderFollows, NumbersBranchFollow};
 
 /// What instructions make of the words of numbers is what the ops make of the numbers: the conditions of comparisons
 /// after CMP, SHL and SAR by a byte, CDQ with IDIV, and MOVSX of 16 bits.
@@ -49,4 +49,5 @@ pub fn rows_follow_steps()
     ensures sar { RightShiftFollows }
     ensures div { QuotientFollows }
     ensures rem { RemainderFollows }
+    ensures branch { NumbersBranchFollow }
 {}
