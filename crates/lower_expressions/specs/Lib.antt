@@ -1,3 +1,4 @@
 pub mod Laws
 pub mod Numeric
 pub mod Walk
+pub mod Corners

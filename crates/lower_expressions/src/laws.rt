@@ -1,5 +1,6 @@
 //! Laws of the lines of expressions: each function's contract is one, and the function does nothing.
 
+ghost use Rattle.lower_expressions.specs.Corners.{ShiftsDiffer};
 ghost use Rattle.lower_expressions.specs.Walk.{NumbersLower};
 ghost use Rattle.lower_expressions.specs.Laws.{PlusesLower};
 ghost use Rattle.lower_expressions.specs.Laws.{ConditionalsLower};
@@ -114,4 +115,10 @@ pub fn pluses_lower()
 /// The lines of every typed expression of numbers do what the source does (`specs/Numeric.antt`).
 pub fn numbers_lower()
     ensures { NumbersLower }
+{}
+
+/// By a number below those of 32 bits, which only an input without bytes makes, the source and the graphs shift
+/// differently (`specs/Corners.antt`).
+pub fn shifts_differ()
+    ensures { ShiftsDiffer }
 {}
