@@ -32,6 +32,11 @@ use Rattle.lower_steps.proofs.Steps.{jump-step}
 use Rattle.lower_expressions.proofs.Binary.{Fits, compound-lowers, turns-fall}
 use Rattle.lower_expressions.proofs.Converting.{IsOnward, as_type, begins-again, fits-any, in_type-fits, int-same}
 use Rattle.lower_expressions.proofs.Converting.{lowers-fit, may-any}
+use Rattle.lower_expressions.proofs.Made.{some-and}
+use Rattle.std.specs.Prelude.{slice_get}
+use Rattle.lower_lines.specs.Expressions.{cast_part}
+use Rattle.lower_lines.specs.Following.{GoesInto}
+use Rattle.c_tree.specs.declared.types.IntegerType.TheVariants.{Char, Short}
 use Rattle.lower_expressions.proofs.Going.{Goes, stand-back, stand-front}
 use Rattle.lower_expressions.proofs.Leading.{IsTruth, IsValue, LeadsTo, choose-leads, follows-lead, leads-behind}
 use Rattle.lower_expressions.proofs.Leading.{leads-follow, leads-on, one-more, one-way, seven-more, start-goes, start-there}
@@ -40,7 +45,7 @@ use Rattle.lower_expressions.proofs.Levels.{levels-one}
 use Rattle.lower_expressions.proofs.Pairs.{Falls}
 use Rattle.lower_expressions.proofs.Stepping.{lowers-same}
 use Rattle.lower_expressions.proofs.Conditions.{TestsSo, dropped-any, tests-fit, truth-fits, truth-test, truth-typed}
-use Rattle.lower_expressions.specs.Laws.{ConditionalsLower, PlusesLower}
+use Rattle.lower_expressions.specs.Laws.{ConditionalsLower, PlusesLower, VoidsLower}
 
 -- ---- a number is given
 
@@ -313,3 +318,44 @@ pluses-lower S site e u lowers of =
     (λ older block level wanted before s g stands room may b.
     in_type-fits S site older Int (part_of (context_of S) e) (evaluate S.calls e) u lowers of (levels-one (context_of S) e)
     (turns-fall S site e) block level wanted before s g stands room may b))
+
+-- ---- a cast to void
+
+void-typed : (S : Site) (active : List Function) (r : Evaluated Held)
+    → GivesOf S.program active Void (and_then r (λ v t. Gives (source.in_type Void v) t))
+void-typed S active (Gives v t) = tt
+void-typed S active (Ends end t) = tt
+
+void-fits : (S : Site) (older : List Function) (a : Part) (run : source.State → Evaluated Held) → Lowers S a run
+    → (block level : ℕ) (wanted : Wanted) (before : List Line) (s : source.State) (g : graph.State)
+    → Stand S before (a.lines block level Dropped) → level + a.levels ≤ levels_of S.function → MayWant S wanted Void
+    → Begins S (S.function ∷ older) s g
+    → Fits S (S.function ∷ older) before (a.lines block level Dropped) level wanted Void s g
+    (and_then (run s) (λ v t. Gives (source.in_type Void v) t))
+void-fits S older a run la block level Dropped before s g stands room may b = (
+  leads-follow S (S.function ∷ older) before (a.lines block level Dropped) level Dropped Void s g
+      (and_then (run s) (λ v t. Gives (source.in_type Void v) t))
+      (dropped-any S (S.function ∷ older) level a.of Void s (behind before g) g (before ++ a.lines block level Dropped)
+      (run s) (source.in_type Void)
+      (follows-lead S (S.function ∷ older) before (a.lines block level Dropped) level Dropped a.of s g (run s)
+      (la.follows (S.function ∷ older) block level Dropped before s g stands room tt b))),
+  void-typed S (S.function ∷ older) (run s),
+)
+void-fits S older a run la block level Own before s g stands room may b = absurd (may refl)
+void-fits S older a run la block level (Tests yes' no') before s g stands room may b = absurd (may.0 refl)
+void-fits S older a run la block level (ToLocal k) before s g stands room may b =
+    let (l, e, into) = some-and (slice_get S.function.locals k) (λ m. GoesInto Void m.of) may in absurd (never l.of into)
+  where
+    never : (of : ValueType) → GoesInto Void of → ⊥
+    never Void h = h
+    never (Integer Char) h = h
+    never (Integer Short) h = h
+    never (Integer Int) h = h
+    never (Pointer t) h = h
+
+pub voids-lower : VoidsLower
+voids-lower S site e lowers =
+    compound-lowers S (cast_part (context_of S) Void (part_of (context_of S) e)) _ refl refl
+    (λ older block level wanted before s g stands room may b.
+    void-fits S older (part_of (context_of S) e) (evaluate S.calls e) lowers block level wanted before s g stands room may
+    b)

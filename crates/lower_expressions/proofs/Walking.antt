@@ -23,7 +23,7 @@ use Rattle.lower_lines.specs.Parts.{Part}
 use Rattle.lower_expressions.proofs.Assigning.{assigns-lower, local-lowers, local-of}
 use Rattle.lower_expressions.proofs.Atoms.{constants-lower, getchar-lowers}
 use Rattle.lower_expressions.proofs.Binary.{binaries-lower}
-use Rattle.lower_expressions.proofs.Conditional.{conditionals-lower, pluses-lower}
+use Rattle.lower_expressions.proofs.Conditional.{conditionals-lower, pluses-lower, voids-lower}
 use Rattle.lower_expressions.proofs.Conditions.{nots-lower}
 use Rattle.lower_expressions.proofs.Converting.{casts-lower}
 use Rattle.lower_expressions.proofs.Logical.{ands-lower, ors-lower}
@@ -31,7 +31,7 @@ use Rattle.lower_expressions.proofs.Made.{some-and}
 use Rattle.lower_expressions.proofs.Outside.{commas-lower, exits-lower, putchars-lower}
 use Rattle.lower_expressions.proofs.Stepping.{assigned-of, lowers-same, steps-lower, updates-lower}
 use Rattle.lower_expressions.proofs.Unary.{complements-lower, minuses-lower}
-use Rattle.lower_expressions.specs.Numeric.{HasCounts, IsNumeric}
+use Rattle.lower_expressions.specs.Numeric.{CastsNumber, HasCounts, IsNumeric}
 use Rattle.lower_expressions.specs.Walk.{NumbersLower}
 
 -- ---- types
@@ -201,11 +201,12 @@ module _ (S : Site) (site : IsSite S) where
   step-does (Integer w) op (Target element e') typed is = absurd is.0
   step-does (Integer w) op (Element element a i) typed is = absurd is.0
 
-  cast-does : (to : ValueType) (e : Expression) → IsInteger to → (t : IntegerType)
-      → (part_of (context_of S) e).of ≡ Integer t → Does e → Does (Cast to e)
-  cast-does Void e is t same does = absurd is
-  cast-does (Pointer u) e is t same does = absurd is
-  cast-does (Integer w) e is t same does = casts-lower S site w e t does same
+  cast-does : (to : ValueType) (e : Expression) → IsTyped S.program S.function e → IsNumeric S.calls e
+      → CastsNumber to (value_type e) → Does e → Does (Cast to e)
+  cast-does Void e typed is casts does = voids-lower S site e does
+  cast-does (Integer w) e typed is casts does =
+      let (t, same) = operand-type e typed is casts in casts-lower S site w e t does same
+  cast-does (Pointer u) e typed is casts does = absurd casts
 
   -- ---- the walk
 
@@ -242,9 +243,7 @@ module _ (S : Site) (site : IsSite S) where
       (conditionals-lower S site q a b t u (numbers-follow q typed.0 is.0)
       (not-void (part_of (context_of S) q).of r same) (numbers-follow a typed.2 is.2) same'
       (numbers-follow b typed.3 is.4) same'')
-  numbers-follow (Cast to e) typed is =
-      let (t, same) = operand-type e typed.0 is.1 is.2 in
-      cast-does to e is.0 t same (numbers-follow e typed.0 is.1)
+  numbers-follow (Cast to e) typed is = cast-does to e typed.0 is.0 is.1 (numbers-follow e typed.0 is.0)
   numbers-follow (Assign of place e) typed is =
       let (t, same) = operand-type e typed.1 is.2 is.3 in
       assign-does of place e typed.0 is t same (numbers-follow e typed.1 is.2)

@@ -151,3 +151,8 @@ abbrev pub PlusesLower : Type 0
 PlusesLower = (S : Site) → IsSite S → (e : Expression) (u : IntegerType)
     → Lowers S (part_of (context_of S) e) (evaluate S.calls e) → (part_of (context_of S) e).of ≡ Integer u
     → Lowers S (part_of (context_of S) (Unary Int Plus e)) (evaluate S.calls (Unary Int Plus e))
+
+-- a cast to void, of an expression of any type
+abbrev pub VoidsLower : Type 0
+VoidsLower = (S : Site) → IsSite S → (e : Expression) → Lowers S (part_of (context_of S) e) (evaluate S.calls e)
+    → Lowers S (part_of (context_of S) (Cast Void e)) (evaluate S.calls (Cast Void e))

@@ -7,6 +7,8 @@ use Rattle.c_tree.specs.Program.{LocalPlace, StaticPlace, Target, Element}
 use Rattle.c_tree.specs.Store.{State}
 use Rattle.c_tree.specs.WellTyped.{IsInteger}
 use Rattle.c_tree.specs.declared.expression.BinaryOp.{BinaryOp}
+use Rattle.c_tree.specs.declared.types.ValueType.{ValueType}
+use Rattle.c_tree.specs.declared.types.ValueType.TheVariants.{Void, Integer, Pointer}
 use Rattle.lower_expressions.specs.Laws.{GivesCount, IsShift}
 
 -- a local
@@ -20,7 +22,13 @@ IsName (Element element a i) = ⊥
 abbrev pub HasCounts : Calls → BinaryOp → Expression → Type 0
 HasCounts calls operator e = IsShift operator → (s : State) → GivesCount (evaluate calls e s)
 
--- `exit` and the comma may be void; everything else is a number.
+-- a cast to void, of whatever is numeric, or of a number to an integer type
+abbrev pub CastsNumber : ValueType → ValueType → Type 0
+CastsNumber Void from = Unit {0}
+CastsNumber (Integer t) from = IsInteger from
+CastsNumber (Pointer t) from = ⊥
+
+-- `exit`, the comma and a cast to void may be void; everything else is a number.
 abbrev pub IsNumeric : Calls → Expression → Type 0
 IsNumeric calls (Constant of n) = Unit {0}
 IsNumeric calls (Start element array) = ⊥
@@ -33,7 +41,7 @@ IsNumeric calls (And a b) = IsNumeric calls a × IsInteger (value_type a) × IsN
 IsNumeric calls (Or a b) = IsNumeric calls a × IsInteger (value_type a) × IsNumeric calls b × IsInteger (value_type b)
 IsNumeric calls (Conditional of t a b) = IsNumeric calls t × IsInteger (value_type t) × IsNumeric calls a
     × IsInteger (value_type a) × IsNumeric calls b × IsInteger (value_type b)
-IsNumeric calls (Cast to e) = IsInteger to × IsNumeric calls e × IsInteger (value_type e)
+IsNumeric calls (Cast to e) = IsNumeric calls e × CastsNumber to (value_type e)
 IsNumeric calls (Assign of place e) = IsName place × IsInteger of × IsNumeric calls e × IsInteger (value_type e)
 IsNumeric calls (Update of op place e) = IsName place × IsInteger of × IsNumeric calls e × IsInteger (value_type e)
     × HasCounts calls op e

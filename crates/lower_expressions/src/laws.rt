@@ -1,5 +1,6 @@
 //! Laws of the lines of expressions: each function's contract is one, and the function does nothing.
 
+ghost use Rattle.lower_expressions.specs.Laws.{VoidsLower};
 ghost use Rattle.lower_expressions.specs.Corners.{ShiftsDiffer};
 ghost use Rattle.lower_expressions.specs.Walk.{NumbersLower};
 ghost use Rattle.lower_expressions.specs.Laws.{PlusesLower};
@@ -121,4 +122,9 @@ pub fn numbers_lower()
 /// differently (`specs/Corners.antt`).
 pub fn shifts_differ()
     ensures { ShiftsDiffer }
+{}
+
+/// The lines of a cast to void do what the source does, where those of its operand do.
+pub fn voids_lower()
+    ensures { VoidsLower }
 {}

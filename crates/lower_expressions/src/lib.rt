@@ -4,7 +4,7 @@
 
 mod laws;
 
-pub use laws::{shifts_differ, numbers_lower, pluses_lower, conditionals_lower, ors_lower, ands_lower, nots_lower, steps_lower, updates_lower, commas_lower, exits_lower, putchars_lower, assigns_lower, 
+pub use laws::{voids_lower, shifts_differ, numbers_lower, pluses_lower, conditionals_lower, ors_lower, ands_lower, nots_lower, steps_lower, updates_lower, commas_lower, exits_lower, putchars_lower, assigns_lower, 
     binaries_lower, casts_lower, chars_lower, complements_lower, constants_lower, getchar_lowers,
     locals_lower, minuses_lower,
 };
