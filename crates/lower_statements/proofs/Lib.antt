@@ -9,4 +9,5 @@ pub mod Looping
 pub mod Declared
 pub mod Comparing
 pub mod Switching
+pub mod Arrays
 pub mod Walk

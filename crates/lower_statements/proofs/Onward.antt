@@ -81,7 +81,7 @@ own-zero-shows S active s g n b =
     low : (a b : ℕ) → a ≤ a + b + 1
     low a b = omega arith
 
-own-zero-there : (S : Site) (active : List Function) (s : source.State) (g : graph.State) → Begins S active s g
+pub own-zero-there : (S : Site) (active : List Function) (s : source.State) (g : graph.State) → Begins S active s g
     → (own (context_of S) 0).number < length g.current.variables
 own-zero-there S active s g b =
     with-older S.function active (λ calls. Shows S.program calls s g

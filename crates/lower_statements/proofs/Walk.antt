@@ -20,6 +20,7 @@ use Rattle.c_tree.specs.Program.{Conditional, Cast, Assign, Update, Step, Comma,
 use Rattle.c_tree.specs.Program.{Item, Scalar, Array, First, Nothing, Evaluated, Declared, Statement, Declare, Empty}
 use Rattle.c_tree.specs.Program.{Evaluate, Block, If, While, Do, For, Switch, Break, Continue, Return, Statements, Done}
 use Rattle.c_tree.specs.Program.{Next, Local}
+use Rattle.c_tree.specs.Program as tree
 use Rattle.c_tree.specs.Store as source
 use Rattle.c_tree.specs.Store.{Gives, Ends, Held, HoldsNumber, HoldsPointer, and_then, converted, in_type, visited}
 use Rattle.c_tree.specs.Store.{array_of, with_local, with_youngest, youngest}
@@ -40,6 +41,7 @@ use Rattle.lower_lines.specs.Variables.{Context}
 use Rattle.lower_bounds.proofs.Levels.{assigned-levels, turned-levels}
 use Rattle.lower_bounds.proofs.Types.{all-at, part-type}
 use Rattle.lower_expressions.proofs.Made.{some-and}
+use Rattle.lower_statements.proofs.Arrays.{assigned-integer, elements-lower}
 use Rattle.lower_statements.proofs.Conditions.{conditions-lower}
 use Rattle.lower_statements.proofs.Declared.{items-lower, no-items-lower, plain-scalars-lower, scalars-lower}
 use Rattle.lower_statements.proofs.Declared.{steady-scalars-lower}
@@ -49,7 +51,7 @@ use Rattle.lower_statements.proofs.Straight.{breaks-lower, continues-lower, drop
 use Rattle.lower_statements.proofs.Straight.{evaluations-lower, plain-returns-lower, returns-lower, straight-lowers}
 use Rattle.lower_statements.proofs.Switching.{switches-lower}
 use Rattle.lower_statements.proofs.Ways.{from-made}
-use Rattle.lower_statements.specs.Laws.{AfterLowers, ArraysLower, TestLowers, StatementsLowerWithArrays, BodiesLowerWithArrays}
+use Rattle.lower_statements.specs.Laws.{AfterLowers, TestLowers, TextsLower, StatementsLowerWithTexts, BodiesLowerWithTexts}
 use Rattle.lower_statements.specs.Ways.{Keeping, LowersFrom, LowersLines}
 
 -- ---- lists and runs
@@ -132,11 +134,6 @@ integer-of Void h = absurd h
 integer-of (Integer t) h = (t, refl)
 integer-of (Pointer t) h = absurd h
 
-assigned-integer : (t : IntegerType) (of : ValueType) → CanAssign (Integer t) of → (u : IntegerType) × (of ≡ Integer u)
-assigned-integer t Void h = absurd h
-assigned-integer t (Integer u) h = (u, refl)
-assigned-integer t (Pointer u) h = absurd h
-
 counts-same : (S : Site) (xs : Statements) → count_of xs ≡ length (runs_of (context_of S) xs)
 counts-same S Done = refl
 counts-same S (Next x others) = ap suc (counts-same S others)
@@ -144,7 +141,7 @@ counts-same S (Next x others) = ap suc (counts-same S others)
 -- ---- the function
 
 module _ (S : Site) (site : IsSite S) (well : WellTyped S.program) (expressions : ExpressionsFollow S)
-    (arrays : ArraysLower) (loops : ℕ) (high : S.bound ≤ loops) where
+    (texts : TextsLower) (loops : ℕ) (high : S.bound ≤ loops) where
   abbrev c : Context
   c = context_of S
 
@@ -211,7 +208,13 @@ module _ (S : Site) (site : IsSite S) (well : WellTyped S.program) (expressions 
           (declare S.calls S.listing (type_at S.function) (Scalar n v value))
       by None l at assigned scalar = plain-scalars-lower S site n v l own at scalar
       by (Some e) l at assigned scalar = initialised-scalar n v l e (reads_none e) refl own at scalar assigned
-  item (Array n k element value) h own = arrays S site well expressions n k element value h own
+  item (Array n k element value) h own = by value h
+    where
+      by : (value : tree.Initialiser) → IsItem S.program S.function (Array n k element value)
+          → LowersLines S (item_levels c (Array n k element value)) (item_lines c (Array n k element value))
+          (declare S.calls S.listing (type_at S.function) (Array n k element value))
+      by (tree.Elements es) h = elements-lower S site expressions n k element es h own
+      by (tree.Text object) h = texts S site well n k element object h own
 
   items : (xs : List Item) → AllByRecursion (IsItem S.program S.function) xs
       → AllByRecursion (λ x. IsOwn S (item_number x)) xs
@@ -455,12 +458,12 @@ module _ (S : Site) (site : IsSite S) (well : WellTyped S.program) (expressions 
         (from-place breaks continues labelled (suc base) place others (omega (arith, lt)) h.1
         (all-back (IsOwn S) (statement_numbers x) (statements_numbers others) own))
 
-pub statements-lower-with-arrays : StatementsLowerWithArrays
-statements-lower-with-arrays arrays S site well expressions loops high breaks continues x h own =
-    statement S site well expressions arrays loops high breaks continues x h
+pub statements-lower-with-texts : StatementsLowerWithTexts
+statements-lower-with-texts texts S site well expressions loops high breaks continues x h own =
+    statement S site well expressions texts loops high breaks continues x h
     (recursion_from_All (IsOwn S) (statement_numbers x) own)
 
-pub bodies-lower-with-arrays : BodiesLowerWithArrays
-bodies-lower-with-arrays arrays S site well expressions loops high breaks continues xs h own =
-    statement S site well expressions arrays loops high breaks continues (Block xs) h
+pub bodies-lower-with-texts : BodiesLowerWithTexts
+bodies-lower-with-texts texts S site well expressions loops high breaks continues xs h own =
+    statement S site well expressions texts loops high breaks continues (Block xs) h
     (recursion_from_All (IsOwn S) (statements_numbers xs) own)

@@ -28,6 +28,7 @@ use Rattle.c_tree.specs.Evaluation.{declare}
 use Rattle.c_tree.specs.WellTyped.{IsItem, WellTyped}
 use Rattle.lower_lines.specs.Laws.{BodiesLower, ExpressionsFollow, StatementsLower}
 use Rattle.lower_lines.specs.Statements.{item_levels, item_lines}
+use Rattle.c_tree.specs.Program.{Elements, Text}
 use Rattle.c_tree.specs.Store as source
 use Rattle.c_tree.specs.Store.{Evaluated, Gives, Held, and_then, visited}
 use Rattle.flow_graph.specs.declared.op.Op.TheVariants as op
@@ -222,19 +223,31 @@ SwitchesLower = (S : Site) → IsSite S → (breaks continues : Bool) (n : ℕ) 
     (λ s. and_then (run (visited S.listing n s))
     (λ v t. and_then (none_or_from (switched labels v) from t) after_switch))
 
--- ---- every statement
+-- ---- declared arrays
 
--- a declared array does what the source does, where expressions do
-abbrev pub ArraysLower : Type 0
-ArraysLower = (S : Site) → IsSite S → WellTyped S.program → ExpressionsFollow S
-    → (n k : ℕ) (element : IntegerType) (value : Initialiser) → IsItem S.program S.function (Array n k element value)
-    → IsOwn S n → LowersLines S (item_levels (context_of S) (Array n k element value))
+-- what it means that a declared array's lines do what the source does
+abbrev pub ArrayLowers : Site → ℕ → ℕ → IntegerType → Initialiser → Type 0
+ArrayLowers S n k element value = LowersLines S (item_levels (context_of S) (Array n k element value))
     (item_lines (context_of S) (Array n k element value))
     (declare S.calls S.listing (type_at S.function) (Array n k element value))
 
--- every statement and every body, given arrays
-abbrev pub StatementsLowerWithArrays : Type 0
-StatementsLowerWithArrays = ArraysLower → StatementsLower
+-- one with elements, or none, where expressions do
+abbrev pub ElementsLower : Type 0
+ElementsLower = (S : Site) → IsSite S → ExpressionsFollow S → (n k : ℕ) (element : IntegerType) (es : List Expression)
+    → IsItem S.program S.function (Array n k element (Elements es)) → IsOwn S n
+    → ArrayLowers S n k element (Elements es)
 
-abbrev pub BodiesLowerWithArrays : Type 0
-BodiesLowerWithArrays = ArraysLower → BodiesLower
+-- one that a string initialises
+abbrev pub TextsLower : Type 0
+TextsLower = (S : Site) → IsSite S → WellTyped S.program → (n k : ℕ) (element : IntegerType) (object : ℕ)
+    → IsItem S.program S.function (Array n k element (Text object)) → IsOwn S n
+    → ArrayLowers S n k element (Text object)
+
+-- ---- every statement
+
+-- every statement and every body, given strings
+abbrev pub StatementsLowerWithTexts : Type 0
+StatementsLowerWithTexts = TextsLower → StatementsLower
+
+abbrev pub BodiesLowerWithTexts : Type 0
+BodiesLowerWithTexts = TextsLower → BodiesLower

@@ -1,13 +1,14 @@
 //! Laws of the lines of statements: each function's contract is one, and the function does nothing.
 
-ghost use Rattle.lower_statements.specs.Laws.{BlocksLower, BodiesLowerWithArrays, BreaksLower};
+ghost use Rattle.lower_statements.specs.Laws.{BlocksLower, BodiesLowerWithTexts, BreaksLower};
 ghost use Rattle.lower_statements.specs.Laws.{ConditionsLower, ContinuesLower, DeclarationsLower};
-ghost use Rattle.lower_statements.specs.Laws.{DosLower, EmptiesLower, EmptyBlocksLower};
-ghost use Rattle.lower_statements.specs.Laws.{EvaluationsLower, ForsLower, ItemsLower};
-ghost use Rattle.lower_statements.specs.Laws.{LastsLower, NoItemsLower, PlainReturnsLower};
-ghost use Rattle.lower_statements.specs.Laws.{PlainScalarsLower, ReturnsLower, ScalarsLower};
-ghost use Rattle.lower_statements.specs.Laws.{SequencesLower, StatementsLowerWithArrays};
-ghost use Rattle.lower_statements.specs.Laws.{SteadyScalarsLower, SwitchesLower, WhilesLower};
+ghost use Rattle.lower_statements.specs.Laws.{DosLower, ElementsLower, EmptiesLower};
+ghost use Rattle.lower_statements.specs.Laws.{EmptyBlocksLower, EvaluationsLower, ForsLower};
+ghost use Rattle.lower_statements.specs.Laws.{ItemsLower, LastsLower, NoItemsLower};
+ghost use Rattle.lower_statements.specs.Laws.{PlainReturnsLower, PlainScalarsLower, ReturnsLower};
+ghost use Rattle.lower_statements.specs.Laws.{ScalarsLower, SequencesLower};
+ghost use Rattle.lower_statements.specs.Laws.{StatementsLowerWithTexts, SteadyScalarsLower};
+ghost use Rattle.lower_statements.specs.Laws.{SwitchesLower, WhilesLower};
 
 /// The lines of an empty statement do what the source does.
 pub fn empties_lower()
@@ -114,12 +115,17 @@ pub fn switches_lower()
     ensures { SwitchesLower }
 {}
 
-/// Every statement's lines do what the source does, given those of declared arrays.
-pub fn statements_lower_with_arrays()
-    ensures { StatementsLowerWithArrays }
+/// Those of a declared array with elements do so, where those of expressions do.
+pub fn elements_lower()
+    ensures { ElementsLower }
+{}
+
+/// Every statement's lines do what the source does, given those of arrays that strings initialise.
+pub fn statements_lower_with_texts()
+    ensures { StatementsLowerWithTexts }
 {}
 
 /// So do those of every body.
-pub fn bodies_lower_with_arrays()
-    ensures { BodiesLowerWithArrays }
+pub fn bodies_lower_with_texts()
+    ensures { BodiesLowerWithTexts }
 {}
