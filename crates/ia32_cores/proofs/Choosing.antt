@@ -204,10 +204,11 @@ numbers-branch-follow how a b first second code input g s x y rest supported sta
     chosen c is =
         let to = block c in
         let stands = subst (λ (v : Bool).
-        StandsFrom site (to.front ++ (item.Label (if v then first else second) ∷ to.back)) to.start) (sym is) to.stands in
-        let went = branch-goes site frame how one.place two.place first second m n s s.eip to.front to.back rest to.start
-        (shown-in-frame code input g s supported state shown).framed one.holds one.inside two.holds two.inside
+        StandsFrom site (to.front ++ (item.Label (if v then first else second) ∷ to.back)) to.start) (sym is)
+        to.stands in
+        let went = branch-goes site frame how one.place two.place first second m n s s.eip to.front to.back rest
+        to.start (shown-in-frame code input g s supported state shown).framed one.holds one.inside two.holds two.inside
         one.contains two.contains (word-fits x one.fits) (word-fits y two.fits) here stands in
         enters code input g s went.0 o (if c then first else second) went.3 to.back supported state shown has refl
-        (behind c) went.1 went.2 (subst (λ (v : machine.State). Comes code.text v (at_address went.3 went.0)) own went.4)
-        went.5 to.begins
+        (behind c) went.1 went.2
+        (subst (λ (v : machine.State). Comes code.text v (at_address went.3 went.0)) own went.4) went.5 to.begins

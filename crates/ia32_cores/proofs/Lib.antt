@@ -13,3 +13,4 @@ pub mod Counting
 pub mod Quotients
 pub mod Stopping
 pub mod Choosing
+pub mod Passing

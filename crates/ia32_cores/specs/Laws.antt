@@ -1,22 +1,25 @@
 -- The laws of these rows, over places of any kind.
-use Rattle.std.specs.Prelude.{◌≡◌, ◌+◌, ◌*◌, ◌%◌, ◌^◌, ◌<◌, ◌≤◌, ◌∷◌, ◌++◌, ℕ, List, Some, None, Err, if◌then◌else◌}
+use Rattle.std.specs.Prelude.{◌≡◌, ◌+◌, ◌-◌, ◌*◌, ◌%◌, ◌^◌, ◌<◌, ◌≤◌, ◌∷◌, ◌++◌, ℕ, List, Some, None, Ok}
+use Rattle.std.specs.Prelude.{Err, if◌then◌else◌}
 use Rattle.pcc_base.specs.Outcome.{Trapped}
 use Rattle.pcc_base.specs.declared.run.Trap.TheVariants.{Divide}
 use Rattle.pcc_base.specs.declared.run.Width.TheVariants.{One, Two}
-use Rattle.ia32_regs.specs.declared.names.Reg32.TheVariants.{Eax, Edx, Ebp, Esi}
+use Rattle.ia32_regs.specs.declared.names.Reg32.TheVariants.{Eax, Edx, Esp, Ebp, Esi}
 use Rattle.ia32_places.specs.Places.{Place}
 use Rattle.ia32_insn.specs.declared.insn.AluOp.TheVariants as alu
 use Rattle.ia32_insn.specs.declared.insn.Insn.TheVariants as insn
 use Rattle.ia32_insn.specs.declared.insn.ShiftOp.{ShiftOp}
 use Rattle.ia32_insn.specs.declared.item.Item.{Item}
 use Rattle.ia32_insn.specs.declared.item.Item.TheVariants as item
+use Rattle.ia32_insn.specs.Keeps.{AreDisjoint}
 use Rattle.ia32_insn.specs.State.{State, at_address}
 use Rattle.ia32_insn.specs.Arithmetic.{alu_flags, extended16, shift_value, sign_word, signed, signed_divided}
-use Rattle.ia32_insn.specs.Meaning.{bit, effect, word_of}
+use Rattle.ia32_insn.specs.Meaning.{bit, effect, load, word_of}
 use Rattle.flow_graph.specs.declared.op.Comparison.{Comparison}
 use Rattle.flow_graph.specs.Meaning.{compared}
 use Rattle.ia32_shows.specs.Paths.{Comes}
-use Rattle.ia32_shows.specs.Sites.{Anywhere, Framed, ReadyAt, Site, StandsFrom}
+use Rattle.ia32_shows.specs.Sites.{Anywhere, Framed, ReadyAt, Site, SoundAt, StandsFrom}
+use Rattle.ia32_rows.specs.Rows.{pass}
 use Rattle.ia32_effects.specs.Effects.{Keeps, Leads, OutsideWord}
 use Rattle.ia32_effects.specs.Contains.{ApartFromPlace, Contains, HoldsWord, IsPlaceIn, Untouched}
 use Rattle.ia32_effects.specs.Laws.{HoldsLow, Puts}
@@ -122,3 +125,21 @@ RemainderPuts =
     → Contains s Two r y → x < 2 ^ 32 → y < 2 ^ 32 → signed_divided (sign_word x * 2 ^ 32 + x) y ≡ Some (v, w)
     → v < 2 ^ 32 → w < 2 ^ 32
     → (u : State) × PutsBeside SparedByDivision site frame (dividing Edx p q r) p w s u
+
+-- ---- arguments
+
+-- A word was pushed: it stands at ESP, four bytes lower (Intel manual, volume 2, PUSH). All other registers are kept,
+-- and all memory but these four bytes.
+pub record Passes (site : Site) (items : List Item) (w : ℕ) (s u : State) : Type 0 where
+  pub leads : Leads site items s u
+  pub sound : SoundAt site u
+  pub esp : word_of Esp u + 4 ≡ word_of Esp s
+  pub word : load 4 (word_of Esp s - 4) u ≡ Ok w
+  pub byte : load 1 (word_of Esp s - 4) u ≡ Ok (w % 256)
+  pub keeps : Keeps (OutsideWord Esp) (λ a n. AreDisjoint (word_of Esp s - 4) 4 a n) s u
+
+-- the word of a place, as `putchar` gets it
+abbrev pub WordPasses : Type 0
+WordPasses =
+    (site : Site) (frame : ℕ) (q : Place) (x : ℕ) (s : State) → Framed site frame s → HoldsWord q → IsPlaceIn frame q
+    → Contains s Two q x → x < 2 ^ 32 → (u : State) × Passes site (pass q) x s u

@@ -1,7 +1,7 @@
 ghost use Rattle.ia32_cores.specs.Words.{ComparisonDecides, LeftShiftIs, RightShiftIs, LowHalfIs};
 ghost use Rattle.ia32_cores.specs.Words.{DivisionTraps, DivisionIs};
 ghost use Rattle.ia32_cores.specs.Laws.{LowPuts, HalfPuts, ShiftPuts, PlacesCompare, SetPuts, BranchGoes};
-ghost use Rattle.ia32_cores.specs.Laws.{DivisionStops, QuotientPuts, RemainderPuts};
+ghost use Rattle.ia32_cores.specs.Laws.{DivisionStops, QuotientPuts, RemainderPuts, WordPasses};
 ghost use Rattle.ia32_cores.specs.Ops.{LowFollows, HalfFollows, LeftShiftFollows, RightShiftFollows, NumbersSetFollow};
 ghost use Rattle.ia32_cores.specs.Ops.{QuotientFollows, RemainderFollows, NumbersBranchFollow};
 
@@ -37,6 +37,11 @@ pub fn rows_divide_words()
     ensures stops { DivisionStops }
     ensures quotient { QuotientPuts }
     ensures remainder { RemainderPuts }
+{}
+
+/// The word of a place goes onto the stack.
+pub fn rows_pass_words()
+    ensures { WordPasses }
 {}
 
 /// Where a state of the machine shows one of the program at one of these ops, the machine follows the op's step through
