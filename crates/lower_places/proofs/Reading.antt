@@ -238,7 +238,7 @@ one-element (xs ∷ xss) (x ∷ os) (suc k) o e is one =
     rest : (m n : ℕ) (ms ns : List ℕ) → m ∷ ms ≡ n ∷ ns → ms ≡ ns
     rest m n ms ns e = cc
 
-object-read : (S : Site) (older : List Function) (k : ℕ) (o : StaticObject) (s : source.State) (g : graph.State)
+pub object-read : (S : Site) (older : List Function) (k : ℕ) (o : StaticObject) (s : source.State) (g : graph.State)
     → slice_get S.program.objects k ≡ Some o → length o.elements ≡ 1 → Shows S.program (S.function ∷ older) s g
     → (n : ℤ) × (slice_get (array_named s (Static k)) 0 ≡ Some n)
 object-read S older k o s g e one shows = one-element s.objects S.program.objects k o shows.counts e one

@@ -3,7 +3,7 @@ use Rattle.std.specs.Prelude.{◌≡◌, ◌+◌, ◌≤◌, ℕ, Bool, List, sl
 use Rattle.c_tree.specs.declared.types.IntegerType.{IntegerType}
 use Rattle.c_tree.specs.declared.types.ValueType.TheVariants.{Integer, Pointer}
 use Rattle.c_tree.specs.Evaluation.{Found, evaluate, load, locate}
-use Rattle.c_tree.specs.Program.{Expression, Function, Read, StaticObject, StaticPlace, Target}
+use Rattle.c_tree.specs.Program.{Assign, Expression, Function, Read, StaticObject, StaticPlace, Target}
 use Rattle.c_tree.specs.Store as source
 use Rattle.c_tree.specs.Store.{Evaluated, and_then}
 use Rattle.flow_graph.specs.States as graph
@@ -44,3 +44,11 @@ abbrev pub ObjectsAreRead : Type 0
 ObjectsAreRead = (S : Site) → IsSite S → (k : ℕ) (o : StaticObject) → slice_get S.program.objects k ≡ Some o
     → length o.elements ≡ 1 → Lowers S (part_of (context_of S) (Read (Integer o.element) (StaticPlace k)))
     (evaluate S.calls (Read (Integer o.element) (StaticPlace k)))
+
+-- a number is assigned to a static object that is no array
+abbrev pub ObjectsAreAssigned : Type 0
+ObjectsAreAssigned = (S : Site) → IsSite S → (k : ℕ) (o : StaticObject) → slice_get S.program.objects k ≡ Some o
+    → length o.elements ≡ 1 → (e : Expression) (u : IntegerType)
+    → Lowers S (part_of (context_of S) e) (evaluate S.calls e) → (part_of (context_of S) e).of ≡ Integer u
+    → Lowers S (part_of (context_of S) (Assign (Integer o.element) (StaticPlace k) e))
+    (evaluate S.calls (Assign (Integer o.element) (StaticPlace k) e))

@@ -1,6 +1,7 @@
 //! Laws of the lines of places: each function's contract is one, and the function does nothing.
 
 ghost use Rattle.lower_places.specs.Laws.{ElementsAreRead, ObjectsAreRead, TargetsAreRead, TargetsFollow};
+ghost use Rattle.lower_places.specs.Laws.{ObjectsAreAssigned};
 
 /// The lines that read an element do what the source does, where those of its address do.
 pub fn elements_are_read()
@@ -20,4 +21,9 @@ pub fn targets_are_read()
 /// The lines that read a static object that is no array do what the source does.
 pub fn objects_are_read()
     ensures { ObjectsAreRead }
+{}
+
+/// The lines that assign a number to a static object that is no array do what the source does.
+pub fn objects_are_assigned()
+    ensures { ObjectsAreAssigned }
 {}

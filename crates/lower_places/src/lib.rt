@@ -3,4 +3,6 @@
 
 mod laws;
 
-pub use laws::{elements_are_read, objects_are_read, targets_are_read, targets_follow};
+pub use laws::{
+    elements_are_read, objects_are_assigned, objects_are_read, targets_are_read, targets_follow,
+};
