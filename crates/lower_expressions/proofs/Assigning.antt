@@ -1,17 +1,17 @@
 -- Assignments of numbers to locals.
-use Rattle.std.proofs.Common.{◌≡◌, ◌≢◌, ℕ, zero, suc, ◌+◌, ◌*◌, ◌<◌, ◌≤◌, ℤ, pos, List, [], ◌∷◌, ◌++◌, length}
-use Rattle.std.proofs.Common.{Option, Some, None, true, refl, sym, ap, ◌∙◌, subst, arith, append-nil}
+use Rattle.std.proofs.Common.{◌≡◌, ℕ, zero, suc, ◌+◌, ◌<◌, ◌≤◌, ℤ, pos, List, [], ◌∷◌, ◌++◌, length}
+use Rattle.std.proofs.Common.{Option, Some, true, refl, sym, ap, ◌∙◌, subst, arith, append-nil}
 use Rattle.std.specs.Int.{w8, int_wrap}
 use Rattle.std.specs.List.{AllZip}
 use Rattle.std.specs.Prelude.{slice_get, slice_index_or, slice_set, IsSomeAnd}
-use Rattle.pcc_base.specs.Outcome.{Value, Number, Visit}
+use Rattle.pcc_base.specs.Outcome.{Number}
 use Rattle.c_bounds.specs.Bounds.{state_of}
 use Rattle.c_tree.specs.declared.types.IntegerType.{IntegerType}
 use Rattle.c_tree.specs.declared.types.IntegerType.TheVariants.{Char, Short, Int}
 use Rattle.c_tree.specs.declared.types.ValueType.{ValueType}
-use Rattle.c_tree.specs.declared.types.ValueType.TheVariants.{Void, Integer, Pointer}
+use Rattle.c_tree.specs.declared.types.ValueType.TheVariants.{Integer}
 use Rattle.c_tree.specs.Evaluation.{evaluate, type_of}
-use Rattle.c_tree.specs.Program.{Local, Function, Program, int}
+use Rattle.c_tree.specs.Program.{Local, Function, Program}
 use Rattle.c_tree.specs.Store as source
 use Rattle.c_tree.specs.Store.{Evaluated, Gives, Ends, Held, HoldsNumber, HoldsPointer, and_then, held, with_local}
 use Rattle.c_tree.specs.Store.{with_youngest, youngest}
@@ -19,11 +19,11 @@ use Rattle.flow_graph.specs.declared.op.Op.TheVariants as op
 use Rattle.flow_graph.specs.States as graph
 use Rattle.flow_graph.specs.States.{active_of, number_at, with_value}
 use Rattle.lower_lines.specs.Expressions.{assigned_local, local_part, part_of, stored_lines}
-use Rattle.lower_lines.specs.Following.{Begins, Comes, Follows, GivesOf, GoesInto, IsSite, Lowers, MayWant, Site, Stand}
+use Rattle.lower_lines.specs.Following.{Begins, Comes, GoesInto, IsSite, Lowers, MayWant, Site, Stand}
 use Rattle.lower_lines.specs.Following.{behind, context_of}
 use Rattle.lower_lines.specs.Lines.{Line, Emit}
 use Rattle.lower_lines.specs.Parts.{Wanted, Dropped, Own, ToLocal, Tests, Part, in_type, operand}
-use Rattle.lower_lines.specs.Relation.{IsOf, Keeps, ShowCalls, Shows}
+use Rattle.lower_lines.specs.Relation.{IsOf, ShowCalls, Shows}
 use Rattle.lower_lines.specs.Shown.{first_variable}
 use Rattle.lower_lines.specs.Variables.{Spot, levels_of, local_spot, local_variables, typed_spot}
 use Rattle.lower_relation.proofs.Changes.{kept-by-change, kept-none, numbers-set}
@@ -33,9 +33,9 @@ use Rattle.lower_expressions.proofs.Atoms.{chars-lower}
 use Rattle.lower_expressions.proofs.Binary.{Fits, compound-lowers, turns-fall}
 use Rattle.lower_expressions.proofs.Converting.{as_type, begins-again, behind-number, behind-part, in_type-fits}
 use Rattle.lower_expressions.proofs.Converting.{lowers-fit}
-use Rattle.lower_expressions.proofs.Going.{Goes, stand-back, stand-front}
+use Rattle.lower_expressions.proofs.Going.{stand-back, stand-front}
 use Rattle.lower_expressions.proofs.Levels.{in_type-one, levels-one}
-use Rattle.lower_expressions.proofs.Operands.{NumberStands, number-operand}
+use Rattle.lower_expressions.proofs.Operands.{number-operand}
 use Rattle.lower_expressions.proofs.Pairs.{Falls, local-below}
 use Rattle.lower_expressions.proofs.Reading.{locals-lower}
 use Rattle.lower_expressions.proofs.Unary.{follows-behind}
@@ -186,9 +186,11 @@ module _ (S : Site) (site : IsSite S) (older : List Function) (k : ℕ) (l : Loc
   byte-fits char stands room may b =
       behind-number S older level before front (low ∷ behind_char) wanted (Integer w) x s g (run s) (assigning w k) b
       (falls s)
-      (number-operand S older a run u la of' block level before s g (stand-front S before front (low ∷ behind_char) stands)
+      (number-operand S older a run u la of' block level before s g (stand-front S before front
+      (low ∷ behind_char) stands)
       room b)
-      (λ n t h at begins. subst (λ (m : ℤ). Fits S (S.function ∷ older) (before ++ front) (low ∷ behind_char) level wanted
+      (λ n t h at begins. subst (λ (m : ℤ). Fits S (S.function ∷ older) (before ++ front)
+      (low ∷ behind_char) level wanted
       (Integer w) t h (Gives (HoldsNumber m) (with_local k (HoldsNumber m) t))) (byte-is char n)
       (put-byte n t h at begins (stand-back S before front (low ∷ behind_char) stands) room may))
     where
@@ -206,13 +208,15 @@ module _ (S : Site) (site : IsSite S) (older : List Function) (k : ℕ) (l : Loc
           let spot : to ≡ first_variable S.function.locals k =
           ap (λ (o : Option Local). (typed_spot (type_of o) (first_variable S.function.locals k)).number) e
           ∙ ap (λ (p : ValueType). (typed_spot p (first_variable S.function.locals k)).number) of in
-          let shows : Shows S.program (S.function ∷ older) (with_local k (HoldsNumber m) t) (with_value to (Number m) h) =
+          let shows : Shows S.program (S.function ∷ older) (with_local k (HoldsNumber m) t) (with_value to
+          (Number m) h) =
           subst (λ (i : ℕ). Shows S.program (S.function ∷ older) (with_local k (HoldsNumber m) t)
           (with_value i (Number m) h)) (sym spot)
           (numbers-set S.program S.function older t h k l w m begins.shows e of) in
           let keeps = (kept-by-change (local_variables S.function) level to (Number m) h).0
           (local-below S k l w e of) in
-          let again = begins-again S older t (with_local k (HoldsNumber m) t) h (with_value to (Number m) h) level begins
+          let again = begins-again S older t (with_local k (HoldsNumber m) t) h (with_value to
+          (Number m) h) level begins
           shows keeps (omega arith) in
           let rest = stored-fits S site older k l w e of (block + (operand (context_of S) true a).blocks) level
           ((before ++ front) ++ low ∷ []) (with_local k (HoldsNumber m) t) (with_value to (Number m) h) m
@@ -237,13 +241,15 @@ module _ (S : Site) (site : IsSite S) (older : List Function) (k : ℕ) (l : Loc
   -- a number whose last op goes to the local
   wide-fits : GoesInto (Integer w) (Integer w) → Stand S before (value.lines block level (ToLocal k) ++ behind_value)
       → level + value.levels ≤ levels_of S.function → MayWant S wanted (Integer w) → Begins S (S.function ∷ older) s g
-      → Fits S (S.function ∷ older) before (value.lines block level (ToLocal k) ++ behind_value) level wanted (Integer w)
+      → Fits S (S.function ∷ older) before (value.lines block level (ToLocal k) ++ behind_value) level wanted
+      (Integer w)
       s g (and_then (run s) (assigning w k))
   wide-fits into stands room may b =
       subst (λ (r : Evaluated Held). Fits S (S.function ∷ older) before
       (value.lines block level (ToLocal k) ++ behind_value) level wanted (Integer w) s g r)
       (assigning-same w k (run s))
-      (behind-part S older level before (value.lines block level (ToLocal k)) behind_value (ToLocal k) (Integer w) wanted
+      (behind-part S older level before (value.lines block level (ToLocal k)) behind_value (ToLocal k)
+      (Integer w) wanted
       (Integer w) s g (and_then (run s) (as_type (Integer w))) (storing k) tt b (type-falls w s.turns (run s) (falls s))
       (in_type-fits S site older w a run u la of' one falls block level (ToLocal k) before s g
       (stand-front S before (value.lines block level (ToLocal k)) behind_value stands) room

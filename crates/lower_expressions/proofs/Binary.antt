@@ -49,7 +49,8 @@ use Rattle.lower_expressions.specs.Laws.{BinariesLower, GivesCount, IsCount, IsS
 -- ---- what works follows
 
 -- a trap behind lines
-pub trap-ends : (S : Site) (active : List Function) (before : List Line) (t : source.State) (g : graph.State) (end : End)
+pub trap-ends : (S : Site) (active : List Function) (before : List Line) (t : source.State) (g : graph.State)
+    (end : End)
     → Shows S.program active t g → Comes S t.turns (behind before g) (outcome_at g end)
     → EndsSo S end t t (behind before g)
 trap-ends S active before t g end shows comes = (
@@ -71,28 +72,34 @@ trap-ends S active before t g end shows comes = (
 
 pub works-follow : (S : Site) (site : IsSite S) (older : List Function) (level : ℕ) (ops : ℕ → List Line)
     (before : List Line) (t : source.State) (g : graph.State) (c : Computed) (block : ℕ) (wanted : Wanted)
-    (u : IntegerType) → level < levels_of S.function → Shows S.program (S.function ∷ older) t g → g.current.function ≡ S.number
+    (u : IntegerType) → level < levels_of S.function → Shows S.program (S.function ∷ older) t g
+    → g.current.function ≡ S.number
     → Works S (S.function ∷ older) level ops before t g c
-    → Stand S before (made (context_of S) block level wanted (Integer u) (λ to. ops to.number)) → MayWant S wanted (Integer u)
-    → Follows S (S.function ∷ older) before (made (context_of S) block level wanted (Integer u) (λ to. ops to.number)) level
+    → Stand S before (made (context_of S) block level wanted (Integer u) (λ to. ops to.number)) → MayWant S wanted
+    (Integer u)
+    → Follows S (S.function ∷ older) before (made (context_of S) block level wanted (Integer u)
+    (λ to. ops to.number)) level
     wanted (Integer u) t g (computed c t)
 works-follow S site older level ops before t g (Computes (HoldsNumber r)) block wanted u room shows fits
     (h, shown, keeps, goes) stands may =
     number-made S site older level before t t g h r [] (λ to. ops to.number) room shown (keeps.function ∙ fits) keeps
     (sym (append-nil t.visits)) goes block wanted u stands may
-works-follow S site older level ops before t g (Computes (HoldsPointer array index)) block wanted u room shows fits works
+works-follow S site older level ops before t g (Computes (HoldsPointer array index)) block wanted u room shows fits
+    works
     stands may = absurd works
 works-follow S site older level ops before t g (Traps trap) block wanted u room shows fits works stands may =
     trap-ends S (S.function ∷ older) before t g (Trapped trap) shows
     (works (target (context_of S) level wanted)
-    (stand-front S before (ops (target (context_of S) level wanted).number) (tested (context_of S) block level wanted (Integer u))
+    (stand-front S before (ops (target (context_of S) level wanted).number) (tested (context_of S) block level wanted
+    (Integer u))
     stands))
 
 -- ---- a comparison that is tested
 
 is-compared : (operator : BinaryOp) (how : Comparison) (m n : ℤ) → comparison_of operator ≡ Some how
     → numbers_value operator m n ≡ number (if compared how m n then pos 1 else pos 0)
-is-compared Less how m n e = ap (λ (h : Comparison). number (if compared h m n then pos 1 else pos 0)) (same-some Lt how e)
+is-compared Less how m n e = ap (λ (h : Comparison). number (if compared h m n then pos 1 else pos 0))
+    (same-some Lt how e)
 is-compared Greater how m n e =
     ap (λ (h : Comparison). number (if compared h m n then pos 1 else pos 0)) (same-some Gt how e)
 is-compared LessOrEqual how m n e =
@@ -233,7 +240,8 @@ module _ (S : Site) (site : IsSite S) (older : List Function) (level x y : ℕ) 
       wanted int s g (and_then r (λ second u. computed (binary_value operator first second) u))
   second-fits first (Ends end u) counts ends = (ends, tt)
   second-fits first (Gives second u) counts (h, us, m, n, is, is', shows, keeps, seen, at_x, at_y, goes) =
-      let count : IsShift operator → IsCount n = λ shifts. subst (λ (v : Held). GivesCount (Gives v u)) is' (counts shifts)
+      let count : IsShift operator → IsCount n = λ shifts. subst (λ (v : Held). GivesCount (Gives v u)) is'
+      (counts shifts)
       in
       subst (λ (v : Held). Fits S (S.function ∷ older) before
       (xs ++ on_numbers (context_of S) block level wanted operator x y) level wanted int s g
@@ -332,7 +340,8 @@ binary-fits S site older operator a b run run' t u la of lb of' falls counts blo
 
     last : List Line
     last = on_numbers (context_of S) behind_both level wanted operator
-        ((operand (context_of S) b.simple a).spot level).number ((operand (context_of S) true b).spot (suc level)).number
+        ((operand (context_of S) b.simple a).spot level).number ((operand (context_of S) true b).spot
+        (suc level)).number
 
     deeper : level < levels_of S.function
     deeper = let m = le-max_right a.levels (suc b.levels) in omega (arith, room, m)

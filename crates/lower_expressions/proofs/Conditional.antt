@@ -1,50 +1,44 @@
 -- `?:` of two numbers, and the unary `+`, whatever is wanted of them.
-use Rattle.std.proofs.Common.{◌≡◌, ◌≢◌, ℕ, zero, suc, ◌+◌, ◌*◌, ◌<◌, ◌≤◌, Bool, true, false, not, ℤ, pos, List, [], ◌∷◌, ◌++◌}
-use Rattle.std.proofs.Common.{length, max, Option, Some, None, refl, sym, ap, ◌∙◌, subst, arith, append-nil, append_assoc}
+use Rattle.std.proofs.Common.{◌≡◌, ◌≢◌, ℕ, suc, ◌+◌, ◌≤◌, Bool, true, false, List, [], ◌∷◌, ◌++◌}
+use Rattle.std.proofs.Common.{max, refl, sym, ◌∙◌, subst, arith, append-nil, append_assoc}
 use Rattle.std.proofs.Math.Nat.{le-max_left, le-max_right}
-use Rattle.std.specs.List.{Contains}
-use Rattle.std.specs.Ordering.{int_eq}
 use Rattle.std.specs.Prelude.{if◌then◌else◌}
-use Rattle.pcc_base.specs.Outcome.{Outcome, Visit}
-use Rattle.c_bounds.specs.Bounds.{state_of}
-use Rattle.c_tree.specs.declared.expression.UnaryOp.TheVariants.{Not, Plus}
+use Rattle.c_tree.specs.declared.expression.UnaryOp.TheVariants.{Plus}
 use Rattle.c_tree.specs.declared.types.IntegerType.{IntegerType}
 use Rattle.c_tree.specs.declared.types.IntegerType.TheVariants.{Int}
 use Rattle.c_tree.specs.declared.types.ValueType.{ValueType}
 use Rattle.c_tree.specs.declared.types.ValueType.TheVariants.{Void, Integer, Pointer}
-use Rattle.c_tree.specs.Evaluation.{evaluate, truth_value}
+use Rattle.c_tree.specs.Evaluation.{evaluate}
 use Rattle.c_tree.specs.Operators.{is_true, unary_value}
 use Rattle.c_tree.specs.Program.{Function, int}
 use Rattle.c_tree.specs.Store as source
 use Rattle.c_tree.specs.Store.{Evaluated, Gives, Ends, Held, HoldsNumber, HoldsPointer, and_then}
 use Rattle.flow_graph.specs.declared.op.Op.TheVariants as op
 use Rattle.flow_graph.specs.States as graph
-use Rattle.lower_lines.specs.Expressions.{conditional_part, unary_part, and_dropped, and_part, and_test, negated, or_dropped, or_part, or_test, part_of}
+use Rattle.lower_lines.specs.Expressions.{conditional_part, unary_part, part_of}
 use Rattle.lower_lines.specs.Expressions.{test_blocks_of}
-use Rattle.lower_lines.specs.Following.{Begins, Comes, EndsSo, Follows, GivesOf, HoldsWanted, IsSite, Lowers, MayWant, Site, Stand}
-use Rattle.lower_lines.specs.Following.{at_start, behind, context_of, shown_state, site_lines}
-use Rattle.lower_lines.specs.Lines.{Line, Start, Emit, starts_in}
-use Rattle.lower_lines.specs.Parts.{Wanted, Dropped, Own, ToLocal, Tests, Part, target, truth}
-use Rattle.lower_lines.specs.Relation.{IsOf, Keeps, Shows}
+use Rattle.lower_lines.specs.Following.{Begins, Follows, GivesOf, IsSite, Lowers, MayWant, Site, Stand}
+use Rattle.lower_lines.specs.Following.{at_start, behind, context_of}
+use Rattle.lower_lines.specs.Lines.{Line, Start, Emit}
+use Rattle.lower_lines.specs.Parts.{Wanted, Dropped, Own, ToLocal, Tests, Part}
 use Rattle.lower_lines.specs.Variables.{levels_of, local_variables}
 use Rattle.lower_relation.proofs.Changes.{kept-none}
 use Rattle.lower_steps.proofs.Steps.{jump-step}
 use Rattle.lower_expressions.proofs.Binary.{Fits, compound-lowers, turns-fall}
-use Rattle.lower_expressions.proofs.Converting.{IsOnward, as_type, begins-again, fits-any, in_type-fits, int-same}
-use Rattle.lower_expressions.proofs.Converting.{lowers-fit, may-any}
+use Rattle.lower_expressions.proofs.Converting.{IsOnward, as_type, in_type-fits}
 use Rattle.lower_expressions.proofs.Made.{some-and}
 use Rattle.std.specs.Prelude.{slice_get}
 use Rattle.lower_lines.specs.Expressions.{cast_part}
 use Rattle.lower_lines.specs.Following.{GoesInto}
 use Rattle.c_tree.specs.declared.types.IntegerType.TheVariants.{Char, Short}
-use Rattle.lower_expressions.proofs.Going.{Goes, stand-back, stand-front}
-use Rattle.lower_expressions.proofs.Leading.{IsTruth, IsValue, LeadsTo, choose-leads, follows-lead, leads-behind}
-use Rattle.lower_expressions.proofs.Leading.{leads-follow, leads-on, one-more, one-way, seven-more, start-goes, start-there}
+use Rattle.lower_expressions.proofs.Going.{stand-back, stand-front}
+use Rattle.lower_expressions.proofs.Leading.{LeadsTo, choose-leads, follows-lead, leads-behind}
+use Rattle.lower_expressions.proofs.Leading.{leads-follow, leads-on, one-more, start-goes, start-there}
 use Rattle.lower_expressions.proofs.Leading.{tests_place}
 use Rattle.lower_expressions.proofs.Levels.{levels-one}
 use Rattle.lower_expressions.proofs.Pairs.{Falls}
 use Rattle.lower_expressions.proofs.Stepping.{lowers-same}
-use Rattle.lower_expressions.proofs.Conditions.{TestsSo, dropped-any, tests-fit, truth-fits, truth-test, truth-typed}
+use Rattle.lower_expressions.proofs.Conditions.{dropped-any}
 use Rattle.lower_expressions.specs.Laws.{ConditionalsLower, PlusesLower, VoidsLower}
 
 -- ---- a number is given
@@ -60,7 +54,8 @@ onward-lead : (S : Site) (active : List Function) (before lines : List Line) (le
     (of : ValueType) (s : source.State) (g : graph.State) (r : Evaluated Held) → IsOnward wanted
     → Follows S active before lines level wanted of s g r
     → LeadsTo S active level wanted of s (behind before g) g (λ v h. behind (before ++ lines) h) r
-onward-lead S active before lines level Dropped of s g r on f = follows-lead S active before lines level Dropped of s g r f
+onward-lead S active before lines level Dropped of s g r on f = follows-lead S active before lines level Dropped of s g
+    r f
 onward-lead S active before lines level Own of s g r on f = follows-lead S active before lines level Own of s g r f
 onward-lead S active before lines level (ToLocal k) of s g r on f =
     follows-lead S active before lines level (ToLocal k) of s g r f
@@ -70,7 +65,8 @@ onward-follow : (S : Site) (active : List Function) (before lines : List Line) (
     (of : ValueType) (s : source.State) (g : graph.State) (r : Evaluated Held) → IsOnward wanted
     → LeadsTo S active level wanted of s (behind before g) g (λ v h. behind (before ++ lines) h) r
     → Follows S active before lines level wanted of s g r
-onward-follow S active before lines level Dropped of s g r on f = leads-follow S active before lines level Dropped of s g r f
+onward-follow S active before lines level Dropped of s g r on f = leads-follow S active before lines level Dropped of s
+    g r f
 onward-follow S active before lines level Own of s g r on f = leads-follow S active before lines level Own of s g r f
 onward-follow S active before lines level (ToLocal k) of s g r on f =
     leads-follow S active before lines level (ToLocal k) of s g r f
@@ -91,7 +87,8 @@ third-room level i j k top h =
 
 -- ---- `?:`
 
-module _ (S : Site) (site : IsSite S) (q a b : Part) (run run' run'' : source.State → Evaluated Held) (t u : IntegerType)
+module _ (S : Site) (site : IsSite S) (q a b : Part) (run run' run'' : source.State → Evaluated Held)
+    (t u : IntegerType)
     (lq : Lowers S q run) (scalar : q.of ≢ Void) (la : Lowers S a run') (of : a.of ≡ Integer t) (lb : Lowers S b run'')
     (of' : b.of ≡ Integer u) (one : 1 ≤ a.levels) (one' : 1 ≤ b.levels) (falls : Falls run) (falls' : Falls run')
     (falls'' : Falls run'') where
@@ -106,7 +103,8 @@ module _ (S : Site) (site : IsSite S) (q a b : Part) (run run' run'' : source.St
   conditional-typed active (Ends end s) = tt
 
   -- an arm, from the start of its block to behind its lines
-  arm-leads : (older : List Function) (p : Part) (runs : source.State → Evaluated Held) (w : IntegerType) → Lowers S p runs
+  arm-leads : (older : List Function) (p : Part) (runs : source.State → Evaluated Held) (w : IntegerType)
+      → Lowers S p runs
       → p.of ≡ Integer w → 1 ≤ p.levels → Falls runs → (block inner level : ℕ) (wanted : Wanted) (front : List Line)
       (s : source.State) (h : graph.State) → Stand S front (Start block ∷ p.lines inner level wanted)
       → level + p.levels ≤ levels_of S.function → MayWant S wanted int → Begins S (S.function ∷ older) s h
@@ -150,9 +148,11 @@ module _ (S : Site) (site : IsSite S) (q a b : Part) (run run' run'' : source.St
       (follows-lead S (S.function ∷ older) before xs level (Tests block (suc block)) q.of s g (run s)
       (lq.follows (S.function ∷ older) i level (Tests block (suc block)) before s g
       (stand-front S before xs (Start block ∷ (ms ++ (Start (suc block) ∷ (ns ++ [])))) stands)
-      (first-room level q.levels a.levels b.levels _ room)
-      (scalar, start-there S front (ms ++ (Start (suc block) ∷ (ns ++ []))) block first,
-      start-there S front' (ns ++ []) (suc block) second) begins))
+      (first-room level q.levels a.levels b.levels _ room) (
+        scalar,
+        start-there S front (ms ++ (Start (suc block) ∷ (ns ++ []))) block first,
+        start-there S front' (ns ++ []) (suc block) second,
+      ) begins))
       (λ v s' h again. pick (is_true v) s' h front front'
       (stand-front S front (Start block ∷ ms) (Start (suc block) ∷ (ns ++ [])) first)
       (stand-front S front' (Start (suc block) ∷ ns) [] second) again)
@@ -160,7 +160,8 @@ module _ (S : Site) (site : IsSite S) (q a b : Part) (run run' run'' : source.St
       pick : (bit : Bool) (s' : source.State) (h : graph.State) (front front' : List Line)
           → Stand S front (Start block ∷ a.lines j level (Tests yes' no'))
           → Stand S front' (Start (suc block) ∷ b.lines n level (Tests yes' no')) → Begins S (S.function ∷ older) s' h
-          → LeadsTo S (S.function ∷ older) level (Tests yes' no') int s' (at_start S (if bit then block else suc block) h)
+          → LeadsTo S (S.function ∷ older) level (Tests yes' no') int s' (at_start S
+          (if bit then block else suc block) h)
           h (tests_place S yes' no') (and_then (if bit then run' s' else run'' s') (as_type int))
       pick true s' h front front' first second again =
           from-start older block level (Tests yes' no') front s' h (tests_place S yes' no')
@@ -172,7 +173,8 @@ module _ (S : Site) (site : IsSite S) (q a b : Part) (run run' run'' : source.St
       pick false s' h front front' first second again =
           from-start older (suc block) level (Tests yes' no') front' s' h (tests_place S yes' no')
           (and_then (run'' s') (as_type int)) (stand-front S front' (Start (suc block) ∷ []) _ second) again
-          (follows-lead S (S.function ∷ older) (front' ++ Start (suc block) ∷ []) (b.lines n level (Tests yes' no')) level
+          (follows-lead S (S.function ∷ older) (front' ++ Start (suc block) ∷ []) (b.lines n level
+          (Tests yes' no')) level
           (Tests yes' no') int s' h (and_then (run'' s') (as_type int))
           (arm-leads older b run'' u lb of' one' falls'' (suc block) n level (Tests yes' no') front' s' h second
           (third-room level q.levels a.levels b.levels _ room) may again).0)
@@ -180,7 +182,8 @@ module _ (S : Site) (site : IsSite S) (q a b : Part) (run run' run'' : source.St
   -- ---- both go to the block behind
 
   -- an arm, and then to the block behind both
-  arm-jumps : (older : List Function) (p : Part) (runs : source.State → Evaluated Held) (w : IntegerType) → Lowers S p runs
+  arm-jumps : (older : List Function) (p : Part) (runs : source.State → Evaluated Held) (w : IntegerType)
+      → Lowers S p runs
       → p.of ≡ Integer w → 1 ≤ p.levels → Falls runs → (block inner last level : ℕ) (wanted : Wanted) → IsOnward wanted
       → (front other rest : List Line) (s : source.State) (h : graph.State)
       → Stand S front (Start block ∷ (p.lines inner level wanted ++ (Emit (op.Jump last) ∷ rest)))
@@ -207,7 +210,8 @@ module _ (S : Site) (site : IsSite S) (q a b : Part) (run run' run'' : source.St
       (arm-leads older p runs w lp is high fall block inner level wanted front s h
       (stand-front S front (Start block ∷ ps) (Emit (op.Jump last) ∷ rest) stands) room may begins).0))
 
-  onward-fits : (older : List Function) (block i j n level : ℕ) (wanted : Wanted) → IsOnward wanted → (before : List Line)
+  onward-fits : (older : List Function) (block i j n level : ℕ) (wanted : Wanted) → IsOnward wanted →
+      (before : List Line)
       (s : source.State) (g : graph.State)
       → Stand S before (q.lines i level (Tests block (suc block)) ++ (Start block ∷ (a.lines j level wanted
       ++ (Emit (op.Jump (block + 2)) ∷ (Start (suc block) ∷ (b.lines n level wanted
@@ -234,7 +238,8 @@ module _ (S : Site) (site : IsSite S) (q a b : Part) (run run' run'' : source.St
       let second = stand-back S (f1 ++ ms) (leave ∷ []) tail'
       (stand-back S f1 ms (leave ∷ tail') (stand-back S front (Start block ∷ []) (ms ++ (leave ∷ tail')) first)) in
       let third = stand-back S (f4 ++ ns) (leave ∷ []) ends
-      (stand-back S f4 ns (leave ∷ ends) (stand-back S front' (Start (suc block) ∷ []) (ns ++ (leave ∷ ends)) second)) in
+      (stand-back S f4 ns (leave ∷ ends) (stand-back S front' (Start (suc block) ∷ []) (ns ++
+      (leave ∷ ends)) second)) in
       let all : other ++ ends ≡ before ++ (xs ++ tail) =
       one-more (f4 ++ ns) leave ends ∙ append_assoc f4 ns (leave ∷ ends)
       ∙ one-more front' (Start (suc block)) (ns ++ (leave ∷ ends)) ∙ one-more (f1 ++ ms) leave tail'
@@ -247,9 +252,11 @@ module _ (S : Site) (site : IsSite S) (q a b : Part) (run run' run'' : source.St
             (λ v h. behind (other ++ ends) h) (run s) arms begins (falls s)
             (follows-lead S (S.function ∷ older) before xs level (Tests block (suc block)) q.of s g (run s)
             (lq.follows (S.function ∷ older) i level (Tests block (suc block)) before s g
-            (stand-front S before xs tail stands) (first-room level q.levels a.levels b.levels _ room)
-            (scalar, start-there S front (ms ++ (leave ∷ tail')) block first,
-            start-there S front' (ns ++ (leave ∷ ends)) (suc block) second) begins))
+            (stand-front S before xs tail stands) (first-room level q.levels a.levels b.levels _ room) (
+              scalar,
+              start-there S front (ms ++ (leave ∷ tail')) block first,
+              start-there S front' (ns ++ (leave ∷ ends)) (suc block) second,
+            ) begins))
             (λ v s' h again. pick (is_true v) s' h front front' other tail' first second third again))),
         conditional-typed (S.function ∷ older) (run s),
       )
@@ -263,7 +270,8 @@ module _ (S : Site) (site : IsSite S) (q a b : Part) (run run' run'' : source.St
           (λ v i. behind (other ++ Start (block + 2) ∷ []) i)
           (and_then (if bit then run' s' else run'' s') (as_type int))
       pick true s' h front front' other tail' first second third again =
-          arm-jumps older a run' t la of one falls' block j (block + 2) level wanted on front other tail' s' h first third
+          arm-jumps older a run' t la of one falls' block j (block + 2) level wanted on front other tail' s' h first
+          third
           (second-room level q.levels a.levels b.levels _ room) may again
       pick false s' h front front' other tail' first second third again =
           arm-jumps older b run'' u lb of' one' falls'' (suc block) n (block + 2) level wanted on front' other
@@ -313,10 +321,12 @@ plus-same (Ends end t) = refl
 
 pub pluses-lower : PlusesLower
 pluses-lower S site e u lowers of =
-    lowers-same S (unary_part (context_of S) Plus (part_of (context_of S) e)) _ _ (λ s. plus-same (evaluate S.calls e s))
+    lowers-same S (unary_part (context_of S) Plus (part_of (context_of S) e)) _ _ (λ s. plus-same
+    (evaluate S.calls e s))
     (compound-lowers S (unary_part (context_of S) Plus (part_of (context_of S) e)) _ refl refl
     (λ older block level wanted before s g stands room may b.
-    in_type-fits S site older Int (part_of (context_of S) e) (evaluate S.calls e) u lowers of (levels-one (context_of S) e)
+    in_type-fits S site older Int (part_of (context_of S) e) (evaluate S.calls e) u lowers of (levels-one
+    (context_of S) e)
     (turns-fall S site e) block level wanted before s g stands room may b))
 
 -- ---- a cast to void
@@ -344,7 +354,8 @@ void-fits S older a run la block level Dropped before s g stands room may b = (
 void-fits S older a run la block level Own before s g stands room may b = absurd (may refl)
 void-fits S older a run la block level (Tests yes' no') before s g stands room may b = absurd (may.0 refl)
 void-fits S older a run la block level (ToLocal k) before s g stands room may b =
-    let (l, e, into) = some-and (slice_get S.function.locals k) (λ m. GoesInto Void m.of) may in absurd (never l.of into)
+    let (l, e, into) = some-and (slice_get S.function.locals k) (λ m. GoesInto Void m.of) may in absurd
+    (never l.of into)
   where
     never : (of : ValueType) → GoesInto Void of → ⊥
     never Void h = h
@@ -357,5 +368,6 @@ pub voids-lower : VoidsLower
 voids-lower S site e lowers =
     compound-lowers S (cast_part (context_of S) Void (part_of (context_of S) e)) _ refl refl
     (λ older block level wanted before s g stands room may b.
-    void-fits S older (part_of (context_of S) e) (evaluate S.calls e) lowers block level wanted before s g stands room may
+    void-fits S older (part_of (context_of S) e) (evaluate S.calls e) lowers block level wanted before s g stands room
+    may
     b)

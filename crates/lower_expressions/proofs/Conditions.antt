@@ -1,17 +1,14 @@
 -- `!`, `&&` and `||`, whatever is wanted of them.
-use Rattle.std.proofs.Common.{◌≡◌, ◌≢◌, ℕ, zero, suc, ◌+◌, ◌*◌, ◌<◌, ◌≤◌, Bool, true, false, not, ℤ, pos, List, [], ◌∷◌, ◌++◌}
-use Rattle.std.proofs.Common.{length, max, Option, Some, None, refl, sym, ap, ◌∙◌, subst, arith, append-nil, append_assoc}
-use Rattle.std.proofs.Math.Nat.{le-max_left, le-max_right}
+use Rattle.std.proofs.Common.{◌≡◌, ◌≢◌, ℕ, suc, ◌+◌, ◌<◌, ◌≤◌, Bool, true, false, not, pos, List, [], ◌∷◌, ◌++◌}
+use Rattle.std.proofs.Common.{refl, sym, ap, subst, arith, append-nil, append_assoc}
 use Rattle.std.specs.List.{Contains}
 use Rattle.std.specs.Ordering.{int_eq}
 use Rattle.std.specs.Prelude.{if◌then◌else◌}
-use Rattle.pcc_base.specs.Outcome.{Outcome, Visit}
 use Rattle.c_bounds.specs.Bounds.{state_of}
 use Rattle.c_tree.specs.declared.expression.UnaryOp.TheVariants.{Not}
-use Rattle.c_tree.specs.declared.types.IntegerType.{IntegerType}
 use Rattle.c_tree.specs.declared.types.IntegerType.TheVariants.{Int}
 use Rattle.c_tree.specs.declared.types.ValueType.{ValueType}
-use Rattle.c_tree.specs.declared.types.ValueType.TheVariants.{Void, Integer, Pointer}
+use Rattle.c_tree.specs.declared.types.ValueType.TheVariants.{Void}
 use Rattle.c_tree.specs.Evaluation.{evaluate, truth_value}
 use Rattle.c_tree.specs.Operators.{is_true, unary_value}
 use Rattle.c_tree.specs.Program.{Function, int}
@@ -19,21 +16,18 @@ use Rattle.c_tree.specs.Store as source
 use Rattle.c_tree.specs.Store.{Evaluated, Gives, Ends, Held, HoldsNumber, HoldsPointer, and_then}
 use Rattle.flow_graph.specs.declared.op.Op.TheVariants as op
 use Rattle.flow_graph.specs.States as graph
-use Rattle.lower_lines.specs.Expressions.{and_dropped, and_part, and_test, negated, or_dropped, or_part, or_test, part_of}
-use Rattle.lower_lines.specs.Expressions.{test_blocks_of}
-use Rattle.lower_lines.specs.Following.{Begins, Comes, EndsSo, Follows, GivesOf, IsSite, Lowers, MayWant, Site, Stand}
+use Rattle.lower_lines.specs.Expressions.{negated, part_of}
+use Rattle.lower_lines.specs.Following.{Begins, Follows, GivesOf, IsSite, Lowers, MayWant, Site, Stand}
 use Rattle.lower_lines.specs.Following.{at_start, behind, context_of, site_lines}
 use Rattle.lower_lines.specs.Lines.{Line, Start, Emit, starts_in}
 use Rattle.lower_lines.specs.Parts.{Wanted, Dropped, Own, ToLocal, Tests, Part, target, truth}
-use Rattle.lower_lines.specs.Relation.{IsOf, Keeps, Shows}
+use Rattle.lower_lines.specs.Relation.{IsOf}
 use Rattle.lower_lines.specs.Variables.{levels_of, local_variables}
 use Rattle.lower_relation.proofs.Changes.{kept-none}
-use Rattle.lower_steps.proofs.Steps.{jump-step}
 use Rattle.lower_expressions.proofs.Binary.{Fits, compound-lowers, turns-fall}
-use Rattle.lower_expressions.proofs.Converting.{begins-again, lowers-fit}
 use Rattle.lower_expressions.proofs.Going.{Goes, stand-back, stand-front}
 use Rattle.lower_expressions.proofs.Leading.{IsTruth, IsValue, LeadsTo, choose-leads, follows-lead, leads-behind}
-use Rattle.lower_expressions.proofs.Leading.{leads-follow, leads-on, one-more, one-way, seven-more, start-goes, start-there}
+use Rattle.lower_expressions.proofs.Leading.{leads-follow, one-way, seven-more, start-goes, start-there}
 use Rattle.lower_expressions.proofs.Leading.{tests_place}
 use Rattle.lower_expressions.proofs.Levels.{levels-one}
 use Rattle.lower_expressions.proofs.Pairs.{Falls}
@@ -120,7 +114,8 @@ module _ (S : Site) (site : IsSite S) (older : List Function) (block level : ℕ
       (start-goes S site second (suc block) t.turns h (stand-front S second (Start (suc block) ∷ [])
       (zero_line ∷ leaves ∷ Start (block + 2) ∷ []) at-second)
       b.function)
-      (one-way S site older level wanted value (pos 0) (second ++ Start (suc block) ∷ []) third (block + 2) t h room may b
+      (one-way S site older level wanted value (pos 0) (second ++ Start (suc block) ∷ []) third
+      (block + 2) t h room may b
       (stand-front S (second ++ Start (suc block) ∷ []) (zero_line ∷ leaves ∷ [])
       (Start (block + 2) ∷ []) in-second) at-third)
 
@@ -152,7 +147,8 @@ behind-all : (S : Site) (active : List Function) (before lines : List Line) (lev
     → Follows S active before lines level wanted int s g r
 behind-all S active before lines level Dropped s g r value leads = absurd value
 behind-all S active before lines level (Tests yes' no') s g r value leads = absurd value
-behind-all S active before lines level Own s g r value leads = leads-follow S active before lines level Own int s g r leads
+behind-all S active before lines level Own s g r value leads = leads-follow S active before lines level Own int s g r
+    leads
 behind-all S active before lines level (ToLocal k) s g r value leads =
     leads-follow S active before lines level (ToLocal k) int s g r leads
 
@@ -295,11 +291,13 @@ module _ (S : Site) (site : IsSite S) (a : Part) (run : source.State → Evaluat
   )
   negated-fits older block level Own before s g stands room may b =
       truth-fits S site older level (λ b holds fails. a.lines b level (Tests fails holds)) negated_run
-      (negated-tests older level room) (λ t. negating-falls t.turns (run t) (falls t)) (λ t. negating-truth (run t)) block
+      (negated-tests older level room) (λ t. negating-falls t.turns (run t) (falls t)) (λ t. negating-truth
+      (run t)) block
       Own tt before s g stands (below level a.levels (levels_of S.function) room one) may b
   negated-fits older block level (ToLocal k) before s g stands room may b =
       truth-fits S site older level (λ b holds fails. a.lines b level (Tests fails holds)) negated_run
-      (negated-tests older level room) (λ t. negating-falls t.turns (run t) (falls t)) (λ t. negating-truth (run t)) block
+      (negated-tests older level room) (λ t. negating-falls t.turns (run t) (falls t)) (λ t. negating-truth
+      (run t)) block
       (ToLocal k) tt before s g stands (below level a.levels (levels_of S.function) room one) may b
   negated-fits older block level (Tests yes' no') before s g stands room may b =
       tests-fit S older level (λ b holds fails. a.lines b level (Tests fails holds)) negated_run

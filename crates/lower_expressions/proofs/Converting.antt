@@ -22,7 +22,8 @@ use Rattle.lower_lines.specs.Expressions.{cast_part, part_of}
 use Rattle.lower_lines.specs.Following.{Begins, GivesOf, GoesInto, HoldsWanted, IsSite, Lowers, MayWant}
 use Rattle.lower_lines.specs.Following.{Site, Stand, context_of, shown_state}
 use Rattle.lower_lines.specs.Lines.{Line, Emit}
-use Rattle.lower_lines.specs.Parts.{Wanted, Dropped, Own, ToLocal, Tests, Part, converting, in_type, made, narrowed, operand}
+use Rattle.lower_lines.specs.Parts.{Wanted, Dropped, Own, ToLocal, Tests, Part, converting, in_type, made, narrowed}
+use Rattle.lower_lines.specs.Parts.{operand}
 use Rattle.lower_lines.specs.Relation.{IsOf, Keeps, Shows}
 use Rattle.lower_lines.specs.Variables.{ForByte, Spot, levels_of, local_variables, temporary}
 use Rattle.lower_relation.proofs.Changes.{kept-by-change, kept-none, temporaries-free}
@@ -169,7 +170,8 @@ is-any S active t u (HoldsPointer array index) is = absurd is
 
 pub fits-any : (S : Site) (active : List Function) (before lines : List Line) (level : ℕ) (wanted : Wanted)
     (t u : IntegerType) (s : source.State) (g : graph.State) (r : Evaluated Held)
-    → Fits S active before lines level wanted (Integer t) s g r → Fits S active before lines level wanted (Integer u) s g r
+    → Fits S active before lines level wanted (Integer t) s g r → Fits S active before lines level wanted
+    (Integer u) s g r
 fits-any S active before lines level wanted t u s g (Ends end w) (ends, typed) = (ends, tt)
 fits-any S active before lines level wanted t u s g (Gives v w) ((h, us, shows, keeps, holds, seen, goes), typed) =
     ((h, us, shows, keeps, holds-any S level wanted t u h v holds, seen, goes), is-any S active t u v typed)
@@ -221,7 +223,8 @@ module _ (S : Site) (site : IsSite S) (older : List Function) (level x : ℕ) (n
         (λ o r. one-step S site before g fits (op.Low byte x) byte x (int_wrap w8) n t.turns o
         (stand-front S before (Emit (op.Low byte x) ∷ []) (Emit (op.Wide to.number byte) ∷ []) here) refl refl refl refl
         at_x r)
-        (λ o r. one-step S site (before ++ Emit (op.Low byte x) ∷ []) lowest fits (op.Wide to.number byte) to.number byte
+        (λ o r. one-step S site (before ++ Emit (op.Low byte x) ∷ []) lowest fits
+        (op.Wide to.number byte) to.number byte
         (λ m. m) (int_wrap w8 n) t.turns o
         (stand-back S before (Emit (op.Low byte x) ∷ []) (Emit (op.Wide to.number byte) ∷ []) here) refl refl refl refl
         byte-at r),
@@ -230,7 +233,8 @@ module _ (S : Site) (site : IsSite S) (older : List Function) (level x : ℕ) (n
     g,
     shows,
     kept-none (local_variables S.function) level g,
-    λ to takes here o r. one-step S site before g fits (op.Low16 to.number x) to.number x (int_wrap w16) n t.turns o here
+    λ to takes here o r. one-step S site before g fits (op.Low16 to.number x) to.number x
+        (int_wrap w16) n t.turns o here
         refl refl refl refl at_x r,
   )
   converting-works Int = (
@@ -261,7 +265,8 @@ narrowed-fits S site older w a run u la of one falls block level wanted before s
       works-follow S site older level
           (λ to. converting (context_of S) level w to ((operand (context_of S) true a).spot level).number)
           (before ++ (operand (context_of S) true a).lines block level) t h (Computes (HoldsNumber (converted w n)))
-          (block + (operand (context_of S) true a).blocks) wanted w (deeper level a.levels (levels_of S.function) room one)
+          (block + (operand (context_of S) true a).blocks) wanted w (deeper level a.levels
+          (levels_of S.function) room one)
           begins.shows begins.function
           (converting-works S site older level ((operand (context_of S) true a).spot level).number n
           (before ++ (operand (context_of S) true a).lines block level) t h begins.function begins.shows
@@ -284,11 +289,13 @@ in_type-fits S site older Char a run u la of one falls block level wanted before
 in_type-fits S site older Short a run u la of one falls block level wanted before s g stands room may b =
     narrowed-fits S site older Short a run u la of one falls block level wanted before s g stands room may b
 in_type-fits S site older Int a run u la of one falls block level wanted before s g stands room may b =
-    let fits = subst (λ (p : ValueType). Fits S (S.function ∷ older) before (a.lines block level wanted) level wanted p s
+    let fits = subst (λ (p : ValueType). Fits S (S.function ∷ older) before
+    (a.lines block level wanted) level wanted p s
     g (run s)) of
     (lowers-fit S a run la (S.function ∷ older) block level wanted before s g stands room
     (subst (λ (p : ValueType). MayWant S wanted p) (sym of) (may-any S wanted Int u may)) b) in
-    subst (λ (r : Evaluated Held). Fits S (S.function ∷ older) before (a.lines block level wanted) level wanted int s g r)
+    subst (λ (r : Evaluated Held). Fits S (S.function ∷ older) before (a.lines block level wanted) level wanted int s g
+    r)
     (sym (int-same S (S.function ∷ older) u (run s) fits.1))
     (fits-any S (S.function ∷ older) before (a.lines block level wanted) level wanted u Int s g (run s) fits)
 

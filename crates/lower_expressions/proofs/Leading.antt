@@ -1,14 +1,12 @@
 -- Where evaluations lead, from one place of the lines to another: tests, and what comes behind them.
-use Rattle.std.proofs.Common.{◌≡◌, ◌≢◌, ℕ, zero, suc, ◌+◌, ◌*◌, ◌<◌, ◌≤◌, Bool, true, false, not, ℤ, pos, List, [], ◌∷◌, ◌++◌}
-use Rattle.std.proofs.Common.{length, max, Option, Some, None, refl, sym, ap, ◌∙◌, subst, arith, append-nil, append_assoc}
+use Rattle.std.proofs.Common.{◌≡◌, ℕ, suc, ◌<◌, ◌≤◌, ℤ, List, [], ◌∷◌, ◌++◌}
+use Rattle.std.proofs.Common.{refl, sym, ap, ◌∙◌, subst, arith, append_assoc}
 use Rattle.std.specs.List.{Contains}
 use Rattle.std.specs.Prelude.{if◌then◌else◌}
-use Rattle.pcc_base.specs.Outcome.{Outcome, Visit}
+use Rattle.pcc_base.specs.Outcome.{Visit}
 use Rattle.c_bounds.specs.Bounds.{state_of}
-use Rattle.c_tree.specs.declared.types.IntegerType.{IntegerType}
 use Rattle.c_tree.specs.declared.types.IntegerType.TheVariants.{Int}
 use Rattle.c_tree.specs.declared.types.ValueType.{ValueType}
-use Rattle.c_tree.specs.declared.types.ValueType.TheVariants.{Void, Integer, Pointer}
 use Rattle.c_tree.specs.Evaluation.{truth_value}
 use Rattle.c_tree.specs.Operators.{is_true}
 use Rattle.c_tree.specs.Program.{Function, int}
@@ -16,17 +14,16 @@ use Rattle.c_tree.specs.Store as source
 use Rattle.c_tree.specs.Store.{Evaluated, Gives, Ends, Held, HoldsNumber, HoldsPointer, and_then}
 use Rattle.flow_graph.specs.declared.op.Op.TheVariants as op
 use Rattle.flow_graph.specs.States as graph
-use Rattle.lower_lines.specs.Following.{Begins, Comes, EndsSo, Follows, GivesOf, HoldsWanted, IsSite, MayWant, Site, Stand}
+use Rattle.lower_lines.specs.Following.{Begins, Comes, EndsSo, Follows, HoldsWanted, IsSite, MayWant, Site, Stand}
 use Rattle.lower_lines.specs.Following.{at_start, behind, context_of, reached, shown_state, site_lines}
 use Rattle.lower_lines.specs.Lines.{Line, Start, Emit, starts_in}
-use Rattle.lower_lines.specs.Parts.{Wanted, Dropped, Own, ToLocal, Tests, target, truth}
-use Rattle.lower_lines.specs.Relation.{IsOf, Keeps, Shows}
+use Rattle.lower_lines.specs.Parts.{Wanted, Dropped, Own, ToLocal, Tests, target}
+use Rattle.lower_lines.specs.Relation.{Keeps, Shows}
 use Rattle.lower_lines.specs.Variables.{levels_of, local_variables}
 use Rattle.lower_relation.proofs.Changes.{kept-twice}
 use Rattle.lower_steps.proofs.Points.{starts-stand}
 use Rattle.lower_steps.proofs.Steps.{jump-step}
 use Rattle.lower_expressions.proofs.Atoms.{constants-lower}
-use Rattle.lower_expressions.proofs.Binary.{Fits}
 use Rattle.lower_expressions.proofs.Converting.{begins-again, lowers-fit}
 use Rattle.lower_expressions.proofs.Going.{Goes, goes-end, goes-then, stand-back, stand-front}
 

@@ -1,39 +1,32 @@
 -- `&&` and `||`, whatever is wanted of them.
-use Rattle.std.proofs.Common.{◌≡◌, ◌≢◌, ℕ, zero, suc, ◌+◌, ◌*◌, ◌<◌, ◌≤◌, Bool, true, false, not, ℤ, pos, List, [], ◌∷◌, ◌++◌}
-use Rattle.std.proofs.Common.{length, max, Option, Some, None, refl, sym, ap, ◌∙◌, subst, arith, append-nil, append_assoc}
+use Rattle.std.proofs.Common.{◌≡◌, ◌≢◌, ℕ, suc, ◌+◌, ◌<◌, ◌≤◌, Bool, true, false, List, [], ◌∷◌, ◌++◌}
+use Rattle.std.proofs.Common.{max, refl, sym, ◌∙◌, subst, arith, append-nil, append_assoc}
 use Rattle.std.proofs.Math.Nat.{le-max_left, le-max_right}
 use Rattle.std.specs.List.{Contains}
-use Rattle.std.specs.Ordering.{int_eq}
 use Rattle.std.specs.Prelude.{if◌then◌else◌}
-use Rattle.pcc_base.specs.Outcome.{Outcome, Visit}
 use Rattle.c_bounds.specs.Bounds.{state_of}
-use Rattle.c_tree.specs.declared.expression.UnaryOp.TheVariants.{Not}
-use Rattle.c_tree.specs.declared.types.IntegerType.{IntegerType}
-use Rattle.c_tree.specs.declared.types.IntegerType.TheVariants.{Int}
-use Rattle.c_tree.specs.declared.types.ValueType.{ValueType}
-use Rattle.c_tree.specs.declared.types.ValueType.TheVariants.{Void, Integer, Pointer}
+use Rattle.c_tree.specs.declared.types.ValueType.TheVariants.{Void}
 use Rattle.c_tree.specs.Evaluation.{evaluate, truth_value}
-use Rattle.c_tree.specs.Operators.{is_true, unary_value}
+use Rattle.c_tree.specs.Operators.{is_true}
 use Rattle.c_tree.specs.Program.{Function, int}
 use Rattle.c_tree.specs.Store as source
 use Rattle.c_tree.specs.Store.{Evaluated, Gives, Ends, Held, HoldsNumber, HoldsPointer, and_then}
 use Rattle.flow_graph.specs.declared.op.Op.TheVariants as op
 use Rattle.flow_graph.specs.States as graph
-use Rattle.lower_lines.specs.Expressions.{and_dropped, and_part, and_test, negated, or_dropped, or_part, or_test, part_of}
+use Rattle.lower_lines.specs.Expressions.{and_part, and_test, or_part, or_test, part_of}
 use Rattle.lower_lines.specs.Expressions.{test_blocks_of}
-use Rattle.lower_lines.specs.Following.{Begins, Comes, EndsSo, Follows, GivesOf, HoldsWanted, IsSite, Lowers, MayWant, Site, Stand}
+use Rattle.lower_lines.specs.Following.{Begins, Follows, HoldsWanted, IsSite, Lowers, MayWant, Site, Stand}
 use Rattle.lower_lines.specs.Following.{at_start, behind, context_of, shown_state, site_lines}
 use Rattle.lower_lines.specs.Lines.{Line, Start, Emit, starts_in}
-use Rattle.lower_lines.specs.Parts.{Wanted, Dropped, Own, ToLocal, Tests, Part, target, truth}
-use Rattle.lower_lines.specs.Relation.{IsOf, Keeps, Shows}
+use Rattle.lower_lines.specs.Parts.{Wanted, Dropped, Own, ToLocal, Tests, Part}
+use Rattle.lower_lines.specs.Relation.{Shows}
 use Rattle.lower_lines.specs.Variables.{levels_of, local_variables}
 use Rattle.lower_relation.proofs.Changes.{kept-none}
 use Rattle.lower_steps.proofs.Steps.{jump-step}
 use Rattle.lower_expressions.proofs.Binary.{Fits, compound-lowers, turns-fall}
-use Rattle.lower_expressions.proofs.Converting.{begins-again, lowers-fit}
 use Rattle.lower_expressions.proofs.Going.{Goes, stand-back, stand-front}
-use Rattle.lower_expressions.proofs.Leading.{IsTruth, IsValue, LeadsTo, choose-leads, follows-lead, leads-behind}
-use Rattle.lower_expressions.proofs.Leading.{leads-follow, leads-on, one-more, one-way, seven-more, start-goes, start-there}
+use Rattle.lower_expressions.proofs.Leading.{IsTruth, LeadsTo, choose-leads, follows-lead, leads-behind}
+use Rattle.lower_expressions.proofs.Leading.{leads-follow, leads-on, one-more, start-goes, start-there}
 use Rattle.lower_expressions.proofs.Leading.{tests_place}
 use Rattle.lower_expressions.proofs.Levels.{levels-one}
 use Rattle.lower_expressions.proofs.Pairs.{Falls}
@@ -136,12 +129,14 @@ module _ (S : Site) (site : IsSite S) (older : List Function) (b : Part) (run : 
       (λ v i. behind (front ++ tail_of b block inner level) i) (second_run run t)
   second-dropped t h stands begins =
       leads-behind S (S.function ∷ older) level Dropped int t t (at_start S block h)
-      (behind (front ++ Start block ∷ []) h) h h [] (λ v i. behind (front ++ tail_of b block inner level) i) (second_run run t)
+      (behind (front ++ Start block ∷ []) h) h h [] (λ v i. behind (front ++ tail_of b block inner level) i)
+      (second_run run t)
       (kept-none (local_variables S.function) level h) (sym (append-nil t.visits))
       (start-goes S site front block t.turns h
       (stand-front S front (Start block ∷ []) (dropped ++ (leaves ∷ Start (suc block) ∷ [])) stands) begins.function)
       (leads-on S (S.function ∷ older) level Dropped int t (behind (front ++ Start block ∷ []) h) h
-      (λ v i. behind ((front ++ Start block ∷ []) ++ dropped) i) (λ v i. behind (front ++ tail_of b block inner level) i)
+      (λ v i. behind ((front ++ Start block ∷ []) ++ dropped) i) (λ v i. behind
+      (front ++ tail_of b block inner level) i)
       (second_run run t) begins.function
       (λ v turns i own o c. jump-step S site ((front ++ Start block ∷ []) ++ dropped) i own (suc block) turns o other
       (stand-front S ((front ++ Start block ∷ []) ++ dropped) (leaves ∷ []) (Start (suc block) ∷ []) (at-leave stands))
@@ -158,7 +153,8 @@ module _ (S : Site) (site : IsSite S) (older : List Function) (b : Part) (run : 
       → LeadsTo S (S.function ∷ older) level Dropped int t (at_start S (suc block) h) h
       (λ v i. behind (front ++ tail_of b block inner level) i) (Gives v t)
   first-dropped v t h stands begins =
-      already S older level Dropped t (at_start S (suc block) h) h (λ v i. behind (front ++ tail_of b block inner level) i) v begins.shows
+      already S older level Dropped t (at_start S (suc block) h) h (λ v i. behind
+      (front ++ tail_of b block inner level) i) v begins.shows
       tt (end-goes stands t.turns h begins.function)
 
 first-room : (level i j top : ℕ) → level + max i j ≤ top → level + i ≤ top
@@ -210,7 +206,8 @@ module _ (S : Site) (site : IsSite S) (a b : Part) (run run' : source.State → 
       let xs = a.lines (suc block) level (Tests block no') in
       let ys = b.lines (suc block + test_blocks_of a) level (Tests yes' no') in
       let tail = stand-back S before xs (Start block ∷ ys) stands in
-      choose-leads S older level block no' a.of (Tests yes' no') int s (behind before g) g (tests_place S yes' no') (run s)
+      choose-leads S older level block no' a.of (Tests yes' no') int s (behind before g) g (tests_place S yes' no')
+      (run s)
       (λ x t. if is_true x then second_run run' t else Gives (truth_value false) t) begins (falls s)
       (follows-lead S (S.function ∷ older) before xs level (Tests block no') a.of s g (run s)
       (la.follows (S.function ∷ older) (suc block) level (Tests block no') before s g
@@ -251,7 +248,8 @@ module _ (S : Site) (site : IsSite S) (a b : Part) (run run' : source.State → 
       (λ v i. behind ((before ++ xs) ++ tail) i) (run s)
       (λ x t. if is_true x then second_run run' t else Gives (truth_value false) t) begins (falls s)
       (follows-lead S (S.function ∷ older) before xs level (Tests block (suc block)) a.of s g (run s)
-      (subst (λ (ls : List Line). Follows S (S.function ∷ older) before ls level (Tests block (suc block)) a.of s g (run s)) (sym same)
+      (subst (λ (ls : List Line). Follows S (S.function ∷ older) before ls level (Tests block (suc block)) a.of s g
+      (run s)) (sym same)
       (la.follows (S.function ∷ older) (block + 2) level (Tests block (suc block)) before s g
       (subst (λ (ls : List Line). Stand S before ls) same (stand-front S before xs tail stands))
       (first-room level a.levels b.levels _ room) (scalar, first, last) begins)))
@@ -275,7 +273,8 @@ module _ (S : Site) (site : IsSite S) (a b : Part) (run run' : source.State → 
       → Fits S (S.function ∷ older) before ((and_part (context_of S) a b).lines block level wanted) level wanted int s g
       (and_run run run' s)
   and-fits older block level Dropped before s g stands room may begins = (
-    and-drops older block level before (a.lines (block + 2) level (Tests block (suc block))) s g refl stands room begins,
+    and-drops older block level before (a.lines (block + 2) level (Tests block
+        (suc block))) s g refl stands room begins,
     truth-typed S (S.function ∷ older) (and_run run run' s) (and-truth run' (run s)),
   )
   and-fits older block level Own before s g stands room may begins =
@@ -338,7 +337,8 @@ module _ (S : Site) (site : IsSite S) (a b : Part) (run run' : source.State → 
       let xs = a.lines (suc block) level (Tests yes' block) in
       let ys = b.lines (suc block + test_blocks_of a) level (Tests yes' no') in
       let tail = stand-back S before xs (Start block ∷ ys) stands in
-      choose-leads S older level yes' block a.of (Tests yes' no') int s (behind before g) g (tests_place S yes' no') (run s)
+      choose-leads S older level yes' block a.of (Tests yes' no') int s (behind before g) g (tests_place S yes' no')
+      (run s)
       (λ x t. if is_true x then Gives (truth_value true) t else second_run run' t) begins (falls s)
       (follows-lead S (S.function ∷ older) before xs level (Tests yes' block) a.of s g (run s)
       (la.follows (S.function ∷ older) (suc block) level (Tests yes' block) before s g
@@ -379,7 +379,8 @@ module _ (S : Site) (site : IsSite S) (a b : Part) (run run' : source.State → 
       (λ v i. behind ((before ++ xs) ++ tail) i) (run s)
       (λ x t. if is_true x then Gives (truth_value true) t else second_run run' t) begins (falls s)
       (follows-lead S (S.function ∷ older) before xs level (Tests (suc block) block) a.of s g (run s)
-      (subst (λ (ls : List Line). Follows S (S.function ∷ older) before ls level (Tests (suc block) block) a.of s g (run s)) (sym same)
+      (subst (λ (ls : List Line). Follows S (S.function ∷ older) before ls level (Tests (suc block) block) a.of s g
+      (run s)) (sym same)
       (la.follows (S.function ∷ older) (block + 2) level (Tests (suc block) block) before s g
       (subst (λ (ls : List Line). Stand S before ls) same (stand-front S before xs tail stands))
       (first-room level a.levels b.levels _ room) (scalar, last, first) begins)))

@@ -1,36 +1,33 @@
 -- `putchar`, the end of a program, and the comma.
-use Rattle.std.proofs.Common.{◌≡◌, ◌≢◌, ℕ, suc, ◌+◌, ◌*◌, ◌<◌, ◌≤◌, ℤ, pos, List, [], ◌∷◌, ◌++◌, max}
-use Rattle.std.proofs.Common.{Option, Some, None, true, refl, sym, ap, ◌∙◌, subst, arith, append-nil, append_assoc}
+use Rattle.std.proofs.Common.{◌≡◌, ℕ, suc, ◌+◌, ◌<◌, ◌≤◌, pos, List, [], ◌∷◌, ◌++◌, max}
+use Rattle.std.proofs.Common.{true, refl, sym, arith, append-nil}
 use Rattle.std.proofs.Math.Nat.{le-max_left, le-max_right}
-use Rattle.pcc_base.specs.Outcome.{Ended, Value, Number, Visit}
-use Rattle.c_bounds.specs.Bounds.{state_of}
+use Rattle.pcc_base.specs.Outcome.{Ended}
 use Rattle.c_tree.specs.declared.types.IntegerType.{IntegerType}
-use Rattle.c_tree.specs.declared.types.IntegerType.TheVariants.{Char, Short, Int}
-use Rattle.c_tree.specs.declared.types.ValueType.{ValueType}
-use Rattle.c_tree.specs.declared.types.ValueType.TheVariants.{Void, Integer, Pointer}
+use Rattle.c_tree.specs.declared.types.IntegerType.TheVariants.{Int}
+use Rattle.c_tree.specs.declared.types.ValueType.TheVariants.{Void, Integer}
 use Rattle.c_tree.specs.Evaluation.{evaluate, low_byte, put}
-use Rattle.c_tree.specs.Program.{Function, Program, int}
+use Rattle.c_tree.specs.Program.{int}
 use Rattle.c_tree.specs.Store as source
 use Rattle.c_tree.specs.Store.{Evaluated, Gives, Ends, Held, HoldsNumber, HoldsPointer, and_then}
 use Rattle.flow_graph.specs.declared.op.Op.TheVariants as op
-use Rattle.flow_graph.specs.Running.{outcome_at}
 use Rattle.flow_graph.specs.States as graph
 use Rattle.flow_graph.specs.States.{number_at, with_value}
 use Rattle.lower_lines.specs.Expressions.{comma_part, exit_part, number_part, part_of}
-use Rattle.lower_lines.specs.Following.{Begins, Follows, IsSite, Lowers, MayWant, Site, Stand}
-use Rattle.lower_lines.specs.Following.{behind, context_of}
-use Rattle.lower_lines.specs.Lines.{Line, Start, Emit}
-use Rattle.lower_lines.specs.Parts.{Wanted, Dropped, Own, ToLocal, Tests, Part, made, operand}
-use Rattle.lower_lines.specs.Relation.{IsOf, Keeps, Shows}
-use Rattle.lower_lines.specs.Variables.{Spot, levels_of, local_variables}
+use Rattle.lower_lines.specs.Following.{IsSite, Lowers, Site}
+use Rattle.lower_lines.specs.Following.{context_of}
+use Rattle.lower_lines.specs.Lines.{Start, Emit}
+use Rattle.lower_lines.specs.Parts.{Dropped, Part, made, operand}
+use Rattle.lower_lines.specs.Relation.{Keeps}
+use Rattle.lower_lines.specs.Variables.{levels_of, local_variables}
 use Rattle.lower_relation.proofs.Changes.{bytes-written, kept-none}
 use Rattle.lower_steps.proofs.Steps.{exit-step, putchar-step}
-use Rattle.lower_expressions.proofs.Binary.{Fits, compound-lowers, trap-ends, turns-fall}
-use Rattle.lower_expressions.proofs.Converting.{GoesOn, behind-number, behind-part, lowers-fit}
-use Rattle.lower_expressions.proofs.Going.{Goes, stand-back, stand-front}
+use Rattle.lower_expressions.proofs.Binary.{compound-lowers, trap-ends, turns-fall}
+use Rattle.lower_expressions.proofs.Converting.{behind-number, behind-part, lowers-fit}
+use Rattle.lower_expressions.proofs.Going.{stand-back, stand-front}
 use Rattle.lower_expressions.proofs.Levels.{levels-one}
 use Rattle.lower_expressions.proofs.Made.{number-made}
-use Rattle.lower_expressions.proofs.Operands.{NumberStands, number-operand}
+use Rattle.lower_expressions.proofs.Operands.{number-operand}
 use Rattle.lower_expressions.proofs.Pairs.{Falls}
 use Rattle.lower_expressions.specs.Laws.{CommasLower, ExitsLower, PutcharsLower}
 
@@ -120,7 +117,8 @@ comma-lowers S site a b run run' la lb falls =
     behind-part S older level before xs ys Dropped a.of wanted b.of s g (run s) (λ v t. run' t) tt begins (falls s)
     (lowers-fit S a run la (S.function ∷ older) block level Dropped before s g (stand-front S before xs ys stands)
     (lower-first level a.levels b.levels (levels_of S.function) room) tt begins)
-    (λ v t h typed holds again keeps. lowers-fit S b run' lb (S.function ∷ older) (block + a.blocks Dropped) level wanted
+    (λ v t h typed holds again keeps. lowers-fit S b run' lb (S.function ∷ older)
+    (block + a.blocks Dropped) level wanted
     (before ++ xs) t h (stand-back S before xs ys stands)
     (lower-second level a.levels b.levels (levels_of S.function) room) may again))
   where

@@ -236,7 +236,8 @@ second-stands S older a b run run' t u la of lb of' block level before s g first
         (first_lines S a b block level ++ second_lines S a b block level) level
         ((operand (context_of S) b.simple a).spot level).number
         ((operand (context_of S) true b).spot (suc level)).number first s g r
-    by (Ends end w) eb ends = goes-end S end s v w (behind before g) (behind (before ++ first_lines S a b block level) h) us seen goes ends
+    by (Ends end w) eb ends =
+        goes-end S end s v w (behind before g) (behind (before ++ first_lines S a b block level) h) us seen goes ends
     by (Gives second w) eb (i, vs, n, is', shows', keeps', seen', at', goes') = (
       i,
       us ++ vs,
@@ -274,7 +275,8 @@ both-operands S older a b run run' t u la of lb of' falls block level before s g
     by : (r : Evaluated Held) → run s ≡ r → (state_of r).turns ≤ s.turns
         → NumberStands S (S.function ∷ older) before (first_lines S a b block level) level
         ((operand (context_of S) b.simple a).spot level) s g r
-        → BothStand S (S.function ∷ older) before (first_lines S a b block level ++ second_lines S a b block level) level
+        → BothStand S (S.function ∷ older) before (first_lines S a b block level ++ second_lines S a b block level)
+        level
         ((operand (context_of S) b.simple a).spot level).number
         ((operand (context_of S) true b).spot (suc level)).number s g r run'
     by (Ends end w) ea fall ends = ends

@@ -1,10 +1,11 @@
 -- Assignments with an operator, and steps, of locals of integer types.
-use Rattle.std.proofs.Common.{◌≡◌, ◌≢◌, ℕ, suc, ◌+◌, ◌*◌, ◌<◌, ◌≤◌, Bool, true, false, not, ℤ, pos, List, [], ◌∷◌, ◌++◌, max}
-use Rattle.std.proofs.Common.{Option, Some, None, refl, sym, ap, ◌∙◌, subst, arith, append-nil, inl}
+use Rattle.std.proofs.Common.{◌≡◌, ◌≢◌, ℕ, suc, ◌+◌, ◌*◌, ◌<◌, ◌≤◌, Bool, true, false, not, ℤ, pos, List, [], ◌∷◌}
+use Rattle.std.proofs.Common.{◌++◌, max}
+use Rattle.std.proofs.Common.{Some, refl, sym, ap, ◌∙◌, subst, arith, append-nil, inl}
 use Rattle.std.proofs.Math.Nat.{le-max_left, le-max_right}
 use Rattle.std.specs.Ordering.{int_eq}
 use Rattle.std.specs.Prelude.{slice_get, if◌then◌else◌}
-use Rattle.pcc_base.specs.Outcome.{Value, Number, Visit}
+use Rattle.pcc_base.specs.Outcome.{Number}
 use Rattle.pcc_base.specs.declared.run.Width.TheVariants.{Two}
 use Rattle.c_bounds.specs.Bounds.{state_of}
 use Rattle.c_tree.specs.declared.expression.BinaryOp.{BinaryOp}
@@ -14,7 +15,7 @@ use Rattle.c_tree.specs.declared.expression.StepOp.TheVariants.{PostDecrement}
 use Rattle.c_tree.specs.declared.types.IntegerType.{IntegerType}
 use Rattle.c_tree.specs.declared.types.IntegerType.TheVariants.{Char, Short, Int}
 use Rattle.c_tree.specs.declared.types.ValueType.{ValueType}
-use Rattle.c_tree.specs.declared.types.ValueType.TheVariants.{Void, Integer, Pointer}
+use Rattle.c_tree.specs.declared.types.ValueType.TheVariants.{Integer}
 use Rattle.c_tree.specs.Evaluation.{InLocal, computed, evaluate, updated}
 use Rattle.c_tree.specs.Operators.{Computed, Computes, Traps, binary_value, step_op}
 use Rattle.c_tree.specs.Program.{Local, Function, int}
@@ -24,23 +25,26 @@ use Rattle.flow_graph.specs.declared.op.Comparison.TheVariants.{Ne}
 use Rattle.flow_graph.specs.declared.op.Op.TheVariants as op
 use Rattle.flow_graph.specs.States as graph
 use Rattle.flow_graph.specs.States.{number_at, number_of, value_at, with_value}
-use Rattle.lower_lines.specs.Expressions.{AtLocal, assigned_local, binary_part, local_part, one_part, part_of, step_part}
-use Rattle.lower_lines.specs.Expressions.{stepped_after, stepped_lines, stepped_name, update_part}
-use Rattle.lower_lines.specs.Following.{Begins, Comes, Follows, GivesAlone, GivesOf, IsSite, Lowers, MayWant, Site, Stand}
-use Rattle.lower_lines.specs.Following.{behind, context_of, site_lines}
+use Rattle.lower_lines.specs.Expressions.{AtLocal, assigned_local, binary_part, local_part, one_part, part_of}
+use Rattle.lower_lines.specs.Expressions.{stepped_after, stepped_lines, update_part}
+use Rattle.lower_lines.specs.Following.{Begins, Comes, Follows, GivesAlone, GivesOf, IsSite, Lowers, MayWant, Site}
+use Rattle.lower_lines.specs.Following.{Stand}
+use Rattle.lower_lines.specs.Following.{behind, context_of}
 use Rattle.lower_lines.specs.Lines.{Line, Start, Emit}
-use Rattle.lower_lines.specs.Parts.{Wanted, Dropped, Own, ToLocal, Tests, Part, compound, delivered, made, number_test, tested_blocks}
-use Rattle.lower_lines.specs.Relation.{IsOf, Keeps, Shows}
-use Rattle.lower_lines.specs.Variables.{ForScratch, Spot, copied, levels_of, local_spot, local_variables, own, temporary}
+use Rattle.lower_lines.specs.Parts.{Wanted, Dropped, Own, ToLocal, Tests, Part, compound, delivered, made}
+use Rattle.lower_lines.specs.Parts.{number_test, tested_blocks}
+use Rattle.lower_lines.specs.Relation.{IsOf, Shows}
+use Rattle.lower_lines.specs.Variables.{ForScratch, Spot, copied, levels_of, local_spot, local_variables, own}
+use Rattle.lower_lines.specs.Variables.{temporary}
 use Rattle.lower_relation.proofs.Changes.{kept-below, kept-by-change, kept-none, locals-held, temporaries-free}
 use Rattle.lower_relation.proofs.Locals.{get-set_other, get-set_same}
 use Rattle.lower_steps.proofs.Steps.{branch-step, const-step}
-use Rattle.lower_expressions.proofs.Assigning.{assigned-lowers, assigning, local-levels, local-lowers, local-of}
+use Rattle.lower_expressions.proofs.Assigning.{assigned-lowers, assigning, local-lowers, local-of}
 use Rattle.lower_expressions.proofs.Atoms.{constants-lower}
 use Rattle.lower_expressions.proofs.Binary.{Counts, Fits, after_both, binary-lowers, compound-lowers, turns-fall}
-use Rattle.lower_expressions.proofs.Converting.{behind-part, lowers-fit}
-use Rattle.lower_expressions.proofs.Going.{Goes, stand-back, stand-front}
-use Rattle.lower_expressions.proofs.Levels.{levels-one, max-behind}
+use Rattle.lower_expressions.proofs.Converting.{lowers-fit}
+use Rattle.lower_expressions.proofs.Going.{stand-back, stand-front}
+use Rattle.lower_expressions.proofs.Levels.{max-behind}
 use Rattle.lower_expressions.proofs.Made.{number-made, start-stands, variable-there}
 use Rattle.lower_expressions.proofs.Atoms.{held-number}
 use Rattle.lower_expressions.proofs.Converting.{begins-again}
@@ -56,7 +60,8 @@ pub lowers-same : (S : Site) (a : Part) (run run' : source.State → Evaluated H
     → ((s : source.State) → run s ≡ run' s) → Lowers S a run → Lowers S a run'
 lowers-same S a run run' same lowers = record {
   follows = λ active block level wanted before s g stands room may b.
-      subst (λ (r : Evaluated Held). Follows S active before (a.lines block level wanted) level wanted a.of s g r) (same s)
+      subst (λ (r : Evaluated Held). Follows S active before (a.lines block level wanted) level wanted a.of s g r)
+      (same s)
       (lowers.follows active block level wanted before s g stands room may b);
   typed = λ active block level wanted before s g stands room may b.
       subst (λ (r : Evaluated Held). GivesOf S.program active a.of r) (same s)
@@ -200,7 +205,8 @@ module _ (S : Site) (site : IsSite S) (older : List Function) (level x : ℕ) (n
     tt,
   )
   delivered-fits w block Own spot is stands may =
-      copied-fits w block Own _ (append-nil _ ∙ ap (λ (i : ℕ). copied (own (context_of S) level).number i) (sym is)) stands
+      copied-fits w block Own _ (append-nil _ ∙ ap (λ (i : ℕ). copied (own (context_of S) level).number i)
+      (sym is)) stands
       may
   delivered-fits w block (ToLocal j) spot is stands may =
       copied-fits w block (ToLocal j) _
@@ -247,9 +253,11 @@ module _ (S : Site) (site : IsSite S) (k : ℕ) (l : Local) (w : IntegerType)
 
   update-does : Lowers S update (new_given w operator k)
   update-does =
-      lowers-same S update (updating w (step_op operator) k (λ s. Gives (HoldsNumber (pos 1)) s)) (new_given w operator k)
+      lowers-same S update (updating w (step_op operator) k (λ s. Gives (HoldsNumber (pos 1)) s))
+      (new_given w operator k)
       (λ s. refl)
-      (update-lowers S site (step_op operator) k l w e of (one_part (context_of S)) (λ s. Gives (HoldsNumber (pos 1)) s) Int
+      (update-lowers S site (step_op operator) k l w e of (one_part (context_of S)) (λ s. Gives (HoldsNumber
+      (pos 1)) s) Int
       one-lowers refl (λ s. omega arith) (λ shifts. absurd (never-shift operator shifts)))
 
   update-typed : update.of ≡ Integer w
@@ -264,7 +272,8 @@ module _ (S : Site) (site : IsSite S) (k : ℕ) (l : Local) (w : IntegerType)
   new-fits older block level wanted before s g stands room may b =
       subst (λ (p : ValueType). Fits S (S.function ∷ older) before (update.lines block level wanted) level wanted p s g
       (new_given w operator k s)) update-typed
-      (lowers-fit S update (new_given w operator k) update-does (S.function ∷ older) block level wanted before s g stands
+      (lowers-fit S update (new_given w operator k) update-does (S.function ∷ older) block level wanted before s g
+      stands
       room (subst (λ (p : ValueType). MayWant S wanted p) (sym update-typed) may) b)
 
   keep-new : (r : Evaluated Held) → r ≡ and_then r (λ v t. Gives v t)
@@ -272,7 +281,8 @@ module _ (S : Site) (site : IsSite S) (k : ℕ) (l : Local) (w : IntegerType)
   keep-new (Ends end t) = refl
 
   -- before its value is used
-  pub before-lowers : Lowers S (compound (Integer w) update.levels update.blocks update.lines) (λ s. and_then (new_given w operator k s) (λ v t. Gives v t))
+  pub before-lowers : Lowers S (compound (Integer w) update.levels update.blocks update.lines) (λ s. and_then
+      (new_given w operator k s) (λ v t. Gives v t))
   before-lowers = compound-lowers S (compound (Integer w) update.levels update.blocks update.lines) _ refl refl
       (λ older block level wanted before s g stands room may b.
       subst (λ (r : Evaluated Held). Fits S (S.function ∷ older) before (update.lines block level wanted) level wanted
@@ -297,7 +307,8 @@ module _ (S : Site) (site : IsSite S) (k : ℕ) (l : Local) (w : IntegerType)
       → g.current.function ≡ S.number → number_at g (own (context_of S) level).number ≡ Some m
       → Stand S before (update.lines block (suc level) Dropped
       ++ delivered (context_of S) (block + update.blocks Dropped) level wanted (Integer w) (own (context_of S) level))
-      → Fits S (S.function ∷ older) before (update.lines block (suc level) Dropped) (suc level) Dropped (Integer w) s g r
+      → Fits S (S.function ∷ older) before (update.lines block (suc level) Dropped) (suc level) Dropped
+      (Integer w) s g r
       → Fits S (S.function ∷ older) before (update.lines block (suc level) Dropped
       ++ delivered (context_of S) (block + update.blocks Dropped) level wanted (Integer w) (own (context_of S) level))
       level wanted (Integer w) s g (and_then r (λ new u. Gives (HoldsNumber m) u))
@@ -310,9 +321,11 @@ module _ (S : Site) (site : IsSite S) (k : ℕ) (l : Local) (w : IntegerType)
       let rest = delivered-fits S site older level (own (context_of S) level).number m (before ++ ups) t h
       (keeps.function ∙ fits) shows room (own-stays S level g h m keeps at)
       (apart-scratch S level level (own (context_of S) level).number (inl refl) (omega arith)) w
-      (block + update.blocks Dropped) wanted (own (context_of S) level) refl (stand-back S before ups last stands) may in (
+      (block + update.blocks Dropped) wanted (own (context_of S) level) refl
+      (stand-back S before ups last stands) may in (
         follows-behind S (S.function ∷ older) before ups last level wanted (Integer w) s t g h us
-            (Gives (HoldsNumber m) t) (kept-below (local_variables S.function) level (suc level) g h (omega arith) keeps)
+            (Gives (HoldsNumber m) t) (kept-below (local_variables S.function) level (suc level) g h
+            (omega arith) keeps)
             seen goes rest.0,
         tt,
       )
@@ -322,7 +335,8 @@ module _ (S : Site) (site : IsSite S) (k : ℕ) (l : Local) (w : IntegerType)
       → suc level + update.levels ≤ levels_of S.function → MayWant S wanted (Integer w)
       → Begins S (S.function ∷ older) s g
       → Fits S (S.function ∷ older) before (name.lines block level Own) level Own (Integer w) s g (Gives (held s k) s)
-      → Fits S (S.function ∷ older) before (stepped_after (context_of S) (Integer w) name update block level wanted) level
+      → Fits S (S.function ∷ older) before (stepped_after (context_of S)
+      (Integer w) name update block level wanted) level
       wanted (Integer w) s g (and_then (new_given w operator k s) (λ new u. Gives (held s k) u))
   behind-old older block level wanted before s g stands room may b
       ((h, us, shows, keeps, holds, seen, goes), typed) =
@@ -367,7 +381,8 @@ module _ (S : Site) (site : IsSite S) (k : ℕ) (l : Local) (w : IntegerType)
       (g : graph.State) → Stand S before (stepped_after (context_of S) (Integer w) name update block level wanted)
       → level + max name.levels (suc update.levels) ≤ levels_of S.function → MayWant S wanted (Integer w)
       → Begins S (S.function ∷ older) s g
-      → Fits S (S.function ∷ older) before (stepped_after (context_of S) (Integer w) name update block level wanted) level
+      → Fits S (S.function ∷ older) before (stepped_after (context_of S)
+      (Integer w) name update block level wanted) level
       wanted (Integer w) s g (and_then (new_given w operator k s) (λ new u. Gives (held s k) u))
   by-after older block level wanted before s g stands room may b =
       behind-old older block level wanted before s g stands (second level name.levels update.levels _ room) may b
@@ -384,7 +399,8 @@ module _ (S : Site) (site : IsSite S) (k : ℕ) (l : Local) (w : IntegerType)
       (g : graph.State) → Stand S before (stepped_lines (context_of S) (Integer w) name update block level wanted)
       → level + max name.levels (suc update.levels) ≤ levels_of S.function → MayWant S wanted (Integer w)
       → Begins S (S.function ∷ older) s g
-      → Fits S (S.function ∷ older) before (stepped_lines (context_of S) (Integer w) name update block level wanted) level
+      → Fits S (S.function ∷ older) before (stepped_lines (context_of S)
+      (Integer w) name update block level wanted) level
       wanted (Integer w) s g (and_then (new_given w operator k s) (λ new u. Gives (held s k) u))
   after-fits older block level Dropped before s g stands room may b =
       dropped-old older before (update.lines block level Dropped) level s g (new_given w operator k s) (held s k)

@@ -1,6 +1,6 @@
 -- Every typed expression of numbers, by induction on the tree.
-use Rattle.std.proofs.Common.{◌≡◌, ◌≢◌, ℕ, Option, Some, None, refl, sym, ap, ◌∙◌, subst}
-use Rattle.std.specs.Prelude.{slice_get, IsSomeAnd}
+use Rattle.std.proofs.Common.{◌≡◌, ◌≢◌, refl, sym, ap, ◌∙◌, subst}
+use Rattle.std.specs.Prelude.{slice_get}
 use Rattle.c_tree.specs.declared.expression.BinaryOp.{BinaryOp}
 use Rattle.c_tree.specs.declared.expression.StepOp.{StepOp}
 use Rattle.c_tree.specs.declared.expression.StepOp.TheVariants.{PreIncrement, PreDecrement, PostIncrement}
@@ -8,18 +8,17 @@ use Rattle.c_tree.specs.declared.expression.StepOp.TheVariants.{PostDecrement}
 use Rattle.c_tree.specs.declared.expression.UnaryOp.{UnaryOp}
 use Rattle.c_tree.specs.declared.expression.UnaryOp.TheVariants.{Plus, Minus, Complement, Not}
 use Rattle.c_tree.specs.declared.types.IntegerType.{IntegerType}
-use Rattle.c_tree.specs.declared.types.IntegerType.TheVariants.{Char, Short, Int}
+use Rattle.c_tree.specs.declared.types.IntegerType.TheVariants.{Int}
 use Rattle.c_tree.specs.declared.types.ValueType.{ValueType}
 use Rattle.c_tree.specs.declared.types.ValueType.TheVariants.{Void, Integer, Pointer}
 use Rattle.c_tree.specs.Evaluation.{evaluate}
 use Rattle.c_tree.specs.Program.{int, value_type, Expression, Constant, Start, Read, Address, Unary, Binary, And, Or}
 use Rattle.c_tree.specs.Program.{Conditional, Cast, Assign, Update, Step, Comma, Call, Putchar, Getchar, Exit, Place}
-use Rattle.c_tree.specs.Program.{LocalPlace, StaticPlace, Target, Element, Local}
+use Rattle.c_tree.specs.Program.{LocalPlace, StaticPlace, Target, Element}
 use Rattle.c_tree.specs.Store.{Gives, held}
 use Rattle.c_tree.specs.WellTyped.{BinaryGives, ConditionalGives, IsInteger, IsPlace, IsTyped, UnaryGives}
 use Rattle.lower_lines.specs.Expressions.{local_part, part_of}
 use Rattle.lower_lines.specs.Following.{IsSite, Lowers, Site, context_of}
-use Rattle.lower_lines.specs.Parts.{Part}
 use Rattle.lower_expressions.proofs.Assigning.{assigns-lower, local-lowers, local-of}
 use Rattle.lower_expressions.proofs.Atoms.{constants-lower, getchar-lowers}
 use Rattle.lower_expressions.proofs.Binary.{binaries-lower}

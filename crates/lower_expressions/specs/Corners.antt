@@ -5,7 +5,6 @@ use Rattle.c_tree.specs.declared.expression.BinaryOp.TheVariants.{Divide, ShiftL
 use Rattle.c_tree.specs.declared.types.IntegerType.TheVariants.{Int}
 use Rattle.c_tree.specs.Evaluation.{source_outcome}
 use Rattle.c_tree.specs.Program.{Binary, Constant, Done, Getchar, Next, Program, Return, int}
-use Rattle.lower_expressions.specs.Laws.{IsCount}
 use Rattle.lower_lines.specs.Agreeing.{graphs_outcome}
 use Rattle.lower_lines.specs.Shown.{all_parts}
 

@@ -10,7 +10,8 @@ use Rattle.c_tree.specs.declared.types.IntegerType.TheVariants.{Char, Int}
 use Rattle.c_tree.specs.declared.types.ValueType.TheVariants.{Void, Integer}
 use Rattle.c_tree.specs.Evaluation.{evaluate}
 use Rattle.c_tree.specs.Operators.{shift_count}
-use Rattle.c_tree.specs.Program.{Conditional, Or, And, Step, Update, Comma, Exit, Putchar, Assign, Cast, int, Binary, Constant, Expression, Getchar, Local, LocalPlace, Read, Unary}
+use Rattle.c_tree.specs.Program.{Conditional, Or, And, Step, Update, Comma, Exit, Putchar, Assign, Cast, int, Binary}
+use Rattle.c_tree.specs.Program.{Constant, Expression, Getchar, Local, LocalPlace, Read, Unary}
 use Rattle.c_tree.specs.Store.{Evaluated, Gives, Ends, Held, HoldsNumber, HoldsPointer, State}
 use Rattle.lower_lines.specs.Expressions.{part_of}
 use Rattle.lower_lines.specs.Following.{IsSite, Lowers, Site, context_of}
@@ -54,8 +55,8 @@ IsShift ShiftLeft = Unit {0}
 IsShift ShiftRight = Unit {0}
 IsShift _ = ⊥
 
--- Its lowest byte is the same count of a shift. This holds of every number of an `int`; it doesn't hold of numbers below
--- -4294967296, which the definitions have, too.
+-- Its lowest byte is the same count of a shift. It isn't for numbers below those of 32 bits, which the definitions have,
+-- too (`Corners.antt`).
 abbrev pub IsCount : ℤ → Type 0
 IsCount n = shift_count (int_wrap w8 n) ≡ shift_count n
 

@@ -1,5 +1,4 @@
 -- Expressions of numbers alone: their places are locals of integer types, and no part of them is a pointer or a call.
-use Rattle.std.specs.Prelude.{ℕ}
 use Rattle.c_tree.specs.Evaluation.{Calls, evaluate}
 use Rattle.c_tree.specs.Program.{value_type, Expression, Constant, Start, Read, Address, Unary, Binary, And, Or}
 use Rattle.c_tree.specs.Program.{Conditional, Cast, Assign, Update, Step, Comma, Call, Putchar, Getchar, Exit, Place}

@@ -4,7 +4,9 @@
 
 mod laws;
 
-pub use laws::{voids_lower, shifts_differ, numbers_lower, pluses_lower, conditionals_lower, ors_lower, ands_lower, nots_lower, steps_lower, updates_lower, commas_lower, exits_lower, putchars_lower, assigns_lower, 
-    binaries_lower, casts_lower, chars_lower, complements_lower, constants_lower, getchar_lowers,
-    locals_lower, minuses_lower,
+pub use laws::{
+    ands_lower, assigns_lower, binaries_lower, casts_lower, chars_lower, commas_lower,
+    complements_lower, conditionals_lower, constants_lower, exits_lower, getchar_lowers,
+    locals_lower, minuses_lower, nots_lower, numbers_lower, ors_lower, pluses_lower,
+    putchars_lower, shifts_differ, steps_lower, updates_lower, voids_lower,
 };
