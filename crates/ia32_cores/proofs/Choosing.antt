@@ -26,11 +26,12 @@ use Rattle.ia32_shows.specs.Paths.{Comes}
 use Rattle.ia32_shows.specs.Placements.{Code, placement_of}
 use Rattle.ia32_shows.specs.Shows.{Shows}
 use Rattle.ia32_shows.specs.Sites.{Anywhere, Framed, ReadyAt, Site, StandsFrom}
+use Rattle.ia32_shows.proofs.Jumps.{jump-leads}
 use Rattle.ia32_shows.proofs.Sound.{sound-at}
 use Rattle.ia32_shows.proofs.Steps.{point-passed}
 use Rattle.ia32_effects.specs.Effects.{Keeps, OutsideWord}
 use Rattle.ia32_effects.specs.Contains.{IsPlaceIn}
-use Rattle.ia32_effects.proofs.Kept.{PlaceHasCells, PlaceHasMemory, contains-kept, other-cells, word-kept}
+use Rattle.ia32_effects.proofs.Kept.{PlaceHasCells, PlaceHasMemory, contains-kept, keeps-same, other-cells, word-kept}
 use Rattle.ia32_effects.proofs.Moves.{byte-below, general-below}
 use Rattle.ia32_keeps.specs.Supports.{IsSupported, site_of}
 use Rattle.ia32_keeps.specs.Protected.{KeepsShown}
@@ -41,8 +42,8 @@ use Rattle.ia32_keeps.proofs.Zones.{shown-in-frame}
 use Rattle.ia32_keeps.proofs.Puts.{at-own-address, keeps-at}
 use Rattle.ia32_keeps.proofs.Words.{word-fits}
 use Rattle.ia32_keeps.proofs.Ops.{HasNumber, has-number, op-is}
-use Rattle.ia32_cores.specs.Rows.{branching}
-use Rattle.ia32_cores.specs.Ops.{BlockAt, NumbersBranchFollow}
+use Rattle.ia32_cores.specs.Rows.{branching, jumping}
+use Rattle.ia32_cores.specs.Ops.{BlockAt, JumpFollows, NumbersBranchFollow}
 use Rattle.ia32_cores.proofs.Beside.{same-from}
 use Rattle.ia32_cores.proofs.Branches.{branch-goes}
 use Rattle.ia32_cores.proofs.Setting.{value-is}
@@ -88,7 +89,7 @@ first-in q [] e = absurd (none-some q e)
 first-in q (p ∷ ps) e = inl (same_Some p q e)
 
 -- a branch to a block whose label is chosen
-enters : (code : Code) (input : List ℕ) (g : graph.State) (s u : machine.State) (o : Op) (block after : ℕ)
+pub enters : (code : Code) (input : List ℕ) (g : graph.State) (s u : machine.State) (o : Op) (block after : ℕ)
     (back : List Item) → IsSupported code → IsState code.program g → Shows code input g s
     → op_at code.program g ≡ Some o → defined o ≡ None
     → ((next : ℕ) → BeginsWith (flow_at code.program g.current.function) block next
@@ -212,3 +213,16 @@ numbers-branch-follow how a b first second code input g s x y rest supported sta
         enters code input g s went.0 o (if c then first else second) went.3 to.back supported state shown has refl
         (behind c) went.1 went.2
         (subst (λ (v : machine.State). Comes code.text v (at_address went.3 went.0)) own went.4) went.5 to.begins
+
+-- ---- a jump
+
+pub jump-follows : JumpFollows
+jump-follows block code input g s rest supported state shown has at ready =
+    let site : Site = site_of code g.current.function in
+    let framed : Framed site (placement_of code g.current.function).frame s =
+    (shown-in-frame code input g s supported state shown).framed in
+    let own : at_address s.eip s ≡ s = at-own-address code g.current.function (jumping block ++ rest) s supported ready
+    in
+    let went = jump-leads site at.front at.back rest at.start block s framed.sound at.stands ready in
+    enters code input g s s (op.Jump block) block went.0 at.back supported state shown has refl (λ next h. h) framed
+    (keeps-same (OutsideWord Esi) Anywhere s) went.1 went.2 at.begins

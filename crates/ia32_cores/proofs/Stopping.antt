@@ -80,7 +80,7 @@ division-spares o f =
 -- ---- the trap
 
 -- an instruction that ends the run, and is no NOP
-plain-halts : (site : Site) (i : Insn) (items : List Item) (s : machine.State) (end : End) → SoundAt site s
+pub plain-halts : (site : Site) (i : Insn) (items : List Item) (s : machine.State) (end : End) → SoundAt site s
     → ReadyAt site (item.Plain i ∷ items) s → IsCommon i → ((after : ℕ) → effect i after s ≡ Err end)
     → IsClear site.text s.eip × Steps s (moved.Halts end)
 plain-halts site i items s end sound ready common e =

@@ -17,7 +17,7 @@ use Rattle.ia32_shows.specs.Shows.{Shows}
 use Rattle.ia32_shows.specs.Sites.{ReadyAt, StandsFrom}
 use Rattle.ia32_keeps.specs.Supports.{IsSupported, site_of}
 use Rattle.ia32_keeps.specs.Ops.{ItemsFollow, RowAt, after_at, before_at}
-use Rattle.ia32_cores.specs.Rows.{branching, dividing, halving, lowering, setting, shifting}
+use Rattle.ia32_cores.specs.Rows.{branching, dividing, halving, jumping, lowering, setting, shifting}
 
 -- the low byte of a number, and its low 16 bits
 abbrev pub LowFollows : Type 0
@@ -80,3 +80,11 @@ NumbersBranchFollow =
     → ReadyAt (site_of code g.current.function)
     (branching how (before_at code g a) (before_at code g b) first second ++ rest) s
     → Follows code input s g false (act code.program g (op.Branch how a b first second))
+
+-- a jump
+abbrev pub JumpFollows : Type 0
+JumpFollows =
+    (block : ℕ) (code : Code) (input : List ℕ) (g : graph.State) (s : machine.State) (rest : List Item)
+    → IsSupported code → IsState code.program g → Shows code input g s → op_at code.program g ≡ Some (op.Jump block)
+    → BlockAt code g block → ReadyAt (site_of code g.current.function) (jumping block ++ rest) s
+    → Follows code input s g false (act code.program g (op.Jump block))

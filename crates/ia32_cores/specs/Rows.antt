@@ -140,3 +140,7 @@ setting how result first second = comparing first second ++ set_row (cond_of how
 abbrev pub branching : Comparison → Place → Place → ℕ → ℕ → List Item
 branching how first second taken other =
     comparing first second ++ item.JumpIf (cond_of how) taken ∷ item.JumpTo other ∷ []
+
+-- to a label
+abbrev pub jumping : ℕ → List Item
+jumping label = item.JumpTo label ∷ []

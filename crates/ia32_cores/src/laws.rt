@@ -3,7 +3,7 @@ ghost use Rattle.ia32_cores.specs.Words.{DivisionTraps, DivisionIs};
 ghost use Rattle.ia32_cores.specs.Laws.{LowPuts, HalfPuts, ShiftPuts, PlacesCompare, SetPuts, BranchGoes};
 ghost use Rattle.ia32_cores.specs.Laws.{DivisionStops, QuotientPuts, RemainderPuts, WordPasses};
 ghost use Rattle.ia32_cores.specs.Ops.{LowFollows, HalfFollows, LeftShiftFollows, RightShiftFollows, NumbersSetFollow};
-ghost use Rattle.ia32_cores.specs.Ops.{QuotientFollows, RemainderFollows, NumbersBranchFollow};
+ghost use Rattle.ia32_cores.specs.Ops.{QuotientFollows, RemainderFollows, NumbersBranchFollow, JumpFollows};
 
 /// What instructions make of the words of numbers is what the ops make of the numbers: the conditions of comparisons
 /// after CMP, SHL and SAR by a byte, CDQ with IDIV, and MOVSX of 16 bits.
@@ -55,4 +55,5 @@ pub fn rows_follow_steps()
     ensures div { QuotientFollows }
     ensures rem { RemainderFollows }
     ensures branch { NumbersBranchFollow }
+    ensures jump { JumpFollows }
 {}

@@ -1,7 +1,7 @@
 use Rattle.ia32_cores.proofs.Changing.{half-follows, low-follows}
 use Rattle.ia32_cores.proofs.Counting.{left-shift-follows, right-shift-follows}
 use Rattle.ia32_cores.proofs.Stopping.{quotient-follows, remainder-follows}
-use Rattle.ia32_cores.proofs.Choosing.{numbers-branch-follow}
+use Rattle.ia32_cores.proofs.Choosing.{jump-follows, numbers-branch-follow}
 use Rattle.ia32_cores.proofs.Setting.{numbers-set-follow}
 use Rattle.ia32_cores.proofs.laws.rows_follow_steps.Goals as goal
 
@@ -28,3 +28,6 @@ returns-clause-rem c = remainder-follows
 
 pub returns-clause-branch : goal.returns-clause-branch
 returns-clause-branch c = numbers-branch-follow
+
+pub returns-clause-jump : goal.returns-clause-jump
+returns-clause-jump c = jump-follows
