@@ -1,3 +1,4 @@
 pub mod Accesses
 pub mod Reading
 pub mod Writing
+pub mod Assigning

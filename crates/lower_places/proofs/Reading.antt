@@ -164,7 +164,7 @@ pointer-not-void : (t : IntegerType) → Pointer t ≢ Void
 pointer-not-void t e = cc
 
 -- either way
-standing-pointer : (S : Site) (older : List Function) (a : Part) (run : source.State → Evaluated Held)
+pub standing-pointer : (S : Site) (older : List Function) (a : Part) (run : source.State → Evaluated Held)
     (t : IntegerType) (where_it_is : Option Spot) → ((p : Spot) → where_it_is ≡ Some p → a.stands ≡ Some p)
     → Lowers S a run → a.of ≡ Pointer t → (block level : ℕ) (before : List Line) (s : source.State) (g : graph.State)
     → Stand S before ((standing (context_of S) a where_it_is).lines block level)

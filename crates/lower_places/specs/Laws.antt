@@ -1,16 +1,18 @@
--- The laws of the lines that read elements of arrays and static objects, by their kinds.
-use Rattle.std.specs.Prelude.{◌≡◌, ◌+◌, ◌≤◌, ℕ, Bool, List, slice_get, length, Some}
+-- The laws of the lines that read elements of arrays and static objects, and assign to them, by their kinds.
+use Rattle.std.specs.Prelude.{◌≡◌, ◌+◌, ◌≤◌, ℕ, Bool, false, true, List, slice_get, length, Some}
+use Rattle.c_bounds.specs.Bounds.{state_of}
 use Rattle.c_tree.specs.declared.types.IntegerType.{IntegerType}
 use Rattle.c_tree.specs.declared.types.ValueType.TheVariants.{Integer, Pointer}
-use Rattle.c_tree.specs.Evaluation.{Found, evaluate, load, locate}
+use Rattle.c_tree.specs.Evaluation.{Found, evaluate, load, locate, store}
 use Rattle.c_tree.specs.Program.{Assign, Expression, Function, Read, StaticObject, StaticPlace, Target}
 use Rattle.c_tree.specs.Store as source
-use Rattle.c_tree.specs.Store.{Evaluated, and_then}
+use Rattle.c_tree.specs.Store.{Evaluated, Held, and_then, in_type}
 use Rattle.flow_graph.specs.States as graph
-use Rattle.lower_lines.specs.Expressions.{Addressed, AtAddress, part_of, read_part, target_of}
-use Rattle.lower_lines.specs.Following.{Begins, FollowsPlace, IsSite, Lowers, Site, Stand, context_of}
+use Rattle.lower_lines.specs.Expressions.{Addressed, AtAddress, assigned_element, part_of, read_part, target_of}
+use Rattle.lower_lines.specs.Following.{Begins, FollowsPlace, IsSite, IsSteady, Lowers, Site, Stand, context_of}
 use Rattle.lower_lines.specs.Lines.{Line}
-use Rattle.lower_lines.specs.Variables.{levels_of}
+use Rattle.lower_lines.specs.Parts.{Part}
+use Rattle.lower_lines.specs.Variables.{levels_of, own}
 
 -- The lines of an address lead to where a pointer to the element stands, wherever they stand themselves, and whether
 -- anything is stored after them or not.
@@ -52,3 +54,35 @@ ObjectsAreAssigned = (S : Site) → IsSite S → (k : ℕ) (o : StaticObject) �
     → Lowers S (part_of (context_of S) e) (evaluate S.calls e) → (part_of (context_of S) e).of ≡ Integer u
     → Lowers S (part_of (context_of S) (Assign (Integer o.element) (StaticPlace k) e))
     (evaluate S.calls (Assign (Integer o.element) (StaticPlace k) e))
+
+-- where an address stands that is in the temporaries of its level, or whose variables nothing changes that stores
+-- nothing
+pub record IsSettled (S : Site) (a : Addressed) : Type 0 where
+  pub kept : (level : ℕ) → a.spot false level ≡ own (context_of S) level
+  pub steady : (level : ℕ) → IsSteady S level (a.spot true level).array × IsSteady S level (a.spot true level).number
+
+-- it leaves no more turns than there were
+abbrev pub KeepsTurns : {A : Type 0} → (source.State → Evaluated A) → Type 0
+KeepsTurns run = (s : source.State) → (state_of (run s)).turns ≤ s.turns
+
+-- what an assignment to a place does
+abbrev pub assigned : IntegerType → (source.State → Evaluated Found) → (source.State → Evaluated Held) → source.State
+    → Evaluated Held
+assigned t run run' s =
+    and_then (run s) (λ found u. and_then (run' u) (λ v w. store found (in_type (Integer t) v) w))
+
+-- a number is assigned to an element that has an address
+abbrev pub ElementsAreAssigned : Type 0
+ElementsAreAssigned = (S : Site) → IsSite S → (t : IntegerType) (to : Addressed) (run : source.State → Evaluated Found)
+    → AddressFollows S t to run → IsSettled S to → KeepsTurns run → 1 ≤ to.levels → (a : Part)
+    (run' : source.State → Evaluated Held) (u : IntegerType) → Lowers S a run' → a.of ≡ Integer u → KeepsTurns run'
+    → Lowers S (assigned_element (context_of S) t to a) (assigned t run run')
+
+-- a number is assigned to what a pointer goes to
+abbrev pub TargetsAreAssigned : Type 0
+TargetsAreAssigned = (S : Site) → IsSite S → (e : Expression) (t : IntegerType)
+    → Lowers S (part_of (context_of S) e) (evaluate S.calls e) → (part_of (context_of S) e).of ≡ Pointer t
+    → (value : Expression) (u : IntegerType) → Lowers S (part_of (context_of S) value) (evaluate S.calls value)
+    → (part_of (context_of S) value).of ≡ Integer u
+    → Lowers S (part_of (context_of S) (Assign (Integer t) (Target t e) value))
+    (evaluate S.calls (Assign (Integer t) (Target t e) value))

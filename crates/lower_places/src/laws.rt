@@ -2,6 +2,8 @@
 
 ghost use Rattle.lower_places.specs.Laws.{ElementsAreRead, ObjectsAreRead, TargetsAreRead, TargetsFollow};
 ghost use Rattle.lower_places.specs.Laws.{ObjectsAreAssigned};
+ghost use Rattle.lower_places.specs.Laws.{ElementsAreAssigned};
+ghost use Rattle.lower_places.specs.Laws.{TargetsAreAssigned};
 
 /// The lines that read an element do what the source does, where those of its address do.
 pub fn elements_are_read()
@@ -26,4 +28,14 @@ pub fn objects_are_read()
 /// The lines that assign a number to a static object that is no array do what the source does.
 pub fn objects_are_assigned()
     ensures { ObjectsAreAssigned }
+{}
+
+/// The lines that assign a number to an element do what the source does, where those of its address and of the value do.
+pub fn elements_are_assigned()
+    ensures { ElementsAreAssigned }
+{}
+
+/// The lines that assign a number to what a pointer goes to do what the source does, where those of both do.
+pub fn targets_are_assigned()
+    ensures { TargetsAreAssigned }
 {}
