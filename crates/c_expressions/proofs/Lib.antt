@@ -1,3 +1,4 @@
 pub mod Quiet
 pub mod Answered
 pub mod TypeNames
+pub mod Gathering

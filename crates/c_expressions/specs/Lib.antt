@@ -1,3 +1,4 @@
 pub mod Notes
 pub mod Said
 pub mod TypeNames
+pub mod Arguments

@@ -5,6 +5,7 @@
 //! when that is what `c_typing` has. The only refusal is want of memory.
 #![tactic(auto)]
 
+mod arguments;
 mod named;
 mod notes;
 mod places;
