@@ -3,16 +3,17 @@ use Rattle.std.proofs.Common.{◌≡◌, sym, ap, ◌∙◌, subst, List, ◌++�
 use Rattle.std.proofs.lemmas.List.{append-nil, append_assoc}
 use Rattle.pcc_base.specs.declared.fault.Fault.{Fault}
 use Rattle.pcc_base.specs.declared.memory.NoMemory.{NoMemory}
+use Rattle.c_tree.specs.declared.types.ValueType.{ValueType}
 use Rattle.c_tree.specs.Program.{Expression}
 use Rattle.c_typing.specs.Checked.{Checked, Fits, Fails, Note, noted, pair, if_fits}
 use Rattle.c_operands.specs.declared.judged.Operand.{Operand}
 use Rattle.c_operands.specs.declared.judged.Judged.{Judged}
 use Rattle.c_operands.specs.declared.judged.Judged.TheVariants as answers
-use Rattle.c_operands.specs.Judged.{IsJudged, IsOperandOf}
+use Rattle.c_operands.specs.Judged.{IsJudged, IsOperand, IsOperandOf, joined_answers}
 use Rattle.c_operands.specs.Parts.{Stands}
-use Rattle.c_operands.proofs.Together.{operand_stands, operand_judged, noted_stands}
-use Rattle.c_expressions.specs.Said.{IsGrown, IsSaid, IfFits}
-use Rattle.c_expressions.proofs.Quiet.{IsQuiet}
+use Rattle.c_operands.proofs.Together.{operand_stands, operand_judged, noted_stands, pair_stands}
+use Rattle.c_expressions.specs.Said.{IsGrown, IsSaid, IfFits, IsQuiet, AreOperandsOf, AreCastOf}
+use Rattle.c_expressions.specs.Said.{AreThreeOperandsOf}
 
 -- ---- notes
 
@@ -102,3 +103,41 @@ same_pair a b (x, y) h k = ap (λ v. (v, b)) h ∙ ap (λ v. (x, v)) k
 pub same_three : {A B C : Type 0} (a : A) (b : B) (c : C) (e : A × (B × C)) → a ≡ e.0 → b ≡ e.1.0 → c ≡ e.1.1
     → (a, (b, c)) ≡ e
 same_three a b c (x, (y, z)) h k l = ap (λ v. (v, (b, c))) h ∙ ap (λ v. (x, v)) (same_pair b c (y, z) k l)
+
+-- ---- two parts
+
+module _ {X Y A B : Type 0} (R : X → A → Type 0) (Q : Y → B → Type 0) where
+  pub pair_said : (x : Checked X) (y : Checked Y) (a : Judged A) (b : Judged B) (j : Judged (A × B))
+      (before between after : List Note) → j ≡ joined_answers a b → IsSaid R x a before between
+      → IsSaid Q y b between after → IsSaid (λ p q. R p.0 q.0 × Q p.1 q.1) (pair x y) j before after
+  pair_said x y a b j before between after is h k = (
+    subst (Stands (λ p q. R p.0 q.0 × Q p.1 q.1) (pair x y)) (sym is) (pair_stands R Q x y a b h.0 k.0),
+    grown_pair x y before between after h.1 k.1,
+  )
+
+-- ---- what operands are where they fit
+
+pub operand_holds : (c : Checked Expression) (j : Judged Operand) (before after : List Note)
+    → IsSaid IsOperandOf c j before after → IfFits j IsOperand
+operand_holds c j before after h = fits_hold IsOperandOf IsOperand (λ e o k. k.1) c j h.0
+
+pub operands_hold : (c : Checked (Expression × Expression)) (j : Judged (Operand × Operand))
+    (before after : List Note) → IsSaid AreOperandsOf c j before after
+    → IfFits j (λ p. IsOperand p.0 × IsOperand p.1)
+operands_hold c j before after h =
+    fits_hold AreOperandsOf (λ p. IsOperand p.0 × IsOperand p.1) (λ e o k. (k.0.1, k.1.1)) c j h.0
+
+pub second_holds : (c : Checked (Expression × Expression)) (j : Judged (Operand × Operand))
+    (before after : List Note) → IsSaid AreOperandsOf c j before after → IfFits j (λ p. IsOperand p.1)
+second_holds c j before after h = fits_hold AreOperandsOf (λ p. IsOperand p.1) (λ e o k. k.1.1) c j h.0
+
+pub cast_holds : (c : Checked (ValueType × Expression)) (j : Judged (ValueType × Operand))
+    (before after : List Note) → IsSaid AreCastOf c j before after → IfFits j (λ p. IsOperand p.1)
+cast_holds c j before after h = fits_hold AreCastOf (λ p. IsOperand p.1) (λ e o k. k.1.1) c j h.0
+
+pub three_hold : (c : Checked (Expression × (Expression × Expression))) (j : Judged (Operand × (Operand × Operand)))
+    (before after : List Note) → IsSaid AreThreeOperandsOf c j before after
+    → IfFits j (λ p. IsOperand p.0 × (IsOperand p.1.0 × IsOperand p.1.1))
+three_hold c j before after h =
+    fits_hold AreThreeOperandsOf (λ p. IsOperand p.0 × (IsOperand p.1.0 × IsOperand p.1.1))
+    (λ e o k. (k.0.1, (k.1.0.1, k.1.1.1))) c j h.0

@@ -8,8 +8,10 @@ use Rattle.pcc_base.specs.declared.fault.Fault.{Fault}
 use Rattle.c_syntax.specs.declared.expression.Expression.{Expression as Raw}
 use Rattle.c_grammar.specs.Expressions.{expr_of, exprs_of}
 use Rattle.c_tree.specs.declared.expression.Expression.{Expression as Built}
+use Rattle.c_tree.specs.declared.expression.Expression.{Row_of-Expression, end_of-Expression, more_of-Expression}
+use Rattle.c_tree.specs.declared.expression.Expression.{items-the_row-Expression}
 use Rattle.c_tree.specs.declared.types.ValueType.{ValueType}
-use Rattle.c_tree.specs.Erased.{expression_of}
+use Rattle.c_tree.specs.Erased.{expression_of, arguments_of}
 use Rattle.c_tree.specs.Program.{Expression, Arguments, NoMore, Argument}
 use Rattle.c_typing.specs.Faults.{least}
 use Rattle.c_typing.specs.Checked.{Checked, Fits, Fails, Note, both, fits, if_fits, pair}
@@ -63,9 +65,9 @@ first_rejoined (Fails h hs) = refl
 last_rejoined : (front : Checked (List Expression)) (values : Judged (Vec Built Global)) (before after : List Note)
     → IsSaid AreTrees front values before after → IsSaid AreArguments (rejoined front (fits NoMore)) values before after
 last_rejoined (Fits es ns) (answers.Fits v) before after said = (
-    ap (λ xs. before_others xs NoMore) said.0,
-    said.1 ∙ ap (λ xs. before ++ xs) (sym (append-nil (ns ++ []) ∙ append-nil ns)),
-  )
+  ap (λ xs. before_others xs NoMore) said.0,
+  said.1 ∙ ap (λ xs. before ++ xs) (sym (append-nil (ns ++ []) ∙ append-nil ns)),
+)
 last_rejoined (Fits es ns) (answers.Fails f) before after said = absurd said.0
 last_rejoined (Fails g gs) (answers.Fits v) before after said = absurd said.0
 last_rejoined (Fails g gs) (answers.Fails f) before after said =
@@ -100,7 +102,7 @@ module _ (front : Checked (List Expression)) (c : Checked Expression) (values : 
       → IsSaid AreTrees (one_behind front c) (answers.Fails f) before after
   behind_fails f before between after x y is = (
     fault_behind (pair front c) f (subst (Stands AreBehind (pair front c)) is
-    (pair_stands AreTrees IsOperandOf front c values part x.0 y.0)),
+        (pair_stands AreTrees IsOperandOf front c values part x.0 y.0)),
     grown_behind before between after x y,
   )
 
@@ -110,7 +112,7 @@ module _ (front : Checked (List Expression)) (c : Checked Expression) (values : 
       → IsSaid AreTrees (one_behind front c) (answers.Fits more) before after
   behind_fits v o more before between after x y is items = (
     trees_behind (pair front c) v more o (subst (Stands AreBehind (pair front c)) is
-    (pair_stands AreTrees IsOperandOf front c values part x.0 y.0)) items,
+        (pair_stands AreTrees IsOperandOf front c values part x.0 y.0)) items,
     grown_behind before between after x y,
   )
 
@@ -154,12 +156,13 @@ pub record Gathered (parameters : List ValueType) (all : List Given) (i : ℕ) (
   pub types : (typed && have_types (drop i all)) ≡ have_types all
   pub same : rejoined front (arguments_for (drop i parameters) (drop i all)) ≡ arguments_for parameters all
 
-pub gathered_none : (parameters : List ValueType) (all : List Given) (v : Vec Built Global) (before : List Note)
-    → v.items ≡ [] → Gathered parameters all 0 (answers.Fits v) true before before
-gathered_none parameters all v before none = record {
+pub gathered_none : (parameters : List ValueType) (all : List Given) (values : Judged (Vec Built Global))
+    (typed : Bool) (before : List Note) → IsSaid AreTrees (fits []) values before before → typed ≡ true
+    → Gathered parameters all zero values typed before before
+gathered_none parameters all values typed before said is = record {
   front = fits [];
-  said = (ap (map _) none, sym (append-nil before));
-  types = refl;
+  said = said;
+  types = ap (λ b. b && have_types all) is;
   same = first_rejoined (arguments_for parameters all);
 }
 
@@ -182,32 +185,38 @@ pub gathered_more : (parameters : List ValueType) (all : List Given) (i : ℕ) (
 gathered_more parameters all i g values more typed now before between after part step typed_is so_far =
     let c = for_parameter (slice_get parameters i) g.at g.value in
     let rest = arguments_for (drop (suc i) parameters) (drop (suc i) all) in record {
-  front = one_behind so_far.front c;
-  said = step so_far.front so_far.said;
-  types = ap (λ b. b && have_types (drop (suc i) all)) typed_is
-      ∙ and_assoc typed (has_type g.value) (have_types (drop (suc i) all))
-      ∙ ap (λ gs. typed && have_types gs) (sym part) ∙ so_far.types;
-  same = next_rejoined so_far.front c rest
-      ∙ ap (rejoined so_far.front) (sym (ap (arguments_for (drop i parameters)) part
-      ∙ next_argument (drop i parameters) g (drop (suc i) all)
-      ∙ ap (λ o. argument_before (for_parameter o g.at g.value)
-      (arguments_for (behind_head (drop i parameters)) (drop (suc i) all))) (head_at parameters i)
-      ∙ ap (λ ts. argument_before c (arguments_for ts (drop (suc i) all))) (behind_at parameters i)))
-      ∙ so_far.same;
-}
+      front = one_behind so_far.front c;
+      said = step so_far.front so_far.said;
+      types = ap (λ b. b && have_types (drop (suc i) all)) typed_is
+          ∙ and_assoc typed (has_type g.value) (have_types (drop (suc i) all))
+          ∙ ap (λ gs. typed && have_types gs) (sym part) ∙ so_far.types;
+      same = next_rejoined so_far.front c rest
+          ∙ ap (rejoined so_far.front) (sym (ap (arguments_for (drop i parameters)) part
+          ∙ next_argument (drop i parameters) g (drop (suc i) all)
+          ∙ ap (λ o. argument_before (for_parameter o g.at g.value)
+          (arguments_for (behind_head (drop i parameters)) (drop (suc i) all))) (head_at parameters i)
+          ∙ ap (λ ts. argument_before c (arguments_for ts (drop (suc i) all))) (behind_at parameters i)))
+          ∙ so_far.same;
+    }
 
 pub gathered_all : (parameters : List ValueType) (all : List Given) (i : ℕ) (values : Judged (Vec Built Global))
     (typed : Bool) (before after : List Note) → drop i all ≡ [] → Gathered parameters all i values typed before after
     → IsSaid AreArguments (arguments_for parameters all) values before after × (typed ≡ have_types all)
 gathered_all parameters all i values typed before after none g = (
-    subst (λ c. IsSaid AreArguments c values before after)
-    (ap (rejoined g.front) (sym (ap (arguments_for (drop i parameters)) none ∙ last_argument (drop i parameters)))
-    ∙ g.same) (last_rejoined g.front values before after g.said),
-    sym (and_true typed) ∙ sym (ap (λ gs. typed && have_types gs) none) ∙ g.types,
-  )
+  subst (λ c. IsSaid AreArguments c values before after)
+      (ap (rejoined g.front) (sym (ap (arguments_for (drop i parameters)) none ∙ last_argument (drop i parameters)))
+      ∙ g.same) (last_rejoined g.front values before after g.said),
+  sym (and_true typed) ∙ sym (ap (λ gs. typed && have_types gs) none) ∙ g.types,
+)
 
 -- ---- the arguments of a raw tree
 
 pub given_all : (s : Scope) (es : List Raw) → given s (exprs_of (map expr_of es)) ≡ map (given_of s) es
 given_all s [] = refl
 given_all s (e ∷ es) = ap (λ gs. given_of s e ∷ gs) (given_all s es)
+
+-- a row of arguments as a list
+pub row_is : {m : _} (row : Row_of-Expression m)
+    → arguments_of row ≡ before_others (map expression_of (items-the_row-Expression m row)) NoMore
+row_is end_of-Expression = refl
+row_is (more_of-Expression e rest) = ap (Argument (expression_of e)) (row_is rest)

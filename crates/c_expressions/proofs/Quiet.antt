@@ -1,5 +1,5 @@
 -- Rows of operators say nothing beside their trees.
-use Rattle.std.proofs.Common.{◌≡◌, refl, Bool, true, false, List, [], ◌∷◌, Option, Some, None, if◌then◌else◌}
+use Rattle.std.proofs.Common.{refl, Bool, true, false, List, [], ◌∷◌, Option, Some, None, if◌then◌else◌}
 use Rattle.pcc_base.specs.declared.span.Span.{Span}
 use Rattle.c_syntax.specs.declared.operator.BinaryOp as raw
 use Rattle.c_syntax.specs.declared.operator.BinaryOp.TheVariants as raw_binary
@@ -17,17 +17,14 @@ use Rattle.c_tree.specs.declared.types.ValueType.{ValueType}
 use Rattle.c_tree.specs.declared.types.ValueType.TheVariants.{Void, Integer, Pointer}
 use Rattle.c_tree.specs.Program.{value_type, Expression, Place, LocalPlace, StaticPlace, Target, Element, Unary, Cast, And}
 use Rattle.c_tree.specs.Program.{Or, Assign, Update, Conditional, Binary}
-use Rattle.c_typing.specs.Checked.{Checked, Fits, Fails, fits}
+use Rattle.c_typing.specs.Checked.{Checked, fits}
 use Rattle.c_typing.specs.Constants.{is_null}
 use Rattle.c_typing.specs.Rows.{misfit, row_at, types_of, is_scalar, can_assign, can_cast, of_sum, of_choice, of_numbers}
 use Rattle.c_typing.specs.Rows.{of_difference, of_order, of_equality, of_conditions, operated, compared, joined}
 use Rattle.c_typing.specs.Rows.{on_number, dereferenced, address_row, unary_row, step_row, cast_row}
 use Rattle.c_typing.specs.Rows.{binary_row, element_of, index_row, conditional_row, assign_row, updated, update_row}
 use Rattle.c_typing.specs.Rows.{to_place_row, assignment_row, assigned, place_named}
-
-abbrev pub IsQuiet : {A : Type 0} → Checked A → Type 0
-IsQuiet (Fits value notes) = notes ≡ []
-IsQuiet (Fails first others) = Unit {0}
+use Rattle.c_expressions.specs.Said.{IsQuiet}
 
 quiet_if : {A : Type 0} (b : Bool) (c d : Checked A) → IsQuiet c → IsQuiet d → IsQuiet (if b then c else d)
 quiet_if true c d h k = h

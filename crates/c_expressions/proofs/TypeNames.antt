@@ -3,6 +3,7 @@ use Rattle.std.proofs.Common.{◌≡◌, refl, sym, ap, ◌∙◌, subst, true�
 use Rattle.std.proofs.Common.{None, filter_map, option_map, if◌then◌else◌}
 use Rattle.std.specs.List.{list_any}
 use Rattle.pcc_base.specs.declared.span.Span.{Span}
+use Rattle.pcc_base.specs.declared.fault.FaultKind.{FaultKind}
 use Rattle.pcc_base.specs.declared.fault.FaultKind.TheVariants.{PointerUse, TypeRule}
 use Rattle.c_syntax.specs.declared.operator.SpecifierWord.{SpecifierWord}
 use Rattle.c_syntax.specs.declared.operator.SpecifierWord.TheVariants as words
@@ -14,6 +15,7 @@ use Rattle.c_typing.specs.Types.{Storage, Unsaid, Auto, Register, Static, Extern
 use Rattle.c_typing.specs.Types.{the_storage, said, may_stand, pointed}
 use Rattle.c_operands.specs.declared.judged.Judged.TheVariants as answers
 use Rattle.c_operands.specs.Parts.{Stands}
+use Rattle.c_expressions.specs.Said.{IsQuiet}
 use Rattle.c_expressions.specs.TypeNames.{is_storage}
 
 pub no_storage : (ws : List SpecifierWord) → list_any is_storage ws ≡ false → filter_map storage_word ws ≡ []
@@ -100,3 +102,15 @@ type_fails o first star s base h k =
     (sym k) refl in
     subst (λ c. Stands (λ (t u : ValueType). u ≡ t) c (answers.Fails (fault PointerUse o)))
     (sym (named_by o first star s base h)) fails
+
+-- ---- a type name says nothing beside
+
+quiet_or : {A : Type 0} (o : Option A) (kind : FaultKind) (at : Span) → IsQuiet (or_fails o kind at)
+quiet_or None kind at = tt
+quiet_or (Some v) kind at = refl
+
+pub quiet_type_name : (o first : Span) (star : Option Star) (s : Option Specified)
+    → IsQuiet (if_fits (or_fails s TypeRule first) (λ said. or_fails (pointed said.base star) PointerUse o))
+quiet_type_name o first star None = tt
+quiet_type_name o first star (Some s) =
+    subst IsQuiet (sym (noted_none o (pointed s.base star))) (quiet_or (pointed s.base star) PointerUse o)

@@ -36,3 +36,7 @@ one_behind front c = both front c (λ es e. fits (es ++ e ∷ []))
 -- an expression of a list, with its first token
 abbrev pub given_of : Scope → Raw → Given
 given_of s e = record { at = first_token (expr_of e); value = typed_expression s (expr_of e) }
+
+abbrev pub first_of : Arguments → Option Expression
+first_of NoMore = None
+first_of (Argument e others) = Some e

@@ -1,5 +1,5 @@
 -- What is answered of a part, and what it says beside its tree.
-use Rattle.std.specs.Prelude.{◌≡◌, List, ◌++◌}
+use Rattle.std.specs.Prelude.{◌≡◌, List, [], ◌++◌}
 use Rattle.c_tree.specs.declared.types.ValueType.{ValueType}
 use Rattle.c_tree.specs.Program.{Expression}
 use Rattle.c_typing.specs.Checked.{Checked, Fits, Fails, Note}
@@ -33,3 +33,8 @@ AreThreeOperandsOf es os = IsOperandOf es.0 os.0 × AreOperandsOf es.1 os.1
 -- a type, and the operand of a tree
 abbrev pub AreCastOf : ValueType × Expression → ValueType × Operand → Type 0
 AreCastOf es os = (os.0 ≡ es.0) × IsOperandOf es.1 os.1
+
+-- a part that says nothing beside its tree
+abbrev pub IsQuiet : {A : Type 0} → Checked A → Type 0
+IsQuiet (Fits value notes) = notes ≡ []
+IsQuiet (Fails first others) = Unit {0}

@@ -1,8 +1,8 @@
 //! Arguments that are judged, one behind the other (C99 6.5.2.2).
 
-ghost use Rattle.std.specs.Prelude.{◌≡◌, ◌∷◌, ◌++◌, [], ◌&&◌, List, IfOk};
+ghost use Rattle.std.specs.Prelude.{◌≡◌, ◌∷◌, ◌++◌, [], ◌&&◌, true, List, IfOk};
 ghost use Rattle.c_tree.specs.Program.{Expression as Typed};
-ghost use Rattle.c_typing.specs.Checked.{Checked, Note};
+ghost use Rattle.c_typing.specs.Checked.{fits, Checked, Note};
 ghost use Rattle.c_typing.specs.Expressions.{has_type};
 ghost use Rattle.c_operands.specs.Judged.{IsOperand, IsOperandOf};
 ghost use Rattle.c_operands.specs.Parts.{Stands};
@@ -12,6 +12,7 @@ ghost use Rattle.c_expressions.specs.Said.{IfFits, IsSaid};
 use c_operands::{Judged, Operand, assigned, both};
 use c_tree::{Expression, ValueType};
 use pcc_base::{NoMemory, Span};
+use std::alloc::Global;
 
 /// Arguments that were judged, and whether each has a type.
 #[derive(Drop)]
@@ -79,5 +80,16 @@ pub(crate) fn one_more(
                 typed,
             })
         }
+    }
+}
+
+/// No arguments, before the first one.
+pub(crate) fn no_arguments(alloc: Global) -> Arguments
+    ensures said { (before : List Note) → IsSaid AreTrees (fits []) result.values before before }
+    ensures typed { result.typed ≡ true }
+{
+    Arguments {
+        values: Judged::Fits(Vec::new(alloc)),
+        typed: true,
     }
 }

@@ -6,6 +6,7 @@
 #![tactic(auto)]
 
 mod arguments;
+mod calls;
 mod named;
 mod notes;
 mod places;

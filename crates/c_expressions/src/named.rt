@@ -2,6 +2,8 @@
 
 ghost use Rattle.std.specs.Prelude.{◌≡◌, false, IfOk};
 ghost use Rattle.c_tree.specs.Erased.{expression_of};
+ghost use Rattle.c_tree.specs.Program as typed;
+ghost use Rattle.c_tree.specs.declared.types.IntegerType.TheVariants.{Int};
 ghost use Rattle.c_typing.specs.Constants.{has_constant_form};
 ghost use Rattle.c_typing.specs.Expressions.{named};
 ghost use Rattle.c_typing.specs.Names.{meaning_of};
@@ -13,7 +15,7 @@ use c_constants::Constant;
 use c_operands::{Judged, Operand};
 use c_scopes::{Meaning, Scopes};
 use c_syntax::Identifier;
-use c_tree::{ArrayRef, Expression, Place, ValueType};
+use c_tree::{ArrayRef, Expression, IntegerType, Place, ValueType};
 use pcc_base::{Fault, FaultKind, NoMemory};
 use std::alloc::Global;
 
@@ -25,6 +27,16 @@ pub(crate) fn plain(tree: Expression) -> Operand
     Operand {
         tree,
         constant: Constant::NotConstant,
+    }
+}
+
+/// A constant (C99 6.4.4), which is an `int`.
+pub(crate) fn number(value: i32) -> Operand
+    ensures { IsOperandOf (typed.Constant Int value) result }
+{
+    Operand {
+        tree: Expression::Constant(IntegerType::Int, value),
+        constant: Constant::of_number(IntegerType::Int, value),
     }
 }
 
