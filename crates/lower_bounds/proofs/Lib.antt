@@ -17,3 +17,5 @@ pub mod Shapes
 pub mod Marks
 pub mod Sizes
 pub mod Ordered
+pub mod Naming
+pub mod Names

@@ -177,7 +177,7 @@ point-mark (i ∷ is) (suc point) n e = let (j, at) = point-mark is point n e in
     by_mark None j at = (j, at)
     by_mark (Some m) j at = (suc j, at)
 
-get-below : {A : Type 0} (xs : List A) (k : ℕ) (x : A) → slice_get xs k ≡ Some x → k < length xs
+pub get-below : {A : Type 0} (xs : List A) (k : ℕ) (x : A) → slice_get xs k ≡ Some x → k < length xs
 get-below [] k x e = absurd (cc)
 get-below (y ∷ xs) zero x e = omega arith
 get-below (y ∷ xs) (suc k) x e = let h = get-below xs k x e in omega (arith, h)

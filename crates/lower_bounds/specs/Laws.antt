@@ -6,6 +6,7 @@ use Rattle.c_tree.specs.Program.{Done, Function, Program, int}
 use Rattle.c_tree.specs.Sizes.{function_size}
 use Rattle.c_tree.specs.WellTyped.{WellTyped}
 use Rattle.flow_graph.specs.Graphs.{EndsOnlyLast, Flow, IsArray, IsDistinct, LastIsEnd, points_of}
+use Rattle.flow_graph.specs.WellFormed.{NamesWithin}
 use Rattle.lower_lines.specs.Laws.{GraphsAreSmall}
 use Rattle.lower_lines.specs.Lowering.{AreSmall}
 use Rattle.lower_lines.specs.Programs.{graph_of_function, lowered}
@@ -64,3 +65,10 @@ pub record IsLaidOut (flow : Flow) : Type 0 where
 abbrev pub GraphsAreLaidOut : Type 0
 GraphsAreLaidOut = (p : Program) → WellTyped p → (k : ℕ) (f : Function) → slice_get p.functions k ≡ Some f
     → IsLaidOut (graph_of_function p f)
+
+-- ---- names
+
+-- the ops of a typed program's graphs name functions and objects of the program alone
+abbrev pub NamesAreThere : Type 0
+NamesAreThere = (p : Program) → WellTyped p → (k : ℕ) (f : Function) → slice_get p.functions k ≡ Some f
+    → All (NamesWithin (length (lowered p).functions) (length (lowered p).objects)) (graph_of_function p f).ops

@@ -1,6 +1,6 @@
 //! Laws of lines and of their graphs: each function's contract is one, and the function does nothing.
 
-ghost use Rattle.lower_bounds.specs.Laws.{DeclaredAreSmall, GraphsAreLaidOut, NotAllAreSmall};
+ghost use Rattle.lower_bounds.specs.Laws.{DeclaredAreSmall, GraphsAreLaidOut, NamesAreThere, NotAllAreSmall};
 ghost use Rattle.lower_lines.specs.Laws.{AllLinesClose, MarksHold, ObjectsHold, ShapesHold};
 
 /// The static objects of the graphs are the program's, with their first contents.
@@ -40,4 +40,9 @@ pub fn not_all_are_small()
 /// first block, and each frame array has elements of 1, 2 or 4 bytes.
 pub fn graphs_are_laid_out()
     ensures { GraphsAreLaidOut }
+{}
+
+/// The ops of a typed program's graphs name functions and static objects of the program alone.
+pub fn names_are_there()
+    ensures { NamesAreThere }
 {}
