@@ -17,4 +17,5 @@ pub mod Leading
 pub mod Conditions
 pub mod Logical
 pub mod Conditional
+pub mod Counting
 pub mod Walking

@@ -1,5 +1,6 @@
 -- The laws of the lines of expressions, by their kinds; each is a part of `ExpressionsLower` of `lower_lines`.
-use Rattle.std.specs.Int.{w8, int_wrap}
+use Rattle.std.specs.Int.{w8, w32, int_wrap}
+use Rattle.std.specs.Prelude.{FitsSigned}
 use Rattle.std.specs.Prelude.{◌≡◌, ◌≢◌, ℕ, ℤ, slice_get, Some}
 use Rattle.c_tree.specs.declared.expression.BinaryOp.{BinaryOp}
 use Rattle.c_tree.specs.declared.expression.BinaryOp.TheVariants.{ShiftLeft, ShiftRight}
@@ -157,3 +158,7 @@ PlusesLower = (S : Site) → IsSite S → (e : Expression) (u : IntegerType)
 abbrev pub VoidsLower : Type 0
 VoidsLower = (S : Site) → IsSite S → (e : Expression) → Lowers S (part_of (context_of S) e) (evaluate S.calls e)
     → Lowers S (part_of (context_of S) (Cast Void e)) (evaluate S.calls (Cast Void e))
+
+-- numbers of 32 bits are counts of shifts
+abbrev pub CountsFit : Type 0
+CountsFit = (n : ℤ) → FitsSigned w32 n → IsCount n

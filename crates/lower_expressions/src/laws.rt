@@ -1,5 +1,6 @@
 //! Laws of the lines of expressions: each function's contract is one, and the function does nothing.
 
+ghost use Rattle.lower_expressions.specs.Laws.{CountsFit};
 ghost use Rattle.lower_expressions.specs.Laws.{VoidsLower};
 ghost use Rattle.lower_expressions.specs.Corners.{ShiftsDiffer};
 ghost use Rattle.lower_expressions.specs.Walk.{NumbersLower};
@@ -127,4 +128,9 @@ pub fn shifts_differ()
 /// The lines of a cast to void do what the source does, where those of its operand do.
 pub fn voids_lower()
     ensures { VoidsLower }
+{}
+
+/// Numbers of 32 bits are counts of shifts.
+pub fn counts_fit()
+    ensures { CountsFit }
 {}

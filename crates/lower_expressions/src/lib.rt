@@ -4,7 +4,7 @@
 
 mod laws;
 
-pub use laws::{
+pub use laws::{counts_fit, 
     ands_lower, assigns_lower, binaries_lower, casts_lower, chars_lower, commas_lower,
     complements_lower, conditionals_lower, constants_lower, exits_lower, getchar_lowers,
     locals_lower, minuses_lower, nots_lower, numbers_lower, ors_lower, pluses_lower,
