@@ -1,13 +1,18 @@
 //! Laws of the lines of statements: each function's contract is one, and the function does nothing.
 
-ghost use Rattle.lower_statements.specs.Laws.{BlocksLower, BodiesLowerWithTexts, BreaksLower};
+ghost use Rattle.std.specs.Prelude.{[], option_map, pos, ◌≡◌, ◌∷◌, Some};
+ghost use Rattle.flow_graph.specs.Running.{state_after};
+ghost use Rattle.lower_lines.specs.Programs.{lowered};
+ghost use Rattle.lower_lines.specs.Relation.{Shows};
+ghost use Rattle.lower_statements.specs.Worked.{copied_in_source, copies, copying_main, wide_graph, wide_state};
+ghost use Rattle.lower_statements.specs.Laws.{BlocksLower, BodiesLowerWithoutTexts, BreaksLower};
 ghost use Rattle.lower_statements.specs.Laws.{ConditionsLower, ContinuesLower, DeclarationsLower};
 ghost use Rattle.lower_statements.specs.Laws.{DosLower, ElementsLower, EmptiesLower};
 ghost use Rattle.lower_statements.specs.Laws.{EmptyBlocksLower, EvaluationsLower, ForsLower};
 ghost use Rattle.lower_statements.specs.Laws.{ItemsLower, LastsLower, NoItemsLower};
 ghost use Rattle.lower_statements.specs.Laws.{PlainReturnsLower, PlainScalarsLower, ReturnsLower};
 ghost use Rattle.lower_statements.specs.Laws.{ScalarsLower, SequencesLower};
-ghost use Rattle.lower_statements.specs.Laws.{StatementsLowerWithTexts, SteadyScalarsLower};
+ghost use Rattle.lower_statements.specs.Laws.{StatementsLowerWithoutTexts, SteadyScalarsLower};
 ghost use Rattle.lower_statements.specs.Laws.{SwitchesLower, WhilesLower};
 
 /// The lines of an empty statement do what the source does.
@@ -120,12 +125,21 @@ pub fn elements_lower()
     ensures { ElementsLower }
 {}
 
-/// Every statement's lines do what the source does, given those of arrays that strings initialise.
-pub fn statements_lower_with_texts()
-    ensures { StatementsLowerWithTexts }
+/// Every statement's lines do what the source does where no string initialises an array, given those of expressions.
+pub fn statements_lower_without_texts()
+    ensures { StatementsLowerWithoutTexts }
 {}
 
 /// So do those of every body.
-pub fn bodies_lower_with_texts()
-    ensures { BodiesLowerWithTexts }
+pub fn bodies_lower_without_texts()
+    ensures { BodiesLowerWithoutTexts }
+{}
+
+/// Lines of a string that initialises an array don't do what the source does from every state that is shown: where the
+/// string has an element that is no `char`, which no program comes to, the source copies 300 and the graph 44.
+pub fn wide_elements_differ()
+    ensures shows { Shows copies (copying_main ∷ []) wide_state wide_graph }
+    ensures source { copied_in_source ≡ pos 300 ∷ [] }
+    ensures graphs { option_map (λ t. t.current.arrays) (state_after (lowered copies) 12 wide_graph)
+        ≡ Some ((pos 44 ∷ []) ∷ []) }
 {}
