@@ -14,3 +14,4 @@ pub mod Quotients
 pub mod Stopping
 pub mod Choosing
 pub mod Passing
+pub mod Standing

@@ -1,5 +1,5 @@
 -- That the machine follows single ops through these rows, over any placement that supports the graph.
-use Rattle.std.specs.Prelude.{◌≡◌, ℕ, ℤ, false, List, ◌∷◌, ◌++◌, Some}
+use Rattle.std.specs.Prelude.{◌≡◌, ◌<◌, ℕ, ℤ, false, List, ◌∷◌, ◌++◌, length, Some}
 use Rattle.ia32_regs.specs.declared.names.Reg32.TheVariants.{Eax, Edx}
 use Rattle.ia32_insn.specs.declared.insn.ShiftOp.TheVariants as shift
 use Rattle.ia32_insn.specs.declared.item.Item.{Item}
@@ -9,12 +9,13 @@ use Rattle.flow_graph.specs.declared.op.Comparison.{Comparison}
 use Rattle.flow_graph.specs.declared.op.Op.TheVariants as op
 use Rattle.flow_graph.specs.Meaning.{act}
 use Rattle.flow_graph.specs.States as graph
-use Rattle.flow_graph.specs.States.{entry_of, number_at, op_at}
+use Rattle.flow_graph.specs.States.{entry_of, flow_at, number_at, op_at}
 use Rattle.flow_graph.specs.WellFormed.{IsState}
 use Rattle.ia32_shows.specs.Follows.{Follows}
-use Rattle.ia32_shows.specs.Placements.{Code}
+use Rattle.ia32_shows.specs.Placements.{Code, placement_of}
 use Rattle.ia32_shows.specs.Shows.{Shows}
 use Rattle.ia32_shows.specs.Sites.{ReadyAt, StandsFrom}
+use Rattle.ia32_rows.specs.Rows.{selected}
 use Rattle.ia32_keeps.specs.Supports.{IsSupported, site_of}
 use Rattle.ia32_keeps.specs.Ops.{ItemsFollow, RowAt, after_at, before_at}
 use Rattle.ia32_cores.specs.Rows.{branching, dividing, halving, jumping, lowering, setting, shifting}
@@ -88,3 +89,11 @@ JumpFollows =
     → IsSupported code → IsState code.program g → Shows code input g s → op_at code.program g ≡ Some (op.Jump block)
     → BlockAt code g block → ReadyAt (site_of code g.current.function) (jumping block ++ rest) s
     → Follows code input s g false (act code.program g (op.Jump block))
+
+-- Where the items of a graph over its placement stand in the text, each of its blocks stands so.
+abbrev pub BlocksStand : Type 0
+BlocksStand =
+    (code : Code) (g : graph.State) (start block : ℕ)
+    → StandsFrom (site_of code g.current.function)
+    (selected (flow_at code.program g.current.function) (placement_of code g.current.function)) start
+    → block < length (flow_at code.program g.current.function).blocks → BlockAt code g block

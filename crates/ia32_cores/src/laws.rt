@@ -4,6 +4,7 @@ ghost use Rattle.ia32_cores.specs.Laws.{LowPuts, HalfPuts, ShiftPuts, PlacesComp
 ghost use Rattle.ia32_cores.specs.Laws.{DivisionStops, QuotientPuts, RemainderPuts, WordPasses};
 ghost use Rattle.ia32_cores.specs.Ops.{LowFollows, HalfFollows, LeftShiftFollows, RightShiftFollows, NumbersSetFollow};
 ghost use Rattle.ia32_cores.specs.Ops.{QuotientFollows, RemainderFollows, NumbersBranchFollow, JumpFollows};
+ghost use Rattle.ia32_cores.specs.Ops.{BlocksStand};
 
 /// What instructions make of the words of numbers is what the ops make of the numbers: the conditions of comparisons
 /// after CMP, SHL and SAR by a byte, CDQ with IDIV, and MOVSX of 16 bits.
@@ -45,7 +46,7 @@ pub fn rows_pass_words()
 {}
 
 /// Where a state of the machine shows one of the program at one of these ops, the machine follows the op's step through
-/// its row.
+/// its row; to blocks, where their first points stand behind their labels, as they do where the graph's items stand.
 pub fn rows_follow_steps()
     ensures low { LowFollows }
     ensures half { HalfFollows }
@@ -56,4 +57,5 @@ pub fn rows_follow_steps()
     ensures rem { RemainderFollows }
     ensures branch { NumbersBranchFollow }
     ensures jump { JumpFollows }
+    ensures blocks { BlocksStand }
 {}

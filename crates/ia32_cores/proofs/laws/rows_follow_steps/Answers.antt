@@ -1,3 +1,4 @@
+use Rattle.ia32_cores.proofs.Standing.{blocks-stand}
 use Rattle.ia32_cores.proofs.Changing.{half-follows, low-follows}
 use Rattle.ia32_cores.proofs.Counting.{left-shift-follows, right-shift-follows}
 use Rattle.ia32_cores.proofs.Stopping.{quotient-follows, remainder-follows}
@@ -31,3 +32,6 @@ returns-clause-branch c = numbers-branch-follow
 
 pub returns-clause-jump : goal.returns-clause-jump
 returns-clause-jump c = jump-follows
+
+pub returns-clause-blocks : goal.returns-clause-blocks
+returns-clause-blocks c = blocks-stand
