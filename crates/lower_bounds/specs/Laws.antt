@@ -7,7 +7,7 @@ use Rattle.c_tree.specs.Sizes.{function_size}
 use Rattle.c_tree.specs.WellTyped.{WellTyped}
 use Rattle.flow_graph.specs.Graphs.{EndsOnlyLast, Flow, IsArray, IsDistinct, LastIsEnd, points_of}
 use Rattle.flow_graph.specs.WellFormed.{NamesWithin}
-use Rattle.lower_lines.specs.Laws.{GraphsAreSmall}
+use Rattle.lower_lines.specs.Laws.{GraphsAreSmall, GraphsAreThere}
 use Rattle.lower_lines.specs.Lowering.{AreSmall}
 use Rattle.lower_lines.specs.Programs.{graph_of_function, lowered}
 
@@ -72,3 +72,7 @@ GraphsAreLaidOut = (p : Program) → WellTyped p → (k : ℕ) (f : Function) �
 abbrev pub NamesAreThere : Type 0
 NamesAreThere = (p : Program) → WellTyped p → (k : ℕ) (f : Function) → slice_get p.functions k ≡ Some f
     → All (NamesWithin (length (lowered p).functions) (length (lowered p).objects)) (graph_of_function p f).ops
+
+-- Not every typed program in memory has such graphs: nothing bounds how many arrays a function has.
+abbrev pub NotAllAreThere : Type 0
+NotAllAreThere = GraphsAreThere → ⊥
