@@ -77,7 +77,8 @@ lists-there (xs ∷ xss) (b ∷ arrays) (suc k) a e at =
     let rest : map (λ elements. length elements) xss ≡ map (λ array. array.count) arrays = cc in
     lists-there xss arrays k a rest at
 
-pub assigned-integer : (t : IntegerType) (of : ValueType) → CanAssign (Integer t) of → (u : IntegerType) × (of ≡ Integer u)
+pub assigned-integer : (t : IntegerType) (of : ValueType) → CanAssign (Integer t) of
+    → (u : IntegerType) × (of ≡ Integer u)
 assigned-integer t Void h = absurd h
 assigned-integer t (Integer u) h = (u, refl)
 assigned-integer t (Pointer u) h = absurd h
@@ -142,7 +143,8 @@ module _ (S : Site) (site : IsSite S) (older : List Function) (k : ℕ) (a : Loc
   own-with g d elements e =
       ap (λ (b : Bool). if b then record g { current = with_elements k elements g.current }
       else record g {
-        waiting = graph.waiting_with k elements (graph.waiting_place g d) (slice_get g.waiting (graph.waiting_place g d))
+        waiting = graph.waiting_with k elements (graph.waiting_place g d) (slice_get g.waiting (graph.waiting_place g
+            d))
             g.waiting;
       })
       (eq-eqb d (depth_of g) (sym e))
@@ -212,7 +214,8 @@ module _ (S : Site) (site : IsSite S) (older : List Function) (k : ℕ) (a : Loc
             (elements-there s g b.shows).0
             ∙ ap (moves_on (graphs_of S)) (own-with (behind before g) (depth_of g) zs refl))
             (frame-step S site (before ++ clear ∷ []) h1 b.function p k s.turns o
-            (stand-front S (before ++ clear ∷ []) (frame ∷ []) rest (stand-back S before (clear ∷ []) (frame ∷ rest) stands))
+            (stand-front S (before ++ clear ∷ []) (frame ∷ []) rest (stand-back S before (clear ∷ []) (frame ∷ rest)
+            stands))
             (subst (λ (d : ℕ). Comes S s.turns (behind ((before ++ clear ∷ []) ++ frame ∷ [])
             (with_value p (ArrayValue (InFrame k d)) h1)) o) (sym depth1) r)),
       )
@@ -280,7 +283,8 @@ module _ (S : Site) (site : IsSite S) (older : List Function) (k : ℕ) (a : Loc
       let shows2 = arrays-set S.program active s h1 named new shows1 (length-slice_set es place m) in
       let kept2 = kept-by-arrays (local_variables S.function) 1 h1 named new in
       let at_p1 : value_at h1 p ≡ Some (ArrayValue named) =
-      get-set_other g.current.variables y p (Number (pos place)) (λ e. other (local_variables S.function) (0 * 5) e) ∙ at_p
+      get-set_other g.current.variables y p (Number (pos place)) (λ e. other (local_variables S.function) (0 * 5) e) ∙
+      at_p
       in
       let keeps1 = (kept-by-change (local_variables S.function) 0 y (Number (pos place)) g).1
       (high (local_variables S.function) (0 * 5)) in (
@@ -297,7 +301,8 @@ module _ (S : Site) (site : IsSite S) (older : List Function) (k : ℕ) (a : Loc
         λ o r. const-step S site before g b.function y (pos place) s.turns o
             (stand-front S before (set ∷ []) (keep ∷ rest) stands)
             (temporary-width (context_of S) 0 ForNumber (some-level S.function))
-            (store-step S site (before ++ set ∷ []) h1 b.function (bits_of a.element) p y from s.turns named (pos place) n
+            (store-step S site (before ++ set ∷ []) h1 b.function (bits_of a.element) p y from s.turns named (pos
+            place) n
             old es o
             (stand-front S (before ++ set ∷ []) (keep ∷ []) rest (stand-back S before (set ∷ []) (keep ∷ rest) stands))
             (ap array_from at_p1)
@@ -395,7 +400,8 @@ module _ (S : Site) (site : IsSite S) (older : List Function) (k : ℕ) (a : Loc
         (evaluate S.calls e s) (evaluate S.calls e) (expressions e all.0.0) of b
         ((trees_keep S.bound S.calls site.keeps).expressions e s).after.turns
         (first-inside place (length es) a.count fits) at_p back
-        (number-operand S older (part_of (context_of S) e) (evaluate S.calls e) u (expressions e all.0.0) of block 1 before
+        (number-operand S older (part_of (context_of S) e) (evaluate S.calls e) u (expressions e all.0.0) of block 1
+        before
         s g (stand-front S before xs (own_lines ++ ys) stands)
         (one (part_of (context_of S) e).levels (elements_levels (context_of S) es) (levels_of S.function) room) b)
         (λ t h bt at_h. behind-same S active (((before ++ xs) ++ own_lines) ++ ys)

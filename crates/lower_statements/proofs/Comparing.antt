@@ -20,7 +20,8 @@ use Rattle.flow_graph.specs.declared.op.Op.TheVariants as op
 use Rattle.flow_graph.specs.Meaning.{arrays_compared, both, comparison, compared, first_of}
 use Rattle.flow_graph.specs.States as graph
 use Rattle.flow_graph.specs.States.{array_at, number_at, number_of, with_value}
-use Rattle.lower_lines.specs.Following.{Begins, Comes, GoesInto, IsSite, Lowers, Site, Stand, at_start, behind, context_of}
+use Rattle.lower_lines.specs.Following.{Begins, Comes, GoesInto, IsSite, Lowers, Site, Stand, at_start, behind}
+use Rattle.lower_lines.specs.Following.{context_of}
 use Rattle.lower_lines.specs.Following.{site_lines}
 use Rattle.lower_lines.specs.Lines.{Line, Emit, Start, starts_in}
 use Rattle.lower_lines.specs.Parts.{Part, operand, standing}
@@ -219,7 +220,8 @@ operand-apart S a run u lowers of = by a.stands (λ p e. e)
     by None from e = omega (arith, e)
     by (Some p) from e =
         let (k, is, there, gives) = lowers.stands p (from p refl) in
-        let (l, l_is, same) = some-and (slice_get S.function.locals k) (λ m. (m.of ≡ a.of) × GoesInto a.of m.of) there in
+        let (l, l_is, same) = some-and (slice_get S.function.locals k) (λ m. (m.of ≡ a.of) × GoesInto a.of m.of) there
+        in
         let v = first_variable S.function.locals k in
         let number : p.number ≡ v =
         ap (λ (q : Spot). q.number) is ∙ ap (λ (o : Option Local). (typed_spot (type_of o) v).number) l_is

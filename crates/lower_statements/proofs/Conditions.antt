@@ -146,11 +146,15 @@ conditions-lower S site breaks continues n e a b test first second own value low
             at_start S (if holds then one else other) h,
             λ o k. k,
             either-way S active one other (p5 ++ exit_ls) exits after t h (first t) (second t) holds
-                (way-goes S site breaks continues active a first lowers_a keeping_a one (suc one + test_blocks_of e) block
-                after p2 rest_b p5 exits t h s2 s5 (most_a e.levels a.levels b.levels (levels_of S.function) room) exit may
+                (way-goes S site breaks continues active a first lowers_a keeping_a one (suc one + test_blocks_of e)
+                block
+                after p2 rest_b p5 exits t h s2 s5 (most_a e.levels a.levels b.levels (levels_of S.function) room)
+                exit may
                 bt)
-                (second-goes S site breaks continues active b second lowers_b keeping_b b.nothing none two (suc two) block
-                after p4 p5 exits t h s4 s5 (most_b e.levels a.levels b.levels (levels_of S.function) room) exit may bt),
+                (second-goes S site breaks continues active b second lowers_b keeping_b b.nothing none two (suc two)
+                block
+                after p4 p5 exits t h s4 s5 (most_b e.levels a.levels b.levels (levels_of S.function) room) exit may
+                bt),
           )))));
     }
   where

@@ -74,7 +74,8 @@ zero-goes S site local l e (Integer t) is scalar active before s g b stands =
       with_value v (Number (pos 0)) g,
       [],
       with-older S.function active (λ calls. Shows S.program calls s g
-          → Shows S.program calls (with_local local (zero_of (Integer t)) s) (with_value v (Number (pos 0)) g)) b.youngest
+          → Shows S.program calls (with_local local (zero_of (Integer t)) s) (with_value v (Number (pos 0)) g))
+          b.youngest
           (λ older shows. numbers-set S.program S.function older s g local l t (pos 0) shows e is) b.shows,
       (kept-by-change (local_variables S.function) 0 v (Number (pos 0)) g).0 below,
       sym (append-nil s.visits),
@@ -172,7 +173,8 @@ assigned-lowers : (S : Site) (local levels : ℕ) (a : Part) (run : source.State
     (λ s. and_then (run s) (λ v t. Gives (tt {0}) (with_local local (in_type (type_at S.function local) v) t)))
 assigned-lowers S local levels a run low lowers = record {
   follows = λ active block before s g stands room b.
-      dropped-same S active (λ t h o. Comes S t.turns (behind (before ++ a.lines block 0 Dropped) h) o) (behind before g) s g local (run s)
+      dropped-same S active (λ t h o. Comes S t.turns (behind (before ++ a.lines block 0 Dropped) h) o) (behind before
+      g) s g local (run s)
       ((dropped-lowers S a (initialised S local run) lowers).follows active block before s g stands
       (below a.levels levels (levels_of S.function) low room) b);
 }
@@ -190,7 +192,8 @@ assigned-lowers S local levels a run low lowers = record {
     dropped-same S active aim from s g local (Gives v t) h = h
     dropped-same S active aim from s g local (Ends end t) h = h
 
-keeps-zero : (S : Site) (local : ℕ) → Keeping S (λ s. Gives (tt {0}) (with_local local (zero_of (type_at S.function local)) s))
+keeps-zero : (S : Site) (local : ℕ) → Keeping S (λ s. Gives (tt {0}) (with_local local (zero_of (type_at S.function
+    local)) s))
 keeps-zero S local s = gives-keeps S.bound s (with_local local (zero_of (type_at S.function local)) s) tt
     (local-follows local (zero_of (type_at S.function local)) s)
 
@@ -272,5 +275,6 @@ steady-scalars-lower S site n local levels a run own low lowers steady =
         let go : Held → source.State → Evaluated (Unit {0}) =
         λ w t. Gives (tt {0}) (with_local local (in_type (type_at S.function local) w) t) in
         ap (λ (r : Evaluated Held). and_then r go) is
-        ∙ sym (ap (λ (t : source.State). Gives (tt {0}) t) (local-twice local zero' (in_type (type_at S.function local) v) s))
+        ∙ sym (ap (λ (t : source.State). Gives (tt {0}) t) (local-twice local zero' (in_type (type_at S.function
+        local) v) s))
         ∙ sym (ap (λ (r : Evaluated Held). and_then r go) too)

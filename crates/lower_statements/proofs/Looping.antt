@@ -66,7 +66,8 @@ test-goes S site active before rest block body exit (Some e) lowers stands room 
     lead false t h o own tests back k = k
     lead true t h o own tests back k =
         start-goes S site (before ++ tests) rest body h t.turns o own back
-        (subst (λ (ls : List Line). Comes S t.turns (behind ls h) o) (sym (append_assoc before tests (Start body ∷ []))) k)
+        (subst (λ (ls : List Line). Comes S t.turns (behind ls h) o) (sym (append_assoc before tests (Start body ∷
+        []))) k)
 
 again-there : (S : Site) (before rest : List Line) (start block : ℕ) (after : Option Expression)
     → Stand S before (after_lines (context_of S) after start block ++ rest) → Contains (starts_in (site_lines S)) start
@@ -166,14 +167,16 @@ loop-lines-go S site bound test after body run high lowers_test keeps_test lower
     left-same S active (pX ++ last) (before ++ (Emit (op.Jump start) ∷ (Start start ∷ (Emit op.Turn ∷ r1)))) exits leave
     (behind before g) s g r whole
     (from-goes S active 0 (behind before g) (at_start S start g) s g (LeftBy S (pX ++ last) exits leave) r
-    (λ o k. jump-goes S site before (Start start ∷ (Emit op.Turn ∷ r1)) start g s.turns o b.function stands there_start k)
+    (λ o k. jump-goes S site before (Start start ∷ (Emit op.Turn ∷ r1)) start g s.turns o b.function stands
+    there_start k)
     (exits-from S site block leave active pX pX exits (at_start S start g) s g r b
     (loop-keeps bound S.bound (tested_if_any S.calls test) run (evaluated_if_any S.calls after) high keeps_test keeps
     keeps_after s).after.turns sX may
     (loop-goes S site active start again exit bound p0 r1 pB pA pX exits (tested_if_any S.calls test) run
     (evaluated_if_any S.calls after) s0 high keeps_test keeps keeps_after
     (λ t h bt. test-goes S site active pT r2 (start + 2) (suc start) exit test lowers_test sT
-    (most_test body.levels (levels_if_any c test) (levels_if_any c after) (levels_of S.function) room) there_exit t h bt)
+    (most_test body.levels (levels_if_any c test) (levels_if_any c after) (levels_of S.function) room) there_exit t h
+    bt)
     (λ t h bt. of-run S active pB lines (record { breaks = exit; continues = again }) (To again) t h (run t)
     (lowers.follows active (record { breaks = exit; continues = again }) inside (To again) pB t h
     (stand-front S pB lines r3 sB)
@@ -221,7 +224,8 @@ fors-lower S site breaks continues n bound first test after body begin run own h
           let mark = Emit (op.Mark n) in
           let v = visited S.listing n s in
           let front = before ++ mark ∷ [] in
-          let again : Left → Runs = λ done t. loop bound (tested_if_any S.calls test) run (evaluated_if_any S.calls after) t in
+          let again : Left → Runs = λ done t. loop bound (tested_if_any S.calls test) run (evaluated_if_any S.calls
+          after) t in
           let r = and_then (begin v) again in
           let inside = stand-back S before (mark ∷ []) (firsts ++ lines) stands in
           to-run S active before (mark ∷ (firsts ++ lines)) exits leave s g r
@@ -239,7 +243,8 @@ fors-lower S site breaks continues n bound first test after body begin run own h
           (λ done t h bt kept. (
             behind (front ++ firsts) h,
             λ o k. k,
-            loop-lines-go S site bound test after body run high lowers_test keeps_test lowers_after keeps_after lowers keeps
+            loop-lines-go S site bound test after body run high lowers_test keeps_test lowers_after keeps_after lowers
+                keeps
                 active exits (block + first_blocks c first) leave (front ++ firsts) t h
                 (stand-back S front firsts lines inside)
                 (most_loop (first_levels c first) (loop_levels c test after body) (levels_of S.function) room) may bt,
@@ -294,7 +299,8 @@ dos-lower S site breaks continues n bound e body test run own high value lowers_
       let r = do_loop bound tested run v in
       let bv = visited-begins S n active s g b in
       to-run S active before (mark ++ (jump ++ r0)) exits leave s g r
-      (behind-mark S site n own active before (jump ++ r0) s g (LeftBy S (before ++ (mark ++ (jump ++ r0))) exits leave) r b
+      (behind-mark S site n own active before (jump ++ r0) s g (LeftBy S (before ++ (mark ++ (jump ++ r0))) exits
+      leave) r b
       stands
       (left-same S active (pX ++ last) (before ++ (mark ++ (jump ++ r0))) exits leave (behind pM g) v g r whole
       (from-goes S active 0 (behind pM g) (at_start S start g) v g (LeftBy S (pX ++ last) exits leave) r

@@ -150,12 +150,14 @@ module _ (S : Site) (site : IsSite S) (active : List Function) (start again exit
     (body after : Runs) (stands : Stand S before (Start start ∷ (Emit op.Turn ∷ rest))) (high : S.bound ≤ bound)
     (keeps_test : Keeping S test) (keeps_body : Keeping S body) (keeps_after : Keeping S after)
     (tests_go : (s : source.State) (g : graph.State) → Begins S active s g
-    → From S active 0 (behind ((before ++ Start start ∷ []) ++ Emit op.Turn ∷ []) g) s g (Tested S inside exit) (test s))
+    → From S active 0 (behind ((before ++ Start start ∷ []) ++ Emit op.Turn ∷ []) g) s g (Tested S inside exit) (test
+    s))
     (body_goes : (s : source.State) (g : graph.State) → Begins S active s g
     → From S active 0 (behind inside g) s g
     (LeftBy S bodies (record { breaks = exit; continues = again }) (To again)) (body s))
     (after_goes : (s : source.State) (g : graph.State) → Begins S active s g
-    → From S active 0 (at_start S again g) s g (λ (left : Left) (t : source.State) (h : graph.State) (o : Outcome). Comes S t.turns (at_start S start h) o) (after s))
+    → From S active 0 (at_start S again g) s g (λ (left : Left) (t : source.State) (h : graph.State) (o : Outcome).
+    Comes S t.turns (at_start S start h) o) (after s))
   where
     -- where the test holds, the body runs, and what comes after it
     tested-turn : (s : source.State) (g : graph.State) → Begins S active s g
@@ -174,7 +176,8 @@ module _ (S : Site) (site : IsSite S) (active : List Function) (start again exit
         (λ u i bu less.
         from-turns S active 0 (at_start S again i) u i
         (λ (left : Left) (t : source.State) (h : graph.State) (o : Outcome). Comes S t.turns (at_start S start h) o)
-        (LeftBy S whole exits (To exit)) (after u) (λ left v. loop bound test body after v) bu (keeps_after u).after.turns
+        (LeftBy S whole exits (To exit)) (after u) (λ left v. loop bound test body after v) bu (keeps_after
+        u).after.turns
         (after_goes u i bu)
         (λ left v j bv kept fewer. (
           at_start S start j,
@@ -238,7 +241,8 @@ module _ (S : Site) (site : IsSite S) (active : List Function) (start again exit
         (λ t lt. (loops_unfold bound test body (λ u. Gives Falls u) t (lower t.turns S.bound bound lt high)
         (loop-parts S test body (λ u. Gives Falls u) t.turns lt keeps_test keeps_body keeps_none)).1)
         (λ t h bt next.
-        body-then S active bodies whole exit again exits (behind ((before ++ Start start ∷ []) ++ Emit op.Turn ∷ []) h) t h
+        body-then S active bodies whole exit again exits (behind ((before ++ Start start ∷ []) ++ Emit op.Turn ∷ [])
+        h) t h
         (body t) (λ u. and_then (test u) (λ holds v. if holds then do_loop bound test body v else Gives Falls v)) bt
         (keeps_body t).after.turns (body_goes t h bt)
         (λ u i bu le.

@@ -47,7 +47,8 @@ line-there S before rest block (more, e) =
     subst (λ (ls : List Line). Contains (starts_in ls) block) (sym e) (contains-line before (rest ++ more) block)
 
 -- where it starts is behind the line that starts it
-pub start-goes : (S : Site) → IsSite S → (before rest : List Line) (block : ℕ) (g : graph.State) (turns : ℕ) (o : Outcome)
+pub start-goes : (S : Site) → IsSite S → (before rest : List Line) (block : ℕ) (g : graph.State) (turns : ℕ) (o :
+    Outcome)
     → g.current.function ≡ S.number → Stand S before (Start block ∷ rest)
     → Comes S turns (behind (before ++ Start block ∷ []) g) o → Comes S turns (at_start S block g) o
 start-goes S site before rest block g turns o own stands r =
@@ -55,7 +56,8 @@ start-goes S site before rest block g turns o own stands r =
     (sym (starts-stand S site before block g (stand-front S before (Start block ∷ []) rest stands) own).1) r
 
 -- a jump leads to the start of its block
-pub jump-goes : (S : Site) → IsSite S → (before rest : List Line) (block : ℕ) (g : graph.State) (turns : ℕ) (o : Outcome)
+pub jump-goes : (S : Site) → IsSite S → (before rest : List Line) (block : ℕ) (g : graph.State) (turns : ℕ) (o :
+    Outcome)
     → g.current.function ≡ S.number → Stand S before (Emit (op.Jump block) ∷ rest)
     → Contains (starts_in (site_lines S)) block → Comes S turns (at_start S block g) o
     → Comes S turns (behind before g) o
@@ -103,7 +105,8 @@ zero-left S site active before lines exits s g b e stands =
       h,
       [],
       own-zero-shows S active s g (pos 0) b,
-      (kept-by-change (local_variables S.function) 0 x (Number (pos 0)) g).1 (high (local_variables S.function) (0 * 5)),
+      (kept-by-change (local_variables S.function) 0 x (Number (pos 0)) g).1 (high (local_variables S.function) (0 *
+          5)),
       sym (append-nil s.visits),
       λ o r. const-step S site before g b.function x (pos 0) s.turns o
           (stand-front S before (set ∷ []) (leave ∷ []) stands)

@@ -107,7 +107,8 @@ sequences-lower S site breaks continues labelled place r q rs run others lowers 
       let stands_tail = stand-back S (before ++ start) lines tail stands_lines in
       let whole : front ++ tail ≡ before ++ (start ++ (lines ++ tail)) =
       append_assoc (before ++ start) lines tail ∙ append_assoc before start (lines ++ tail) in
-      let (behind_start, split) = tail-starts S labelled (suc place) q rs exits (block + r.blocks (towards next)) after in
+      let (behind_start, split) = tail-starts S labelled (suc place) q rs exits (block + r.blocks (towards next))
+      after in
       let stands_next = subst (λ (ls : List Line). Stand S front ls) split stands_tail in
       left-same S active (front ++ tail) (before ++ (start ++ (lines ++ tail))) exits after
       (behind (before ++ start) g) s g (and_then (run s) (after_statement others)) whole

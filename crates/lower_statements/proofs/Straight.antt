@@ -85,7 +85,8 @@ marked-lowers S site n levels lines run own lowers = record {
       behind-mark S site n own active before (lines block) s g
       (Behind S (before ++ (Emit (op.Mark n) ∷ lines block))) (run (visited S.listing n s)) b stands
       (behind-same S active ((before ++ Emit (op.Mark n) ∷ []) ++ lines block)
-      (before ++ (Emit (op.Mark n) ∷ lines block)) (behind (before ++ Emit (op.Mark n) ∷ []) g) (visited S.listing n s) g
+      (before ++ (Emit (op.Mark n) ∷ lines block)) (behind (before ++ Emit (op.Mark n) ∷ []) g) (visited S.listing n
+      s) g
       (run (visited S.listing n s)) (append_assoc before (Emit (op.Mark n) ∷ []) (lines block))
       (lowers.follows active block (before ++ Emit (op.Mark n) ∷ []) (visited S.listing n s) g
       (stand-back S before (Emit (op.Mark n) ∷ []) (lines block) stands) room (visited-begins S n active s g b)));

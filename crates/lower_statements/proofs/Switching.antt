@@ -175,7 +175,11 @@ module _ (S : Site) (site : IsSite S) (continues : Bool) (labels : List Label) (
     (before : List Line)
     (stands : Stand S before (body_lines (context_of S) (labelled_from first labels) (has_label labels 0) rs
     (record { breaks = exit; continues = exits.continues }) inside (To exit)))
-    (room : runs_levels rs ≤ levels_of S.function) (may : MayExit S true continues (record { breaks = exit; continues = exits.continues }))
+    (room : runs_levels rs ≤ levels_of S.function) (may : MayExit S true continues (record {
+      breaks = exit;
+      continues
+          = exits.continues;
+    }))
     (there : Contains (starts_in (site_lines S)) exit) where
   abbrev inner : Exits
   inner = record { breaks = exit; continues = exits.continues }
@@ -184,7 +188,8 @@ module _ (S : Site) (site : IsSite S) (continues : Bool) (labels : List Label) (
   pub label-there : (place : ℕ) → IsLabelled labels (length rs) place
       → Contains (starts_in (site_lines S)) (first + labelled_before labels place)
   label-there place (within, has) =
-      let (q, qs, is, front, at, there') = body-stands S (labelled_from first labels) (has_label labels 0) rs place within
+      let (q, qs, is, front, at, there') = body-stands S (labelled_from first labels) (has_label labels 0) rs place
+      within
       inner inside (To exit) before stands in
       let (rest, split) = suffix-starts S (labelled_from first labels) place q qs inner at (To exit) in
       line-there S front rest (first + labelled_before labels place)
@@ -207,7 +212,8 @@ module _ (S : Site) (site : IsSite S) (continues : Bool) (labels : List Label) (
       (subst (λ (ls : List Line). Stand S front ls) split there') in
       let follows = subst (λ (ps : List Run). LowersFrom S true continues labelled place ps (from place)) is
       (lowers labelled place within) in
-      switch-left S active (front ++ sequence_lines (context_of S) labelled place (q ∷ qs) inner at (To exit)) whole exit
+      switch-left S active (front ++ sequence_lines (context_of S) labelled place (q ∷ qs) inner at (To exit)) whole
+      exit
       exits (at_start S block g) s g (from place s)
       (from-goes S active 0 (at_start S block g) (behind (front ++ started (labelled place)) g) s g
       (LeftBy S (front ++ sequence_lines (context_of S) labelled place (q ∷ qs) inner at (To exit)) inner (To exit))
@@ -293,7 +299,8 @@ value-goes S site continues labels rs from lowers keeping active exits exit firs
     let last = first_label is_default labels in
     let found = label-found labels labels (length rs) (is_case n) labelled in
     let default' = label-found labels labels (length rs) is_default labelled in
-    let go : Unit {0} → Runs = λ done u. and_then (none_or_from (switched labels (HoldsNumber n)) from u) after_switch in
+    let go : Unit {0} → Runs = λ done u. and_then (none_or_from (switched labels (HoldsNumber n)) from u) after_switch
+    in
     subst (λ (w : Held). From S active 0 (behind before g) s g (LeftBy S whole exits (To exit))
     (and_then (none_or_from (switched labels w) from t) after_switch)) (sym is)
     (from-then S active 0 (behind before g) (behind front h) s t g h us (LeftBy S whole exits (To exit)) (go (tt {0}) t)

@@ -110,7 +110,8 @@ parts-shown g ls xs (part ∷ parts) h all =
     ∙ ap (λ (vs : List Value). source.part_value xs part ∷ vs) (parts-shown g ls xs parts h all.1)
 
 youngest-holds : (p : Program) (f : Function) (active : List Function) (calls : List source.Activation)
-    (b : graph.Activation) (bs : List graph.Activation) → slice_get active 0 ≡ Some f → ShowCalls p active calls (b ∷ bs)
+    (b : graph.Activation) (bs : List graph.Activation) → slice_get active 0 ≡ Some f
+    → ShowCalls p active calls (b ∷ bs)
     → HoldLocals b.variables 0 f.locals (youngest calls).values
 youngest-holds p f [] calls b bs e h = absurd (cc)
 youngest-holds p f (k ∷ older) [] b bs e h = absurd h
@@ -143,7 +144,8 @@ pub mark-goes : (S : Site) → IsSite S → (n : ℕ) → IsOwn S n → (active 
     (s : source.State) (g : graph.State) → Begins S active s g → Stand S before (Emit (op.Mark n) ∷ [])
     → Goes S s.turns (behind before g) s.turns (behind (before ++ Emit (op.Mark n) ∷ []) g) (visit_of S s n ∷ [])
 mark-goes S site n own active before s g b stands o r =
-    subst (λ (vs : List Visit). Comes S s.turns (behind before g) (after_visits vs o)) (visit-shown S site n own active s g b)
+    subst (λ (vs : List Visit). Comes S s.turns (behind before g) (after_visits vs o)) (visit-shown S site n own
+    active s g b)
     (mark-step S site before g b.function n s.turns o stands r)
 
 -- the source is then behind its visit

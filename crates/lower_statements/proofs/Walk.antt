@@ -16,7 +16,8 @@ use Rattle.c_tree.specs.declared.types.ValueType.TheVariants.{Void, Integer, Poi
 use Rattle.c_tree.specs.Evaluation.{Falls, Left, Returns, Runs, declare, declare_all, evaluate, execute, execute_from}
 use Rattle.c_tree.specs.Evaluation.{Setting, returned, run_first, type_at, type_of}
 use Rattle.c_tree.specs.Program.{int, value_type, Expression, Constant, Start, Read, Address, Unary, Binary, And, Or}
-use Rattle.c_tree.specs.Program.{Conditional, Cast, Assign, Update, Step, Comma, Call, Putchar, Getchar, Exit, LocalPlace}
+use Rattle.c_tree.specs.Program.{Conditional, Cast, Assign, Update, Step, Comma, Call, Putchar, Getchar, Exit}
+use Rattle.c_tree.specs.Program.{LocalPlace}
 use Rattle.c_tree.specs.Program.{Item, Scalar, Array, First, Nothing, Evaluated, Declared, Statement, Declare, Empty}
 use Rattle.c_tree.specs.Program.{Evaluate, Block, If, While, Do, For, Switch, Break, Continue, Return, Statements, Done}
 use Rattle.c_tree.specs.Program.{Next, Local}
@@ -25,7 +26,8 @@ use Rattle.c_tree.specs.Store as source
 use Rattle.c_tree.specs.Store.{Gives, Ends, Held, HoldsNumber, HoldsPointer, and_then, converted, in_type, visited}
 use Rattle.c_tree.specs.Store.{array_of, with_local, with_youngest, youngest}
 use Rattle.c_tree.specs.WellTyped.{AreStatements, CanAssign, CanReturn, IsAssigned, IsCondition, IsFirst, IsInteger}
-use Rattle.c_tree.specs.WellTyped.{AreLabels, IsItem, IsResult, IsScalar, IsStatement, IsTyped, IsTypedFunction, WellTyped}
+use Rattle.c_tree.specs.WellTyped.{AreLabels, IsItem, IsResult, IsScalar, IsStatement, IsTyped, IsTypedFunction}
+use Rattle.c_tree.specs.WellTyped.{WellTyped}
 use Rattle.c_tree.specs.WellTyped.{count_of, first_numbers, item_number, statement_numbers, statements_numbers}
 use Rattle.flow_graph.specs.declared.op.Op.TheVariants as op
 use Rattle.lower_lines.specs.Expressions.{cast_part, part_of}
@@ -192,7 +194,8 @@ module _ (S : Site) (site : IsSite S) (well : WellTyped S.program) (expressions 
           steady-scalars-lower S site n v (part_of c e).levels (initialiser_part c v e) (evaluate S.calls e) own low
           lowers (λ s x. steady S e is v s x)
       by false is low lowers =
-          scalars-lower S site n v (part_of c e).levels l (initialiser_part c v e) (evaluate S.calls e) own at scalar low
+          scalars-lower S site n v (part_of c e).levels l (initialiser_part c v e) (evaluate S.calls e) own at scalar
+          low
           lowers (keeps.expressions e)
 
   item : (x : Item) → IsItem S.program S.function x → IsOwn S (item_number x) → ItemHasNoText x
@@ -237,7 +240,8 @@ module _ (S : Site) (site : IsSite S) (well : WellTyped S.program) (expressions 
       → LowersLines S (first_levels c x) (first_lines c x) (run_first S.calls S.listing (type_at S.function) x)
   first Nothing ns h own none = made-lowers S 0 (λ block. []) (λ s. Gives (tt {0}) s) (λ done. Falls) (no-items-lower S)
   first (Evaluated e) ns h own none =
-      made-lowers S (part_of c e).levels (λ block. (part_of c e).lines block 0 Dropped) (evaluate S.calls e) (λ v. Falls)
+      made-lowers S (part_of c e).levels (λ block. (part_of c e).lines block 0 Dropped) (evaluate S.calls e) (λ v.
+      Falls)
       (dropped-lowers S (part_of c e) (evaluate S.calls e) (expressions e h))
   first (Declared xs) ns h own none =
       made-lowers S (items_levels c xs) (items_lines c xs) (declare_all S.calls S.listing (type_at S.function) xs)
@@ -394,7 +398,8 @@ module _ (S : Site) (site : IsSite S) (well : WellTyped S.program) (expressions 
         (executing body)
     statement breaks continues (Do n body e) h own none =
         dos-lower S site breaks continues n loops (part_of c e) (run_of c body) (evaluate S.calls e) (execute W body)
-        own.0 high (condition e h.1) (expressions e h.1.0) (keeps.tests (Some e)) (statement true true body h.0 own.1 none)
+        own.0 high (condition e h.1) (expressions e h.1.0) (keeps.tests (Some e)) (statement true true body h.0 own.1
+        none)
         (executing body)
     statement breaks continues (For n x test after body) h own none =
         fors-lower S site breaks continues n loops x test after (run_of c body)
@@ -437,7 +442,8 @@ module _ (S : Site) (site : IsSite S) (well : WellTyped S.program) (expressions 
     sequence breaks continues labelled place Done h own none = tt
     sequence breaks continues labelled place (Next x others) h own none =
         in-order breaks continues labelled place x
-        (statement breaks continues x h.0 (all-front (IsOwn S) (statement_numbers x) (statements_numbers others) own) none.0)
+        (statement breaks continues x h.0 (all-front (IsOwn S) (statement_numbers x) (statements_numbers others) own)
+        none.0)
         others
         (sequence breaks continues labelled (suc place) others h.1
         (all-back (IsOwn S) (statement_numbers x) (statements_numbers others) own) none.1)
@@ -450,7 +456,8 @@ module _ (S : Site) (site : IsSite S) (well : WellTyped S.program) (expressions 
     from-place breaks continues labelled base place Done lt h own none = absurd (omega (arith, lt))
     from-place breaks continues labelled base zero (Next x others) lt h own none =
         in-order breaks continues labelled (base + 0) x
-        (statement breaks continues x h.0 (all-front (IsOwn S) (statement_numbers x) (statements_numbers others) own) none.0)
+        (statement breaks continues x h.0 (all-front (IsOwn S) (statement_numbers x) (statements_numbers others) own)
+        none.0)
         others
         (sequence breaks continues labelled (suc (base + 0)) others h.1
         (all-back (IsOwn S) (statement_numbers x) (statements_numbers others) own) none.1)

@@ -64,7 +64,8 @@ from-goes S active level from m s g aim r goes next =
 
 -- the states at the end of an evaluation
 pub next-begins : (S : Site) (active : List Function) (level : ℕ) (s t : source.State) (g h : graph.State)
-    → Begins S active s g → t.turns ≤ s.turns → Shows S.program active t h → Keeps (local_variables S.function) level g h
+    → Begins S active s g → t.turns ≤ s.turns → Shows S.program active t h → Keeps (local_variables S.function) level
+    g h
     → Begins S active t h
 next-begins S active level s t g h b le shows keeps = record {
   shows = shows;

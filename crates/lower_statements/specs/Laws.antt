@@ -185,7 +185,8 @@ zeroed_at S n local s = with_local local (zero_of (type_at S.function local)) (v
 abbrev pub PlainScalarsLower : Type 0
 PlainScalarsLower = (S : Site) → IsSite S → (n local : ℕ) (l : Local) → IsOwn S n
     → slice_get S.function.locals local ≡ Some l → IsScalar l.of
-    → LowersLines S 0 (λ block. Emit (op.Mark n) ∷ zeroing (context_of S) local) (λ s. Gives (tt {0}) (zeroed_at S n local s))
+    → LowersLines S 0 (λ block. Emit (op.Mark n) ∷ zeroing (context_of S) local) (λ s. Gives (tt {0}) (zeroed_at S n
+    local s))
 
 -- one with an initialiser, whose part `a` assigns it
 abbrev pub ScalarsLower : Type 0

@@ -19,7 +19,8 @@ use Rattle.lower_lines.specs.Variables.{levels_of, local_variables}
 abbrev pub Keeping : {A : Type 0} → Site → (source.State → Evaluated A) → Type 0
 Keeping S run = (s : source.State) → bounds.Keeps S.bound s (run s)
 
--- What comes of an evaluation: where it gives something, what has to come then comes from here, with the visits between.
+-- What comes of an evaluation: where it gives something, what has to come then comes from here, with the visits
+-- between.
 abbrev pub From : {A : Type 0} → Site → List Function → ℕ → graph.State → source.State → graph.State
     → (A → source.State → graph.State → Outcome → Type 0) → Evaluated A → Type 0
 From S active level from s g aim (Gives v t) =
@@ -46,7 +47,8 @@ pub record LowersLines {A : Type 0} (S : Site) (levels : ℕ) (lines : ℕ → L
 
 -- Statements in order, of which the first has this place, do what the evaluation does, from behind the start of the
 -- first one's block, where it has a label.
-pub record LowersFrom (S : Site) (breaks continues : Bool) (labelled : Labelled) (place : ℕ) (rs : List Run) (run : Runs)
+pub record LowersFrom (S : Site) (breaks continues : Bool) (labelled : Labelled) (place : ℕ) (rs : List Run) (run :
+    Runs)
     : Type 0 where
   pub follows : (active : List Function) (exits : Exits) (block : ℕ) (after : After) (before : List Line)
       (s : source.State) (g : graph.State)

@@ -1,4 +1,5 @@
--- A corner in which a string that initialises an array isn't copied alike: a state that no program comes to, but that is
+-- A corner in which a string that initialises an array isn't copied alike: a state that no program comes to, but that
+-- is
 -- shown, whose string has an element that is none of its type. The source copies the element as it is, and the graph's
 -- `store` keeps its low bits.
 use Rattle.std.specs.Prelude.{pos, List, ℤ, [], ◌∷◌, codes, map, Some}
