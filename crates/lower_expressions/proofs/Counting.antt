@@ -1,12 +1,11 @@
 -- Numbers of 32 bits are counts of shifts.
-use Rattle.std.proofs.Common.{◌≡◌, ℕ, suc, ◌+◌, ◌-◌, ◌*◌, ◌/◌, ◌%◌, ◌<◌, ◌≤◌, ℤ, pos, negsuc}
-use Rattle.std.proofs.Common.{refl, sym, ap, ◌∙◌, subst, arith}
+use Rattle.std.proofs.Common.{◌≡◌, ℕ, suc, ◌+◌, ◌-◌, ◌*◌, ◌/◌, ◌%◌, ◌<◌, ℤ, pos, negsuc}
+use Rattle.std.proofs.Common.{refl, sym, ap, ◌∙◌, arith}
 use Rattle.std.proofs.Math.Nat.{add-mul-mod_self_right, div-add-mod', mod-lt}
 use Rattle.std.proofs.lemmas.Int.{SFits-int_wrap, of_z-to_z}
-use Rattle.std.specs.Int.{w8, w32, int_rem_euclid, int_wrap, cast_unsigned, cast_signed}
+use Rattle.std.specs.Int.{w8, w32, int_rem_euclid, int_wrap, cast_unsigned}
 use Rattle.std.specs.Prelude.{FitsSigned, unsigned_abs}
-use Rattle.c_tree.specs.Operators.{shift_count}
-use Rattle.lower_expressions.specs.Laws.{CountsFit, IsCount}
+use Rattle.lower_expressions.specs.Laws.{CountsFit}
 
 -- the same remainder with a multiple added
 same-count : (a b k : ℕ) → b ≡ a + k * 32 → b % 32 ≡ a % 32
@@ -34,7 +33,8 @@ byte-same (negsuc a) f =
     let small : a < 2147483648 = f.sfits in
     let split = div-add-mod' a 256 in
     let below : a % 256 < 256 = mod-lt a (omega arith) in
-    sym (same-count (255 - a % 256) (4294967296 - suc a) ((16777215 - a / 256) * 8) (omega (arith, small, split, below)))
+    sym (same-count (255 - a % 256) (4294967296 - suc a) ((16777215 - a / 256) * 8) (omega (arith, small, split,
+        below)))
 
 byte-is : (n : ℤ) → cast_unsigned w8 (int_wrap w8 n) ≡ byte_of n
 unfolding int_wrap

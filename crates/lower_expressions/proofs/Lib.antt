@@ -17,5 +17,6 @@ pub mod Leading
 pub mod Conditions
 pub mod Logical
 pub mod Conditional
+pub mod Calling
 pub mod Counting
 pub mod Walking

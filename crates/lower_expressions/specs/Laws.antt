@@ -1,6 +1,6 @@
 -- The laws of the lines of expressions, by their kinds; each is a part of `ExpressionsLower` of `lower_lines`.
 use Rattle.std.specs.Int.{w8, w32, int_wrap}
-use Rattle.std.specs.Prelude.{FitsSigned}
+use Rattle.std.specs.Prelude.{FitsSigned, List, [], ◌∷◌, map}
 use Rattle.std.specs.Prelude.{◌≡◌, ◌≢◌, ℕ, ℤ, slice_get, Some}
 use Rattle.c_tree.specs.declared.expression.BinaryOp.{BinaryOp}
 use Rattle.c_tree.specs.declared.expression.BinaryOp.TheVariants.{ShiftLeft, ShiftRight}
@@ -15,6 +15,11 @@ use Rattle.c_tree.specs.Program.{Conditional, Or, And, Step, Update, Comma, Exit
 use Rattle.c_tree.specs.Program.{Constant, Expression, Getchar, Local, LocalPlace, Read, Unary}
 use Rattle.c_tree.specs.Store.{Evaluated, Gives, Ends, Held, HoldsNumber, HoldsPointer, State}
 use Rattle.lower_lines.specs.Expressions.{part_of}
+use Rattle.c_tree.specs.Evaluation.{evaluate_all}
+use Rattle.c_tree.specs.Program.{Arguments, Call, Function}
+use Rattle.c_tree.specs.declared.types.ValueType.{ValueType}
+use Rattle.lower_lines.specs.Expressions.{all_passed, parts_of}
+use Rattle.lower_lines.specs.Following.{CallsFollow, LowersAll, parameters_in}
 use Rattle.lower_lines.specs.Following.{IsSite, Lowers, Site, context_of}
 
 -- a constant, whatever is wanted of it
@@ -56,7 +61,8 @@ IsShift ShiftLeft = Unit {0}
 IsShift ShiftRight = Unit {0}
 IsShift _ = ⊥
 
--- Its lowest byte is the same count of a shift. It isn't for numbers below those of 32 bits, which the definitions have,
+-- Its lowest byte is the same count of a shift. It isn't for numbers below those of 32 bits, which the definitions
+-- have,
 -- too (`Corners.antt`).
 abbrev pub IsCount : ℤ → Type 0
 IsCount n = shift_count (int_wrap w8 n) ≡ shift_count n
@@ -162,3 +168,25 @@ VoidsLower = (S : Site) → IsSite S → (e : Expression) → Lowers S (part_of 
 -- numbers of 32 bits are counts of shifts
 abbrev pub CountsFit : Type 0
 CountsFit = (n : ℤ) → FitsSigned w32 n → IsCount n
+
+-- ---- calls
+
+-- both are of integer types
+abbrev pub IsKind : ValueType → ValueType → Type 0
+IsKind (Integer t) (Integer u) = Unit {0}
+IsKind _ _ = ⊥
+
+abbrev pub AreKinds : List ValueType → List ValueType → Type 0
+AreKinds [] [] = Unit {0}
+AreKinds (p ∷ ps) (q ∷ qs) = IsKind p q × AreKinds ps qs
+AreKinds _ _ = ⊥
+
+-- a call of a function whose parameters and whose result are numbers, where its arguments lower and calls follow
+abbrev pub NumberCallsLower : Type 0
+NumberCallsLower = (S : Site) → IsSite S → CallsFollow S → (k : ℕ) (f : Function) (w : IntegerType)
+    → slice_get S.program.functions k ≡ Some f → f.result ≡ Integer w → (arguments : Arguments)
+    → LowersAll S (parameters_in f) (all_passed (context_of S) (parameters_in f) (parts_of (context_of S) arguments))
+    (evaluate_all S.calls arguments)
+    → AreKinds (map (λ a. a.of) (all_passed (context_of S) (parameters_in f) (parts_of (context_of S) arguments)))
+    (map (λ l. l.of) (parameters_in f))
+    → Lowers S (part_of (context_of S) (Call (Integer w) k arguments)) (evaluate S.calls (Call (Integer w) k arguments))

@@ -1,5 +1,6 @@
 //! Laws of the lines of expressions: each function's contract is one, and the function does nothing.
 
+ghost use Rattle.lower_expressions.specs.Laws.{NumberCallsLower};
 ghost use Rattle.lower_expressions.specs.Laws.{CountsFit};
 ghost use Rattle.lower_expressions.specs.Laws.{VoidsLower};
 ghost use Rattle.lower_expressions.specs.Corners.{ShiftsDiffer};
@@ -133,4 +134,10 @@ pub fn voids_lower()
 /// Numbers of 32 bits are counts of shifts.
 pub fn counts_fit()
     ensures { CountsFit }
+{}
+
+/// The lines of a call of a function of numbers do what the source does, given that calls follow and its arguments
+/// lower.
+pub fn number_calls_lower()
+    ensures { NumberCallsLower }
 {}
