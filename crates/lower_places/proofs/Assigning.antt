@@ -254,8 +254,23 @@ elements-assigned S site t to run reaches settled falls one a run' u lowers of f
 
 -- ---- what a pointer goes to
 
-two-long : (t : IntegerType) → length (type_widths (Pointer t)) ≡ 2
-two-long t = refl
+-- the variables of a local that is a pointer
+pub local-spots : (S : Site) (a : Part) (run : source.State → Evaluated Held) (t : IntegerType) (p : Spot)
+    → a.stands ≡ Some p → Lowers S a run → a.of ≡ Pointer t
+    → (p.array < local_variables S.function) × (p.number < local_variables S.function)
+local-spots S a run t p stands lowers of =
+    let (k, is, there, gives) = lowers.stands p stands in
+    let (l, e, same) = some-and (slice_get S.function.locals k) (λ m. (m.of ≡ a.of) × GoesInto a.of m.of) there in
+    let v = first_variable S.function.locals k in
+    let kind : l.of ≡ Pointer t = same.0 ∙ of in
+    let spot : p ≡ typed_spot (Pointer t) v = is ∙ ap (λ (o : Option Local). typed_spot (type_of o) v) e
+    ∙ ap (λ (m : ValueType). typed_spot m v) kind in
+    let within = local-within S.function.locals k l e in
+    let long : length (type_widths l.of) ≡ 2 = ap (λ (m : ValueType). length (type_widths m)) kind in
+    let array : v < local_variables S.function = omega (arith, within, long) in
+    let number : suc v < local_variables S.function = omega (arith, within, long) in
+    subst (λ (q : Spot). (q.array < local_variables S.function) × (q.number < local_variables S.function)) (sym spot)
+    (array, number)
 
 pub settled-standing : (S : Site) (a : Part) (run : source.State → Evaluated Held) (t : IntegerType) (spot : Option Spot)
     → ((p : Spot) → spot ≡ Some p → a.stands ≡ Some p) → Lowers S a run → a.of ≡ Pointer t → (level : ℕ)
@@ -278,17 +293,8 @@ settled-standing S a run t None from lowers of level = (
     high1 : (a b : ℕ) → a + b * 5 + 1 < a + suc b * 5
     high1 a b = omega arith
 settled-standing S a run t (Some p) from lowers of level =
-    let (k, is, there, gives) = lowers.stands p (from p refl) in
-    let (l, e, same) = some-and (slice_get S.function.locals k) (λ m. (m.of ≡ a.of) × GoesInto a.of m.of) there in
-    let v = first_variable S.function.locals k in
-    let kind : l.of ≡ Pointer t = same.0 ∙ of in
-    let spot : p ≡ typed_spot (Pointer t) v = is ∙ ap (λ (o : Option Local). typed_spot (type_of o) v) e
-    ∙ ap (λ (m : ValueType). typed_spot m v) kind in
-    let within = local-within S.function.locals k l e in
-    let long : length (type_widths l.of) ≡ 2 = ap (λ (m : ValueType). length (type_widths m)) kind in
-    let array : v < local_variables S.function = omega (arith, within, long) in
-    let number : suc v < local_variables S.function = omega (arith, within, long) in
-    subst (λ (q : Spot). IsSteady S level q.array × IsSteady S level q.number) (sym spot) (inl array, inl number)
+    let (array, number) = local-spots S a run t p (from p refl) lowers of in
+    (inl array, inl number)
 
 turns-located : (r : Evaluated Held) (n : ℕ) → (state_of r).turns ≤ n
     → (state_of (and_then r (λ v u. Gives (evaluation.target_of v) u))).turns ≤ n

@@ -2,3 +2,4 @@ pub mod Accesses
 pub mod Reading
 pub mod Writing
 pub mod Assigning
+pub mod Indexing

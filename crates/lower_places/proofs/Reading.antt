@@ -195,7 +195,7 @@ standing-pointer S older a run t (Some p) from lowers of block level before s g 
     (subst (λ (m : ValueType). HoldsAt g.current.variables m (typed_spot m v) (held s k)) kind at.0)
     (subst (λ (m : ValueType). IsOf S.program (S.function ∷ older) m (held s k)) kind at.1)))
 
-some-if : (stays : Bool) (spot : Option Spot) (p : Spot) → if_stays stays spot ≡ Some p → spot ≡ Some p
+pub some-if : (stays : Bool) (spot : Option Spot) (p : Spot) → if_stays stays spot ≡ Some p → spot ≡ Some p
 some-if true spot p e = e
 some-if false spot p e = absurd (cc)
 

@@ -4,11 +4,11 @@ use Rattle.c_bounds.specs.Bounds.{state_of}
 use Rattle.c_tree.specs.declared.types.IntegerType.{IntegerType}
 use Rattle.c_tree.specs.declared.types.ValueType.TheVariants.{Integer, Pointer}
 use Rattle.c_tree.specs.Evaluation.{Found, evaluate, load, locate, store}
-use Rattle.c_tree.specs.Program.{Assign, Expression, Function, Read, StaticObject, StaticPlace, Target}
+use Rattle.c_tree.specs.Program.{Assign, Element, Expression, Function, Read, StaticObject, StaticPlace, Target}
 use Rattle.c_tree.specs.Store as source
 use Rattle.c_tree.specs.Store.{Evaluated, Held, and_then, in_type}
 use Rattle.flow_graph.specs.States as graph
-use Rattle.lower_lines.specs.Expressions.{Addressed, AtAddress, assigned_element, part_of, read_part, target_of}
+use Rattle.lower_lines.specs.Expressions.{Addressed, AtAddress, assigned_element, element_of, part_of, read_part, target_of}
 use Rattle.lower_lines.specs.Following.{Begins, FollowsPlace, IsSite, IsSteady, Lowers, Site, Stand, context_of}
 use Rattle.lower_lines.specs.Lines.{Line}
 use Rattle.lower_lines.specs.Parts.{Part}
@@ -86,3 +86,33 @@ TargetsAreAssigned = (S : Site) → IsSite S → (e : Expression) (t : IntegerTy
     → (part_of (context_of S) value).of ≡ Integer u
     → Lowers S (part_of (context_of S) (Assign (Integer t) (Target t e) value))
     (evaluate S.calls (Assign (Integer t) (Target t e) value))
+
+-- ---- `a[i]`, where `a` is a pointer and `i` a number
+
+-- its address
+abbrev pub IndexesFollow : Type 0
+IndexesFollow = (S : Site) → IsSite S → (a b : Expression) (t : IntegerType)
+    → Lowers S (part_of (context_of S) a) (evaluate S.calls a) → (part_of (context_of S) a).of ≡ Pointer t
+    → (u : IntegerType) → Lowers S (part_of (context_of S) b) (evaluate S.calls b)
+    → (part_of (context_of S) b).of ≡ Integer u → AddressFollows S t
+    (element_of (context_of S) t (Pointer t) (part_of (context_of S) a) (part_of (context_of S) b))
+    (locate S.calls (Element t a b))
+
+-- it is read
+abbrev pub IndexesAreRead : Type 0
+IndexesAreRead = (S : Site) → IsSite S → (a b : Expression) (t : IntegerType)
+    → Lowers S (part_of (context_of S) a) (evaluate S.calls a) → (part_of (context_of S) a).of ≡ Pointer t
+    → (u : IntegerType) → Lowers S (part_of (context_of S) b) (evaluate S.calls b)
+    → (part_of (context_of S) b).of ≡ Integer u → Lowers S (part_of (context_of S) (Read (Integer t) (Element t a b)))
+    (evaluate S.calls (Read (Integer t) (Element t a b)))
+
+-- a number is assigned to it
+abbrev pub IndexesAreAssigned : Type 0
+IndexesAreAssigned = (S : Site) → IsSite S → (a b : Expression) (t : IntegerType)
+    → Lowers S (part_of (context_of S) a) (evaluate S.calls a) → (part_of (context_of S) a).of ≡ Pointer t
+    → (u : IntegerType) → Lowers S (part_of (context_of S) b) (evaluate S.calls b)
+    → (part_of (context_of S) b).of ≡ Integer u → (value : Expression) (w : IntegerType)
+    → Lowers S (part_of (context_of S) value) (evaluate S.calls value)
+    → (part_of (context_of S) value).of ≡ Integer w
+    → Lowers S (part_of (context_of S) (Assign (Integer t) (Element t a b) value))
+    (evaluate S.calls (Assign (Integer t) (Element t a b) value))

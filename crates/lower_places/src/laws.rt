@@ -4,6 +4,9 @@ ghost use Rattle.lower_places.specs.Laws.{ElementsAreRead, ObjectsAreRead, Targe
 ghost use Rattle.lower_places.specs.Laws.{ObjectsAreAssigned};
 ghost use Rattle.lower_places.specs.Laws.{ElementsAreAssigned};
 ghost use Rattle.lower_places.specs.Laws.{TargetsAreAssigned};
+ghost use Rattle.lower_places.specs.Laws.{IndexesFollow};
+ghost use Rattle.lower_places.specs.Laws.{IndexesAreRead};
+ghost use Rattle.lower_places.specs.Laws.{IndexesAreAssigned};
 
 /// The lines that read an element do what the source does, where those of its address do.
 pub fn elements_are_read()
@@ -38,4 +41,19 @@ pub fn elements_are_assigned()
 /// The lines that assign a number to what a pointer goes to do what the source does, where those of both do.
 pub fn targets_are_assigned()
     ensures { TargetsAreAssigned }
+{}
+
+/// The lines of the address of `a[i]` do what the source does, where those of both do.
+pub fn indexes_follow()
+    ensures { IndexesFollow }
+{}
+
+/// The lines that read `a[i]` do what the source does, where those of both do.
+pub fn indexes_are_read()
+    ensures { IndexesAreRead }
+{}
+
+/// The lines that assign a number to `a[i]` do what the source does, where those of all three do.
+pub fn indexes_are_assigned()
+    ensures { IndexesAreAssigned }
 {}

@@ -4,6 +4,7 @@
 mod laws;
 
 pub use laws::{
-    elements_are_assigned, elements_are_read, objects_are_assigned, objects_are_read,
-    targets_are_assigned, targets_are_read, targets_follow,
+    elements_are_assigned, elements_are_read, indexes_are_assigned, indexes_are_read,
+    indexes_follow, objects_are_assigned, objects_are_read, targets_are_assigned, targets_are_read,
+    targets_follow,
 };
