@@ -1,0 +1,40 @@
+-- What the declaration of an item leaves.
+use Rattle.std.proofs.Common.{◌≡◌, ℕ, List, ◌∷◌, Option, ap, sym, ◌∙◌}
+use Rattle.pcc_base.specs.Outcome.{Listing, Static}
+use Rattle.c_tree.specs.declared.types.IntegerType.{IntegerType}
+use Rattle.c_tree.specs.Evaluation.{own_array, text_then_zeros, type_at, zeroed}
+use Rattle.c_tree.specs.Program.{Array, Elements, Expression, Scalar, Text}
+use Rattle.c_tree.specs.Store.{State, Gives, array_named, visited, with_array, with_local, zero_of}
+use Rattle.c_tasks.specs.Steps.{Configuration, first_value, go_on}
+use Rattle.c_tasks.specs.Tasks.{Fills}
+use Rattle.c_eval.specs.Changes.{item_done}
+
+-- a local
+pub local_declared : (l : Listing) (n local : ℕ) (value : Option Expression) (c : Configuration) (s t : State)
+    → t ≡ with_local local (zero_of (type_at c.function local)) (visited l n s)
+    → item_done l (Scalar n local value) c s
+    ≡ Gives (go_on c.function (first_value local (type_at c.function local) value c.tasks) c.values c.places) t
+local_declared l n local value c s t e = ap (λ (x : State). Gives
+    (go_on c.function (first_value local (type_at c.function local) value c.tasks) c.values c.places) x) (sym e)
+
+-- an array with first elements
+pub array_declared : (l : Listing) (n k : ℕ) (element : IntegerType) (es : List Expression) (c : Configuration)
+    (s t : State) → t ≡ with_array (own_array s k) (zeroed (array_named s (own_array s k))) (visited l n s)
+    → item_done l (Array n k element (Elements es)) c s
+    ≡ Gives (go_on c.function (Fills k element 0 es ∷ c.tasks) c.values c.places) t
+array_declared l n k element es c s t e = ap (λ (x : State). Gives
+    (go_on c.function (Fills k element 0 es ∷ c.tasks) c.values c.places) x) (sym e)
+
+-- the state of an array with a text, whose elements were zeros
+abbrev pub text_set : (k object : ℕ) → State → State
+text_set k object t = with_array (own_array t k)
+    (text_then_zeros (array_named t (own_array t k)) (array_named t (Static object))) t
+
+-- an array with a text
+pub text_declared : (l : Listing) (n k object : ℕ) (element : IntegerType) (c : Configuration) (s t u : State)
+    → t ≡ with_array (own_array s k) (zeroed (array_named s (own_array s k))) (visited l n s)
+    → u ≡ text_set k object t
+    → item_done l (Array n k element (Text object)) c s ≡ Gives (go_on c.function c.tasks c.values c.places) u
+text_declared l n k object element c s t u e d = ap (λ (x : State). Gives
+    (go_on c.function c.tasks c.values c.places) (text_set k object x)) (sym e)
+    ∙ ap (λ (x : State). Gives (go_on c.function c.tasks c.values c.places) x) (sym d)

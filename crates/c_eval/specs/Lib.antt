@@ -1,0 +1,5 @@
+pub mod Views
+pub mod Changes
+pub mod Left
+pub mod Passing
+pub mod Streaming

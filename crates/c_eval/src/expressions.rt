@@ -1,0 +1,96 @@
+//! Expressions and places are taken apart (C99 6.5).
+
+ghost use Rattle.std.specs.Prelude.{◌≡◌, IfOk};
+ghost use Rattle.c_eval.specs.Left.{left_of};
+ghost use Rattle.c_eval.specs.Changes.{TakenApart, place_done};
+ghost use Rattle.c_store.specs.Kept.{over};
+ghost use Rattle.c_tasks.specs.Tasks.{Ahead};
+ghost use Rattle.c_tree.specs.Erased.{expression_of, place_of};
+ghost use Rattle.c_tree.specs.Store.{State, Gives};
+
+use crate::evaluation::Evaluation;
+use crate::task::Task;
+use c_store::{Place as Found, Store, Value};
+use c_tree::{BinaryOp, Expression, Place};
+use pcc_base::NoMemory;
+
+/// An expression is taken apart, or its value is known; `false` and nothing done for `getchar`.
+#[tactic(auto, using(crate::proofs::Stacking::row_is))]
+pub fn take_apart<'a>(
+    left: &mut Evaluation<'a>,
+    store: &Store,
+    e: &'a Expression,
+) -> Result<bool, NoMemory>
+    requires { (left_of left.old).way ≡ Ahead }
+    ensures { IfOk result (λ done. (s : State)
+        → TakenApart done (expression_of e.now) (left_of left.old) (left_of left.new) (over s store.now)) }
+{
+    match e {
+        Expression::Constant(of, n) => left.hold(Value::Number(*n).in_type(
+            c_tree::ValueType::Integer(*of),
+        ))?,
+        Expression::Start(_, array) => left.hold(Value::Pointer {
+            array: store.array_of(*array),
+            index: 0,
+        })?,
+        Expression::Read(_, place) => left.next_both(Task::Locates(place), Task::Loads)?,
+        Expression::Address(_, place) => left.next_both(Task::Locates(place), Task::Addresses)?,
+        Expression::Unary(of, op, e) => {
+            left.next_both(Task::Evaluates(e), Task::AppliesUnary(*of, *op))?
+        }
+        Expression::Binary(_, op, a, b) => {
+            left.next_three(
+                Task::Evaluates(a),
+                Task::Evaluates(b),
+                Task::AppliesBinary(*op),
+            )?
+        }
+        Expression::And(a, b) => left.next_both(Task::Evaluates(a), Task::AndThen(b))?,
+        Expression::Or(a, b) => left.next_both(Task::Evaluates(a), Task::OrElse(b))?,
+        Expression::Conditional(of, test, a, b) => {
+            left.next_both(Task::Evaluates(test), Task::Chooses(*of, a, b))?
+        }
+        Expression::Cast(to, e) => left.next_both(Task::Evaluates(e), Task::Converts(*to))?,
+        Expression::Assign(of, place, e) => {
+            left.next_three(Task::Locates(place), Task::Evaluates(e), Task::Stores(*of))?
+        }
+        Expression::Update(of, op, place, e) => left.next_four(
+            Task::Locates(place),
+            Task::LoadsOld,
+            Task::Evaluates(e),
+            Task::Updates(*of, *op),
+        )?,
+        Expression::Step(of, op, place) => {
+            left.next_three(Task::Locates(place), Task::LoadsOld, Task::Steps(*of, *op))?
+        }
+        Expression::Comma(a, b) => {
+            left.next_three(Task::Evaluates(a), Task::Drops, Task::Evaluates(b))?
+        }
+        Expression::Call(_, function, arguments) => {
+            left.next(Task::Passes(*function, arguments.as_slice(), 0))?
+        }
+        Expression::Putchar(e) => left.next_both(Task::Evaluates(e), Task::Puts)?,
+        Expression::Exit(e) => left.next_both(Task::Evaluates(e), Task::Exits)?,
+        Expression::Getchar => return Ok(false),
+    }
+    Ok(true)
+}
+
+/// A place is found, or its pointer is to be evaluated.
+pub fn locate<'a>(left: &mut Evaluation<'a>, place: &'a Place) -> Result<(), NoMemory>
+    requires { (left_of left.old).way ≡ Ahead }
+    ensures { IfOk result (λ _. (s : State)
+        → place_done (place_of place.now) (left_of left.old) s ≡ Gives (left_of left.new) s) }
+{
+    match place {
+        Place::Local(local) => left.find(Found::Local(*local)),
+        Place::Static(object) => left.find(Found::Object(*object)),
+        Place::Target(_, e) => left.next_both(Task::Evaluates(e), Task::Points),
+        Place::Element(_, array, index) => left.next_four(
+            Task::Evaluates(array),
+            Task::Evaluates(index),
+            Task::AppliesBinary(BinaryOp::Add),
+            Task::Points,
+        ),
+    }
+}
