@@ -5,6 +5,7 @@ ghost use Rattle.ia32_cores.specs.Laws.{DivisionStops, QuotientPuts, RemainderPu
 ghost use Rattle.ia32_cores.specs.Ops.{LowFollows, HalfFollows, LeftShiftFollows, RightShiftFollows, NumbersSetFollow};
 ghost use Rattle.ia32_cores.specs.Ops.{QuotientFollows, RemainderFollows, NumbersBranchFollow, JumpFollows};
 ghost use Rattle.ia32_cores.specs.Ops.{BlocksStand};
+ghost use Rattle.ia32_cores.specs.Worked.{ShiftsAreRows, DivisionsAreRows, ComparisonsAreRows, PartsAreRows};
 
 /// What instructions make of the words of numbers is what the ops make of the numbers: the conditions of comparisons
 /// after CMP, SHL and SAR by a byte, CDQ with IDIV, and MOVSX of 16 bits.
@@ -58,4 +59,12 @@ pub fn rows_follow_steps()
     ensures branch { NumbersBranchFollow }
     ensures jump { JumpFollows }
     ensures blocks { BlocksStand }
+{}
+
+/// Rows over slots and over registers, instruction by instruction.
+pub fn worked_rows()
+    ensures shifts { ShiftsAreRows }
+    ensures divisions { DivisionsAreRows }
+    ensures comparisons { ComparisonsAreRows }
+    ensures parts { PartsAreRows }
 {}

@@ -7,5 +7,5 @@ mod laws;
 
 pub use laws::{
     rows_compare_words, rows_divide_words, rows_follow_steps, rows_of_words, rows_pass_words,
-    words_are_numbers,
+    words_are_numbers, worked_rows,
 };
