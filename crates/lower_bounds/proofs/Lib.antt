@@ -20,3 +20,4 @@ pub mod Ordered
 pub mod Naming
 pub mod Names
 pub mod Rooms
+pub mod Few

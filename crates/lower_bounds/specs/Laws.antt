@@ -1,5 +1,5 @@
 -- Laws on how large graphs are, and on the order of their points, beside those of `lower_lines`.
-use Rattle.std.specs.Prelude.{◌≡◌, ◌<◌, ◌≤◌, ℕ, List, codes, length, slice_get, Some, [], ◌∷◌}
+use Rattle.std.specs.Prelude.{◌≡◌, ◌<◌, ◌≤◌, ℕ, ◌*◌, List, codes, length, slice_get, Some, [], ◌∷◌}
 use Rattle.std.specs.List.{All, AllByRecursion}
 use Rattle.c_tree.specs.declared.types.IntegerType.TheVariants.{Int}
 use Rattle.c_tree.specs.Program.{Done, Function, Program, int}
@@ -65,6 +65,12 @@ pub record IsLaidOut (flow : Flow) : Type 0 where
 abbrev pub GraphsAreLaidOut : Type 0
 GraphsAreLaidOut = (p : Program) → WellTyped p → (k : ℕ) (f : Function) → slice_get p.functions k ≡ Some f
     → IsLaidOut (graph_of_function p f)
+
+-- A function's graph has at most 20 points for each token of the function, and no more blocks than points.
+abbrev pub PointsAreFew : Type 0
+PointsAreFew = (p : Program) → WellTyped p → (k : ℕ) (f : Function) → slice_get p.functions k ≡ Some f
+    → (length (graph_of_function p f).ops ≤ 20 * function_size f)
+    × (length (graph_of_function p f).blocks ≤ length (graph_of_function p f).ops)
 
 -- ---- names
 

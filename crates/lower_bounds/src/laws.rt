@@ -1,7 +1,7 @@
 //! Laws of lines and of their graphs: each function's contract is one, and the function does nothing.
 
 ghost use Rattle.lower_bounds.specs.Laws.{DeclaredAreSmall, GraphsAreLaidOut, NamesAreThere, NotAllAreSmall};
-ghost use Rattle.lower_bounds.specs.Laws.{NotAllAreThere};
+ghost use Rattle.lower_bounds.specs.Laws.{NotAllAreThere, PointsAreFew};
 ghost use Rattle.lower_lines.specs.Laws.{AllLinesClose, MarksHold, ObjectsHold, ShapesHold};
 
 /// The static objects of the graphs are the program's, with their first contents.
@@ -52,4 +52,10 @@ pub fn names_are_there()
 /// has.
 pub fn not_all_are_there()
     ensures { NotAllAreThere }
+{}
+
+/// The graph of a typed program's function has at most 20 points for each token of the function, and no more blocks than
+/// points.
+pub fn points_are_few()
+    ensures { PointsAreFew }
 {}
