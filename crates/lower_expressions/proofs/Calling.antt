@@ -238,7 +238,7 @@ module _ (S : Site) (site : IsSite S) (follow : CallsFollow S) (k : ℕ) (f : Fu
       ++ result_lines (context_of S) (block + arguments_blocks (context_of S) parts) level wanted (Integer w) k
       (arguments_words (context_of S) parts level))
       → FollowsAll S (parameters_in f) (S.function ∷ older) before (arguments_lines (context_of S) parts block level)
-          level
+      level
       (map (λ a. a.of) parts) (arguments_words (context_of S) parts level) s g r
       → Fits S (S.function ∷ older) before (arguments_lines (context_of S) parts block level
       ++ result_lines (context_of S) (block + arguments_blocks (context_of S) parts) level wanted (Integer w) k

@@ -33,8 +33,12 @@ byte-same (negsuc a) f =
     let small : a < 2147483648 = f.sfits in
     let split = div-add-mod' a 256 in
     let below : a % 256 < 256 = mod-lt a (omega arith) in
-    sym (same-count (255 - a % 256) (4294967296 - suc a) ((16777215 - a / 256) * 8) (omega (arith, small, split,
-        below)))
+    sym (same-count (255 - a % 256) (4294967296 - suc a) ((16777215 - a / 256) * 8) (omega (
+      arith,
+      small,
+      split,
+      below,
+    )))
 
 byte-is : (n : ℤ) → cast_unsigned w8 (int_wrap w8 n) ≡ byte_of n
 unfolding int_wrap

@@ -18,5 +18,6 @@ pub mod Conditions
 pub mod Logical
 pub mod Conditional
 pub mod Calling
+pub mod Passing
 pub mod Counting
 pub mod Walking

@@ -134,10 +134,10 @@ alone-same : (s : source.State) (r : Evaluated Held) (value : Held) (t : source.
 alone-same s (Gives value t) other u alone e = sym (cc) ∙ alone
 alone-same s (Ends end t) other u alone e = absurd alone
 
-same-gives : (x y : Held) (s t : source.State) → Gives x s ≡ Gives y t → (x ≡ y) × (s ≡ t)
+pub same-gives : (x y : Held) (s t : source.State) → Gives x s ≡ Gives y t → (x ≡ y) × (s ≡ t)
 same-gives x y s t e = (cc, cc)
 
-same-number : (m n : ℤ) → HoldsNumber m ≡ HoldsNumber n → m ≡ n
+pub same-number : (m n : ℤ) → HoldsNumber m ≡ HoldsNumber n → m ≡ n
 same-number m n e = cc
 
 stays-by : (S : Site) (older : List Function) (a b : Part) (run run' : source.State → Evaluated Held) (u : IntegerType)

@@ -16,6 +16,9 @@ use Rattle.c_tree.specs.Program.{Constant, Expression, Getchar, Local, LocalPlac
 use Rattle.c_tree.specs.Store.{Evaluated, Gives, Ends, Held, HoldsNumber, HoldsPointer, State}
 use Rattle.lower_lines.specs.Expressions.{part_of}
 use Rattle.c_tree.specs.Evaluation.{evaluate_all}
+use Rattle.std.specs.List.{All}
+use Rattle.c_tree.specs.WellTyped.{IsInteger}
+use Rattle.c_tree.specs.Program.{Argument, NoMore}
 use Rattle.c_tree.specs.Program.{Arguments, Call, Function}
 use Rattle.c_tree.specs.declared.types.ValueType.{ValueType}
 use Rattle.lower_lines.specs.Expressions.{all_passed, parts_of}
@@ -61,9 +64,7 @@ IsShift ShiftLeft = Unit {0}
 IsShift ShiftRight = Unit {0}
 IsShift _ = ⊥
 
--- Its lowest byte is the same count of a shift. It isn't for numbers below those of 32 bits, which the definitions
--- have,
--- too (`Corners.antt`).
+-- Its lowest byte is the same count of a shift. It isn't for numbers below those of 32 bits (`Corners.antt`).
 abbrev pub IsCount : ℤ → Type 0
 IsCount n = shift_count (int_wrap w8 n) ≡ shift_count n
 
@@ -190,3 +191,16 @@ NumberCallsLower = (S : Site) → IsSite S → CallsFollow S → (k : ℕ) (f : 
     → AreKinds (map (λ a. a.of) (all_passed (context_of S) (parameters_in f) (parts_of (context_of S) arguments)))
     (map (λ l. l.of) (parameters_in f))
     → Lowers S (part_of (context_of S) (Call (Integer w) k arguments)) (evaluate S.calls (Call (Integer w) k arguments))
+
+-- what is passed where only numbers are: expressions that lower, of integer types
+abbrev pub AreNumbers : Site → Arguments → Type 0
+AreNumbers S NoMore = Unit {0}
+AreNumbers S (Argument e es) = Lowers S (part_of (context_of S) e) (evaluate S.calls e)
+    × IsInteger (part_of (context_of S) e).of × AreNumbers S es
+
+-- the arguments of parameters that are numbers
+abbrev pub NumbersPass : Type 0
+NumbersPass = (S : Site) → IsSite S → (parameters : List Local) → All (λ l. IsInteger l.of) parameters
+    → (arguments : Arguments) → AreNumbers S arguments
+    → LowersAll S parameters (all_passed (context_of S) parameters (parts_of (context_of S) arguments))
+    (evaluate_all S.calls arguments)

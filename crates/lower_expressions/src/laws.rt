@@ -1,5 +1,6 @@
 //! Laws of the lines of expressions: each function's contract is one, and the function does nothing.
 
+ghost use Rattle.lower_expressions.specs.Laws.{NumbersPass};
 ghost use Rattle.lower_expressions.specs.Laws.{NumberCallsLower};
 ghost use Rattle.lower_expressions.specs.Laws.{CountsFit};
 ghost use Rattle.lower_expressions.specs.Laws.{VoidsLower};
@@ -140,4 +141,9 @@ pub fn counts_fit()
 /// lower.
 pub fn number_calls_lower()
     ensures { NumberCallsLower }
+{}
+
+/// The lines of arguments that are numbers, for parameters that are, do what the source does.
+pub fn numbers_pass()
+    ensures { NumbersPass }
 {}

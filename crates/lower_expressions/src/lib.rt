@@ -8,6 +8,6 @@ pub use laws::{
     ands_lower, assigns_lower, binaries_lower, casts_lower, chars_lower, commas_lower,
     complements_lower, conditionals_lower, constants_lower, counts_fit, exits_lower,
     getchar_lowers, locals_lower, minuses_lower, nots_lower, number_calls_lower, numbers_lower,
-    ors_lower, pluses_lower, putchars_lower, shifts_differ, steps_lower, updates_lower,
-    voids_lower,
+    numbers_pass, ors_lower, pluses_lower, putchars_lower, shifts_differ, steps_lower,
+    updates_lower, voids_lower,
 };
