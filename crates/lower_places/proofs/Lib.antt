@@ -3,3 +3,4 @@ pub mod Reading
 pub mod Writing
 pub mod Assigning
 pub mod Indexing
+pub mod Naming

@@ -9,7 +9,8 @@ use Rattle.c_tree.specs.Evaluation.{InObject, element_written, evaluate, store}
 use Rattle.c_tree.specs.Operators.{Computes}
 use Rattle.c_tree.specs.Program.{Function, StaticObject}
 use Rattle.c_tree.specs.Store as source
-use Rattle.c_tree.specs.Store.{Evaluated, Gives, Ends, Held, HoldsNumber, HoldsPointer, and_then, array_named, converted}
+use Rattle.c_tree.specs.Store.{Evaluated, Gives, Ends, Held, HoldsNumber, HoldsPointer, and_then, array_named}
+use Rattle.c_tree.specs.Store.{converted}
 use Rattle.flow_graph.specs.declared.op.Op.TheVariants as op
 use Rattle.flow_graph.specs.Meaning.{stored}
 use Rattle.flow_graph.specs.States as graph

@@ -1,17 +1,26 @@
 -- The laws of the lines that read elements of arrays and static objects, and assign to them, by their kinds.
-use Rattle.std.specs.Prelude.{◌≡◌, ◌+◌, ◌≤◌, ℕ, Bool, false, true, List, slice_get, length, Some}
+use Rattle.std.specs.Prelude.{◌≡◌, ◌+◌, ◌≤◌, ℕ, Bool, false, true, pos, List, ◌∷◌, replicate, slice_get}
+use Rattle.std.specs.Prelude.{length, Some}
+use Rattle.pcc_base.specs.Outcome.{ArrayName, Static, InFrame}
 use Rattle.c_bounds.specs.Bounds.{state_of}
+use Rattle.c_tree.specs.declared.expression.ArrayRef.{ArrayRef}
+use Rattle.c_tree.specs.declared.expression.ArrayRef.TheVariants as refs
 use Rattle.c_tree.specs.declared.types.IntegerType.{IntegerType}
 use Rattle.c_tree.specs.declared.types.ValueType.TheVariants.{Integer, Pointer}
-use Rattle.c_tree.specs.Evaluation.{Found, evaluate, load, locate, store}
-use Rattle.c_tree.specs.Program.{Assign, Element, Expression, Function, Read, StaticObject, StaticPlace, Target}
+use Rattle.c_tree.specs.Evaluation.{Found, evaluate, load, locate, own_array, store, zeroed}
+use Rattle.c_tree.specs.Program.{Assign, Element, Expression, Function, Program, Read, StaticObject, StaticPlace}
+use Rattle.c_tree.specs.Program.{Target}
 use Rattle.c_tree.specs.Store as source
-use Rattle.c_tree.specs.Store.{Evaluated, Held, and_then, in_type}
+use Rattle.c_tree.specs.Store.{Evaluated, Held, and_then, array_named, array_of, in_type}
+use Rattle.c_tree.specs.WellTyped.{IsArray}
 use Rattle.flow_graph.specs.States as graph
-use Rattle.lower_lines.specs.Expressions.{Addressed, AtAddress, assigned_element, element_of, part_of, read_part, target_of}
+use Rattle.flow_graph.specs.States.{depth_of}
+use Rattle.lower_lines.specs.Expressions.{Addressed, AtAddress, assigned_element, element_of, part_of, read_part}
+use Rattle.lower_lines.specs.Expressions.{target_of}
 use Rattle.lower_lines.specs.Following.{Begins, FollowsPlace, IsSite, IsSteady, Lowers, Site, Stand, context_of}
 use Rattle.lower_lines.specs.Lines.{Line}
 use Rattle.lower_lines.specs.Parts.{Part}
+use Rattle.lower_lines.specs.Relation.{IsArrayOf, Shows}
 use Rattle.lower_lines.specs.Variables.{levels_of, own}
 
 -- The lines of an address lead to where a pointer to the element stands, wherever they stand themselves, and whether
@@ -116,3 +125,24 @@ IndexesAreAssigned = (S : Site) → IsSite S → (a b : Expression) (t : Integer
     → (part_of (context_of S) value).of ≡ Integer w
     → Lowers S (part_of (context_of S) (Assign (Integer t) (Element t a b) value))
     (evaluate S.calls (Assign (Integer t) (Element t a b) value))
+
+-- ---- arrays that a function names
+
+-- the array that an op of a function names, in its youngest call
+abbrev pub named : graph.State → ArrayRef → ArrayName
+named g (refs.Static k) = Static k
+named g (refs.Frame k) = InFrame k (depth_of g)
+
+-- it is the one that the source names, of elements of its type
+abbrev pub NamesAreAlike : Type 0
+NamesAreAlike = (p : Program) (f : Function) (older : List Function) (s : source.State) (g : graph.State)
+    (t : IntegerType) (array : ArrayRef) → Shows p (f ∷ older) s g → IsArray p f array t
+    → IsArrayOf p (f ∷ older) t (array_of s array) × (array_of s array ≡ named g array)
+
+-- an array of the youngest call is there with the source's elements, and becomes zero on both sides
+abbrev pub ArraysAreCleared : Type 0
+ArraysAreCleared = (p : Program) (f : Function) (older : List Function) (s : source.State) (g : graph.State) (k : ℕ)
+    (t : IntegerType) → Shows p (f ∷ older) s g → IsArray p f (refs.Frame k) t
+    → (slice_get g.current.arrays k ≡ Some (array_named s (own_array s k)))
+    × Shows p (f ∷ older) (source.with_array (own_array s k) (zeroed (array_named s (own_array s k))) s)
+    (graph.with_array (InFrame k (depth_of g)) (replicate (length (array_named s (own_array s k))) (pos 0)) g)

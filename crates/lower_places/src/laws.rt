@@ -1,12 +1,9 @@
 //! Laws of the lines of places: each function's contract is one, and the function does nothing.
 
-ghost use Rattle.lower_places.specs.Laws.{ElementsAreRead, ObjectsAreRead, TargetsAreRead, TargetsFollow};
-ghost use Rattle.lower_places.specs.Laws.{ObjectsAreAssigned};
-ghost use Rattle.lower_places.specs.Laws.{ElementsAreAssigned};
-ghost use Rattle.lower_places.specs.Laws.{TargetsAreAssigned};
-ghost use Rattle.lower_places.specs.Laws.{IndexesFollow};
-ghost use Rattle.lower_places.specs.Laws.{IndexesAreRead};
-ghost use Rattle.lower_places.specs.Laws.{IndexesAreAssigned};
+ghost use Rattle.lower_places.specs.Laws.{ArraysAreCleared, ElementsAreAssigned, ElementsAreRead};
+ghost use Rattle.lower_places.specs.Laws.{IndexesAreAssigned, IndexesAreRead, IndexesFollow};
+ghost use Rattle.lower_places.specs.Laws.{NamesAreAlike, ObjectsAreAssigned, ObjectsAreRead};
+ghost use Rattle.lower_places.specs.Laws.{TargetsAreAssigned, TargetsAreRead, TargetsFollow};
 
 /// The lines that read an element do what the source does, where those of its address do.
 pub fn elements_are_read()
@@ -56,4 +53,14 @@ pub fn indexes_are_read()
 /// The lines that assign a number to `a[i]` do what the source does, where those of all three do.
 pub fn indexes_are_assigned()
     ensures { IndexesAreAssigned }
+{}
+
+/// The array of a name is the same on both sides.
+pub fn names_are_alike()
+    ensures { NamesAreAlike }
+{}
+
+/// An array of the youngest call becomes zero on both sides.
+pub fn arrays_are_cleared()
+    ensures { ArraysAreCleared }
 {}

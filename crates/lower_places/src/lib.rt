@@ -4,7 +4,7 @@
 mod laws;
 
 pub use laws::{
-    elements_are_assigned, elements_are_read, indexes_are_assigned, indexes_are_read,
-    indexes_follow, objects_are_assigned, objects_are_read, targets_are_assigned, targets_are_read,
-    targets_follow,
+    arrays_are_cleared, elements_are_assigned, elements_are_read, indexes_are_assigned,
+    indexes_are_read, indexes_follow, names_are_alike, objects_are_assigned, objects_are_read,
+    targets_are_assigned, targets_are_read, targets_follow,
 };
