@@ -101,7 +101,8 @@ module _ (S : Site) (site : IsSite S) (older : List Function) (t : IntegerType) 
   element-loads n d o there stands r =
       elim (null-or-not array) [
         | inl null ↦ absurd (null-none u array index n null there)
-        | inr some ↦ load-step S site before h fits (bits_of t) d spot.array spot.number u.turns array index n elements o
+        | inr some ↦ load-step S site before h fits (bits_of t) d spot.array spot.number u.turns array index n
+            elements o
             stands at-array at-index (reaches some) (same-element elements index ∙ there) r
       ]
 
@@ -138,7 +139,8 @@ module _ (S : Site) (site : IsSite S) (older : List Function) (t : IntegerType) 
       elim (null-or-not array) [
         | inl null ↦ store-null S site before h fits (bits_of t) spot.array spot.number a u.turns index n stands
             (at-array ∙ ap Some null) at-index at_a
-        | inr some ↦ store-traps S site before h fits (bits_of t) spot.array spot.number a u.turns array index n elements
+        | inr some ↦ store-traps S site before h fits (bits_of t) spot.array spot.number a u.turns array index n
+            elements
             stands at-array at-index at_a (reaches some) (same-element elements index ∙ there)
       ]
 

@@ -138,7 +138,8 @@ alone-is s u v (Gives w t) alone e = same w v t u e ∙ alone
     same w v t u e = cc
 alone-is s u v (Ends end t) alone e = absurd alone
 
-pub address-stays : (S : Site) (older : List Function) (to : Addressed) (a : Part) (run' : source.State → Evaluated Held)
+pub address-stays : (S : Site) (older : List Function) (to : Addressed) (a : Part) (run' : source.State → Evaluated
+    Held)
     (simple : Bool) → a.simple ≡ simple → IsSettled S to → Lowers S a run' → (level : ℕ) (t : IntegerType)
     (array : ArrayName) (index : ℤ) (u w : source.State) (h i : graph.State) (v : Held) → run' u ≡ Gives v w
     → Begins S (S.function ∷ older) u h → Shows S.program (S.function ∷ older) w i
@@ -146,7 +147,8 @@ pub address-stays : (S : Site) (older : List Function) (to : Addressed) (a : Par
     → HoldsAt h.current.variables (Pointer t) (to.spot simple level) (HoldsPointer array index)
     → HoldsAt i.current.variables (Pointer t) (to.spot simple level) (HoldsPointer array index)
 address-stays S older to a run' false same settled lowers level t array index u w h i v gives begins shows keeps holds =
-    subst (λ (p : Spot). HoldsAt i.current.variables (Pointer t) p (HoldsPointer array index)) (sym (settled.kept level))
+    subst (λ (p : Spot). HoldsAt i.current.variables (Pointer t) p (HoldsPointer array index)) (sym (settled.kept
+    level))
     (own-same S level h i t array index keeps
     (subst (λ (p : Spot). HoldsAt h.current.variables (Pointer t) p (HoldsPointer array index)) (settled.kept level)
     holds))
@@ -207,9 +209,11 @@ module _ (S : Site) (site : IsSite S) (t : IntegerType) (to : Addressed) (run : 
   value-fits w h array index (Ends end z) gives stands begins holds is ends = (ends, tt)
   value-fits w h array index (Gives v z) gives stands begins holds is (i, us, n, value, shows, keeps, seen, at, goes) =
       let below = kept-below (local_variables S.function) level (suc level) h i (omega arith) keeps in
-      let stays = address-stays S older to a run' a.simple refl settled lowers level t array index w z h i v gives begins
+      let stays = address-stays S older to a run' a.simple refl settled lowers level t array index w z h i v gives
+      begins
       shows keeps holds in
-      let rest = store-fits S site older t ((before ++ front) ++ middle) z i (keeps.function ∙ begins.function) shows array
+      let rest = store-fits S site older t ((before ++ front) ++ middle) z i (keeps.function ∙ begins.function) shows
+      array
       index spot stays is level x n at room-last (block + to.blocks + (operand (context_of S) true a).blocks) wanted may
       (source.element_at (array_named z array) index) refl (stand-back S (before ++ front) middle last stands) in
       subst (λ (y : Held). Fits S (S.function ∷ older) (before ++ front) (middle ++ last) level wanted (Integer t) w h
@@ -240,7 +244,8 @@ module _ (S : Site) (site : IsSite S) (t : IntegerType) (to : Addressed) (run : 
       )
 
   pub assigned-fits : Stand S before (front ++ (middle ++ last))
-      → Fits S (S.function ∷ older) before (front ++ (middle ++ last)) level wanted (Integer t) s g (assigned t run run' s)
+      → Fits S (S.function ∷ older) before (front ++ (middle ++ last)) level wanted (Integer t) s g (assigned t run
+      run' s)
   assigned-fits stands =
       found-fits (run s) (falls s) stands
       (reaches (S.function ∷ older) a.simple block level before s g (stand-front S before front (middle ++ last) stands)
@@ -250,7 +255,8 @@ pub elements-assigned : ElementsAreAssigned
 elements-assigned S site t to run reaches settled falls one a run' u lowers of falls' =
     compound-lowers S (assigned_element (context_of S) t to a) (assigned t run run') refl refl
     (λ older block level wanted before s g stands room may b.
-    assigned-fits S site t to run reaches settled falls one a run' u lowers of falls' older block level wanted before s g
+    assigned-fits S site t to run reaches settled falls one a run' u lowers of falls' older block level wanted before
+    s g
     room may b stands)
 
 -- ---- what a pointer goes to
@@ -273,7 +279,8 @@ local-spots S a run t p stands lowers of =
     subst (λ (q : Spot). (q.array < local_variables S.function) × (q.number < local_variables S.function)) (sym spot)
     (array, number)
 
-pub settled-standing : (S : Site) (a : Part) (run : source.State → Evaluated Held) (t : IntegerType) (spot : Option Spot)
+pub settled-standing : (S : Site) (a : Part) (run : source.State → Evaluated Held) (t : IntegerType) (spot : Option
+    Spot)
     → ((p : Spot) → spot ≡ Some p → a.stands ≡ Some p) → Lowers S a run → a.of ≡ Pointer t → (level : ℕ)
     → IsSteady S level ((standing (context_of S) a spot).spot level).array
     × IsSteady S level ((standing (context_of S) a spot).spot level).number

@@ -251,7 +251,8 @@ module _ (S : Site) (site : IsSite S) (older : List Function) (t : IntegerType) 
             (copied to x.array) (adding ∷ []) [] []
             (copy-goes S site before i to x.array z.turns (array_value array) fits holds.0
             (stand-front S before (copied to x.array) (adding ∷ []) stands))
-            (λ o r. two-step S site (before ++ copied to x.array) (copy to) fits (op.Add for-number x.number y) for-number
+            (λ o r. two-step S site (before ++ copied to x.array) (copy to) fits (op.Add for-number x.number y)
+            for-number
             x.number y (λ p q. int_wrap w32 (p +ℤ q)) index m z.turns o
             (stand-back S before (copied to x.array) (adding ∷ []) stands) refl refl refl refl at_x at_second r),
       )
@@ -322,17 +323,29 @@ module _ (S : Site) (site : IsSite S) (t : IntegerType) (a b : Part) (run run' :
       → FollowsPlace S (S.function ∷ older) (before ++ first) (second ++ last) level t at w h
       (and_then r (moving (HoldsPointer array index)))
   number-fits w h array index (Ends end z) gives stands there holds is ends = ends
-  number-fits w h array index (Gives v z) gives stands there holds is (i, us, n, value, shows, keeps, seen, at_y, goes) =
+  number-fits w h array index (Gives v z) gives stands there holds is (
+    i,
+    us,
+    n,
+    value,
+    shows,
+    keeps,
+    seen,
+    at_y,
+    goes,
+  ) =
       let settled : IsSettled S (target_of (context_of S) a) =
       record { kept = λ k. refl; steady = settled-standing S a run t a.stands (λ p e. e) la of } in
-      let still = address-stays S older (target_of (context_of S) a) b run' b.simple refl settled lb level t array index w z
+      let still = address-stays S older (target_of (context_of S) a) b run' b.simple refl settled lb level t array
+      index w z
       h i v gives there shows keeps holds in
       subst (λ (q : Held). FollowsPlace S (S.function ∷ older) (before ++ first) (second ++ last) level t at w h
       (moving (HoldsPointer array index) q z)) (sym value)
       (place-behind S (S.function ∷ older) (before ++ first) second last level t at w z h i us
       (Gives (AtIndex array (int_wrap w32 (index +ℤ n))) z)
       (kept-below (local_variables S.function) level (suc level) h i (omega arith) keeps) seen goes
-      (sum-follows S site older t level ((before ++ first) ++ second) z i (keeps.function ∙ there.function) shows room-last
+      (sum-follows S site older t level ((before ++ first) ++ second) z i (keeps.function ∙ there.function) shows
+      room-last
       array index x still is y n at_y (two-spots S a run t (if_stays b.simple a.stands) from la of level)
       (operand-placed S b run' u true lb of' (suc level)) (kept_if (stays && b.simple) a.stands)
       (stand-back S (before ++ first) second last stands)))
@@ -418,7 +431,8 @@ index-settled S a b run t lowers of = record {
 pub indexes-assigned : IndexesAreAssigned
 indexes-assigned S site a b t la of u lb of' value w lv of'' =
     subst (λ (p : ValueType). Lowers S (assigned_element (context_of S) t
-    (element_of (context_of S) t p (part_of (context_of S) a) (part_of (context_of S) b)) (part_of (context_of S) value))
+    (element_of (context_of S) t p (part_of (context_of S) a) (part_of (context_of S) b)) (part_of (context_of S)
+    value))
     (assigned t (locate S.calls (Element t a b)) (evaluate S.calls value))) (sym of)
     (elements-assigned S site t
     (element_of (context_of S) t (Pointer t) (part_of (context_of S) a) (part_of (context_of S) b))

@@ -1,14 +1,14 @@
 -- Arrays that a function names: their names are the same on both sides, and they become zero on both.
-use Rattle.std.proofs.Common.{◌≡◌, ◌≢◌, ℕ, suc, Bool, true, ℤ, pos, List, [], ◌∷◌, length, map, Option, Some, None}
+use Rattle.std.proofs.Common.{◌≡◌, ◌≢◌, ℕ, suc, Bool, ℤ, pos, List, ◌∷◌, length, Option, Some, None}
 use Rattle.std.proofs.Common.{refl, sym, ap, ◌∙◌, subst, eq-eqb}
 use Rattle.std.proofs.lemmas.List.{length-replicate}
-use Rattle.std.specs.Prelude.{slice_get, replicate, IsSomeAnd, if◌then◌else◌, ◌==◌, option_map}
-use Rattle.pcc_base.specs.Outcome.{ArrayName, Null, Static, InFrame}
+use Rattle.std.specs.Prelude.{slice_get, replicate, IsSomeAnd, if◌then◌else◌, option_map}
+use Rattle.pcc_base.specs.Outcome.{ArrayName, Null, InFrame}
 use Rattle.c_tree.specs.declared.expression.ArrayRef.{ArrayRef}
 use Rattle.c_tree.specs.declared.expression.ArrayRef.TheVariants as refs
 use Rattle.c_tree.specs.declared.types.IntegerType.{IntegerType}
 use Rattle.c_tree.specs.Evaluation.{own_array, zeroed}
-use Rattle.c_tree.specs.Program.{Function, LocalArray, Program}
+use Rattle.c_tree.specs.Program.{Function, Program}
 use Rattle.c_tree.specs.Sizes.{bytes_of}
 use Rattle.c_tree.specs.Store as source
 use Rattle.c_tree.specs.Store.{array_named, array_of}
@@ -21,7 +21,7 @@ use Rattle.lower_lines.specs.Relation.{IsArrayOf, Shows, function_of_depth}
 use Rattle.lower_relation.proofs.Arrays.{arrays-set, arrays-there, as-many}
 use Rattle.lower_relation.proofs.Depths.{length-mapped}
 use Rattle.lower_relation.proofs.Locals.{same-some}
-use Rattle.lower_places.specs.Laws.{ArraysAreCleared, NamesAreAlike, named}
+use Rattle.lower_places.specs.Laws.{ArraysAreCleared, NamesAreAlike}
 
 depths-same : (p : Program) (active : List Function) (s : source.State) (g : graph.State) → Shows p active s g
     → length s.active ≡ depth_of g

@@ -88,7 +88,8 @@ read-fits S site older t before xs block level wanted spot s u g h us array inde
           (trap-ends S (S.function ∷ older) u h (before ++ xs) shows
           (load-trapped S site older t (before ++ xs) u h fits shows array index spot holds is d there
           (stand-front S (before ++ xs) (Emit (op.Load (bits_of t) d spot.array spot.number) ∷ [])
-          (tested (context_of S) block level wanted (Integer t)) (stand-back S before xs (loading S t block level wanted spot) stands)))),
+          (tested (context_of S) block level wanted (Integer t)) (stand-back S before xs (loading S t block level
+          wanted spot) stands)))),
       tt,
     )
 read-fits S site older t before xs block level wanted spot s u g h us array index (Some n) there stands room may b shows
@@ -133,7 +134,8 @@ elements-read S site t a run follows one =
 
 -- a pointer in its own temporaries
 own-pointer : (S : Site) (active : List Function) (before lines : List Line) (level : ℕ) (t : IntegerType)
-    (s : source.State) (g : graph.State) (r : Evaluated Held) → Follows S active before lines level Own (Pointer t) s g r
+    (s : source.State) (g : graph.State) (r : Evaluated Held) → Follows S active before lines level Own (Pointer t) s
+    g r
     → GivesOf S.program active (Pointer t) r
     → FollowsPlace S active before lines level t (own (context_of S) level) s g
     (and_then r (λ v u. Gives (evaluation.target_of v) u))
@@ -207,7 +209,8 @@ targets-follow S site e t lowers of active stays block level before s g stands r
     begins.youngest
     (λ older b. standing-pointer S older (part_of (context_of S) e) (evaluate S.calls e) t
     (if_stays stays (part_of (context_of S) e).stands)
-    (λ p is. some-if stays (part_of (context_of S) e).stands p is) lowers of block level before s g stands room b) begins
+    (λ p is. some-if stays (part_of (context_of S) e).stands p is) lowers of block level before s g stands room b)
+    begins
 
 pub targets-read : TargetsAreRead
 targets-read S site e t lowers of =
@@ -224,7 +227,8 @@ one-element : (xss : List (List ℤ)) (os : List StaticObject) (k : ℕ) (o : St
 one-element xss [] k o e is one = absurd (cc)
 one-element [] (x ∷ os) k o e is one = absurd (cc)
 one-element ([] ∷ xss) (x ∷ os) zero o e is one =
-    let same : length x.elements ≡ length o.elements = ap (λ (y : StaticObject). length y.elements) (same-some x o is) in
+    let same : length x.elements ≡ length o.elements = ap (λ (y : StaticObject). length y.elements) (same-some x o is)
+    in
     absurd (no-length (length x.elements) (map (λ (xs : List ℤ). length xs) xss)
     (map (λ (y : StaticObject). length y.elements) os) e (same ∙ one))
   where

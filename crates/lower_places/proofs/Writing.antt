@@ -101,7 +101,8 @@ module _ (S : Site) (site : IsSite S) (older : List Function) (level x : ℕ) (n
     tt,
   )
   converted-fits w block Own stands may =
-      made-fits w block Own (converting (context_of S) level w (own (context_of S) level).number x) (append-nil _) stands
+      made-fits w block Own (converting (context_of S) level w (own (context_of S) level).number x) (append-nil _)
+      stands
       may
   converted-fits w block (ToLocal j) stands may =
       made-fits w block (ToLocal j) (converting (context_of S) level w (local_spot (context_of S) j).number x)
@@ -154,7 +155,8 @@ module _ (S : Site) (site : IsSite S) (older : List Function) (t : IntegerType) 
             (visits-same array others u ∙ sym (append-nil u.visits))
             (λ o r. element-stores S site older t before u h fits shows array index spot holds is n old x o there at_x
             (stand-front S before (saving ∷ []) value stands)
-            (subst (λ (k : ℕ). Comes S k (behind (before ++ saving ∷ []) later) o) (turns-same array others u) r)) rest.0,
+            (subst (λ (k : ℕ). Comes S k (behind (before ++ saving ∷ []) later) o) (turns-same array others u) r))
+            rest.0,
         tt,
       )
 
@@ -209,10 +211,13 @@ module _ (S : Site) (site : IsSite S) (older : List Function) (k : ℕ) (o : Sta
       (put-keeps.function ∙ begins.function) put-shows room at_x o.element block wanted
       (stand-back S before (putting ∷ []) behind_put stands) may in
       subst (λ (m : Option ℤ). Fits S (S.function ∷ older) before (putting ∷ behind_put) level wanted
-      (Integer o.element) u h (element_written (Static k) (pos 0) (HoldsNumber (converted o.element n)) u m)) (sym there) (
-        follows-behind S (S.function ∷ older) before (putting ∷ []) behind_put level wanted (Integer o.element) u changed
+      (Integer o.element) u h (element_written (Static k) (pos 0) (HoldsNumber (converted o.element n)) u m)) (sym
+      there) (
+        follows-behind S (S.function ∷ older) before (putting ∷ []) behind_put level wanted (Integer o.element) u
+            changed
             h put [] (Gives (HoldsNumber (converted o.element n)) changed) put-keeps (sym (append-nil u.visits))
-            (λ outcome r. put-step S site before h begins.function (bits_of o.element) k x u.turns n old elements outcome
+            (λ outcome r. put-step S site before h begins.function (bits_of o.element) k x u.turns n old elements
+            outcome
             (stand-front S before (putting ∷ []) behind_put stands) at_x
             (λ go. arrays-reached S.program (S.function ∷ older) u (behind before h) o.element (Static k)
             (turns-free S.program (S.function ∷ older) u h u.turns u.visits (open_after 0 before)
@@ -233,7 +238,8 @@ objects-assigned S site k o e one value w lowers of =
     (λ v t. store (InObject k) (source.in_type (Integer o.element) v) t) b (turns-fall S site value s)
     (number-operand S older a (evaluate S.calls value) w lowers of block level before s g
     (stand-front S before ((operand (context_of S) true a).lines block level) _ stands) room b)
-    (λ n t h at begins. put-fits S site older k o e one (before ++ (operand (context_of S) true a).lines block level) t h
+    (λ n t h at begins. put-fits S site older k o e one (before ++ (operand (context_of S) true a).lines block level)
+    t h
     begins level ((operand (context_of S) true a).spot level).number n at
     (deeper level a.levels (levels_of S.function) room (levels-one (context_of S) value))
     (block + (operand (context_of S) true a).blocks) wanted may

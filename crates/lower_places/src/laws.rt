@@ -30,7 +30,8 @@ pub fn objects_are_assigned()
     ensures { ObjectsAreAssigned }
 {}
 
-/// The lines that assign a number to an element do what the source does, where those of its address and of the value do.
+/// The lines that assign a number to an element do what the source does, where those of its address and of the value
+/// do.
 pub fn elements_are_assigned()
     ensures { ElementsAreAssigned }
 {}

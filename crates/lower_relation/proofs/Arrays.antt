@@ -282,5 +282,6 @@ pub kept-by-arrays : KeptByArrays
 kept-by-arrays first level g Null elements = kept-all first level g g refl refl
 kept-by-arrays first level g (Static k) elements =
     kept-all first level g (graph.with_array (Static k) elements g) refl refl
-kept-by-arrays first level g (InFrame k depth) elements = frame-keeps first level g k depth elements (depth == depth_of g)
+kept-by-arrays first level g (InFrame k depth) elements = frame-keeps first level g k depth elements (depth ==
+    depth_of g)
 kept-by-arrays first level g Unknown elements = kept-all first level g g refl refl
