@@ -4,3 +4,4 @@ pub mod Writing
 pub mod Assigning
 pub mod Indexing
 pub mod Naming
+pub mod Addresses

@@ -8,7 +8,8 @@ use Rattle.c_tree.specs.declared.expression.ArrayRef.TheVariants as refs
 use Rattle.c_tree.specs.declared.types.IntegerType.{IntegerType}
 use Rattle.c_tree.specs.declared.types.ValueType.TheVariants.{Integer, Pointer}
 use Rattle.c_tree.specs.Evaluation.{Found, evaluate, load, locate, own_array, store, zeroed}
-use Rattle.c_tree.specs.Program.{Assign, Element, Expression, Function, Program, Read, StaticObject, StaticPlace}
+use Rattle.c_tree.specs.Program.{Address, Assign, Element, Expression, Function, Program, Read, StaticObject}
+use Rattle.c_tree.specs.Program.{StaticPlace}
 use Rattle.c_tree.specs.Program.{Target}
 use Rattle.c_tree.specs.Store as source
 use Rattle.c_tree.specs.Store.{Evaluated, Held, and_then, array_named, array_of, in_type}
@@ -146,3 +147,9 @@ ArraysAreCleared = (p : Program) (f : Function) (older : List Function) (s : sou
     → (slice_get g.current.arrays k ≡ Some (array_named s (own_array s k)))
     × Shows p (f ∷ older) (source.with_array (own_array s k) (zeroed (array_named s (own_array s k))) s)
     (graph.with_array (InFrame k (depth_of g)) (replicate (length (array_named s (own_array s k))) (pos 0)) g)
+
+-- the address of what a pointer goes to, as a value
+abbrev pub TargetsAreAddressed : Type 0
+TargetsAreAddressed = (S : Site) → IsSite S → (e : Expression) (t : IntegerType)
+    → Lowers S (part_of (context_of S) e) (evaluate S.calls e) → (part_of (context_of S) e).of ≡ Pointer t
+    → Lowers S (part_of (context_of S) (Address t (Target t e))) (evaluate S.calls (Address t (Target t e)))

@@ -3,6 +3,7 @@
 ghost use Rattle.lower_places.specs.Laws.{ArraysAreCleared, ElementsAreAssigned, ElementsAreRead};
 ghost use Rattle.lower_places.specs.Laws.{IndexesAreAssigned, IndexesAreRead, IndexesFollow};
 ghost use Rattle.lower_places.specs.Laws.{NamesAreAlike, ObjectsAreAssigned, ObjectsAreRead};
+ghost use Rattle.lower_places.specs.Laws.{TargetsAreAddressed};
 ghost use Rattle.lower_places.specs.Laws.{TargetsAreAssigned, TargetsAreRead, TargetsFollow};
 
 /// The lines that read an element do what the source does, where those of its address do.
@@ -64,4 +65,9 @@ pub fn names_are_alike()
 /// An array of the youngest call becomes zero on both sides.
 pub fn arrays_are_cleared()
     ensures { ArraysAreCleared }
+{}
+
+/// The lines of `&*p` do what the source does, where those of the pointer do.
+pub fn targets_are_addressed()
+    ensures { TargetsAreAddressed }
 {}
