@@ -94,7 +94,8 @@ module _ (front : Checked (List Expression)) (c : Checked Expression) (values : 
     (part : Judged Operand) where
   grown_behind : (before between after : List Note) → IsSaid AreTrees front values before between
       → IsSaid IsOperandOf c part between after → IsGrown (one_behind front c) before after
-  grown_behind before between after x y = grown_row (λ p. fits (p.0 ++ p.1 ∷ [])) (pair front c) before after (λ p. refl)
+  grown_behind before between after x y = grown_row (λ p. fits (p.0 ++ p.1 ∷ [])) (pair front c) before after
+      (λ p. refl)
       (grown_pair front c before between after x.1 y.1)
 
   pub behind_fails : (f : Fault) (before between after : List Note) → IsSaid AreTrees front values before between

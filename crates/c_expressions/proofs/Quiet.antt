@@ -15,11 +15,13 @@ use Rattle.c_tree.specs.declared.expression.UnaryOp.TheVariants.{Not, Plus, Minu
 use Rattle.c_tree.specs.declared.types.IntegerType.TheVariants.{Int}
 use Rattle.c_tree.specs.declared.types.ValueType.{ValueType}
 use Rattle.c_tree.specs.declared.types.ValueType.TheVariants.{Void, Integer, Pointer}
-use Rattle.c_tree.specs.Program.{value_type, Expression, Place, LocalPlace, StaticPlace, Target, Element, Unary, Cast, And}
+use Rattle.c_tree.specs.Program.{value_type, Expression, Place, LocalPlace, StaticPlace, Target, Element, Unary, Cast}
+use Rattle.c_tree.specs.Program.{And}
 use Rattle.c_tree.specs.Program.{Or, Assign, Update, Conditional, Binary}
 use Rattle.c_typing.specs.Checked.{Checked, fits}
 use Rattle.c_typing.specs.Constants.{is_null}
-use Rattle.c_typing.specs.Rows.{misfit, row_at, types_of, is_scalar, can_assign, can_cast, of_sum, of_choice, of_numbers}
+use Rattle.c_typing.specs.Rows.{misfit, row_at, types_of, is_scalar, can_assign, can_cast, of_sum, of_choice}
+use Rattle.c_typing.specs.Rows.{of_numbers}
 use Rattle.c_typing.specs.Rows.{of_difference, of_order, of_equality, of_conditions, operated, compared, joined}
 use Rattle.c_typing.specs.Rows.{on_number, dereferenced, address_row, unary_row, step_row, cast_row}
 use Rattle.c_typing.specs.Rows.{binary_row, element_of, index_row, conditional_row, assign_row, updated, update_row}
@@ -36,7 +38,8 @@ quiet_row_at at types None tree = tt
 quiet_row_at at types (Some of) tree = refl
 
 pub quiet_assigned : (to : ValueType) (at : Span) (e : Expression) → IsQuiet (assigned to at e)
-quiet_assigned to at e = quiet_if (can_assign to (value_type e) (is_null e)) (fits e) (misfit at (to ∷ value_type e ∷ []))
+quiet_assigned to at e = quiet_if (can_assign to (value_type e) (is_null e)) (fits e)
+    (misfit at (to ∷ value_type e ∷ []))
     refl tt
 
 quiet_on_number : (op : UnaryOp) (at : Span) (of : ValueType) (e : Expression) → IsQuiet (on_number op at of e)

@@ -1,5 +1,6 @@
 -- The types that casts name.
-use Rattle.std.proofs.Common.{◌≡◌, refl, sym, ap, ◌∙◌, subst, true≢false, Bool, true, false, List, [], ◌∷◌, Option, Some}
+use Rattle.std.proofs.Common.{◌≡◌, refl, sym, ap, ◌∙◌, subst, true≢false, Bool, true, false, List, [], ◌∷◌, Option}
+use Rattle.std.proofs.Common.{Some}
 use Rattle.std.proofs.Common.{None, filter_map, option_map, if◌then◌else◌}
 use Rattle.std.specs.List.{list_any}
 use Rattle.pcc_base.specs.declared.span.Span.{Span}

@@ -1,8 +1,8 @@
 //! The typed tree of an expression where names are seen, or the least of its faults (C99 6.5).
 //!
-//! In: the raw tree of an expression, and what is known at its place. Out: the typed tree with what it is as a constant,
-//! or the fault that is answered; what a tree that fits says beside (`Note`) is put behind a list. `specs/Said.antt` says
-//! when that is what `c_typing` has. The only refusal is want of memory.
+//! In: parts of a raw expression, and what is known at their place. Out: the typed tree with what it is as a constant,
+//! or the fault that is answered; what a tree that fits says beside (`Note`) is put behind a list. `specs/Said.antt`
+//! says when that is what `c_typing` has. The only refusal is want of memory.
 #![tactic(auto)]
 
 mod arguments;

@@ -54,8 +54,8 @@ pub fn not_all_are_there()
     ensures { NotAllAreThere }
 {}
 
-/// The graph of a typed program's function has at most 20 points for each token of the function, and no more blocks than
-/// points.
+/// The graph of a typed program's function has at most 20 points for each token of the function, and no more blocks
+/// than points.
 pub fn points_are_few()
     ensures { PointsAreFew }
 {}
