@@ -261,7 +261,7 @@ as-passed_int Void x h = absurd h
 as-passed_int (Integer t) x h = refl
 as-passed_int (Pointer t) x h = absurd h
 
-all-passed_int : (c : Context) (ls : List Local) (parts : List Part) → All (λ l. IsInteger l.of) ls
+pub all-passed_int : (c : Context) (ls : List Local) (parts : List Part) → All (λ l. IsInteger l.of) ls
     → all_passed c ls parts ≡ parts
 all-passed_int c [] parts h = refl
 all-passed_int c (l ∷ ls) [] h = refl
@@ -302,15 +302,15 @@ numbers-pass S site ls ints arguments are =
       follows = λ active block level before s g stands room begins.
           with-older S.function active (λ calls. Begins S calls s g
           → FollowsAll S ls calls before (arguments_lines (context_of S) (parts_of (context_of S) arguments) block
-              level)
+          level)
           level (map (λ a. a.of) (parts_of (context_of S) arguments))
           (arguments_words (context_of S) (parts_of (context_of S) arguments) level) s g (evaluate_all S.calls
-              arguments s))
+          arguments s))
           begins.youngest
           (λ older b. given-all S ls ints (S.function ∷ older) before
           (arguments_lines (context_of S) (parts_of (context_of S) arguments) block level) level
           (map (λ a. a.of) (parts_of (context_of S) arguments))
           (arguments_words (context_of S) (parts_of (context_of S) arguments) level) s g (evaluate_all S.calls
-              arguments s)
+          arguments s)
           ((pass-all S site arguments are).follows older block level before s g stands room b)) begins;
     })

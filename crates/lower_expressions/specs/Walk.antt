@@ -4,9 +4,11 @@ use Rattle.c_tree.specs.Program.{Expression}
 use Rattle.c_tree.specs.WellTyped.{IsTyped}
 use Rattle.lower_expressions.specs.Numeric.{IsNumeric}
 use Rattle.lower_lines.specs.Expressions.{part_of}
-use Rattle.lower_lines.specs.Following.{IsSite, Lowers, Site, context_of}
+use Rattle.lower_lines.specs.Following.{CallsFollow, IsSite, Lowers, Site, context_of}
 
--- A typed expression of numbers does what the source does: a part of `ExpressionsLower` of `lower_lines`.
+-- Where calls follow, a typed expression of numbers does what the source does: a part of `ExpressionsLower` of
+-- `lower_lines`.
 abbrev pub NumbersLower : Type 0
-NumbersLower = (S : Site) → IsSite S → (e : Expression) → IsTyped S.program S.function e → IsNumeric S.calls e
+NumbersLower = (S : Site) → IsSite S → CallsFollow S → (e : Expression) → IsTyped S.program S.function e
+    → IsNumeric S.program S.calls e
     → Lowers S (part_of (context_of S) e) (evaluate S.calls e)

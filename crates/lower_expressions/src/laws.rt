@@ -116,7 +116,7 @@ pub fn pluses_lower()
     ensures { PlusesLower }
 {}
 
-/// The lines of every typed expression of numbers do what the source does (`specs/Numeric.antt`).
+/// The lines of every typed expression of numbers do what the source does, where calls follow (`specs/Numeric.antt`).
 pub fn numbers_lower()
     ensures { NumbersLower }
 {}
