@@ -56,7 +56,7 @@ pub fn unary_number(op: UnaryOp, n: i32) -> i32
 
 /// What an operator gives of two numbers, or its trap (C99 6.5.5 to 6.5.12). Sums, differences, products and shifts
 /// wrap at 32 bits, and a shift count is taken modulo 32.
-#[tactic(auto, using(std::proofs::lemmas::Int::wraps, crate::proofs::Narrow::shifted_left))]
+#[tactic(auto, using(std::proofs::lemmas::Int::wraps, crate::proofs::Narrow::shifted_left, crate::proofs::Narrow::same_count))]
 pub fn binary_number(op: BinaryOp, a: i32, b: i32) -> Result<i32, Trap>
     ensures { computed_of result ≡ numbers_value op a b }
 {

@@ -1,7 +1,7 @@
 -- What the operators give (C99 6.5.3 to 6.5.16). Sums, differences, products and negations wrap at 32 bits.
 use Rattle.std.specs.Prelude.{ℕ, ◌/◌, ◌%◌, ◌^◌, ◌==◌, Bool, true, false, ◌&&◌, not, ℤ, pos, negsuc, ◌+ℤ◌, ◌-ℤ◌, ◌*ℤ◌}
-use Rattle.std.specs.Prelude.{neg_ℤ, int_lt, int_div, int_rem, if◌then◌else◌}
-use Rattle.std.specs.Int.{w32, int_wrap, int_bit_and, int_bit_or, int_bit_xor, int_bit_not, cast_unsigned}
+use Rattle.std.specs.Prelude.{◌-◌, neg_ℤ, int_lt, int_div, int_rem, if◌then◌else◌}
+use Rattle.std.specs.Int.{w32, int_wrap, int_bit_and, int_bit_or, int_bit_xor, int_bit_not}
 use Rattle.std.specs.Ordering.{int_eq}
 use Rattle.pcc_base.specs.Outcome.{ArrayName, Null, Static, InFrame, Unknown}
 use Rattle.pcc_base.specs.declared.run.Trap.{Trap}
@@ -71,9 +71,10 @@ quotient a b = if no_quotient a b then Traps Divide else number (int_div a b)
 abbrev pub remainder : ℤ → ℤ → Computed
 remainder a b = if no_quotient a b then Traps Divide else number (int_rem a b)
 
--- a shift count is taken modulo 32
+-- a shift count is taken modulo 32: the remainder that is not negative
 abbrev pub shift_count : ℤ → ℕ
-shift_count n = cast_unsigned w32 n % 32
+shift_count (pos n) = n % 32
+shift_count (negsuc n) = 31 - n % 32
 
 -- `>>` is arithmetic: it rounds down
 abbrev pub shifted_right : ℤ → ℕ → ℤ

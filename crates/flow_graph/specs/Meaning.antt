@@ -1,7 +1,7 @@
 -- What each op does: one step from a state.
 use Rattle.std.specs.Prelude.{ℕ, ◌+◌, ◌/◌, ◌%◌, ◌^◌, ◌==◌, Bool, true, false, ◌&&◌, not, ℤ, pos, negsuc, ◌+ℤ◌, ◌-ℤ◌}
 use Rattle.std.specs.Prelude.{◌*ℤ◌, neg_ℤ, int_lt, int_div, int_rem, List, [], ◌∷◌, ◌++◌, length, replicate, slice_get}
-use Rattle.std.specs.Prelude.{Option, Some, None, nat_le, if◌then◌else◌}
+use Rattle.std.specs.Prelude.{Option, Some, None, ◌-◌, nat_le, if◌then◌else◌}
 use Rattle.std.specs.Int.{w8, w16, w32, int_wrap, int_bit_and, int_bit_or, int_bit_xor, int_bit_not, cast_unsigned}
 use Rattle.std.specs.Ordering.{int_eq}
 use Rattle.pcc_base.specs.Outcome.{End, Ended, Trapped, ArrayName, Null, Static, InFrame, Unknown, Value, Number, Array}
@@ -55,9 +55,10 @@ two_numbers program s d a b f = given (number_at s a)
 
 -- ---- arithmetic
 
--- a count is taken modulo 32
+-- a count is taken modulo 32: the remainder that is not negative
 abbrev pub shift_count : ℤ → ℕ
-shift_count n = cast_unsigned w32 n % 32
+shift_count (pos n) = n % 32
+shift_count (negsuc n) = 31 - n % 32
 
 -- an arithmetic shift to the right rounds down
 abbrev pub shifted_right : ℤ → ℕ → ℤ

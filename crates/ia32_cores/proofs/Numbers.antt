@@ -28,6 +28,10 @@ same-count : (n : ℤ) → FitsSigned w8 n → shift_count n ≡ cast_unsigned w
 same-count (pos a) h = omega (arith, ints)
 same-count (negsuc a) h = omega (arith, ints)
 
+count-below : (n : ℤ) → shift_count n < 32
+count-below (pos a) = omega arith
+count-below (negsuc a) = omega arith
+
 -- a number without sign, wrapped
 wrapped-pos : (k : ℕ) → k < 2 ^ 32 → int_wrap w32 (pos k) ≡ cast_signed w32 k
 unfolding int_wrap
@@ -46,7 +50,7 @@ shifted-left x k f h =
 
 pub left-shift-is : LeftShiftIs
 left-shift-is x n f g =
-    shifted-left x (2 ^ shift_count n) f (pow_below (shift_count n) 32 (mod-lt (cast_unsigned w32 n) (omega arith)))
+    shifted-left x (2 ^ shift_count n) f (pow_below (shift_count n) 32 (count-below n))
     ∙ ap (λ (k : ℕ). cast_unsigned w32 x * 2 ^ k % 2 ^ 32) (same-count n g)
 
 -- an arithmetic shift rounds down
