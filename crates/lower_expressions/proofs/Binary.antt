@@ -44,7 +44,7 @@ use Rattle.lower_expressions.proofs.Pairs.{BothStand, Falls, IsPlaced, SecondSta
 use Rattle.lower_expressions.proofs.Pairs.{operand-placed, second_lines}
 use Rattle.lower_expressions.proofs.Unary.{follows-behind}
 use Rattle.lower_expressions.proofs.Working.{Works, comparison-is, computing-works}
-use Rattle.lower_expressions.specs.Laws.{BinariesLower, GivesCount, IsCount, IsShift}
+use Rattle.lower_expressions.specs.Laws.{BinariesLower}
 
 -- ---- what works follows
 
@@ -153,7 +153,7 @@ module _ (S : Site) (site : IsSite S) (older : List Function) (level x y : ℕ) 
     (t : source.State) (g : graph.State) (fits : g.current.function ≡ S.number)
     (shows : Shows S.program (S.function ∷ older) t g) (room : level < levels_of S.function)
     (at_x : number_at g x ≡ Some m) (at_y : number_at g y ≡ Some n) (px : IsPlaced S level x)
-    (py : IsPlaced S (suc level) y) (operator : BinaryOp) (counts : IsShift operator → IsCount n) where
+    (py : IsPlaced S (suc level) y) (operator : BinaryOp) where
   otherwise-follows : (block : ℕ) (wanted : Wanted)
       → Stand S before (made (context_of S) block level wanted int
       (λ to. computing (context_of S) level operator to.number x y)) → MayWant S wanted int
@@ -163,7 +163,7 @@ module _ (S : Site) (site : IsSite S) (older : List Function) (level x y : ℕ) 
   otherwise-follows block wanted stands may =
       works-follow S site older level (λ to. computing (context_of S) level operator to x y) before t g
       (numbers_value operator m n) block wanted Int room shows fits
-      (computing-works S site older level x y m n before t g fits shows room at_x at_y px py operator counts) stands may
+      (computing-works S site older level x y m n before t g fits shows room at_x at_y px py operator) stands may
 
   by-comparison : (how : Option Comparison) → comparison_of operator ≡ how → (block : ℕ) (wanted : Wanted)
       → Stand S before (branching how wanted (made (context_of S) block level wanted int
@@ -188,10 +188,6 @@ module _ (S : Site) (site : IsSite S) (older : List Function) (level x y : ℕ) 
   numbers-follow block wanted stands may = by-comparison (comparison_of operator) refl block wanted stands may
 
 -- ---- behind two operands
-
--- what an expression gives from a state is a count, where that matters
-abbrev pub Counts : BinaryOp → (source.State → Evaluated Held) → Type 0
-Counts operator run = IsShift operator → (s : source.State) → GivesCount (run s)
 
 number-typed : (S : Site) (active : List Function) (operator : BinaryOp) (m n : ℤ) (t : source.State) (c : Computed)
     → numbers_value operator m n ≡ c → GivesOf S.program active int (computed c t)
@@ -234,15 +230,12 @@ module _ (S : Site) (site : IsSite S) (older : List Function) (level x y : ℕ) 
     (room : level < levels_of S.function) (px : IsPlaced S level x) (py : IsPlaced S (suc level) y)
     (stands : Stand S before (xs ++ on_numbers (context_of S) block level wanted operator x y))
     (may : MayWant S wanted int) (own : g.current.function ≡ S.number) where
-  second-fits : (first : Held) (r : Evaluated Held) → (IsShift operator → GivesCount r)
+  second-fits : (first : Held) (r : Evaluated Held)
       → SecondStands S (S.function ∷ older) before xs level x y first s g r
       → Fits S (S.function ∷ older) before (xs ++ on_numbers (context_of S) block level wanted operator x y) level
       wanted int s g (and_then r (λ second u. computed (binary_value operator first second) u))
-  second-fits first (Ends end u) counts ends = (ends, tt)
-  second-fits first (Gives second u) counts (h, us, m, n, is, is', shows, keeps, seen, at_x, at_y, goes) =
-      let count : IsShift operator → IsCount n = λ shifts. subst (λ (v : Held). GivesCount (Gives v u)) is'
-      (counts shifts)
-      in
+  second-fits first (Ends end u) ends = (ends, tt)
+  second-fits first (Gives second u) (h, us, m, n, is, is', shows, keeps, seen, at_x, at_y, goes) =
       subst (λ (v : Held). Fits S (S.function ∷ older) before
       (xs ++ on_numbers (context_of S) block level wanted operator x y) level wanted int s g
       (computed (binary_value operator v second) u)) (sym is)
@@ -253,18 +246,18 @@ module _ (S : Site) (site : IsSite S) (older : List Function) (level x y : ℕ) 
             (on_numbers (context_of S) block level wanted operator x y) level wanted int s u g h us
             (computed (numbers_value operator m n) u) keeps seen goes
             (numbers-follow S site older level x y m n (before ++ xs) u h (keeps.function ∙ own) shows room at_x at_y px
-            py operator count block wanted
+            py operator block wanted
             (stand-back S before xs (on_numbers (context_of S) block level wanted operator x y) stands) may),
         number-typed S (S.function ∷ older) operator m n u (numbers_value operator m n) refl,
       ))
 
-  both-fit : (run : source.State → Evaluated Held) (r : Evaluated Held) → Counts operator run
+  both-fit : (run : source.State → Evaluated Held) (r : Evaluated Held)
       → BothStand S (S.function ∷ older) before xs level x y s g r run
       → Fits S (S.function ∷ older) before (xs ++ on_numbers (context_of S) block level wanted operator x y) level
       wanted int s g
       (and_then r (λ first t. and_then (run t) (λ second u. computed (binary_value operator first second) u)))
-  both-fit run (Ends end t) counts ends = (ends, tt)
-  both-fit run (Gives first t) counts both = second-fits first (run t) (λ shifts. counts shifts t) both
+  both-fit run (Ends end t) ends = (ends, tt)
+  both-fit run (Gives first t) both = second-fits first (run t) both
 
 -- ---- parts
 
@@ -310,14 +303,14 @@ binary_lines S operator a b p q block level wanted =
 
 pub binary-fits : (S : Site) (site : IsSite S) (older : List Function) (operator : BinaryOp) (a b : Part)
     (run run' : source.State → Evaluated Held) (t u : IntegerType) → Lowers S a run → a.of ≡ Integer t
-    → Lowers S b run' → b.of ≡ Integer u → Falls run → Counts operator run' → (block level : ℕ) (wanted : Wanted)
+    → Lowers S b run' → b.of ≡ Integer u → Falls run → (block level : ℕ) (wanted : Wanted)
     (before : List Line) (s : source.State) (g : graph.State)
     → Stand S before (binary_lines S operator a b a.of b.of block level wanted)
     → level + max a.levels (suc b.levels) ≤ levels_of S.function → MayWant S wanted int
     → Begins S (S.function ∷ older) s g
     → Fits S (S.function ∷ older) before (binary_lines S operator a b a.of b.of block level wanted) level wanted int s g
     (after_both operator run run' s)
-binary-fits S site older operator a b run run' t u la of lb of' falls counts block level wanted before s g stands room
+binary-fits S site older operator a b run run' t u la of lb of' falls block level wanted before s g stands room
     may begins =
     subst (λ (p : ValueType). Fits S (S.function ∷ older) before (binary_lines S operator a b p b.of block level wanted)
     level wanted int s g (after_both operator run run' s)) (sym of)
@@ -331,7 +324,7 @@ binary-fits S site older operator a b run run' t u la of lb of' falls counts blo
     ((operand (context_of S) true b).spot (suc level)).number before
     (first_lines S a b block level ++ second_lines S a b block level) behind_both wanted operator s g deeper
     (operand-placed S a run t b.simple la of level) (operand-placed S b run' u true lb of' (suc level)) both may
-    begins.function run' (run s) counts
+    begins.function run' (run s)
     (both-operands S older a b run run' t u la of lb of' falls block level before s g
     (stand-front S before (first_lines S a b block level ++ second_lines S a b block level) last both) room begins))))
   where
@@ -359,15 +352,15 @@ turns-fall S site e s = ((trees_keep S.bound S.calls site.keeps).expressions e s
 
 pub binary-lowers : (S : Site) (site : IsSite S) (operator : BinaryOp) (a b : Part)
     (run run' : source.State → Evaluated Held) (t u : IntegerType) → Lowers S a run → a.of ≡ Integer t
-    → Lowers S b run' → b.of ≡ Integer u → Falls run → Counts operator run'
+    → Lowers S b run' → b.of ≡ Integer u → Falls run
     → Lowers S (binary_part (context_of S) int operator a b) (after_both operator run run')
-binary-lowers S site operator a b run run' t u la of lb of' falls counts =
+binary-lowers S site operator a b run run' t u la of lb of' falls =
     compound-lowers S (binary_part (context_of S) int operator a b) (after_both operator run run') refl refl
     (λ older block level wanted before s g stands room may begins.
-    binary-fits S site older operator a b run run' t u la of lb of' falls counts block level wanted before s g stands
+    binary-fits S site older operator a b run run' t u la of lb of' falls block level wanted before s g stands
     room may begins)
 
 pub binaries-lower : BinariesLower
-binaries-lower S site operator a b t u la of lb of' counts =
+binaries-lower S site operator a b t u la of lb of' =
     binary-lowers S site operator (part_of (context_of S) a) (part_of (context_of S) b) (evaluate S.calls a)
-    (evaluate S.calls b) t u la of lb of' (turns-fall S site a) counts
+    (evaluate S.calls b) t u la of lb of' (turns-fall S site a)

@@ -41,7 +41,7 @@ use Rattle.lower_relation.proofs.Locals.{get-set_other, get-set_same}
 use Rattle.lower_steps.proofs.Steps.{branch-step, const-step}
 use Rattle.lower_expressions.proofs.Assigning.{assigned-lowers, assigning, local-lowers, local-of}
 use Rattle.lower_expressions.proofs.Atoms.{constants-lower}
-use Rattle.lower_expressions.proofs.Binary.{Counts, Fits, after_both, binary-lowers, compound-lowers, turns-fall}
+use Rattle.lower_expressions.proofs.Binary.{Fits, after_both, binary-lowers, compound-lowers, turns-fall}
 use Rattle.lower_expressions.proofs.Converting.{lowers-fit}
 use Rattle.lower_expressions.proofs.Going.{stand-back, stand-front}
 use Rattle.lower_expressions.proofs.Levels.{max-behind}
@@ -53,7 +53,7 @@ use Rattle.lower_expressions.proofs.Reading.{copied-goes}
 use Rattle.lower_expressions.proofs.Unary.{follows-behind}
 use Rattle.lower_expressions.proofs.Widths.{temporary-width}
 use Rattle.lower_expressions.proofs.Working.{apart-scratch, comparison-is, value-number}
-use Rattle.lower_expressions.specs.Laws.{IsShift, StepsLower, UpdatesLower}
+use Rattle.lower_expressions.specs.Laws.{StepsLower, UpdatesLower}
 
 -- lines that do what one evaluation does do what the same one does
 pub lowers-same : (S : Site) (a : Part) (run run' : source.State → Evaluated Held)
@@ -94,10 +94,10 @@ updating w operator k run s = and_then (run s) (updated (Integer w) operator (In
 
 pub update-lowers : (S : Site) (site : IsSite S) (operator : BinaryOp) (k : ℕ) (l : Local) (w : IntegerType)
     → slice_get S.function.locals k ≡ Some l → l.of ≡ Integer w → (a : Part) (run : source.State → Evaluated Held)
-    (u : IntegerType) → Lowers S a run → a.of ≡ Integer u → Falls run → Counts operator run
+    (u : IntegerType) → Lowers S a run → a.of ≡ Integer u → Falls run
     → Lowers S (assigned_local (context_of S) (Integer w) k
     (binary_part (context_of S) int operator (local_part (context_of S) (Integer w) k) a)) (updating w operator k run)
-update-lowers S site operator k l w e of a run u la of' falls counts =
+update-lowers S site operator k l w e of a run u la of' falls =
     let name = local_part (context_of S) (Integer w) k in
     let reads : source.State → Evaluated Held = λ s. Gives (held s k) s in
     lowers-same S _ (λ s. and_then (after_both operator reads run s) (assigning w k)) (updating w operator k run)
@@ -105,14 +105,14 @@ update-lowers S site operator k l w e of a run u la of' falls counts =
     (assigned-lowers S site k l w e of (binary_part (context_of S) int operator name a) (after_both operator reads run)
     Int
     (binary-lowers S site operator name a reads run w u (local-lowers S site k l w e of) (local-of S k w) la of'
-    (λ s. omega arith) counts) refl (max-behind name.levels a.levels)
+    (λ s. omega arith)) refl (max-behind name.levels a.levels)
     (λ s. operator-falls operator (held s k) (run s) s.turns (falls s)))
 
 pub updates-lower : UpdatesLower
-updates-lower S site operator k l w there of e u lowers of' counts =
+updates-lower S site operator k l w there of e u lowers of' =
     lowers-same S _ (updating w operator k (evaluate S.calls e)) _ (λ s. refl)
     (update-lowers S site operator k l w there of (part_of (context_of S) e) (evaluate S.calls e) u lowers of'
-    (turns-fall S site e) counts)
+    (turns-fall S site e))
 
 -- ---- a value that stands in its level's own temporaries
 
@@ -237,12 +237,6 @@ assigned-of S Char k a = refl
 assigned-of S Short k a = refl
 assigned-of S Int k a = refl
 
-never-shift : (operator : StepOp) → IsShift (step_op operator) → ⊥
-never-shift PreIncrement h = h
-never-shift PreDecrement h = h
-never-shift PostIncrement h = h
-never-shift PostDecrement h = h
-
 module _ (S : Site) (site : IsSite S) (k : ℕ) (l : Local) (w : IntegerType)
     (e : slice_get S.function.locals k ≡ Some l) (of : l.of ≡ Integer w) (operator : StepOp) where
   abbrev update : Part
@@ -258,7 +252,7 @@ module _ (S : Site) (site : IsSite S) (k : ℕ) (l : Local) (w : IntegerType)
       (λ s. refl)
       (update-lowers S site (step_op operator) k l w e of (one_part (context_of S)) (λ s. Gives (HoldsNumber
       (pos 1)) s) Int
-      one-lowers refl (λ s. omega arith) (λ shifts. absurd (never-shift operator shifts)))
+      one-lowers refl (λ s. omega arith))
 
   update-typed : update.of ≡ Integer w
   update-typed = assigned-of S w k _

@@ -39,7 +39,7 @@ use Rattle.lower_expressions.proofs.Made.{some-and}
 use Rattle.lower_expressions.proofs.Outside.{commas-lower, exits-lower, putchars-lower}
 use Rattle.lower_expressions.proofs.Stepping.{assigned-of, lowers-same, steps-lower, updates-lower}
 use Rattle.lower_expressions.proofs.Unary.{complements-lower, minuses-lower}
-use Rattle.lower_expressions.specs.Numeric.{AreNumeric, CastsNumber, HasCounts, IsNumeric}
+use Rattle.lower_expressions.specs.Numeric.{AreNumeric, CastsNumber, IsNumeric}
 use Rattle.lower_expressions.specs.Walk.{NumbersLower}
 
 -- ---- types
@@ -79,7 +79,7 @@ module _ (S : Site) (site : IsSite S) (follow : CallsFollow S) where
   unary-type of Complement e = refl
   unary-type of Not e = refl
 
-  read-type : (of : ValueType) (place : Place) → IsNumeric S.program S.calls (Read of place)
+  read-type : (of : ValueType) (place : Place) → IsNumeric S.program (Read of place)
       → (part_of (context_of S) (Read of place)).of ≡ of
   read-type Void place is = absurd is.1
   read-type (Pointer t) place is = absurd is.1
@@ -88,7 +88,7 @@ module _ (S : Site) (site : IsSite S) (follow : CallsFollow S) where
   read-type (Integer w) (Target element e) is = absurd is.0
   read-type (Integer w) (Element element a i) is = absurd is.0
 
-  assign-type : (of : ValueType) (place : Place) (e : Expression) → IsNumeric S.program S.calls (Assign of place e)
+  assign-type : (of : ValueType) (place : Place) (e : Expression) → IsNumeric S.program (Assign of place e)
       → (part_of (context_of S) (Assign of place e)).of ≡ of
   assign-type Void place e is = absurd is.1
   assign-type (Pointer t) place e is = absurd is.1
@@ -98,7 +98,7 @@ module _ (S : Site) (site : IsSite S) (follow : CallsFollow S) where
   assign-type (Integer w) (Element element a i) e is = absurd is.0
 
   update-type : (of : ValueType) (op : BinaryOp) (place : Place) (e : Expression)
-      → IsNumeric S.program S.calls (Update of op place e) → (part_of (context_of S) (Update of op place e)).of ≡ of
+      → IsNumeric S.program (Update of op place e) → (part_of (context_of S) (Update of op place e)).of ≡ of
   update-type Void op place e is = absurd is.1
   update-type (Pointer t) op place e is = absurd is.1
   update-type (Integer w) op (LocalPlace k) e is = assigned-of S w k _
@@ -106,7 +106,7 @@ module _ (S : Site) (site : IsSite S) (follow : CallsFollow S) where
   update-type (Integer w) op (Target element e') e is = absurd is.0
   update-type (Integer w) op (Element element a i) e is = absurd is.0
 
-  step-type : (of : ValueType) (op : StepOp) (place : Place) → IsNumeric S.program S.calls (Step of op place)
+  step-type : (of : ValueType) (op : StepOp) (place : Place) → IsNumeric S.program (Step of op place)
       → (part_of (context_of S) (Step of op place)).of ≡ of
   step-type of PreIncrement (LocalPlace k) is = refl
   step-type of PreDecrement (LocalPlace k) is = refl
@@ -117,7 +117,7 @@ module _ (S : Site) (site : IsSite S) (follow : CallsFollow S) where
   step-type of op (Element element a i) is = absurd is.0
 
   -- a part is of its expression's type
-  pub part-type : (e : Expression) → IsTyped S.program S.function e → IsNumeric S.program S.calls e
+  pub part-type : (e : Expression) → IsTyped S.program S.function e → IsNumeric S.program e
       → (part_of (context_of S) e).of ≡ value_type e
   part-type (Constant of n) typed is = refl
   part-type (Start element array) typed is = absurd is
@@ -140,7 +140,7 @@ module _ (S : Site) (site : IsSite S) (follow : CallsFollow S) where
   part-type (Exit e) typed is = refl
 
   -- an operand is a number
-  operand-type : (e : Expression) → IsTyped S.program S.function e → IsNumeric S.program S.calls e
+  operand-type : (e : Expression) → IsTyped S.program S.function e → IsNumeric S.program e
       → IsInteger (value_type e)
       → (t : IntegerType) × ((part_of (context_of S) e).of ≡ Integer t)
   operand-type e typed is integer =
@@ -152,7 +152,7 @@ module _ (S : Site) (site : IsSite S) (follow : CallsFollow S) where
   Does e = Lowers S (part_of (context_of S) e) (evaluate S.calls e)
 
   read-does : (of : ValueType) (place : Place) → IsTyped S.program S.function (Read of place)
-      → IsNumeric S.program S.calls (Read of place) → Does (Read of place)
+      → IsNumeric S.program (Read of place) → Does (Read of place)
   read-does Void place typed is = absurd is.1
   read-does (Pointer t) place typed is = absurd is.1
   read-does (Integer w) (LocalPlace k) typed is =
@@ -176,7 +176,7 @@ module _ (S : Site) (site : IsSite S) (follow : CallsFollow S) where
       (nots-lower S site e does (not-void (part_of (context_of S) e).of t same))
 
   assign-does : (of : ValueType) (place : Place) (e : Expression) → IsPlace S.program S.function place of
-      → IsNumeric S.program S.calls (Assign of place e) → (t : IntegerType) → (part_of (context_of S) e).of ≡ Integer
+      → IsNumeric S.program (Assign of place e) → (t : IntegerType) → (part_of (context_of S) e).of ≡ Integer
       t → Does e
       → Does (Assign of place e)
   assign-does Void place e typed is t same does = absurd is.1
@@ -189,19 +189,19 @@ module _ (S : Site) (site : IsSite S) (follow : CallsFollow S) where
   assign-does (Integer w) (Element element a i) e typed is t same does = absurd is.0
 
   update-does : (of : ValueType) (op : BinaryOp) (place : Place) (e : Expression)
-      → IsPlace S.program S.function place of → IsNumeric S.program S.calls (Update of op place e) → (t : IntegerType)
-      → (part_of (context_of S) e).of ≡ Integer t → HasCounts S.calls op e → Does e → Does (Update of op place e)
-  update-does Void op place e typed is t same counts does = absurd is.1
-  update-does (Pointer u) op place e typed is t same counts does = absurd is.1
-  update-does (Integer w) op (LocalPlace k) e typed is t same counts does =
+      → IsPlace S.program S.function place of → IsNumeric S.program (Update of op place e) → (t : IntegerType)
+      → (part_of (context_of S) e).of ≡ Integer t → Does e → Does (Update of op place e)
+  update-does Void op place e typed is t same does = absurd is.1
+  update-does (Pointer u) op place e typed is t same does = absurd is.1
+  update-does (Integer w) op (LocalPlace k) e typed is t same does =
       let (l, there, of) = some-and (slice_get S.function.locals k) (λ m. m.of ≡ Integer w) typed in
-      updates-lower S site op k l w there of e t does same counts
-  update-does (Integer w) op (StaticPlace k) e typed is t same counts does = absurd is.0
-  update-does (Integer w) op (Target element e') e typed is t same counts does = absurd is.0
-  update-does (Integer w) op (Element element a i) e typed is t same counts does = absurd is.0
+      updates-lower S site op k l w there of e t does same
+  update-does (Integer w) op (StaticPlace k) e typed is t same does = absurd is.0
+  update-does (Integer w) op (Target element e') e typed is t same does = absurd is.0
+  update-does (Integer w) op (Element element a i) e typed is t same does = absurd is.0
 
   step-does : (of : ValueType) (op : StepOp) (place : Place) → IsPlace S.program S.function place of
-      → IsNumeric S.program S.calls (Step of op place) → Does (Step of op place)
+      → IsNumeric S.program (Step of op place) → Does (Step of op place)
   step-does Void op place typed is = absurd is.1
   step-does (Pointer u) op place typed is = absurd is.1
   step-does (Integer w) op (LocalPlace k) typed is =
@@ -211,7 +211,7 @@ module _ (S : Site) (site : IsSite S) (follow : CallsFollow S) where
   step-does (Integer w) op (Target element e') typed is = absurd is.0
   step-does (Integer w) op (Element element a i) typed is = absurd is.0
 
-  cast-does : (to : ValueType) (e : Expression) → IsTyped S.program S.function e → IsNumeric S.program S.calls e
+  cast-does : (to : ValueType) (e : Expression) → IsTyped S.program S.function e → IsNumeric S.program e
       → CastsNumber to (value_type e) → Does e → Does (Cast to e)
   cast-does Void e typed is casts does = voids-lower S site e does
   cast-does (Integer w) e typed is casts does =
@@ -227,13 +227,13 @@ module _ (S : Site) (site : IsSite S) (follow : CallsFollow S) where
   kind-both (Integer t) (Integer u) h h' = tt
   kind-both (Integer t) (Pointer u) h h' = absurd h'
 
-  integer-part : (e : Expression) → IsTyped S.program S.function e → IsNumeric S.program S.calls e
+  integer-part : (e : Expression) → IsTyped S.program S.function e → IsNumeric S.program e
       → IsInteger (value_type e) → IsInteger (part_of (context_of S) e).of
   integer-part e typed is integer =
       subst (λ (v : ValueType). IsInteger v) (sym (part-type e typed is)) integer
 
   arguments-kinds : (ls : List Local) (es : Arguments) → AreArguments S.program S.function ls es
-      → All (λ l. IsInteger l.of) ls → AreNumeric S.program S.calls es
+      → All (λ l. IsInteger l.of) ls → AreNumeric S.program es
       → AreKinds (map (λ a. a.of) (parts_of (context_of S) es)) (map (λ l. l.of) ls)
   arguments-kinds [] NoMore typed ints are = tt
   arguments-kinds [] (Argument e es) typed ints are = absurd typed
@@ -244,7 +244,7 @@ module _ (S : Site) (site : IsSite S) (follow : CallsFollow S) where
   )
 
   call-does : (of : ValueType) (k : ℕ) (es : Arguments) → IsTyped S.program S.function (Call of k es)
-      → IsNumeric S.program S.calls (Call of k es) → AreNumbers S es → Does (Call of k es)
+      → IsNumeric S.program (Call of k es) → AreNumbers S es → Does (Call of k es)
   call-does Void k es typed is are = absurd is.0
   call-does (Pointer t) k es typed is are = absurd is.0
   call-does (Integer w) k es typed is are =
@@ -261,7 +261,7 @@ module _ (S : Site) (site : IsSite S) (follow : CallsFollow S) where
   -- ---- the walk
 
   mutual
-    pub numbers-follow : (e : Expression) → IsTyped S.program S.function e → IsNumeric S.program S.calls e → Does e
+    pub numbers-follow : (e : Expression) → IsTyped S.program S.function e → IsNumeric S.program e → Does e
     numbers-follow (Constant of n) typed is = constants-lower S site of n
     numbers-follow (Start element array) typed is = absurd is
     numbers-follow (Read of place) typed is = read-does of place typed is
@@ -274,8 +274,7 @@ module _ (S : Site) (site : IsSite S) (follow : CallsFollow S) where
         let (u, same') = operand-type b typed.1 is.2 is.3 in
         subst (λ (p : ValueType). Does (Binary p op a b))
         (sym (binary-int op (value_type a) (value_type b) of is.1 is.3 typed.2))
-        (binaries-lower S site op a b t u (numbers-follow a typed.0 is.0) same (numbers-follow b typed.1 is.2) same'
-        is.4)
+        (binaries-lower S site op a b t u (numbers-follow a typed.0 is.0) same (numbers-follow b typed.1 is.2) same')
     numbers-follow (And a b) typed is =
         let (t, same) = operand-type a typed.0 is.0 is.1 in
         let (u, same') = operand-type b typed.2 is.2 is.3 in
@@ -301,7 +300,7 @@ module _ (S : Site) (site : IsSite S) (follow : CallsFollow S) where
         assign-does of place e typed.0 is t same (numbers-follow e typed.1 is.2)
     numbers-follow (Update of op place e) typed is =
         let (t, same) = operand-type e typed.1 is.2 is.3 in
-        update-does of op place e typed.0 is t same is.4 (numbers-follow e typed.1 is.2)
+        update-does of op place e typed.0 is t same (numbers-follow e typed.1 is.2)
     numbers-follow (Step of op place) typed is = step-does of op place typed is
     numbers-follow (Comma a b) typed is =
         commas-lower S site a b (numbers-follow a typed.0 is.0) (numbers-follow b typed.1 is.1)
@@ -318,7 +317,7 @@ module _ (S : Site) (site : IsSite S) (follow : CallsFollow S) where
         exits-lower S site e t (numbers-follow e typed.0 is.0) same
 
     arguments-follow : (ls : List Local) (es : Arguments) → AreArguments S.program S.function ls es
-        → AreNumeric S.program S.calls es → AreNumbers S es
+        → AreNumeric S.program es → AreNumbers S es
     arguments-follow ls NoMore typed are = tt
     arguments-follow [] (Argument e es) typed are = absurd typed
     arguments-follow (l ∷ ls) (Argument e es) typed are = (

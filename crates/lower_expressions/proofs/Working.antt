@@ -38,7 +38,7 @@ use Rattle.lower_steps.proofs.Steps.{copy-step, divide-step, divide-traps, one-s
 use Rattle.lower_expressions.proofs.Going.{Goes, stand-back, stand-front}
 use Rattle.lower_expressions.proofs.Made.{MayTake, variable-there}
 use Rattle.lower_expressions.proofs.Pairs.{IsPlaced, goes-both}
-use Rattle.lower_expressions.specs.Laws.{IsCount, IsShift}
+use Rattle.lower_expressions.proofs.Counting.{bytes-count}
 use Rattle.lower_expressions.proofs.Widths.{temporary-width}
 
 -- ---- what variables hold
@@ -248,33 +248,33 @@ module _ (S : Site) (site : IsSite S) (older : List Function) (level x y : ℕ) 
 
   -- ---- every operator
 
-  pub computing-works : (operator : BinaryOp) → (IsShift operator → IsCount n)
+  pub computing-works : (operator : BinaryOp)
       → Works S (S.function ∷ older) level (λ to. computing (context_of S) level operator to x y) before t g
       (numbers_value operator m n)
-  computing-works Multiply counts = plain-works (λ d. op.Mul d x y) (λ a b. int_wrap w32 (a *ℤ b))
+  computing-works Multiply = plain-works (λ d. op.Mul d x y) (λ a b. int_wrap w32 (a *ℤ b))
       (λ d. (refl, refl, refl)) (λ program u d. refl)
-  computing-works Divide counts = divided-works (λ d. op.Div d z y) int_div (no_quotient m n) refl
+  computing-works Divide = divided-works (λ d. op.Div d z y) int_div (no_quotient m n) refl
       (λ d. (refl, refl, refl)) (λ program u d. refl)
-  computing-works Remainder counts = divided-works (λ d. op.Rem d z y) int_rem (no_quotient m n) refl
+  computing-works Remainder = divided-works (λ d. op.Rem d z y) int_rem (no_quotient m n) refl
       (λ d. (refl, refl, refl)) (λ program u d. refl)
-  computing-works Add counts = plain-works (λ d. op.Add d x y) (λ a b. int_wrap w32 (a +ℤ b))
+  computing-works Add = plain-works (λ d. op.Add d x y) (λ a b. int_wrap w32 (a +ℤ b))
       (λ d. (refl, refl, refl)) (λ program u d. refl)
-  computing-works Subtract counts = plain-works (λ d. op.Sub d x y) (λ a b. int_wrap w32 (a -ℤ b))
+  computing-works Subtract = plain-works (λ d. op.Sub d x y) (λ a b. int_wrap w32 (a -ℤ b))
       (λ d. (refl, refl, refl)) (λ program u d. refl)
-  computing-works ShiftLeft counts = shifted-works (λ d. op.Shl d x count)
+  computing-works ShiftLeft = shifted-works (λ d. op.Shl d x count)
       (λ a b. int_wrap w32 (a *ℤ pos (2 ^ shift_count b)))
-      (ap (λ (k : ℕ). int_wrap w32 (m *ℤ pos (2 ^ k))) (counts tt)) (λ d. (refl, refl, refl)) (λ program u d. refl)
-  computing-works ShiftRight counts = shifted-works (λ d. op.Sar d x count) (λ a b. shifted_right a (shift_count b))
-      (ap (λ (k : ℕ). shifted_right m k) (counts tt)) (λ d. (refl, refl, refl)) (λ program u d. refl)
-  computing-works Less counts = set-works Lt
-  computing-works Greater counts = set-works Gt
-  computing-works LessOrEqual counts = set-works Le
-  computing-works GreaterOrEqual counts = set-works Ge
-  computing-works Equal counts = set-works Eq
-  computing-works NotEqual counts = set-works Ne
-  computing-works BitAnd counts = plain-works (λ d. op.And d x y) (int_bit_and w32) (λ d. (refl, refl, refl))
+      (ap (λ (k : ℕ). int_wrap w32 (m *ℤ pos (2 ^ k))) (bytes-count n)) (λ d. (refl, refl, refl)) (λ program u d. refl)
+  computing-works ShiftRight = shifted-works (λ d. op.Sar d x count) (λ a b. shifted_right a (shift_count b))
+      (ap (λ (k : ℕ). shifted_right m k) (bytes-count n)) (λ d. (refl, refl, refl)) (λ program u d. refl)
+  computing-works Less = set-works Lt
+  computing-works Greater = set-works Gt
+  computing-works LessOrEqual = set-works Le
+  computing-works GreaterOrEqual = set-works Ge
+  computing-works Equal = set-works Eq
+  computing-works NotEqual = set-works Ne
+  computing-works BitAnd = plain-works (λ d. op.And d x y) (int_bit_and w32) (λ d. (refl, refl, refl))
       (λ program u d. refl)
-  computing-works BitXor counts = plain-works (λ d. op.Xor d x y) (int_bit_xor w32) (λ d. (refl, refl, refl))
+  computing-works BitXor = plain-works (λ d. op.Xor d x y) (int_bit_xor w32) (λ d. (refl, refl, refl))
       (λ program u d. refl)
-  computing-works BitOr counts = plain-works (λ d. op.Or d x y) (int_bit_or w32) (λ d. (refl, refl, refl))
+  computing-works BitOr = plain-works (λ d. op.Or d x y) (int_bit_or w32) (λ d. (refl, refl, refl))
       (λ program u d. refl)

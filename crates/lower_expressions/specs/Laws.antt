@@ -1,9 +1,8 @@
 -- The laws of the lines of expressions, by their kinds; each is a part of `ExpressionsLower` of `lower_lines`.
-use Rattle.std.specs.Int.{w8, w32, int_wrap}
-use Rattle.std.specs.Prelude.{FitsSigned, List, [], ◌∷◌, map}
+use Rattle.std.specs.Int.{w8, int_wrap}
+use Rattle.std.specs.Prelude.{List, [], ◌∷◌, map}
 use Rattle.std.specs.Prelude.{◌≡◌, ◌≢◌, ℕ, ℤ, slice_get, Some}
 use Rattle.c_tree.specs.declared.expression.BinaryOp.{BinaryOp}
-use Rattle.c_tree.specs.declared.expression.BinaryOp.TheVariants.{ShiftLeft, ShiftRight}
 use Rattle.c_tree.specs.declared.expression.StepOp.{StepOp}
 use Rattle.c_tree.specs.declared.expression.UnaryOp.TheVariants.{Plus, Not, Complement, Minus}
 use Rattle.c_tree.specs.declared.types.IntegerType.{IntegerType}
@@ -13,7 +12,6 @@ use Rattle.c_tree.specs.Evaluation.{evaluate}
 use Rattle.c_tree.specs.Operators.{shift_count}
 use Rattle.c_tree.specs.Program.{Conditional, Or, And, Step, Update, Comma, Exit, Putchar, Assign, Cast, int, Binary}
 use Rattle.c_tree.specs.Program.{Constant, Expression, Getchar, Local, LocalPlace, Read, Unary}
-use Rattle.c_tree.specs.Store.{Evaluated, Gives, Ends, Held, HoldsNumber, HoldsPointer, State}
 use Rattle.lower_lines.specs.Expressions.{part_of}
 use Rattle.c_tree.specs.Evaluation.{evaluate_all}
 use Rattle.std.specs.List.{All}
@@ -59,27 +57,15 @@ ComplementsLower = (S : Site) → IsSite S → (e : Expression) (u : IntegerType
 
 -- ---- operators on two numbers
 
-abbrev pub IsShift : BinaryOp → Type 0
-IsShift ShiftLeft = Unit {0}
-IsShift ShiftRight = Unit {0}
-IsShift _ = ⊥
-
--- Its lowest byte is the same count of a shift. It isn't for numbers below those of 32 bits (`Corners.antt`).
-abbrev pub IsCount : ℤ → Type 0
-IsCount n = shift_count (int_wrap w8 n) ≡ shift_count n
-
--- what an expression gives is a count
-abbrev pub GivesCount : Evaluated Held → Type 0
-GivesCount (Gives (HoldsNumber n) t) = IsCount n
-GivesCount (Gives (HoldsPointer array index) t) = Unit {0}
-GivesCount (Ends end t) = Unit {0}
+-- the lowest byte of a number is the same count of a shift
+abbrev pub BytesCount : Type 0
+BytesCount = (n : ℤ) → shift_count (int_wrap w8 n) ≡ shift_count n
 
 -- an operator on two numbers
 abbrev pub BinariesLower : Type 0
 BinariesLower = (S : Site) → IsSite S → (operator : BinaryOp) (a b : Expression) (t u : IntegerType)
     → Lowers S (part_of (context_of S) a) (evaluate S.calls a) → (part_of (context_of S) a).of ≡ Integer t
     → Lowers S (part_of (context_of S) b) (evaluate S.calls b) → (part_of (context_of S) b).of ≡ Integer u
-    → (IsShift operator → (s : State) → GivesCount (evaluate S.calls b s))
     → Lowers S (part_of (context_of S) (Binary int operator a b)) (evaluate S.calls (Binary int operator a b))
 
 -- a cast of a number to an integer type
@@ -119,7 +105,6 @@ abbrev pub UpdatesLower : Type 0
 UpdatesLower = (S : Site) → IsSite S → (operator : BinaryOp) (k : ℕ) (l : Local) (w : IntegerType)
     → slice_get S.function.locals k ≡ Some l → l.of ≡ Integer w → (e : Expression) (u : IntegerType)
     → Lowers S (part_of (context_of S) e) (evaluate S.calls e) → (part_of (context_of S) e).of ≡ Integer u
-    → (IsShift operator → (s : State) → GivesCount (evaluate S.calls e s))
     → Lowers S (part_of (context_of S) (Update (Integer w) operator (LocalPlace k) e))
     (evaluate S.calls (Update (Integer w) operator (LocalPlace k) e))
 
@@ -165,10 +150,6 @@ PlusesLower = (S : Site) → IsSite S → (e : Expression) (u : IntegerType)
 abbrev pub VoidsLower : Type 0
 VoidsLower = (S : Site) → IsSite S → (e : Expression) → Lowers S (part_of (context_of S) e) (evaluate S.calls e)
     → Lowers S (part_of (context_of S) (Cast Void e)) (evaluate S.calls (Cast Void e))
-
--- numbers of 32 bits are counts of shifts
-abbrev pub CountsFit : Type 0
-CountsFit = (n : ℤ) → FitsSigned w32 n → IsCount n
 
 -- ---- calls
 

@@ -1,4 +1,3 @@
 pub mod Laws
 pub mod Numeric
 pub mod Walk
-pub mod Corners

@@ -10,5 +10,5 @@ use Rattle.lower_lines.specs.Following.{CallsFollow, IsSite, Lowers, Site, conte
 -- `lower_lines`.
 abbrev pub NumbersLower : Type 0
 NumbersLower = (S : Site) → IsSite S → CallsFollow S → (e : Expression) → IsTyped S.program S.function e
-    → IsNumeric S.program S.calls e
+    → IsNumeric S.program e
     → Lowers S (part_of (context_of S) e) (evaluate S.calls e)

@@ -2,9 +2,8 @@
 
 ghost use Rattle.lower_expressions.specs.Laws.{NumbersPass};
 ghost use Rattle.lower_expressions.specs.Laws.{NumberCallsLower};
-ghost use Rattle.lower_expressions.specs.Laws.{CountsFit};
+ghost use Rattle.lower_expressions.specs.Laws.{BytesCount};
 ghost use Rattle.lower_expressions.specs.Laws.{VoidsLower};
-ghost use Rattle.lower_expressions.specs.Corners.{ShiftsDiffer};
 ghost use Rattle.lower_expressions.specs.Walk.{NumbersLower};
 ghost use Rattle.lower_expressions.specs.Laws.{PlusesLower};
 ghost use Rattle.lower_expressions.specs.Laws.{ConditionalsLower};
@@ -121,20 +120,14 @@ pub fn numbers_lower()
     ensures { NumbersLower }
 {}
 
-/// By a number below those of 32 bits, which only an input without bytes makes, the source and the graphs shift
-/// differently (`specs/Corners.antt`).
-pub fn shifts_differ()
-    ensures { ShiftsDiffer }
-{}
-
 /// The lines of a cast to void do what the source does, where those of its operand do.
 pub fn voids_lower()
     ensures { VoidsLower }
 {}
 
-/// Numbers of 32 bits are counts of shifts.
-pub fn counts_fit()
-    ensures { CountsFit }
+/// The lowest byte of a number is the same count of a shift.
+pub fn bytes_count()
+    ensures { BytesCount }
 {}
 
 /// The lines of a call of a function of numbers do what the source does, given that calls follow and its arguments
