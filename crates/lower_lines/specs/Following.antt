@@ -24,8 +24,8 @@ use Rattle.flow_graph.specs.Meaning.{Moved, Moves, Halts, Stuck, result_to, retu
 use Rattle.flow_graph.specs.Running.{outcome_at, run_within}
 use Rattle.flow_graph.specs.States as graph
 use Rattle.flow_graph.specs.States.{GraphProgram, op_at}
-use Rattle.lower_lines.specs.Expressions.{Addressed, Located, AtLocal, AtObject, AtAddress, arguments_levels}
-use Rattle.lower_lines.specs.Expressions.{arguments_lines, arguments_words, words_of}
+use Rattle.lower_lines.specs.Expressions.{Addressed, Located, AtLocal, AtObject, AtAddress, address_part}
+use Rattle.lower_lines.specs.Expressions.{arguments_levels, arguments_lines, arguments_words, words_of}
 use Rattle.lower_lines.specs.Lines.{Line, Start, Emit, open_after, ops_in, points_in, starts_in}
 use Rattle.lower_lines.specs.Parts.{Wanted, Dropped, Own, ToLocal, Tests, Part}
 use Rattle.lower_lines.specs.Programs.{blocks_of_function, lines_of_function, lowered}
@@ -224,7 +224,9 @@ pub record LowersAddress (S : Site) (element : IntegerType) (a : Addressed) (run
   -- where it is: an address after which something is stored is in the temporaries of its level
   pub kept : (level : ℕ) → a.spot false level ≡ own (context_of S) level
   pub steady : (level : ℕ) → IsSteady S level (a.spot true level).array × IsSteady S level (a.spot true level).number
-  pub value : Lowers S a.value (λ s. and_then (run s) (λ found t. Gives (address_of found) t))
+  -- as the value of `&`
+  pub value : Lowers S (address_part (context_of S) element (AtAddress element a))
+      (λ s. and_then (run s) (λ found t. Gives (address_of found) t))
 
 -- a place: a local or an object has no lines
 abbrev pub LowersPlace : Site → ValueType → Located → (source.State → Evaluated Found) → Type 0

@@ -1,4 +1,4 @@
--- `&*p` is the pointer's value.
+-- `&*p` is the pointer's value, and `*p` is a place that does what the source does.
 use Rattle.std.proofs.Common.{◌≡◌, List, refl, sym, subst}
 use Rattle.c_tree.specs.declared.types.IntegerType.{IntegerType}
 use Rattle.c_tree.specs.declared.types.ValueType.{ValueType}
@@ -9,7 +9,9 @@ use Rattle.c_tree.specs.Program.{Function}
 use Rattle.c_tree.specs.Store.{Evaluated, Gives, Ends, Held, HoldsNumber, HoldsPointer, and_then}
 use Rattle.lower_lines.specs.Expressions.{part_of}
 use Rattle.lower_lines.specs.Following.{Follows, GivesOf, MayWant, Site, context_of}
-use Rattle.lower_places.specs.Laws.{TargetsAreAddressed}
+use Rattle.lower_places.proofs.Assigning.{target-settled}
+use Rattle.lower_places.proofs.Reading.{targets-follow}
+use Rattle.lower_places.specs.Laws.{TargetsAreAddressed, TargetsLower}
 
 -- the address of what a pointer goes to
 abbrev again : Evaluated Held → Evaluated Held
@@ -43,3 +45,15 @@ targets-addressed S site e t lowers of = record {
   simple = λ same active s g begins. absurd (cc);
   stands = λ spot same. absurd (cc);
 }
+
+pub targets-lower : TargetsLower
+targets-lower S site e t lowers of =
+    let settled = target-settled S (part_of (context_of S) e) (evaluate S.calls e) t lowers of in (
+      record {
+        follows = targets-follow S site e t lowers of;
+        kept = settled.kept;
+        steady = settled.steady;
+        value = targets-addressed S site e t lowers of;
+      },
+      refl,
+    )

@@ -309,14 +309,17 @@ turns-located : (r : Evaluated Held) (n : ℕ) → (state_of r).turns ≤ n
 turns-located (Gives v u) n le = le
 turns-located (Ends end u) n le = le
 
+pub target-settled : (S : Site) (a : Part) (run : source.State → Evaluated Held) (t : IntegerType) → Lowers S a run
+    → a.of ≡ Pointer t → IsSettled S (target_of (context_of S) a)
+target-settled S a run t lowers of = record {
+  kept = λ level. refl;
+  steady = settled-standing S a run t a.stands (λ p same. same) lowers of;
+}
+
 pub targets-assigned : TargetsAreAssigned
 targets-assigned S site e t lowers of value u lowers' of' =
     elements-assigned S site t (target_of (context_of S) (part_of (context_of S) e)) (locate S.calls (Target t e))
     (targets-follow S site e t lowers of)
-    (record {
-      kept = λ level. refl;
-      steady = settled-standing S (part_of (context_of S) e) (evaluate S.calls e) t (part_of (context_of S) e).stands
-          (λ p same. same) lowers of;
-    })
+    (target-settled S (part_of (context_of S) e) (evaluate S.calls e) t lowers of)
     (λ s. turns-located (evaluate S.calls e s) s.turns (turns-fall S site e s)) (levels-one (context_of S) e)
     (part_of (context_of S) value) (evaluate S.calls value) u lowers' of' (turns-fall S site value)

@@ -17,8 +17,9 @@ use Rattle.c_tree.specs.WellTyped.{IsArray}
 use Rattle.flow_graph.specs.States as graph
 use Rattle.flow_graph.specs.States.{depth_of}
 use Rattle.lower_lines.specs.Expressions.{Addressed, AtAddress, assigned_element, element_of, part_of, read_part}
-use Rattle.lower_lines.specs.Expressions.{target_of}
-use Rattle.lower_lines.specs.Following.{Begins, FollowsPlace, IsSite, IsSteady, Lowers, Site, Stand, context_of}
+use Rattle.lower_lines.specs.Expressions.{place_of, target_of}
+use Rattle.lower_lines.specs.Following.{Begins, FollowsPlace, IsSite, IsSteady, Lowers, LowersPlace, Site, Stand}
+use Rattle.lower_lines.specs.Following.{context_of}
 use Rattle.lower_lines.specs.Lines.{Line}
 use Rattle.lower_lines.specs.Parts.{Part}
 use Rattle.lower_lines.specs.Relation.{IsArrayOf, Shows}
@@ -153,3 +154,9 @@ abbrev pub TargetsAreAddressed : Type 0
 TargetsAreAddressed = (S : Site) → IsSite S → (e : Expression) (t : IntegerType)
     → Lowers S (part_of (context_of S) e) (evaluate S.calls e) → (part_of (context_of S) e).of ≡ Pointer t
     → Lowers S (part_of (context_of S) (Address t (Target t e))) (evaluate S.calls (Address t (Target t e)))
+
+-- what a pointer goes to is a place that does what the source does: a part of `PlacesLower` of `lower_lines`
+abbrev pub TargetsLower : Type 0
+TargetsLower = (S : Site) → IsSite S → (e : Expression) (t : IntegerType)
+    → Lowers S (part_of (context_of S) e) (evaluate S.calls e) → (part_of (context_of S) e).of ≡ Pointer t
+    → LowersPlace S (Integer t) (place_of (context_of S) (Target t e)) (locate S.calls (Target t e))

@@ -3,7 +3,7 @@
 ghost use Rattle.lower_places.specs.Laws.{ArraysAreCleared, ElementsAreAssigned, ElementsAreRead};
 ghost use Rattle.lower_places.specs.Laws.{IndexesAreAssigned, IndexesAreRead, IndexesFollow};
 ghost use Rattle.lower_places.specs.Laws.{NamesAreAlike, ObjectsAreAssigned, ObjectsAreRead};
-ghost use Rattle.lower_places.specs.Laws.{TargetsAreAddressed};
+ghost use Rattle.lower_places.specs.Laws.{TargetsAreAddressed, TargetsLower};
 ghost use Rattle.lower_places.specs.Laws.{TargetsAreAssigned, TargetsAreRead, TargetsFollow};
 
 /// The lines that read an element do what the source does, where those of its address do.
@@ -70,4 +70,9 @@ pub fn arrays_are_cleared()
 /// The lines of `&*p` do what the source does, where those of the pointer do.
 pub fn targets_are_addressed()
     ensures { TargetsAreAddressed }
+{}
+
+/// What a pointer goes to is a place whose lines do what the source does, where those of the pointer do.
+pub fn targets_lower()
+    ensures { TargetsLower }
 {}
