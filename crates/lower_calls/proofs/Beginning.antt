@@ -20,9 +20,11 @@ use Rattle.flow_graph.specs.States as graph
 use Rattle.lower_lines.specs.Following.{IsBack}
 use Rattle.lower_lines.specs.Lowering.{array_of}
 use Rattle.lower_lines.specs.Programs.{lowered}
-use Rattle.lower_lines.specs.Relation.{HoldLocals, HoldsAt, IsOf, SameWaiting, ShowCalls, Shows}
+use Rattle.lower_lines.specs.Relation.{AreNumbersOf, HoldLocals, HoldsAt, IsOf, SameWaiting, ShowCalls}
+use Rattle.lower_lines.specs.Relation.{Shows}
 use Rattle.lower_lines.specs.Shown.{local_widths, type_widths}
 use Rattle.lower_lines.specs.Variables.{levels_of, levels_widths, typed_spot, variable_widths}
+use Rattle.lower_relation.proofs.Arrays.{zeros-fit}
 use Rattle.lower_steps.proofs.Points.{flow-there}
 use Rattle.lower_calls.specs.Laws.{CallsAreFresh, CallsGoBack, waiting_at}
 
@@ -79,6 +81,11 @@ arrays-many (a ∷ xs) =
     ap (λ (n : ℕ). n ∷ map (λ elements. length elements) (map source.first_array xs)) (length-replicate a.count (pos 0))
     ∙ ap (λ (ns : List ℕ). a.count ∷ ns) (arrays-many xs)
 
+arrays-zero : (xs : List LocalArray)
+    → AllZip (λ array elements. AreNumbersOf array.element elements) xs (map source.first_array xs)
+arrays-zero [] = tt
+arrays-zero (a ∷ xs) = (zeros-fit a.element a.count, arrays-zero xs)
+
 pub calls-fresh : CallsAreFresh
 calls-fresh p k f active words at =
     let flow = flow-there p k f at in
@@ -96,6 +103,7 @@ calls-fresh p k f active words at =
       values = zeros-of p active f.locals;
       arrays = ap (λ (w : Flow). map graph.first_array w.arrays) flow ∙ arrays-same f.arrays;
       counts = arrays-many f.arrays;
+      fits = arrays-zero f.arrays;
     }
 
 -- ---- a call is over
@@ -130,6 +138,7 @@ back p f active s g h (w ∷ ws) e shows same = (
         (h.current ∷ map (λ v. v.activation) vs)) e shows.calls);
     objects = shows.objects;
     counts = shows.counts;
+    fits = shows.fits;
     left = shows.left;
     taken = shows.taken;
     written = shows.written;

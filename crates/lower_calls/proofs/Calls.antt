@@ -184,6 +184,7 @@ module _ (p : Program) (listing : Listing) (typed : WellTyped p) (lists : ListsL
           calls = shows.calls;
           objects = shows.objects;
           counts = shows.counts;
+          fits = shows.fits;
           left = shows.left;
           taken = shows.taken;
           written = shows.written;
@@ -353,6 +354,7 @@ module _ (p : Program) (listing : Listing) (typed : WellTyped p) (lists : ListsL
       calls = (calls-fresh p j callee (callee ∷ active) values there, begins.shows.calls);
       objects = begins.shows.objects;
       counts = begins.shows.counts;
+      fits = begins.shows.fits;
       left = begins.shows.left;
       taken = begins.shows.taken;
       written = begins.shows.written;

@@ -1,14 +1,21 @@
 -- Lowering keeps the outcome of a program, given the laws of bounds, bodies and expressions.
-use Rattle.std.proofs.Common.{◌≡◌, ℕ, suc, true, false, ℤ, List, [], ◌∷◌, ◌++◌, length, map}
+use Rattle.std.proofs.Common.{◌≡◌, ℕ, suc, true, false, ℤ, pos, negsuc, List, [], ◌∷◌, ◌++◌, length, map}
 use Rattle.std.proofs.Common.{take, Option, Some, None, refl, sym, ap, ◌∙◌, subst, arith, append-nil}
-use Rattle.std.specs.Prelude.{IsSomeAnd, option_map, slice_get}
-use Rattle.std.specs.List.{AllZip}
+use Rattle.std.specs.Prelude.{IsSomeAnd, option_map, slice_get, slice_index_or}
+use Rattle.std.proofs.lemmas.Int.{int_wrap_fits}
+use Rattle.std.proofs.lemmas.List.Elements.{All-tail}
+use Rattle.std.specs.Int.{w8, w16}
+use Rattle.std.specs.List.{All, AllZip}
+use Rattle.pcc_base.specs.Objects.{FitsBytes}
+use Rattle.c_tree.specs.declared.types.IntegerType.{IntegerType}
+use Rattle.c_tree.specs.declared.types.IntegerType.TheVariants.{Char, Short, Int}
+use Rattle.c_tree.specs.Sizes.{bytes_of}
 use Rattle.pcc_base.specs.Outcome.{End, Ended, Listing, Outcome, Visit}
 use Rattle.c_tree.specs.declared.types.ValueType.{ValueType}
 use Rattle.c_tree.specs.Evaluation.{Left, Falls, Breaks, Continues, Returns, call_over, call_within, first_activation}
 use Rattle.c_tree.specs.Evaluation.{first_state, low_byte, number_in, outcome_of, run_function, source_outcome}
 use Rattle.c_tree.specs.Evaluation.{value_left}
-use Rattle.c_tree.specs.Objects.{data_object}
+use Rattle.c_tree.specs.Objects.{IsObject, data_object}
 use Rattle.c_tree.specs.Program.{Function, Local, Program, StaticObject, int}
 use Rattle.c_tree.specs.Store as source
 use Rattle.c_tree.specs.Store.{Evaluated, Gives, Ends, Held, HoldsNumber, HoldsPointer, and_then, in_type, number_held}
@@ -25,7 +32,7 @@ use Rattle.lower_lines.specs.Following.{number_returned, parameters_in}
 use Rattle.lower_lines.specs.Laws.{AllLinesClose, BodiesLower, ExpressionsLower, LinesClose, site_within}
 use Rattle.lower_lines.specs.Lines.{Start, Emit}
 use Rattle.lower_lines.specs.Programs.{body_run, lowered, no_exits, parameters_lines}
-use Rattle.lower_lines.specs.Relation.{IsOf, SameWaiting, Shows}
+use Rattle.lower_lines.specs.Relation.{AreNumbersOf, IsNumberOf, IsOf, SameWaiting, Shows}
 use Rattle.lower_lines.specs.Shown.{ListsLocals}
 use Rattle.lower_lines.specs.Statements.{Leaves}
 use Rattle.lower_steps.proofs.Points.{starts-stand}
@@ -57,6 +64,23 @@ objects-many : (os : List StaticObject)
     → map (λ elements. length elements) (map (λ o. o.elements) os) ≡ map (λ o. length o.elements) os
 objects-many [] = refl
 objects-many (o ∷ os) = ap (λ (ns : List ℕ). length o.elements ∷ ns) (objects-many os)
+
+-- numbers of so many bytes are numbers of the type
+bytes-fit : (t : IntegerType) (n : ℤ) → FitsBytes (bytes_of t) n → IsNumberOf t n
+bytes-fit Char (pos m) h = int_wrap_fits w8 (pos m) (record { sfits = omega (arith, h.1) })
+bytes-fit Char (negsuc m) h = int_wrap_fits w8 (negsuc m) (record { sfits = omega (arith, h.0) })
+bytes-fit Short (pos m) h = int_wrap_fits w16 (pos m) (record { sfits = omega (arith, h.1) })
+bytes-fit Short (negsuc m) h = int_wrap_fits w16 (negsuc m) (record { sfits = omega (arith, h.0) })
+bytes-fit Int n h = refl
+
+objects-fit : (os : List StaticObject) → All IsObject (map data_object os)
+    → AllZip (λ o elements. AreNumbersOf o.element elements) os (map (λ o. o.elements) os)
+objects-fit [] h = tt
+objects-fit (o ∷ os) h = (
+  λ k d low. bytes-fit o.element (slice_index_or o.elements k d)
+      ((h 0 (data_object o) (omega arith)).elements k d low),
+  objects-fit os (All-tail IsObject (data_object o) (map data_object os) h),
+)
 
 -- ---- the outcome
 
@@ -152,6 +176,7 @@ module _ (p : Program) (listing : Listing) (typed : WellTyped p) (lists : ListsL
     calls = (calls-fresh p p.main f (f ∷ []) [] at, tt);
     objects = objects-same p.objects;
     counts = objects-many p.objects;
+    fits = objects-fit p.objects typed.objects;
     left = refl;
     taken = refl;
     written = refl;

@@ -102,6 +102,7 @@ begins-behind S active before s g b = record {
     calls = b.shows.calls;
     objects = b.shows.objects;
     counts = b.shows.counts;
+    fits = b.shows.fits;
     left = b.shows.left;
     taken = b.shows.taken;
     written = b.shows.written;

@@ -1,15 +1,15 @@
 -- How the states of a source program and of its graphs belong together, at points between statements and within
 -- expressions: objects, streams and active calls are the same, and the first variables of each call hold its locals.
-use Rattle.std.specs.Prelude.{◌≡◌, ◌<◌, ◌≤◌, ℕ, suc, ◌+◌, ◌*◌, pos, List, [], ◌∷◌, length, map, slice_get}
+use Rattle.std.specs.Prelude.{◌≡◌, ◌<◌, ◌≤◌, ℕ, suc, ◌+◌, ◌*◌, ℤ, pos, List, [], ◌∷◌, length, map, slice_get}
 use Rattle.std.specs.Prelude.{Option, Some, None, ◌==◌, if◌then◌else◌, IsSomeAnd}
-use Rattle.std.specs.List.{AllZip}
+use Rattle.std.specs.List.{All, AllZip}
 use Rattle.pcc_base.specs.Outcome.{ArrayName, Null, Static, InFrame, Unknown, Value, Number, Array}
 use Rattle.c_tree.specs.declared.types.IntegerType.{IntegerType}
 use Rattle.c_tree.specs.declared.types.ValueType.{ValueType}
 use Rattle.c_tree.specs.declared.types.ValueType.TheVariants.{Void, Integer, Pointer}
 use Rattle.c_tree.specs.Program.{Local, Function, Program}
 use Rattle.c_tree.specs.Store as source
-use Rattle.c_tree.specs.Store.{Held, HoldsNumber, HoldsPointer}
+use Rattle.c_tree.specs.Store.{Held, HoldsNumber, HoldsPointer, converted}
 use Rattle.flow_graph.specs.States as graph
 use Rattle.flow_graph.specs.States.{active_of, value_at}
 use Rattle.lower_lines.specs.Shown.{type_widths}
@@ -58,6 +58,14 @@ IsOf p active (Pointer t) (HoldsPointer array index) = IsArrayOf p active t arra
 IsOf p active (Integer t) (HoldsPointer array index) = ⊥
 IsOf p active (Pointer t) (HoldsNumber n) = ⊥
 
+-- A number of the type is one that a conversion to it keeps (C99 6.3.1.3p1).
+abbrev pub IsNumberOf : IntegerType → ℤ → Type 0
+IsNumberOf t n = converted t n ≡ n
+
+-- elements of an array of the type
+abbrev pub AreNumbersOf : IntegerType → List ℤ → Type 0
+AreNumbersOf t elements = All (IsNumberOf t) elements
+
 -- ---- active calls
 
 -- The variables of locals from a place on hold their values: one for a number, two for a pointer.
@@ -78,6 +86,7 @@ pub record ShowsCall (p : Program) (f : Function) (active : List Function) (a : 
   pub values : AllZip (λ l x. IsOf p active l.of x) f.locals a.values
   pub arrays : b.arrays ≡ a.arrays
   pub counts : map (λ elements. length elements) a.arrays ≡ map (λ array. array.count) f.arrays
+  pub fits : AllZip (λ array elements. AreNumbersOf array.element elements) f.arrays a.arrays
 
 -- the active calls, the youngest first
 abbrev pub ShowCalls : Program → List Function → List source.Activation → List graph.Activation → Type 0
@@ -91,6 +100,7 @@ pub record Shows (p : Program) (active : List Function) (s : source.State) (g : 
   pub calls : ShowCalls p active s.active (active_of g)
   pub objects : g.objects ≡ s.objects
   pub counts : map (λ elements. length elements) s.objects ≡ map (λ o. length o.elements) p.objects
+  pub fits : AllZip (λ o elements. AreNumbersOf o.element elements) p.objects s.objects
   pub left : g.left ≡ s.left
   pub taken : g.taken ≡ s.taken
   pub written : g.written ≡ s.written

@@ -20,7 +20,7 @@ use Rattle.lower_lines.specs.Lines.{Line, Emit, open_after, ops_in}
 use Rattle.lower_lines.specs.Parts.{bits_of}
 use Rattle.lower_lines.specs.Relation.{HoldsAt, IsArrayOf, Shows, array_value}
 use Rattle.lower_lines.specs.Variables.{Spot}
-use Rattle.lower_relation.proofs.Arrays.{arrays-reached, arrays-set}
+use Rattle.lower_relation.proofs.Arrays.{arrays-fit, arrays-reached, arrays-set, element-fits}
 use Rattle.lower_relation.proofs.Changes.{turns-free}
 use Rattle.lower_relation.proofs.Locals.{length-slice_set}
 use Rattle.lower_steps.proofs.Steps.{load-null, load-step, load-traps, store-null, store-step, store-traps}
@@ -152,5 +152,6 @@ module _ (S : Site) (site : IsSite S) (older : List Function) (t : IntegerType) 
       (source.with_array array (source.with_element elements index (converted t n)) u) (graph.with_array array es h))
       (sym (same-with elements index (stored (bits_of t) n)
       ∙ ap (source.with_element elements index) (stored-is t n)))
-      (arrays-set S.program (S.function ∷ older) u h array (source.with_element elements index (converted t n)) shows
-      (length-with elements index (converted t n)))
+      (arrays-set S.program (S.function ∷ older) u h t array (source.with_element elements index (converted t n)) shows is
+      (length-with elements index (converted t n))
+      (element-fits t elements index n (arrays-fit S.program (S.function ∷ older) u h t array shows is)))

@@ -18,7 +18,7 @@ use Rattle.flow_graph.specs.States.{Elements, active_of, depth_of, elements_in, 
 use Rattle.flow_graph.specs.States.{waiting_place}
 use Rattle.lower_lines.specs.Programs.{lowered}
 use Rattle.lower_lines.specs.Relation.{IsArrayOf, Shows, function_of_depth}
-use Rattle.lower_relation.proofs.Arrays.{arrays-set, arrays-there, as-many}
+use Rattle.lower_relation.proofs.Arrays.{arrays-set, arrays-there, as-many, zeros-fit}
 use Rattle.lower_relation.proofs.Depths.{length-mapped}
 use Rattle.lower_relation.proofs.Locals.{same-some}
 use Rattle.lower_places.specs.Laws.{ArraysAreCleared, NamesAreAlike}
@@ -74,6 +74,7 @@ arrays-cleared p f older s g k t shows is =
       subst (λ (a : ArrayName). Shows p (f ∷ older)
           (source.with_array (own_array s k) (zeroed (array_named s (own_array s k))) s)
           (graph.with_array a (replicate (length (array_named s (own_array s k))) (pos 0)) g)) array
-          (arrays-set p (f ∷ older) s g (own_array s k) (zeroed (array_named s (own_array s k))) shows
-          (length-replicate (length (array_named s (own_array s k))) (pos 0))),
+          (arrays-set p (f ∷ older) s g t (own_array s k) (zeroed (array_named s (own_array s k))) shows of
+          (length-replicate (length (array_named s (own_array s k))) (pos 0))
+          (zeros-fit t (length (array_named s (own_array s k))))),
     )

@@ -22,7 +22,7 @@ use Rattle.lower_lines.specs.Parts.{Wanted, Dropped, Own, ToLocal, Tests, bits_o
 use Rattle.lower_lines.specs.Parts.{operand}
 use Rattle.lower_lines.specs.Relation.{HoldsAt, IsArrayOf, Keeps, Shows}
 use Rattle.lower_lines.specs.Variables.{Spot, levels_of, local_spot, local_variables, own}
-use Rattle.lower_relation.proofs.Arrays.{arrays-reached, arrays-set, kept-by-arrays}
+use Rattle.lower_relation.proofs.Arrays.{arrays-fit, arrays-reached, arrays-set, element-fits, kept-by-arrays}
 use Rattle.lower_relation.proofs.Changes.{kept-none, turns-free}
 use Rattle.lower_relation.proofs.Depths.{with_frame}
 use Rattle.lower_relation.proofs.Locals.{length-slice_set}
@@ -195,9 +195,11 @@ module _ (S : Site) (site : IsSite S) (older : List Function) (k : ℕ) (o : Sta
   put-shows =
       subst (λ (m : ℤ). Shows S.program (S.function ∷ older) changed
       (graph.with_array (Static k) (graph.with_element elements (pos 0) m) h)) (sym (stored-is o.element n))
-      (arrays-set S.program (S.function ∷ older) u h (Static k)
-      (source.with_element elements (pos 0) (converted o.element n)) begins.shows
-      (length-slice_set elements 0 (converted o.element n)))
+      (arrays-set S.program (S.function ∷ older) u h o.element (Static k)
+      (source.with_element elements (pos 0) (converted o.element n)) begins.shows is-there
+      (length-slice_set elements 0 (converted o.element n))
+      (element-fits o.element elements (pos 0) n
+      (arrays-fit S.program (S.function ∷ older) u h o.element (Static k) begins.shows is-there)))
 
   put-keeps : Keeps (local_variables S.function) level h put
   put-keeps = kept-by-arrays (local_variables S.function) level h (Static k) _

@@ -1,9 +1,12 @@
 -- Arrays on both sides: which array a name of a typed pointer reaches, and that the states belong together where one
 -- gets other elements.
-use Rattle.std.proofs.Common.{◌≡◌, ℕ, zero, suc, Bool, true, false, ℤ}
+use Rattle.std.proofs.Common.{◌≡◌, ℕ, zero, suc, Bool, true, false, ℤ, pos, negsuc}
 use Rattle.std.proofs.Common.{List, [], ◌∷◌, length, map, Option, Some, refl, sym, ap, ◌∙◌, subst}
-use Rattle.std.specs.Prelude.{slice_get, slice_set, slice_index_or, option_map, if◌then◌else◌, ◌==◌, IsSomeAnd}
+use Rattle.std.specs.Prelude.{slice_get, slice_set, slice_index_or, option_map, if◌then◌else◌, ◌==◌, IsSomeAnd, replicate}
 use Rattle.std.specs.List.{AllZip}
+use Rattle.std.proofs.lemmas.Int.{SFits-int_wrap, int_wrap_fits}
+use Rattle.std.proofs.lemmas.List.Elements.{All-nil, All-replicate, All-set}
+use Rattle.std.specs.Int.{w8, w16}
 use Rattle.pcc_base.specs.Outcome.{Null, Static, InFrame, Unknown}
 use Rattle.c_tree.specs.declared.types.IntegerType.{IntegerType}
 use Rattle.c_tree.specs.declared.types.IntegerType.TheVariants.{Char, Short, Int}
@@ -11,7 +14,7 @@ use Rattle.c_tree.specs.Objects.{data_object}
 use Rattle.c_tree.specs.Program.{Function, LocalArray, Program, StaticObject}
 use Rattle.c_tree.specs.Sizes.{bytes_of}
 use Rattle.c_tree.specs.Store as source
-use Rattle.c_tree.specs.Store.{array_named, arrays_in, call_of_depth, with_array_in, with_own}
+use Rattle.c_tree.specs.Store.{array_named, arrays_in, call_of_depth, converted, with_array_in, with_own}
 use Rattle.flow_graph.specs.Graphs.{Flow, empty_flow}
 use Rattle.flow_graph.specs.Meaning.{Moved, given, of_width}
 use Rattle.flow_graph.specs.States as graph
@@ -20,11 +23,11 @@ use Rattle.flow_graph.specs.States.{waiting_place, with_elements}
 use Rattle.lower_lines.specs.Lowering.{array_of}
 use Rattle.lower_lines.specs.Parts.{bits_of}
 use Rattle.lower_lines.specs.Programs.{graph_of_function, lowered}
-use Rattle.lower_lines.specs.Relation.{Keeps, SameWaiting, ShowCalls, Shows, ShowsCall}
+use Rattle.lower_lines.specs.Relation.{AreNumbersOf, IsNumberOf, Keeps, SameWaiting, ShowCalls, Shows, ShowsCall}
 use Rattle.lower_lines.specs.Relation.{function_of_depth}
 use Rattle.lower_relation.proofs.Depths.{active-with, all-same, deep, frame-deep, waiting-same, with_deep, with_frame}
 use Rattle.lower_relation.proofs.Locals.{same-some}
-use Rattle.lower_relation.specs.Laws.{ArraysAreReached, ArraysAreSet, ArraysAreThere, KeptByArrays}
+use Rattle.lower_relation.specs.Laws.{ArraysAreReached, ArraysAreSet, ArraysAreThere, ArraysFit, KeptByArrays}
 
 -- ---- lists
 
@@ -70,6 +73,48 @@ lengths-set : (xss : List (List ℤ)) (k : ℕ) (xs : List ℤ) → length xs �
 lengths-set [] k xs e = refl
 lengths-set (ys ∷ xss) zero xs e = ap (λ (n : ℕ). n ∷ map (λ (zs : List ℤ). length zs) xss) e
 lengths-set (ys ∷ xss) (suc k) xs e = ap (λ (ns : List ℕ). length ys ∷ ns) (lengths-set xss k xs e)
+
+-- ---- numbers of a type
+
+-- a number in a type is one of it
+pub converted-of : (t : IntegerType) (n : ℤ) → IsNumberOf t (converted t n)
+converted-of Char n = int_wrap_fits w8 _ (SFits-int_wrap w8 n)
+converted-of Short n = int_wrap_fits w16 _ (SFits-int_wrap w16 n)
+converted-of Int n = refl
+
+zero-of : (t : IntegerType) → IsNumberOf t (pos 0)
+zero-of Char = int_wrap_fits w8 (pos 0) (record { sfits = omega arith })
+zero-of Short = int_wrap_fits w16 (pos 0) (record { sfits = omega arith })
+zero-of Int = refl
+
+pub zeros-fit : (t : IntegerType) (n : ℕ) → AreNumbersOf t (replicate n (pos 0))
+zeros-fit t n = All-replicate (IsNumberOf t) n (pos 0) (zero-of t)
+
+-- one element is another number of the type
+pub element-fits : (t : IntegerType) (elements : List ℤ) (index n : ℤ) → AreNumbersOf t elements
+    → AreNumbersOf t (source.with_element elements index (converted t n))
+element-fits t elements (pos i) n h = All-set (IsNumberOf t) elements i (converted t n) (converted-of t n) h
+element-fits t elements (negsuc i) n h = h
+
+-- the elements at one place, where those of each are numbers of a type
+row-of : {B : Type 0} (of : B → IntegerType) (t : IntegerType) (ys : List B) (xss : List (List ℤ)) (k : ℕ)
+    → AllZip (λ y xs. AreNumbersOf (of y) xs) ys xss → IsSomeAnd (slice_get ys k) (λ y. of y ≡ t)
+    → AreNumbersOf t (slice_index_or xss k [])
+row-of of t [] xss k h is = absurd is
+row-of of t (y ∷ ys) [] k h is = absurd h
+row-of of t (y ∷ ys) (xs ∷ xss) zero h is = subst (λ (u : IntegerType). AreNumbersOf u xs) is h.0
+row-of of t (y ∷ ys) (xs ∷ xss) (suc k) h is = row-of of t ys xss k h.1 is
+
+-- other elements at one place
+rows-set : {B : Type 0} (of : B → IntegerType) (t : IntegerType) (ys : List B) (xss : List (List ℤ)) (k : ℕ)
+    (elements : List ℤ) → AllZip (λ y xs. AreNumbersOf (of y) xs) ys xss
+    → IsSomeAnd (slice_get ys k) (λ y. of y ≡ t) → AreNumbersOf t elements
+    → AllZip (λ y xs. AreNumbersOf (of y) xs) ys (slice_set xss k elements)
+rows-set of t [] xss k elements h is new = absurd is
+rows-set of t (y ∷ ys) [] k elements h is new = absurd h
+rows-set of t (y ∷ ys) (xs ∷ xss) zero elements h is new =
+    (subst (λ (u : IntegerType). AreNumbersOf u elements) (sym is) new, h.1)
+rows-set of t (y ∷ ys) (xs ∷ xss) (suc k) elements h is new = (h.0, rows-set of t ys xss k elements h.1 is new)
 
 -- ---- active calls
 
@@ -172,47 +217,76 @@ arrays-reached p active s g t (InFrame k depth) shows is some go =
     ∙ of-bits t (array_named s (InFrame k depth)) go
 arrays-reached p active s g t Unknown shows is some go = absurd is
 
+-- its elements are numbers of the type
+frame-fits : (p : Program) (t : IntegerType) (s : source.State) (g : graph.State) (k depth : ℕ)
+    → Reached p (λ f. IsSomeAnd (slice_get f.arrays k) (λ a. a.element ≡ t)) (call_of_depth s.active depth)
+    (deep (active_of g) depth) → AreNumbersOf t (array_named s (InFrame k depth))
+frame-fits p t s g k depth (f, functions, a, b, is, at_source, at_graph, shows) =
+    subst (λ (x : Option source.Activation). AreNumbersOf t (slice_index_or (arrays_in x) k [])) (sym at_source)
+    (row-of (λ (x : LocalArray). x.element) t f.arrays a.arrays k shows.fits is)
+
+pub arrays-fit : ArraysFit
+arrays-fit p active s g t Null shows is = All-nil (IsNumberOf t)
+arrays-fit p active s g t (Static k) shows is =
+    row-of (λ (o : StaticObject). o.element) t p.objects s.objects k shows.fits is
+arrays-fit p active s g t (InFrame k depth) shows is =
+    frame-fits p t s g k depth
+    (reached p (λ f. IsSomeAnd (slice_get f.arrays k) (λ a. a.element ≡ t)) active s.active (active_of g) depth
+    shows.calls is)
+arrays-fit p active s g t Unknown shows is = absurd is
+
 -- ---- other elements
 
+-- the function has such an array
+abbrev HasArray : ℕ → IntegerType → Function → Type 0
+HasArray k t f = IsSomeAnd (slice_get f.arrays k) (λ a. a.element ≡ t)
+
 call-set : (p : Program) (f : Function) (active : List Function) (a : source.Activation) (b : graph.Activation) (k : ℕ)
-    (elements : List ℤ) → ShowsCall p f active a b → length elements ≡ length (slice_index_or a.arrays k [])
+    (t : IntegerType) (elements : List ℤ) → ShowsCall p f active a b → HasArray k t f
+    → length elements ≡ length (slice_index_or a.arrays k []) → AreNumbersOf t elements
     → ShowsCall p f active (with_own k elements a) (with_elements k elements b)
-call-set p f active a b k elements h e = record {
+call-set p f active a b k t elements h is e new = record {
   function = h.function;
   as_many = h.as_many;
   locals = h.locals;
   values = h.values;
   arrays = ap (λ (xss : List (List ℤ)). slice_set xss k elements) h.arrays;
   counts = lengths-set a.arrays k elements e ∙ h.counts;
+  fits = rows-set (λ (x : LocalArray). x.element) t f.arrays a.arrays k elements h.fits is new;
 }
 
 calls-set : (p : Program) (fs : List Function) (olds : List source.Activation) (bs : List graph.Activation)
-    (k depth : ℕ) (elements : List ℤ) → ShowCalls p fs olds bs
-    → length elements ≡ length (slice_index_or (arrays_in (call_of_depth olds depth)) k [])
+    (k depth : ℕ) (t : IntegerType) (elements : List ℤ) → ShowCalls p fs olds bs
+    → IsSomeAnd (function_of_depth fs depth) (HasArray k t)
+    → length elements ≡ length (slice_index_or (arrays_in (call_of_depth olds depth)) k []) → AreNumbersOf t elements
     → ShowCalls p fs (with_array_in k depth elements olds) (with_deep k depth elements bs)
-calls-set p [] [] [] k depth elements h e = tt
-calls-set p [] [] (b ∷ bs) k depth elements h e = absurd h
-calls-set p [] (a ∷ olds) [] k depth elements h e = absurd h
-calls-set p [] (a ∷ olds) (b ∷ bs) k depth elements h e = absurd h
-calls-set p (f ∷ fs) [] [] k depth elements h e = absurd h
-calls-set p (f ∷ fs) [] (b ∷ bs) k depth elements h e = absurd h
-calls-set p (f ∷ fs) (a ∷ olds) [] k depth elements h e = absurd h
-calls-set p (f ∷ fs) (a ∷ olds) (b ∷ bs) k depth elements h e =
+calls-set p [] [] [] k depth t elements h is e new = tt
+calls-set p [] [] (b ∷ bs) k depth t elements h is e new = absurd h
+calls-set p [] (a ∷ olds) [] k depth t elements h is e new = absurd h
+calls-set p [] (a ∷ olds) (b ∷ bs) k depth t elements h is e new = absurd h
+calls-set p (f ∷ fs) [] [] k depth t elements h is e new = absurd h
+calls-set p (f ∷ fs) [] (b ∷ bs) k depth t elements h is e new = absurd h
+calls-set p (f ∷ fs) (a ∷ olds) [] k depth t elements h is e new = absurd h
+calls-set p (f ∷ fs) (a ∷ olds) (b ∷ bs) k depth t elements h is e new =
     let many = as-many p fs olds bs h.1 in
+    let is' = subst (λ (n : ℕ). IsSomeAnd (if depth == suc n then Some f else function_of_depth fs depth)
+    (HasArray k t)) many.0 is in
     subst (λ (n : ℕ). ShowCalls p (f ∷ fs) (if depth == suc (length olds) then with_own k elements a ∷ olds
     else a ∷ with_array_in k depth elements olds) (if depth == suc n then with_elements k elements b ∷ bs
     else b ∷ with_deep k depth elements bs)) (sym many.1)
-    (by (depth == suc (length olds)) (calls-set p fs olds bs k depth elements h.1) e)
+    (by (depth == suc (length olds)) (λ there same. calls-set p fs olds bs k depth t elements h.1 there same new) is' e)
   where
     by : (here : Bool)
-        → (length elements ≡ length (slice_index_or (arrays_in (call_of_depth olds depth)) k [])
+        → (IsSomeAnd (function_of_depth fs depth) (HasArray k t)
+        → length elements ≡ length (slice_index_or (arrays_in (call_of_depth olds depth)) k [])
         → ShowCalls p fs (with_array_in k depth elements olds) (with_deep k depth elements bs))
+        → IsSomeAnd (if here then Some f else function_of_depth fs depth) (HasArray k t)
         → length elements
         ≡ length (slice_index_or (arrays_in (if here then Some a else call_of_depth olds depth)) k [])
         → ShowCalls p (f ∷ fs) (if here then with_own k elements a ∷ olds else a ∷ with_array_in k depth elements olds)
         (if here then with_elements k elements b ∷ bs else b ∷ with_deep k depth elements bs)
-    by true others e = (call-set p f (f ∷ fs) a b k elements h.0 e, h.1)
-    by false others e = (h.0, others e)
+    by true others there e = (call-set p f (f ∷ fs) a b k t elements h.0 there e new, h.1)
+    by false others there e = (h.0, others there e)
 
 frame-set : (p : Program) (active : List Function) (s : source.State) (g : graph.State) (k depth : ℕ)
     (elements : List ℤ) (mine : Bool) → Shows p active s g
@@ -223,6 +297,7 @@ frame-set p active s g k depth elements true shows calls = record {
   calls = calls;
   objects = shows.objects;
   counts = shows.counts;
+  fits = shows.fits;
   left = shows.left;
   taken = shows.taken;
   written = shows.written;
@@ -231,27 +306,29 @@ frame-set p active s g k depth elements false shows calls = record {
   calls = calls;
   objects = shows.objects;
   counts = shows.counts;
+  fits = shows.fits;
   left = shows.left;
   taken = shows.taken;
   written = shows.written;
 }
 
 pub arrays-set : ArraysAreSet
-arrays-set p active s g Null elements shows e = shows
-arrays-set p active s g (Static k) elements shows e = record {
+arrays-set p active s g t Null elements shows is e new = shows
+arrays-set p active s g t (Static k) elements shows is e new = record {
   calls = shows.calls;
   objects = ap (λ (xss : List (List ℤ)). slice_set xss k elements) shows.objects;
   counts = lengths-set s.objects k elements e ∙ shows.counts;
+  fits = rows-set (λ (o : StaticObject). o.element) t p.objects s.objects k elements shows.fits is new;
   left = shows.left;
   taken = shows.taken;
   written = shows.written;
 }
-arrays-set p active s g (InFrame k depth) elements shows e =
+arrays-set p active s g t (InFrame k depth) elements shows is e new =
     frame-set p active s g k depth elements (depth == depth_of g) shows
     (subst (λ (bs : List graph.Activation). ShowCalls p active (with_array_in k depth elements s.active) bs)
     (sym (active-with g k depth elements))
-    (calls-set p active s.active (active_of g) k depth elements shows.calls e))
-arrays-set p active s g Unknown elements shows e = shows
+    (calls-set p active s.active (active_of g) k depth t elements shows.calls is e new))
+arrays-set p active s g t Unknown elements shows is e new = shows
 
 -- ---- what is kept
 

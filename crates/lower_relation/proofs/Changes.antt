@@ -73,6 +73,7 @@ temporary-call p f active a b v x high h = record {
   values = h.values;
   arrays = h.arrays;
   counts = h.counts;
+  fits = h.fits;
 }
   where
     apart : (j v n : ℕ) → j ≡ v → j < 0 + n → n ≤ v → ⊥
@@ -85,6 +86,7 @@ temporaries-free p f older s g v x shows high = record {
       (λ a h. temporary-call p f (f ∷ older) a g.current v x high h);
   objects = shows.objects;
   counts = shows.counts;
+  fits = shows.fits;
   left = shows.left;
   taken = shows.taken;
   written = shows.written;
@@ -131,6 +133,7 @@ local-call p f active a b k l x ws e h many new typed below above =
       values = zip-set (λ m y. IsOf p active m.of y) f.locals a.values k l x h.values e typed;
       arrays = h.arrays;
       counts = h.counts;
+      fits = h.fits;
     }
 
 -- a number takes one variable
@@ -164,6 +167,7 @@ numbers-set p f older s g k l t n shows e of = record {
       (λ a h. number-call p f (f ∷ older) a g.current k l t n e of h);
   objects = shows.objects;
   counts = shows.counts;
+  fits = shows.fits;
   left = shows.left;
   taken = shows.taken;
   written = shows.written;
@@ -204,6 +208,7 @@ pointers-set p f older s g k l t array index shows e of is = record {
       (λ a h. pointer-call p f (f ∷ older) a g.current k l t array index e of is h);
   objects = shows.objects;
   counts = shows.counts;
+  fits = shows.fits;
   left = shows.left;
   taken = shows.taken;
   written = shows.written;
@@ -216,6 +221,7 @@ bytes-written p active s g byte shows = record {
   calls = shows.calls;
   objects = shows.objects;
   counts = shows.counts;
+  fits = shows.fits;
   left = shows.left;
   taken = shows.taken;
   written = ap (λ (w : List ℕ). w ++ byte ∷ []) shows.written;
@@ -226,6 +232,7 @@ bytes-taken p active s g bytes shows = record {
   calls = shows.calls;
   objects = shows.objects;
   counts = shows.counts;
+  fits = shows.fits;
   left = refl;
   taken = ap (λ (n : ℕ). n + 1) shows.taken;
   written = shows.written;
@@ -236,6 +243,7 @@ turns-free p active s g turns visits block point shows = record {
   calls = shows.calls;
   objects = shows.objects;
   counts = shows.counts;
+  fits = shows.fits;
   left = shows.left;
   taken = shows.taken;
   written = shows.written;

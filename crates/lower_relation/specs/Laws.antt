@@ -14,7 +14,7 @@ use Rattle.flow_graph.specs.States as graph
 use Rattle.flow_graph.specs.States.{elements_of, with_value}
 use Rattle.lower_lines.specs.Parts.{bits_of}
 use Rattle.lower_lines.specs.Programs.{lowered}
-use Rattle.lower_lines.specs.Relation.{HoldsAt, IsArrayOf, IsOf, Keeps, Shows, array_value}
+use Rattle.lower_lines.specs.Relation.{AreNumbersOf, HoldsAt, IsArrayOf, IsOf, Keeps, Shows, array_value}
 use Rattle.lower_lines.specs.Shown.{first_variable}
 use Rattle.lower_lines.specs.Variables.{local_variables, typed_spot}
 
@@ -99,11 +99,18 @@ ArraysAreReached =
     → Shows p active s g → IsArrayOf p active t array → array ≢ Null → (go : List ℤ → Moved)
     → accessed (lowered p) g (bits_of t) array go ≡ go (source.array_named s array)
 
--- an array gets other elements on both sides, as many as before
+-- the elements of an array that a pointer of the type names are numbers of the type
+abbrev pub ArraysFit : Type 0
+ArraysFit =
+    (p : Program) (active : List Function) (s : source.State) (g : graph.State) (t : IntegerType) (array : ArrayName)
+    → Shows p active s g → IsArrayOf p active t array → AreNumbersOf t (source.array_named s array)
+
+-- an array that a pointer of the type names gets other elements of the type on both sides, as many as before
 abbrev pub ArraysAreSet : Type 0
 ArraysAreSet =
-    (p : Program) (active : List Function) (s : source.State) (g : graph.State) (array : ArrayName)
-    (elements : List ℤ) → Shows p active s g → length elements ≡ length (source.array_named s array)
+    (p : Program) (active : List Function) (s : source.State) (g : graph.State) (t : IntegerType) (array : ArrayName)
+    (elements : List ℤ) → Shows p active s g → IsArrayOf p active t array
+    → length elements ≡ length (source.array_named s array) → AreNumbersOf t elements
     → Shows p active (source.with_array array elements s) (graph.with_array array elements g)
 
 -- where an array gets other elements, all temporaries are kept

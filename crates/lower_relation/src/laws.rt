@@ -1,6 +1,6 @@
 //! Laws of the relation between states: each function's contract is one, and the function does nothing.
 
-ghost use Rattle.lower_relation.specs.Laws.{ArraysAreReached, ArraysAreSet, ArraysAreThere, KeptByArrays};
+ghost use Rattle.lower_relation.specs.Laws.{ArraysAreReached, ArraysAreSet, ArraysAreThere, ArraysFit, KeptByArrays};
 ghost use Rattle.lower_relation.specs.Laws.{BytesAreTaken, BytesAreWritten, KeptBelow};
 ghost use Rattle.lower_relation.specs.Laws.{KeptByChange, KeptTwice, LocalsAreHeld};
 ghost use Rattle.lower_relation.specs.Laws.{NumbersAreSet, PointersAreSet, TemporariesAreFree};
@@ -66,7 +66,12 @@ pub fn arrays_are_reached()
     ensures { ArraysAreReached }
 {}
 
-/// An array gets other elements on both sides, as many as before.
+/// The elements of an array that a typed pointer names are numbers of its type.
+pub fn arrays_fit()
+    ensures { ArraysFit }
+{}
+
+/// An array gets other elements of its type on both sides, as many as before.
 pub fn arrays_are_set()
     ensures { ArraysAreSet }
 {}

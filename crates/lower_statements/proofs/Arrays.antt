@@ -35,7 +35,8 @@ use Rattle.lower_lines.specs.Shown.{first_variable, type_widths}
 use Rattle.lower_lines.specs.Statements.{elements_levels, elements_lines}
 use Rattle.lower_lines.specs.Variables.{ForArray, ForNumber, Spot, levels_of, local_variables, own, typed_spot}
 use Rattle.lower_bounds.proofs.Types.{part-type}
-use Rattle.lower_relation.proofs.Arrays.{arrays-reached, arrays-set, as-many, kept-by-arrays}
+use Rattle.lower_relation.proofs.Arrays.{arrays-fit, arrays-reached, arrays-set, as-many, element-fits}
+use Rattle.lower_relation.proofs.Arrays.{kept-by-arrays, zeros-fit}
 use Rattle.lower_relation.proofs.Changes.{kept-below, kept-by-change, kept-twice, temporaries-free}
 use Rattle.lower_relation.proofs.Depths.{length-mapped}
 use Rattle.lower_relation.proofs.Locals.{get-set_other, get-set_same, length-slice_set, local-within, same-some}
@@ -155,6 +156,7 @@ module _ (S : Site) (site : IsSite S) (older : List Function) (k : ℕ) (a : Loc
     calls = shows.calls;
     objects = shows.objects;
     counts = shows.counts;
+    fits = shows.fits;
     left = shows.left;
     taken = shows.taken;
     written = shows.written;
@@ -189,7 +191,8 @@ module _ (S : Site) (site : IsSite S) (older : List Function) (k : ℕ) (a : Loc
       let same1 = own-with g (suc (length older)) zs depth in
       let t = source.with_array named zs s in
       let shows1 = subst (λ (i : graph.State). Shows S.program active t i) same1
-      (arrays-set S.program active s g named zs b.shows (length-replicate (length es) (pos 0))) in
+      (arrays-set S.program active s g a.element named zs b.shows named-of (length-replicate (length es) (pos 0))
+      (zeros-fit a.element (length es))) in
       let keeps1 = subst (λ (i : graph.State). Keeps (local_variables S.function) 0 g i) same1
       (kept-by-arrays (local_variables S.function) 0 g named zs) in
       let depth1 = (depths t h1 shows1).0 in
@@ -280,7 +283,8 @@ module _ (S : Site) (site : IsSite S) (older : List Function) (k : ℕ) (a : Loc
       let h1 = with_value y (Number (pos place)) g in
       let h2 = graph.with_array named new h1 in
       let shows1 = own-zero-shows S active s g (pos place) b in
-      let shows2 = arrays-set S.program active s h1 named new shows1 (length-slice_set es place m) in
+      let shows2 = arrays-set S.program active s h1 a.element named new shows1 named-of (length-slice_set es place m)
+      (element-fits a.element es (pos place) n (arrays-fit S.program active s h1 a.element named shows1 named-of)) in
       let kept2 = kept-by-arrays (local_variables S.function) 1 h1 named new in
       let at_p1 : value_at h1 p ≡ Some (ArrayValue named) =
       get-set_other g.current.variables y p (Number (pos place)) (λ e. other (local_variables S.function) (0 * 5) e) ∙

@@ -35,6 +35,7 @@ with-turns S active s g n b le = record {
     calls = b.shows.calls;
     objects = b.shows.objects;
     counts = b.shows.counts;
+    fits = b.shows.fits;
     left = b.shows.left;
     taken = b.shows.taken;
     written = b.shows.written;

@@ -1,10 +1,5 @@
 //! Laws of the lines of statements: each function's contract is one, and the function does nothing.
 
-ghost use Rattle.std.specs.Prelude.{[], option_map, pos, ◌≡◌, ◌∷◌, Some};
-ghost use Rattle.flow_graph.specs.Running.{state_after};
-ghost use Rattle.lower_lines.specs.Programs.{lowered};
-ghost use Rattle.lower_lines.specs.Relation.{Shows};
-ghost use Rattle.lower_statements.specs.Worked.{copied_in_source, copies, copying_main, wide_graph, wide_state};
 ghost use Rattle.lower_statements.specs.Laws.{BlocksLower, BodiesLowerWithoutTexts, BreaksLower};
 ghost use Rattle.lower_statements.specs.Laws.{ConditionsLower, ContinuesLower, DeclarationsLower};
 ghost use Rattle.lower_statements.specs.Laws.{DosLower, ElementsLower, EmptiesLower};
@@ -133,13 +128,4 @@ pub fn statements_lower_without_texts()
 /// So do those of every body.
 pub fn bodies_lower_without_texts()
     ensures { BodiesLowerWithoutTexts }
-{}
-
-/// Lines of a string that initialises an array don't do what the source does from every state that is shown: where the
-/// string has an element that is no `char`, which no program comes to, the source copies 300 and the graph 44.
-pub fn wide_elements_differ()
-    ensures shows { Shows copies (copying_main ∷ []) wide_state wide_graph }
-    ensures source { copied_in_source ≡ pos 300 ∷ [] }
-    ensures graphs { option_map (λ t. t.current.arrays) (state_after (lowered copies) 12 wide_graph)
-        ≡ Some ((pos 44 ∷ []) ∷ []) }
 {}

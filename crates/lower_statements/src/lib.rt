@@ -10,5 +10,4 @@ pub use laws::{
     evaluations_lower, fors_lower, items_lower, lasts_lower, no_items_lower, plain_returns_lower,
     plain_scalars_lower, returns_lower, scalars_lower, sequences_lower,
     statements_lower_without_texts, steady_scalars_lower, switches_lower, whiles_lower,
-    wide_elements_differ,
 };
