@@ -19,5 +19,4 @@ pub mod Sizes
 pub mod Ordered
 pub mod Naming
 pub mod Names
-pub mod Rooms
 pub mod Few

@@ -1,17 +1,14 @@
--- The graphs are small beside their program, where it declares its arrays.
-use Rattle.std.proofs.Common.{◌≤◌, ◌*◌, List, [], ◌∷◌, refl, arith, length, map}
-use Rattle.std.specs.Prelude.{codes, sum_by}
+-- The graphs are small beside their program.
+use Rattle.std.proofs.Common.{◌≤◌, ◌*◌, List, [], ◌∷◌, arith, length, map}
+use Rattle.std.specs.Prelude.{sum_by}
 use Rattle.std.specs.List.{AllByRecursion}
-use Rattle.std.proofs.lemmas.List.Elements.{All-from_recursion, recursion_from_All}
+use Rattle.std.proofs.lemmas.List.Elements.{recursion_from_All}
 use Rattle.std.proofs.lemmas.List.Sums.{sum_by-cons}
-use Rattle.c_tree.specs.Objects.{IsObject}
-use Rattle.c_tree.specs.declared.types.IntegerType.TheVariants.{Int}
-use Rattle.c_tree.specs.Program.{Done, int, Function, LocalArray, Local, Program}
+use Rattle.c_tree.specs.Program.{Function, Program}
 use Rattle.c_tree.specs.Sizes.{function_size, statements_height}
-use Rattle.c_tree.specs.WellTyped.{IsScalar, IsTypedFunction, WellTyped}
 use Rattle.lower_lines.specs.Lowering.{array_of, arrays_in, points_in, words_in}
 use Rattle.lower_lines.specs.Programs.{graph_of_function}
-use Rattle.lower_bounds.specs.Laws.{DeclaredAreSmall, NotAllAreSmall, undeclared}
+use Rattle.lower_lines.specs.Laws.{GraphsAreSmall}
 use Rattle.lower_bounds.proofs.Shapes.{length-map}
 use Rattle.lower_bounds.proofs.Weights.{all-words}
 use Rattle.lower_bounds.proofs.Weighings.{function-weighs}
@@ -50,50 +47,11 @@ arrays-small p (f ∷ fs) few =
     let h = arrays-small p fs few.1 in
     omega (arith, w, l, s, s', h)
 
-pub declared-are-small : DeclaredAreSmall
-declared-are-small p few = record {
+pub graphs-are-small : GraphsAreSmall
+graphs-are-small p typed memory = record {
   points = points-small p p.functions;
   words = words-small p p.functions;
   arrays = arrays-small p p.functions
-      (recursion_from_All (λ (f : Function). length f.arrays ≤ function_size f) p.functions few);
+      (recursion_from_All (λ (f : Function). length f.arrays ≤ function_size f) p.functions
+      (λ k d low. (memory.functions k d low).declared));
 }
-
-undeclared-function : IsTypedFunction undeclared (record {
-  name = codes "main";
-  result = int;
-  parameters = 0;
-  locals = [];
-  arrays = record { name = codes "a"; element = Int; count = 1 } ∷ record {
-    name = codes "b";
-    element = Int;
-    count = 1;
-  } ∷ [];
-  body = Done;
-})
-undeclared-function = record {
-  result = tt;
-  parameters = omega arith;
-  locals = All-from_recursion (λ (l : Local). IsScalar l.of) [] tt;
-  arrays = All-from_recursion (λ (a : LocalArray). 1 ≤ a.count)
-      (record { name = codes "a"; element = Int; count = 1 } ∷ record {
-        name = codes "b";
-        element = Int;
-        count = 1;
-      } ∷ [])
-      (omega arith, (omega arith, tt));
-  body = tt;
-}
-
-undeclared-typed : WellTyped undeclared
-undeclared-typed = record {
-  objects = All-from_recursion IsObject [] tt;
-  functions = All-from_recursion (IsTypedFunction undeclared) undeclared.functions (undeclared-function, tt);
-  main = (refl, refl);
-  numbered = refl;
-}
-
-pub not-all-are-small : NotAllAreSmall
-not-all-are-small h = let a = (h undeclared undeclared-typed).arrays in not a
-  where
-    not : 2 ≤ 1 → ⊥
-    not h = omega (arith, h)

@@ -1,47 +1,12 @@
 -- Laws on how large graphs are, and on the order of their points, beside those of `lower_lines`.
-use Rattle.std.specs.Prelude.{◌≡◌, ◌<◌, ◌≤◌, ℕ, ◌*◌, List, codes, length, slice_get, Some, [], ◌∷◌}
+use Rattle.std.specs.Prelude.{◌≡◌, ◌<◌, ◌≤◌, ℕ, ◌*◌, List, length, slice_get, Some}
 use Rattle.std.specs.List.{All, AllByRecursion}
-use Rattle.c_tree.specs.declared.types.IntegerType.TheVariants.{Int}
-use Rattle.c_tree.specs.Program.{Done, Function, Program, int}
+use Rattle.c_tree.specs.Program.{Function, Program}
 use Rattle.c_tree.specs.Sizes.{function_size}
 use Rattle.c_tree.specs.WellTyped.{WellTyped}
 use Rattle.flow_graph.specs.Graphs.{EndsOnlyLast, Flow, IsArray, IsDistinct, LastIsEnd, points_of}
 use Rattle.flow_graph.specs.WellFormed.{NamesWithin}
-use Rattle.lower_lines.specs.Laws.{GraphsAreSmall, GraphsAreThere}
-use Rattle.lower_lines.specs.Lowering.{AreSmall}
 use Rattle.lower_lines.specs.Programs.{graph_of_function, lowered}
-
--- no function has more arrays than tokens, as where each is declared by an item of its own
-abbrev pub HasFewArrays : Program → Type 0
-HasFewArrays p = All (λ f. length f.arrays ≤ function_size f) p.functions
-
--- then graphs grow no faster than the program: at most 20 points and 2 argument words for each token, and one frame
--- array
-abbrev pub DeclaredAreSmall : Type 0
-DeclaredAreSmall = (p : Program) → HasFewArrays p → AreSmall p (lowered p)
-
--- a typed program of one token with two arrays that no item declares
-abbrev pub undeclared : Program
-undeclared = record {
-  objects = [];
-  functions = record {
-    name = codes "main";
-    result = int;
-    parameters = 0;
-    locals = [];
-    arrays = record { name = codes "a"; element = Int; count = 1 } ∷ record {
-      name = codes "b";
-      element = Int;
-      count = 1;
-    } ∷ [];
-    body = Done;
-  } ∷ [];
-  main = 0;
-}
-
--- Without that, not every typed program has graphs so small.
-abbrev pub NotAllAreSmall : Type 0
-NotAllAreSmall = GraphsAreSmall → ⊥
 
 -- ---- the order of points
 
@@ -78,7 +43,3 @@ PointsAreFew = (p : Program) → WellTyped p → (k : ℕ) (f : Function) → sl
 abbrev pub NamesAreThere : Type 0
 NamesAreThere = (p : Program) → WellTyped p → (k : ℕ) (f : Function) → slice_get p.functions k ≡ Some f
     → All (NamesWithin (length (lowered p).functions) (length (lowered p).objects)) (graph_of_function p f).ops
-
--- Not every typed program in memory has such graphs: nothing bounds how many arrays a function has.
-abbrev pub NotAllAreThere : Type 0
-NotAllAreThere = GraphsAreThere → ⊥

@@ -1,8 +1,8 @@
 //! Laws of lines and of their graphs: each function's contract is one, and the function does nothing.
 
-ghost use Rattle.lower_bounds.specs.Laws.{DeclaredAreSmall, GraphsAreLaidOut, NamesAreThere, NotAllAreSmall};
-ghost use Rattle.lower_bounds.specs.Laws.{NotAllAreThere, PointsAreFew};
-ghost use Rattle.lower_lines.specs.Laws.{AllLinesClose, MarksHold, ObjectsHold, ShapesHold};
+ghost use Rattle.lower_bounds.specs.Laws.{GraphsAreLaidOut, NamesAreThere, PointsAreFew};
+ghost use Rattle.lower_lines.specs.Laws.{AllLinesClose, GraphsAreSmall, MarksHold, ObjectsHold};
+ghost use Rattle.lower_lines.specs.Laws.{ShapesHold};
 
 /// The static objects of the graphs are the program's, with their first contents.
 pub fn objects_hold()
@@ -26,15 +26,9 @@ pub fn marks_hold()
     ensures { MarksHold }
 {}
 
-/// The graphs of a program have at most 20 points and 2 argument words for each token of it, and one frame array where
-/// no function has more arrays than tokens.
-pub fn declared_are_small()
-    ensures { DeclaredAreSmall }
-{}
-
-/// A typed program may have more frame arrays than tokens: nothing says that an item declares each.
-pub fn not_all_are_small()
-    ensures { NotAllAreSmall }
+/// The graphs of a program have at most 20 points, 2 argument words and one frame array for each token of it.
+pub fn graphs_are_small()
+    ensures { GraphsAreSmall }
 {}
 
 /// In the graphs of a typed program each point is in one block, each block has an end as its last op alone, there is a
@@ -46,12 +40,6 @@ pub fn graphs_are_laid_out()
 /// The ops of a typed program's graphs name functions and static objects of the program alone.
 pub fn names_are_there()
     ensures { NamesAreThere }
-{}
-
-/// A typed program in memory may have more frame arrays than a graph has room for: nothing bounds how many a function
-/// has.
-pub fn not_all_are_there()
-    ensures { NotAllAreThere }
 {}
 
 /// The graph of a typed program's function has at most 20 points for each token of the function, and no more blocks

@@ -5,6 +5,6 @@
 mod laws;
 
 pub use laws::{
-    all_lines_close, declared_are_small, graphs_are_laid_out, marks_hold, names_are_there,
-    not_all_are_small, not_all_are_there, objects_hold, points_are_few, shapes_hold,
+    all_lines_close, graphs_are_laid_out, graphs_are_small, marks_hold, names_are_there,
+    objects_hold, points_are_few, shapes_hold,
 };

@@ -33,6 +33,7 @@ use Rattle.lower_lines.specs.Programs.{body_run, lowered, no_exits, parameters_l
 use Rattle.lower_lines.specs.Relation.{IsOf, SameWaiting, ShowCalls, Shows}
 use Rattle.lower_lines.specs.Shown.{ListsLocals}
 use Rattle.lower_lines.specs.Statements.{Leaves}
+use Rattle.lower_lines.specs.Words.{IsInMemory}
 use Rattle.lower_steps.proofs.Points.{starts-stand}
 use Rattle.lower_steps.proofs.Steps.{comes-end, comes-plain, turn-spent, turn-step}
 use Rattle.lower_calls.specs.Laws.{IsLeft, LeavesSo, Takes, all_words_passed, waiting_at}
@@ -83,8 +84,8 @@ ends-here S active s g h turns end shows r =
       end = end;
     })) shows.taken r)
 
-module _ (p : Program) (listing : Listing) (typed : WellTyped p) (lists : ListsLocals p listing) (close : LinesClose p)
-    (bodies : BodiesLower) (expressions : ExpressionsLower) where
+module _ (p : Program) (listing : Listing) (typed : WellTyped p) (memory : IsInMemory p)
+    (lists : ListsLocals p listing) (close : LinesClose p) (bodies : BodiesLower) (expressions : ExpressionsLower) where
   pub site-there : (bound k : ℕ) (f : Function) → slice_get p.functions k ≡ Some f
       → IsSite (site_within bound p listing k f)
   site-there bound k f at = record {
@@ -199,8 +200,8 @@ module _ (p : Program) (listing : Listing) (typed : WellTyped p) (lists : ListsL
         (recursion_from_All (λ l. IsScalar l.of) f.locals is.locals)))
         (all-younger p f active (map (λ l. l.of) (parameters_in f)) (all_as_passed (parameters_in f) arguments) are)
         own words fresh) in
-        let body = bodies site there typed (expressions site there typed calls) loops le false false f.body is.body
-        (statements-own p typed.numbered k f at) in
+        let body = bodies site there typed memory (expressions site there typed calls) loops le false false f.body
+        is.body (statements-own p typed.numbered k f at) in
         after-body active s s1 g takes.0 (body_of bound loops f s1) takes.4 refl
         (λ o r. subst (λ (n : ℕ). Comes site n (behind (Start 0 ∷ []) g) o) (sym e)
         (turn-step site there (Start 0 ∷ []) g own m o (taking ++ running, refl) (takes.5 m o r)))
@@ -402,5 +403,5 @@ module _ (p : Program) (listing : Listing) (typed : WellTyped p) (lists : ListsL
       begins (nat_le most_active (length s.active)) refl)
 
 pub calls-lower : CallsLower
-calls-lower p listing typed lists close bodies expressions bound k f at =
-    calls-follow p listing typed lists close bodies expressions bound k f at
+calls-lower p listing typed memory lists close bodies expressions bound k f at =
+    calls-follow p listing typed memory lists close bodies expressions bound k f at

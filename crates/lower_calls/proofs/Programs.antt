@@ -1,8 +1,8 @@
 -- Lowering keeps the outcome of a program, given the laws of bounds, bodies and expressions.
 use Rattle.std.proofs.Common.{◌≡◌, ℕ, suc, true, false, ℤ, pos, negsuc, List, [], ◌∷◌, ◌++◌, length, map}
 use Rattle.std.proofs.Common.{take, Option, Some, None, refl, sym, ap, ◌∙◌, subst, arith, append-nil}
-use Rattle.std.specs.Prelude.{IsSomeAnd, option_map, slice_get, slice_index_or}
-use Rattle.std.proofs.lemmas.Int.{int_wrap_fits}
+use Rattle.std.specs.Prelude.{IsSomeAnd, option_map, slice_get, slice_index_or, ◌<ℤ◌, ◌≤ℤ◌}
+use Rattle.std.proofs.lemmas.Int.{int_wrap_fits, ints}
 use Rattle.std.proofs.lemmas.List.Elements.{All-tail}
 use Rattle.std.specs.Int.{w8, w16}
 use Rattle.std.specs.List.{All, AllZip}
@@ -35,6 +35,7 @@ use Rattle.lower_lines.specs.Programs.{body_run, lowered, no_exits, parameters_l
 use Rattle.lower_lines.specs.Relation.{AreNumbersOf, IsNumberOf, IsOf, SameWaiting, Shows}
 use Rattle.lower_lines.specs.Shown.{ListsLocals}
 use Rattle.lower_lines.specs.Statements.{Leaves}
+use Rattle.lower_lines.specs.Words.{IsInMemory}
 use Rattle.lower_steps.proofs.Points.{starts-stand}
 use Rattle.lower_calls.specs.Laws.{IsLeft, ProgramsLowerSo, all_words_passed}
 use Rattle.lower_calls.proofs.Beginning.{calls-fresh}
@@ -67,10 +68,16 @@ objects-many (o ∷ os) = ap (λ (ns : List ℕ). length o.elements ∷ ns) (obj
 
 -- numbers of so many bytes are numbers of the type
 bytes-fit : (t : IntegerType) (n : ℤ) → FitsBytes (bytes_of t) n → IsNumberOf t n
-bytes-fit Char (pos m) h = int_wrap_fits w8 (pos m) (record { sfits = omega (arith, h.1) })
-bytes-fit Char (negsuc m) h = int_wrap_fits w8 (negsuc m) (record { sfits = omega (arith, h.0) })
-bytes-fit Short (pos m) h = int_wrap_fits w16 (pos m) (record { sfits = omega (arith, h.1) })
-bytes-fit Short (negsuc m) h = int_wrap_fits w16 (negsuc m) (record { sfits = omega (arith, h.0) })
+bytes-fit Char (pos m) h =
+    let top : pos m <ℤ pos 128 = h.1 in int_wrap_fits w8 (pos m) (record { sfits = omega (arith, ints, top) })
+bytes-fit Char (negsuc m) h =
+    let low : negsuc 127 ≤ℤ negsuc m = h.0 in
+    int_wrap_fits w8 (negsuc m) (record { sfits = omega (arith, ints, low) })
+bytes-fit Short (pos m) h =
+    let top : pos m <ℤ pos 32768 = h.1 in int_wrap_fits w16 (pos m) (record { sfits = omega (arith, ints, top) })
+bytes-fit Short (negsuc m) h =
+    let low : negsuc 32767 ≤ℤ negsuc m = h.0 in
+    int_wrap_fits w16 (negsuc m) (record { sfits = omega (arith, ints, low) })
 bytes-fit Int n h = refl
 
 objects-fit : (os : List StaticObject) → All IsObject (map data_object os)
@@ -158,8 +165,9 @@ no-types : (R : ValueType → Held → Type 0) (n : ℕ) (ls : List Local) → n
     → AllZip R (map (λ l. l.of) (take n ls)) (all_as_passed (take n ls) [])
 no-types R n ls e = subst (λ (k : ℕ). AllZip R (map (λ l. l.of) (take k ls)) (all_as_passed (take k ls) [])) (sym e) tt
 
-module _ (p : Program) (listing : Listing) (typed : WellTyped p) (lists : ListsLocals p listing) (close : LinesClose p)
-    (bodies : BodiesLower) (expressions : ExpressionsLower) (input : List ℕ) (turns : ℕ) (f : Function)
+module _ (p : Program) (listing : Listing) (typed : WellTyped p) (memory : IsInMemory p)
+    (lists : ListsLocals p listing) (close : LinesClose p) (bodies : BodiesLower)
+    (expressions : ExpressionsLower) (input : List ℕ) (turns : ℕ) (f : Function)
     (at : slice_get p.functions p.main ≡ Some f) (is : IsMain f) where
   abbrev site : Site
   site = site_within turns p listing p.main f
@@ -185,7 +193,8 @@ module _ (p : Program) (listing : Listing) (typed : WellTyped p) (lists : ListsL
   -- the graphs begin there
   starts : graph_state (lowered p) input ≡ Some start
   starts =
-      let there = starts-stand site (site-there p listing typed lists close bodies expressions turns p.main f at) [] 0
+      let there = starts-stand site
+      (site-there p listing typed memory lists close bodies expressions turns p.main f at) [] 0
       start (
         Emit op.Turn ∷ (parameters_lines (context_of site) (parameters_in f) 0 0
             ++ (body_run (context_of site)).lines no_exits 1 Leaves),
@@ -196,24 +205,25 @@ module _ (p : Program) (listing : Listing) (typed : WellTyped p) (lists : ListsL
 
   runs : Comes site turns start (source_outcome p listing input turns)
   runs =
-      let go : source.State → Evaluated Left = λ t. body_of p listing typed lists close bodies expressions turns
+      let go : source.State → Evaluated Left = λ t. body_of p listing typed memory lists close bodies expressions turns
       (suc turns) f (record t { active = first_activation f [] ∷ t.active }) in
       subst (λ (o : Option Function). Comes site turns start
       (outcome_of (run_function (call_within turns p listing) (suc turns) listing o [] begins))) (sym at)
       (subst (λ (r : Evaluated Held). Comes site turns start (outcome_of r)) (turn-over turns begins go)
       (outcome-comes site begins start is.0 refl refl (turn_with turns begins go)
-      (begun p listing typed lists close bodies expressions turns (suc turns) p.main f at (omega arith)
-      (calls-follow p listing typed lists close bodies expressions turns p.main f at) [] [] begins start turns refl
+      (begun p listing typed memory lists close bodies expressions turns (suc turns) p.main f at (omega arith)
+      (calls-follow p listing typed memory lists close bodies expressions turns p.main f at) [] [] begins start turns
+      refl
       (omega arith) refl (no-words f.parameters f.locals is.1) (no-types (IsOf p []) f.parameters f.locals is.1)
       shown)))
 
 pub programs-lower : AllLinesClose → ProgramsLowerSo
-programs-lower all bodies expressions p typed listing lists input turns =
+programs-lower all bodies expressions p typed memory listing lists input turns =
     let m = some-and IsMain (slice_get p.functions p.main) typed.main in
     let close = all p typed in
-    let comes = runs p listing typed lists close bodies expressions input turns m.0 m.1 m.2 in (
-      start p listing typed lists close bodies expressions input turns m.0 m.1 m.2,
-      starts p listing typed lists close bodies expressions input turns m.0 m.1 m.2,
+    let comes = runs p listing typed memory lists close bodies expressions input turns m.0 m.1 m.2 in (
+      start p listing typed memory lists close bodies expressions input turns m.0 m.1 m.2,
+      starts p listing typed memory lists close bodies expressions input turns m.0 m.1 m.2,
       comes.0,
       comes.1,
     )

@@ -75,15 +75,15 @@ IsOwn S n = locals_at S.program.functions n ≡ S.function.locals
 
 -- Loops go over a bound that isn't lower than that of calls.
 abbrev pub StatementsLower : Type 0
-StatementsLower = (S : Site) → IsSite S → WellTyped S.program → ExpressionsFollow S → (loops : ℕ) → S.bound ≤ loops
-    → (breaks continues : Bool) (x : Statement) → IsStatement S.program S.function breaks continues x
-    → All (IsOwn S) (statement_numbers x) → LowersRun S breaks continues (run_of (context_of S) x)
+StatementsLower = (S : Site) → IsSite S → WellTyped S.program → IsInMemory S.program → ExpressionsFollow S
+    → (loops : ℕ) → S.bound ≤ loops → (breaks continues : Bool) (x : Statement)
+    → IsStatement S.program S.function breaks continues x → All (IsOwn S) (statement_numbers x) → LowersRun S breaks continues (run_of (context_of S) x)
     (execute (within S.calls loops S.listing (type_at S.function) S.function.result) x)
 
 abbrev pub BodiesLower : Type 0
-BodiesLower = (S : Site) → IsSite S → WellTyped S.program → ExpressionsFollow S → (loops : ℕ) → S.bound ≤ loops
-    → (breaks continues : Bool) (xs : Statements) → AreStatements S.program S.function breaks continues xs
-    → All (IsOwn S) (statements_numbers xs)
+BodiesLower = (S : Site) → IsSite S → WellTyped S.program → IsInMemory S.program → ExpressionsFollow S
+    → (loops : ℕ) → S.bound ≤ loops → (breaks continues : Bool) (xs : Statements)
+    → AreStatements S.program S.function breaks continues xs → All (IsOwn S) (statements_numbers xs)
     → LowersRun S breaks continues (block_run (context_of S) (runs_of (context_of S) xs))
     (execute_from (within S.calls loops S.listing (type_at S.function) S.function.result) xs 0)
 
@@ -109,13 +109,13 @@ LinesClose p = (k : ℕ) (f : Function) → slice_get p.functions k ≡ Some f
 
 -- calls over every bound do what the op of a call does
 abbrev pub CallsLower : Type 0
-CallsLower = (p : Program) (listing : Listing) → WellTyped p → ListsLocals p listing → LinesClose p → BodiesLower
-    → ExpressionsLower → (bound k : ℕ) (f : Function) → slice_get p.functions k ≡ Some f
+CallsLower = (p : Program) (listing : Listing) → WellTyped p → IsInMemory p → ListsLocals p listing → LinesClose p
+    → BodiesLower → ExpressionsLower → (bound k : ℕ) (f : Function) → slice_get p.functions k ≡ Some f
     → CallsFollow (site_within bound p listing k f)
 
 -- lowering keeps the outcome
 abbrev pub ProgramsLower : Type 0
-ProgramsLower = (p : Program) → WellTyped p → KeepsOutcome p (lowered p)
+ProgramsLower = (p : Program) → WellTyped p → IsInMemory p → KeepsOutcome p (lowered p)
 
 -- ---- bounds
 
@@ -133,7 +133,7 @@ ShapesHold = (p : Program) → WellTyped p → HaveShapes p (lowered p)
 
 -- they grow no faster than the program
 abbrev pub GraphsAreSmall : Type 0
-GraphsAreSmall = (p : Program) → WellTyped p → AreSmall p (lowered p)
+GraphsAreSmall = (p : Program) → WellTyped p → IsInMemory p → AreSmall p (lowered p)
 
 -- the marks are those of the statements, once each
 abbrev pub MarksHold : Type 0

@@ -1,6 +1,8 @@
--- The numbers of a program as its types in memory have them: constants, and the values of labels, are signed numbers
--- of 32 bits, and arrays have no more elements than a number of 32 bits says. Every program in memory keeps it.
-use Rattle.std.specs.Prelude.{◌≤◌, FitsSigned, IfSome}
+-- What the types of a program in memory, the tokens of its text and the limits on it bound. Constants, and the values
+-- of labels, are signed numbers of 32 bits, and arrays have no more elements than a number of 32 bits says: every
+-- program in memory keeps it. Each part has a token of its own, and so has each array, which an item declares. The
+-- frames of calls and the static objects are within the limits, which typing checks.
+use Rattle.std.specs.Prelude.{◌≤◌, FitsSigned, IfSome, length}
 use Rattle.std.specs.Int.{w32}
 use Rattle.std.specs.List.{All}
 use Rattle.c_tree.specs.Program.{Expression, Constant, Start, Read, Address, Unary, Binary, And, Or, Conditional, Cast}
@@ -9,7 +11,7 @@ use Rattle.c_tree.specs.Program.{StaticPlace, Target, Element, Arguments, NoMore
 use Rattle.c_tree.specs.Program.{Item, Scalar, Array, First, Nothing, Evaluated, Declared, Statement, Declare, Empty}
 use Rattle.c_tree.specs.Program.{Evaluate, Block, If, While, Do, For, Switch, Break, Continue, Return, Statements, Done}
 use Rattle.c_tree.specs.Program.{Next, Function, Program}
-use Rattle.c_tree.specs.Sizes.{size_of}
+use Rattle.c_tree.specs.Sizes.{frame_bound, function_size, size_of}
 
 abbrev mutual
   pub HasWords : Expression → Type 0
@@ -79,8 +81,15 @@ abbrev mutual
 pub record FunctionHasWords (f : Function) : Type 0 where
   pub arrays : All (λ a. a.count ≤ 4294967295) f.arrays
   pub body : StatementsHaveWords f.body
+  -- an item of its own declares each array
+  pub declared : length f.arrays ≤ function_size f
+  -- the limit on frames, in bytes
+  pub frame : frame_bound f ≤ 16384
 
--- a program in memory, of no more than the tokens that a program may have
+-- a program in memory, of no more than the tokens that a program may have, and within the limits
 pub record IsInMemory (p : Program) : Type 0 where
   pub functions : All FunctionHasWords p.functions
   pub small : size_of p ≤ 65536
+  -- of the limit on static objects, which is on the bytes of all of them: each has some, and so has each element
+  pub few_objects : length p.objects ≤ 16777216
+  pub few_elements : All (λ o. length o.elements ≤ 16777216) p.objects

@@ -152,6 +152,6 @@ module _ (S : Site) (site : IsSite S) (older : List Function) (t : IntegerType) 
       (source.with_array array (source.with_element elements index (converted t n)) u) (graph.with_array array es h))
       (sym (same-with elements index (stored (bits_of t) n)
       ∙ ap (source.with_element elements index) (stored-is t n)))
-      (arrays-set S.program (S.function ∷ older) u h t array (source.with_element elements index (converted t n)) shows is
-      (length-with elements index (converted t n))
+      (arrays-set S.program (S.function ∷ older) u h t array (source.with_element elements index (converted t n)) shows
+      is (length-with elements index (converted t n))
       (element-fits t elements index n (arrays-fit S.program (S.function ∷ older) u h t array shows is)))

@@ -1,8 +1,9 @@
 -- Arrays on both sides: which array a name of a typed pointer reaches, and that the states belong together where one
 -- gets other elements.
 use Rattle.std.proofs.Common.{◌≡◌, ℕ, zero, suc, Bool, true, false, ℤ, pos, negsuc}
-use Rattle.std.proofs.Common.{List, [], ◌∷◌, length, map, Option, Some, refl, sym, ap, ◌∙◌, subst}
-use Rattle.std.specs.Prelude.{slice_get, slice_set, slice_index_or, option_map, if◌then◌else◌, ◌==◌, IsSomeAnd, replicate}
+use Rattle.std.proofs.Common.{List, [], ◌∷◌, length, map, Option, Some, refl, sym, ap, ◌∙◌, subst, arith}
+use Rattle.std.specs.Prelude.{slice_get, slice_set, slice_index_or, option_map, if◌then◌else◌, ◌==◌, IsSomeAnd}
+use Rattle.std.specs.Prelude.{replicate}
 use Rattle.std.specs.List.{AllZip}
 use Rattle.std.proofs.lemmas.Int.{SFits-int_wrap, int_wrap_fits}
 use Rattle.std.proofs.lemmas.List.Elements.{All-nil, All-replicate, All-set}

@@ -66,7 +66,7 @@ get-there (x ∷ xs) zero h = (x, refl)
 get-there (x ∷ xs) (suc k) h = get-there xs k (omega (arith, h))
 
 -- lists are there that are as long as the arrays of a function
-lists-there : (xss : List (List ℤ)) (arrays : List LocalArray) (k : ℕ) (a : LocalArray)
+pub lists-there : (xss : List (List ℤ)) (arrays : List LocalArray) (k : ℕ) (a : LocalArray)
     → map (λ elements. length elements) xss ≡ map (λ array. array.count) arrays → slice_get arrays k ≡ Some a
     → (slice_get xss k ≡ Some (slice_index_or xss k [])) × (length (slice_index_or xss k []) ≡ a.count)
 lists-there [] [] k a e at = absurd (cc)
