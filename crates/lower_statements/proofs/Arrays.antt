@@ -84,7 +84,7 @@ assigned-integer t Void h = absurd h
 assigned-integer t (Integer u) h = (u, refl)
 assigned-integer t (Pointer u) h = absurd h
 
-stored-same : (t : IntegerType) (n : ℤ) → stored (bits_of t) n ≡ converted t n
+pub stored-same : (t : IntegerType) (n : ℤ) → stored (bits_of t) n ≡ converted t n
 stored-same Char n = refl
 stored-same Short n = refl
 stored-same Int n = refl

@@ -11,3 +11,5 @@ pub mod Comparing
 pub mod Switching
 pub mod Arrays
 pub mod Walk
+pub mod Texts
+pub mod Copying

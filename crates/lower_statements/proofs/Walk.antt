@@ -32,7 +32,7 @@ use Rattle.c_tree.specs.WellTyped.{count_of, first_numbers, item_number, stateme
 use Rattle.flow_graph.specs.declared.op.Op.TheVariants as op
 use Rattle.lower_lines.specs.Expressions.{cast_part, part_of}
 use Rattle.lower_lines.specs.Following.{FollowsRun, IsSite, Lowers, LowersRun, Site, context_of}
-use Rattle.lower_lines.specs.Laws.{ExpressionsFollow, IsOwn}
+use Rattle.lower_lines.specs.Laws.{BodiesLower, ExpressionsFollow, IsOwn, StatementsLower}
 use Rattle.lower_lines.specs.Lines.{Line, Emit}
 use Rattle.lower_lines.specs.Parts.{Dropped, in_type as part_in_type, operand}
 use Rattle.lower_lines.specs.Statements.{Labelled, Run, ending, first_levels, first_lines, initialiser_part}
@@ -40,11 +40,13 @@ use Rattle.lower_lines.specs.Statements.{item_blocks, item_levels, item_lines, i
 use Rattle.lower_lines.specs.Statements.{levels_if_any, none_labelled, reads_none, run_of}
 use Rattle.lower_lines.specs.Statements.{runs_of, zeroing}
 use Rattle.lower_lines.specs.Variables.{Context}
+use Rattle.lower_lines.specs.Words.{IsInMemory}
 use Rattle.lower_bounds.proofs.Levels.{assigned-levels, turned-levels}
 use Rattle.lower_bounds.proofs.Types.{all-at, part-type}
 use Rattle.lower_expressions.proofs.Made.{some-and}
 use Rattle.lower_statements.proofs.Arrays.{assigned-integer, elements-lower}
 use Rattle.lower_statements.proofs.Conditions.{conditions-lower}
+use Rattle.lower_statements.proofs.Copying.{texts-lower}
 use Rattle.lower_statements.proofs.Declared.{items-lower, no-items-lower, plain-scalars-lower, scalars-lower}
 use Rattle.lower_statements.proofs.Declared.{steady-scalars-lower}
 use Rattle.lower_statements.proofs.Looping.{dos-lower, fors-lower, whiles-lower}
@@ -53,8 +55,7 @@ use Rattle.lower_statements.proofs.Straight.{breaks-lower, continues-lower, drop
 use Rattle.lower_statements.proofs.Straight.{evaluations-lower, plain-returns-lower, returns-lower, straight-lowers}
 use Rattle.lower_statements.proofs.Switching.{switches-lower}
 use Rattle.lower_statements.proofs.Ways.{from-made}
-use Rattle.lower_statements.specs.Laws.{AfterLowers, TestLowers, FirstHasNoText, HasNoText, HaveNoText, ItemHasNoText}
-use Rattle.lower_statements.specs.Laws.{BodiesLowerWithoutTexts, StatementsLowerWithoutTexts}
+use Rattle.lower_statements.specs.Laws.{AfterLowers, TestLowers}
 use Rattle.lower_statements.specs.Ways.{Keeping, LowersFrom, LowersLines}
 
 -- ---- lists and runs
@@ -143,8 +144,8 @@ counts-same S (Next x others) = ap suc (counts-same S others)
 
 -- ---- the function
 
-module _ (S : Site) (site : IsSite S) (well : WellTyped S.program) (expressions : ExpressionsFollow S)
-    (loops : ℕ) (high : S.bound ≤ loops) where
+module _ (S : Site) (site : IsSite S) (well : WellTyped S.program) (memory : IsInMemory S.program)
+    (expressions : ExpressionsFollow S) (loops : ℕ) (high : S.bound ≤ loops) where
   abbrev c : Context
   c = context_of S
 
@@ -198,9 +199,9 @@ module _ (S : Site) (site : IsSite S) (well : WellTyped S.program) (expressions 
           low
           lowers (keeps.expressions e)
 
-  item : (x : Item) → IsItem S.program S.function x → IsOwn S (item_number x) → ItemHasNoText x
+  item : (x : Item) → IsItem S.program S.function x → IsOwn S (item_number x)
       → LowersLines S (item_levels c x) (item_lines c x) (declare S.calls S.listing (type_at S.function) x)
-  item (Scalar n v value) h own none =
+  item (Scalar n v value) h own =
       let (l, at, assigned) = some-and (slice_get S.function.locals v)
       (λ m. IfSome value (IsAssigned S.program S.function m.of)) h in
       by value l at assigned (all-at (λ (m : Local). IsScalar m.of) S.function.locals v l
@@ -212,23 +213,22 @@ module _ (S : Site) (site : IsSite S) (well : WellTyped S.program) (expressions 
           (declare S.calls S.listing (type_at S.function) (Scalar n v value))
       by None l at assigned scalar = plain-scalars-lower S site n v l own at scalar
       by (Some e) l at assigned scalar = initialised-scalar n v l e (reads_none e) refl own at scalar assigned
-  item (Array n k element value) h own none = by value h none
+  item (Array n k element value) h own = by value h
     where
       by : (value : tree.Initialiser) → IsItem S.program S.function (Array n k element value)
-          → ItemHasNoText (Array n k element value)
           → LowersLines S (item_levels c (Array n k element value)) (item_lines c (Array n k element value))
           (declare S.calls S.listing (type_at S.function) (Array n k element value))
-      by (tree.Elements es) h none = elements-lower S site expressions n k element es h own
-      by (tree.Text object) h none = absurd none
+      by (tree.Elements es) h = elements-lower S site expressions n k element es h own
+      by (tree.Text object) h = texts-lower S site well memory n k element object h own
 
   items : (xs : List Item) → AllByRecursion (IsItem S.program S.function) xs
-      → AllByRecursion (λ x. IsOwn S (item_number x)) xs → AllByRecursion ItemHasNoText xs
+      → AllByRecursion (λ x. IsOwn S (item_number x)) xs
       → LowersLines S (items_levels c xs) (items_lines c xs) (declare_all S.calls S.listing (type_at S.function) xs)
-  items [] h own none = no-items-lower S
-  items (x ∷ xs) h own none =
+  items [] h own = no-items-lower S
+  items (x ∷ xs) h own =
       items-lower S (item_levels c x) (items_levels c xs) (item_blocks c x) (item_lines c x) (items_lines c xs)
       (declare S.calls S.listing (type_at S.function) x) (declare_all S.calls S.listing (type_at S.function) xs)
-      (item x h.0 own.0 none.0) (keeps.items S.listing (type_at S.function) x) (items xs h.1 own.1 none.1)
+      (item x h.0 own.0) (keeps.items S.listing (type_at S.function) x) (items xs h.1 own.1)
 
   own-items : (xs : List Item) (ns : List ℕ) → AllByRecursion (IsOwn S) (map item_number xs ++ ns)
       → AllByRecursion (λ x. IsOwn S (item_number x)) xs
@@ -236,17 +236,16 @@ module _ (S : Site) (site : IsSite S) (well : WellTyped S.program) (expressions 
   own-items (x ∷ xs) ns h = (h.0, own-items xs ns h.1)
 
   first : (x : First) (ns : List ℕ) → IsFirst S.program S.function x → AllByRecursion (IsOwn S) (first_numbers x ++ ns)
-      → FirstHasNoText x
       → LowersLines S (first_levels c x) (first_lines c x) (run_first S.calls S.listing (type_at S.function) x)
-  first Nothing ns h own none = made-lowers S 0 (λ block. []) (λ s. Gives (tt {0}) s) (λ done. Falls) (no-items-lower S)
-  first (Evaluated e) ns h own none =
+  first Nothing ns h own = made-lowers S 0 (λ block. []) (λ s. Gives (tt {0}) s) (λ done. Falls) (no-items-lower S)
+  first (Evaluated e) ns h own =
       made-lowers S (part_of c e).levels (λ block. (part_of c e).lines block 0 Dropped) (evaluate S.calls e) (λ v.
       Falls)
       (dropped-lowers S (part_of c e) (evaluate S.calls e) (expressions e h))
-  first (Declared xs) ns h own none =
+  first (Declared xs) ns h own =
       made-lowers S (items_levels c xs) (items_lines c xs) (declare_all S.calls S.listing (type_at S.function) xs)
       (λ done. Falls)
-      (items xs (recursion_from_All (IsItem S.program S.function) xs h) (own-items xs ns own) none)
+      (items xs (recursion_from_All (IsItem S.program S.function) xs h) (own-items xs ns own))
 
   -- ---- returns
 
@@ -372,41 +371,40 @@ module _ (S : Site) (site : IsSite S) (well : WellTyped S.program) (expressions 
 
   mutual
     pub statement : (breaks continues : Bool) (x : Statement) → IsStatement S.program S.function breaks continues x
-        → AllByRecursion (IsOwn S) (statement_numbers x) → HasNoText x
+        → AllByRecursion (IsOwn S) (statement_numbers x)
         → LowersRun S breaks continues (run_of c x) (execute W x)
-    statement breaks continues (Declare x) h own none =
+    statement breaks continues (Declare x) h own =
         straight-lowers S site breaks continues (item_levels c x) (item_blocks c x) (item_lines c x)
-        (declare S.calls S.listing (type_at S.function) x) (item x h own.0 none)
+        (declare S.calls S.listing (type_at S.function) x) (item x h own.0)
         (keeps.items S.listing (type_at S.function) x)
-    statement breaks continues (Empty n) h own none = empties-lower S site breaks continues n own.0
-    statement breaks continues (Evaluate n e) h own none =
+    statement breaks continues (Empty n) h own = empties-lower S site breaks continues n own.0
+    statement breaks continues (Evaluate n e) h own =
         evaluations-lower S site breaks continues n (part_of c e) (evaluate S.calls e) own.0 (expressions e h)
         (keeps.expressions e)
-    statement breaks continues (Block body) h own none =
-        block-of breaks continues body (sequence breaks continues none_labelled 0 body h own none)
-    statement breaks continues (If n e a b) h own none =
+    statement breaks continues (Block body) h own =
+        block-of breaks continues body (sequence breaks continues none_labelled 0 body h own)
+    statement breaks continues (If n e a b) h own =
         conditions-lower S site breaks continues n (part_of c e) (run_of c a) (run_of c b) (evaluate S.calls e)
         (execute W a) (execute W b) own.0 (condition e h.0) (expressions e h.0.0) (keeps.expressions e)
         (statement breaks continues a h.1
-        (all-front (IsOwn S) (statement_numbers a) (statement_numbers b) own.1) none.0)
+        (all-front (IsOwn S) (statement_numbers a) (statement_numbers b) own.1))
         (executing a)
-        (statement breaks continues b h.2 (all-back (IsOwn S) (statement_numbers a) (statement_numbers b) own.1) none.1)
+        (statement breaks continues b h.2 (all-back (IsOwn S) (statement_numbers a) (statement_numbers b) own.1))
         (executing b) (nothing-does b)
-    statement breaks continues (While n e body) h own none =
+    statement breaks continues (While n e body) h own =
         whiles-lower S site breaks continues n loops e (run_of c body) (execute W body) own.0 high
-        (condition e h.0, expressions e h.0.0) (keeps.tests (Some e)) (statement true true body h.1 own.1 none)
+        (condition e h.0, expressions e h.0.0) (keeps.tests (Some e)) (statement true true body h.1 own.1)
         (executing body)
-    statement breaks continues (Do n body e) h own none =
+    statement breaks continues (Do n body e) h own =
         dos-lower S site breaks continues n loops (part_of c e) (run_of c body) (evaluate S.calls e) (execute W body)
-        own.0 high (condition e h.1) (expressions e h.1.0) (keeps.tests (Some e)) (statement true true body h.0 own.1
-        none)
+        own.0 high (condition e h.1) (expressions e h.1.0) (keeps.tests (Some e)) (statement true true body h.0 own.1)
         (executing body)
-    statement breaks continues (For n x test after body) h own none =
+    statement breaks continues (For n x test after body) h own =
         fors-lower S site breaks continues n loops x test after (run_of c body)
         (run_first S.calls S.listing (type_at S.function) x) (execute W body) own.0 high
-        (first x (statement_numbers body) h.0 own.1 none.0) (keeps.firsts S.listing (type_at S.function) x)
+        (first x (statement_numbers body) h.0 own.1) (keeps.firsts S.listing (type_at S.function) x)
         (tests test h.1) (keeps.tests test) (afters after h.2) (keeps.steps after)
-        (statement true true body h.3 (all-back (IsOwn S) (first_numbers x) (statement_numbers body) own.1) none.1)
+        (statement true true body h.3 (all-back (IsOwn S) (first_numbers x) (statement_numbers body) own.1))
         (executing body)
       where
         tests : (test : Option Expression) → IfSome test (IsCondition S.program S.function)
@@ -418,62 +416,60 @@ module _ (S : Site) (site : IsSite S) (well : WellTyped S.program) (expressions 
             → IfSome after (AfterLowers S)
         afters None h = tt
         afters (Some e) h = expressions e h
-    statement breaks continues (Switch n e labels body) h own none =
+    statement breaks continues (Switch n e labels body) h own =
         let (u, of) = integer-of (value_type e) h.1 in
         switches-lower S site breaks continues n u (part_of c e) labels (runs_of c body) (evaluate S.calls e)
         (execute_from W body) own.0 (of-part e h.0 ∙ of) (expressions e h.0) (keeps.expressions e)
         (subst (λ (k : ℕ). AreLabels labels k) (counts-same S body) h.2)
         (λ labelled place within'. from-start labelled place body
-        (from-place true continues labelled 0 place body within' h.3 own.1 none))
+        (from-place true continues labelled 0 place body within' h.3 own.1))
         (executing-from body)
-    statement breaks continues (Break n) h own none =
+    statement breaks continues (Break n) h own =
         subst (λ (b : Bool). LowersRun S b continues (run_of c (Break n)) (execute W (Break n))) (sym h)
         (breaks-lower S site continues n own.0)
-    statement breaks continues (Continue n) h own none =
+    statement breaks continues (Continue n) h own =
         subst (λ (b : Bool). LowersRun S breaks b (run_of c (Continue n)) (execute W (Continue n))) (sym h)
         (continues-lower S site breaks n own.0)
-    statement breaks continues (Return n value) h own none =
+    statement breaks continues (Return n value) h own =
         return-statement breaks continues n value own.0 h
 
     -- the statements of a body in order
     sequence : (breaks continues : Bool) (labelled : Labelled) (place : ℕ) (xs : Statements)
         → AreStatements S.program S.function breaks continues xs → AllByRecursion (IsOwn S) (statements_numbers xs)
-        → HaveNoText xs → SequenceOf breaks continues labelled place xs
-    sequence breaks continues labelled place Done h own none = tt
-    sequence breaks continues labelled place (Next x others) h own none =
+        → SequenceOf breaks continues labelled place xs
+    sequence breaks continues labelled place Done h own = tt
+    sequence breaks continues labelled place (Next x others) h own =
         in-order breaks continues labelled place x
-        (statement breaks continues x h.0 (all-front (IsOwn S) (statement_numbers x) (statements_numbers others) own)
-        none.0)
+        (statement breaks continues x h.0 (all-front (IsOwn S) (statement_numbers x) (statements_numbers others) own))
         others
         (sequence breaks continues labelled (suc place) others h.1
-        (all-back (IsOwn S) (statement_numbers x) (statements_numbers others) own) none.1)
+        (all-back (IsOwn S) (statement_numbers x) (statements_numbers others) own))
 
     -- those from a place on
     from-place : (breaks continues : Bool) (labelled : Labelled) (base place : ℕ) (xs : Statements)
         → place < length (runs_of c xs) → AreStatements S.program S.function breaks continues xs
-        → AllByRecursion (IsOwn S) (statements_numbers xs) → HaveNoText xs
+        → AllByRecursion (IsOwn S) (statements_numbers xs)
         → LowersFrom S breaks continues labelled (base + place) (drop place (runs_of c xs)) (execute_from W xs place)
-    from-place breaks continues labelled base place Done lt h own none = absurd (omega (arith, lt))
-    from-place breaks continues labelled base zero (Next x others) lt h own none =
+    from-place breaks continues labelled base place Done lt h own = absurd (omega (arith, lt))
+    from-place breaks continues labelled base zero (Next x others) lt h own =
         in-order breaks continues labelled (base + 0) x
-        (statement breaks continues x h.0 (all-front (IsOwn S) (statement_numbers x) (statements_numbers others) own)
-        none.0)
+        (statement breaks continues x h.0 (all-front (IsOwn S) (statement_numbers x) (statements_numbers others) own))
         others
         (sequence breaks continues labelled (suc (base + 0)) others h.1
-        (all-back (IsOwn S) (statement_numbers x) (statements_numbers others) own) none.1)
-    from-place breaks continues labelled base (suc place) (Next x others) lt h own none =
+        (all-back (IsOwn S) (statement_numbers x) (statements_numbers others) own))
+    from-place breaks continues labelled base (suc place) (Next x others) lt h own =
         let sum : suc base + place ≡ base + suc place = omega arith in
         subst (λ (k : ℕ). LowersFrom S breaks continues labelled k (drop place (runs_of c others))
         (execute_from W others place)) sum
         (from-place breaks continues labelled (suc base) place others (omega (arith, lt)) h.1
-        (all-back (IsOwn S) (statement_numbers x) (statements_numbers others) own) none.1)
+        (all-back (IsOwn S) (statement_numbers x) (statements_numbers others) own))
 
-pub statements-lower-without-texts : StatementsLowerWithoutTexts
-statements-lower-without-texts S site well expressions loops high breaks continues x h own none =
-    statement S site well expressions loops high breaks continues x h
-    (recursion_from_All (IsOwn S) (statement_numbers x) own) none
+pub statements-lower : StatementsLower
+statements-lower S site well memory expressions loops high breaks continues x h own =
+    statement S site well memory expressions loops high breaks continues x h
+    (recursion_from_All (IsOwn S) (statement_numbers x) own)
 
-pub bodies-lower-without-texts : BodiesLowerWithoutTexts
-bodies-lower-without-texts S site well expressions loops high breaks continues xs h own none =
-    statement S site well expressions loops high breaks continues (Block xs) h
-    (recursion_from_All (IsOwn S) (statements_numbers xs) own) none
+pub bodies-lower : BodiesLower
+bodies-lower S site well memory expressions loops high breaks continues xs h own =
+    statement S site well memory expressions loops high breaks continues (Block xs) h
+    (recursion_from_All (IsOwn S) (statements_numbers xs) own)

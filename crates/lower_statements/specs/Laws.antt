@@ -26,17 +26,11 @@ use Rattle.lower_lines.specs.Statements.{switch_run}
 use Rattle.c_tree.specs.Program.{Initialiser, Array}
 use Rattle.c_tree.specs.Evaluation.{declare}
 use Rattle.c_tree.specs.WellTyped.{IsItem, WellTyped}
+use Rattle.lower_lines.specs.Words.{IsInMemory}
 use Rattle.lower_lines.specs.Laws.{ExpressionsFollow}
 use Rattle.lower_lines.specs.Statements.{item_levels, item_lines}
 use Rattle.c_tree.specs.Program.{Elements, Text}
-use Rattle.c_bounds.specs.Laws.{within}
-use Rattle.c_tree.specs.Evaluation.{execute, execute_from}
-use Rattle.c_tree.specs.Program.{Block, Break, Continue, Declare, Declared, Do, Done, Elements, Empty, Evaluate}
-use Rattle.c_tree.specs.Program.{Evaluated as EvaluatedFirst}
-use Rattle.c_tree.specs.Program.{For, If, Item, Next, Nothing, Return, Scalar, Statement, Statements, Switch, While}
-use Rattle.c_tree.specs.WellTyped.{AreStatements, IsStatement, statement_numbers, statements_numbers}
-use Rattle.lower_lines.specs.Statements.{run_of, runs_of}
-use Rattle.std.specs.List.{All, AllByRecursion}
+use Rattle.c_tree.specs.Program.{Elements}
 use Rattle.c_tree.specs.Store as source
 use Rattle.c_tree.specs.Store.{Evaluated, Gives, Held, and_then, visited}
 use Rattle.flow_graph.specs.declared.op.Op.TheVariants as op
@@ -246,50 +240,8 @@ ElementsLower = (S : Site) → IsSite S → ExpressionsFollow S → (n k : ℕ) 
     → IsItem S.program S.function (Array n k element (Elements es)) → IsOwn S n
     → ArrayLowers S n k element (Elements es)
 
--- ---- every statement
-
--- no array is initialised by a string
-abbrev pub ItemHasNoText : Item → Type 0
-ItemHasNoText (Scalar n v value) = Unit {0}
-ItemHasNoText (Array n k element (Elements es)) = Unit {0}
-ItemHasNoText (Array n k element (Text object)) = ⊥
-
-abbrev pub FirstHasNoText : First → Type 0
-FirstHasNoText Nothing = Unit {0}
-FirstHasNoText (EvaluatedFirst e) = Unit {0}
-FirstHasNoText (Declared items) = AllByRecursion ItemHasNoText items
-
-abbrev mutual
-  pub HasNoText : Statement → Type 0
-  HasNoText (Declare item) = ItemHasNoText item
-  HasNoText (Empty n) = Unit {0}
-  HasNoText (Evaluate n e) = Unit {0}
-  HasNoText (Block body) = HaveNoText body
-  HasNoText (If n e a b) = HasNoText a × HasNoText b
-  HasNoText (While n e s) = HasNoText s
-  HasNoText (Do n s e) = HasNoText s
-  HasNoText (For n first test after s) = FirstHasNoText first × HasNoText s
-  HasNoText (Switch n e labels body) = HaveNoText body
-  HasNoText (Break n) = Unit {0}
-  HasNoText (Continue n) = Unit {0}
-  HasNoText (Return n value) = Unit {0}
-
-  pub HaveNoText : Statements → Type 0
-  HaveNoText Done = Unit {0}
-  HaveNoText (Next s others) = HasNoText s × HaveNoText others
-
--- every statement, and every body, without such arrays: the rest of the premises is that of `StatementsLower` and
--- `BodiesLower`
-abbrev pub StatementsLowerWithoutTexts : Type 0
-StatementsLowerWithoutTexts = (S : Site) → IsSite S → WellTyped S.program → ExpressionsFollow S → (loops : ℕ)
-    → S.bound ≤ loops → (breaks continues : Bool) (x : Statement)
-    → IsStatement S.program S.function breaks continues x → All (IsOwn S) (statement_numbers x) → HasNoText x
-    → LowersRun S breaks continues (run_of (context_of S) x)
-    (execute (within S.calls loops S.listing (type_at S.function) S.function.result) x)
-
-abbrev pub BodiesLowerWithoutTexts : Type 0
-BodiesLowerWithoutTexts = (S : Site) → IsSite S → WellTyped S.program → ExpressionsFollow S → (loops : ℕ)
-    → S.bound ≤ loops → (breaks continues : Bool) (xs : Statements)
-    → AreStatements S.program S.function breaks continues xs → All (IsOwn S) (statements_numbers xs) → HaveNoText xs
-    → LowersRun S breaks continues (block_run (context_of S) (runs_of (context_of S) xs))
-    (execute_from (within S.calls loops S.listing (type_at S.function) S.function.result) xs 0)
+-- one with a string, which a loop copies
+abbrev pub TextsLower : Type 0
+TextsLower = (S : Site) → IsSite S → WellTyped S.program → IsInMemory S.program → (n k : ℕ) (element : IntegerType)
+    (object : ℕ) → IsItem S.program S.function (Array n k element (Text object)) → IsOwn S n
+    → ArrayLowers S n k element (Text object)

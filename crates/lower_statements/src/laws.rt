@@ -1,13 +1,15 @@
 //! Laws of the lines of statements: each function's contract is one, and the function does nothing.
 
-ghost use Rattle.lower_statements.specs.Laws.{BlocksLower, BodiesLowerWithoutTexts, BreaksLower};
+ghost use Rattle.lower_lines.specs.Laws.{BodiesLower, StatementsLower};
+ghost use Rattle.lower_statements.specs.Laws.{TextsLower};
+ghost use Rattle.lower_statements.specs.Laws.{BlocksLower, BreaksLower};
 ghost use Rattle.lower_statements.specs.Laws.{ConditionsLower, ContinuesLower, DeclarationsLower};
 ghost use Rattle.lower_statements.specs.Laws.{DosLower, ElementsLower, EmptiesLower};
 ghost use Rattle.lower_statements.specs.Laws.{EmptyBlocksLower, EvaluationsLower, ForsLower};
 ghost use Rattle.lower_statements.specs.Laws.{ItemsLower, LastsLower, NoItemsLower};
 ghost use Rattle.lower_statements.specs.Laws.{PlainReturnsLower, PlainScalarsLower, ReturnsLower};
 ghost use Rattle.lower_statements.specs.Laws.{ScalarsLower, SequencesLower};
-ghost use Rattle.lower_statements.specs.Laws.{StatementsLowerWithoutTexts, SteadyScalarsLower};
+ghost use Rattle.lower_statements.specs.Laws.{SteadyScalarsLower};
 ghost use Rattle.lower_statements.specs.Laws.{SwitchesLower, WhilesLower};
 
 /// The lines of an empty statement do what the source does.
@@ -120,12 +122,17 @@ pub fn elements_lower()
     ensures { ElementsLower }
 {}
 
-/// Every statement's lines do what the source does where no string initialises an array, given those of expressions.
-pub fn statements_lower_without_texts()
-    ensures { StatementsLowerWithoutTexts }
+/// A declared array that a string initialises does what the source does: a loop of the graph copies the string.
+pub fn texts_lower()
+    ensures { TextsLower }
+{}
+
+/// Every statement's lines do what the source does, given those of expressions.
+pub fn statements_lower()
+    ensures { StatementsLower }
 {}
 
 /// So do those of every body.
-pub fn bodies_lower_without_texts()
-    ensures { BodiesLowerWithoutTexts }
+pub fn bodies_lower()
+    ensures { BodiesLower }
 {}

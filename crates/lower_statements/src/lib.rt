@@ -5,9 +5,9 @@
 mod laws;
 
 pub use laws::{
-    blocks_lower, bodies_lower_without_texts, breaks_lower, conditions_lower, continues_lower,
+    blocks_lower, bodies_lower, breaks_lower, conditions_lower, continues_lower,
     declarations_lower, dos_lower, elements_lower, empties_lower, empty_blocks_lower,
     evaluations_lower, fors_lower, items_lower, lasts_lower, no_items_lower, plain_returns_lower,
-    plain_scalars_lower, returns_lower, scalars_lower, sequences_lower,
-    statements_lower_without_texts, steady_scalars_lower, switches_lower, whiles_lower,
+    plain_scalars_lower, returns_lower, scalars_lower, sequences_lower, statements_lower,
+    steady_scalars_lower, switches_lower, texts_lower, whiles_lower,
 };
