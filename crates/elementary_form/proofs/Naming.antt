@@ -22,7 +22,7 @@ equal-test a b e = elim (eqb_tells a b) [ inl same ↦ same.0 | inr other ↦ ab
 pub other-test : (a b : ℕ) → a ≢ b → (a == b) ≡ false
 other-test a b n = elim (eqb_tells a b) [ inl same ↦ absurd (n same.1) | inr other ↦ other.0 ]
 
-true-false : true ≡ false → ⊥
+pub true-false : true ≡ false → ⊥
 true-false e = cc
 
 -- ---- members

@@ -1,8 +1,8 @@
 -- The places of points, and which variables are listed.
 use Rattle.std.proofs.Common.{◌≡◌, ◌≢◌, ◌<◌, ◌≤◌, ◌+◌, ℕ, zero, suc, Bool, true, false, List, [], ◌∷◌, ◌++◌, length}
-use Rattle.std.proofs.Common.{get_or, take, replicate, Option, Some, None, IfSome, inl, inr, refl, sym, ap, ◌∙◌, subst}
+use Rattle.std.proofs.Common.{get_or, take, replicate, Option, Some, None, IfSome, ◌↔◌, inl, inr, refl, sym, ap, ◌∙◌, subst}
 use Rattle.std.proofs.Common.{append_assoc, arith, ◌⊎◌, Result, Ok, Err}
-use Rattle.std.specs.Prelude.{◌==◌, slice_get, slice_set, is_ok, MatchResult}
+use Rattle.std.specs.Prelude.{◌==◌, slice_get, slice_set, is_ok, is_some, IsTrue, MatchResult}
 use Rattle.std.specs.List.{AllByRecursion}
 use Rattle.std.specs.List.Sorted.{IsBinarySearchResult}
 use Rattle.std.specs.Ordering.{nat_cmp}
@@ -17,7 +17,8 @@ use Rattle.liveness.proofs.Adding.{has-within}
 use Rattle.liveness.proofs.Placed.{placed-within}
 use Rattle.elementary_form.specs.Names.{joined, one_further, place_in, place_of}
 use Rattle.elementary_form.specs.SplitForms.{ArePlaces, placed_count}
-use Rattle.elementary_form.proofs.Naming.{equal-test, in-either, in-test, other-test, place-at, test-in}
+use Rattle.elementary_form.proofs.Naming.{equal-test, in-either, in-test, other-test, place-at}
+use Rattle.elementary_form.proofs.Naming.{placed-place, test-in, true-false}
 
 -- ---- members by place
 
@@ -104,6 +105,13 @@ place-there flow p (Some i) e few =
     let at = place-at p (joined flow.blocks) i (sym e) in
     let below = has-within (joined flow.blocks) i p at in
     (omega (arith, below, few), placed-joined p flow.blocks (got-in (joined flow.blocks) i p at))
+
+-- a point has a place exactly where it is in a block
+pub placed-told : (flow : Flow) (p : ℕ) (o : Option ℕ) → o ≡ place_of flow p
+    → IfSome o (λ place. (place < 2147483648) × IsPlaced flow p) → IsTrue (is_some o) ↔ IsPlaced flow p
+placed-told flow p None e there =
+    (λ f. absurd (true-false (sym f)), λ placed. let (i, h) = placed-place flow p placed in absurd (none-some i (e ∙ h)))
+placed-told flow p (Some i) e there = (λ f. there.1, λ placed. refl)
 
 -- a point behind others has the next place
 last-place : (q : ℕ) (done : List ℕ) → place_in q (done ++ q ∷ []) ≡ Some (length done)

@@ -1,6 +1,6 @@
 //! The elementary form of the graph of a function.
 
-ghost use Rattle.std.specs.Prelude.{◌≡◌, ◌<◌, ◌+◌, ◌*◌, length, Some, IfOk, IfSome};
+ghost use Rattle.std.specs.Prelude.{◌≡◌, ◌<◌, ◌+◌, ◌*◌, ◌↔◌, length, Some, IfOk, IfSome, IsTrue};
 ghost use Rattle.flow_graph.specs.Graphs.{IsPlaced, has_point};
 ghost use Rattle.flow_graph.specs.Lives.{AreLive, IsAscending};
 ghost use Rattle.elementary_form.specs.Names.{first_name, name_after, name_before, named_after, place_of};
@@ -103,6 +103,13 @@ impl Elementary {
         ensures there { IfSome result (λ place. (place < 2147483648) × IsPlaced self.now.graph point) }
     {
         self.places.get(point as usize).copied().flatten()
+    }
+
+    /// Whether a point is in a block.
+    pub fn is_placed(&self, point: u32) -> bool
+        ensures { IsTrue result ↔ IsPlaced self.now.graph point }
+    {
+        self.place(point).is_some()
     }
 
     /// The name of a variable before a point. None where the variable isn't live there. It takes the logarithm of the

@@ -1,0 +1,2 @@
+pub mod PointPuzzles
+pub mod Order
