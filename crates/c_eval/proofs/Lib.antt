@@ -1,3 +1,4 @@
 pub mod Stacking
 pub mod Declaring
+pub mod Filling
 pub mod Passed

@@ -1,5 +1,5 @@
 -- What calls leave of what is left to do.
-use Rattle.std.specs.Prelude.{◌≡◌, ◌∷◌, ℕ, Bool, true, false, Option, Some, None, pos, Result, Ok, Err}
+use Rattle.std.specs.Prelude.{◌≡◌, [], ◌∷◌, ℕ, Bool, true, false, Option, Some, None, pos, Result, Ok, Err}
 use Rattle.pcc_base.specs.Outcome.{Listing}
 use Rattle.pcc_base.specs.Outcome as outcome
 use Rattle.c_tree.specs.declared.types.ValueType.{ValueType}
@@ -10,6 +10,8 @@ use Rattle.c_tree.specs.Program.{Declare, Empty, Evaluate, Block, If, While, Do,
 use Rattle.c_tree.specs.Store.{Held, HoldsNumber, State, Gives, Ends, visited}
 use Rattle.c_tasks.specs.Steps.{Configuration, Stepped, expression_step, place_step, task_step}
 use Rattle.c_tasks.specs.Steps.{before_loop, go_on, first_value, from_label, item_step, statement_step}
+use Rattle.c_eval.specs.Views.{task_of}
+use Rattle.c_eval.specs.declared.task.Task as memory
 use Rattle.c_eval.specs.declared.end.EvalEnd.{EvalEnd}
 use Rattle.c_eval.specs.declared.end.EvalEnd.TheVariants.{Ended, Trapped, TurnsSpent, ReadFault, WriteFault, NoMemory}
 use Rattle.c_tasks.specs.Tasks.{Task, Evaluates, Drops, ReturnsValue, Way, Ahead, Returning, Follows, ReturnsTo, below}
@@ -39,6 +41,11 @@ returning_to caller c = record c { function = caller; way = Ahead }
 -- a function's body begins, where so many values are its arguments
 abbrev pub calling : Function → ℕ → Configuration → Configuration
 calling g count c = go_on g (Follows g.body ∷ ReturnsTo c.function ∷ c.tasks) (below_by count c.values) c.places
+
+-- a task is taken, or there is none
+abbrev pub TaskTaken : Configuration → Configuration → Option memory.Task → Type 0
+TaskTaken old new None = (old.tasks ≡ []) × (new ≡ old)
+TaskTaken old new (Some task) = old ≡ doing (task_of task) new
 
 -- what a `for`, a `return` and a turn of a loop begin with
 abbrev pub starting_for : First → Task → Configuration → Configuration
@@ -123,6 +130,13 @@ Comes (Err TurnsSpent) stepped c s = stepped ≡ Ends outcome.Goes s
 Comes (Err ReadFault) stepped c s = ⊥
 Comes (Err WriteFault) stepped c s = ⊥
 Comes (Err NoMemory) stepped c s = Unit {0}
+
+-- a statement that takes turns (C99 6.8.5)
+abbrev pub IsLoop : Statement → Type 0
+IsLoop (While n e body) = Unit {0}
+IsLoop (Do n body e) = Unit {0}
+IsLoop (For n first test after body) = Unit {0}
+IsLoop _ = ⊥
 
 -- an expression is taken apart, or it is `getchar` and nothing is done
 abbrev pub TakenApart : Bool → Expression → Configuration → Configuration → State → Type 0

@@ -39,13 +39,17 @@ PutTold old new taken taken' (Err WriteFault) = (n : ℕ) × (taken' ≡ taken +
 PutTold old new taken taken' (Err NoMemory) = (n : ℕ) × (taken' ≡ taken ++ take n (low_byte (top old.values) ∷ []))
 PutTold old new taken taken' (Err _) = ⊥
 
--- the count of faults of the input over a call: it rises exactly where the answer is a fault
+-- the count of faults of the input over a call: it rises exactly where the answer is a fault; no other answer but want
+-- of memory refuses
 abbrev pub InputCounts : ℕ → ℕ → Result Unit EvalEnd → Type 0
+InputCounts old new (Ok it) = new ≡ old
 InputCounts old new (Err ReadFault) = Rose old new
-InputCounts old new _ = new ≡ old
+InputCounts old new (Err NoMemory) = new ≡ old
+InputCounts old new (Err _) = ⊥
 
 -- the counts of the output: that of faults rises exactly where the answer is one
 abbrev pub OutCounts : SinkCounts → SinkCounts → Result Unit EvalEnd → Type 0
+OutCounts old new (Ok it) = new ≡ old
 OutCounts old new (Err WriteFault) = Rose old.faults new.faults × (new.wants ≡ old.wants)
 OutCounts old new (Err NoMemory) = new.faults ≡ old.faults
-OutCounts old new _ = new ≡ old
+OutCounts old new (Err _) = ⊥

@@ -1,7 +1,7 @@
 //! Arguments and calls (C99 6.5.2.2).
 
-ghost use Rattle.std.specs.Prelude.{◌≡◌, ◌≤◌, ◌<◌, IfOk, [], length};
-ghost use Rattle.c_eval.specs.Changes.{calling, done};
+ghost use Rattle.std.specs.Prelude.{◌≡◌, ◌≤◌, ◌<◌, IfOk, [], length, pos};
+ghost use Rattle.c_eval.specs.Changes.{calling, done, holding, without_values};
 ghost use Rattle.c_eval.specs.Left.{left_of};
 ghost use Rattle.c_eval.specs.Views.{arguments_from};
 ghost use Rattle.c_store.specs.Kept.{entered, over};
@@ -10,12 +10,12 @@ ghost use Rattle.c_tasks.specs.Tasks.{Ahead, put_before};
 ghost use Rattle.c_tree.specs.Erased.{function_of};
 ghost use Rattle.c_tree.specs.Evaluation.{most_active};
 ghost use Rattle.c_tree.specs.Program.{Program};
-ghost use Rattle.c_tree.specs.Store.{State, Gives};
+ghost use Rattle.c_tree.specs.Store.{State, Gives, HoldsNumber};
 ghost use Rattle.pcc_base.specs.Outcome.{Listing};
 
 use crate::evaluation::Evaluation;
 use crate::task::Task;
-use c_store::Store;
+use c_store::{Store, Value};
 use c_tree::{Expression, Function};
 use pcc_base::NoMemory;
 
@@ -37,6 +37,16 @@ pub fn pass_argument<'a>(
         Task::Evaluates(&arguments[count]),
         Task::Passes(function, arguments, count + 1),
     )
+}
+
+/// A call of a function that isn't there, which no typed program has, gives 0.
+pub fn call_none(left: &mut Evaluation<'_>, count: usize) -> Result<(), NoMemory>
+    requires { count ≤ length (left_of left.old).values }
+    ensures { IfOk result (λ _. left_of left.new
+        ≡ holding (HoldsNumber (pos 0)) (without_values count (left_of left.old))) }
+{
+    left.drop_values(count);
+    left.hold(Value::Number(0))
 }
 
 /// The body of a function begins, in a call of its own with the last so many values as its arguments, and the tasks of

@@ -5,6 +5,7 @@ ghost use Rattle.c_eval.specs.Left.{left_of};
 ghost use Rattle.c_eval.specs.Views.{task_of, way_of};
 ghost use Rattle.c_eval.specs.Changes.{doing, doing_both, doing_three, doing_four, holding, at_place};
 ghost use Rattle.c_eval.specs.Changes.{passing_over, returning_to, without_value, without_values, without_place};
+ghost use Rattle.c_eval.specs.Changes.{TaskTaken};
 ghost use Rattle.c_store.specs.Values.{found_of, held_of};
 ghost use Rattle.c_tasks.specs.Tasks.{put_before, top, top_place};
 ghost use Rattle.c_tasks.specs.Steps.{go_on};
@@ -146,6 +147,14 @@ impl<'a> Evaluation<'a> {
     {
         self.values.push(value)?;
         Ok(())
+    }
+
+    /// Takes the task that is to be done before all others, if there is one.
+    #[tactic(auto, unfolding(crate::specs::Left::left_of), using(crate::proofs::Stacking::pushed))]
+    pub fn take_task(&mut self) -> Option<Task<'a>>
+        ensures { TaskTaken (left_of self.old) (left_of self.new) result }
+    {
+        self.tasks.pop()
     }
 
     /// The last so many values, in the order in which they came.

@@ -171,8 +171,7 @@ pub fn fill_element<'a>(
     elements: &'a [Expression],
     place: usize,
 ) -> Result<(), EvalEnd>
-    requires way { (left_of left.old).way ≡ Ahead }
-    requires place { place < length elements.now }
+    requires { (left_of left.old).way ≡ Ahead }
     ensures { (p : Program) (l : Listing) (s : State)
         → Comes result (done p l (tasks.FillsElement array element place (elements_from (suc place) elements.now))
         (left_of left.old) (over s store.old)) (left_of left.new) (over s store.new) }
@@ -182,6 +181,9 @@ pub fn fill_element<'a>(
         array,
         depth: store.depth(),
     };
+    if place >= store.elements(name).len() {
+        return Err(EvalEnd::Trapped(Trap::Check));
+    }
     if store.store_at(name, place, value) {
         left.next(Task::Fills(array, element, elements, place + 1))?;
         return Ok(());

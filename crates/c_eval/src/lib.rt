@@ -5,17 +5,17 @@
 //! `specs/Steps.antt` of `c_tasks`.
 #![tactic(auto)]
 
-mod calls;
+pub mod calls;
 mod end;
 mod evaluation;
-mod expressions;
-mod items;
-mod passing;
-mod statements;
-mod stores;
-mod streams;
+pub mod expressions;
+pub mod items;
+pub mod passing;
+pub mod statements;
+pub mod stores;
+pub mod streams;
 mod task;
-mod values;
+pub mod values;
 
 pub use end::EvalEnd;
 pub use evaluation::Evaluation;

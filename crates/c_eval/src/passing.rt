@@ -77,7 +77,7 @@ fn give_returned(left: &mut Evaluation<'_>) -> Result<(), NoMemory>
 
 /// The end of a function.
 #[tactic(auto, using(crate::proofs::Passed::return_passed))]
-fn pass_return<'a>(
+pub fn pass_return<'a>(
     left: &mut Evaluation<'a>,
     store: &mut Store,
     caller: &'a Function,

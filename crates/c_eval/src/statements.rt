@@ -2,7 +2,7 @@
 
 ghost use Rattle.std.specs.Prelude.{◌≡◌, IfOk, option_map};
 ghost use Rattle.c_eval.specs.Changes.{after_start, done, going_again, going_to_label, starting_for};
-ghost use Rattle.c_eval.specs.Changes.{starting_return, statement_done};
+ghost use Rattle.c_eval.specs.Changes.{IsLoop, starting_return, statement_done};
 ghost use Rattle.c_eval.specs.Left.{left_of};
 ghost use Rattle.c_eval.specs.Views.{has_label, part_task};
 ghost use Rattle.c_eval.specs.declared.task.StatementPart.TheVariants as parts;
@@ -13,13 +13,13 @@ ghost use Rattle.c_tasks.specs.Tasks.{Ahead, top};
 ghost use Rattle.c_tree.specs.Erased.{expression_of, first_of, statement_of, statements_of};
 ghost use Rattle.c_tree.specs.Evaluation.{first_label, switched};
 ghost use Rattle.c_tree.specs.Program.{Program};
-ghost use Rattle.c_tree.specs.Store.{State, Gives};
+ghost use Rattle.c_tree.specs.Store.{State, Gives, take_turn};
 ghost use Rattle.pcc_base.specs.Outcome.{Listing};
 
 use crate::evaluation::Evaluation;
 use crate::task::{StatementPart, Task, Way};
 use c_store::Value;
-use c_tree::{Expression, First, Label, Statement};
+use c_tree::{Expression, First, Label, Statement, ValueType};
 use pcc_base::NoMemory;
 
 /// The first part of a `for`, and then the loop (C99 6.8.5.3).
@@ -108,6 +108,43 @@ pub fn follow<'a>(left: &mut Evaluation<'a>, statements: &'a [Statement]) -> Res
         }
         None => Ok(()),
     }
+}
+
+/// A turn of a loop begins with its test, or with the body where it has none before that (C99 6.8.5).
+pub fn begin_turn<'a>(left: &mut Evaluation<'a>, x: &'a Statement) -> Result<(), NoMemory>
+    requires way { (left_of left.old).way ≡ Ahead }
+    requires turns { IsLoop (statement_of x.now) }
+    ensures { IfOk result (λ _. (p : Program) (l : Listing) (s : State)
+        → done p l (part_task parts.Turn (statement_of x.now)) (left_of left.old) s
+        ≡ take_turn s (λ t. Gives (left_of left.new) t)) }
+{
+    match x {
+        Statement::For(_, _, None, _, body) => left.next_both(
+            Task::Goes(StatementPart::Start, body),
+            Task::Goes(StatementPart::Body, x),
+        ),
+        Statement::While(_, test, _) | Statement::For(_, _, Some(test), _, _) => {
+            left.next_both(Task::Evaluates(test), Task::Goes(StatementPart::Test, x))
+        }
+        Statement::Do(_, body, _) => left.next_both(
+            Task::Goes(StatementPart::Start, body),
+            Task::Goes(StatementPart::Body, x),
+        ),
+        _ => Ok(()),
+    }
+}
+
+/// The value of a `return`, in the type that the function returns (C99 6.8.6.4): what is left of the function is
+/// passed over.
+pub fn return_value(left: &mut Evaluation<'_>, to: ValueType) -> Result<(), NoMemory>
+    requires { (left_of left.old).way ≡ Ahead }
+    ensures { IfOk result (λ _. (p : Program) (l : Listing) (s : State)
+        → done p l (tasks.ReturnsValue to) (left_of left.old) s ≡ Gives (left_of left.new) s) }
+{
+    let value = left.take_value();
+    left.hold(value.in_type(to))?;
+    left.pass_over(Way::Returning);
+    Ok(())
 }
 
 /// Behind the body of a loop, or of a `switch`.

@@ -1,9 +1,11 @@
 //! `getchar` and `putchar` (C99 7.19.7.6 and 7.19.7.9), on streams that are lent.
 
-ghost use Rattle.std.specs.Prelude.{◌≡◌};
+ghost use Rattle.std.specs.Prelude.{◌≡◌, IfOk};
+ghost use Rattle.c_eval.specs.Changes.{holding, without_value};
 ghost use Rattle.c_eval.specs.Left.{left_of};
 ghost use Rattle.c_eval.specs.Streaming.{GetTold, InputCounts, OutCounts, PutTold};
 ghost use Rattle.c_tasks.specs.Tasks.{Ahead};
+ghost use Rattle.c_tree.specs.Store.{Held};
 
 use crate::end::EvalEnd;
 use crate::evaluation::Evaluation;
@@ -17,6 +19,7 @@ pub fn get<I: Source>(left: &mut Evaluation<'_>, input: &mut I) -> Result<(), Ev
         (I.left input.new) result }
     ensures counted { InputCounts (I.faults input.old) (I.faults input.new) result }
     ensures telling { I.tells input.old → I.tells input.new }
+    ensures left { IfOk result (λ _. (value : Held) × (left_of left.new ≡ holding value (left_of left.old))) }
 {
     match input.next_byte() {
         Ok(Some(byte)) => {
@@ -38,6 +41,8 @@ pub fn put<O: Sink>(left: &mut Evaluation<'_>, out: &mut O) -> Result<(), EvalEn
         (O.taken out.new) result }
     ensures counted { OutCounts (O.counts out.old) (O.counts out.new) result }
     ensures telling { O.tells out.old → O.tells out.new }
+    ensures left { IfOk result (λ _. (value : Held)
+        × (left_of left.new ≡ holding value (without_value (left_of left.old)))) }
 {
     let byte = left.take_value().low_byte();
     match out.put_all(&[byte]) {
