@@ -1,0 +1,6 @@
+mod Texts
+mod Numbers
+mod Rows
+mod Clashes
+mod Told
+mod Refused

@@ -1,0 +1,77 @@
+-- What the words of the command line ask for: the matches of the command, and two rules on the names of files.
+use Rattle.std.specs.Prelude.{ℕ, ◌||◌, List, [], ◌∷◌, ◌++◌, length, codes, bytes_eq, nat_lt, Bool, Option, Some, None}
+use Rattle.std.specs.Prelude.{if◌then◌else◌}
+use Rattle.std.specs.List.{list_any}
+use Rattle.std.specs.Str.Parse.{digits_value, without_leading_plus}
+use Rattle.clap.specs.ValueTests.{is_unsigned_in}
+use Rattle.clap.specs.Words.{Kinds, Row, Text, all_of, fault_of, first_of, subcommand_of}
+use Rattle.pcc_words.specs.App.{app}
+
+pub data Command : Type 0 where
+  -- compile the sources, and write NAME.map and NAME
+  Compile : (name : List ℕ) (sources : List (List ℕ)) → Command
+  -- run the image for so many steps at most
+  Run : (steps : ℕ) (image : List ℕ) → Command
+  -- solve the board of the file
+  Solve : (file : List ℕ) → Command
+  -- there are so many sources, more than are read
+  ManyFiles : (count : ℕ) → Command
+  -- no command
+  Usage : Command
+
+-- the most sources of one command
+abbrev pub file_count_limit : ℕ
+file_count_limit = 16
+
+abbrev pub map_name : List ℕ → List ℕ
+map_name name = name ++ codes ".map"
+
+-- what is written has another name than each source
+abbrev pub clashes : List ℕ → List (List ℕ) → Bool
+clashes name sources = list_any (λ s. bytes_eq name s || bytes_eq (map_name name) s) sources
+
+abbrev pub compile_command : List ℕ → List (List ℕ) → Command
+compile_command name sources =
+    if nat_lt file_count_limit (length sources) then ManyFiles (length sources)
+    else if clashes name sources then Usage else Compile name sources
+
+abbrev pub compile_asked : Option Text → Option (List Text) → Command
+compile_asked (Some name) (Some sources) = compile_command name sources
+compile_asked _ _ = Usage
+
+-- a number of 64 bits in decimal digits, behind a `+` or not
+abbrev pub number_of : Text → Option ℕ
+number_of text =
+    if is_unsigned_in 0 18446744073709551615 text then Some (digits_value 10 (without_leading_plus text)) else None
+
+abbrev pub run_command : Option ℕ → List ℕ → Command
+run_command None image = Usage
+run_command (Some n) image = Run n image
+
+abbrev pub run_asked : Option Text → Option Text → Command
+run_asked (Some steps) (Some image) = run_command (number_of steps) image
+run_asked _ _ = Usage
+
+abbrev pub solve_asked : Option Text → Command
+solve_asked None = Usage
+solve_asked (Some file) = Solve file
+
+-- the command of this name, by the matches of its arguments
+abbrev pub asked_by : Text → List Row → Command
+asked_by command rows =
+    if bytes_eq command (codes "compile") then compile_asked (first_of (codes "NAME") rows) (all_of (codes "SRC") rows)
+    else if bytes_eq command (codes "run") then run_asked (first_of (codes "N") rows) (first_of (codes "IMAGE") rows)
+    else if bytes_eq command (codes "solve") then solve_asked (first_of (codes "FILE") rows) else Usage
+
+abbrev pub asked_in : Option (Text × List Row) → Command
+asked_in None = Usage
+asked_in (Some matched) = asked_by matched.0 matched.1
+
+-- words that are refused for any kind of fault, a request for help among them, mean no command
+abbrev pub asked_unless : Kinds → Option (Text × List Row) → Command
+asked_unless [] found = asked_in found
+asked_unless (kind ∷ kinds) found = Usage
+
+-- the words are those behind the program's name
+abbrev pub command_of : List (List ℕ) → Command
+command_of words = asked_unless (fault_of app words) (subcommand_of app words)

@@ -1,0 +1,191 @@
+//! The command that the matches mean.
+
+ghost use Rattle.std.specs.Prelude.{◌≡◌, ◌≢◌, ◌||◌, ⊤, IfOk, MatchResult, map, string_bytes, bytes_eq, codes};
+ghost use Rattle.clap.specs.Values.{kind_of};
+ghost use Rattle.clap.specs.Words.{all_of, first_of, found_of, rows_of, subcommand_rows_of};
+ghost use Rattle.clap.specs.declared.error.kind.ErrorKind.TheVariants.{OutOfMemory};
+ghost use Rattle.pcc_words.specs.Asked.{
+  asked_by,
+  asked_in,
+  clashes,
+  command_of,
+  compile_asked,
+  compile_command,
+  map_name,
+  number_of,
+  run_asked,
+  run_command,
+  solve_asked,
+  Usage,
+};
+ghost use Rattle.pcc_words.specs.Words.{meaning};
+
+use crate::app::app;
+use crate::command::Command;
+use clap::error::ErrorKind;
+use clap::{ArgMatches, Error};
+use pcc_base::NoMemory;
+use std::alloc::Global;
+
+/// The most sources of one command.
+pub const FILE_COUNT_LIMIT: usize = 16;
+
+/// The source is NAME.map.
+fn is_map_of(source: &str, name: &str) -> bool
+    ensures { result ≡ bytes_eq (map_name name.now) source.now }
+{
+    match source.as_bytes().strip_suffix(b".map") {
+        Some(front) => front == name.as_bytes(),
+        None => false,
+    }
+}
+
+/// The source is NAME or NAME.map.
+fn is_written(name: &str, source: &str) -> bool
+    ensures { result ≡ (bytes_eq name.now source.now || bytes_eq (map_name name.now) source.now) }
+{
+    name == source || is_map_of(source, name)
+}
+
+/// No command, and why.
+fn usage<'a>(alloc: Global, text: &str) -> Result<Command<'a>, NoMemory>
+    ensures { IfOk result (λ c. meaning c ≡ Usage) }
+{
+    let text = format!(in alloc; "{text}\n")?;
+    Ok(Command::Usage(text))
+}
+
+/// Some source is what is written.
+#[tactic(auto, using(crate::proofs::Clashes::from_here, crate::proofs::Clashes::from_end))]
+fn is_any_written(name: &str, sources: &[&str]) -> bool
+    ensures { result ≡ clashes name.now (map (λ s. s.now) sources.now) }
+{
+    for source in sources {
+        if is_written(name, source) {
+            return true;
+        }
+    }
+    false
+}
+
+/// `compile`, where NAME and NAME.map are other names than each SRC.
+fn compile_of<'a>(
+    alloc: Global,
+    name: &'a str,
+    sources: &[&'a str],
+) -> Result<Command<'a>, NoMemory>
+    ensures { IfOk result (λ c. meaning c ≡ compile_command name.now (map (λ s. s.now) sources.now)) }
+{
+    if sources.len() > FILE_COUNT_LIMIT {
+        return Ok(Command::ManyFiles(sources.len()));
+    }
+    if is_any_written(name, sources) {
+        return usage(
+            alloc,
+            "NAME and NAME.map are written, so no SRC has these names",
+        );
+    }
+    let mut copies = Vec::new(alloc);
+    copies.extend_from_slice(sources)?;
+    Ok(Command::Compile {
+        name,
+        sources: copies,
+    })
+}
+
+/// `run`, where the number of steps has 64 bits.
+#[tactic(auto, using(crate::proofs::Numbers::number_is, crate::proofs::Numbers::no_number))]
+fn run_of<'a>(alloc: Global, steps: &str, image: &'a str) -> Result<Command<'a>, NoMemory>
+    ensures { IfOk result (λ c. meaning c ≡ run_command (number_of steps.now) image.now) }
+{
+    match steps.parse::<u64>() {
+        Ok(steps) => Ok(Command::Run { steps, image }),
+        Err(_) => usage(alloc, "N is a number of 64 bits"),
+    }
+}
+
+/// The matches of `compile`.
+#[tactic(auto, using(crate::proofs::Rows::str_row, crate::proofs::Rows::strs_row))]
+fn compile_asked<'a>(alloc: Global, matches: &ArgMatches<'a>) -> Result<Command<'a>, NoMemory>
+    ensures { IfOk result (λ c. meaning c ≡ compile_asked (first_of (codes "NAME") (rows_of (found_of matches.now)))
+        (all_of (codes "SRC") (rows_of (found_of matches.now)))) }
+{
+    match (matches.get_str("NAME"), matches.get_strs("SRC")) {
+        (Some(name), Some(sources)) => compile_of(alloc, name, sources),
+        _ => usage(alloc, "NAME and SRC are wanted"),
+    }
+}
+
+/// The matches of `run`.
+#[tactic(auto, using(crate::proofs::Rows::str_row, crate::proofs::Rows::strs_row))]
+fn run_asked<'a>(alloc: Global, matches: &ArgMatches<'a>) -> Result<Command<'a>, NoMemory>
+    ensures { IfOk result (λ c. meaning c ≡ run_asked (first_of (codes "N") (rows_of (found_of matches.now)))
+        (first_of (codes "IMAGE") (rows_of (found_of matches.now)))) }
+{
+    match (matches.get_str("N"), matches.get_str("IMAGE")) {
+        (Some(steps), Some(image)) => run_of(alloc, steps, image),
+        _ => usage(alloc, "IMAGE is wanted"),
+    }
+}
+
+/// The matches of `solve`.
+#[tactic(auto, using(crate::proofs::Rows::str_row, crate::proofs::Rows::strs_row))]
+fn solve_asked<'a>(alloc: Global, matches: &ArgMatches<'a>) -> Result<Command<'a>, NoMemory>
+    ensures { IfOk result (λ c. meaning c ≡ solve_asked (first_of (codes "FILE") (rows_of (found_of matches.now)))) }
+{
+    match matches.get_str("FILE") {
+        Some(file) => Ok(Command::Solve { file }),
+        None => usage(alloc, "FILE is wanted"),
+    }
+}
+
+/// The command of this name, by the matches of its arguments.
+fn asked_by<'a>(
+    alloc: Global,
+    command: &str,
+    matches: &ArgMatches<'a>,
+) -> Result<Command<'a>, NoMemory>
+    ensures { IfOk result (λ c. meaning c ≡ asked_by command.now (rows_of (found_of matches.now))) }
+{
+    if command == "compile" {
+        compile_asked(alloc, matches)
+    } else if command == "run" {
+        run_asked(alloc, matches)
+    } else if command == "solve" {
+        solve_asked(alloc, matches)
+    } else {
+        usage(alloc, "a command is wanted")
+    }
+}
+
+/// What the matches ask for.
+fn asked_in<'a>(alloc: Global, matches: &ArgMatches<'a>) -> Result<Command<'a>, NoMemory>
+    ensures { IfOk result (λ c. meaning c ≡ asked_in (subcommand_rows_of matches.now)) }
+{
+    match matches.subcommand() {
+        Some((command, matches)) => asked_by(alloc, command, matches),
+        None => usage(alloc, "a command is wanted"),
+    }
+}
+
+/// What is told of words that mean no command: what is wrong with them, or the help that they ask for.
+fn refused<'a>(alloc: Global, error: &Error) -> Result<Command<'a>, NoMemory>
+    ensures { MatchResult result (λ c. (meaning c ≡ Usage) × (kind_of error.now ≢ OutOfMemory)) (λ e. ⊤) }
+{
+    if error.kind() == ErrorKind::OutOfMemory {
+        return Err(NoMemory);
+    }
+    let text = format!(in alloc; "{error}")?;
+    Ok(Command::Usage(text))
+}
+
+/// The command that the words behind the program's name mean.
+pub fn command_of(alloc: Global, words: &[String]) -> Result<Command<'_>, NoMemory>
+    ensures { IfOk result (λ c. meaning c ≡ command_of (map string_bytes words.now)) }
+{
+    let app = app(alloc)?;
+    match app.try_get_matches_from(words) {
+        Ok(matches) => asked_in(alloc, &matches),
+        Err(error) => refused(alloc, &error),
+    }
+}

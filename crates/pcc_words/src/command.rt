@@ -1,0 +1,24 @@
+//! A command as the words have it.
+
+/// What the words of the command line ask for.
+#[derive(Drop)]
+pub enum Command<'a> {
+    /// `compile -o NAME SRC..`: compile the sources, and write NAME.map and NAME.
+    Compile {
+        name: &'a str,
+        sources: Vec<&'a str>,
+    },
+    /// `run [--steps N] IMAGE`: run the image in the machine, for N steps at most.
+    Run {
+        steps: u64,
+        image: &'a str,
+    },
+    /// `solve FILE`: solve the board of the file.
+    Solve {
+        file: &'a str,
+    },
+    /// There are so many sources, more than are read.
+    ManyFiles(usize),
+    /// No command; the text says what is wrong with the words, or has the help that they ask for.
+    Usage(String),
+}
