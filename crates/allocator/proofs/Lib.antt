@@ -1,0 +1,10 @@
+pub mod Bytes
+pub mod Doing
+pub mod Ending
+pub mod Giving
+pub mod Listing
+pub mod Members
+pub mod Points
+pub mod Putting
+pub mod Solving
+pub mod Standing

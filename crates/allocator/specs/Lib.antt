@@ -1,0 +1,6 @@
+pub mod Spills
+pub mod Allocations
+pub mod Slots
+pub mod Solutions
+pub mod Sides
+pub mod Progress
