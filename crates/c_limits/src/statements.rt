@@ -1,0 +1,137 @@
+//! The greatest height of an expression that a statement evaluates.
+
+ghost use Rattle.std.specs.Prelude.{◌≡◌, ◌+◌, map, option_map, IfOk};
+ghost use Rattle.c_tree.specs.Erased.{expression_of, first_of, initialiser_of, item_of, statement_of, statements_of};
+ghost use Rattle.c_tree.specs.Program as typed;
+ghost use Rattle.c_tree.specs.Sizes as sizes;
+ghost use Rattle.c_tree.specs.Sizes.{first_height, highest, item_height, items_height, option_height};
+ghost use Rattle.c_tree.specs.Sizes.{statement_height, statements_height};
+
+use crate::expressions::{expression, raised};
+use c_tree::{Expression, First, Initialiser, Item, Statement};
+use pcc_base::NoMemory;
+
+/// The height of an expression that may be absent.
+fn if_any(value: &Option<Expression>) -> Result<u64, NoMemory>
+    ensures { IfOk result (λ n. n ≡ option_height (option_map expression_of value.now)) }
+{
+    match value {
+        None => Ok(0),
+        Some(value) => expression(value),
+    }
+}
+
+/// The same with so many more where it is there.
+fn raised_if_any(by: u64, value: &Option<Expression>) -> Result<u64, NoMemory>
+    ensures { IfOk result (λ n. n ≡ sizes.raised by (option_map expression_of value.now)) }
+{
+    match value {
+        None => Ok(0),
+        Some(value) => raised(expression(value)?, by),
+    }
+}
+
+/// The greatest height of several expressions, with so many more.
+fn highest(by: u64, values: &[Expression]) -> Result<u64, NoMemory>
+    ensures { IfOk result (λ n. n ≡ highest by (map expression_of values.now)) }
+{
+    let mut height = 0u64;
+    let mut left = values.len();
+    'values: while left > 0 {
+        left -= 1;
+        let one = raised(expression(&values[left])?, by)?;
+        height = one.max(height);
+    }
+    Ok(height)
+}
+
+/// The height of a declared item: an initialiser counts one more, that of an element two.
+fn item(of: &Item) -> Result<u64, NoMemory>
+    ensures { IfOk result (λ n. n ≡ item_height (item_of of.now)) }
+{
+    match of {
+        Item::Scalar(_, _, value) => raised_if_any(1, value),
+        Item::Array(_, _, _, Initialiser::List(first)) => highest(2, first.as_slice()),
+        Item::Array(_, _, _, Initialiser::Text(_)) => Ok(0),
+    }
+}
+
+/// The greatest height of several items.
+fn items(of: &[Item]) -> Result<u64, NoMemory>
+    ensures { IfOk result (λ n. n ≡ items_height (map item_of of.now)) }
+{
+    let mut height = 0u64;
+    let mut left = of.len();
+    'items: while left > 0 {
+        left -= 1;
+        height = item(&of[left])?.max(height);
+    }
+    Ok(height)
+}
+
+/// The height of the first part of a `for`.
+fn first(of: &First) -> Result<u64, NoMemory>
+    ensures { IfOk result (λ n. n ≡ first_height (first_of of.now)) }
+{
+    match of {
+        First::Nothing => Ok(0),
+        First::Expression(e) => expression(e),
+        First::Items(of) => items(of.as_slice()),
+    }
+}
+
+/// The height of a statement; the value of a switch counts one more.
+#[cycle(statement)]
+fn statement(s: &Statement) -> Result<u64, NoMemory>
+    ensures { IfOk result (λ n. n ≡ statement_height (statement_of s.now)) }
+{
+    match s {
+        Statement::Declare(of) => item(of),
+        Statement::Empty(_) | Statement::Break(_) | Statement::Continue(_) => Ok(0),
+        Statement::Expression(_, e) => expression(e),
+        Statement::Block(body) => statements(body.as_slice()),
+        Statement::If(_, test, one, other) => {
+            let test = expression(test)?;
+            let one = statement(one)?;
+            let other = statement(other)?;
+            Ok(test.max(one.max(other)))
+        }
+        Statement::While(_, test, body) => {
+            let test = expression(test)?;
+            let body = statement(body)?;
+            Ok(test.max(body))
+        }
+        Statement::Do(_, body, test) => {
+            let body = statement(body)?;
+            let test = expression(test)?;
+            Ok(body.max(test))
+        }
+        Statement::For(_, start, test, after, body) => {
+            let start = first(start)?;
+            let body = statement(body)?;
+            let test = if_any(test)?;
+            let after = if_any(after)?;
+            Ok(start.max(body).max(test.max(after)))
+        }
+        Statement::Switch(_, value, _, body) => {
+            let value = raised(expression(value)?, 1)?;
+            let body = statements(body.as_slice())?;
+            Ok(value.max(body))
+        }
+        Statement::Return(_, value) => if_any(value),
+    }
+}
+
+/// The greatest height of several statements.
+#[cycle(statement)]
+pub(crate) fn statements(body: &[Statement]) -> Result<u64, NoMemory>
+    ensures { IfOk result (λ n. n ≡ statements_height (statements_of body.now)) }
+{
+    let mut height = 0u64;
+    let mut left = body.len();
+    'body: while left > 0 {
+        left -= 1;
+        height = statement(&body[left])?.max(height);
+    }
+    Ok(height)
+}

@@ -1,0 +1,4 @@
+pub mod Things
+pub mod Defining
+pub mod Order
+pub mod Walks
