@@ -205,8 +205,8 @@ pub pushed :
     → new ≡ mid ++ if_so two (record { kind = Z; width = width; var = v })
     → new ≡ old ++ pieces_of_variable flow lives point op v
 unfolding pair-in
-pushed flow lives point op v old mid new b a d fb fa one two kind width before after eb ea ed efb ebf efa eaf ek ew eo et
-    em en =
+pushed flow lives point op v old mid new b a d fb fa one two kind width before after eb ea ed efb ebf efa eaf ek ew
+    eo et em en =
     let wide : width ≡ width_at flow v = sym (get_or_from_slice_get flow.widths v width Two ew) in
     let mid-is : mid ≡ old ++ if_so (b && not fb) (record { kind = use_kind a d; width = width; var = v }) =
     em ∙ (ap (λ (x : Bool). old ++ if_so x (record { kind = kind; width = width; var = v })) eo

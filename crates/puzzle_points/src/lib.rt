@@ -3,10 +3,12 @@
 #![tactic(auto)]
 
 mod board;
+mod laws;
 mod pieces;
 mod registers;
 mod variables;
 
 pub use board::{board_of, board_with};
+pub use laws::worked_example;
 pub use pieces::pieces_of;
 pub use registers::{areas_of, fixed_result, fixed_use};
