@@ -217,7 +217,7 @@ module _ (p : Program) (listing : Listing) (typed : WellTyped p) (memory : IsInM
       (omega arith) refl (no-words f.parameters f.locals is.1) (no-types (IsOf p []) f.parameters f.locals is.1)
       shown)))
 
-pub programs-lower : AllLinesClose → ProgramsLowerSo
+pub programs-lower : AllLinesClose → BodiesLower → ProgramsLowerSo
 programs-lower all bodies expressions p typed memory listing lists input turns =
     let m = some-and IsMain (slice_get p.functions p.main) typed.main in
     let close = all p typed in

@@ -15,7 +15,7 @@ use Rattle.c_tree.specs.WellTyped.{AreStatements, CountUp, IsScalar, functions_n
 use Rattle.flow_graph.specs.Meaning.{back_to, values_at}
 use Rattle.flow_graph.specs.States as graph
 use Rattle.lower_lines.specs.Following.{Comes, IsBack, IsSite, Site, Stand, WordsHold, behind, context_of}
-use Rattle.lower_lines.specs.Laws.{BodiesLower, ExpressionsLower, ProgramsLower}
+use Rattle.lower_lines.specs.Laws.{ExpressionsLower, ProgramsLower}
 use Rattle.lower_lines.specs.Lines.{Line}
 use Rattle.lower_lines.specs.Programs.{lowered, parameters_lines}
 use Rattle.lower_lines.specs.Relation.{IsOf, SameWaiting, Shows, ShowsCall, array_value}
@@ -120,6 +120,6 @@ ParametersAreTaken =
 
 -- ---- programs
 
--- Lowering keeps the outcome of every program, given the laws of statements and expressions.
+-- Lowering keeps the outcome of every program, given the law of expressions.
 abbrev pub ProgramsLowerSo : Type 0
-ProgramsLowerSo = BodiesLower → ExpressionsLower → ProgramsLower
+ProgramsLowerSo = ExpressionsLower → ProgramsLower

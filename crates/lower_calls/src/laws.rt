@@ -5,6 +5,7 @@ ghost use Rattle.lower_calls.specs.Laws.{ProgramsLowerSo, StatementsAreOwn, Word
 ghost use Rattle.lower_lines.specs.Laws.{CallsLower};
 
 use lower_bounds::all_lines_close;
+use lower_statements::bodies_lower;
 
 /// A body is left by `break` and `continue` only where they may stand, and returns values in the type of its result
 /// (C99 6.8.6).
@@ -43,10 +44,10 @@ pub fn calls_lower()
     ensures { CallsLower }
 {}
 
-/// Lowering keeps the outcome of every typed program, where the lines of bodies and expressions do what the source
-/// does.
+/// Lowering keeps the outcome of every typed program in memory, where the lines of expressions do what the source does.
 pub fn programs_lower()
     ensures { ProgramsLowerSo }
 {
     all_lines_close();
+    bodies_lower();
 }
