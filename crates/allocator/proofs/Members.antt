@@ -164,10 +164,12 @@ pub result-in : (d : Option ℕ) (vs : List ℕ) (v : ℕ) → IsIn v (with_resu
 result-in None vs v i = inr i
 result-in (Some d) vs v i = elim (in-one v d vs i) [ inl e ↦ inl (equal-test d v e) | inr h ↦ inr h ]
 
-pub in-with-result : (d : Option ℕ) (vs : List ℕ) (v : ℕ) → (is_named d v ≡ true) ⊎ IsIn v vs → IsIn v (with_result d vs)
+pub in-with-result : (d : Option ℕ) (vs : List ℕ) (v : ℕ) → (is_named d v ≡ true) ⊎ IsIn v vs
+    → IsIn v (with_result d vs)
 in-with-result None vs v (inl e) = absurd (true-false (sym e))
 in-with-result None vs v (inr i) = i
-in-with-result (Some d) vs v (inl e) = subst (λ (w : ℕ). IsIn w (with_result (Some d) vs)) (eqb-true d v e) (in-one-self d vs)
+in-with-result (Some d) vs v (inl e) =
+    subst (λ (w : ℕ). IsIn w (with_result (Some d) vs)) (eqb-true d v e) (in-one-self d vs)
 in-with-result (Some d) vs v (inr i) = in-one-old v d vs i
 
 pub named-some : (o : Option ℕ) (v : ℕ) → is_named o v ≡ true → o ≡ Some v

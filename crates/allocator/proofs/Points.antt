@@ -75,7 +75,8 @@ fixed-found (Some f) entries v place e = by (cases_eq v f.variable)
     by (inl same) = inl (f, refl, sym same)
     by (inr other) = inr (sym (place-other entries f.variable v (Cells f.spot) other) ∙ e)
 
-fixed-of : (o : Option Fixed) (v : ℕ) → is_named (fixed_variable o) v ≡ true → (f : Fixed) × (o ≡ Some f) × (f.variable ≡ v)
+fixed-of : (o : Option Fixed) (v : ℕ) → is_named (fixed_variable o) v ≡ true
+    → (f : Fixed) × (o ≡ Some f) × (f.variable ≡ v)
 fixed-of None v e = absurd (true-false (sym e))
 fixed-of (Some f) v e = (f, refl, same_Some f.variable v (named-some (Some f.variable) v e))
 
@@ -381,8 +382,10 @@ module _
       (kind : Kind) (k : ℕ) (p : Piece) (offset : ℤ) → p.kind ≡ kind → slice_get pieces k ≡ Some p
       → slice_get standing k ≡ Some (Slot offset) → InSlot places point offset kind p.var
   in-slot X k p offset e at there = stands-before k p (Slot offset) at there (ap is_upper e)
-  in-slot Y k p offset e at there =
-      (stands-before k p (Slot offset) at there (ap is_upper e), stands-after k p (Slot offset) at there (ap is_lower e))
+  in-slot Y k p offset e at there = (
+    stands-before k p (Slot offset) at there (ap is_upper e),
+    stands-after k p (Slot offset) at there (ap is_lower e),
+  )
   in-slot Z k p offset e at there = stands-after k p (Slot offset) at there (ap is_lower e)
 
   spilled-in : SpilledInSlots places point pieces

@@ -31,7 +31,8 @@ same-by :
     (e : Entry) (entries : List Entry) (v : ℕ) (place : Place) (more : List Entry) (b c : Bool) → (e.0 == v) ≡ b
     → place_in more v ≡ Some place → place_in (with-by e entries v place more b c) v ≡ Some place
 unfolding with-by
-same-by e entries v place more true c test rest = ap (λ (t : Bool). cond t (Some place) (place_in entries v)) (equal-test v v refl)
+same-by e entries v place more true c test rest =
+    ap (λ (t : Bool). cond t (Some place) (place_in entries v)) (equal-test v v refl)
 same-by e entries v place more false true test rest =
     ap (λ (t : Bool). cond t (Some place) (place_in (e ∷ entries) v)) (equal-test v v refl)
 same-by e entries v place more false false test rest =
@@ -71,7 +72,8 @@ place-other (e ∷ entries) v w place other =
 abbrev pub names_of : List Entry → List ℕ
 names_of entries = map (λ e. e.0) entries
 
-pub name-placed : (entries : List Entry) (v : ℕ) → IsIn v (names_of entries) → (place : Place) × (place_in entries v ≡ Some place)
+pub name-placed : (entries : List Entry) (v : ℕ) → IsIn v (names_of entries)
+    → (place : Place) × (place_in entries v ≡ Some place)
 name-placed [] v i = absurd i
 name-placed (e ∷ entries) v i = by (cases_eq e.0 v) i (λ h. name-placed entries v h)
   where
@@ -85,7 +87,8 @@ name-placed (e ∷ entries) v i = by (cases_eq e.0 v) i (λ h. name-placed entri
         let (place, is) = rest h in
         (place, ap (λ (t : Bool). cond t (Some e.1) (place_in entries v)) (other-test e.0 v other) ∙ is)
 
-pub placed-name : (entries : List Entry) (v : ℕ) (place : Place) → place_in entries v ≡ Some place → IsIn v (names_of entries)
+pub placed-name : (entries : List Entry) (v : ℕ) (place : Place) → place_in entries v ≡ Some place
+    → IsIn v (names_of entries)
 placed-name [] v place is = absurd (none-some place is)
 placed-name (e ∷ entries) v place is = by (cases_eq e.0 v) (λ f. placed-name entries v place f)
   where

@@ -1,6 +1,7 @@
 -- A board without the pieces of spilled variables, solved.
 use Rattle.std.proofs.Common.{ℕ, zero, suc, ◌≡◌, ◌<◌, ◌≤◌, ◌+◌, ◌↔◌, inl, inr, Bool, true, false, cond, ◌||◌, ◌==◌}
-use Rattle.std.proofs.Common.{List, [], ◌∷◌, ◌++◌, length, map, take, Option, Some, None, refl, sym, ap, subst, arith, ◌∙◌}
+use Rattle.std.proofs.Common.{List, [], ◌∷◌, ◌++◌, length, map, take, Option, Some, None, refl, sym, ap, subst}
+use Rattle.std.proofs.Common.{arith, ◌∙◌}
 use Rattle.std.specs.Prelude.{slice_get}
 use Rattle.std.specs.List.{AllByRecursion, Contains}
 use Rattle.std.proofs.lemmas.Bool.{cases_eq}
@@ -77,7 +78,8 @@ unfolding marked
 marked-none [] [] e = refl
 marked-none [] (f ∷ flags) e = absurd (omega (arith, e))
 marked-none (p ∷ pieces) [] e = absurd (omega (arith, e))
-marked-none (p ∷ pieces) (f ∷ flags) e = ap (λ (more : List Bool). f ∷ more) (marked-none pieces flags (omega (arith, e)))
+marked-none (p ∷ pieces) (f ∷ flags) e =
+    ap (λ (more : List Bool). f ∷ more) (marked-none pieces flags (omega (arith, e)))
 
 removed-long :
     (pieces : List Piece) (states : List State) (v : ℕ) → length states ≡ length pieces
@@ -85,7 +87,8 @@ removed-long :
 removed-long [] [] v e = refl
 removed-long [] (s ∷ states) v e = absurd (omega (arith, e))
 removed-long (p ∷ pieces) [] v e = absurd (omega (arith, e))
-removed-long (p ∷ pieces) (s ∷ states) v e = let rest = removed-long pieces states v (omega (arith, e)) in omega (arith, rest)
+removed-long (p ∷ pieces) (s ∷ states) v e =
+    let rest = removed-long pieces states v (omega (arith, e)) in omega (arith, rest)
 
 flags-long : (states : List State) → length (flags_of states) ≡ length states
 flags-long [] = refl
@@ -282,7 +285,8 @@ all-by :
 all-by P [] h = tt
 all-by P (p ∷ pieces) h = (h 0 p refl, all-by P pieces (λ k q e. h (suc k) q e))
 
-in-contains : (cs : List Candidate) (v : ℕ) → IsIn v (variables_of cs) → (c : Candidate) × Contains cs c × (c.variable ≡ v)
+in-contains : (cs : List Candidate) (v : ℕ) → IsIn v (variables_of cs)
+    → (c : Candidate) × Contains cs c × (c.variable ≡ v)
 in-contains [] v i = absurd i
 in-contains (c ∷ cs) v (inl e) = (c, (0, omega arith, refl), e)
 in-contains (c ∷ cs) v (inr h) =

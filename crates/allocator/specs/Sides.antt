@@ -22,13 +22,14 @@ is_lower Y = true
 is_lower Z = true
 
 -- the entries are those of the first n pieces that stand on this side
-pub record ArePut (side : Kind → Bool) (pieces : List Piece) (places : List Place) (n : ℕ) (entries : List Entry) : Type 0
-  where
-    pub rising : IsRising entries
-    pub has : (k : ℕ) (p : Piece) (place : Place) → k < n → slice_get pieces k ≡ Some p → slice_get places k ≡ Some place
-        → side p.kind ≡ true → place_in entries p.var ≡ Some place
-    pub only : (v : ℕ) (place : Place) → place_in entries v ≡ Some place
-        → (k : ℕ) × (p : Piece) × (k < n) × (slice_get pieces k ≡ Some p) × (side p.kind ≡ true) × (p.var ≡ v)
+pub record ArePut (side : Kind → Bool) (pieces : List Piece) (places : List Place) (n : ℕ) (entries : List Entry)
+    : Type 0 where
+  pub rising : IsRising entries
+  pub has : (k : ℕ) (p : Piece) (place : Place) → k < n → slice_get pieces k ≡ Some p
+      → slice_get places k ≡ Some place
+      → side p.kind ≡ true → place_in entries p.var ≡ Some place
+  pub only : (v : ℕ) (place : Place) → place_in entries v ≡ Some place
+      → (k : ℕ) × (p : Piece) × (k < n) × (slice_get pieces k ≡ Some p) × (side p.kind ≡ true) × (p.var ≡ v)
 
 -- only the entries of the point have changed
 pub record ChangesPoint (point : ℕ) (old new : PlaceMap) : Type 0 where

@@ -23,7 +23,8 @@ standing_by (piece ∷ pieces) [] = []
 standing_by (piece ∷ pieces) (spot ∷ spots) = standing_at piece spot ++ standing_by pieces spots
 
 -- the pieces of these variables have no spots, and the others have a legal placement
-pub record AreSpots (areas : List Area) (pieces : List Piece) (spilled : List ℕ) (spots : List (Option Spot)) : Type 0 where
+pub record AreSpots (areas : List Area) (pieces : List Piece) (spilled : List ℕ) (spots : List (Option Spot))
+    : Type 0 where
   pub many : length spots ≡ length pieces
   pub without : (k : ℕ) (piece : Piece) → slice_get pieces k ≡ Some piece
       → (slice_get spots k ≡ Some None) ↔ IsIn piece.var spilled

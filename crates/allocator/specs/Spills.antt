@@ -30,7 +30,8 @@ variables_of candidates = map (λ c. c.variable) candidates
 pub record AreCandidates (flow : Flow) (point : ℕ) (pieces : List Piece) (candidates : List Candidate) : Type 0 where
   pub once : IsDistinct (variables_of candidates)
   pub each : (v : ℕ) → IsIn v (variables_of candidates) ↔ HasPiece pieces v
-  pub distances : (k : ℕ) (c : Candidate) → slice_get candidates k ≡ Some c → HasDistance flow c.variable point c.distance
+  pub distances : (k : ℕ) (c : Candidate) → slice_get candidates k ≡ Some c
+      → HasDistance flow c.variable point c.distance
 
 -- These are spilled at the point: the variables of its pieces come in spill order, and this is the shortest prefix
 -- without whose pieces the point's board is solvable.

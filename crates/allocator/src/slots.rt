@@ -8,7 +8,8 @@ ghost use Rattle.allocator.specs.Slots.{AreGiven, AreSlots, AreSpilled, slots_gi
 use pcc_base::NoMemory;
 use puzzle_board::PointMap;
 
-/// The offset from EBP of a slot by its number, from 0: the first is right below the four words that a frame begins with.
+/// The offset from EBP of a slot by its number, from 0: the first is right below the four words that a frame begins
+/// with.
 fn offset_of(number: u32) -> i32
     requires { number < 536870907 }
     ensures { result ≡ slots.offset_of number }

@@ -1,6 +1,7 @@
 -- The places of points, and which variables are listed.
 use Rattle.std.proofs.Common.{◌≡◌, ◌≢◌, ◌<◌, ◌≤◌, ◌+◌, ℕ, zero, suc, Bool, true, false, List, [], ◌∷◌, ◌++◌, length}
-use Rattle.std.proofs.Common.{get_or, take, replicate, Option, Some, None, IfSome, ◌↔◌, inl, inr, refl, sym, ap, ◌∙◌, subst}
+use Rattle.std.proofs.Common.{get_or, take, replicate, Option, Some, None, IfSome, ◌↔◌, inl, inr, refl, sym, ap, ◌∙◌}
+use Rattle.std.proofs.Common.{subst}
 use Rattle.std.proofs.Common.{append_assoc, arith, ◌⊎◌, Result, Ok, Err}
 use Rattle.std.specs.Prelude.{◌==◌, slice_get, slice_set, is_ok, is_some, IsTrue, MatchResult}
 use Rattle.std.specs.List.{AllByRecursion}
@@ -109,8 +110,10 @@ place-there flow p (Some i) e few =
 -- a point has a place exactly where it is in a block
 pub placed-told : (flow : Flow) (p : ℕ) (o : Option ℕ) → o ≡ place_of flow p
     → IfSome o (λ place. (place < 2147483648) × IsPlaced flow p) → IsTrue (is_some o) ↔ IsPlaced flow p
-placed-told flow p None e there =
-    (λ f. absurd (true-false (sym f)), λ placed. let (i, h) = placed-place flow p placed in absurd (none-some i (e ∙ h)))
+placed-told flow p None e there = (
+  λ f. absurd (true-false (sym f)),
+  λ placed. let (i, h) = placed-place flow p placed in absurd (none-some i (e ∙ h)),
+)
 placed-told flow p (Some i) e there = (λ f. there.1, λ placed. refl)
 
 -- a point behind others has the next place
