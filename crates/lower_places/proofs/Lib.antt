@@ -5,3 +5,4 @@ pub mod Assigning
 pub mod Indexing
 pub mod Naming
 pub mod Addresses
+pub mod Updating

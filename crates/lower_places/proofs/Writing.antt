@@ -3,6 +3,7 @@ use Rattle.std.proofs.Common.{◌≡◌, ◌≢◌, ℕ, ◌+◌, ◌<◌, ◌�
 use Rattle.std.proofs.Common.{length, Option, Some, None, refl, sym, ap, ◌∙◌, subst, arith, append-nil}
 use Rattle.std.specs.Prelude.{slice_get, IsSomeAnd, ◌==◌}
 use Rattle.pcc_base.specs.Outcome.{ArrayName, Null, Static, InFrame, Unknown}
+use Rattle.c_bounds.specs.Bounds.{state_of}
 use Rattle.c_tree.specs.declared.types.IntegerType.{IntegerType}
 use Rattle.c_tree.specs.declared.types.ValueType.TheVariants.{Integer, Pointer}
 use Rattle.c_tree.specs.Evaluation.{InObject, element_written, evaluate, store}
@@ -16,9 +17,11 @@ use Rattle.flow_graph.specs.Meaning.{stored}
 use Rattle.flow_graph.specs.States as graph
 use Rattle.flow_graph.specs.States.{depth_of, number_at, number_of, value_at}
 use Rattle.lower_lines.specs.Expressions.{assigned_object, part_of}
-use Rattle.lower_lines.specs.Following.{Begins, Comes, Follows, IsSite, MayWant, Site, Stand, behind, context_of}
+use Rattle.lower_lines.specs.Following.{Begins, Comes, Follows, IsSite, Lowers, MayWant, Site, Stand, behind}
+use Rattle.lower_lines.specs.Following.{context_of}
 use Rattle.lower_lines.specs.Lines.{Line, Emit, open_after, ops_in}
-use Rattle.lower_lines.specs.Parts.{Wanted, Dropped, Own, ToLocal, Tests, bits_of, converted_lines, converting, made}
+use Rattle.lower_lines.specs.Parts.{Wanted, Dropped, Own, ToLocal, Tests, Part, bits_of, converted_lines, converting}
+use Rattle.lower_lines.specs.Parts.{made}
 use Rattle.lower_lines.specs.Parts.{operand}
 use Rattle.lower_lines.specs.Relation.{HoldsAt, IsArrayOf, Keeps, Shows}
 use Rattle.lower_lines.specs.Variables.{Spot, levels_of, local_spot, local_variables, own}
@@ -227,22 +230,31 @@ module _ (S : Site) (site : IsSite S) (older : List Function) (k : ℕ) (o : Sta
         tt,
       )
 
-pub objects-assigned : ObjectsAreAssigned
-objects-assigned S site k o e one value w lowers of =
-    let a = part_of (context_of S) value in
-    compound-lowers S (assigned_object (context_of S) o.element k (part_of (context_of S) value)) _ refl refl
+-- a number, however it is made, is assigned to an object
+pub object-assigned : (S : Site) → IsSite S → (k : ℕ) (o : StaticObject) → slice_get S.program.objects k ≡ Some o
+    → length o.elements ≡ 1 → (a : Part) (run : source.State → Evaluated Held) (w : IntegerType) → Lowers S a run
+    → a.of ≡ Integer w → ((s : source.State) → (state_of (run s)).turns ≤ s.turns) → 1 ≤ a.levels
+    → Lowers S (assigned_object (context_of S) o.element k a)
+    (λ s. and_then (run s) (λ v t. store (InObject k) (source.in_type (Integer o.element) v) t))
+object-assigned S site k o e one a run w lowers of falls some =
+    compound-lowers S (assigned_object (context_of S) o.element k a) _ refl refl
     (λ older block level wanted before s g stands room may b.
     behind-number S older level before ((operand (context_of S) true a).lines block level)
     (Emit (op.Put (bits_of o.element) k ((operand (context_of S) true a).spot level).number)
     ∷ converted_lines (context_of S) (block + (operand (context_of S) true a).blocks) level wanted o.element
     ((operand (context_of S) true a).spot level).number) wanted (Integer o.element)
-    ((operand (context_of S) true a).spot level) s g (evaluate S.calls value s)
-    (λ v t. store (InObject k) (source.in_type (Integer o.element) v) t) b (turns-fall S site value s)
-    (number-operand S older a (evaluate S.calls value) w lowers of block level before s g
+    ((operand (context_of S) true a).spot level) s g (run s)
+    (λ v t. store (InObject k) (source.in_type (Integer o.element) v) t) b (falls s)
+    (number-operand S older a run w lowers of block level before s g
     (stand-front S before ((operand (context_of S) true a).lines block level) _ stands) room b)
     (λ n t h at begins. put-fits S site older k o e one (before ++ (operand (context_of S) true a).lines block level)
     t h
     begins level ((operand (context_of S) true a).spot level).number n at
-    (deeper level a.levels (levels_of S.function) room (levels-one (context_of S) value))
+    (deeper level a.levels (levels_of S.function) room some)
     (block + (operand (context_of S) true a).blocks) wanted may
     (stand-back S before ((operand (context_of S) true a).lines block level) _ stands)))
+
+pub objects-assigned : ObjectsAreAssigned
+objects-assigned S site k o e one value w lowers of =
+    object-assigned S site k o e one (part_of (context_of S) value) (evaluate S.calls value) w lowers of
+    (turns-fall S site value) (levels-one (context_of S) value)

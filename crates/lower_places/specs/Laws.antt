@@ -5,11 +5,13 @@ use Rattle.pcc_base.specs.Outcome.{ArrayName, Static, InFrame}
 use Rattle.c_bounds.specs.Bounds.{state_of}
 use Rattle.c_tree.specs.declared.expression.ArrayRef.{ArrayRef}
 use Rattle.c_tree.specs.declared.expression.ArrayRef.TheVariants as refs
+use Rattle.c_tree.specs.declared.expression.BinaryOp.{BinaryOp}
+use Rattle.c_tree.specs.declared.expression.StepOp.{StepOp}
 use Rattle.c_tree.specs.declared.types.IntegerType.{IntegerType}
 use Rattle.c_tree.specs.declared.types.ValueType.TheVariants.{Integer, Pointer}
 use Rattle.c_tree.specs.Evaluation.{Found, evaluate, load, locate, own_array, store, zeroed}
 use Rattle.c_tree.specs.Program.{Address, Assign, Element, Expression, Function, Program, Read, StaticObject}
-use Rattle.c_tree.specs.Program.{StaticPlace}
+use Rattle.c_tree.specs.Program.{StaticPlace, Step, Update}
 use Rattle.c_tree.specs.Program.{Target}
 use Rattle.c_tree.specs.Store as source
 use Rattle.c_tree.specs.Store.{Evaluated, Held, and_then, array_named, array_of, in_type}
@@ -65,6 +67,21 @@ ObjectsAreAssigned = (S : Site) → IsSite S → (k : ℕ) (o : StaticObject) �
     → Lowers S (part_of (context_of S) e) (evaluate S.calls e) → (part_of (context_of S) e).of ≡ Integer u
     → Lowers S (part_of (context_of S) (Assign (Integer o.element) (StaticPlace k) e))
     (evaluate S.calls (Assign (Integer o.element) (StaticPlace k) e))
+
+-- a number is assigned to it with an operator
+abbrev pub ObjectsAreUpdated : Type 0
+ObjectsAreUpdated = (S : Site) → IsSite S → (operator : BinaryOp) (k : ℕ) (o : StaticObject)
+    → slice_get S.program.objects k ≡ Some o → length o.elements ≡ 1 → (e : Expression) (u : IntegerType)
+    → Lowers S (part_of (context_of S) e) (evaluate S.calls e) → (part_of (context_of S) e).of ≡ Integer u
+    → Lowers S (part_of (context_of S) (Update (Integer o.element) operator (StaticPlace k) e))
+    (evaluate S.calls (Update (Integer o.element) operator (StaticPlace k) e))
+
+-- `++` and `--` of it
+abbrev pub ObjectsAreStepped : Type 0
+ObjectsAreStepped = (S : Site) → IsSite S → (operator : StepOp) (k : ℕ) (o : StaticObject)
+    → slice_get S.program.objects k ≡ Some o → length o.elements ≡ 1
+    → Lowers S (part_of (context_of S) (Step (Integer o.element) operator (StaticPlace k)))
+    (evaluate S.calls (Step (Integer o.element) operator (StaticPlace k)))
 
 -- where an address stands that is in the temporaries of its level, or whose variables nothing changes that stores
 -- nothing

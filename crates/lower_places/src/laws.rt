@@ -3,6 +3,7 @@
 ghost use Rattle.lower_places.specs.Laws.{ArraysAreCleared, ElementsAreAssigned, ElementsAreRead};
 ghost use Rattle.lower_places.specs.Laws.{IndexesAreAssigned, IndexesAreRead, IndexesFollow};
 ghost use Rattle.lower_places.specs.Laws.{NamesAreAlike, ObjectsAreAssigned, ObjectsAreRead};
+ghost use Rattle.lower_places.specs.Laws.{ObjectsAreStepped, ObjectsAreUpdated};
 ghost use Rattle.lower_places.specs.Laws.{TargetsAreAddressed, TargetsLower};
 ghost use Rattle.lower_places.specs.Laws.{TargetsAreAssigned, TargetsAreRead, TargetsFollow};
 
@@ -29,6 +30,16 @@ pub fn objects_are_read()
 /// The lines that assign a number to a static object that is no array do what the source does.
 pub fn objects_are_assigned()
     ensures { ObjectsAreAssigned }
+{}
+
+/// The lines of an assignment with an operator to a static object that is no array do what the source does.
+pub fn objects_are_updated()
+    ensures { ObjectsAreUpdated }
+{}
+
+/// The lines of `++` and `--` of a static object that is no array do what the source does.
+pub fn objects_are_stepped()
+    ensures { ObjectsAreStepped }
 {}
 
 /// The lines that assign a number to an element do what the source does, where those of its address and of the value
