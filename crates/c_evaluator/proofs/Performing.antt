@@ -5,11 +5,11 @@ use Rattle.std.proofs.Common.{subst, ◌∙◌, arith, Ok}
 use Rattle.std.specs.Prelude.{map, nat_le, option_map, slice_get, pos, Option, Some, None, if◌then◌else◌}
 use Rattle.pcc_base.specs.Outcome.{Listing, Trapped, nothing_listed}
 use Rattle.pcc_base.specs.declared.run.Trap.TheVariants.{Check}
-use Rattle.c_tree.specs.Erased.{function_of, item_of, statement_of}
+use Rattle.c_tree.specs.Erased.{function_of}
 use Rattle.c_tree.specs.declared.expression.Expression as built
 use Rattle.c_tree.specs.declared.program.Function as memory_function
 use Rattle.c_tree.specs.Evaluation.{most_active}
-use Rattle.c_tree.specs.Program.{Arguments, Argument, NoMore, Function, Item, Scalar, Array, Program, Statement}
+use Rattle.c_tree.specs.Program.{Arguments, NoMore, Function, Item, Scalar, Array, Program, Statement}
 use Rattle.c_tree.specs.Program.{Declare, Empty, Evaluate, Block, If, While, Do, For, Switch, Break, Continue, Return}
 use Rattle.c_tree.specs.Store.{HoldsNumber, State, Evaluated, Gives, Ends, take_turn, turn_with}
 use Rattle.c_tasks.specs.Steps.{Configuration, call_step}

@@ -1,5 +1,5 @@
 -- What the step of a task leaves, and what one that isn't done yet waits for.
-use Rattle.std.specs.Prelude.{◌≡◌, ◌≤◌, ◌<◌, ◌-◌, ℕ, Bool, true, false, List, length, Option, Some, Result, Ok}
+use Rattle.std.specs.Prelude.{◌≡◌, ◌≤◌, ◌<◌, ◌-◌, ℕ, Bool, true, false, List, length, Some, Result, Ok}
 use Rattle.std.specs.Prelude.{Err, slice_get}
 use Rattle.pcc_base.specs.Outcome.{Visit, nothing_listed}
 use Rattle.c_tree.specs.Erased.{function_of, statement_of}
