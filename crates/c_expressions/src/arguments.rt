@@ -16,9 +16,9 @@ use std::alloc::Global;
 
 /// Arguments that were judged, and whether each has a type.
 #[derive(Drop)]
-pub(crate) struct Arguments {
-    pub(crate) values: Judged<Vec<Expression>>,
-    pub(crate) typed: bool,
+pub struct Arguments {
+    pub values: Judged<Vec<Expression>>,
+    pub typed: bool,
 }
 
 /// Whether an expression has a type.
@@ -53,7 +53,7 @@ fn pushed(mut values: Vec<Expression>, tree: Expression) -> Result<Vec<Expressio
 }
 
 /// One more argument behind others.
-pub(crate) fn one_more(
+pub fn one_more(
     so_far: Arguments,
     parameter: Option<ValueType>,
     at: Span,
@@ -84,7 +84,7 @@ pub(crate) fn one_more(
 }
 
 /// No arguments, before the first one.
-pub(crate) fn no_arguments(alloc: Global) -> Arguments
+pub fn no_arguments(alloc: Global) -> Arguments
     ensures said { (before : List Note) → IsSaid AreTrees (fits []) result.values before before }
     ensures typed { result.typed ≡ true }
 {

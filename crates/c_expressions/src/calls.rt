@@ -201,7 +201,7 @@ fn also(wrong: bool, at: Span, call: Judged<Operand>) -> Judged<Operand>
 }
 
 /// A call of a function, whose arguments were judged.
-pub(crate) fn function_call(
+pub fn function_call(
     alloc: Global,
     scopes: &Scopes,
     notes: &mut Notes,
@@ -231,7 +231,7 @@ pub(crate) fn function_call(
 }
 
 /// The fault where a called name isn't declared.
-pub(crate) fn undeclared(at: Span) -> Fault
+pub fn undeclared(at: Span) -> Fault
     ensures { result ≡ fault kinds.Undeclared at }
 {
     Fault {
@@ -241,7 +241,7 @@ pub(crate) fn undeclared(at: Span) -> Fault
 }
 
 /// The fault where a called name means a number.
-pub(crate) fn number_called(at: Span) -> Fault
+pub fn number_called(at: Span) -> Fault
     ensures { result ≡ fault kinds.TypeRule at }
 {
     Fault {
@@ -251,7 +251,7 @@ pub(crate) fn number_called(at: Span) -> Fault
 }
 
 /// The fault where a called name means an array.
-pub(crate) fn array_called(at: Span) -> Fault
+pub fn array_called(at: Span) -> Fault
     ensures { result ≡ fault kinds.PointerUse at }
 {
     Fault {
@@ -261,7 +261,7 @@ pub(crate) fn array_called(at: Span) -> Fault
 }
 
 /// The fault where a called name means a local.
-pub(crate) fn local_called(at: Span, of: ValueType) -> Fault
+pub fn local_called(at: Span, of: ValueType) -> Fault
     ensures { result ≡ fault (if is_pointer of then kinds.PointerUse else kinds.TypeRule) at }
 {
     match of {
@@ -271,7 +271,7 @@ pub(crate) fn local_called(at: Span, of: ValueType) -> Fault
 }
 
 /// The fault of a name that is called and means no function, or the least of its arguments'.
-pub(crate) fn not_called(fault: Fault, values: Judged<Vec<Expression>>) -> Fault
+pub fn not_called(fault: Fault, values: Judged<Vec<Expression>>) -> Fault
     ensures { (c : Checked TypedArguments) → Stands AreArguments c values
         → least (fault ∷ faults_in c) ≡ Some result }
 {

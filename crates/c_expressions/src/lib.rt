@@ -5,14 +5,14 @@
 //! says when that is what `c_typing` has. The only refusal is want of memory.
 #![tactic(auto)]
 
-mod arguments;
-mod calls;
-mod named;
+pub mod arguments;
+pub mod calls;
+pub mod named;
 mod notes;
 mod places;
-mod rows;
-mod texts;
-mod type_names;
+pub mod rows;
+pub mod texts;
+pub mod type_names;
 
 pub use notes::{Contents, Note, Notes, Stored};
-pub use places::first_token;
+pub use places::{first_piece, first_token};

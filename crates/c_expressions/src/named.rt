@@ -20,7 +20,7 @@ use pcc_base::{Fault, FaultKind, NoMemory};
 use std::alloc::Global;
 
 /// A tree that is no constant expression.
-pub(crate) fn plain(tree: Expression) -> Operand
+pub fn plain(tree: Expression) -> Operand
     requires { has_constant_form (expression_of tree) ≡ false }
     ensures { IsOperandOf (expression_of tree) result }
 {
@@ -31,7 +31,7 @@ pub(crate) fn plain(tree: Expression) -> Operand
 }
 
 /// A constant (C99 6.4.4), which is an `int`.
-pub(crate) fn number(value: i32) -> Operand
+pub fn number(value: i32) -> Operand
     ensures { IsOperandOf (typed.Constant Int value) result }
 {
     Operand {
@@ -41,7 +41,7 @@ pub(crate) fn number(value: i32) -> Operand
 }
 
 /// A name: a local or an object, or the first element of an array; a function's name that isn't called fits no row.
-pub(crate) fn named(
+pub fn named(
     alloc: Global,
     scopes: &Scopes,
     notes: &mut Notes,

@@ -1,6 +1,6 @@
 //! What a part of a program says beside its tree.
 
-ghost use Rattle.std.specs.Prelude.{◌≡◌, ◌++◌, ◌∷◌, [], OnOk};
+ghost use Rattle.std.specs.Prelude.{◌≡◌, ◌++◌, ◌∷◌, [], map, OnOk};
 ghost use Rattle.c_typing.specs.Checked as checked;
 ghost use Rattle.c_expressions.specs.Notes.{note_of};
 ghost use Rattle.c_scopes.specs.Views.{entity_of};
@@ -67,6 +67,13 @@ impl Notes {
         Notes {
             notes: Vec::new(alloc),
         }
+    }
+
+    /// The notes, in the order of the text.
+    pub fn as_slice(&self) -> &[Note]
+        ensures { map note_of result.now ≡ self.now }
+    {
+        self.notes.as_slice()
     }
 
     /// One more note.

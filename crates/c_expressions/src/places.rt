@@ -8,7 +8,7 @@ use c_syntax::{Expression, TextPiece};
 use pcc_base::Span;
 
 /// The place of the first of the string literals that stand one after the other.
-pub(crate) fn first_piece(pieces: &[TextPiece]) -> Span
+pub fn first_piece(pieces: &[TextPiece]) -> Span
     ensures { result ≡ first_piece pieces.now }
 {
     match pieces.first() {

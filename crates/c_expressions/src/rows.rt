@@ -24,7 +24,7 @@ use pcc_base::{NoMemory, Span};
 use std::alloc::Global;
 
 /// An operator before its operand (C99 6.5.3.2 and 6.5.3.3).
-pub(crate) fn unary_of(
+pub fn unary_of(
     alloc: Global,
     op: UnaryOp,
     at: Span,
@@ -42,7 +42,7 @@ pub(crate) fn unary_of(
 }
 
 /// `++` and `--` (C99 6.5.2.4 and 6.5.3.1).
-pub(crate) fn step_of(op: StepOp, at: Span, part: Judged<Operand>) -> Judged<Operand>
+pub fn step_of(op: StepOp, at: Span, part: Judged<Operand>) -> Judged<Operand>
     ensures { (c : Checked Typed) (before after : List Note) → IsSaid IsOperandOf c part before after
         → IsSaid IsOperandOf (if_fits c (λ e. step_row op at (place_named e))) result before after }
 {
@@ -53,7 +53,7 @@ pub(crate) fn step_of(op: StepOp, at: Span, part: Judged<Operand>) -> Judged<Ope
 }
 
 /// A cast to a type (C99 6.5.4).
-pub(crate) fn cast_of(
+pub fn cast_of(
     alloc: Global,
     at: Span,
     parts: Judged<(ValueType, Operand)>,
@@ -70,7 +70,7 @@ pub(crate) fn cast_of(
 }
 
 /// `array[index]` (C99 6.5.2.1).
-pub(crate) fn index_of(
+pub fn index_of(
     alloc: Global,
     at: Span,
     parts: Judged<(Operand, Operand)>,
@@ -86,7 +86,7 @@ pub(crate) fn index_of(
 }
 
 /// An operator between two operands (C99 6.5.5 to 6.5.14 and 6.5.17).
-pub(crate) fn binary_of(
+pub fn binary_of(
     alloc: Global,
     op: BinaryOp,
     at: Span,
@@ -104,7 +104,7 @@ pub(crate) fn binary_of(
 }
 
 /// `test ? first : second` (C99 6.5.15).
-pub(crate) fn conditional_of(
+pub fn conditional_of(
     alloc: Global,
     at: Span,
     parts: Judged<(Operand, (Operand, Operand))>,
@@ -124,7 +124,7 @@ pub(crate) fn conditional_of(
 }
 
 /// An assignment (C99 6.5.16).
-pub(crate) fn assignment_of(
+pub fn assignment_of(
     alloc: Global,
     op: AssignOp,
     at: Span,

@@ -3,9 +3,10 @@
 ghost use Rattle.std.specs.Prelude.{◌≡◌, ◌++◌, pos, map, length, IfOk, OnOk};
 ghost use Rattle.c_tree.specs.Store.{converted};
 ghost use Rattle.c_tree.specs.declared.types.IntegerType.TheVariants.{Char};
-ghost use Rattle.c_typing.specs.Expressions.{text_literal, text_values, text_entity};
+ghost use Rattle.c_typing.specs.Expressions.{text_literal, text_note, text_values, text_entity};
 ghost use Rattle.c_operands.specs.Judged.{IsOperandOf};
 ghost use Rattle.c_scopes.specs.Views.{entity_of};
+ghost use Rattle.c_expressions.specs.Notes.{note_of};
 ghost use Rattle.c_expressions.specs.Said.{IsSaid};
 
 use crate::named::plain;
@@ -31,7 +32,7 @@ fn add_bytes(values: &mut Vec<i32>, bytes: &[u8]) -> Result<(), NoMemory>
 }
 
 /// The values of an array that string literals are, the zero at its end among them.
-fn text_values(alloc: Global, pieces: &[TextPiece]) -> Result<Vec<i32>, NoMemory>
+pub fn text_values(alloc: Global, pieces: &[TextPiece]) -> Result<Vec<i32>, NoMemory>
     ensures { IfOk result (λ v. v.items ≡ text_values pieces.now) }
 {
     let mut values = Vec::new(alloc);
@@ -43,15 +44,28 @@ fn text_values(alloc: Global, pieces: &[TextPiece]) -> Result<Vec<i32>, NoMemory
 }
 
 /// The array that string literals are, named by the place of the first one.
-fn text_entity(pieces: &[TextPiece]) -> Entity
+pub fn text_entity(pieces: &[TextPiece]) -> Entity
     ensures { entity_of result ≡ text_entity pieces.now }
 {
     let at = first_piece(pieces);
     Entity::At(at.file, at.line, at.col)
 }
 
+/// That string literals are spelled, with the values of their array.
+pub fn text_note(alloc: Global, pieces: &[TextPiece]) -> Result<Note, NoMemory>
+    ensures { IfOk result (λ n. note_of n ≡ text_note pieces.now) }
+{
+    let values = text_values(alloc, pieces)?;
+    Ok(Note::Stores(Stored {
+        entity: text_entity(pieces),
+        element: IntegerType::Char,
+        count: values.len(),
+        contents: Contents::Values(values),
+    }))
+}
+
 /// String literals that stand one after the other: the first element of an array of their own.
-pub(crate) fn text(
+pub fn text(
     alloc: Global,
     scopes: &Scopes,
     notes: &mut Notes,
@@ -61,13 +75,8 @@ pub(crate) fn text(
 {
     let entity = text_entity(pieces);
     let number = scopes.object_number(&entity)?;
-    let values = text_values(alloc, pieces)?;
-    notes.push(Note::Stores(Stored {
-        entity,
-        element: IntegerType::Char,
-        count: values.len(),
-        contents: Contents::Values(values),
-    }))?;
+    let note = text_note(alloc, pieces)?;
+    notes.push(note)?;
     let tree = Expression::Start(IntegerType::Char, ArrayRef::Static(number));
     Ok(Judged::Fits(plain(tree)))
 }

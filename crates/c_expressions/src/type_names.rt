@@ -43,7 +43,7 @@ fn times(word: SpecifierWord, specifiers: &[Specifier]) -> usize
 }
 
 /// The type that specifiers name, in any order (C99 6.7.2p2).
-fn the_type(specifiers: &[Specifier]) -> Option<ValueType>
+pub fn the_type(specifiers: &[Specifier]) -> Option<ValueType>
     ensures { result ≡ the_type (words_of specifiers.now) }
 {
     let void = times(SpecifierWord::Void, specifiers);
@@ -79,7 +79,7 @@ fn is_storage(word: SpecifierWord) -> bool
 }
 
 /// Whether a storage word stands among specifiers.
-fn has_storage(specifiers: &[Specifier]) -> bool
+pub fn has_storage(specifiers: &[Specifier]) -> bool
     ensures { result ≡ list_any is_storage (words_of specifiers.now) }
 {
     specifiers.iter().map(|s| s.word).any(is_storage)
@@ -96,7 +96,7 @@ fn base(specifiers: &[Specifier]) -> Option<ValueType>
 }
 
 /// A base with `*` or without; none is a pointer to void, which the profile hasn't.
-fn pointed(base: ValueType, pointer: &Option<Pointer>) -> Option<ValueType>
+pub fn pointed(base: ValueType, pointer: &Option<Pointer>) -> Option<ValueType>
     ensures { result ≡ pointed base (star_of pointer.now) }
 {
     match (base, pointer) {
@@ -107,7 +107,7 @@ fn pointed(base: ValueType, pointer: &Option<Pointer>) -> Option<ValueType>
 }
 
 /// The place of the first specifier.
-fn first_word(specifiers: &[Specifier]) -> Span
+pub fn first_word(specifiers: &[Specifier]) -> Span
     ensures { result ≡ first_word specifiers.now }
 {
     match specifiers.first() {
@@ -121,7 +121,7 @@ fn first_word(specifiers: &[Specifier]) -> Span
 }
 
 /// The type that a cast names, or the fault at its specifiers or its `(`.
-pub(crate) fn type_name(
+pub fn type_name(
     opening: Span,
     specifiers: &[Specifier],
     pointer: &Option<Pointer>,

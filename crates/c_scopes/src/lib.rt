@@ -18,5 +18,5 @@ mod scopes;
 
 pub use entity::{Entity, LibraryFunction};
 pub use meaning::{Declared, Meaning, Outer, Signature, Storage};
-pub use numbers::Numbers;
+pub use numbers::{Numbers, number};
 pub use scopes::{Mark, Scopes};

@@ -11,7 +11,7 @@ use std::alloc::Global;
 use std::marker::Model;
 
 /// A count that fits 32 bits, as every number of a typed tree does.
-pub(crate) fn number(count: usize) -> Result<u32, NoMemory>
+pub fn number(count: usize) -> Result<u32, NoMemory>
     ensures { IfOk result (λ n. n ≡ count) }
 {
     if count > u32::MAX as usize {

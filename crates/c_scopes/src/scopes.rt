@@ -1,6 +1,19 @@
 //! What is known at a place of the text.
 
-ghost use Rattle.std.specs.Prelude.{◌≡◌, ◌-◌, ◌++◌, [], List, drop, length, map, option_map, IfOk, OnOk};
+ghost use Rattle.std.specs.Prelude.{
+  ◌≡◌,
+  ◌-◌,
+  ◌++◌,
+  [],
+  List,
+  drop,
+  length,
+  map,
+  option_map,
+  take,
+  IfOk,
+  OnOk,
+};
 ghost use Rattle.c_tree.specs.Erased.{array_of, local_of};
 ghost use Rattle.c_typing.specs.Names.{
   bound,
@@ -206,6 +219,34 @@ impl Scopes {
         let taken = self.next;
         self.next = number(taken as usize + 1)?;
         Ok(taken)
+    }
+
+    /// How many locals that are no arrays the function has so far.
+    pub fn local_count(&self) -> usize
+        ensures { result ≡ length self.now.locals }
+    {
+        self.locals.len()
+    }
+
+    /// Forgets locals until so many are left. Their names have to be out of scope.
+    pub fn forget_locals(&mut self, count: usize)
+        ensures { self.new ≡ record self.old { locals = take count self.old.locals } }
+    {
+        self.locals.truncate(count);
+    }
+
+    /// The locals of the function so far that are no arrays.
+    pub fn locals(&self) -> &[Local]
+        ensures { map local_of result.now ≡ self.now.locals }
+    {
+        self.locals.as_slice()
+    }
+
+    /// The arrays of the function so far.
+    pub fn arrays(&self) -> &[LocalArray]
+        ensures { map array_of result.now ≡ self.now.arrays }
+    {
+        self.arrays.as_slice()
     }
 
     /// Takes the locals and arrays of the function so far away: none are left.

@@ -1,0 +1,2 @@
+mod NextGiven
+mod Uncalled

@@ -1,0 +1,62 @@
+//! Whole expressions.
+
+ghost use Rattle.std.specs.Prelude.{IfOk, List, Some};
+ghost use Rattle.c_grammar.specs.Declarations.{maybe_expr_of};
+ghost use Rattle.c_grammar.specs.Expressions.{expr_of};
+ghost use Rattle.c_tree.specs.Program.{Expression as Typed};
+ghost use Rattle.c_typing.specs.Checked.{fits, if_fits, Checked, Note};
+ghost use Rattle.c_typing.specs.Expressions.{typed_expression, typed_if_any};
+ghost use Rattle.c_operands.specs.Judged.{IsOperand, IsOperandOf};
+ghost use Rattle.c_expressions.specs.Said.{IfFits, IsSaid};
+ghost use Rattle.c_check_expressions.specs.Maybe.{IsOperandIfAny, IsOperandWhere};
+
+use crate::walk::walked;
+use c_expressions::Notes;
+use c_operands::{Judged, Operand};
+use c_scopes::Scopes;
+use c_syntax::Expression;
+use pcc_base::NoMemory;
+use std::alloc::Global;
+
+/// The typed tree of an expression, or the least of its faults; where it fits, the notes grow by its own (C99 6.5).
+pub fn expression(
+    alloc: Global,
+    scopes: &Scopes,
+    e: &Expression,
+    notes: &mut Notes,
+) -> Result<Judged<Operand>, NoMemory>
+    ensures said { IfOk result (λ j. IsSaid IsOperandOf (typed_expression scopes.now (expr_of e.now)) j
+        notes.old notes.new) }
+    ensures operand { IfOk result (λ j. IfFits j IsOperand) }
+{
+    walked(alloc, scopes, e, notes)
+}
+
+/// An expression where there is one.
+fn some(part: Judged<Operand>) -> Judged<Option<Operand>>
+    ensures said { (c : Checked Typed) (before after : List Note) → IsSaid IsOperandOf c part before after
+        → IsSaid IsOperandIfAny (if_fits c (λ x. fits (Some x))) result before after }
+    ensures operand { IfFits part IsOperand → IfFits result IsOperandWhere }
+{
+    match part {
+        Judged::Fits(operand) => Judged::Fits(Some(operand)),
+        Judged::Fails(fault) => Judged::Fails(fault),
+    }
+}
+
+/// The same of an expression that may be absent.
+pub fn expression_if_any(
+    alloc: Global,
+    scopes: &Scopes,
+    e: &Option<Expression>,
+    notes: &mut Notes,
+) -> Result<Judged<Option<Operand>>, NoMemory>
+    ensures said { IfOk result (λ j. IsSaid IsOperandIfAny (typed_if_any scopes.now (maybe_expr_of e.now)) j
+        notes.old notes.new) }
+    ensures operand { IfOk result (λ j. IfFits j IsOperandWhere) }
+{
+    match e {
+        None => Ok(Judged::Fits(None)),
+        Some(e) => Ok(some(expression(alloc, scopes, e, notes)?)),
+    }
+}
