@@ -3,4 +3,4 @@
 
 mod laws;
 
-pub use laws::limits_bound;
+pub use laws::{limits_bound, worked_example};
