@@ -14,8 +14,8 @@ use Rattle.ia32_shows.proofs.Jumps.{branch-leads, branch-passes, jump-leads}
 use Rattle.ia32_shows.proofs.Sound.{sound-at}
 use Rattle.ia32_shows.proofs.Steps.{comes-then}
 use Rattle.ia32_effects.proofs.Straight.{straight-goes}
-use Rattle.ia32_cores.specs.Words.{cond_of}
-use Rattle.ia32_cores.specs.Rows.{comparing}
+use Rattle.ia32_rows.specs.Rows.{cond_of}
+use Rattle.ia32_rows.specs.Rows.{comparing}
 use Rattle.ia32_cores.specs.Laws.{BranchGoes}
 use Rattle.ia32_cores.proofs.Flags.{places-compare}
 use Rattle.ia32_cores.proofs.Numbers.{comparison-decides}

@@ -32,7 +32,7 @@ use Rattle.ia32_keeps.proofs.Zones.{shown-in-frame}
 use Rattle.ia32_keeps.proofs.Puts.{IsLow, puts-follow}
 use Rattle.ia32_keeps.proofs.Words.{low-byte, word-fits}
 use Rattle.ia32_keeps.proofs.Ops.{at-after, at-before, given-number, has-number, op-is}
-use Rattle.ia32_cores.specs.Rows.{halving, lowering}
+use Rattle.ia32_rows.specs.Rows.{halving, lowering}
 use Rattle.ia32_cores.specs.Ops.{HalfFollows, LowFollows}
 use Rattle.ia32_cores.proofs.Halves.{half-puts, low-puts}
 use Rattle.ia32_cores.proofs.Numbers.{low-half-is}

@@ -42,7 +42,7 @@ use Rattle.ia32_keeps.proofs.Zones.{shown-in-frame}
 use Rattle.ia32_keeps.proofs.Puts.{at-own-address, keeps-at}
 use Rattle.ia32_keeps.proofs.Words.{word-fits}
 use Rattle.ia32_keeps.proofs.Ops.{HasNumber, has-number, op-is}
-use Rattle.ia32_cores.specs.Rows.{branching, jumping}
+use Rattle.ia32_rows.specs.Rows.{branching, jumping}
 use Rattle.ia32_cores.specs.Ops.{BlockAt, JumpFollows, NumbersBranchFollow}
 use Rattle.ia32_cores.proofs.Beside.{same-from}
 use Rattle.ia32_cores.proofs.Branches.{branch-goes}

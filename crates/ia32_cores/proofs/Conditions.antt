@@ -39,8 +39,8 @@ use Rattle.ia32_effects.proofs.Instructions.{below-loaded, byte_number-makes, re
 use Rattle.ia32_effects.proofs.Moves.{byte-below, general-works, write-puts}
 use Rattle.ia32_effects.proofs.Straight.{leads-join}
 use Rattle.ia32_effects.proofs.Sums.{esi-works}
-use Rattle.ia32_cores.specs.Words.{cond_of}
-use Rattle.ia32_cores.specs.Rows.{comparing, low_byte, set_row}
+use Rattle.ia32_rows.specs.Rows.{cond_of}
+use Rattle.ia32_rows.specs.Rows.{comparing, low_byte, set_row}
 use Rattle.ia32_cores.specs.Laws.{SetPuts}
 use Rattle.ia32_cores.proofs.Flags.{places-compare}
 use Rattle.ia32_cores.proofs.Goes.{Goes, goes-stricter, goes-then, result-goes}

@@ -37,7 +37,8 @@ use Rattle.ia32_keeps.proofs.Puts.{IsLow}
 use Rattle.ia32_keeps.proofs.Words.{word-fits}
 use Rattle.ia32_keeps.proofs.Ops.{at-after, at-before, given-number, has-number, op-is}
 use Rattle.ia32_regs.specs.declared.names.Reg8.TheVariants.{Cl}
-use Rattle.ia32_cores.specs.Rows.{SparedByShift, shifting}
+use Rattle.ia32_rows.specs.Rows.{shifting}
+use Rattle.ia32_cores.specs.Laws.{SparedByShift}
 use Rattle.ia32_cores.specs.Ops.{LeftShiftFollows, RightShiftFollows}
 use Rattle.ia32_cores.proofs.Beside.{Spares, beside-follows}
 use Rattle.ia32_cores.proofs.Numbers.{left-shift-is, right-shift-is}

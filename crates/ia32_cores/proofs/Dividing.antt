@@ -29,7 +29,8 @@ use Rattle.ia32_effects.proofs.Kept.{other-cells, result-keeps, word-kept}
 use Rattle.ia32_effects.proofs.Instructions.{below-loaded, result-makes}
 use Rattle.ia32_effects.proofs.Moves.{general-works, read-gives, unlike}
 use Rattle.ia32_effects.proofs.Sums.{IsOutside, esi-outside, esi-works}
-use Rattle.ia32_cores.specs.Rows.{SparedByDivision, before_division, clear_divisor, divisor_of}
+use Rattle.ia32_rows.specs.Rows.{before_division, clear_divisor, divisor_of}
+use Rattle.ia32_cores.specs.Laws.{SparedByDivision}
 use Rattle.ia32_cores.specs.Laws.{DivisionStops, QuotientPuts, RemainderPuts}
 use Rattle.ia32_cores.proofs.Goes.{Goes, goes-of, goes-stricter, goes-then, result-goes, then-written}
 

@@ -26,8 +26,8 @@ use Rattle.ia32_effects.proofs.Kept.{HasCells, framed-kept, keeps-stricter, keep
 use Rattle.ia32_effects.proofs.Kept.{word-kept}
 use Rattle.ia32_effects.proofs.Moves.{general-works, write-puts}
 use Rattle.ia32_effects.proofs.Straight.{leads-join}
-use Rattle.ia32_effects.specs.Unary.{target_of}
-use Rattle.ia32_cores.specs.Rows.{low_byte}
+use Rattle.ia32_rows.specs.Rows.{target_of}
+use Rattle.ia32_rows.specs.Rows.{low_byte}
 use Rattle.ia32_cores.specs.Laws.{PutsBeside}
 
 -- ---- pieces

@@ -19,12 +19,12 @@ use Rattle.ia32_rows.specs.Rows.{read}
 use Rattle.ia32_effects.specs.Effects.{Makes, OutsideWord}
 use Rattle.ia32_effects.specs.Contains.{Contains, HoldsWord, IsPlaceIn}
 use Rattle.ia32_effects.specs.Laws.{IsWorking}
-use Rattle.ia32_effects.specs.Unary.{target_of}
+use Rattle.ia32_rows.specs.Rows.{target_of}
 use Rattle.ia32_effects.proofs.Kept.{other-cells}
 use Rattle.ia32_effects.proofs.Instructions.{result-makes}
 use Rattle.ia32_effects.proofs.Moves.{copy-puts, copy_byte-puts, read-gives}
 use Rattle.ia32_effects.proofs.Sums.{esi-works}
-use Rattle.ia32_cores.specs.Rows.{extend_half, halving, low_byte, lowering}
+use Rattle.ia32_rows.specs.Rows.{extend_half, halving, low_byte, lowering}
 use Rattle.ia32_cores.specs.Laws.{HalfPuts, LowPuts}
 use Rattle.ia32_cores.proofs.Goes.{Goes, goes-of, goes-then, low-byte-is, puts-plain, result-goes, target-within}
 use Rattle.ia32_cores.proofs.Goes.{target-works, then-written}

@@ -24,7 +24,7 @@ use Rattle.ia32_keeps.proofs.Puts.{IsLow, puts-follow}
 use Rattle.ia32_keeps.proofs.Words.{word-fits}
 use Rattle.ia32_keeps.proofs.Ops.{at-after, at-before, has-number, holds-word, op-is}
 use Rattle.ia32_keeps.specs.Supports.{HoldsWidth}
-use Rattle.ia32_cores.specs.Rows.{setting}
+use Rattle.ia32_rows.specs.Rows.{setting}
 use Rattle.ia32_cores.specs.Ops.{NumbersSetFollow}
 use Rattle.ia32_cores.proofs.Conditions.{set-puts}
 

@@ -34,7 +34,8 @@ use Rattle.ia32_effects.proofs.Kept.{word-kept}
 use Rattle.ia32_effects.proofs.Instructions.{byte-makes, load_byte-makes, result-makes}
 use Rattle.ia32_effects.proofs.Moves.{alike, byte-below, general-works, read-gives, unlike}
 use Rattle.ia32_effects.proofs.Sums.{esi-works, nothing-read}
-use Rattle.ia32_cores.specs.Rows.{SparedByShift, into_count}
+use Rattle.ia32_rows.specs.Rows.{into_count}
+use Rattle.ia32_cores.specs.Laws.{SparedByShift}
 use Rattle.ia32_cores.specs.Laws.{PutsBeside, ShiftPuts}
 use Rattle.ia32_cores.proofs.Goes.{Goes, byte-outside, goes-of, goes-stricter, goes-then, result-goes, then-written}
 

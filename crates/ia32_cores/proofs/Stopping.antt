@@ -50,7 +50,8 @@ use Rattle.ia32_keeps.proofs.Zones.{shown-in-frame}
 use Rattle.ia32_keeps.proofs.Puts.{IsLow, at-own-address}
 use Rattle.ia32_keeps.proofs.Words.{word-fits}
 use Rattle.ia32_keeps.proofs.Ops.{at-after, at-before, given-number, has-number, op-is}
-use Rattle.ia32_cores.specs.Rows.{SparedByDivision, before_division, dividing, divisor_of}
+use Rattle.ia32_rows.specs.Rows.{before_division, dividing, divisor_of}
+use Rattle.ia32_cores.specs.Laws.{SparedByDivision}
 use Rattle.ia32_cores.specs.Laws.{PutsBeside}
 use Rattle.ia32_cores.specs.Ops.{QuotientFollows, RemainderFollows}
 use Rattle.ia32_cores.proofs.Beside.{Spares, beside-follows}

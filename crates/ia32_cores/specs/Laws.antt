@@ -1,10 +1,12 @@
 -- The laws of these rows, over places of any kind.
-use Rattle.std.specs.Prelude.{◌≡◌, ◌+◌, ◌-◌, ◌*◌, ◌%◌, ◌^◌, ◌<◌, ◌≤◌, ◌∷◌, ◌++◌, ℕ, List, Some, None, Ok}
+use Rattle.std.specs.Prelude.{◌≡◌, ◌≢◌, ◌+◌, ◌-◌, ◌*◌, ◌%◌, ◌^◌, ◌<◌, ◌≤◌, ◌∷◌, ◌++◌, ℕ, List, Some, None, Ok}
 use Rattle.std.specs.Prelude.{Err, if◌then◌else◌}
 use Rattle.pcc_base.specs.Outcome.{Trapped}
 use Rattle.pcc_base.specs.declared.run.Trap.TheVariants.{Divide}
 use Rattle.pcc_base.specs.declared.run.Width.TheVariants.{One, Two}
 use Rattle.ia32_regs.specs.declared.names.Reg32.TheVariants.{Eax, Edx, Esp, Ebp, Esi}
+use Rattle.ia32_regs.specs.declared.names.Reg8.TheVariants.{Cl}
+use Rattle.ia32_regs.specs.Registers.{byte_place}
 use Rattle.ia32_places.specs.Places.{Place}
 use Rattle.ia32_insn.specs.declared.insn.AluOp.TheVariants as alu
 use Rattle.ia32_insn.specs.declared.insn.Insn.TheVariants as insn
@@ -19,12 +21,19 @@ use Rattle.flow_graph.specs.declared.op.Comparison.{Comparison}
 use Rattle.flow_graph.specs.Meaning.{compared}
 use Rattle.ia32_shows.specs.Paths.{Comes}
 use Rattle.ia32_shows.specs.Sites.{Anywhere, Framed, ReadyAt, Site, SoundAt, StandsFrom}
-use Rattle.ia32_rows.specs.Rows.{pass}
+use Rattle.ia32_rows.specs.Rows.{before_division, branching, comparing, dividing, divisor_of, halving, lowering}
+use Rattle.ia32_rows.specs.Rows.{pass, setting, shifting}
 use Rattle.ia32_effects.specs.Effects.{Keeps, Leads, OutsideWord}
 use Rattle.ia32_effects.specs.Contains.{ApartFromPlace, Contains, HoldsWord, IsPlaceIn, Untouched}
 use Rattle.ia32_effects.specs.Laws.{HoldsLow, Puts}
-use Rattle.ia32_cores.specs.Rows.{SparedByDivision, SparedByShift, before_division, branching, comparing, dividing}
-use Rattle.ia32_cores.specs.Rows.{divisor_of, halving, lowering, setting, shifting}
+
+-- the cells of registers that a shift leaves: all but CL
+abbrev pub SparedByShift : ℕ → Type 0
+SparedByShift k = k ≢ byte_place Cl
+
+-- the cells of registers that a division leaves
+abbrev pub SparedByDivision : ℕ → Type 0
+SparedByDivision k = OutsideWord Eax k × OutsideWord Edx k
 
 -- The items put a word into a place, as `Puts` says, and of the other cells of registers keep those that pass the test.
 pub record PutsBeside (R : ℕ → Type 0) (site : Site) (frame : ℕ) (items : List Item) (p : Place) (w : ℕ)

@@ -18,40 +18,28 @@ use Rattle.ia32_shows.specs.Sites.{ReadyAt, StandsFrom}
 use Rattle.ia32_rows.specs.Rows.{selected}
 use Rattle.ia32_keeps.specs.Supports.{IsSupported, site_of}
 use Rattle.ia32_keeps.specs.Ops.{ItemsFollow, RowAt, after_at, before_at}
-use Rattle.ia32_cores.specs.Rows.{branching, dividing, halving, jumping, lowering, setting, shifting}
+use Rattle.ia32_rows.specs.Rows.{branching, dividing, halving, jumping, lowering, setting, shifting}
 
 -- the low byte of a number, and its low 16 bits
 abbrev pub LowFollows : Type 0
-LowFollows = (d a : ℕ) → ItemsFollow (op.Low d a) (λ code g. lowering (after_at code g d) (before_at code g a))
+LowFollows = (d a : ℕ) → RowFollows (op.Low d a)
 
 abbrev pub HalfFollows : Type 0
-HalfFollows = (d a : ℕ) → ItemsFollow (op.Low16 d a) (λ code g. halving (after_at code g d) (before_at code g a))
+HalfFollows = (d a : ℕ) → RowFollows (op.Low16 d a)
 
 -- shifts
 abbrev pub LeftShiftFollows : Type 0
-LeftShiftFollows =
-    (d a c : ℕ)
-    → ItemsFollow (op.Shl d a c)
-    (λ code g. shifting shift.Shl (after_at code g d) (before_at code g a) (before_at code g c))
+LeftShiftFollows = (d a c : ℕ) → RowFollows (op.Shl d a c)
 
 abbrev pub RightShiftFollows : Type 0
-RightShiftFollows =
-    (d a c : ℕ)
-    → ItemsFollow (op.Sar d a c)
-    (λ code g. shifting shift.Sar (after_at code g d) (before_at code g a) (before_at code g c))
+RightShiftFollows = (d a c : ℕ) → RowFollows (op.Sar d a c)
 
 -- divisions, with their traps
 abbrev pub QuotientFollows : Type 0
-QuotientFollows =
-    (d a b : ℕ)
-    → ItemsFollow (op.Div d a b)
-    (λ code g. dividing Eax (after_at code g d) (before_at code g a) (before_at code g b))
+QuotientFollows = (d a b : ℕ) → RowFollows (op.Div d a b)
 
 abbrev pub RemainderFollows : Type 0
-RemainderFollows =
-    (d a b : ℕ)
-    → ItemsFollow (op.Rem d a b)
-    (λ code g. dividing Edx (after_at code g d) (before_at code g a) (before_at code g b))
+RemainderFollows = (d a b : ℕ) → RowFollows (op.Rem d a b)
 
 -- a comparison of two numbers
 abbrev pub NumbersSetFollow : Type 0

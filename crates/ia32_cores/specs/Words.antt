@@ -4,22 +4,11 @@ use Rattle.std.specs.Prelude.{◌≡◌, ◌+◌, ◌*◌, ◌%◌, ◌^◌, ◌
 use Rattle.std.specs.Prelude.{int_div, int_rem}
 use Rattle.std.specs.Int.{w8, w16, w32, cast_unsigned, int_wrap}
 use Rattle.ia32_insn.specs.declared.insn.AluOp.TheVariants as alu
-use Rattle.ia32_insn.specs.declared.insn.Cond.{Cond}
-use Rattle.ia32_insn.specs.declared.insn.Cond.TheVariants as cond
 use Rattle.ia32_insn.specs.declared.insn.ShiftOp.TheVariants as shift
 use Rattle.ia32_insn.specs.Arithmetic.{alu_flags, extended16, holds, shift_value, sign_word, signed, signed_divided}
 use Rattle.flow_graph.specs.declared.op.Comparison.{Comparison}
-use Rattle.flow_graph.specs.declared.op.Comparison.TheVariants.{Eq, Ne, Lt, Le, Gt, Ge}
 use Rattle.flow_graph.specs.Meaning.{compared, no_quotient, shift_count, shifted_right}
-
--- the condition of a signed comparison (Intel manual, volume 1, appendix B)
-abbrev pub cond_of : Comparison → Cond
-cond_of Eq = cond.E
-cond_of Ne = cond.Ne
-cond_of Lt = cond.L
-cond_of Le = cond.Le
-cond_of Gt = cond.G
-cond_of Ge = cond.Ge
+use Rattle.ia32_rows.specs.Rows.{cond_of}
 
 -- after CMP of two words it holds exactly where the signed numbers in them compare so
 abbrev pub ComparisonDecides : Type 0

@@ -13,7 +13,7 @@ use Rattle.ia32_insn.specs.declared.item.Item.TheVariants as item
 use Rattle.ia32_insn.specs.Items.{plain}
 use Rattle.flow_graph.specs.declared.op.Comparison.TheVariants.{Lt, Ge}
 use Rattle.ia32_shows.specs.Placements.{below}
-use Rattle.ia32_cores.specs.Rows.{branching, dividing, halving, lowering, setting, shifting}
+use Rattle.ia32_rows.specs.Rows.{branching, dividing, halving, lowering, setting, shifting}
 
 -- Over slots a shift is four instructions, and one where the operand is in the result's place and the count in CL.
 -- Where the result stands in ECX it goes by ESI.

@@ -17,11 +17,11 @@ use Rattle.ia32_shows.specs.Placements.{below}
 use Rattle.ia32_shows.specs.Sites.{Site, Framed, Anywhere}
 use Rattle.ia32_shows.proofs.Frames.{with_result}
 use Rattle.ia32_shows.proofs.Sound.{load-same}
-use Rattle.ia32_rows.specs.Rows.{is_in, read, write}
+use Rattle.ia32_rows.specs.Rows.{is_in, multiply, read, write}
 use Rattle.ia32_effects.specs.Effects.{Makes, Keeps, OutsideWord}
 use Rattle.ia32_effects.specs.Contains.{ApartFromPlace, Contains, HoldsWord, IsPlaceIn, Untouched}
 use Rattle.ia32_effects.specs.Laws.{Gives, IsWorking, Puts}
-use Rattle.ia32_effects.specs.Products.{ProductPuts, multiply}
+use Rattle.ia32_effects.specs.Products.{ProductPuts}
 use Rattle.ia32_effects.proofs.Kept.{keeps-stricter, keeps-then, other-cells, word-kept}
 use Rattle.ia32_effects.proofs.Straight.{leads-join}
 use Rattle.ia32_effects.proofs.Instructions.{below-loaded, result-makes}

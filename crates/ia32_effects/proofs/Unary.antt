@@ -21,11 +21,11 @@ use Rattle.ia32_shows.specs.Placements.{below}
 use Rattle.ia32_shows.specs.Sites.{Site, SoundAt, Framed, Anywhere}
 use Rattle.ia32_shows.proofs.Frames.{with_result}
 use Rattle.ia32_shows.proofs.Sound.{load-same, word-same}
-use Rattle.ia32_rows.specs.Rows.{read, write}
+use Rattle.ia32_rows.specs.Rows.{extend, read, target_of, write}
 use Rattle.ia32_effects.specs.Effects.{Makes, Keeps, OutsideWord}
 use Rattle.ia32_effects.specs.Contains.{ApartFromPlace, Contains, HoldsWord, IsPlaceIn, Untouched}
 use Rattle.ia32_effects.specs.Laws.{Gives, IsWorking, Puts}
-use Rattle.ia32_effects.specs.Unary.{ComplementPuts, ExtensionPuts, NegationPuts, extend, target_of}
+use Rattle.ia32_effects.specs.Unary.{ComplementPuts, ExtensionPuts, NegationPuts}
 use Rattle.ia32_effects.proofs.Kept.{framed-kept, keeps-stricter, keeps-then, other-cells, result-keeps, word-kept}
 use Rattle.ia32_effects.proofs.Straight.{leads-join}
 use Rattle.ia32_effects.proofs.Instructions.{below-loaded, result-makes}

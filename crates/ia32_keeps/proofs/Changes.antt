@@ -28,7 +28,7 @@ use Rattle.ia32_shows.specs.Shows.{Shows, StandsIn}
 use Rattle.ia32_shows.specs.Sites.{Framed, Site}
 use Rattle.ia32_effects.specs.Contains.{Contains, HoldsWord, IsPlaceIn}
 use Rattle.ia32_effects.specs.Laws.{Puts}
-use Rattle.ia32_effects.specs.Unary.{changing, widening}
+use Rattle.ia32_rows.specs.Rows.{changing, widening}
 use Rattle.ia32_effects.proofs.Unary.{complement-puts, extension-puts, negation-puts}
 use Rattle.ia32_keeps.specs.Supports.{HoldsWidth, IsSupported, site_of}
 use Rattle.ia32_keeps.specs.Ops.{ComplementFollows, ExtensionFollows, NegationFollows, RowAt, after_at, before_at}

@@ -30,12 +30,11 @@ use Rattle.ia32_shows.specs.Follows.{Follows}
 use Rattle.ia32_shows.specs.Placements.{Code, placement_of}
 use Rattle.ia32_shows.specs.Shows.{Shows, StandsIn}
 use Rattle.ia32_shows.specs.Sites.{Framed, Site}
-use Rattle.ia32_rows.specs.Rows.{commuting, number_row, operation}
+use Rattle.ia32_rows.specs.Rows.{commuting, multiplying, number_row, operation}
 use Rattle.ia32_effects.specs.Contains.{Contains, HoldsWord, IsPlaceIn}
 use Rattle.ia32_effects.specs.Laws.{IsWriting, Puts}
 use Rattle.ia32_effects.proofs.Moves.{number-puts}
 use Rattle.ia32_effects.proofs.Sums.{commuting-puts, operation-puts}
-use Rattle.ia32_effects.specs.Products.{multiplying}
 use Rattle.ia32_effects.proofs.Multiplying.{product-puts}
 use Rattle.ia32_keeps.proofs.Words.{product-computed}
 use Rattle.ia32_keeps.specs.Supports.{HoldsWidth, IsSupported, site_of}

@@ -1,8 +1,6 @@
 -- That the machine follows single ops of the program, over any placement that supports the graph.
 use Rattle.std.specs.Prelude.{◌≡◌, ℕ, ℤ, List, ◌∷◌, ◌++◌, Some}
 use Rattle.ia32_places.specs.Places.{Place}
-use Rattle.ia32_insn.specs.declared.insn.AluOp.TheVariants as alu
-use Rattle.ia32_insn.specs.declared.insn.Insn.TheVariants as insn
 use Rattle.ia32_insn.specs.declared.item.Item.{Item}
 use Rattle.ia32_insn.specs.declared.item.Item.TheVariants as item
 use Rattle.ia32_insn.specs.State as machine
@@ -16,9 +14,7 @@ use Rattle.ia32_shows.specs.Follows.{Follows, is_nop}
 use Rattle.ia32_shows.specs.Placements.{Code, placement_of}
 use Rattle.ia32_shows.specs.Shows.{Shows}
 use Rattle.ia32_shows.specs.Sites.{ReadyAt}
-use Rattle.ia32_rows.specs.Rows.{commuting, place_after, place_before, row}
-use Rattle.ia32_effects.specs.Products.{multiplying}
-use Rattle.ia32_effects.specs.Unary.{changing, widening}
+use Rattle.ia32_rows.specs.Rows.{place_after, place_before, row}
 use Rattle.ia32_keeps.specs.Supports.{IsSupported, site_of}
 
 -- where variables of the current call stand before and after the state's point
@@ -62,44 +58,27 @@ SumFollows = (d a b : ℕ) → RowFollows (op.Add d a b)
 abbrev pub DifferenceFollows : Type 0
 DifferenceFollows = (d a b : ℕ) → RowFollows (op.Sub d a b)
 
--- AND, OR and XOR through the items of an operation whose operands commute
 abbrev pub AndFollows : Type 0
-AndFollows =
-    (d a b : ℕ)
-    → ItemsFollow (op.And d a b) (λ code g. commuting alu.And (after_at code g d) (before_at code g a)
-    (before_at code g b))
+AndFollows = (d a b : ℕ) → RowFollows (op.And d a b)
 
 abbrev pub OrFollows : Type 0
-OrFollows =
-    (d a b : ℕ)
-    → ItemsFollow (op.Or d a b) (λ code g. commuting alu.Or (after_at code g d) (before_at code g a)
-    (before_at code g b))
+OrFollows = (d a b : ℕ) → RowFollows (op.Or d a b)
 
 abbrev pub XorFollows : Type 0
-XorFollows =
-    (d a b : ℕ)
-    → ItemsFollow (op.Xor d a b) (λ code g. commuting alu.Xor (after_at code g d) (before_at code g a)
-    (before_at code g b))
+XorFollows = (d a b : ℕ) → RowFollows (op.Xor d a b)
 
--- IMUL through its items
 abbrev pub ProductFollows : Type 0
-ProductFollows =
-    (d a b : ℕ)
-    → ItemsFollow (op.Mul d a b) (λ code g. multiplying (after_at code g d) (before_at code g a) (before_at code g b))
+ProductFollows = (d a b : ℕ) → RowFollows (op.Mul d a b)
 
--- NEG and NOT through the items that change one word
 abbrev pub NegationFollows : Type 0
-NegationFollows =
-    (d a : ℕ) → ItemsFollow (op.Neg d a) (λ code g. changing insn.Neg (after_at code g d) (before_at code g a))
+NegationFollows = (d a : ℕ) → RowFollows (op.Neg d a)
 
 abbrev pub ComplementFollows : Type 0
-ComplementFollows =
-    (d a : ℕ) → ItemsFollow (op.Not d a) (λ code g. changing insn.Not (after_at code g d) (before_at code g a))
+ComplementFollows = (d a : ℕ) → RowFollows (op.Not d a)
 
--- MOVSX of a byte through its items
+-- a byte made a word
 abbrev pub ExtensionFollows : Type 0
-ExtensionFollows =
-    (d a : ℕ) → ItemsFollow (op.Wide d a) (λ code g. widening (after_at code g d) (before_at code g a))
+ExtensionFollows = (d a : ℕ) → RowFollows (op.Wide d a)
 
 -- a mark and a turn
 abbrev pub MarkFollows : Type 0

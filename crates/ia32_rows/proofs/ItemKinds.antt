@@ -1,31 +1,45 @@
--- What kinds of items the code of a graph over slots has.
+-- What kinds of items the code of a graph has, over any placement.
 use Rattle.std.specs.List.{AllByRecursion}
-use Rattle.std.proofs.Common.{◌≡◌, ℕ, zero, suc, ◌+◌, ◌<◌, ◌≤◌, List, [], ◌∷◌, ◌++◌, length, Some, refl, sym, ap, subst}
-use Rattle.std.proofs.Common.{◌∙◌, inl, inr, arith}
-use Rattle.std.specs.Prelude.{◌⊎◌, ◌==◌, ⊤, ℤ, Bool, true, false, if◌then◌else◌, slice_get, slice_index_or}
+use Rattle.std.proofs.Common.{◌≡◌, ℕ, zero, suc, ◌+◌, ◌<◌, ◌≤◌, List, [], ◌∷◌, ◌++◌, length, Some, None, sym, ap}
+use Rattle.std.proofs.Common.{subst, ◌∙◌, arith, Option, map}
+use Rattle.std.specs.Prelude.{◌==◌, ◌||◌, ⊤, ℤ, Bool, true, false, if◌then◌else◌, option_map, slice_get, slice_index_or}
 use Rattle.std.proofs.lemmas.Option.{same_Some, get_or_from_slice_get}
 use Rattle.ia32_regs.specs.declared.names.Reg32.{Reg32}
-use Rattle.ia32_regs.specs.declared.names.Reg32.TheVariants.{Eax, Edi}
-use Rattle.ia32_regs.specs.Registers.{number32}
+use Rattle.ia32_regs.specs.declared.names.Reg32.TheVariants.{Eax, Edx, Esi, Edi}
+use Rattle.ia32_regs.specs.declared.names.Reg8.TheVariants.{Cl}
+use Rattle.ia32_regs.specs.Registers.{number32, number8}
 use Rattle.ia32_places.specs.Places.{Place, InWord, InByte, InSlot}
+use Rattle.ia32_insn.specs.declared.operand.Rm32.{Rm32}
 use Rattle.ia32_insn.specs.declared.operand.Rm32.TheVariants as rm
+use Rattle.ia32_insn.specs.declared.operand.Rm8.TheVariants as rm8
 use Rattle.ia32_insn.specs.declared.insn.AluOp.{AluOp}
 use Rattle.ia32_insn.specs.declared.insn.AluOp.TheVariants as alu
+use Rattle.ia32_insn.specs.declared.insn.Cond.{Cond}
+use Rattle.ia32_insn.specs.declared.insn.Cond.TheVariants as cond
 use Rattle.ia32_insn.specs.declared.insn.Insn.{Insn}
 use Rattle.ia32_insn.specs.declared.insn.Insn.TheVariants as insn
+use Rattle.ia32_insn.specs.declared.insn.ShiftOp.{ShiftOp}
+use Rattle.ia32_insn.specs.declared.insn.ShiftOp.TheVariants as shift
 use Rattle.ia32_insn.specs.declared.item.Item.{Item}
 use Rattle.ia32_insn.specs.declared.item.Item.TheVariants as item
 use Rattle.ia32_insn.specs.declared.item.Stub.TheVariants as stub
-use Rattle.ia32_insn.specs.Items.{Symbols, Places, ItemAt, ItemsAt, plain}
+use Rattle.ia32_insn.specs.Items.{Symbols, Places, ItemAt, ItemsAt, LeadsTo, jump_if, plain, stub_address}
+use Rattle.ia32_insn.specs.Spelling.{Spells}
 use Rattle.flow_graph.specs.declared.op.Op.{Op}
 use Rattle.flow_graph.specs.declared.op.Op.TheVariants as op
 use Rattle.flow_graph.specs.Graphs.{Flow, HasFittingOp, IsFlow, points_of}
 use Rattle.flow_graph.proofs.Points.{every-map}
-use Rattle.ia32_shows.proofs.Spelled.{IsCommon, common-begins}
+use Rattle.ia32_shows.proofs.Spelled.{common-begins}
 use Rattle.ia32_shows.specs.Placements.{Placement}
-use Rattle.ia32_rows.specs.Rows.{IsSlotOp, HasSlots, frame_of, entry_label, over_slots, read, write, operate, working}
-use Rattle.ia32_rows.specs.Rows.{has_operand, number_row, copy_row, operation, commuting, pass, putchar_row, return_row}
-use Rattle.ia32_rows.specs.Rows.{row, place_before, place_after, prologue, point_row, point_rows, block_rows, selected}
+use Rattle.ia32_rows.specs.Moves.{has_operand, target_of, working, read, write, operate, number_row, copy_row}
+use Rattle.ia32_rows.specs.Moves.{operation, commuting, pass}
+use Rattle.ia32_rows.specs.Computing.{multiply, multiplying, changing, low_byte, extend, widening, lowering}
+use Rattle.ia32_rows.specs.Computing.{extend_half, halving, into_count, shifted_in, shifting, clear_divisor}
+use Rattle.ia32_rows.specs.Computing.{divisor_of, before_division, dividing, cond_of, comparing, set_row}
+use Rattle.ia32_rows.specs.Passing.{argument_word, param_row, pass_all, deepen, undeepen, drop_words, write_any}
+use Rattle.ia32_rows.specs.Passing.{before_call, behind_call, call_row, leave, return_row, prologue}
+use Rattle.ia32_rows.specs.Rows.{IsSlotOp, HasItems, entry_label, row, place_before, place_after, point_row, point_rows}
+use Rattle.ia32_rows.specs.Rows.{block_rows, selected}
 
 -- what holds of each of two lists holds of each of both
 pub every-join : {X : Type 0} (P : X → Type 0) (xs ys : List X) → AllByRecursion P xs → AllByRecursion P ys
@@ -47,46 +61,63 @@ every-get P (y ∷ xs) (suc i) x h e = every-get P xs i x h.1 e
 
 -- ---- the kinds of items
 
--- a common instruction or NOP, a label, a point, a jump to a label, or a call of putchar
-abbrev pub IsRowItem : Item → Type 0
-IsRowItem (item.Plain i) = IsCommon i ⊎ (i ≡ insn.Nop)
-IsRowItem (item.Label l) = ⊤
-IsRowItem (item.Point p) = ⊤
-IsRowItem (item.JumpTo l) = ⊤
-IsRowItem (item.JumpIf c l) = ⊤
-IsRowItem (item.CallFunction f) = ⊥
-IsRowItem (item.CallStub stub.Putchar) = ⊤
-IsRowItem (item.CallStub stub.Getchar) = ⊥
-IsRowItem (item.CallStub stub.Exit) = ⊥
-IsRowItem (item.JumpTrap c) = ⊥
-IsRowItem (item.AddressOf r k) = ⊥
-
--- an instruction of a row: a common one, NOP, or a call of putchar
+-- an instruction of a row: no label and no point
 abbrev pub IsRowInsn : Item → Type 0
-IsRowInsn (item.Plain i) = IsCommon i ⊎ (i ≡ insn.Nop)
+IsRowInsn (item.Plain i) = ⊤
 IsRowInsn (item.Label l) = ⊥
 IsRowInsn (item.Point p) = ⊥
-IsRowInsn (item.JumpTo l) = ⊥
-IsRowInsn (item.JumpIf c l) = ⊥
-IsRowInsn (item.CallFunction f) = ⊥
-IsRowInsn (item.CallStub stub.Putchar) = ⊤
-IsRowInsn (item.CallStub stub.Getchar) = ⊥
-IsRowInsn (item.CallStub stub.Exit) = ⊥
-IsRowInsn (item.JumpTrap c) = ⊥
-IsRowInsn (item.AddressOf r k) = ⊥
+IsRowInsn (item.JumpTo l) = ⊤
+IsRowInsn (item.JumpIf c l) = ⊤
+IsRowInsn (item.CallFunction f) = ⊤
+IsRowInsn (item.CallStub s) = ⊤
+IsRowInsn (item.JumpTrap c) = ⊤
+IsRowInsn (item.AddressOf r k) = ⊤
 
 -- instructions of a row
 abbrev pub AreRowInsns : List Item → Type 0
 AreRowInsns items = AllByRecursion IsRowInsn items
+
+-- an instruction as it stands
+abbrev pub IsPlain : Item → Type 0
+IsPlain (item.Plain i) = ⊤
+IsPlain (item.Label l) = ⊥
+IsPlain (item.Point p) = ⊥
+IsPlain (item.JumpTo l) = ⊥
+IsPlain (item.JumpIf c l) = ⊥
+IsPlain (item.CallFunction f) = ⊥
+IsPlain (item.CallStub s) = ⊥
+IsPlain (item.JumpTrap c) = ⊥
+IsPlain (item.AddressOf r k) = ⊥
 
 -- there is one at least
 abbrev pub IsSome : List Item → Type 0
 IsSome [] = ⊥
 IsSome (i ∷ items) = ⊤
 
+-- all items pass a test, and there are some
+abbrev pub AreSome : (Item → Type 0) → List Item → Type 0
+AreSome P items = AllByRecursion P items × IsSome items
+
 -- instructions of a row, and some
 abbrev pub IsRow : List Item → Type 0
-IsRow items = AreRowInsns items × IsSome items
+IsRow items = AreSome IsRowInsn items
+
+-- instructions as they stand alone
+abbrev pub ArePlain : List Item → Type 0
+ArePlain items = AllByRecursion IsPlain items
+
+abbrev pub IsPlainRow : List Item → Type 0
+IsPlainRow items = AreSome IsPlain items
+
+plain-insn : (i : Item) → IsPlain i → IsRowInsn i
+plain-insn (item.Plain i) h = tt
+plain-insn i h = absurd h
+
+plain-insns : (items : List Item) → ArePlain items → AreRowInsns items
+plain-insns items h = every-map IsPlain IsRowInsn plain-insn items h
+
+plain-row : (items : List Item) → IsPlainRow items → IsRow items
+plain-row items h = (plain-insns items h.0, h.1)
 
 -- what holds of both of two choices holds of the choice
 pub either-way : {X : Type 0} (P : X → Type 0) (b : Bool) (x y : X) → P x → P y → P (if b then x else y)
@@ -101,145 +132,396 @@ some-behind : (xs ys : List Item) → IsSome ys → IsSome (xs ++ ys)
 some-behind [] ys h = h
 some-behind (x ∷ xs) ys h = tt
 
--- instructions before a row, and behind it
-row-behind : (xs ys : List Item) → AreRowInsns xs → IsRow ys → IsRow (xs ++ ys)
-row-behind xs ys a b = (every-join IsRowInsn xs ys a b.0, some-behind xs ys b.1)
+-- items before a row, and behind it
+row-behind : (P : Item → Type 0) (xs ys : List Item) → AllByRecursion P xs → AreSome P ys → AreSome P (xs ++ ys)
+row-behind P xs ys a b = (every-join P xs ys a b.0, some-behind xs ys b.1)
 
-row-before : (xs ys : List Item) → IsRow xs → AreRowInsns ys → IsRow (xs ++ ys)
-row-before xs ys a b = (every-join IsRowInsn xs ys a.0 b, some-before xs ys a.1)
+row-before : (P : Item → Type 0) (xs ys : List Item) → AreSome P xs → AllByRecursion P ys → AreSome P (xs ++ ys)
+row-before P xs ys a b = (every-join P xs ys a.0 b, some-before xs ys a.1)
 
-read-insns : (t : Reg32) (p : Place) → AreRowInsns (read t p)
+-- ---- of moves
+
+read-insns : (t : Reg32) (p : Place) → ArePlain (read t p)
 read-insns t (InWord r) =
-    either-way AreRowInsns (number32 r == number32 t) [] (plain (insn.Mov (rm.Reg t) r) ∷ []) tt (inl tt, tt)
-read-insns t (InByte r) = (inl tt, tt)
-read-insns t (InSlot k) = (inl tt, tt)
+    either-way ArePlain (number32 r == number32 t) [] (plain (insn.Mov (rm.Reg t) r) ∷ []) tt (tt, tt)
+read-insns t (InByte r) = (tt, tt)
+read-insns t (InSlot k) = (tt, tt)
 
-write-insns : (p : Place) (t : Reg32) → AreRowInsns (write p t)
+write-insns : (p : Place) (t : Reg32) → ArePlain (write p t)
 write-insns (InWord r) t =
-    either-way AreRowInsns (number32 r == number32 t) [] (plain (insn.Mov (rm.Reg r) t) ∷ []) tt (inl tt, tt)
-write-insns (InByte r) t = (inl tt, (inl tt, tt))
-write-insns (InSlot k) t = (inl tt, tt)
+    either-way ArePlain (number32 r == number32 t) [] (plain (insn.Mov (rm.Reg r) t) ∷ []) tt (tt, tt)
+write-insns (InByte r) t = (tt, (tt, tt))
+write-insns (InSlot k) t = (tt, tt)
 
-operate-row : (how : AluOp) (t : Reg32) (p : Place) → IsRow (operate how t p)
-operate-row how t (InWord r) = ((inl tt, tt), tt)
-operate-row how t (InByte r) = ((inl tt, (inl tt, tt)), tt)
-operate-row how t (InSlot k) = ((inl tt, tt), tt)
+operate-row : (how : AluOp) (t : Reg32) (p : Place) → IsPlainRow (operate how t p)
+operate-row how t (InWord r) = ((tt, tt), tt)
+operate-row how t (InByte r) = ((tt, (tt, tt)), tt)
+operate-row how t (InSlot k) = ((tt, tt), tt)
 
-number-row : (p : Place) (n : ℤ) → IsRow (number_row p n)
-number-row (InWord r) n = ((inl tt, tt), tt)
-number-row (InByte r) n = ((inl tt, tt), tt)
-number-row (InSlot k) n = ((inl tt, tt), tt)
+number-row : (p : Place) (n : ℤ) → IsPlainRow (number_row p n)
+number-row (InWord r) n = ((tt, tt), tt)
+number-row (InByte r) n = ((tt, tt), tt)
+number-row (InSlot k) n = ((tt, tt), tt)
 
-copy-row : (p q : Place) → IsRow (copy_row p q)
-copy-row (InWord s) (InWord d) = ((inl tt, tt), tt)
-copy-row (InWord s) (InByte d) = ((inl tt, (inl tt, tt)), tt)
-copy-row (InWord s) (InSlot d) = ((inl tt, tt), tt)
-copy-row (InByte s) (InWord d) = ((inl tt, tt), tt)
-copy-row (InByte s) (InByte d) = ((inl tt, tt), tt)
-copy-row (InByte s) (InSlot d) = ((inl tt, tt), tt)
-copy-row (InSlot s) (InWord d) = ((inl tt, tt), tt)
-copy-row (InSlot s) (InByte d) = ((inl tt, tt), tt)
-copy-row (InSlot s) (InSlot d) = ((inl tt, (inl tt, tt)), tt)
+copy-row : (p q : Place) → IsPlainRow (copy_row p q)
+copy-row (InWord s) (InWord d) = ((tt, tt), tt)
+copy-row (InWord s) (InByte d) = ((tt, (tt, tt)), tt)
+copy-row (InWord s) (InSlot d) = ((tt, tt), tt)
+copy-row (InByte s) (InWord d) = ((tt, tt), tt)
+copy-row (InByte s) (InByte d) = ((tt, tt), tt)
+copy-row (InByte s) (InSlot d) = ((tt, tt), tt)
+copy-row (InSlot s) (InWord d) = ((tt, tt), tt)
+copy-row (InSlot s) (InByte d) = ((tt, tt), tt)
+copy-row (InSlot s) (InSlot d) = ((tt, (tt, tt)), tt)
 
-operation-row : (how : AluOp) (p q r : Place) → IsRow (operation how p q r)
+-- a row that is written at its end
+written-row : (items : List Item) (p : Place) (t : Reg32) → IsPlainRow items → IsPlainRow (items ++ write p t)
+written-row items p t h = row-before IsPlain items (write p t) h (write-insns p t)
+
+operation-row : (how : AluOp) (p q r : Place) → IsPlainRow (operation how p q r)
 operation-row how p q r =
     let t : Reg32 = working p q r in
-    row-before (read t q ++ operate how t r) (write p t)
-    (row-behind (read t q) (operate how t r) (read-insns t q) (operate-row how t r)) (write-insns p t)
+    written-row (read t q ++ operate how t r) p t
+    (row-behind IsPlain (read t q) (operate how t r) (read-insns t q) (operate-row how t r))
 
-commuting-row : (how : AluOp) (p q r : Place) → IsRow (commuting how p q r)
+commuting-row : (how : AluOp) (p q r : Place) → IsPlainRow (commuting how p q r)
 commuting-row how p q r =
-    either-way IsRow (has_operand p r) (operation how p r q) (operation how p q r) (operation-row how p r q)
+    either-way IsPlainRow (has_operand p r) (operation how p r q) (operation how p q r) (operation-row how p r q)
     (operation-row how p q r)
 
-pass-row : (p : Place) → IsRow (pass p)
-pass-row (InWord r) = ((inl tt, tt), tt)
-pass-row (InByte r) = ((inl tt, (inl tt, tt)), tt)
-pass-row (InSlot k) = ((inl tt, tt), tt)
+pass-row : (p : Place) → IsPlainRow (pass p)
+pass-row (InWord r) = ((tt, tt), tt)
+pass-row (InByte r) = ((tt, (tt, tt)), tt)
+pass-row (InSlot k) = ((tt, tt), tt)
 
-putchar-row : (p q : Place) → IsRow (putchar_row p q)
-putchar-row p q =
-    row-before (pass q) (item.CallStub stub.Putchar ∷ plain (insn.Pop Edi) ∷ write p Eax) (pass-row q)
-    (tt, (inl tt, write-insns p Eax))
+-- ---- of computed values
 
-return-row : (p : Place) → IsRow (return_row p)
-return-row p =
-    row-behind (read Eax p) (return_row (InWord Eax)) (read-insns Eax p)
-    ((inl tt, (inl tt, (inl tt, (inl tt, (inl tt, tt))))), tt)
+multiply-row : (t : Reg32) (p : Place) → IsPlainRow (multiply t p)
+multiply-row t (InWord r) = ((tt, tt), tt)
+multiply-row t (InByte r) = ((tt, (tt, tt)), tt)
+multiply-row t (InSlot k) = ((tt, tt), tt)
+
+multiplying-row : (p q r : Place) → IsPlainRow (multiplying p q r)
+multiplying-row p q r =
+    let t : Reg32 = working p q r in
+    written-row (read t q ++ multiply t r) p t
+    (row-behind IsPlain (read t q) (multiply t r) (read-insns t q) (multiply-row t r))
+
+changing-row : (how : Rm32 → Insn) (p q : Place) → IsPlainRow (changing how p q)
+changing-row how p q =
+    let t : Reg32 = target_of p in
+    let one : List Item = plain (how (rm.Reg t)) ∷ [] in
+    written-row (read t q ++ one) p t (row-behind IsPlain (read t q) one (read-insns t q) ((tt, tt), tt))
+
+extend-row : (t : Reg32) (p : Place) → IsPlainRow (extend t p)
+extend-row t (InWord r) = ((tt, tt), tt)
+extend-row t (InByte r) = ((tt, tt), tt)
+extend-row t (InSlot k) = ((tt, tt), tt)
+
+widening-row : (p q : Place) → IsPlainRow (widening p q)
+widening-row p q = written-row (extend (target_of p) q) p (target_of p) (extend-row (target_of p) q)
+
+lowering-row : (p q : Place) → IsPlainRow (lowering p q)
+lowering-row (InWord r) q = copy-row q (InWord r)
+lowering-row (InByte r) (InWord q) = copy-row (InByte (low_byte q)) (InByte r)
+lowering-row (InByte r) (InByte q) = copy-row (InByte q) (InByte r)
+lowering-row (InByte r) (InSlot k) = ((tt, (tt, (tt, tt))), tt)
+lowering-row (InSlot k) q = copy-row q (InSlot k)
+
+half-row : (t : Reg32) (p : Place) → IsPlainRow (extend_half t p)
+half-row t (InWord r) = ((tt, tt), tt)
+half-row t (InByte r) = ((tt, (tt, tt)), tt)
+half-row t (InSlot k) = ((tt, (tt, tt)), tt)
+
+halving-row : (p q : Place) → IsPlainRow (halving p q)
+halving-row p q = written-row (extend_half (target_of p) q) p (target_of p) (half-row (target_of p) q)
+
+count-insns : (p : Place) → ArePlain (into_count p)
+count-insns (InWord r) = (tt, tt)
+count-insns (InByte r) =
+    either-way ArePlain (number8 r == number8 Cl) [] (plain (insn.Mov8 (rm8.Reg Cl) r) ∷ []) tt (tt, tt)
+count-insns (InSlot k) = (tt, tt)
+
+shifting-row : (how : ShiftOp) (p q c : Place) → IsPlainRow (shifting how p q c)
+shifting-row how p q c =
+    let t : Reg32 = shifted_in p q c in
+    let one : List Item = plain (insn.ShiftCl how (rm.Reg t)) ∷ [] in
+    written-row (read t q ++ (into_count c ++ one)) p t
+    (row-behind IsPlain (read t q) (into_count c ++ one) (read-insns t q)
+    (row-behind IsPlain (into_count c) one (count-insns c) ((tt, tt), tt)))
+
+clear-insns : (p : Place) → ArePlain (clear_divisor p)
+clear-insns (InWord r) =
+    either-way ArePlain (number32 r == number32 Eax || number32 r == number32 Edx) (read Esi (InWord r)) []
+    (read-insns Esi (InWord r)) tt
+clear-insns (InByte r) = (tt, tt)
+clear-insns (InSlot k) = tt
+
+dividing-row : (part : Reg32) (p q r : Place) → IsPlainRow (dividing part p q r)
+dividing-row part p q r =
+    let sign : List Item = plain insn.Cdq ∷ [] in
+    let one : List Item = plain (insn.IDiv (divisor_of r)) ∷ [] in
+    written-row (before_division q r ++ one) p part
+    (row-behind IsPlain (before_division q r) one
+    (every-join IsPlain (clear_divisor r ++ read Eax q) sign
+    (every-join IsPlain (clear_divisor r) (read Eax q) (clear-insns r) (read-insns Eax q)) (tt, tt))
+    ((tt, tt), tt))
+
+comparing-row : (p q : Place) → IsPlainRow (comparing p q)
+comparing-row (InWord r) q = operate-row alu.Cmp r q
+comparing-row (InByte r) q =
+    row-behind IsPlain (read Esi (InByte r)) (operate alu.Cmp Esi q) (tt, tt) (operate-row alu.Cmp Esi q)
+comparing-row (InSlot k) (InWord q) = ((tt, tt), tt)
+comparing-row (InSlot k) (InByte q) = ((tt, (tt, (tt, tt))), tt)
+comparing-row (InSlot k) (InSlot b) = ((tt, (tt, tt)), tt)
+
+set-insns : (c : Cond) (p : Place) → ArePlain (set_row c p)
+set-insns c (InWord r) = (tt, (tt, tt))
+set-insns c (InByte r) = (tt, tt)
+set-insns c (InSlot k) = (tt, (tt, (tt, tt)))
+
+compared-row : (p q : Place) (items : List Item) → AreRowInsns items → IsRow (comparing p q ++ items)
+compared-row p q items h =
+    row-before IsRowInsn (comparing p q) items (plain-row (comparing p q) (comparing-row p q)) h
+
+-- ---- of calls
+
+-- the word of a register to a place is the last of a row
+write-row : (p : Place) (t : Reg32) → AreRowInsns (write p t)
+write-row p t = plain-insns (write p t) (write-insns p t)
+
+passed-row : (p : Place) (items : List Item) → AreRowInsns items → IsRow (pass p ++ items)
+passed-row p items h = row-before IsRowInsn (pass p) items (plain-row (pass p) (pass-row p)) h
+
+pass_all-insns : (places : List Place) → ArePlain (pass_all places)
+pass_all-insns [] = tt
+pass_all-insns (p ∷ places) = every-join IsPlain (pass_all places) (pass p) (pass_all-insns places) (pass-row p).0
+
+drop-insns : (words : ℕ) → AreRowInsns (drop_words words)
+drop-insns zero = tt
+drop-insns (suc n) = (tt, tt)
+
+write_any-insns : (p : Option Place) → AreRowInsns (write_any p)
+write_any-insns None = tt
+write_any-insns (Some p) = write-row p Eax
+
+call-row : (result : Option Place) (f : ℕ) (arguments : List Place) → IsRow (call_row result f arguments)
+call-row result f arguments =
+    let words : ℕ = length arguments in
+    let back : AreRowInsns (behind_call result words) =
+    every-join IsRowInsn (drop_words words ++ undeepen) (write_any result)
+    (every-join IsRowInsn (drop_words words) undeepen (drop-insns words) (tt, (tt, tt))) (write_any-insns result) in
+    row-before IsRowInsn (before_call arguments) (item.CallFunction f ∷ behind_call result words)
+    (row-before IsRowInsn deepen (pass_all arguments) ((tt, (tt, (tt, (tt, tt)))), tt)
+    (plain-insns (pass_all arguments) (pass_all-insns arguments))) (tt, back)
+
+leave-row : IsPlainRow leave
+leave-row = ((tt, (tt, (tt, (tt, (tt, tt))))), tt)
+
+return-row : (p : Place) → IsPlainRow (return_row p)
+return-row p = row-behind IsPlain (read Eax p) leave (read-insns Eax p) leave-row
+
+-- ---- of ops
 
 -- the row of an op that has one
-pub row-is : (placement : Placement) (p : ℕ) (o : Op) → IsSlotOp o → IsRow (row placement p o)
-row-is placement p (op.Const d n) h = number-row (place_after placement p d) n
-row-is placement p (op.Copy d s) h = copy-row (place_before placement p s) (place_after placement p d)
+pub row-is : (placement : Placement) (p : ℕ) (o : Op) → HasItems o → IsRow (row placement p o)
+row-is placement p (op.Const d n) h =
+    plain-row (row placement p (op.Const d n))
+    (number-row (place_after placement p d) n)
+row-is placement p (op.Copy d s) h =
+    plain-row (row placement p (op.Copy d s))
+    (copy-row (place_before placement p s) (place_after placement p d))
+row-is placement p (op.Wide d s) h =
+    plain-row (row placement p (op.Wide d s))
+    (widening-row (place_after placement p d) (place_before placement p s))
+row-is placement p (op.Low d s) h =
+    plain-row (row placement p (op.Low d s))
+    (lowering-row (place_after placement p d) (place_before placement p s))
+row-is placement p (op.Low16 d s) h =
+    plain-row (row placement p (op.Low16 d s))
+    (halving-row (place_after placement p d) (place_before placement p s))
+row-is placement p (op.Neg d s) h =
+    plain-row (row placement p (op.Neg d s))
+    (changing-row insn.Neg (place_after placement p d) (place_before placement p s))
+row-is placement p (op.Not d s) h =
+    plain-row (row placement p (op.Not d s))
+    (changing-row insn.Not (place_after placement p d) (place_before placement p s))
 row-is placement p (op.Add d a b) h =
-    commuting-row alu.Add (place_after placement p d) (place_before placement p a) (place_before placement p b)
+    plain-row (row placement p (op.Add d a b))
+    (commuting-row alu.Add (place_after placement p d) (place_before placement p a) (place_before placement p b))
 row-is placement p (op.Sub d a b) h =
-    operation-row alu.Sub (place_after placement p d) (place_before placement p a) (place_before placement p b)
-row-is placement p (op.Putchar d s) h = putchar-row (place_after placement p d) (place_before placement p s)
-row-is placement p (op.Mark s) h = ((inr refl, tt), tt)
-row-is placement p op.Turn h = ((inr refl, tt), tt)
-row-is placement p (op.Return (Some a)) h = return-row (place_before placement p a)
+    plain-row (row placement p (op.Sub d a b))
+    (operation-row alu.Sub (place_after placement p d) (place_before placement p a) (place_before placement p b))
+row-is placement p (op.Mul d a b) h =
+    plain-row (row placement p (op.Mul d a b))
+    (multiplying-row (place_after placement p d) (place_before placement p a) (place_before placement p b))
+row-is placement p (op.And d a b) h =
+    plain-row (row placement p (op.And d a b))
+    (commuting-row alu.And (place_after placement p d) (place_before placement p a) (place_before placement p b))
+row-is placement p (op.Or d a b) h =
+    plain-row (row placement p (op.Or d a b))
+    (commuting-row alu.Or (place_after placement p d) (place_before placement p a) (place_before placement p b))
+row-is placement p (op.Xor d a b) h =
+    plain-row (row placement p (op.Xor d a b))
+    (commuting-row alu.Xor (place_after placement p d) (place_before placement p a) (place_before placement p b))
+row-is placement p (op.Shl d a b) h =
+    plain-row (row placement p (op.Shl d a b))
+    (shifting-row shift.Shl (place_after placement p d) (place_before placement p a) (place_before placement p b))
+row-is placement p (op.Sar d a b) h =
+    plain-row (row placement p (op.Sar d a b))
+    (shifting-row shift.Sar (place_after placement p d) (place_before placement p a) (place_before placement p b))
+row-is placement p (op.Div d a b) h =
+    plain-row (row placement p (op.Div d a b))
+    (dividing-row Eax (place_after placement p d) (place_before placement p a) (place_before placement p b))
+row-is placement p (op.Rem d a b) h =
+    plain-row (row placement p (op.Rem d a b))
+    (dividing-row Edx (place_after placement p d) (place_before placement p a) (place_before placement p b))
+row-is placement p (op.Set how d a b) h =
+    let set : List Item = set_row (cond_of how) (place_after placement p d) in
+    compared-row (place_before placement p a) (place_before placement p b) set
+    (plain-insns set (set-insns (cond_of how) (place_after placement p d)))
+row-is placement p (op.Param d k) h =
+    let place : Place = place_after placement p d in
+    let load : List Item = plain (insn.MovLoad (target_of place) (argument_word k)) ∷ [] in
+    plain-row (param_row place k) (written-row load place (target_of place) ((tt, tt), tt))
+row-is placement p (op.Call d f arguments) h =
+    call-row (option_map (place_after placement p) d) f (map (place_before placement p) arguments)
+row-is placement p (op.Putchar d s) h =
+    passed-row (place_before placement p s)
+    (item.CallStub stub.Putchar ∷ plain (insn.Pop Edi) ∷ write (place_after placement p d) Eax)
+    (tt, (tt, write-row (place_after placement p d) Eax))
+row-is placement p (op.Getchar d) h = ((tt, write-row (place_after placement p d) Eax), tt)
+row-is placement p (op.Exit s) h =
+    passed-row (place_before placement p s) (item.CallStub stub.Exit ∷ []) (tt, tt)
+row-is placement p (op.Same a b) h =
+    compared-row (place_before placement p a) (place_before placement p b) (item.JumpTrap (Some cond.Ne) ∷ []) (tt, tt)
+row-is placement p (op.Mark s) h = ((tt, tt), tt)
+row-is placement p op.Turn h = ((tt, tt), tt)
+row-is placement p (op.Jump x) h = ((tt, tt), tt)
+row-is placement p (op.Branch how a b x y) h =
+    compared-row (place_before placement p a) (place_before placement p b)
+    (item.JumpIf (cond_of how) x ∷ item.JumpTo y ∷ []) (tt, (tt, tt))
+row-is placement p (op.Return (Some a)) h =
+    plain-row (return_row (place_before placement p a)) (return-row (place_before placement p a))
+row-is placement p (op.Return None) h = plain-row leave leave-row
 row-is placement p o h = absurd h
 
 -- the row of any op
 pub row-insns : (placement : Placement) (p : ℕ) (o : Op) → AreRowInsns (row placement p o)
-row-insns placement p (op.Const d n) = (row-is placement p (op.Const d n) tt).0
-row-insns placement p (op.Copy d s) = (row-is placement p (op.Copy d s) tt).0
-row-insns placement p (op.Add d a b) = (row-is placement p (op.Add d a b) tt).0
-row-insns placement p (op.Sub d a b) = (row-is placement p (op.Sub d a b) tt).0
-row-insns placement p (op.Putchar d s) = (row-is placement p (op.Putchar d s) tt).0
-row-insns placement p (op.Mark s) = (row-is placement p (op.Mark s) tt).0
-row-insns placement p op.Turn = (row-is placement p op.Turn tt).0
-row-insns placement p (op.Return (Some a)) = (row-is placement p (op.Return (Some a)) tt).0
-row-insns placement p o = tt
+row-insns placement p (op.Frame d n) = tt
+row-insns placement p (op.Static d n) = tt
+row-insns placement p (op.Load bits d a i) = tt
+row-insns placement p (op.Store bits a i s) = tt
+row-insns placement p (op.Get bits d n) = tt
+row-insns placement p (op.Put bits n s) = tt
+row-insns placement p (op.Clear n) = tt
+row-insns placement p o = (row-is placement p o tt).0
 
--- such an instruction is of the kinds above
-insn-item : (i : Item) → IsRowInsn i → IsRowItem i
-insn-item (item.Plain i) h = h
-insn-item (item.Label l) h = absurd h
-insn-item (item.Point p) h = absurd h
-insn-item (item.JumpTo l) h = absurd h
-insn-item (item.JumpIf c l) h = absurd h
-insn-item (item.CallFunction f) h = absurd h
-insn-item (item.CallStub stub.Putchar) h = tt
-insn-item (item.CallStub stub.Getchar) h = absurd h
-insn-item (item.CallStub stub.Exit) h = absurd h
-insn-item (item.JumpTrap c) h = absurd h
-insn-item (item.AddressOf r k) h = absurd h
+-- ---- over slots
 
-insn-items : (items : List Item) → AreRowInsns items → AllByRecursion IsRowItem items
-insn-items [] h = tt
-insn-items (i ∷ items) h = (insn-item i h.0, insn-items items h.1)
+-- an instruction of the rows of those graphs that have code over slots so far, over any placement
+abbrev pub IsSlotInsn : Item → Type 0
+IsSlotInsn (item.Plain i) = ⊤
+IsSlotInsn (item.Label l) = ⊥
+IsSlotInsn (item.Point p) = ⊥
+IsSlotInsn (item.JumpTo l) = ⊥
+IsSlotInsn (item.JumpIf c l) = ⊥
+IsSlotInsn (item.CallFunction f) = ⊥
+IsSlotInsn (item.CallStub stub.Putchar) = ⊤
+IsSlotInsn (item.CallStub stub.Getchar) = ⊥
+IsSlotInsn (item.CallStub stub.Exit) = ⊥
+IsSlotInsn (item.JumpTrap c) = ⊥
+IsSlotInsn (item.AddressOf r k) = ⊥
 
-row-items : (placement : Placement) (p : ℕ) (o : Op) → AllByRecursion IsRowItem (row placement p o)
-row-items placement p o = insn-items (row placement p o) (row-insns placement p o)
+-- an item of such a graph's code: also a label, a point, and a jump to a label
+abbrev pub IsSlotItem : Item → Type 0
+IsSlotItem (item.Plain i) = ⊤
+IsSlotItem (item.Label l) = ⊤
+IsSlotItem (item.Point p) = ⊤
+IsSlotItem (item.JumpTo l) = ⊤
+IsSlotItem (item.JumpIf c l) = ⊤
+IsSlotItem (item.CallFunction f) = ⊥
+IsSlotItem (item.CallStub stub.Putchar) = ⊤
+IsSlotItem (item.CallStub stub.Getchar) = ⊥
+IsSlotItem (item.CallStub stub.Exit) = ⊥
+IsSlotItem (item.JumpTrap c) = ⊥
+IsSlotItem (item.AddressOf r k) = ⊥
 
-prologue-items : (frame label : ℕ) → AllByRecursion IsRowItem (prologue frame label)
-prologue-items frame label = (
-  inl tt,
-  (inl tt, (inl tt, (inl tt, (inl tt, (inl tt, (inl tt, (inl tt, (tt, (inl tt, (inl tt, (inl tt, (tt, tt)))))))))))),
-)
+plain-slot : (i : Item) → IsPlain i → IsSlotInsn i
+plain-slot (item.Plain i) h = tt
+plain-slot i h = absurd h
 
-point_rows-items : (placement : Placement) (ops : List Op) (points : List ℕ)
-    → AllByRecursion IsRowItem (point_rows placement ops points)
-point_rows-items placement ops [] = tt
-point_rows-items placement ops (p ∷ ps) =
-    every-join IsRowItem (point_row placement ops p) (point_rows placement ops ps)
-    (tt, row-items placement p (slice_index_or ops p op.Turn)) (point_rows-items placement ops ps)
+plain-slots : (items : List Item) → ArePlain items → AllByRecursion IsSlotInsn items
+plain-slots items h = every-map IsPlain IsSlotInsn plain-slot items h
+
+-- the row of such an op
+pub slot-insns : (placement : Placement) (p : ℕ) (o : Op) → IsSlotOp o
+    → AllByRecursion IsSlotInsn (row placement p o)
+slot-insns placement p (op.Const d n) h =
+    plain-slots (row placement p (op.Const d n))
+    (number-row (place_after placement p d) n).0
+slot-insns placement p (op.Copy d s) h =
+    plain-slots (row placement p (op.Copy d s))
+    (copy-row (place_before placement p s) (place_after placement p d)).0
+slot-insns placement p (op.Add d a b) h =
+    plain-slots (row placement p (op.Add d a b))
+    (commuting-row alu.Add (place_after placement p d) (place_before placement p a) (place_before placement p b)).0
+slot-insns placement p (op.Sub d a b) h =
+    plain-slots (row placement p (op.Sub d a b))
+    (operation-row alu.Sub (place_after placement p d) (place_before placement p a) (place_before placement p b)).0
+slot-insns placement p (op.Putchar d s) h =
+    let place : Place = place_after placement p d in
+    every-join IsSlotInsn (pass (place_before placement p s))
+    (item.CallStub stub.Putchar ∷ plain (insn.Pop Edi) ∷ write place Eax)
+    (plain-slots (pass (place_before placement p s)) (pass-row (place_before placement p s)).0)
+    (tt, (tt, plain-slots (write place Eax) (write-insns place Eax)))
+slot-insns placement p (op.Mark s) h = (tt, tt)
+slot-insns placement p op.Turn h = (tt, tt)
+slot-insns placement p (op.Return (Some a)) h =
+    plain-slots (return_row (place_before placement p a)) (return-row (place_before placement p a)).0
+slot-insns placement p o h = absurd h
+
+-- where all ops are such, each point has one
+pub slot-op : (ops : List Op) (p : ℕ) → AllByRecursion IsSlotOp ops → IsSlotOp (slice_index_or ops p op.Turn)
+slot-op [] zero h = tt
+slot-op [] (suc p) h = tt
+slot-op (o ∷ ops) zero h = h.0
+slot-op (o ∷ ops) (suc p) h = slot-op ops p h.1
+
+slot-item : (i : Item) → IsSlotInsn i → IsSlotItem i
+slot-item (item.Plain i) h = tt
+slot-item (item.CallStub stub.Putchar) h = tt
+slot-item i h = absurd h
+
+row-items : (placement : Placement) (ops : List Op) (p : ℕ) → AllByRecursion IsSlotOp ops
+    → AllByRecursion IsSlotItem (row placement p (slice_index_or ops p op.Turn))
+row-items placement ops p h =
+    let o : Op = slice_index_or ops p op.Turn in
+    every-map IsSlotInsn IsSlotItem slot-item (row placement p o) (slot-insns placement p o (slot-op ops p h))
+
+prologue-items : (frame label : ℕ) → AllByRecursion IsSlotItem (prologue frame label)
+prologue-items frame label = (tt, (tt, (tt, (tt, (tt, (tt, (tt, (tt, (tt, (tt, (tt, (tt, (tt, tt)))))))))))))
+
+point_rows-items : (placement : Placement) (ops : List Op) (points : List ℕ) → AllByRecursion IsSlotOp ops
+    → AllByRecursion IsSlotItem (point_rows placement ops points)
+point_rows-items placement ops [] h = tt
+point_rows-items placement ops (p ∷ ps) h =
+    every-join IsSlotItem (point_row placement ops p) (point_rows placement ops ps)
+    (tt, row-items placement ops p h) (point_rows-items placement ops ps h)
 
 block_rows-items : (placement : Placement) (ops : List Op) (k : ℕ) (blocks : List (List ℕ))
-    → AllByRecursion IsRowItem (block_rows placement ops k blocks)
-block_rows-items placement ops k [] = tt
-block_rows-items placement ops k (points ∷ blocks) =
-    every-join IsRowItem (item.Label k ∷ point_rows placement ops points) (block_rows placement ops (suc k) blocks)
-    (tt, point_rows-items placement ops points) (block_rows-items placement ops (suc k) blocks)
+    → AllByRecursion IsSlotOp ops → AllByRecursion IsSlotItem (block_rows placement ops k blocks)
+block_rows-items placement ops k [] h = tt
+block_rows-items placement ops k (points ∷ blocks) h =
+    every-join IsSlotItem (item.Label k ∷ point_rows placement ops points) (block_rows placement ops (suc k) blocks)
+    (tt, point_rows-items placement ops points h) (block_rows-items placement ops (suc k) blocks h)
 
--- every item of a graph's code is of these kinds
-pub selected-items : (flow : Flow) (slots : List ℕ) → AllByRecursion IsRowItem (selected flow (over_slots flow slots))
-selected-items flow slots =
-    every-join IsRowItem (prologue (frame_of flow) (entry_label flow))
-    (block_rows (over_slots flow slots) flow.ops 0 flow.blocks) (prologue-items (frame_of flow) (entry_label flow))
-    (block_rows-items (over_slots flow slots) flow.ops 0 flow.blocks)
+-- every item of such a graph's code is of these kinds, over any placement
+pub selected-items : (flow : Flow) (placement : Placement) → AllByRecursion IsSlotOp flow.ops
+    → AllByRecursion IsSlotItem (selected flow placement)
+selected-items flow placement h =
+    every-join IsSlotItem (prologue placement.frame (entry_label flow)) (block_rows placement flow.ops 0 flow.blocks)
+    (prologue-items placement.frame (entry_label flow)) (block_rows-items placement flow.ops 0 flow.blocks h)
 
 -- ---- points are followed by instructions
 
@@ -297,12 +579,12 @@ insn-room : (i : Item) → IsRowInsn i → TakesRoom i
 insn-room (item.Plain i) h = tt
 insn-room (item.Label l) h = absurd h
 insn-room (item.Point p) h = absurd h
-insn-room (item.JumpTo l) h = absurd h
-insn-room (item.JumpIf c l) h = absurd h
-insn-room (item.CallFunction f) h = absurd h
+insn-room (item.JumpTo l) h = tt
+insn-room (item.JumpIf c l) h = tt
+insn-room (item.CallFunction f) h = tt
 insn-room (item.CallStub s) h = tt
-insn-room (item.JumpTrap c) h = absurd h
-insn-room (item.AddressOf r k) h = absurd h
+insn-room (item.JumpTrap c) h = tt
+insn-room (item.AddressOf r k) h = tt
 
 -- what takes room is no point
 room-behind : (i : Item) (items : List Item) → TakesRoom i → Behind i items
@@ -324,39 +606,39 @@ insns-begin : (items : List Item) → IsRow items → BeginsWithRoom items
 insns-begin [] h = h.1
 insns-begin (i ∷ items) h = insn-room i h.0.0
 
-row-room : (placement : Placement) (p : ℕ) (o : Op) → IsSlotOp o
+row-room : (placement : Placement) (p : ℕ) (o : Op) → HasItems o
     → BeginsWithRoom (row placement p o) × PointsTakeRoom (row placement p o)
 row-room placement p o h =
     let r = row-is placement p o h in
     (insns-begin (row placement p o) r, insns-room (row placement p o) r.0)
 
--- the point has one of the ops that have code
-abbrev pub HasSlotOp : List Op → ℕ → Type 0
-HasSlotOp ops p = (o : Op) × (slice_get ops p ≡ Some o) × IsSlotOp o
+-- the point has one of the ops that have items
+abbrev pub HasRowOp : List Op → ℕ → Type 0
+HasRowOp ops p = (o : Op) × (slice_get ops p ≡ Some o) × HasItems o
 
--- every point of a block has
-pub points-have : (flow : Flow) (slots homes : List ℕ) (b : ℕ) → IsFlow flow homes → HasSlots flow slots
-    → AllByRecursion (HasSlotOp flow.ops) (points_of flow b)
-points-have flow slots homes b f h =
-    every-map (HasFittingOp flow) (HasSlotOp flow.ops)
-    (λ p fits. (fits.0, fits.1, every-get IsSlotOp flow.ops p fits.0 h.ops fits.1)) (points_of flow b)
+-- every point of a block has, where all ops have items
+pub points-have : (flow : Flow) (homes : List ℕ) (b : ℕ) → IsFlow flow homes → AllByRecursion HasItems flow.ops
+    → AllByRecursion (HasRowOp flow.ops) (points_of flow b)
+points-have flow homes b f h =
+    every-map (HasFittingOp flow) (HasRowOp flow.ops)
+    (λ p fits. (fits.0, fits.1, every-get HasItems flow.ops p fits.0 h fits.1)) (points_of flow b)
     (f.each_block b).fits
 
-point-room : (placement : Placement) (ops : List Op) (p : ℕ) → HasSlotOp ops p
+point-room : (placement : Placement) (ops : List Op) (p : ℕ) → HasRowOp ops p
     → PointsTakeRoom (point_row placement ops p)
 point-room placement ops p (o, has, is) =
     let room = row-room placement p o is in
     subst (λ (i : Op). BeginsWithRoom (row placement p i) × PointsTakeRoom (row placement p i))
     (sym (get_or_from_slice_get ops p o op.Turn has)) room
 
-points-room : (placement : Placement) (ops : List Op) (points : List ℕ) → AllByRecursion (HasSlotOp ops) points
+points-room : (placement : Placement) (ops : List Op) (points : List ℕ) → AllByRecursion (HasRowOp ops) points
     → PointsTakeRoom (point_rows placement ops points)
 points-room placement ops [] h = tt
 points-room placement ops (p ∷ ps) h = room-join (point_row placement ops p) (point_rows placement ops ps)
     (point-room placement ops p h.0) (points-room placement ops ps h.1)
 
 blocks-room : (placement : Placement) (ops : List Op) (k : ℕ) (blocks : List (List ℕ))
-    → ((b : ℕ) → AllByRecursion (HasSlotOp ops) (slice_index_or blocks b []))
+    → ((b : ℕ) → AllByRecursion (HasRowOp ops) (slice_index_or blocks b []))
     → PointsTakeRoom (block_rows placement ops k blocks)
 blocks-room placement ops k [] h = tt
 blocks-room placement ops k (points ∷ blocks) h =
@@ -368,36 +650,56 @@ prologue-room frame label =
     (tt, (tt, (tt, (tt, (tt, (tt, (tt, (tt, (tt, (tt, (tt, (tt, (tt, tt)))))))))))))
 
 -- behind every point of a graph's code comes an instruction
-pub selected-room : (flow : Flow) (slots homes : List ℕ) → IsFlow flow homes → HasSlots flow slots
-    → PointsTakeRoom (selected flow (over_slots flow slots))
-selected-room flow slots homes f h =
-    room-join (prologue (frame_of flow) (entry_label flow)) (block_rows (over_slots flow slots) flow.ops 0 flow.blocks)
-    (prologue-room (frame_of flow) (entry_label flow))
-    (blocks-room (over_slots flow slots) flow.ops 0 flow.blocks (λ b. points-have flow slots homes b f h))
+pub selected-room : (flow : Flow) (placement : Placement) (homes : List ℕ) → IsFlow flow homes
+    → AllByRecursion HasItems flow.ops → PointsTakeRoom (selected flow placement)
+selected-room flow placement homes f h =
+    room-join (prologue placement.frame (entry_label flow)) (block_rows placement flow.ops 0 flow.blocks)
+    (prologue-room placement.frame (entry_label flow))
+    (blocks-room placement flow.ops 0 flow.blocks (λ b. points-have flow homes b f h))
+
+-- ops that have code over slots have items
+slot-has : (o : Op) → IsSlotOp o → HasItems o
+slot-has (op.Const d n) h = tt
+slot-has (op.Copy d s) h = tt
+slot-has (op.Add d a b) h = tt
+slot-has (op.Sub d a b) h = tt
+slot-has (op.Putchar d s) h = tt
+slot-has (op.Mark s) h = tt
+slot-has op.Turn h = tt
+slot-has (op.Return (Some a)) h = tt
+slot-has o h = absurd h
+
+pub slots-have : (ops : List Op) → AllByRecursion IsSlotOp ops → AllByRecursion HasItems ops
+slots-have [] h = tt
+slots-have (o ∷ ops) h = (slot-has o h.0, slots-have ops h.1)
 
 -- ---- so two points have two addresses
 
-item-room : (symbols : Symbols) (places : Places) (address : ℕ) (i : Item) (bytes : List ℕ) → IsRowItem i → TakesRoom i
+insn-length : (i : Insn) (bytes : List ℕ) → Spells i bytes → 0 < length bytes
+insn-length insn.Nop bytes e = let l = ap length e in omega (arith, l)
+insn-length i bytes h = let l = ap length (common-begins i bytes tt h).2 in omega (arith, l)
+
+leads-length : (f : ℤ → Insn) (address target : ℕ) (bytes : List ℕ) → LeadsTo f address target bytes
+    → 0 < length bytes
+leads-length f address target bytes (distance, spelled, leads) = insn-length (f distance) bytes spelled
+
+item-room : (symbols : Symbols) (places : Places) (address : ℕ) (i : Item) (bytes : List ℕ) → TakesRoom i
     → ItemAt symbols places address i bytes → 0 < length bytes
-item-room symbols places address (item.Plain i) bytes (inl common) room at =
-    let l = ap length (common-begins i bytes common at).2 in omega (arith, l)
-item-room symbols places address (item.Plain i) bytes (inr e) room at =
-    let Spelling : Insn → Type 0 = λ j. ItemAt symbols places address (item.Plain j) bytes in
-    let nop : bytes ≡ 144 ∷ [] = subst Spelling e at in
-    let l = ap length nop in omega (arith, l)
-item-room symbols places address (item.Label l) bytes kind room at = absurd room
-item-room symbols places address (item.Point p) bytes kind room at = absurd room
-item-room symbols places address (item.JumpTo l) bytes kind room (distance, spelled, leads) =
-    let l = ap length (common-begins (insn.Jmp distance) bytes tt spelled).2 in omega (arith, l)
-item-room symbols places address (item.JumpIf c l) bytes kind room (distance, spelled, leads) =
-    let l = ap length (common-begins (insn.Jcc c distance) bytes tt spelled).2 in omega (arith, l)
-item-room symbols places address (item.CallFunction f) bytes kind room at = absurd kind
-item-room symbols places address (item.CallStub stub.Putchar) bytes kind room (distance, spelled, leads) =
-    let l = ap length (common-begins (insn.Call distance) bytes tt spelled).2 in omega (arith, l)
-item-room symbols places address (item.CallStub stub.Getchar) bytes kind room at = absurd kind
-item-room symbols places address (item.CallStub stub.Exit) bytes kind room at = absurd kind
-item-room symbols places address (item.JumpTrap c) bytes kind room at = absurd kind
-item-room symbols places address (item.AddressOf r k) bytes kind room at = absurd kind
+item-room symbols places address (item.Plain i) bytes room at = insn-length i bytes at
+item-room symbols places address (item.Label l) bytes room at = absurd room
+item-room symbols places address (item.Point p) bytes room at = absurd room
+item-room symbols places address (item.JumpTo l) bytes room at =
+    leads-length insn.Jmp address (places.labels l) bytes at
+item-room symbols places address (item.JumpIf c l) bytes room at =
+    leads-length (insn.Jcc c) address (places.labels l) bytes at
+item-room symbols places address (item.CallFunction f) bytes room (target, named, leads) =
+    leads-length insn.Call address target bytes leads
+item-room symbols places address (item.CallStub s) bytes room at =
+    leads-length insn.Call address (stub_address symbols s) bytes at
+item-room symbols places address (item.JumpTrap c) bytes room at =
+    leads-length (jump_if c) address symbols.check bytes at
+item-room symbols places address (item.AddressOf r k) bytes room (target, z, is, fits, spelled) =
+    insn-length (insn.MovImm (rm.Reg r) z) bytes spelled
 
 -- a point stands no earlier than the items it is among
 later : (symbols : Symbols) (places : Places) (address : ℕ) (items : List Item) (bytes : List ℕ) (j q : ℕ)
@@ -414,13 +716,13 @@ later symbols places address (x ∷ xs) bytes (suc j) q (first, rest, whole, at,
 
 -- and later where these begin with an instruction
 strictly-later : (symbols : Symbols) (places : Places) (address : ℕ) (items : List Item) (bytes : List ℕ) (j q : ℕ)
-    → AllByRecursion IsRowItem items → BeginsWithRoom items → ItemsAt symbols places address items bytes
+    → BeginsWithRoom items → ItemsAt symbols places address items bytes
     → slice_get items j ≡ Some (item.Point q) → address < places.points q
-strictly-later symbols places address [] bytes j q kinds begins h e = absurd begins
-strictly-later symbols places address (x ∷ xs) bytes zero q kinds begins h e =
+strictly-later symbols places address [] bytes j q begins h e = absurd begins
+strictly-later symbols places address (x ∷ xs) bytes zero q begins h e =
     let no : ⊥ = subst TakesRoom (same_Some x (item.Point q) e) begins in absurd no
-strictly-later symbols places address (x ∷ xs) bytes (suc j) q kinds begins (first, rest, whole, at, more) e =
-    let some = item-room symbols places address x first kinds.0 begins at in
+strictly-later symbols places address (x ∷ xs) bytes (suc j) q begins (first, rest, whole, at, more) e =
+    let some = item-room symbols places address x first begins at in
     let after = later symbols places (address + length first) xs rest j q more e in
     omega arith
 
@@ -446,24 +748,24 @@ point-address symbols places address x p bytes e at =
 
 -- points with one address are one point
 pub one-address : (symbols : Symbols) (places : Places) (address : ℕ) (items : List Item) (bytes : List ℕ) (i j p q : ℕ)
-    → AllByRecursion IsRowItem items → PointsTakeRoom items → ItemsAt symbols places address items bytes
+    → PointsTakeRoom items → ItemsAt symbols places address items bytes
     → slice_get items i ≡ Some (item.Point p) → slice_get items j ≡ Some (item.Point q) → places.points p
     ≡ places.points q → p ≡ q
-one-address symbols places address [] bytes i j p q kinds room h a b e = absurd (cc)
-one-address symbols places address (x ∷ xs) bytes zero zero p q kinds room h a b e = one-point x p q a b
-one-address symbols places address (x ∷ xs) bytes zero (suc j) p q kinds room (first, rest, whole, at, more) a b e =
+one-address symbols places address [] bytes i j p q room h a b e = absurd (cc)
+one-address symbols places address (x ∷ xs) bytes zero zero p q room h a b e = one-point x p q a b
+one-address symbols places address (x ∷ xs) bytes zero (suc j) p q room (first, rest, whole, at, more) a b e =
     let here = point-address symbols places address x p first a at in
     let none = here.0 in
     let is = here.1 in
-    let after = strictly-later symbols places (address + length first) xs rest j q kinds.1
+    let after = strictly-later symbols places (address + length first) xs rest j q
     (behind-point x p xs a room.0) more b in
     absurd (omega arith)
-one-address symbols places address (x ∷ xs) bytes (suc i) zero p q kinds room (first, rest, whole, at, more) a b e =
+one-address symbols places address (x ∷ xs) bytes (suc i) zero p q room (first, rest, whole, at, more) a b e =
     let here = point-address symbols places address x q first b at in
     let none = here.0 in
     let is = here.1 in
-    let after = strictly-later symbols places (address + length first) xs rest i p kinds.1
+    let after = strictly-later symbols places (address + length first) xs rest i p
     (behind-point x q xs b room.0) more a in
     absurd (omega arith)
-one-address symbols places address (x ∷ xs) bytes (suc i) (suc j) p q kinds room (first, rest, whole, at, more) a b e =
-    one-address symbols places (address + length first) xs rest i j p q kinds.1 room.1 more a b e
+one-address symbols places address (x ∷ xs) bytes (suc i) (suc j) p q room (first, rest, whole, at, more) a b e =
+    one-address symbols places (address + length first) xs rest i j p q room.1 more a b e

@@ -22,7 +22,7 @@ use Rattle.ia32_shows.specs.Shows.{ReturnsTo, StartReturns, startup, ending}
 use Rattle.ia32_shows.proofs.Steps.{IsAt, at-front, at-back, items-split, point-passed, label-passed}
 use Rattle.ia32_rows.specs.Rows.{frame_of, entry_label, over_slots, row, prologue, point_row, point_rows, block_rows}
 use Rattle.ia32_rows.specs.Rows.{selected}
-use Rattle.ia32_rows.proofs.ItemKinds.{every-get, every-back, IsRowItem, selected-items, selected-room, one-address}
+use Rattle.ia32_rows.proofs.ItemKinds.{every-get, every-back, IsSlotItem, selected-items, selected-room, slots-have, one-address}
 use Rattle.ia32_rows.specs.Right.{IsSlotCode}
 use Rattle.ia32_shows.specs.Sites.{Ready, Site, ReadyAt}
 
@@ -529,8 +529,8 @@ apart flow slots code p b q c h one two e =
     let same : (places_of code).points p ≡ (places_of code).points q = sym (address-of flow slots code p l) ∙ e
     ∙ address-of flow slots code q l in
     one-address code.symbols (places_of code) l.address (selected flow (over_slots flow slots)) l.stands.bytes i.0 j.0 p
-    q
-    (selected-items flow slots) (selected-room flow slots h.homes h.is_flow h.has_slots) l.stands.stand i.1 j.1 same
+    q (selected-room flow (over_slots flow slots) h.homes h.is_flow (slots-have flow.ops h.has_slots.ops))
+    l.stands.stand i.1 j.1 same
 
 -- a point and the items up to a call, with the call at the end of them or at the head of what follows
 call-grouped : (front middle one back : List Item) (p : Item) → (front ++ p ∷ middle ++ one) ++ back
@@ -547,11 +547,11 @@ no-calls flow slots code w f r h (items, places, address, has, placed, named, re
     let is : items ≡ (front ++ item.Point w.point ∷ middle ++ item.CallFunction f ∷ []) ++ back = returns.5 in
     let of-one : slice_get (selected flow (over_slots flow slots) ∷ []) w.activation.function ≡ Some items =
     subst (λ (fs : List (List Item)). slice_get fs w.activation.function ≡ Some items) h.items_are has in
-    let mine : AllByRecursion IsRowItem items =
-    every-get (AllByRecursion IsRowItem) (selected flow (over_slots flow slots) ∷ []) w.activation.function items
-    (selected-items flow slots, tt) of-one in
+    let mine : AllByRecursion IsSlotItem items =
+    every-get (AllByRecursion IsSlotItem) (selected flow (over_slots flow slots) ∷ []) w.activation.function items
+    (selected-items flow (over_slots flow slots) h.has_slots.ops, tt) of-one in
     let one : List Item = item.CallFunction f ∷ [] in
     let e = call-grouped front middle one back (item.Point w.point) in
-    let split : AllByRecursion IsRowItem ((front ++ item.Point w.point ∷ middle) ++ (one ++ back)) =
-    subst (AllByRecursion IsRowItem) (is ∙ e) mine in
-    (every-back IsRowItem (front ++ item.Point w.point ∷ middle) (one ++ back) split).0
+    let split : AllByRecursion IsSlotItem ((front ++ item.Point w.point ∷ middle) ++ (one ++ back)) =
+    subst (AllByRecursion IsSlotItem) (is ∙ e) mine in
+    (every-back IsSlotItem (front ++ item.Point w.point ∷ middle) (one ++ back) split).0

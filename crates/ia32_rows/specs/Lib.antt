@@ -1,3 +1,6 @@
+pub mod Moves
+pub mod Computing
+pub mod Passing
 pub mod Rows
 pub mod Right
 pub mod Worked

@@ -1,13 +1,17 @@
--- The items of a sum and of a difference, over slots and over registers.
-use Rattle.std.specs.Prelude.{◌≡◌, pos, [], ◌∷◌, slice_get}
-use Rattle.ia32_regs.specs.declared.names.Reg32.TheVariants.{Eax, Ecx, Edx, Esi}
+-- The items of ops, over slots and over registers.
+use Rattle.std.specs.Prelude.{◌≡◌, pos, [], ◌∷◌, slice_get, Some, None}
+use Rattle.ia32_regs.specs.declared.names.Reg32.TheVariants.{Eax, Ecx, Edx, Ebx, Esp, Ebp, Esi}
 use Rattle.ia32_regs.specs.declared.names.Reg8.TheVariants.{Bl, Bh}
 use Rattle.ia32_places.specs.Places.{Place, InWord, InByte, InSlot}
 use Rattle.ia32_insn.specs.declared.operand.Rm32.TheVariants as rm
 use Rattle.ia32_insn.specs.declared.operand.Rm8.TheVariants as rm8
 use Rattle.ia32_insn.specs.declared.insn.AluOp.TheVariants as alu
+use Rattle.ia32_insn.specs.declared.insn.Cond.TheVariants as cond
 use Rattle.ia32_insn.specs.declared.insn.Insn.TheVariants as insn
-use Rattle.ia32_insn.specs.Items.{plain}
+use Rattle.ia32_insn.specs.declared.item.Item.TheVariants as item
+use Rattle.ia32_insn.specs.declared.item.Stub.TheVariants as stub
+use Rattle.ia32_insn.specs.Items.{near, plain}
+use Rattle.flow_graph.specs.declared.op.Comparison.TheVariants.{Lt}
 use Rattle.flow_graph.specs.declared.op.Op.TheVariants as op
 use Rattle.ia32_shows.specs.Placements.{Placement, below, in_slots}
 use Rattle.ia32_rows.specs.Rows.{row}
@@ -65,3 +69,45 @@ MovesAreRows =
     ≡ plain (insn.MovLoad Esi (below 20)) ∷ plain (insn.Mov (rm.Mem (below 24)) Esi) ∷ [])
     × (row (all_in (InByte Bl) (InSlot 20) (InByte Bh)) 7 (op.Copy 2 0)
     ≡ plain (insn.Mov8 (rm8.Reg Bh) Bl) ∷ [])
+
+-- A call counts itself, passes its words from the last one on, and takes them off and the count back behind itself; the
+-- result is in EAX. Where it passes no words, it takes none off; where no result is wanted, none is written.
+abbrev pub CallsAreRows : Type 0
+CallsAreRows =
+    (row (all_in (InSlot 20) (InWord Ebx) (InSlot 28)) 7 (op.Call (Some 2) 5 (0 ∷ 1 ∷ []))
+    ≡ item.AddressOf Esi 0xffffffff
+    ∷ plain (insn.AluImm alu.Cmp (rm.Mem (near Esi 0)) (pos 4096))
+    ∷ item.JumpTrap (Some cond.Ae)
+    ∷ plain (insn.AluImm alu.Add (rm.Mem (near Esi 0)) (pos 1))
+    ∷ plain (insn.Push (rm.Reg Ebx))
+    ∷ plain (insn.Push (rm.Mem (below 20)))
+    ∷ item.CallFunction 5
+    ∷ plain (insn.Lea Esp (near Esp 8))
+    ∷ item.AddressOf Esi 0xffffffff
+    ∷ plain (insn.AluImm alu.Sub (rm.Mem (near Esi 0)) (pos 1))
+    ∷ plain (insn.Mov (rm.Mem (below 28)) Eax)
+    ∷ [])
+    × (row (result_to (InWord Edx)) 7 (op.Call None 5 [])
+    ≡ item.AddressOf Esi 0xffffffff
+    ∷ plain (insn.AluImm alu.Cmp (rm.Mem (near Esi 0)) (pos 4096))
+    ∷ item.JumpTrap (Some cond.Ae)
+    ∷ plain (insn.AluImm alu.Add (rm.Mem (near Esi 0)) (pos 1))
+    ∷ item.CallFunction 5
+    ∷ item.AddressOf Esi 0xffffffff
+    ∷ plain (insn.AluImm alu.Sub (rm.Mem (near Esi 0)) (pos 1))
+    ∷ [])
+    × (row (result_to (InWord Edx)) 7 (op.Param 2 3)
+    ≡ plain (insn.MovLoad Edx (record { base = Some Ebp; index = None; disp = pos 20 })) ∷ [])
+    × (row (result_to (InWord Eax)) 7 (op.Getchar 2) ≡ item.CallStub stub.Getchar ∷ [])
+    × (row (all_in (InWord Ebx) (InSlot 20) (InSlot 24)) 7 (op.Exit 0)
+    ≡ plain (insn.Push (rm.Reg Ebx)) ∷ item.CallStub stub.Exit ∷ [])
+
+-- A branch compares its words where they stand, and so does the check that two are the same.
+abbrev pub BranchesAreRows : Type 0
+BranchesAreRows =
+    (row (all_in (InWord Eax) (InSlot 20) (InSlot 24)) 7 (op.Branch Lt 0 1 3 4)
+    ≡ plain (insn.AluLoad alu.Cmp Eax (below 20)) ∷ item.JumpIf cond.L 3 ∷ item.JumpTo 4 ∷ [])
+    × (row (all_in (InWord Eax) (InSlot 20) (InSlot 24)) 7 (op.Same 1 2)
+    ≡ plain (insn.MovLoad Esi (below 20)) ∷ plain (insn.AluLoad alu.Cmp Esi (below 24))
+    ∷ item.JumpTrap (Some cond.Ne) ∷ [])
+    × (row (all_in (InWord Eax) (InSlot 20) (InSlot 24)) 7 (op.Jump 3) ≡ item.JumpTo 3 ∷ [])

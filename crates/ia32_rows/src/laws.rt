@@ -9,7 +9,7 @@ ghost use Rattle.ia32_shows.specs.Paths.{IsAt};
 ghost use Rattle.ia32_shows.specs.Placements.{Code, point_address};
 ghost use Rattle.ia32_rows.specs.Rows.{over_slots, row, selected};
 ghost use Rattle.ia32_rows.specs.Right.{IsSlotCode};
-ghost use Rattle.ia32_rows.specs.Worked.{SumsAreRows, MovesAreRows};
+ghost use Rattle.ia32_rows.specs.Worked.{SumsAreRows, MovesAreRows, CallsAreRows, BranchesAreRows};
 
 /// At the address of a point of a block the items of its op stand, and behind them the block's next point; no two
 /// points have one address.
@@ -42,4 +42,6 @@ pub fn marks_are_nops()
 pub fn rows_are_short()
     ensures sums { SumsAreRows }
     ensures moves { MovesAreRows }
+    ensures calls { CallsAreRows }
+    ensures branches { BranchesAreRows }
 {}

@@ -29,10 +29,11 @@ use Rattle.ia32_asm.specs.Sections.{CanAssemble, IsSpelled, HasLabel, Stands, it
 use Rattle.ia32_asm.proofs.Laying.{items_size-append}
 use Rattle.ia32_shows.specs.Filling.{fill}
 use Rattle.ia32_shows.specs.Placements.{Placement, below}
-use Rattle.ia32_rows.specs.Rows.{IsSlot, HasSlots, frame_of, entry_label, over_slots, slot_place, items_between, row}
+use Rattle.ia32_rows.specs.Rows.{IsSlot, IsSlotOp, HasSlots, frame_of, entry_label, over_slots, slot_place, items_between, row}
 use Rattle.ia32_rows.specs.Rows.{prologue, point_row, point_rows, block_rows, selected}
 use Rattle.ia32_rows.proofs.OverSlots.{row-over}
-use Rattle.ia32_rows.proofs.ItemKinds.{IsRowItem, AreRowInsns, row-insns, every-join, every-get, selected-items}
+use Rattle.ia32_rows.proofs.ItemKinds.{IsSlotInsn, IsSlotItem, every-join, every-get, selected-items, slot-insns}
+use Rattle.ia32_rows.proofs.ItemKinds.{slot-op}
 use Rattle.ia32_select.specs.Offsets.{NamesOnlyPutchar}
 use Rattle.ia32_select.specs.Sizes.{most_bytes}
 use Rattle.ia32_select.proofs.Marked.{all_points, labels-once, entry-stands, points-once, few-points, some-points}
@@ -79,19 +80,19 @@ number-spelled : (r : Reg32) (z : ℤ) → FitsSigned w32 z → HasSpelling (ins
 number-spelled r z h = spelling-indexed (insn.MovImm (rm.Reg r) z) (tt, h) (tt, tt)
 
 -- the items of an op over slots
-row-spelled : (slots : List ℕ) (o : Op) → AreSmall slots → NumbersFit o
+row-spelled : (slots : List ℕ) (o : Op) → IsSlotOp o → AreSmall slots → NumbersFit o
     → AllByRecursion IsSpelled (items_between (slot_place slots) (slot_place slots) o)
-row-spelled slots (op.Const d n) small fits = (constant-spelled _ n (small d) fits, tt)
-row-spelled slots (op.Copy d s) small fits = (read-spelled Esi _ (small s), (write-spelled Esi _ (small d), tt))
-row-spelled slots (op.Add d a b) small fits =
+row-spelled slots (op.Const d n) is small fits = (constant-spelled _ n (small d) fits, tt)
+row-spelled slots (op.Copy d s) is small fits = (read-spelled Esi _ (small s), (write-spelled Esi _ (small d), tt))
+row-spelled slots (op.Add d a b) is small fits =
     (read-spelled Esi _ (small a), (operation-spelled alu.Add Esi _ (small b), (write-spelled Esi _ (small d), tt)))
-row-spelled slots (op.Sub d a b) small fits =
+row-spelled slots (op.Sub d a b) is small fits =
     (read-spelled Esi _ (small a), (operation-spelled alu.Sub Esi _ (small b), (write-spelled Esi _ (small d), tt)))
-row-spelled slots (op.Putchar d s) small fits =
+row-spelled slots (op.Putchar d s) is small fits =
     (pass-spelled _ (small s), (tt, ((95 ∷ [], refl), (write-spelled Eax _ (small d), tt))))
-row-spelled slots (op.Mark s) small fits = ((144 ∷ [], refl), tt)
-row-spelled slots op.Turn small fits = ((144 ∷ [], refl), tt)
-row-spelled slots (op.Return (Some a)) small fits = (
+row-spelled slots (op.Mark s) is small fits = ((144 ∷ [], refl), tt)
+row-spelled slots op.Turn is small fits = ((144 ∷ [], refl), tt)
+row-spelled slots (op.Return (Some a)) is small fits = (
   read-spelled Eax _ (small a),
   (
     read-spelled Ebx 4 (omega arith),
@@ -101,7 +102,7 @@ row-spelled slots (op.Return (Some a)) small fits = (
     ),
   ),
 )
-row-spelled slots o small fits = tt
+row-spelled slots o is small fits = absurd is
 
 fill-spelled : (label : ℕ) → AllByRecursion IsSpelled (fill Edi Esi Esp label)
 fill-spelled label = (
@@ -166,12 +167,12 @@ blocks-spelled placement ops k (points ∷ blocks) rows =
     (tt, points-spelled placement ops points rows) (blocks-spelled placement ops (suc k) blocks rows)
 
 -- those over slots have
-slots-spelled : (flow : Flow) (slots : List ℕ) → AreSmall slots → AllByRecursion NumbersFit flow.ops
-    → AreSpelledRows (over_slots flow slots) flow.ops
-slots-spelled flow slots small words p =
+slots-spelled : (flow : Flow) (slots : List ℕ) → AllByRecursion IsSlotOp flow.ops → AreSmall slots
+    → AllByRecursion NumbersFit flow.ops → AreSpelledRows (over_slots flow slots) flow.ops
+slots-spelled flow slots is small words p =
     let o : Op = slice_index_or flow.ops p op.Turn in
     subst (AllByRecursion IsSpelled) (sym (row-over flow slots p o))
-    (row-spelled slots o small (word-at flow.ops p words))
+    (row-spelled slots o (slot-op flow.ops p is) small (word-at flow.ops p words))
 
 selected-spelled : (flow : Flow) (slots : List ℕ) → HasSlots flow slots → AllByRecursion NumbersFit flow.ops
     → AllByRecursion IsSpelled (selected flow (over_slots flow slots))
@@ -180,12 +181,12 @@ selected-spelled flow slots h words =
     h.small in omega arith in
     every-join IsSpelled (prologue (frame_of flow) (entry_label flow))
     (block_rows (over_slots flow slots) flow.ops 0 flow.blocks)
-    (prologue-spelled (frame_of flow) (entry_label flow) h.small)
-    (blocks-spelled (over_slots flow slots) flow.ops 0 flow.blocks (slots-spelled flow slots small words))
+    (prologue-spelled (frame_of flow) (entry_label flow) (let frame = h.small in omega arith))
+    (blocks-spelled (over_slots flow slots) flow.ops 0 flow.blocks (slots-spelled flow slots h.ops small words))
 
 -- ---- labels
 
-insns-labelled : (items back : List Item) → AreRowInsns back → AllByRecursion (HasLabel items) back
+insns-labelled : (items back : List Item) → AllByRecursion IsSlotInsn back → AllByRecursion (HasLabel items) back
 insns-labelled items [] h = tt
 insns-labelled items (item.Plain i ∷ back) h = (tt, insns-labelled items back h.1)
 insns-labelled items (item.Label l ∷ back) h = absurd h.0
@@ -193,26 +194,28 @@ insns-labelled items (item.Point p ∷ back) h = absurd h.0
 insns-labelled items (item.JumpTo l ∷ back) h = absurd h.0
 insns-labelled items (item.JumpIf c l ∷ back) h = absurd h.0
 insns-labelled items (item.CallFunction f ∷ back) h = absurd h.0
-insns-labelled items (item.CallStub t ∷ back) h = (tt, insns-labelled items back h.1)
+insns-labelled items (item.CallStub stub.Putchar ∷ back) h = (tt, insns-labelled items back h.1)
+insns-labelled items (item.CallStub stub.Getchar ∷ back) h = absurd h.0
+insns-labelled items (item.CallStub stub.Exit ∷ back) h = absurd h.0
 insns-labelled items (item.JumpTrap c ∷ back) h = absurd h.0
 insns-labelled items (item.AddressOf r k ∷ back) h = absurd h.0
 
 points-labelled : (items : List Item) (placement : Placement) (ops : List Op) (points : List ℕ)
-    → AllByRecursion (HasLabel items) (point_rows placement ops points)
-points-labelled items placement ops [] = tt
-points-labelled items placement ops (p ∷ ps) =
+    → AllByRecursion IsSlotOp ops → AllByRecursion (HasLabel items) (point_rows placement ops points)
+points-labelled items placement ops [] h = tt
+points-labelled items placement ops (p ∷ ps) h =
     let mine : List Item = row placement p (slice_index_or ops p op.Turn) in
     every-join (HasLabel items) (point_row placement ops p) (point_rows placement ops ps)
-    (tt, insns-labelled items mine (row-insns placement p (slice_index_or ops p op.Turn)))
-    (points-labelled items placement ops ps)
+    (tt, insns-labelled items mine (slot-insns placement p (slice_index_or ops p op.Turn) (slot-op ops p h)))
+    (points-labelled items placement ops ps h)
 
 blocks-labelled : (items : List Item) (placement : Placement) (ops : List Op) (k : ℕ) (blocks : List (List ℕ))
-    → AllByRecursion (HasLabel items) (block_rows placement ops k blocks)
-blocks-labelled items placement ops k [] = tt
-blocks-labelled items placement ops k (points ∷ blocks) =
+    → AllByRecursion IsSlotOp ops → AllByRecursion (HasLabel items) (block_rows placement ops k blocks)
+blocks-labelled items placement ops k [] h = tt
+blocks-labelled items placement ops k (points ∷ blocks) h =
     every-join (HasLabel items) (item.Label k ∷ point_rows placement ops points)
     (block_rows placement ops (suc k) blocks)
-    (tt, points-labelled items placement ops points) (blocks-labelled items placement ops (suc k) blocks)
+    (tt, points-labelled items placement ops points h) (blocks-labelled items placement ops (suc k) blocks h)
 
 prologue-labelled : (items : List Item) (frame label : ℕ) → Stands (item.Label label) items
     → AllByRecursion (HasLabel items) (prologue frame label)
@@ -220,18 +223,18 @@ prologue-labelled items frame label stands =
     (tt, (tt, (tt, (tt, (tt, (tt, (tt, (tt, (tt, (tt, (tt, (tt, (stands, tt)))))))))))))
 
 -- the label that an item jumps to stands among the items
-selected-labelled : (flow : Flow) (slots : List ℕ)
+selected-labelled : (flow : Flow) (slots : List ℕ) → AllByRecursion IsSlotOp flow.ops
     → AllByRecursion (HasLabel (selected flow (over_slots flow slots))) (selected flow (over_slots flow slots))
-selected-labelled flow slots =
+selected-labelled flow slots h =
     let items : List Item = selected flow (over_slots flow slots) in
     every-join (HasLabel items) (prologue (frame_of flow) (entry_label flow))
     (block_rows (over_slots flow slots) flow.ops 0 flow.blocks)
     (prologue-labelled items (frame_of flow) (entry_label flow) (entry-stands flow slots))
-    (blocks-labelled items (over_slots flow slots) flow.ops 0 flow.blocks)
+    (blocks-labelled items (over_slots flow slots) flow.ops 0 flow.blocks h)
 
 -- ---- no names but putchar
 
-kind-named : (i : Item) → IsRowItem i → (target_of i ≡ None) ⊎ (target_of i ≡ Some (target.Stub stub.Putchar))
+kind-named : (i : Item) → IsSlotItem i → (target_of i ≡ None) ⊎ (target_of i ≡ Some (target.Stub stub.Putchar))
 kind-named (item.Plain i) h = inl refl
 kind-named (item.Label l) h = inl refl
 kind-named (item.Point p) h = inl refl
@@ -245,9 +248,11 @@ kind-named (item.JumpTrap c) h = absurd h
 kind-named (item.AddressOf r k) h = absurd h
 
 -- the items name no function and no object
-pub selected-names : (flow : Flow) (slots : List ℕ) → NamesOnlyPutchar (selected flow (over_slots flow slots))
-selected-names flow slots j i e = kind-named i
-    (every-get IsRowItem (selected flow (over_slots flow slots)) j i (selected-items flow slots) e)
+pub selected-names : (flow : Flow) (slots : List ℕ) → AllByRecursion IsSlotOp flow.ops
+    → NamesOnlyPutchar (selected flow (over_slots flow slots))
+selected-names flow slots h j i e = kind-named i
+    (every-get IsSlotItem (selected flow (over_slots flow slots)) j i
+    (selected-items flow (over_slots flow slots) h) e)
 
 -- ---- bytes
 
@@ -264,33 +269,33 @@ fields-size reg d =
     choice _ _ (byte_bytes z) (word_bytes z) (omega arith) (omega arith) in
     omega arith
 
-row-size : (slots : List ℕ) (o : Op) → items_size (items_between (slot_place slots) (slot_place slots) o) ≤ 64
-row-size slots (op.Const d n) =
+row-size : (slots : List ℕ) (o : Op) → IsSlotOp o → items_size (items_between (slot_place slots) (slot_place slots) o) ≤ 64
+row-size slots (op.Const d n) is =
     let slot : ℕ = slice_index_or slots d 0 in
     let one = fields-size 0 slot in
     let whole = length-append (displacement_for (Some Ebp) (neg_ℤ (pos slot))) (word_bytes n) in
     omega (arith, whole)
-row-size slots (op.Copy d s) = let one = fields-size 6 (slice_index_or slots d 0) in let two =
+row-size slots (op.Copy d s) is = let one = fields-size 6 (slice_index_or slots d 0) in let two =
     fields-size 6 (slice_index_or slots s 0) in omega arith
-row-size slots (op.Add d a b) = let one = fields-size 6 (slice_index_or slots d 0) in let two =
+row-size slots (op.Add d a b) is = let one = fields-size 6 (slice_index_or slots d 0) in let two =
     fields-size 6 (slice_index_or slots a 0) in let three = fields-size 6 (slice_index_or slots b 0) in omega arith
-row-size slots (op.Sub d a b) = let one = fields-size 6 (slice_index_or slots d 0) in let two =
+row-size slots (op.Sub d a b) is = let one = fields-size 6 (slice_index_or slots d 0) in let two =
     fields-size 6 (slice_index_or slots a 0) in let three = fields-size 6 (slice_index_or slots b 0) in omega arith
-row-size slots (op.Putchar d s) = let one = fields-size 0 (slice_index_or slots d 0) in let two =
+row-size slots (op.Putchar d s) is = let one = fields-size 0 (slice_index_or slots d 0) in let two =
     fields-size 6 (slice_index_or slots s 0) in omega arith
-row-size slots (op.Mark s) = omega arith
-row-size slots op.Turn = omega arith
-row-size slots (op.Return (Some a)) = let one = fields-size 0 (slice_index_or slots a 0) in omega arith
-row-size slots o = omega arith
+row-size slots (op.Mark s) is = omega arith
+row-size slots op.Turn is = omega arith
+row-size slots (op.Return (Some a)) is = let one = fields-size 0 (slice_index_or slots a 0) in omega arith
+row-size slots o is = absurd is
 
 -- every row of a placement has at most so many bytes
 abbrev AreSmallRows : Placement → List Op → Type 0
 AreSmallRows placement ops = (p : ℕ) → items_size (row placement p (slice_index_or ops p op.Turn)) ≤ 64
 
-slots-small : (flow : Flow) (slots : List ℕ) → AreSmallRows (over_slots flow slots) flow.ops
-slots-small flow slots p =
+slots-small : (flow : Flow) (slots : List ℕ) → AllByRecursion IsSlotOp flow.ops → AreSmallRows (over_slots flow slots) flow.ops
+slots-small flow slots h p =
     let o : Op = slice_index_or flow.ops p op.Turn in
-    subst (λ (items : List Item). items_size items ≤ 64) (sym (row-over flow slots p o)) (row-size slots o)
+    subst (λ (items : List Item). items_size items ≤ 64) (sym (row-over flow slots p o)) (row-size slots o (slot-op flow.ops p h))
 
 prologue-size : (frame label : ℕ) → items_size (prologue frame label) ≤ 64
 prologue-size frame label = let one = fields-size 4 frame in let two = fields-size 7 12 in omega arith
@@ -322,7 +327,7 @@ pub selected-size : (flow : Flow) (homes slots : List ℕ) → IsFlow flow homes
     → items_size (selected flow (over_slots flow slots)) ≤ most_bytes flow
 selected-size flow homes slots f h =
     let one = prologue-size (frame_of flow) (entry_label flow) in
-    let rest = blocks-size (over_slots flow slots) flow.ops 0 flow.blocks (slots-small flow slots) in
+    let rest = blocks-size (over_slots flow slots) flow.ops 0 flow.blocks (slots-small flow slots h.ops) in
     let whole = items_size-append (prologue (frame_of flow) (entry_label flow))
     (block_rows (over_slots flow slots) flow.ops 0 flow.blocks) in
     let few = few-points flow homes f in
@@ -339,7 +344,7 @@ selected-assembles flow homes slots f h bound =
           (selected-spelled flow slots h f.numbers) e;
       labelled = λ j i e. every-get (HasLabel (selected flow (over_slots flow slots)))
           (selected flow (over_slots flow slots)) j i
-          (selected-labelled flow slots) e;
+          (selected-labelled flow slots h.ops) e;
       labels_once = labels-once flow slots;
       points_once = points-once flow homes slots f;
       size = bound;

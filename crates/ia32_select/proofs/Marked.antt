@@ -106,24 +106,24 @@ insns-points [] h = refl
 insns-points (item.Plain i ∷ items) h = insns-points items h.1
 insns-points (item.Label l ∷ items) h = absurd h.0
 insns-points (item.Point p ∷ items) h = absurd h.0
-insns-points (item.JumpTo l ∷ items) h = absurd h.0
-insns-points (item.JumpIf c l ∷ items) h = absurd h.0
-insns-points (item.CallFunction f ∷ items) h = absurd h.0
+insns-points (item.JumpTo l ∷ items) h = insns-points items h.1
+insns-points (item.JumpIf c l ∷ items) h = insns-points items h.1
+insns-points (item.CallFunction f ∷ items) h = insns-points items h.1
 insns-points (item.CallStub t ∷ items) h = insns-points items h.1
-insns-points (item.JumpTrap c ∷ items) h = absurd h.0
-insns-points (item.AddressOf r k ∷ items) h = absurd h.0
+insns-points (item.JumpTrap c ∷ items) h = insns-points items h.1
+insns-points (item.AddressOf r k ∷ items) h = insns-points items h.1
 
 insns-labels : (items : List Item) → AreRowInsns items → numbers label_of items ≡ []
 insns-labels [] h = refl
 insns-labels (item.Plain i ∷ items) h = insns-labels items h.1
 insns-labels (item.Label l ∷ items) h = absurd h.0
 insns-labels (item.Point p ∷ items) h = absurd h.0
-insns-labels (item.JumpTo l ∷ items) h = absurd h.0
-insns-labels (item.JumpIf c l ∷ items) h = absurd h.0
-insns-labels (item.CallFunction f ∷ items) h = absurd h.0
+insns-labels (item.JumpTo l ∷ items) h = insns-labels items h.1
+insns-labels (item.JumpIf c l ∷ items) h = insns-labels items h.1
+insns-labels (item.CallFunction f ∷ items) h = insns-labels items h.1
 insns-labels (item.CallStub t ∷ items) h = insns-labels items h.1
-insns-labels (item.JumpTrap c ∷ items) h = absurd h.0
-insns-labels (item.AddressOf r k ∷ items) h = absurd h.0
+insns-labels (item.JumpTrap c ∷ items) h = insns-labels items h.1
+insns-labels (item.AddressOf r k ∷ items) h = insns-labels items h.1
 
 point_rows-points : (placement : Placement) (ops : List Op) (points : List ℕ)
     → numbers point_of (point_rows placement ops points) ≡ points

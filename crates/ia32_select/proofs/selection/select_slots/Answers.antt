@@ -60,5 +60,5 @@ returns-clause-names c =
     let slots : List ℕ = slots_of c.args.offsets.now in
     IfOk-weaker c.select_items.result (λ v. v.items ≡ selected flow (over_slots flow slots))
     (λ v. NamesOnlyPutchar v.items)
-    (λ v e. subst NamesOnlyPutchar (sym e) (selected-names flow slots))
+    (λ v e. subst NamesOnlyPutchar (sym e) (selected-names flow slots c.requires.ops))
     c.select_items.ensures

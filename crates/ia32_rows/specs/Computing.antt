@@ -1,30 +1,51 @@
--- Rows of the ops on halves and bytes of words, of shifts, divisions and comparisons: each in the result's register
+-- The rows of ops that compute a value from others, and of those that go by a comparison: each in the result's register
 -- where it may, with operands where they stand.
-use Rattle.std.specs.Prelude.{◌≢◌, ◌==◌, ◌||◌, ℕ, List, [], ◌∷◌, ◌++◌, if◌then◌else◌}
+use Rattle.std.specs.Prelude.{◌==◌, ◌||◌, ℕ, List, [], ◌∷◌, ◌++◌, if◌then◌else◌, Some}
 use Rattle.ia32_regs.specs.declared.names.Reg32.{Reg32}
 use Rattle.ia32_regs.specs.declared.names.Reg32.TheVariants.{Eax, Ecx, Edx, Ebx, Esp, Ebp, Esi, Edi}
 use Rattle.ia32_regs.specs.declared.names.Reg8.{Reg8}
 use Rattle.ia32_regs.specs.declared.names.Reg8.TheVariants.{Al, Cl, Dl, Bl}
-use Rattle.ia32_regs.specs.Registers.{number32, number8, byte_place}
+use Rattle.ia32_regs.specs.Registers.{number32, number8}
 use Rattle.ia32_places.specs.Places.{Place, InWord, InByte, InSlot}
 use Rattle.ia32_insn.specs.declared.operand.Rm32.{Rm32}
 use Rattle.ia32_insn.specs.declared.operand.Rm32.TheVariants as rm
 use Rattle.ia32_insn.specs.declared.operand.Rm8.TheVariants as rm8
 use Rattle.ia32_insn.specs.declared.insn.AluOp.TheVariants as alu
 use Rattle.ia32_insn.specs.declared.insn.Cond.{Cond}
+use Rattle.ia32_insn.specs.declared.insn.Cond.TheVariants as cond
+use Rattle.ia32_insn.specs.declared.insn.Insn.{Insn}
 use Rattle.ia32_insn.specs.declared.insn.Insn.TheVariants as insn
 use Rattle.ia32_insn.specs.declared.insn.ShiftOp.{ShiftOp}
 use Rattle.ia32_insn.specs.declared.item.Item.{Item}
 use Rattle.ia32_insn.specs.declared.item.Item.TheVariants as item
 use Rattle.ia32_insn.specs.Items.{plain}
 use Rattle.flow_graph.specs.declared.op.Comparison.{Comparison}
+use Rattle.flow_graph.specs.declared.op.Comparison.TheVariants.{Eq, Ne, Lt, Le, Gt, Ge}
 use Rattle.ia32_shows.specs.Placements.{below}
-use Rattle.ia32_rows.specs.Rows.{copy_row, operate, read, working, write}
-use Rattle.ia32_effects.specs.Effects.{OutsideWord}
-use Rattle.ia32_effects.specs.Unary.{target_of}
-use Rattle.ia32_cores.specs.Words.{cond_of}
+use Rattle.ia32_rows.specs.Moves.{copy_row, operate, read, target_of, working, write}
 
--- ---- bytes and halves
+-- ---- products
+
+-- IMUL of a register by the word of a place (Intel manual, volume 2)
+abbrev pub multiply : Reg32 → Place → List Item
+multiply t (InWord r) = plain (insn.IMul t (rm.Reg r)) ∷ []
+multiply t (InByte r) = plain (insn.MovSx8 Edi (rm8.Reg r)) ∷ plain (insn.IMul t (rm.Reg Edi)) ∷ []
+multiply t (InSlot k) = plain (insn.IMul t (rm.Mem (below k))) ∷ []
+
+-- the first operand to a register, unless it stands there, the product, and the result to its place, unless it is there
+abbrev pub multiplying : Place → Place → Place → List Item
+multiplying result first second =
+    read (working result first second) first
+    ++ multiply (working result first second) second
+    ++ write result (working result first second)
+
+-- ---- one operand
+
+-- The operand to the register that the row works in, unless it stands there, the change, as NEG and NOT (Intel manual,
+-- volume 2), and the result to its place, unless it is there.
+abbrev pub changing : (Rm32 → Insn) → Place → Place → List Item
+changing how result operand =
+    read (target_of result) operand ++ plain (how (rm.Reg (target_of result))) ∷ [] ++ write result (target_of result)
 
 -- the lowest byte of a register for variables; the others have none of their own
 abbrev pub low_byte : Reg32 → Reg8
@@ -36,6 +57,16 @@ low_byte Esp = Al
 low_byte Ebp = Al
 low_byte Esi = Al
 low_byte Edi = Al
+
+-- MOVSX of the byte of a place to a register
+abbrev pub extend : Reg32 → Place → List Item
+extend t (InWord r) = plain (insn.MovSx8 t (rm8.Reg (low_byte r))) ∷ []
+extend t (InByte r) = plain (insn.MovSx8 t (rm8.Reg r)) ∷ []
+extend t (InSlot k) = plain (insn.MovSx8 t (rm8.Mem (below k))) ∷ []
+
+-- the byte with its sign to the row's register, and that to its place, unless it is there
+abbrev pub widening : Place → Place → List Item
+widening result operand = extend (target_of result) operand ++ write result (target_of result)
 
 -- the low byte of the operand's word to the result
 abbrev pub lowering : Place → Place → List Item
@@ -78,10 +109,6 @@ shifting how result first count =
     ++ (into_count count ++ plain (insn.ShiftCl how (rm.Reg (shifted_in result first count))) ∷ [])
     ++ write result (shifted_in result first count)
 
--- the cells of registers that a shift leaves: all but CL
-abbrev pub SparedByShift : ℕ → Type 0
-SparedByShift k = k ≢ byte_place Cl
-
 -- ---- divisions
 
 -- the divisor's word to ESI, where it stands in EAX or EDX
@@ -107,11 +134,16 @@ abbrev pub dividing : Reg32 → Place → Place → Place → List Item
 dividing part result first second =
     before_division first second ++ plain (insn.IDiv (divisor_of second)) ∷ [] ++ write result part
 
--- the cells of registers that a division leaves
-abbrev pub SparedByDivision : ℕ → Type 0
-SparedByDivision k = OutsideWord Eax k × OutsideWord Edx k
-
 -- ---- comparisons
+
+-- the condition of a signed comparison (Intel manual, volume 1, appendix B)
+abbrev pub cond_of : Comparison → Cond
+cond_of Eq = cond.E
+cond_of Ne = cond.Ne
+cond_of Lt = cond.L
+cond_of Le = cond.Le
+cond_of Gt = cond.G
+cond_of Ge = cond.Ge
 
 -- CMP of two words where they stand; the first through ESI where both are in memory
 abbrev pub comparing : Place → Place → List Item
@@ -144,3 +176,7 @@ branching how first second taken other =
 -- to a label
 abbrev pub jumping : ℕ → List Item
 jumping label = item.JumpTo label ∷ []
+
+-- the trap of a failed check, unless two words are the same
+abbrev pub same_row : Place → Place → List Item
+same_row first second = comparing first second ++ item.JumpTrap (Some cond.Ne) ∷ []
