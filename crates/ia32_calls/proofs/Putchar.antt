@@ -205,6 +205,7 @@ pub record Answered (site : Site) (y address : ℕ) (s u : State) : Type 0 where
   pub eax : word_of Eax u ≡ y
   pub esp : word_of Esp u ≡ word_of Esp s + 4
   pub ebp : word_of Ebp u ≡ word_of Ebp s
+  pub ebx : word_of Ebx u ≡ word_of Ebx s
   pub kept : (n b w : ℕ) → AreDisjoint (word_of Esp s - 4) 4 b n → load n b s ≡ Ok w → load n b u ≡ Ok w
   pub left : u.left ≡ s.left
   pub taken : u.taken ≡ s.taken
@@ -222,6 +223,7 @@ record Answering (site : Site) (y : ℕ) (s u : State) : Type 0 where
   pub eax : word_of Eax u ≡ y
   pub esp : word_of Esp u ≡ word_of Esp s
   pub ebp : word_of Ebp u ≡ word_of Ebp s
+  pub ebx : word_of Ebx u ≡ word_of Ebx s
   pub kept : (n b w : ℕ) → AreDisjoint (word_of Esp s - 4) 4 b n → load n b s ≡ Ok w → load n b u ≡ Ok w
   pub left : u.left ≡ s.left
   pub taken : u.taken ≡ s.taken
@@ -273,6 +275,7 @@ answering-pop site y s a b c top sound p q r v w ready =
         esp = popped-back (word_of Esp u) (word_of Esp c) (word_of Esp a) (word_of Esp s) x.3.esp esp p.esp;
         ebp = x.3.others Ebp (unlike 5 3 refl) (unlike 5 4 refl) ∙ w.others Ebp (unlike 5 0 refl)
             ∙ r.others Ebp (unlike 5 0 refl) ∙ p.ebp;
+        ebx = x.3.value;
         kept = λ n k z apart e. load-same n k z a u (x.3.memory ∙ memory) (p.kept n k z apart e);
         left = x.3.left ∙ w.left ∙ r.left ∙ p.left;
         taken = x.3.taken ∙ w.taken ∙ r.taken ∙ p.taken;
@@ -329,6 +332,7 @@ answers-back site y address s room top held fits (d, p) =
         eax = w.3.others Eax (unlike 0 4 refl) ∙ p.eax;
         esp = w.3.value ∙ ap (λ (k : ℕ). k + 4) p.esp;
         ebp = w.3.others Ebp (unlike 5 4 refl) ∙ p.ebp;
+        ebx = w.3.others Ebx (unlike 3 4 refl) ∙ p.ebx;
         kept = λ n x z k h. load-same n x z d u w.3.memory (p.kept n x z k h);
         left = w.3.left ∙ p.left;
         taken = w.3.taken ∙ p.taken;
@@ -348,13 +352,14 @@ putchar-answers site y address s sound ready room top held fits byte small =
 -- ---- the row
 
 -- the state behind the call, where the argument still stands on the stack
-record Called (site : Site) (back : List Item) (x : ℕ) (s u : State) : Type 0 where
+pub record Called (site : Site) (back : List Item) (x : ℕ) (s u : State) : Type 0 where
   pub comes : Comes site.text s u
   pub ready : ReadyAt site back u
   pub sound : SoundAt site u
   pub eax : word_of Eax u ≡ x % 256
   pub esp : word_of Esp u + 4 ≡ word_of Esp s
   pub ebp : word_of Ebp u ≡ word_of Ebp s
+  pub ebx : word_of Ebx u ≡ word_of Ebx s
   pub argument : load 4 (word_of Esp u) u ≡ Ok x
   pub kept : (n b w : ℕ) → AreDisjoint (word_of Esp s - 12) 12 b n → load n b s ≡ Ok w → load n b u ≡ Ok w
   pub left : u.left ≡ s.left
@@ -420,6 +425,7 @@ called site back x address s a c u top room p q r v follows w =
       eax = w.eax;
       esp = back-above (word_of Esp u) (word_of Esp c) (word_of Esp a) e w.esp v.esp q.esp;
       ebp = w.ebp ∙ v.others Ebp (unlike 5 4 refl) ∙ q.others Ebp (unlike 5 4 refl);
+      ebx = w.ebx ∙ v.others Ebx (unlike 3 4 refl) ∙ q.others Ebx (unlike 3 4 refl);
       argument = subst (λ (k : ℕ). load 4 k u ≡ Ok x) (sym esp) argument_u;
       kept = λ n b z k h. w.kept n b z (third-word e (word_of Esp a) (word_of Esp c) n b some q.esp v.esp k)
           (v.apart n b z (second-word e (word_of Esp a) (word_of Esp c) n b some q.esp v.esp k)
@@ -445,7 +451,8 @@ called-by site back x address s a c top room routine p q r at v follows fits =
     (top-three e (word_of Esp a) (word_of Esp c) site.high q.esp v.esp top) v.word fits byte (byte-fits x) in
     (w.0, called site back x address s a c w.0 top room p q r v follows w.1)
 
-calls-behind : (site : Site) (back : List Item) (x : ℕ) (s : State) → word_of Esp s ≤ site.high
+-- what was pushed is passed to the routine
+pub calls-behind : (site : Site) (back : List Item) (x : ℕ) (s : State) → word_of Esp s ≤ site.high
     → site.low + 12 ≤ word_of Esp s → StandsFrom site putchar_items site.symbols.putchar
     → ((a : State) × Comes site.text s a × ReadyAt site (item.CallStub stub.Putchar ∷ back) a × Pushed site x s a)
     → (u : State) × Called site back x s u

@@ -46,7 +46,7 @@ use Rattle.ia32_cores.specs.Laws.{PutsBeside}
 -- ---- cells
 
 -- ESP and EBP are in no place
-stack-untouched : (frame k : ℕ) (p : Place) → IsPlaceIn frame p → 16 ≤ k → k < 24 → Untouched p k
+pub stack-untouched : (frame k : ℕ) (p : Place) → IsPlaceIn frame p → 16 ≤ k → k < 24 → Untouched p k
 stack-untouched frame k (InWord r) placed low high =
     let b = general-below r placed in (inr (omega arith), inl (omega arith), inl (omega arith))
 stack-untouched frame k (InByte r) placed low high =
@@ -54,7 +54,7 @@ stack-untouched frame k (InByte r) placed low high =
 stack-untouched frame k (InSlot slot) placed low high = (tt, inl (omega arith), inl (omega arith))
 
 -- places apart have cells apart
-cells-apart : (frame : ℕ) (p q : Place) → IsPlaceIn frame q → ArePlacesApart p q → PlaceHasCells (Untouched p) q
+pub cells-apart : (frame : ℕ) (p q : Place) → IsPlaceIn frame q → ArePlacesApart p q → PlaceHasCells (Untouched p) q
 cells-apart frame (InWord r) (InWord t) placed apart =
     let b = general-below t placed in
     λ m below. (other-cells t r (λ e. apart (sym e)) m below, inl (omega arith), inl (omega arith))
@@ -75,7 +75,7 @@ cells-apart frame (InSlot k) (InByte t) placed apart =
 cells-apart frame (InSlot k) (InSlot b) placed apart = tt
 
 -- and memory apart
-memory-apart : (frame base : ℕ) (p q : Place) → frame ≤ base → IsPlaceIn frame p → IsPlaceIn frame q
+pub memory-apart : (frame base : ℕ) (p q : Place) → frame ≤ base → IsPlaceIn frame p → IsPlaceIn frame q
     → ArePlacesApart p q → PlaceHasMemory (ApartFromPlace base p) base q
 memory-apart frame base p (InWord t) h one two apart = tt
 memory-apart frame base p (InByte t) h one two apart = tt
@@ -156,7 +156,7 @@ beside-keeps R code input g s u o d w place items supported state shown has defi
 
 -- ---- where it leads
 
-stands-low : (code : Code) (active : List Activation) (frames : List ℕ) (u : machine.State) (width : Option Width)
+pub stands-low : (code : Code) (active : List Activation) (frames : List ℕ) (u : machine.State) (width : Option Width)
     (value : Value) (place : Place) (w : ℕ) → HoldsWidth width place → IsLow code active frames width value w
     → HoldsLow u place w → StandsIn code active frames u (word_of Ebp u) width value place
 stands-low code active frames u (Some Two) value (InWord r) w for low holds =

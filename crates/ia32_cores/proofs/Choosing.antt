@@ -62,7 +62,8 @@ all-memory base (InWord r) = tt
 all-memory base (InByte r) = tt
 all-memory base (InSlot k) = (tt, tt)
 
-scratch-keeps : (code : Code) (g : graph.State) (frames : List ℕ) (s u : machine.State) (o : Op) → IsSupported code
+-- a row that changes ESI alone keeps what is shown
+pub scratch-keeps : (code : Code) (g : graph.State) (frames : List ℕ) (s u : machine.State) (o : Op) → IsSupported code
     → IsState code.program g → op_at code.program g ≡ Some o → Keeps (OutsideWord Esi) Anywhere s u
     → KeepsShown code g frames None s u
 scratch-keeps code g frames s u o supported state has keeps =

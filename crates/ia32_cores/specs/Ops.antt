@@ -17,7 +17,7 @@ use Rattle.ia32_shows.specs.Shows.{Shows}
 use Rattle.ia32_shows.specs.Sites.{ReadyAt, StandsFrom}
 use Rattle.ia32_rows.specs.Rows.{selected}
 use Rattle.ia32_keeps.specs.Supports.{IsSupported, site_of}
-use Rattle.ia32_keeps.specs.Ops.{ItemsFollow, RowAt, after_at, before_at}
+use Rattle.ia32_keeps.specs.Ops.{RowAt, RowFollows, after_at, before_at}
 use Rattle.ia32_rows.specs.Rows.{branching, dividing, halving, jumping, lowering, setting, shifting}
 
 -- the low byte of a number, and its low 16 bits

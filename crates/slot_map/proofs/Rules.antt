@@ -129,7 +129,7 @@ is-map program form flow slots code is name names =
     let address = point_address code 0 in
     let m = map_in f flow slots code in
     let g = slot_function f flow slots address in
-    let small = h.has_slots.small in
+    let small : frame_of flow ≤ 16384 = let call = h.has_slots.small in omega arith in
     let vs = variables_over f.locals flow.widths in
     let many : length vs ≡ length flow.widths = sym (length-map vs (λ (v : MapVariable). v.width))
     ∙ ap length (widths-over f.locals flow.widths) in

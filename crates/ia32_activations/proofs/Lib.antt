@@ -1,0 +1,4 @@
+pub mod Depth
+pub mod Arguments
+pub mod Calling
+pub mod Leaving
