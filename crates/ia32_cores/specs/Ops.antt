@@ -1,7 +1,5 @@
 -- That the machine follows single ops through these rows, over any placement that supports the graph.
 use Rattle.std.specs.Prelude.{◌≡◌, ◌<◌, ℕ, ℤ, false, List, ◌∷◌, ◌++◌, length, Some}
-use Rattle.ia32_regs.specs.declared.names.Reg32.TheVariants.{Eax, Edx}
-use Rattle.ia32_insn.specs.declared.insn.ShiftOp.TheVariants as shift
 use Rattle.ia32_insn.specs.declared.item.Item.{Item}
 use Rattle.ia32_insn.specs.declared.item.Item.TheVariants as item
 use Rattle.ia32_insn.specs.State as machine
@@ -18,7 +16,7 @@ use Rattle.ia32_shows.specs.Sites.{ReadyAt, StandsFrom}
 use Rattle.ia32_rows.specs.Rows.{selected}
 use Rattle.ia32_keeps.specs.Supports.{IsSupported, site_of}
 use Rattle.ia32_keeps.specs.Ops.{RowAt, RowFollows, after_at, before_at}
-use Rattle.ia32_rows.specs.Rows.{branching, dividing, halving, jumping, lowering, setting, shifting}
+use Rattle.ia32_rows.specs.Rows.{branching, jumping, setting}
 
 -- the low byte of a number, and its low 16 bits
 abbrev pub LowFollows : Type 0
