@@ -95,7 +95,8 @@ allowed_from static s t name v fs ns (Fails g gs) =
 
 declared_from : (static : Bool) (s t : Scope) (name : Identifier) (v : Option ValueTree) (fs : List Fault)
     (c : Checked Declared)
-    → IfFits (ItemsFrom (many s) (many (bound_item static name (value_in (if_fits c (object_allowed static name.at))) s)))
+    → IfFits (ItemsFrom (many s)
+    (many (bound_item static name (value_in (if_fits c (object_allowed static name.at))) s)))
     (if_fits c (λ d. also fs (if_fits (object_allowed static name.at d) (object_item static s t name v))))
 declared_from static s t name v fs (Fits d ns) =
     allowed_from static s t name v fs ns (object_allowed static name.at d)
