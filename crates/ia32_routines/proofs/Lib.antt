@@ -6,3 +6,6 @@ pub mod Params
 pub mod Passed
 pub mod Answering
 pub mod Putchar
+pub mod ByteStores
+pub mod Getchar
+pub mod Reading

@@ -1,5 +1,5 @@
 ghost use Rattle.ia32_routines.specs.Laws.{CheckTraps, CheckPasses};
-ghost use Rattle.ia32_routines.specs.Ops.{NumbersSameFollow, ParamFollows, ExitFollows, PutcharFollows};
+ghost use Rattle.ia32_routines.specs.Ops.{NumbersSameFollow, ParamFollows, ExitFollows, PutcharFollows, GetcharFollows};
 
 /// The jump to the trap of a failed check leads there where its condition holds, and else to what follows it.
 pub fn checks_trap()
@@ -14,4 +14,5 @@ pub fn outside_is_followed()
     ensures param { ParamFollows }
     ensures exit { ExitFollows }
     ensures putchar { PutcharFollows }
+    ensures getchar { GetcharFollows }
 {}

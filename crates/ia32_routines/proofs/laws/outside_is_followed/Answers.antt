@@ -2,6 +2,7 @@ use Rattle.ia32_routines.proofs.Same.{numbers-same-follow}
 use Rattle.ia32_routines.proofs.Params.{param-follows}
 use Rattle.ia32_routines.proofs.Passed.{exit-follows}
 use Rattle.ia32_routines.proofs.Putchar.{putchar-follows}
+use Rattle.ia32_routines.proofs.Reading.{getchar-follows}
 use Rattle.ia32_routines.proofs.laws.outside_is_followed.Goals as goal
 
 pub returns-clause-same : goal.returns-clause-same
@@ -15,3 +16,6 @@ returns-clause-exit c = exit-follows
 
 pub returns-clause-putchar : goal.returns-clause-putchar
 returns-clause-putchar c = putchar-follows
+
+pub returns-clause-getchar : goal.returns-clause-getchar
+returns-clause-getchar c = getchar-follows
