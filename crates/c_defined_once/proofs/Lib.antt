@@ -1,0 +1,4 @@
+pub mod Quiet
+pub mod QuietBodies
+pub mod Outside
+pub mod Files
