@@ -14,7 +14,8 @@ use Rattle.ia32_shows.proofs.Sets.{disjoint-part}
 use Rattle.ia32_rows.specs.Rows.{pass, pass_all}
 use Rattle.ia32_effects.specs.Effects.{Keeps, OutsideWord}
 use Rattle.ia32_effects.specs.Contains.{Contains, HoldsWord, IsPlaceIn}
-use Rattle.ia32_effects.proofs.Kept.{PlaceHasCells, PlaceHasMemory, contains-kept, keeps-same, keeps-stricter, keeps-then}
+use Rattle.ia32_effects.proofs.Kept.{PlaceHasCells, PlaceHasMemory, contains-kept, keeps-same, keeps-stricter}
+use Rattle.ia32_effects.proofs.Kept.{keeps-then}
 use Rattle.ia32_effects.proofs.Kept.{other-cells, word-kept}
 use Rattle.ia32_effects.proofs.Moves.{general-below}
 use Rattle.ia32_effects.proofs.Straight.{leads-join}

@@ -24,7 +24,8 @@ use Rattle.ia32_calls.proofs.Putchar.{near-address}
 use Rattle.ia32_rows.specs.Rows.{deepen, drop_words, pass_all, undeepen}
 use Rattle.ia32_effects.specs.Effects.{Keeps, OutsideWord}
 use Rattle.ia32_effects.specs.Contains.{HoldsWord, IsPlaceIn}
-use Rattle.ia32_effects.proofs.Kept.{PlaceHasCells, PlaceHasMemory, contains-kept, framed-kept, keeps-same, keeps-stricter}
+use Rattle.ia32_effects.proofs.Kept.{PlaceHasCells, PlaceHasMemory, contains-kept, framed-kept, keeps-same}
+use Rattle.ia32_effects.proofs.Kept.{keeps-stricter}
 use Rattle.ia32_effects.proofs.Kept.{keeps-then, other-cells, result-keeps, word-kept}
 use Rattle.ia32_effects.proofs.Moves.{general-below}
 use Rattle.ia32_effects.proofs.Straight.{straight-goes}
@@ -112,10 +113,11 @@ call-makes site frame f places words d back s framed has room held depth few rea
     let there : IsAt site.text t.eip (stand.0 ++ stand.1) = subst (IsAt site.text t.eip) stand.2 went.2.here in
     let down = p.1.esp in
     let top = framed.top in
-    let made = call-goes site back stand.3.0 stand.0 stand.1 t (sound-at site.text site.low site.high went.0 v p.1.sound)
-    there stand.3.2 stand.4 (counted-low site.low site.symbols.depth (word_of Esp v) (word_of Esp m) (word_of Esp s) n low
-    room down esp_m) (counted-high (word_of Esp v) (word_of Esp m) (word_of Esp s) n frame (word_of Ebp s) site.high down
-    esp_m whole top) in
+    let made = call-goes site back stand.3.0 stand.0 stand.1 t
+    (sound-at site.text site.low site.high went.0 v p.1.sound) there stand.3.2 stand.4
+    (counted-low site.low site.symbols.depth (word_of Esp v) (word_of Esp m) (word_of Esp s) n low room down esp_m)
+    (counted-high (word_of Esp v) (word_of Esp m) (word_of Esp s) n frame (word_of Ebp s) site.high down esp_m whole
+    top) in
     let u : State = made.0 in
     let pushed = made.3 in
     let up = pushed.esp in (
@@ -133,8 +135,8 @@ call-makes site frame f places words d back s framed has room held depth few rea
             (pushed.apart 4 (word_of Esp v + 4 * k) w (inl (omega (arith, up)))
             (load-same 4 (word_of Esp v + 4 * k) w v t refl (p.1.stand k w e)));
         depth = pushed.apart 4 site.symbols.depth (d + 1)
-            (inr (counted-depth site.symbols.depth (word_of Esp u) (word_of Esp v) (word_of Esp m) (word_of Esp s) n room
-            up down esp_m))
+            (inr (counted-depth site.symbols.depth (word_of Esp u) (word_of Esp v) (word_of Esp m) (word_of Esp s) n
+            room up down esp_m))
             (load-same 4 site.symbols.depth (d + 1) v t refl (p.1.keeps.loads 4 site.symbols.depth (d + 1)
             (inr (counted-above site.symbols.depth (word_of Esp v) (word_of Esp m) (word_of Esp s) n room down esp_m))
             c.1.depth));
@@ -203,8 +205,8 @@ drops site frame (suc n) items s sound whole room top ready =
     (sound-with_word site.text site.low site.high Esp (word_of Esp s + d) s sound) in
     let esp : word_of Esp u ≡ word_of Esp s + d = word-same site.text site.low site.high Esp (word_of Esp s + d) s sound
     (omega (arith, whole, top, below)) in
-    let ebp : word_of Ebp u ≡ word_of Ebp s = word-other site.text site.low site.high Ebp Esp (word_of Esp s + d) s sound
-    (λ e. omega (arith, e)) in
+    let ebp : word_of Ebp u ≡ word_of Ebp s = word-other site.text site.low site.high Ebp Esp (word_of Esp s + d) s
+    sound (λ e. omega (arith, e)) in
     let keeps = result-keeps site Esp (word_of Esp s + d) s.flags s sound in (
       u,
       record {

@@ -81,8 +81,8 @@ points site items s sound has ready =
     }
     in
     let t : State = with_word Esi target s in
-    let went = plain-goes site.symbols site.places site.text site.low site.high (insn.MovImm (rm.Reg Esi) at.1) items s t
-    sound there tt
+    let went = plain-goes site.symbols site.places site.text site.low site.high (insn.MovImm (rm.Reg Esi) at.1) items s
+    t sound there tt
     (λ after. ap (λ (v : ℕ). let r : Result State End = Ok (with_word Esi v s) in r) at.3) (λ after. refl) in
     let sound_t : SoundAt site t = sound-with_word site.text site.low site.high Esi target s sound in
     let u : State = at_address went.0 t in (

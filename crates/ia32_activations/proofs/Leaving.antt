@@ -58,7 +58,8 @@ loads site frame items r d s framed other another some within ready =
     sound ready tt (λ after. ap (λ (x : Result ℕ End). and_then x
     (λ value. let q : Result State End = Ok (with_word r value s) in q)) loaded) (λ after. refl) in
     let u : State = at_address went.0 t in
-    let same_esp : word_of Esp u ≡ word_of Esp s = word-other site.text site.low site.high Esp r found.0 s sound other in
+    let same_esp : word_of Esp u ≡ word_of Esp s =
+    word-other site.text site.low site.high Esp r found.0 s sound other in
     let same_ebp : word_of Ebp u ≡ e = word-other site.text site.low site.high Ebp r found.0 s sound another in (
       u,
       record {
@@ -98,7 +99,8 @@ leave-comes site frame x address back s framed room is held fits ready =
     let end : List Item = plain insn.Leave ∷ plain insn.Ret ∷ back in
     let three : List Item = plain (insn.MovLoad Edi (below 12)) ∷ end in
     let two : List Item = plain (insn.MovLoad Esi (below 8)) ∷ three in
-    let p = loads site frame two Ebx 4 s framed (unlike 4 3 refl) (unlike 5 3 refl) (omega arith) (omega (arith, room)) ready in
+    let p = loads site frame two Ebx 4 s framed (unlike 4 3 refl) (unlike 5 3 refl) (omega arith)
+    (omega (arith, room)) ready in
     let a : State = p.0 in
     let ebp_a : word_of Ebp a ≡ word_of Ebp s = p.1.others Ebp (unlike 5 3 refl) in
     let q = loads site frame three Esi 8 a p.1.framed (unlike 4 6 refl) (unlike 5 6 refl) (omega arith)
@@ -130,7 +132,8 @@ leave-comes site frame x address back s framed room is held fits ready =
         sound = t.3.sound;
         eip = t.2;
         eax = t.3.others Eax (unlike 0 4 refl) ∙ l.3.others Eax (unlike 0 5 refl) (unlike 0 4 refl)
-            ∙ r.1.others Eax (unlike 0 7 refl) ∙ q.1.others Eax (unlike 0 6 refl) ∙ p.1.others Eax (unlike 0 3 refl) ∙ is;
+            ∙ r.1.others Eax (unlike 0 7 refl) ∙ q.1.others Eax (unlike 0 6 refl) ∙ p.1.others Eax (unlike 0 3 refl)
+            ∙ is;
         esp = returned (word_of Esp u) (word_of Esp d) (word_of Ebp s) t.3.value (sym at);
         ebp = λ w old small. t.3.others Ebp (unlike 5 4 refl)
             ∙ left-word (word_of Ebp d) found.0 w l.3.ebp

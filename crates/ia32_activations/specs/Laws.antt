@@ -1,7 +1,8 @@
 -- What a call of a function does to the machine, in halves, over places of any kind: the row up to the callee's first
--- item, the return from its frame, and the row behind the call. Each law leads from a state to a later one, and passes no
--- NOP on the way.
-use Rattle.std.specs.Prelude.{◌≡◌, ◌≢◌, ◌<◌, ◌≤◌, ◌+◌, ◌-◌, ◌*◌, ◌^◌, ⊤, ℕ, List, [], ◌∷◌, ◌++◌, length, slice_get, Some, Ok}
+-- item, the return from its frame, and the row behind the call. Each law leads from a state to a later one, and passes
+-- no NOP on the way.
+use Rattle.std.specs.Prelude.{◌≡◌, ◌≢◌, ◌<◌, ◌≤◌, ◌+◌, ◌-◌, ◌*◌, ◌^◌, ⊤, ℕ, List, [], ◌∷◌, ◌++◌, length, slice_get}
+use Rattle.std.specs.Prelude.{Some, Ok}
 use Rattle.pcc_base.specs.Outcome.{Trapped}
 use Rattle.pcc_base.specs.declared.run.Trap.TheVariants.{Check}
 use Rattle.pcc_base.specs.declared.run.Width.TheVariants.{Two}
@@ -79,8 +80,8 @@ AreHeld frame s (p ∷ places) (w ∷ words) =
 AreHeld frame s [] (w ∷ words) = ⊥
 AreHeld frame s (p ∷ places) [] = ⊥
 
--- Words were pushed, the last one first: they stand in order from ESP on. No register changed but ESP, and no memory but
--- theirs.
+-- Words were pushed, the last one first: they stand in order from ESP on. No register changed but ESP, and no memory
+-- but theirs.
 pub record PassesAll (site : Site) (items : List Item) (words : List ℕ) (s u : State) : Type 0 where
   pub leads : Leads site items s u
   pub sound : SoundAt site u
@@ -96,8 +97,8 @@ PlacesPass =
 
 -- ---- the call
 
--- A function is called with these words: EIP is at its address, and above the return address, at ESP, stand the words in
--- order. At the return address stands what follows the call. One call more is active. Of registers ESI and ESP alone
+-- A function is called with these words: EIP is at its address, and above the return address, at ESP, stand the words
+-- in order. At the return address stands what follows the call. One call more is active. Of registers ESI and ESP alone
 -- changed, and of memory the depth word and what was pushed.
 pub record CallMade (site : Site) (back : List Item) (f : ℕ) (words : List ℕ) (d : ℕ) (s u : State) : Type 0 where
   pub comes : Comes site.text s u

@@ -13,7 +13,8 @@ use Rattle.ia32_insn.specs.declared.item.Item.{Item}
 use Rattle.ia32_insn.specs.State.{State, at_address}
 use Rattle.ia32_insn.specs.Arithmetic.{alu_flags, difference}
 use Rattle.ia32_insn.specs.Keeps.{AreDisjoint}
-use Rattle.ia32_insn.specs.Meaning.{and_then, call_of, denied, effect, load, make_call, read_call, system_call, take_byte}
+use Rattle.ia32_insn.specs.Meaning.{and_then, call_of, denied, effect, load, make_call, read_call, system_call}
+use Rattle.ia32_insn.specs.Meaning.{take_byte}
 use Rattle.ia32_insn.specs.Meaning.{with_word, word_of}
 use Rattle.ia32_insn.specs.Items.{getchar_items, plain}
 use Rattle.ia32_shows.specs.Paths.{Comes}

@@ -22,7 +22,8 @@ use Rattle.ia32_shows.specs.Shows.{ReturnsTo, StartReturns, startup, ending}
 use Rattle.ia32_shows.proofs.Steps.{IsAt, at-front, at-back, items-split, point-passed, label-passed}
 use Rattle.ia32_rows.specs.Rows.{frame_of, entry_label, over_slots, row, prologue, point_row, point_rows, block_rows}
 use Rattle.ia32_rows.specs.Rows.{selected}
-use Rattle.ia32_rows.proofs.ItemKinds.{every-get, every-back, IsSlotItem, selected-items, selected-room, slots-have, one-address}
+use Rattle.ia32_rows.proofs.ItemKinds.{every-get, every-back, IsSlotItem, selected-items, selected-room, slots-have}
+use Rattle.ia32_rows.proofs.ItemKinds.{one-address}
 use Rattle.ia32_rows.specs.Right.{IsSlotCode}
 use Rattle.ia32_shows.specs.Sites.{Ready, Site, ReadyAt}
 

@@ -48,8 +48,8 @@ abbrev pub AllApart : List ℕ → Type 0
 AllApart [] = ⊤
 AllApart (slot ∷ slots) = AllByRecursion (AreApart slot) slots × AllApart slots
 
--- A graph of such ops over variables of width Two without frame arrays, with a first block and a slot for each variable.
--- A call of it takes at most 16,384 bytes of the stack, with the argument words that it passes.
+-- A graph of such ops over variables of width Two without frame arrays, with a first block and a slot for each
+-- variable. A call of it takes at most 16,384 bytes of the stack, with the argument words that it passes.
 pub record HasSlots (flow : Flow) (slots : List ℕ) : Type 0 where
   pub widths : AllByRecursion (λ width. width ≡ Two) flow.widths
   pub no_arrays : flow.arrays ≡ []
