@@ -140,8 +140,8 @@ same-gives x y s t e = (cc, cc)
 pub same-number : (m n : ℤ) → HoldsNumber m ≡ HoldsNumber n → m ≡ n
 same-number m n e = cc
 
-stays-by : (S : Site) (older : List Function) (a b : Part) (run run' : source.State → Evaluated Held) (u : IntegerType)
-    → Lowers S a run → a.of ≡ Integer u → Lowers S b run' → (simple : Bool) → b.simple ≡ simple
+pub stays-by : (S : Site) (older : List Function) (a b : Part) (run run' : source.State → Evaluated Held)
+    (u : IntegerType) → Lowers S a run → a.of ≡ Integer u → Lowers S b run' → (simple : Bool) → b.simple ≡ simple
     → (spot : Option Spot) → a.stands ≡ spot → (level : ℕ) (s t v : source.State) (h i : graph.State)
     (first second : Held) (m : ℤ) → run s ≡ Gives first t → run' t ≡ Gives second v
     → Begins S (S.function ∷ older) t h → Shows S.program (S.function ∷ older) v i

@@ -58,7 +58,7 @@ set-same (y ∷ xs) (suc k) x e = ap (λ zs. y ∷ zs) (set-same xs k x e)
 same-state : (g : graph.State) (k : ℕ) (v : Value) → slice_get g.current.variables k ≡ Some v → with_value k v g ≡ g
 same-state g k v e = ap (λ (vs : List Value). with_variables vs g) (set-same g.current.variables k v e)
 
-copy-goes : (S : Site) (site : IsSite S) (before : List Line) (g : graph.State) (to from turns : ℕ) (v : Value)
+pub copy-goes : (S : Site) (site : IsSite S) (before : List Line) (g : graph.State) (to from turns : ℕ) (v : Value)
     → g.current.function ≡ S.number → slice_get g.current.variables from ≡ Some v → Stand S before (copied to from)
     → Goes S turns (behind before g) turns (behind (before ++ copied to from) (with_value to v g)) []
 copy-goes S site before g to from turns v fits there stands o r =

@@ -6,3 +6,4 @@ pub mod Indexing
 pub mod Naming
 pub mod Addresses
 pub mod Updating
+pub mod Turned

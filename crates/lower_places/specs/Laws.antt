@@ -145,6 +145,36 @@ IndexesAreAssigned = (S : Site) → IsSite S → (a b : Expression) (t : Integer
     → Lowers S (part_of (context_of S) (Assign (Integer t) (Element t a b) value))
     (evaluate S.calls (Assign (Integer t) (Element t a b) value))
 
+-- ---- `i[a]`, where the number comes first (C99 6.5.2.1p2)
+
+-- its address
+abbrev pub TurnedFollow : Type 0
+TurnedFollow = (S : Site) → IsSite S → (a b : Expression) (t u : IntegerType)
+    → Lowers S (part_of (context_of S) a) (evaluate S.calls a) → (part_of (context_of S) a).of ≡ Integer u
+    → Lowers S (part_of (context_of S) b) (evaluate S.calls b) → (part_of (context_of S) b).of ≡ Pointer t
+    → AddressFollows S t
+    (element_of (context_of S) t (Integer u) (part_of (context_of S) a) (part_of (context_of S) b))
+    (locate S.calls (Element t a b))
+
+-- it is read
+abbrev pub TurnedAreRead : Type 0
+TurnedAreRead = (S : Site) → IsSite S → (a b : Expression) (t u : IntegerType)
+    → Lowers S (part_of (context_of S) a) (evaluate S.calls a) → (part_of (context_of S) a).of ≡ Integer u
+    → Lowers S (part_of (context_of S) b) (evaluate S.calls b) → (part_of (context_of S) b).of ≡ Pointer t
+    → Lowers S (part_of (context_of S) (Read (Integer t) (Element t a b)))
+    (evaluate S.calls (Read (Integer t) (Element t a b)))
+
+-- a number is assigned to it
+abbrev pub TurnedAreAssigned : Type 0
+TurnedAreAssigned = (S : Site) → IsSite S → (a b : Expression) (t u : IntegerType)
+    → Lowers S (part_of (context_of S) a) (evaluate S.calls a) → (part_of (context_of S) a).of ≡ Integer u
+    → Lowers S (part_of (context_of S) b) (evaluate S.calls b) → (part_of (context_of S) b).of ≡ Pointer t
+    → (value : Expression) (w : IntegerType)
+    → Lowers S (part_of (context_of S) value) (evaluate S.calls value)
+    → (part_of (context_of S) value).of ≡ Integer w
+    → Lowers S (part_of (context_of S) (Assign (Integer t) (Element t a b) value))
+    (evaluate S.calls (Assign (Integer t) (Element t a b) value))
+
 -- ---- arrays that a function names
 
 -- the array that an op of a function names, in its youngest call

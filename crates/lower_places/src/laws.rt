@@ -5,6 +5,7 @@ ghost use Rattle.lower_places.specs.Laws.{IndexesAreAssigned, IndexesAreRead, In
 ghost use Rattle.lower_places.specs.Laws.{NamesAreAlike, ObjectsAreAssigned, ObjectsAreRead};
 ghost use Rattle.lower_places.specs.Laws.{ObjectsAreStepped, ObjectsAreUpdated};
 ghost use Rattle.lower_places.specs.Laws.{TargetsAreAddressed, TargetsLower};
+ghost use Rattle.lower_places.specs.Laws.{TurnedAreAssigned, TurnedAreRead, TurnedFollow};
 ghost use Rattle.lower_places.specs.Laws.{TargetsAreAssigned, TargetsAreRead, TargetsFollow};
 
 /// The lines that read an element do what the source does, where those of its address do.
@@ -86,4 +87,19 @@ pub fn targets_are_addressed()
 /// What a pointer goes to is a place whose lines do what the source does, where those of the pointer do.
 pub fn targets_lower()
     ensures { TargetsLower }
+{}
+
+/// The lines of the address of `i[a]`, where the number comes first, do what the source does, where those of both do.
+pub fn turned_follow()
+    ensures { TurnedFollow }
+{}
+
+/// The lines that read `i[a]`, where the number comes first, do what the source does.
+pub fn turned_are_read()
+    ensures { TurnedAreRead }
+{}
+
+/// The lines that assign a number to `i[a]`, where the number comes first, do what the source does.
+pub fn turned_are_assigned()
+    ensures { TurnedAreAssigned }
 {}
