@@ -1,1 +1,7 @@
+pub mod Advancing
+pub mod Going
 pub mod Performing
+pub mod Starting
+pub mod Stepping
+pub mod Streaming
+pub mod Turning

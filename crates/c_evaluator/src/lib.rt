@@ -1,14 +1,14 @@
-//! The step of each task of an evaluation, and the first step of each turn.
+//! The evaluation of typed programs from their start to their end.
 //!
-//! In: what is left to do of a typed program, what it holds and the task that was taken. Out: what is left after the
-//! task's step, or what the task waits for: a byte of the input, room for one on the output, or a turn.
-//! `specs/Performs.antt` says what the step leaves.
+//! In: a typed program, an input and an output that are lent, and a number of turns. Out: how the program ended, with
+//! the bytes that it writes on the output. The answer is that of the source meaning, `specs/Runs.antt`.
 #![tactic(auto)]
 
+mod evaluate;
 mod next;
+mod run;
 mod steps;
 mod turns;
 
-pub use next::{Next, Turn};
-pub use steps::perform;
-pub use turns::begin;
+pub use c_eval::EvalEnd;
+pub use evaluate::eval;
