@@ -1,0 +1,5 @@
+pub mod Rows
+pub mod Lists
+pub mod Scoped
+pub mod Strings
+pub mod Sized

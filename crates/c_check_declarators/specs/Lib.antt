@@ -1,0 +1,4 @@
+pub mod Views
+pub mod Answers
+pub mod Forms
+pub mod Together
