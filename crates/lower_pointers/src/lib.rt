@@ -1,0 +1,6 @@
+//! Laws of the lines of pointers: their values, and what they are assigned to. No code; `specs/Laws.antt` has the laws.
+#![tactic(auto)]
+
+mod laws;
+
+pub use laws::starts_lower;
