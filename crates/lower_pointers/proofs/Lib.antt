@@ -1,3 +1,4 @@
 pub mod Testing
 pub mod Making
 pub mod Starting
+pub mod Moving

@@ -3,4 +3,4 @@
 
 mod laws;
 
-pub use laws::starts_lower;
+pub use laws::{pointers_are_read, starts_lower};
