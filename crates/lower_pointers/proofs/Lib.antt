@@ -2,3 +2,4 @@ pub mod Testing
 pub mod Making
 pub mod Starting
 pub mod Moving
+pub mod Storing

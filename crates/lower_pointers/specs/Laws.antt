@@ -1,10 +1,11 @@
 -- The laws of the lines of pointers, by their kinds; each is a part of `ExpressionsLower` of `lower_lines`.
-use Rattle.std.specs.Prelude.{◌≡◌, ℕ, Some, slice_get}
+use Rattle.std.specs.Prelude.{◌≡◌, ◌⊎◌, ℕ, Some, slice_get}
 use Rattle.c_tree.specs.declared.expression.ArrayRef.{ArrayRef}
 use Rattle.c_tree.specs.declared.types.IntegerType.{IntegerType}
-use Rattle.c_tree.specs.declared.types.ValueType.TheVariants.{Pointer}
+use Rattle.c_tree.specs.declared.types.ValueType.{ValueType}
+use Rattle.c_tree.specs.declared.types.ValueType.TheVariants.{Integer, Pointer}
 use Rattle.c_tree.specs.Evaluation.{evaluate}
-use Rattle.c_tree.specs.Program.{Local, LocalPlace, Read, Start}
+use Rattle.c_tree.specs.Program.{Assign, Cast, Expression, Local, LocalPlace, Read, Start}
 use Rattle.c_tree.specs.WellTyped.{IsArray}
 use Rattle.lower_lines.specs.Expressions.{part_of}
 use Rattle.lower_lines.specs.Following.{IsSite, Lowers, Site, context_of}
@@ -19,3 +20,22 @@ abbrev pub PointersAreRead : Type 0
 PointersAreRead = (S : Site) → IsSite S → (k : ℕ) (l : Local) (t : IntegerType) → slice_get S.function.locals k ≡ Some l
     → l.of ≡ Pointer t → Lowers S (part_of (context_of S) (Read (Pointer t) (LocalPlace k)))
     (evaluate S.calls (Read (Pointer t) (LocalPlace k)))
+
+-- a value of the type goes to a pointer: one of the same type, or a number, which is then the null constant
+-- (C99 6.3.2.3p3)
+abbrev pub GoesToPointer : IntegerType → ValueType → Type 0
+GoesToPointer t of = (of ≡ Pointer t) ⊎ ((u : IntegerType) × (of ≡ Integer u))
+
+-- a cast to a pointer
+abbrev pub PointersConvert : Type 0
+PointersConvert = (S : Site) → IsSite S → (t : IntegerType) (e : Expression)
+    → Lowers S (part_of (context_of S) e) (evaluate S.calls e) → GoesToPointer t (part_of (context_of S) e).of
+    → Lowers S (part_of (context_of S) (Cast (Pointer t) e)) (evaluate S.calls (Cast (Pointer t) e))
+
+-- an assignment to a local that is a pointer
+abbrev pub PointersAreAssigned : Type 0
+PointersAreAssigned = (S : Site) → IsSite S → (k : ℕ) (l : Local) (t : IntegerType)
+    → slice_get S.function.locals k ≡ Some l → l.of ≡ Pointer t → (e : Expression)
+    → Lowers S (part_of (context_of S) e) (evaluate S.calls e) → GoesToPointer t (part_of (context_of S) e).of
+    → Lowers S (part_of (context_of S) (Assign (Pointer t) (LocalPlace k) e))
+    (evaluate S.calls (Assign (Pointer t) (LocalPlace k) e))

@@ -1,6 +1,6 @@
 //! Laws of the lines of pointers: each function's contract is one, and the function does nothing.
 
-ghost use Rattle.lower_pointers.specs.Laws.{PointersAreRead, StartsLower};
+ghost use Rattle.lower_pointers.specs.Laws.{PointersAreAssigned, PointersAreRead, PointersConvert, StartsLower};
 
 /// The lines of the name of an array do what the source does, whatever is wanted of them.
 pub fn starts_lower()
@@ -10,4 +10,14 @@ pub fn starts_lower()
 /// The lines that read a local which is a pointer do what the source does, whatever is wanted of them.
 pub fn pointers_are_read()
     ensures { PointersAreRead }
+{}
+
+/// The lines of a cast to a pointer, of one or of the null constant, do what the source does.
+pub fn pointers_convert()
+    ensures { PointersConvert }
+{}
+
+/// The lines of an assignment to a local which is a pointer do what the source does.
+pub fn pointers_are_assigned()
+    ensures { PointersAreAssigned }
 {}

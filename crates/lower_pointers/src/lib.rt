@@ -3,4 +3,4 @@
 
 mod laws;
 
-pub use laws::{pointers_are_read, starts_lower};
+pub use laws::{pointers_are_assigned, pointers_are_read, pointers_convert, starts_lower};
