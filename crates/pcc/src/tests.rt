@@ -162,6 +162,8 @@ fn refuses_words_and_names(rt: HostRuntime) -> Result<(), Fail> {
         ("run a", 0, "exit 44\n"),
         ("run a.map", 7, "not an image\n"),
         ("run b.c", 6, "no file b.c\n"),
+        ("solve b.c", 6, "no file b.c\n"),
+        ("solve a", 1, "a: 25 BadBoard\n"),
         ("compile -o a b.c", 6, "no file b.c\n"),
         ("compile -o a.c a.c", 2, "usage\n"),
         ("compile -o a a.map", 2, "usage\n"),
@@ -169,6 +171,7 @@ fn refuses_words_and_names(rt: HostRuntime) -> Result<(), Fail> {
         ("compile -O a a.c", 2, "usage\n"),
         ("compile -o a a.c a.c", 2, "usage\n"),
         ("run", 2, "usage\n"),
+        ("solve", 2, "usage\n"),
         ("run a a", 2, "usage\n"),
         ("--help", 2, "usage\n"),
         ("", 2, "usage\n"),
@@ -203,6 +206,54 @@ fn names_faults(rt: HostRuntime) -> Result<(), Fail> {
     let refused = run_line(alloc, "run a", &mut files, 1)?;
     assert_eq!(rt; refused.status, 5);
     assert!(rt; refused.err.taken().is_empty());
+    Ok(())
+}
+
+/// Solves the board of a file with this text.
+fn solve_text(alloc: Global, board: &str) -> Result<Answer, Fail> {
+    let mut files = MemFiles::new(alloc, failing(alloc, 0)?);
+    match files.place("b", board.as_bytes()) {
+        Ok(()) => run_line(alloc, "solve b", &mut files, 0),
+        Err(_) => Err(Fail::new("no memory")),
+    }
+}
+
+/// Each text of a board has its placement on the output, or `none`, and any other file its fault.
+#[test]
+fn solves_boards(rt: HostRuntime) -> Result<(), Fail> {
+    let alloc = rt.alloc();
+    let bad = "b: 25 BadBoard\n";
+    for (board, status, out, err) in [
+        (
+            "areas bb bu\npieces X2 Z2 Y1\n",
+            0,
+            "0 X2 0 all\n1 Z2 0 all\n2 Y1 1 low\n",
+            "",
+        ),
+        (
+            "areas bb bb bb bb\npieces X2 Z2 Y1 Y1 Y1 Y1 Y1 Y1 Y1\n",
+            0,
+            "none\n",
+            "",
+        ),
+        ("areas\npieces\n", 0, "", ""),
+        ("areas\npieces X1\n", 0, "none\n", ""),
+        ("areas b\npieces\n", 1, "", bad),
+        ("areas bb\npieces X3\n", 1, "", bad),
+        ("areas  bb\npieces\n", 1, "", bad),
+        ("areas bb\npieces X1", 1, "", bad),
+    ] {
+        let answer = solve_text(alloc, board)?;
+        assert_eq!(rt; answer.err.taken(), err.as_bytes(), "{board}");
+        assert_eq!(rt; answer.out.taken(), out.as_bytes(), "{board}");
+        assert_eq!(rt; answer.status, status, "{board}");
+    }
+    // The wide pieces share an area, since the others need all columns of the rest.
+    let full = solve_text(alloc, "areas bb bb bb bb\npieces X2 Z2 Y1 Y1 Y1 Y1 Y1 Y1\n")?;
+    let lines = full.out.taken();
+    assert_eq!(rt; full.status, 0);
+    assert!(rt; lines.starts_with(b"0 X2 "));
+    assert_eq!(rt; lines.get(5), lines.get(16));
     Ok(())
 }
 

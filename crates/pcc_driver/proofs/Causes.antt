@@ -47,6 +47,7 @@ many_told : (command : Command) (old new : Work) (tokens : ℕ)
     → CommandTold command old new (reports.TooManyTokens tokens) → TokensCause command old.files
 many_told (commands.Compile name source) old new tokens told = λ f. (told.0 f).1
 many_told (commands.Run image) old new tokens told = absurd told.0
+many_told (commands.Solve file) old new tokens told = absurd told.0
 many_told commands.Usage old new tokens told =
     let other : 3 ≡ 2 = ap status_of told.0 in
     absurd (omega (arith, other))

@@ -12,15 +12,17 @@ use Rattle.pcc_base.specs.declared.fault.Fault.{Fault}
 use Rattle.c_front.specs.Refusals.{HasManyTokens, IsSourceFault}
 use Rattle.c_front.proofs.Exact.{no_fault, no_limit, either}
 use Rattle.pcc_driver.proofs.Causes.{ended_status}
-use Rattle.pcc_driver.specs.Answers.{HasCause, CommandTold, CompileTold, RunTold, RunGives, Holds}
+use Rattle.pcc_driver.specs.Answers.{HasCause, CommandTold, CompileTold, RunTold, SolveTold, RunGives, Holds}
 use Rattle.pcc_driver.specs.Answers.{IsTooLong, IsNoImage, Ends, run_steps}
 use Rattle.pcc_driver.specs.Commands as commands
 use Rattle.pcc_driver.specs.Commands.{Command}
 use Rattle.pcc_driver.specs.Headline.{Files, IsCompiled}
 use Rattle.pcc_driver.specs.Outside.{Outside, Output, Work}
-use Rattle.pcc_driver.specs.Promises.{IsQuiet, CompileStatus, RunStatus, HasStatus, end_status}
+use Rattle.puzzle_texts.specs.Reading.{IsNoBoard}
+use Rattle.pcc_driver.specs.Solutions.{IsSomeBoard}
+use Rattle.pcc_driver.specs.Promises.{IsQuiet, CompileStatus, RunStatus, SolveStatus, HasStatus, end_status}
 use Rattle.pcc_driver.specs.Reports.{status_of}
-use Rattle.pcc_driver.specs.declared.report.Named.TheVariants.{Source, Map, Image}
+use Rattle.pcc_driver.specs.declared.report.Named.TheVariants.{Source, Map, Image, Board}
 use Rattle.pcc_driver.specs.declared.report.Report.{Report}
 use Rattle.pcc_driver.specs.declared.report.Report.TheVariants as reports
 use Rattle.ia32_machine.proofs.First.{first-one}
@@ -102,8 +104,10 @@ compile_status name source old new (reports.WriteFault file) cause told quiet =
 compile_status name source old new reports.NoMemory cause told quiet = inl refl
 compile_status name source old new (reports.TooLong Map) cause told quiet = absurd told
 compile_status name source old new (reports.TooLong Image) cause told quiet = absurd told
+compile_status name source old new (reports.TooLong Board) cause told quiet = absurd told
 compile_status name source old new (reports.NoFile Map) cause told quiet = absurd told
 compile_status name source old new (reports.NoFile Image) cause told quiet = absurd told
+compile_status name source old new (reports.NoFile Board) cause told quiet = absurd told
 compile_status name source old new (reports.Exited status) cause told quiet = absurd told
 compile_status name source old new reports.Usage cause told quiet = absurd told
 compile_status name source old new reports.InputFault cause told quiet = absurd told
@@ -112,6 +116,8 @@ compile_status name source old new reports.NotImage cause told quiet = absurd to
 compile_status name source old new (reports.Trapped trap) cause told quiet = absurd told
 compile_status name source old new (reports.Stopped at address) cause told quiet = absurd told
 compile_status name source old new (reports.BudgetSpent steps) cause told quiet = absurd told
+compile_status name source old new reports.Solved cause told quiet = absurd told
+compile_status name source old new reports.BadBoard cause told quiet = absurd told
 
 -- ---- run
 
@@ -176,11 +182,74 @@ run_status content reports.NoMemory old new cause told quiet = inl refl
 run_status content (reports.TooManyTokens tokens) old new cause told quiet = absurd told
 run_status content (reports.TooLong Source) old new cause told quiet = absurd told
 run_status content (reports.TooLong Map) old new cause told quiet = absurd told
+run_status content (reports.TooLong Board) old new cause told quiet = absurd told
 run_status content (reports.NoFile Source) old new cause told quiet = absurd told
 run_status content (reports.NoFile Map) old new cause told quiet = absurd told
+run_status content (reports.NoFile Board) old new cause told quiet = absurd told
 run_status content reports.Compiled old new cause told quiet = absurd told
 run_status content (reports.SourceFault fault) old new cause told quiet = absurd told
 run_status content reports.Usage old new cause told quiet = absurd told
+run_status content reports.Solved old new cause told quiet = absurd told
+run_status content reports.BadBoard old new cause told quiet = absurd told
+
+-- ---- solve
+
+absent_status : (content : Option (List ℕ)) → content ≡ None → SolveStatus content 6
+absent_status content e = rw e refl
+
+large_status : (content : Option (List ℕ)) → IsTooLong content → SolveStatus content 3
+large_status content long =
+    rw long.1 (
+      λ h. refl,
+      λ h board. absurd (omega (arith, long.2, h)),
+      λ h none. absurd (omega (arith, long.2, h)),
+    )
+
+solved_status : (content : Option (List ℕ)) → Holds content IsSomeBoard → SolveStatus content 0
+solved_status content held =
+    rw held.1 (
+      λ h. absurd (omega (arith, held.2, h)),
+      λ h board. refl,
+      λ h none. absurd (none held.3.0 held.3.1 held.3.2.numbered held.3.2.text_is),
+    )
+
+no_board_status : (content : Option (List ℕ)) → Holds content IsNoBoard → SolveStatus content 1
+no_board_status content held =
+    rw held.1 (
+      λ h. absurd (omega (arith, held.2, h)),
+      λ h board. absurd (held.3 board.0 board.1 board.2.numbered board.2.text_is),
+      λ h none. refl,
+    )
+
+-- the report on a board has the status of the file
+solve_status : (content : Option (List ℕ)) (report : Report) (old new : Outside) → HasCause report old.work new.work
+    → SolveTold content old.work.out new.work.out report → IsQuiet old new
+    → (status_of report ≡ 11) ⊎ SolveStatus content (status_of report)
+solve_status content reports.Solved old new cause told quiet =
+    inr (solved_status content (told.0, told.1, told.2, (told.3.1.0, told.3.1.1, told.3.1.2)))
+solve_status content reports.BadBoard old new cause told quiet = inr (no_board_status content told.0)
+solve_status content (reports.TooLong Board) old new cause told quiet = inr (large_status content told.0)
+solve_status content (reports.NoFile Board) old new cause told quiet = inr (absent_status content told.0)
+solve_status content (reports.ReadFault file) old new cause told quiet = absurd (quiet.reads cause.files.0)
+solve_status content reports.OutputFault old new cause told quiet = absurd (quiet.output cause.streams.1)
+solve_status content reports.NoMemory old new cause told quiet = inl refl
+solve_status content (reports.TooLong Source) old new cause told quiet = absurd told
+solve_status content (reports.TooLong Map) old new cause told quiet = absurd told
+solve_status content (reports.TooLong Image) old new cause told quiet = absurd told
+solve_status content (reports.NoFile Source) old new cause told quiet = absurd told
+solve_status content (reports.NoFile Map) old new cause told quiet = absurd told
+solve_status content (reports.NoFile Image) old new cause told quiet = absurd told
+solve_status content reports.Compiled old new cause told quiet = absurd told
+solve_status content (reports.Exited status) old new cause told quiet = absurd told
+solve_status content (reports.SourceFault fault) old new cause told quiet = absurd told
+solve_status content reports.Usage old new cause told quiet = absurd told
+solve_status content (reports.TooManyTokens tokens) old new cause told quiet = absurd told
+solve_status content reports.InputFault old new cause told quiet = absurd told
+solve_status content (reports.WriteFault file) old new cause told quiet = absurd told
+solve_status content reports.NotImage old new cause told quiet = absurd told
+solve_status content (reports.Trapped trap) old new cause told quiet = absurd told
+solve_status content (reports.Stopped at address) old new cause told quiet = absurd told
+solve_status content (reports.BudgetSpent steps) old new cause told quiet = absurd told
 
 -- ---- every command
 
@@ -192,6 +261,8 @@ report_status (commands.Compile name source) report old new cause told f i o qui
     compile_status name source old new report cause (told.0 f) quiet
 report_status (commands.Run image) report old new cause told f i o quiet =
     run_status (old.work.files.content image) report old new cause (told.3 f i o) quiet
+report_status (commands.Solve file) report old new cause told f i o quiet =
+    solve_status (old.work.files.content file) report old new cause (told.3 f) quiet
 report_status commands.Usage report old new cause told f i o quiet = inr (ap status_of told.0)
 
 -- the status of a command where nothing fails

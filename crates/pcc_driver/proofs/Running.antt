@@ -9,7 +9,7 @@ use Rattle.ia32_machine.specs.Runs as runs
 use Rattle.ia32_machine.specs.Runs.{Gives, GivesSoFar, GivesPart, WritesNext}
 use Rattle.ia32_machine.specs.declared.ends.MachineEnd.{MachineEnd}
 use Rattle.ia32_machine.specs.declared.ends.MachineEnd.TheVariants as machine
-use Rattle.pcc_driver.specs.declared.report.Named.TheVariants.{Source, Map, Image}
+use Rattle.pcc_driver.specs.declared.report.Named.TheVariants.{Source, Map, Image, Board}
 use Rattle.pcc_driver.specs.Answers.{SameStreams, ImageTold, RunTold, RunGives, RunGivesSoFar, RunGivesPart, Holds}
 use Rattle.pcc_driver.specs.Answers.{GivesNoMachine, IsNoImage, report_of_end, run_steps}
 use Rattle.pcc_driver.specs.Headline.{file_limit}
@@ -42,6 +42,8 @@ no_machine_told (reports.NoFile file) content image old new same read small none
 no_machine_told (reports.Trapped trap) content image old new same read small none = absurd none
 no_machine_told (reports.Stopped cause address) content image old new same read small none = absurd none
 no_machine_told (reports.BudgetSpent steps) content image old new same read small none = absurd none
+no_machine_told reports.Solved content image old new same read small none = absurd none
+no_machine_told reports.BadBoard content image old new same read small none = absurd none
 
 -- such a report says what the file holds
 pub no_machine_file : (report : Report) (content : Option (List ℕ)) (image : List ℕ) → content ≡ Some image
@@ -50,9 +52,11 @@ no_machine_file reports.NotImage content image read small none = (image, read, s
 no_machine_file (reports.NoFile Image) content image read small none = absurd none
 no_machine_file (reports.NoFile Source) content image read small none = tt
 no_machine_file (reports.NoFile Map) content image read small none = tt
+no_machine_file (reports.NoFile Board) content image read small none = tt
 no_machine_file (reports.TooLong Image) content image read small none = absurd none
 no_machine_file (reports.TooLong Source) content image read small none = tt
 no_machine_file (reports.TooLong Map) content image read small none = tt
+no_machine_file (reports.TooLong Board) content image read small none = tt
 no_machine_file _ content image read small none = tt
 
 -- and so does that of a run

@@ -4,7 +4,7 @@ use Rattle.pcc_driver.specs.Answers.{CompileTold, WritesTold, MapStands}
 use Rattle.pcc_driver.specs.Commands.{map_name}
 use Rattle.pcc_driver.specs.Headline.{Files, file_limit}
 use Rattle.pcc_driver.specs.Products.{AreProducts}
-use Rattle.pcc_driver.specs.declared.report.Named.TheVariants.{Source, Map, Image}
+use Rattle.pcc_driver.specs.declared.report.Named.TheVariants.{Source, Map, Image, Board}
 use Rattle.pcc_driver.specs.declared.report.Report.{Report}
 use Rattle.pcc_driver.specs.declared.report.Report.TheVariants as reports
 
@@ -51,6 +51,8 @@ written_told reports.NoMemory name source text map_bytes image old mid new kept 
     ]
 written_told (reports.WriteFault Source) name source text map_bytes image old mid new kept read small products told =
     absurd told
+written_told (reports.WriteFault Board) name source text map_bytes image old mid new kept read small products told =
+    absurd told
 written_told (reports.Exited status) name source text map_bytes image old mid new kept read small products told =
     absurd told
 written_told (reports.SourceFault fault) name source text map_bytes image old mid new kept read small products told =
@@ -74,3 +76,5 @@ written_told (reports.Stopped cause address) name source text map_bytes image ol
     told = absurd told
 written_told (reports.BudgetSpent steps) name source text map_bytes image old mid new kept read small products told =
     absurd told
+written_told reports.Solved name source text map_bytes image old mid new kept read small products told = absurd told
+written_told reports.BadBoard name source text map_bytes image old mid new kept read small products told = absurd told

@@ -23,12 +23,14 @@ use Rattle.c_tree.specs.Program.{Program}
 use Rattle.c_front.specs.Accepted.{IsProgram}
 use Rattle.c_front.specs.Refusals.{HasManyTokens, IsSourceFault}
 use Rattle.pcc_compile.specs.Products.{IsImageOf}
-use Rattle.pcc_driver.specs.Commands.{Command, Compile, Run, Usage, map_name}
+use Rattle.puzzle_texts.specs.Reading.{IsNoBoard}
+use Rattle.pcc_driver.specs.Commands.{Command, Compile, Run, Solve, Usage, map_name}
 use Rattle.pcc_driver.specs.Headline.{Files, file_limit, IsCompiled}
 use Rattle.pcc_driver.specs.Outside.{Output, Work}
 use Rattle.pcc_driver.specs.Reports.{status_of, report_line}
+use Rattle.pcc_driver.specs.Solutions.{IsSolution}
 use Rattle.pcc_driver.specs.declared.report.Named.{Named}
-use Rattle.pcc_driver.specs.declared.report.Named.TheVariants.{Source, Map, Image}
+use Rattle.pcc_driver.specs.declared.report.Named.TheVariants.{Source, Map, Image, Board}
 use Rattle.pcc_driver.specs.declared.report.Report.{Report}
 use Rattle.pcc_driver.specs.declared.report.Report.TheVariants as reports
 
@@ -177,10 +179,10 @@ RunGivesPart old new image =
 abbrev pub IsNoImage : List ℕ → List ℕ → Type 0
 IsNoImage input image = (s : State) → First image input s → ⊥
 
--- a run has no source whose tokens may be too many
-abbrev pub IsOfRun : Report → Type 0
-IsOfRun (reports.TooManyTokens tokens) = ⊥
-IsOfRun _ = ⊤
+-- neither an image nor a board has tokens that may be too many
+abbrev pub HasNoTokens : Report → Type 0
+HasNoTokens (reports.TooManyTokens tokens) = ⊥
+HasNoTokens _ = ⊤
 
 -- what the report of `run` says of the image's file, where files tell
 abbrev pub ImageTold : Option (List ℕ) → Report → Type 0
@@ -207,6 +209,36 @@ RunTold content old new reports.InputFault = Holds content (RunGivesSoFar (λ t.
 RunTold content old new reports.OutputFault = Holds content (RunGivesPart old new)
 RunTold content old new reports.NoMemory = SameStreams old new ⊎ Holds content (RunGivesSoFar WritesNext old new)
 RunTold content old new _ = ⊥
+
+-- ---- solve
+
+-- why a text has no answer
+abbrev pub GivesNoAnswer : List ℕ → Report → Type 0
+GivesNoAnswer text reports.BadBoard = IsNoBoard text
+GivesNoAnswer text reports.NoMemory = ⊤
+GivesNoAnswer text _ = ⊥
+
+-- the answer was put on the output, or where that failed a prefix of it, or where it found no memory nothing
+abbrev pub AnswerPut : List ℕ → Output → Output → Report → Type 0
+AnswerPut answer old new reports.Solved = old.tells → new.taken ≡ old.taken ++ answer
+AnswerPut answer old new reports.OutputFault = old.tells → (n : ℕ) × (new.taken ≡ old.taken ++ take n answer)
+AnswerPut answer old new reports.NoMemory = old.tells → new.taken ≡ old.taken
+AnswerPut answer old new _ = ⊥
+
+-- some answer on the board of this text was put, or what the report says of it
+abbrev pub SolutionPut : Output → Output → Report → List ℕ → Type 0
+SolutionPut old new report text = (answer : List ℕ) × IsSolution text answer × AnswerPut answer old new report
+
+-- the report of `solve` on what the board's file holds, and what was put on the output where that tells
+abbrev pub SolveTold : Option (List ℕ) → Output → Output → Report → Type 0
+SolveTold content old new reports.Solved = Holds content (SolutionPut old new reports.Solved)
+SolveTold content old new reports.OutputFault = Holds content (SolutionPut old new reports.OutputFault)
+SolveTold content old new reports.BadBoard = Holds content IsNoBoard × (new.taken ≡ old.taken)
+SolveTold content old new (reports.TooLong Board) = IsTooLong content × (new.taken ≡ old.taken)
+SolveTold content old new (reports.ReadFault Board) = new.taken ≡ old.taken
+SolveTold content old new (reports.NoFile Board) = (content ≡ None) × (new.taken ≡ old.taken)
+SolveTold content old new reports.NoMemory = old.tells → new.taken ≡ old.taken
+SolveTold content old new _ = ⊥
 
 -- ---- the line, and the status
 
@@ -237,8 +269,12 @@ abbrev pub CommandTold : Command → Work → Work → Report → Type 0
 CommandTold (Compile name source) old new report =
     (old.files.tells → CompileTold name source old.files.content new.files.content report) × SameStreams old new
 CommandTold (Run image) old new report =
-    IsOfRun report × (old.files.tells → SameFiles old.files.content new.files.content)
+    HasNoTokens report × (old.files.tells → SameFiles old.files.content new.files.content)
     × (old.files.tells → ImageTold (old.files.content image) report)
     × (old.files.tells → old.input.tells → old.out.tells → RunTold (old.files.content image) old new report)
+CommandTold (Solve file) old new report =
+    HasNoTokens report × (old.files.tells → SameFiles old.files.content new.files.content)
+    × (new.input.left ≡ old.input.left)
+    × (old.files.tells → SolveTold (old.files.content file) old.out new.out report)
 CommandTold Usage old new report =
     (report ≡ reports.Usage) × (old.files.tells → SameFiles old.files.content new.files.content) × SameStreams old new

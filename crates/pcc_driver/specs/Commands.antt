@@ -6,6 +6,8 @@ pub data Command : Type 0 where
   Compile : (name source : List ℕ) → Command
   -- run the image in the machine
   Run : (image : List ℕ) → Command
+  -- solve the board of the file
+  Solve : (file : List ℕ) → Command
   Usage : Command
 
 abbrev pub map_name : List ℕ → List ℕ
@@ -16,9 +18,11 @@ abbrev pub compile_command : List ℕ → List ℕ → Command
 compile_command name source = if bytes_eq name source
     || bytes_eq (map_name name) source then Usage else Compile name source
 
--- `run IMAGE`, `compile -o NAME SRC`, and no others
+-- `run IMAGE`, `solve FILE`, `compile -o NAME SRC`, and no others
 abbrev pub command_of : List (List ℕ) → Command
-command_of (first ∷ image ∷ []) = if bytes_eq first (codes "run") then Run image else Usage
+command_of (first ∷ file ∷ []) =
+    if bytes_eq first (codes "run") then Run file
+    else if bytes_eq first (codes "solve") then Solve file else Usage
 command_of (first ∷ option ∷ name ∷ source ∷ []) =
     if bytes_eq first (codes "compile") && bytes_eq option (codes "-o") then compile_command name source else Usage
 command_of words = Usage

@@ -5,4 +5,5 @@ pub mod Outside
 pub mod Products
 pub mod Promises
 pub mod Reports
+pub mod Solutions
 pub mod Words

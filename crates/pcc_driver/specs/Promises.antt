@@ -9,9 +9,11 @@ use Rattle.ia32_machine.specs.First.{First}
 use Rattle.c_front.specs.Accepted.{IsProgram}
 use Rattle.c_front.specs.Refusals.{HasManyTokens}
 use Rattle.pcc_driver.specs.Answers.{Holds, run_steps, IsNoImage}
-use Rattle.pcc_driver.specs.Commands.{Command, Compile, Run, Usage}
+use Rattle.puzzle_texts.specs.Reading.{IsNoBoard}
+use Rattle.pcc_driver.specs.Commands.{Command, Compile, Run, Solve, Usage}
 use Rattle.pcc_driver.specs.Headline.{file_limit}
 use Rattle.pcc_driver.specs.Outside.{Outside, Store, Work}
+use Rattle.pcc_driver.specs.Solutions.{IsSomeBoard}
 
 -- no count of faults rose
 pub record IsQuiet (old new : Outside) : Type 0 where
@@ -47,16 +49,26 @@ RunStatus input (Some image) status =
     × (length image ≤ file_limit → (s : State) (o : Outcome) → First image input s → Runs no_visits run_steps s o
     → status ≡ end_status o.end)
 
+-- the status of `solve` for what the board's file holds
+abbrev pub SolveStatus : Option (List ℕ) → ℕ → Type 0
+SolveStatus None status = status ≡ 6
+SolveStatus (Some text) status =
+    (file_limit < length text → status ≡ 3)
+    × (length text ≤ file_limit → IsSomeBoard text → status ≡ 0)
+    × (length text ≤ file_limit → IsNoBoard text → status ≡ 1)
+
 -- the one status of a command on this where nothing fails
 abbrev pub HasStatus : Command → Work → ℕ → Type 0
 HasStatus (Compile name source) old status = CompileStatus (old.files.content source) status
 HasStatus (Run image) old status = RunStatus old.input.left (old.files.content image) status
+HasStatus (Solve file) old status = SolveStatus (old.files.content file) status
 HasStatus Usage old status = status ≡ 2
 
 -- the command compiles a source, which has more than 65,536 tokens where the files tell
 abbrev pub TokensCause : Command → Store → Type 0
 TokensCause (Compile name source) files = files.tells → Holds (files.content source) HasManyTokens
 TokensCause (Run image) files = ⊥
+TokensCause (Solve file) files = ⊥
 TokensCause Usage files = ⊥
 
 -- Which count rose where a status comes that the outside causes. Status 3 comes besides where a source has too

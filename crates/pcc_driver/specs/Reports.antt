@@ -1,9 +1,10 @@
 -- The status of each report, and its line on standard error.
-use Rattle.std.specs.Prelude.{ℕ, List, [], ◌++◌, codes, decimal}
+use Rattle.std.specs.Prelude.{ℕ, Bool, true, false, List, [], ◌++◌, codes, decimal, if◌then◌else◌}
 use Rattle.pcc_base.specs.Faults.{number_of, name_of}
 use Rattle.pcc_base.specs.declared.fault.Fault.{Fault}
 use Rattle.pcc_base.specs.declared.fault.FaultKind.{FaultKind}
 use Rattle.pcc_base.specs.declared.fault.FaultKind.TheVariants.{Unsupported}
+use Rattle.pcc_base.specs.declared.fault.FaultKind.TheVariants as faults
 use Rattle.pcc_base.specs.declared.run.Trap.{Trap}
 use Rattle.pcc_base.specs.declared.run.Trap.TheVariants.{Divide, Check}
 use Rattle.pcc_base.specs.declared.run.Stop.{Stop}
@@ -13,17 +14,19 @@ use Rattle.pcc_listing.specs.Lines.{address_text}
 use Rattle.pcc_driver.specs.Commands as commands
 use Rattle.pcc_driver.specs.Commands.{map_name}
 use Rattle.pcc_driver.specs.declared.report.Named.{Named}
-use Rattle.pcc_driver.specs.declared.report.Named.TheVariants.{Source, Map, Image}
+use Rattle.pcc_driver.specs.declared.report.Named.TheVariants.{Source, Map, Image, Board}
 use Rattle.pcc_driver.specs.declared.report.Report.{Report}
 use Rattle.pcc_driver.specs.declared.report.Report.TheVariants.{Compiled, Exited, SourceFault, Usage, TooLong}
 use Rattle.pcc_driver.specs.declared.report.Report.TheVariants.{TooManyTokens, ReadFault, InputFault, WriteFault}
 use Rattle.pcc_driver.specs.declared.report.Report.TheVariants.{OutputFault, NoFile, NotImage, Trapped, Stopped}
-use Rattle.pcc_driver.specs.declared.report.Report.TheVariants.{BudgetSpent, NoMemory}
+use Rattle.pcc_driver.specs.declared.report.Report.TheVariants.{BudgetSpent, Solved, BadBoard, NoMemory}
 
 abbrev pub status_of : Report → ℕ
 status_of Compiled = 0
 status_of (Exited status) = 0
+status_of Solved = 0
 status_of (SourceFault fault) = 1
+status_of BadBoard = 1
 status_of Usage = 2
 status_of (TooLong file) = 3
 status_of (TooManyTokens tokens) = 3
@@ -43,8 +46,10 @@ abbrev pub name_in : commands.Command → Named → List ℕ
 name_in (commands.Compile name source) Source = source
 name_in (commands.Compile name source) Map = map_name name
 name_in (commands.Compile name source) Image = name
-name_in (commands.Run image) file = image
-name_in commands.Usage file = []
+name_in (commands.Compile name source) Board = []
+name_in (commands.Run image) named = image
+name_in (commands.Solve file) named = file
+name_in commands.Usage named = []
 
 abbrev pub trap_text : Trap → List ℕ
 trap_text Divide = codes "divide"
@@ -86,9 +91,16 @@ report_text command NotImage = codes "not an image"
 report_text command (Trapped trap) = codes "trap " ++ trap_text trap
 report_text command (Stopped cause address) = codes "stopped " ++ stop_text cause address
 report_text command (BudgetSpent steps) = codes "budget " ++ decimal steps
+report_text command Solved = []
+report_text command BadBoard = name_in command Board ++ (codes ": " ++ kind_text faults.BadBoard)
 report_text command NoMemory = codes "no memory"
 
--- the line that is put on standard error; a compilation that went well puts none
+-- a compilation that went well and an answer on a board put no line
+abbrev pub is_silent : Report → Bool
+is_silent Compiled = true
+is_silent Solved = true
+is_silent _ = false
+
+-- the line that is put on standard error
 abbrev pub report_line : commands.Command → Report → List ℕ
-report_line command Compiled = []
-report_line command report = report_text command report ++ codes "\n"
+report_line command report = if is_silent report then [] else report_text command report ++ codes "\n"

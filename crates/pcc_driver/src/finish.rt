@@ -34,8 +34,10 @@ fn push_name(out: &mut Vec<u8>, command: Command<'_>, file: Named) -> Result<(),
                 out.extend_from_slice(b".map")?;
             }
             Named::Image => out.extend_from_slice(name.as_bytes())?,
+            Named::Board => {}
         },
         Command::Run { image } => out.extend_from_slice(image.as_bytes())?,
+        Command::Solve { file } => out.extend_from_slice(file.as_bytes())?,
         Command::Usage => {}
     }
     Ok(())
@@ -146,7 +148,7 @@ fn push_report(
     ensures { OnOk result (out.new.items ≡ out.old.items ++ report_text (meaning command.entry) report) }
 {
     match report {
-        Report::Compiled => Ok(()),
+        Report::Compiled | Report::Solved => Ok(()),
         Report::Exited(status) => push_count(alloc, out, b"exit ", u64::from(status)),
         Report::SourceFault(fault) => {
             push_name(out, command, Named::Source)?;
@@ -170,6 +172,11 @@ fn push_report(
             push_stop(out, cause, address)
         }
         Report::BudgetSpent(steps) => push_count(alloc, out, b"budget ", steps),
+        Report::BadBoard => {
+            push_name(out, command, Named::Board)?;
+            push_words(out, b": ")?;
+            push_kind(alloc, out, FaultKind::BadBoard)
+        }
         Report::NoMemory => push_words(out, b"no memory"),
     }
 }
@@ -179,7 +186,7 @@ fn line_of(alloc: Global, command: Command<'_>, report: Report) -> Result<Vec<u8
     ensures { IfOk result (λ line. line.items ≡ report_line (meaning command.entry) report) }
 {
     let mut line = Vec::new(alloc);
-    if report != Report::Compiled {
+    if !report.is_silent() {
         push_report(alloc, &mut line, command, report)?;
         line.push(b'\n')?;
     }
@@ -200,12 +207,12 @@ fn put_line<E: Sink>(line: &[u8], status: u8, err: &mut E) -> u8
 }
 
 /// Puts the report's line on standard error, and answers its status: 5 where standard error fails, and
-/// 11 where there is no memory for the line or for putting it. A compilation that went well puts nothing.
+/// 11 where there is no memory for the line or for putting it. Nothing is put for a report without a line.
 pub fn finish<E: Sink>(alloc: Global, command: Command<'_>, report: Report, err: &mut E) -> u8
     ensures ends { Ends (meaning command.entry) report (output_of E.Sink err.old) (output_of E.Sink err.new) result }
     ensures telling { E.tells err.old → E.tells err.new }
 {
-    if let Report::Compiled = report {
+    if report.is_silent() {
         return report.status();
     }
     match line_of(alloc, command, report) {

@@ -11,6 +11,7 @@ mod finish;
 mod products;
 mod report;
 mod run;
+mod solve;
 mod top;
 mod words;
 

@@ -1,5 +1,5 @@
 ghost use Rattle.std.specs.Prelude.{◌≡◌};
-ghost use Rattle.pcc_driver.specs.Reports.{status_of};
+ghost use Rattle.pcc_driver.specs.Reports.{is_silent, status_of};
 
 use pcc_base::{Fault, Stop, Trap};
 
@@ -12,6 +12,8 @@ pub enum Named {
     Map,
     /// The image that `compile` writes or `run` reads.
     Image,
+    /// The board that `solve` reads.
+    Board,
 }
 
 /// How a command went. Each report has a status and a line for standard error.
@@ -47,6 +49,10 @@ pub enum Report {
     Stopped(Stop, u32),
     /// The program still runs after so many steps.
     BudgetSpent(u64),
+    /// The answer on the board is put.
+    Solved,
+    /// The file is the text of no board.
+    BadBoard,
     /// There was no memory.
     NoMemory,
 }
@@ -57,8 +63,8 @@ impl Report {
         ensures { result ≡ status_of self }
     {
         match self {
-            Report::Compiled | Report::Exited(_) => 0,
-            Report::SourceFault(_) => 1,
+            Report::Compiled | Report::Exited(_) | Report::Solved => 0,
+            Report::SourceFault(_) | Report::BadBoard => 1,
             Report::Usage => 2,
             Report::TooLong(_) | Report::TooManyTokens(_) => 3,
             Report::ReadFault(_) | Report::InputFault => 4,
@@ -70,5 +76,12 @@ impl Report {
             Report::BudgetSpent(_) => 10,
             Report::NoMemory => 11,
         }
+    }
+
+    /// Whether no line is put for the report.
+    pub fn is_silent(self) -> bool
+        ensures { result ≡ is_silent self }
+    {
+        matches!(self, Report::Compiled | Report::Solved)
     }
 }

@@ -7,7 +7,7 @@ ghost use Rattle.pcc_driver.specs.Answers.{
   StreamsCause,
   SameFiles,
   ImageTold,
-  IsOfRun,
+  HasNoTokens,
   RunTold,
   GivesNoMachine,
   report_of_end,
@@ -62,7 +62,7 @@ pub fn run<F: FileStore, I: Source, O: Sink>(
     input: &mut I,
     out: &mut O,
 ) -> Report
-    ensures own { IsOfRun result }
+    ensures own { HasNoTokens result }
     ensures files_cause { FilesCause result (F.counts files.old) (F.counts files.new) }
     ensures streams_cause { StreamsCause result (I.faults input.old) (I.faults input.new)
         (O.counts out.old) (O.counts out.new) }

@@ -11,6 +11,7 @@ use crate::compile::compile;
 use crate::finish::finish;
 use crate::report::Report;
 use crate::run::run;
+use crate::solve::solve;
 use crate::words::{Command, command_of};
 use pcc_outside::{FileStore, Sink, Source};
 use std::alloc::Global;
@@ -34,6 +35,7 @@ fn carry_out<F: FileStore, I: Source, O: Sink>(
     match command {
         Command::Compile { name, source } => compile(alloc, name, source, files),
         Command::Run { image } => run(alloc, image, files, input, out),
+        Command::Solve { file } => solve(alloc, file, files, out),
         Command::Usage => Report::Usage,
     }
 }
@@ -44,7 +46,7 @@ fn carry_out<F: FileStore, I: Source, O: Sink>(
 /// | status | only where |
 /// |---|---|
 /// | 0 | the command did its work |
-/// | 1 | the source isn't accepted |
+/// | 1 | the source isn't accepted, or the file is no board |
 /// | 2 | the words mean no command |
 /// | 3 | a file has too many bytes, or the source too many tokens |
 /// | 4 | reading a file or the input failed |

@@ -9,6 +9,8 @@ pub enum Command<'a> {
     Compile { name: &'a str, source: &'a str },
     /// `run IMAGE`: run the image in the machine.
     Run { image: &'a str },
+    /// `solve FILE`: solve the board of the file.
+    Solve { file: &'a str },
     /// No command.
     Usage,
 }
@@ -39,10 +41,14 @@ pub fn command_of(words: &[String]) -> Command<'_>
     ensures { meaning result ≡ command_of (map string_bytes words.now) }
 {
     match words {
-        [first, image] => {
+        [first, file] => {
             if first.as_str() == "run" {
                 Command::Run {
-                    image: image.as_str(),
+                    image: file.as_str(),
+                }
+            } else if first.as_str() == "solve" {
+                Command::Solve {
+                    file: file.as_str(),
                 }
             } else {
                 Command::Usage

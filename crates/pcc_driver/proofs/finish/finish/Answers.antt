@@ -1,19 +1,32 @@
-use Rattle.std.proofs.Common.{◌≡◌, ℕ, codes, List, Ok, inl, inr, refl, sym, ap, ◌∙◌, subst}
+use Rattle.std.proofs.Common.{◌≡◌, ℕ, Bool, true, codes, List, [], ◌++◌, Ok, inl, inr, refl, sym, ap, ◌∙◌, subst}
+use Rattle.std.specs.Prelude.{if◌then◌else◌}
 use Rattle.std.proofs.lemmas.List.{append-nil}
 use Rattle.pcc_driver.specs.Commands.{Command}
 use Rattle.pcc_driver.specs.Words.{meaning}
 use Rattle.pcc_driver.specs.Outside.{Output, output_of}
-use Rattle.pcc_driver.specs.Reports.{report_line, status_of}
+use Rattle.pcc_driver.specs.Reports.{is_silent, report_line, report_text, status_of}
 use Rattle.pcc_driver.specs.Answers.{Ends, IsPut}
 use Rattle.pcc_driver.specs.declared.report.Report.{Report}
 use Rattle.pcc_driver.specs.declared.report.Report.TheVariants as reports
 use Rattle.pcc_driver.proofs.finish.finish.Goals as goal
 
--- a compilation that went well ends with no line
+no_line : (command : Command) (report : Report) → is_silent report ≡ true → report_line command report ≡ []
+no_line command report e =
+    ap (λ (b : Bool). if b then [] else report_text command report ++ codes "\n") e
+
+-- a report without a line ends the command
 ends_silent : (command : Command) (report : Report) (err : Output) (result : ℕ)
-    → report ≡ reports.Compiled → result ≡ status_of report → Ends command report err err result
-ends_silent command report err result e status =
-    (reports.Compiled, inl (sym e), (Ok tt, refl, λ _. sym (append-nil err.taken), status ∙ ap status_of e))
+    → is_silent report ≡ true → result ≡ status_of report → Ends command report err err result
+ends_silent command report err result e status = (
+  report,
+  inl refl,
+  (
+    Ok tt,
+    refl,
+    λ _. sym (append-nil err.taken) ∙ ap (λ (line : List ℕ). err.taken ++ line) (sym (no_line command report e)),
+    status,
+  ),
+)
 
 -- a line of want of memory that was put ends the command
 ends_wanting : (command : Command) (report : Report) (line : List ℕ) (status : ℕ) (old new : Output) (result : ℕ)
@@ -26,9 +39,10 @@ ends_wanting command report line status old new result e s put = (
       (subst (λ (l : List ℕ). IsPut l status old new result) e put),
 )
 
-pub returns-in-Compiled-clause-ends : goal.returns-in-Compiled-clause-ends
-returns-in-Compiled-clause-ends g c = ends_silent (meaning c.args.command) c.args.report _ c.status.result
-    c.in-Compiled.is c.status.ensures
+pub returns-then-is_silent-clause-ends : goal.returns-then-is_silent-clause-ends
+returns-then-is_silent-clause-ends g c =
+    ends_silent (meaning c.args.command) c.args.report (output_of g.E.Sink c.args.err.now) c.status.result
+    (sym c.is_silent.ensures ∙ c.if-is_silent.true) c.status.ensures
 
 pub returns-in-Err-clause-ends : goal.returns-in-Err-clause-ends
 returns-in-Err-clause-ends g c =

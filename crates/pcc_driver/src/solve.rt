@@ -1,0 +1,98 @@
+ghost use Rattle.std.specs.Prelude.{◌≡◌, ◌≤◌, ℕ, length, IfOk, MatchResult};
+ghost use Rattle.pcc_outside.specs.Files.{StoreCounts};
+ghost use Rattle.puzzle_texts.specs.Reading.{fresh_board};
+ghost use Rattle.pcc_driver.specs.Answers.{
+  AnswerPut,
+  FilesCause,
+  GivesNoAnswer,
+  HasNoTokens,
+  SameFiles,
+  SolveTold,
+  StreamsCause,
+};
+ghost use Rattle.pcc_driver.specs.Outside.{output_of};
+ghost use Rattle.pcc_driver.specs.Solutions.{IsAnswer, IsSolution};
+
+use crate::compile::{FILE_LIMIT, read_report};
+use crate::report::{Named, Report};
+use pcc_base::{NoMemory, Steps};
+use pcc_outside::{FileStore, Sink, WriteRefusal};
+use puzzle_board::Board;
+use puzzle_texts::{BoardRefusal, print_placement, read_board};
+use std::alloc::Global;
+use std::marker::Brand;
+use std::sync::ledger::{Blank, Ledger};
+
+/// The answer on a board on which nothing stands: the text of a legal placement of its pieces, or `none`. The only
+/// refusal is want of memory.
+fn answer_counted<L: Ledger>(
+    alloc: Global,
+    board: &mut Board,
+    blank: Blank,
+) -> Result<Vec<u8>, NoMemory>
+    requires fresh { board.old ≡ fresh_board board.old.areas board.old.pieces }
+    requires name { blank.name ≡ L.name }
+    requires parts { blank.parts ≡ L.parts }
+    requires one { L.parts ≡ 1 }
+    ensures { IfOk result (λ answer. IsAnswer board.old.areas board.old.pieces answer.items) }
+{
+    let mut steps = Steps::<L>::new(blank);
+    if puzzle_solver::solve(board, &mut steps) {
+        return print_placement(alloc, board);
+    }
+    Ok(Vec::from_slice(alloc, b"none\n")?)
+}
+
+/// The answer on the board of a text, or why it has none.
+fn answer_of(alloc: Global, text: &[u8]) -> Result<Vec<u8>, Report>
+    requires { length text.now ≤ 4294967295 }
+    ensures { MatchResult result (λ answer. IsSolution text.now answer.items) (GivesNoAnswer text.now) }
+{
+    let mut board = match read_board(alloc, text) {
+        Ok(board) => board,
+        Err(BoardRefusal::BadBoard) => return Err(Report::BadBoard),
+        Err(BoardRefusal::NoMemory) => return Err(Report::NoMemory),
+    };
+    match answer_counted::<Brand>(alloc, &mut board, Blank::new(1)) {
+        Ok(answer) => Ok(answer),
+        Err(NoMemory) => Err(Report::NoMemory),
+    }
+}
+
+/// Puts an answer on the output.
+fn put_answer<O: Sink>(answer: &[u8], out: &mut O) -> Report
+    ensures own { HasNoTokens result }
+    ensures files { (counts : StoreCounts) → FilesCause result counts counts }
+    ensures streams { (input : ℕ) → StreamsCause result input input (O.counts out.old) (O.counts out.new) }
+    ensures telling { O.tells out.old → O.tells out.new }
+    ensures put { AnswerPut answer.now (output_of O.Sink out.old) (output_of O.Sink out.new) result }
+{
+    match out.put_all(answer) {
+        Ok(()) => Report::Solved,
+        Err(WriteRefusal::Failed) => Report::OutputFault,
+        Err(WriteRefusal::NoMemory) => Report::NoMemory,
+    }
+}
+
+/// Reads the board of the file, and puts a legal placement of its pieces on the output, or `none` where there is none.
+/// No file is changed.
+pub fn solve<F: FileStore, O: Sink>(alloc: Global, file: &str, files: &mut F, out: &mut O) -> Report
+    ensures own { HasNoTokens result }
+    ensures files_cause { FilesCause result (F.counts files.old) (F.counts files.new) }
+    // It speaks of no input.
+    ensures streams_cause { (input : ℕ) → StreamsCause result input input (O.counts out.old) (O.counts out.new) }
+    ensures files_tell { F.tells files.old → F.tells files.new }
+    ensures out_tells { O.tells out.old → O.tells out.new }
+    ensures same { F.tells files.old → SameFiles (F.content files.old) (F.content files.new) }
+    ensures told { F.tells files.old →
+        SolveTold (F.content files.old file.now) (output_of O.Sink out.old) (output_of O.Sink out.new) result }
+{
+    let text = match files.read(alloc, file, FILE_LIMIT) {
+        Ok(text) => text,
+        Err(refusal) => return read_report(refusal, Named::Board),
+    };
+    match answer_of(alloc, text.as_slice()) {
+        Ok(answer) => put_answer(answer.as_slice(), out),
+        Err(report) => report,
+    }
+}
