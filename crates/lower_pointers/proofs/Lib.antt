@@ -3,3 +3,4 @@ pub mod Making
 pub mod Starting
 pub mod Moving
 pub mod Storing
+pub mod Summing

@@ -31,7 +31,7 @@ use Rattle.lower_pointers.proofs.Testing.{pointer-tested}
 use Rattle.lower_pointers.specs.Laws.{PointersAreRead}
 
 -- no pointer's variables begin within those of another
-starts-apart : (ls : List Local) (k j : ℕ) (l m : Local) → slice_get ls k ≡ Some l → slice_get ls j ≡ Some m
+pub starts-apart : (ls : List Local) (k j : ℕ) (l m : Local) → slice_get ls k ≡ Some l → slice_get ls j ≡ Some m
     → length (type_widths l.of) ≡ 2 → length (type_widths m.of) ≡ 2 → first_variable ls k ≢ suc (first_variable ls j)
 starts-apart [] k j l m e f two two' same = absurd (cc)
 starts-apart (x ∷ ls) zero zero l m e f two two' same = absurd (omega (arith, same))

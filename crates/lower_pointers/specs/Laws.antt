@@ -1,11 +1,12 @@
 -- The laws of the lines of pointers, by their kinds; each is a part of `ExpressionsLower` of `lower_lines`.
 use Rattle.std.specs.Prelude.{◌≡◌, ◌⊎◌, ℕ, Some, slice_get}
 use Rattle.c_tree.specs.declared.expression.ArrayRef.{ArrayRef}
+use Rattle.c_tree.specs.declared.expression.BinaryOp.TheVariants.{Add}
 use Rattle.c_tree.specs.declared.types.IntegerType.{IntegerType}
 use Rattle.c_tree.specs.declared.types.ValueType.{ValueType}
 use Rattle.c_tree.specs.declared.types.ValueType.TheVariants.{Integer, Pointer}
 use Rattle.c_tree.specs.Evaluation.{evaluate}
-use Rattle.c_tree.specs.Program.{Assign, Cast, Expression, Local, LocalPlace, Read, Start}
+use Rattle.c_tree.specs.Program.{Assign, Binary, Cast, Expression, Local, LocalPlace, Read, Start}
 use Rattle.c_tree.specs.WellTyped.{IsArray}
 use Rattle.lower_lines.specs.Expressions.{part_of}
 use Rattle.lower_lines.specs.Following.{IsSite, Lowers, Site, context_of}
@@ -39,3 +40,11 @@ PointersAreAssigned = (S : Site) → IsSite S → (k : ℕ) (l : Local) (t : Int
     → Lowers S (part_of (context_of S) e) (evaluate S.calls e) → GoesToPointer t (part_of (context_of S) e).of
     → Lowers S (part_of (context_of S) (Assign (Pointer t) (LocalPlace k) e))
     (evaluate S.calls (Assign (Pointer t) (LocalPlace k) e))
+
+-- a pointer plus a number, in this order (C99 6.5.6p8)
+abbrev pub SumsLower : Type 0
+SumsLower = (S : Site) → IsSite S → (a b : Expression) (t : IntegerType)
+    → Lowers S (part_of (context_of S) a) (evaluate S.calls a) → (part_of (context_of S) a).of ≡ Pointer t
+    → (u : IntegerType) → Lowers S (part_of (context_of S) b) (evaluate S.calls b)
+    → (part_of (context_of S) b).of ≡ Integer u
+    → Lowers S (part_of (context_of S) (Binary (Pointer t) Add a b)) (evaluate S.calls (Binary (Pointer t) Add a b))

@@ -1,6 +1,7 @@
 //! Laws of the lines of pointers: each function's contract is one, and the function does nothing.
 
-ghost use Rattle.lower_pointers.specs.Laws.{PointersAreAssigned, PointersAreRead, PointersConvert, StartsLower};
+ghost use Rattle.lower_pointers.specs.Laws.{PointersAreAssigned, PointersAreRead};
+ghost use Rattle.lower_pointers.specs.Laws.{PointersConvert, StartsLower, SumsLower};
 
 /// The lines of the name of an array do what the source does, whatever is wanted of them.
 pub fn starts_lower()
@@ -20,4 +21,9 @@ pub fn pointers_convert()
 /// The lines of an assignment to a local which is a pointer do what the source does.
 pub fn pointers_are_assigned()
     ensures { PointersAreAssigned }
+{}
+
+/// The lines of a pointer plus a number do what the source does, where those of both do.
+pub fn sums_lower()
+    ensures { SumsLower }
 {}

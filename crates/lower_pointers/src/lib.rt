@@ -3,4 +3,6 @@
 
 mod laws;
 
-pub use laws::{pointers_are_assigned, pointers_are_read, pointers_convert, starts_lower};
+pub use laws::{
+    pointers_are_assigned, pointers_are_read, pointers_convert, starts_lower, sums_lower,
+};
