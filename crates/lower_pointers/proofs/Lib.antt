@@ -4,3 +4,4 @@ pub mod Starting
 pub mod Moving
 pub mod Storing
 pub mod Summing
+pub mod Addressing

@@ -6,7 +6,7 @@ use Rattle.c_tree.specs.declared.types.IntegerType.{IntegerType}
 use Rattle.c_tree.specs.declared.types.ValueType.{ValueType}
 use Rattle.c_tree.specs.declared.types.ValueType.TheVariants.{Integer, Pointer}
 use Rattle.c_tree.specs.Evaluation.{evaluate}
-use Rattle.c_tree.specs.Program.{Assign, Binary, Cast, Expression, Local, LocalPlace, Read, Start}
+use Rattle.c_tree.specs.Program.{Address, Assign, Binary, Cast, Element, Expression, Local, LocalPlace, Read, Start}
 use Rattle.c_tree.specs.WellTyped.{IsArray}
 use Rattle.lower_lines.specs.Expressions.{part_of}
 use Rattle.lower_lines.specs.Following.{IsSite, Lowers, Site, context_of}
@@ -48,3 +48,11 @@ SumsLower = (S : Site) → IsSite S → (a b : Expression) (t : IntegerType)
     → (u : IntegerType) → Lowers S (part_of (context_of S) b) (evaluate S.calls b)
     → (part_of (context_of S) b).of ≡ Integer u
     → Lowers S (part_of (context_of S) (Binary (Pointer t) Add a b)) (evaluate S.calls (Binary (Pointer t) Add a b))
+
+-- `&a[i]`, where `a` is a pointer and `i` a number (C99 6.5.3.2p3)
+abbrev pub IndexesAreAddressed : Type 0
+IndexesAreAddressed = (S : Site) → IsSite S → (a b : Expression) (t : IntegerType)
+    → Lowers S (part_of (context_of S) a) (evaluate S.calls a) → (part_of (context_of S) a).of ≡ Pointer t
+    → (u : IntegerType) → Lowers S (part_of (context_of S) b) (evaluate S.calls b)
+    → (part_of (context_of S) b).of ≡ Integer u
+    → Lowers S (part_of (context_of S) (Address t (Element t a b))) (evaluate S.calls (Address t (Element t a b)))

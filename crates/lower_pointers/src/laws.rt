@@ -1,6 +1,6 @@
 //! Laws of the lines of pointers: each function's contract is one, and the function does nothing.
 
-ghost use Rattle.lower_pointers.specs.Laws.{PointersAreAssigned, PointersAreRead};
+ghost use Rattle.lower_pointers.specs.Laws.{IndexesAreAddressed, PointersAreAssigned, PointersAreRead};
 ghost use Rattle.lower_pointers.specs.Laws.{PointersConvert, StartsLower, SumsLower};
 
 /// The lines of the name of an array do what the source does, whatever is wanted of them.
@@ -26,4 +26,9 @@ pub fn pointers_are_assigned()
 /// The lines of a pointer plus a number do what the source does, where those of both do.
 pub fn sums_lower()
     ensures { SumsLower }
+{}
+
+/// The lines of `&a[i]` do what the source does, where those of both do.
+pub fn indexes_are_addressed()
+    ensures { IndexesAreAddressed }
 {}
