@@ -5,3 +5,4 @@ pub mod Moving
 pub mod Storing
 pub mod Summing
 pub mod Addressing
+pub mod Updating

@@ -6,7 +6,7 @@ use Rattle.c_tree.specs.declared.types.IntegerType.{IntegerType}
 use Rattle.c_tree.specs.declared.types.ValueType.{ValueType}
 use Rattle.c_tree.specs.declared.types.ValueType.TheVariants.{Integer, Pointer}
 use Rattle.c_tree.specs.Evaluation.{evaluate}
-use Rattle.c_tree.specs.Program.{Address, Assign, Binary, Cast, Element, Expression, Local, LocalPlace, Read, Start}
+use Rattle.c_tree.specs.Program.{Address, Assign, Binary, Cast, Element, Expression, Local, LocalPlace, Read, Start, Update}
 use Rattle.c_tree.specs.WellTyped.{IsArray}
 use Rattle.lower_lines.specs.Expressions.{part_of}
 use Rattle.lower_lines.specs.Following.{IsSite, Lowers, Site, context_of}
@@ -56,3 +56,11 @@ IndexesAreAddressed = (S : Site) → IsSite S → (a b : Expression) (t : Intege
     → (u : IntegerType) → Lowers S (part_of (context_of S) b) (evaluate S.calls b)
     → (part_of (context_of S) b).of ≡ Integer u
     → Lowers S (part_of (context_of S) (Address t (Element t a b))) (evaluate S.calls (Address t (Element t a b)))
+
+-- `p += n`, where p is a local (C99 6.5.16.2)
+abbrev pub PointersAreMoved : Type 0
+PointersAreMoved = (S : Site) → IsSite S → (k : ℕ) (l : Local) (t : IntegerType)
+    → slice_get S.function.locals k ≡ Some l → l.of ≡ Pointer t → (e : Expression) (u : IntegerType)
+    → Lowers S (part_of (context_of S) e) (evaluate S.calls e) → (part_of (context_of S) e).of ≡ Integer u
+    → Lowers S (part_of (context_of S) (Update (Pointer t) Add (LocalPlace k) e))
+    (evaluate S.calls (Update (Pointer t) Add (LocalPlace k) e))

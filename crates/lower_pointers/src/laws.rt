@@ -1,7 +1,7 @@
 //! Laws of the lines of pointers: each function's contract is one, and the function does nothing.
 
 ghost use Rattle.lower_pointers.specs.Laws.{IndexesAreAddressed, PointersAreAssigned, PointersAreRead};
-ghost use Rattle.lower_pointers.specs.Laws.{PointersConvert, StartsLower, SumsLower};
+ghost use Rattle.lower_pointers.specs.Laws.{PointersAreMoved, PointersConvert, StartsLower, SumsLower};
 
 /// The lines of the name of an array do what the source does, whatever is wanted of them.
 pub fn starts_lower()
@@ -31,4 +31,9 @@ pub fn sums_lower()
 /// The lines of `&a[i]` do what the source does, where those of both do.
 pub fn indexes_are_addressed()
     ensures { IndexesAreAddressed }
+{}
+
+/// The lines of `p += n`, where p is a local, do what the source does.
+pub fn pointers_are_moved()
+    ensures { PointersAreMoved }
 {}

@@ -4,6 +4,6 @@
 mod laws;
 
 pub use laws::{
-    indexes_are_addressed, pointers_are_assigned, pointers_are_read, pointers_convert,
-    starts_lower, sums_lower,
+    indexes_are_addressed, pointers_are_assigned, pointers_are_moved, pointers_are_read,
+    pointers_convert, starts_lower, sums_lower,
 };
