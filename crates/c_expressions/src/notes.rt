@@ -84,6 +84,14 @@ impl Notes {
         Ok(())
     }
 
+    /// What was said in another list, behind.
+    pub fn append(&mut self, mut others: Notes) -> Result<(), NoMemory>
+        ensures { OnOk result (self.new ≡ self.old ++ others) }
+    {
+        self.notes.append(&mut others.notes)?;
+        Ok(())
+    }
+
     /// A function is called, or an object is used, at its name.
     pub(crate) fn uses(&mut self, alloc: Global, entity: &Entity, at: Span) -> Result<(), NoMemory>
         ensures { OnOk result (self.new ≡ self.old ++ checked.Uses (entity_of entity.now) at ∷ []) }

@@ -1,0 +1,4 @@
+pub mod GivenValues
+pub mod Initialised
+pub mod Itemised
+pub mod Pushes
