@@ -1,0 +1,4 @@
+pub mod Computing
+pub mod Storing
+pub mod Updating
+pub mod Naming
