@@ -61,7 +61,7 @@ targets-stepped S site operator e t lowers of =
 
 -- ---- `a[i]`
 
-index-clear : (S : Site) (a b : Part) (run : source.State → Evaluated Held) (t : IntegerType) → Lowers S a run
+pub index-clear : (S : Site) (a b : Part) (run : source.State → Evaluated Held) (t : IntegerType) → Lowers S a run
     → a.of ≡ Pointer t → IsClear S (element_of (context_of S) t (Pointer t) a b)
 index-clear S a b run t lowers of = record {
   kept = λ level. refl;
@@ -101,7 +101,7 @@ indexes-stepped S site operator a b t la of u lb of' =
 
 -- ---- `i[a]`
 
-turned-clear : (S : Site) (a b : Part) (t u : IntegerType) → IsClear S (element_of (context_of S) t (Integer u) a b)
+pub turned-clear : (S : Site) (a b : Part) (t u : IntegerType) → IsClear S (element_of (context_of S) t (Integer u) a b)
 turned-clear S a b t u = record { kept = λ level. refl; plain = λ level. (inr (inl refl), inr (inr refl)) }
 
 pub turned-updated : TurnedAreUpdated

@@ -5,13 +5,13 @@ use Rattle.c_tree.specs.declared.expression.BinaryOp.{BinaryOp}
 use Rattle.c_tree.specs.declared.expression.StepOp.{StepOp}
 use Rattle.c_tree.specs.declared.types.IntegerType.{IntegerType}
 use Rattle.c_tree.specs.declared.types.ValueType.TheVariants.{Integer, Pointer}
-use Rattle.c_tree.specs.Evaluation.{Found, evaluate, load, updated}
+use Rattle.c_tree.specs.Evaluation.{Found, evaluate, load, locate, updated}
 use Rattle.c_tree.specs.Operators.{step_op, step_result}
 use Rattle.c_tree.specs.Program.{Element, Expression, Step, Target, Update}
 use Rattle.c_tree.specs.Store as source
 use Rattle.c_tree.specs.Store.{Evaluated, Gives, Held, HoldsNumber, and_then}
-use Rattle.lower_lines.specs.Expressions.{Addressed, part_of, stepped_element, updated_element}
-use Rattle.lower_lines.specs.Following.{IsSite, Lowers, Site, context_of}
+use Rattle.lower_lines.specs.Expressions.{Addressed, part_of, place_of, stepped_element, updated_element}
+use Rattle.lower_lines.specs.Following.{IsSite, Lowers, LowersPlace, Site, context_of}
 use Rattle.lower_lines.specs.Parts.{Part}
 use Rattle.lower_lines.specs.Variables.{local_variables, own}
 use Rattle.lower_places.specs.Laws.{AddressFollows, KeepsTurns}
@@ -109,3 +109,13 @@ TurnedAreStepped = (S : Site) → IsSite S → (operator : StepOp) (a b : Expres
     → Lowers S (part_of (context_of S) b) (evaluate S.calls b) → (part_of (context_of S) b).of ≡ Pointer t
     → Lowers S (part_of (context_of S) (Step (Integer t) operator (Element t a b)))
     (evaluate S.calls (Step (Integer t) operator (Element t a b)))
+
+-- ---- places: each is a part of `PlacesLower` of `lower_lines`
+
+-- `a[i]`, where `a` is a pointer and `i` a number
+abbrev pub IndexesLower : Type 0
+IndexesLower = (S : Site) → IsSite S → (a b : Expression) (t : IntegerType)
+    → Lowers S (part_of (context_of S) a) (evaluate S.calls a) → (part_of (context_of S) a).of ≡ Pointer t
+    → (u : IntegerType) → Lowers S (part_of (context_of S) b) (evaluate S.calls b)
+    → (part_of (context_of S) b).of ≡ Integer u
+    → LowersPlace S (Integer t) (place_of (context_of S) (Element t a b)) (locate S.calls (Element t a b))

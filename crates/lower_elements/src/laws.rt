@@ -1,7 +1,7 @@
 //! Laws of the lines of elements that are changed: each function's contract is one, and the function does nothing.
 
 ghost use Rattle.lower_elements.specs.Laws.{ElementsAreStepped, ElementsAreUpdated};
-ghost use Rattle.lower_elements.specs.Laws.{IndexesAreStepped, IndexesAreUpdated};
+ghost use Rattle.lower_elements.specs.Laws.{IndexesAreStepped, IndexesAreUpdated, IndexesLower};
 ghost use Rattle.lower_elements.specs.Laws.{TargetsAreStepped, TargetsAreUpdated};
 ghost use Rattle.lower_elements.specs.Laws.{TurnedAreStepped, TurnedAreUpdated};
 
@@ -44,4 +44,9 @@ pub fn turned_are_updated()
 /// The lines of `++` and `--` of `i[a]`, where the number comes first, do what the source does.
 pub fn turned_are_stepped()
     ensures { TurnedAreStepped }
+{}
+
+/// `a[i]` is a place whose lines do what the source does, where those of both do.
+pub fn indexes_lower()
+    ensures { IndexesLower }
 {}
