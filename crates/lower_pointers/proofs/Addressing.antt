@@ -3,19 +3,19 @@ use Rattle.std.proofs.Common.{◌≡◌, ◌∙◌, Bool, true, false, List, Opt
 use Rattle.c_tree.specs.declared.expression.BinaryOp.TheVariants.{Add}
 use Rattle.c_tree.specs.declared.types.IntegerType.{IntegerType}
 use Rattle.c_tree.specs.declared.types.ValueType.{ValueType}
-use Rattle.c_tree.specs.declared.types.ValueType.TheVariants.{Pointer}
+use Rattle.c_tree.specs.declared.types.ValueType.TheVariants.{Integer, Pointer}
 use Rattle.c_tree.specs.Evaluation as evaluation
 use Rattle.c_tree.specs.Evaluation.{address_of, computed, evaluate}
 use Rattle.c_tree.specs.Operators.{binary_value}
-use Rattle.c_tree.specs.Program.{Address, Binary, Element, Function}
+use Rattle.c_tree.specs.Program.{Address, Binary, Element, Expression, Function}
 use Rattle.c_tree.specs.Store as source
 use Rattle.c_tree.specs.Store.{Evaluated, Gives, Ends, Held, HoldsNumber, HoldsPointer, and_then}
 use Rattle.lower_lines.specs.Expressions.{AtAddress, address_part, element_of, part_of}
 use Rattle.lower_lines.specs.Following.{Follows, GivesOf, Lowers, Site, context_of}
 use Rattle.lower_lines.specs.Parts.{Part}
 use Rattle.lower_lines.specs.Variables.{Spot}
-use Rattle.lower_pointers.proofs.Summing.{sums-lower}
-use Rattle.lower_pointers.specs.Laws.{IndexesAreAddressed}
+use Rattle.lower_pointers.proofs.Summing.{sums-lower, turned-sums}
+use Rattle.lower_pointers.specs.Laws.{IndexesAreAddressed, TurnedAreAddressed}
 
 -- a pointer is the address of what it goes to
 abbrev again : Evaluated Held → Evaluated Held
@@ -73,12 +73,26 @@ lowers-again S part t run run' of same no_name nowhere lowers = record {
     both-spots : (o : Option Spot) (spot : Spot) → o ≡ None → o ≡ Some spot → ⊥
     both-spots o spot e f = cc
 
+-- the address of a sum whose first operand is of this type
+of-sum : (S : Site) (a b : Expression) (t : IntegerType) (p : ValueType)
+    → (address_part (context_of S) t (AtAddress t
+    (element_of (context_of S) t p (part_of (context_of S) a) (part_of (context_of S) b))))
+    ≡ part_of (context_of S) (Binary (Pointer t) Add a b) → (part_of (context_of S) a).of ≡ p
+    → Lowers S (part_of (context_of S) (Binary (Pointer t) Add a b)) (evaluate S.calls (Binary (Pointer t) Add a b))
+    → Lowers S (part_of (context_of S) (Address t (Element t a b))) (evaluate S.calls (Address t (Element t a b)))
+of-sum S a b t p same of lowers =
+    subst (λ (m : ValueType). Lowers S (address_part (context_of S) t (AtAddress t
+    (element_of (context_of S) t m (part_of (context_of S) a) (part_of (context_of S) b))))
+    (evaluate S.calls (Address t (Element t a b)))) (sym of)
+    (subst (λ (part : Part). Lowers S part (evaluate S.calls (Address t (Element t a b)))) (sym same)
+    (lowers-again S (part_of (context_of S) (Binary (Pointer t) Add a b)) t
+    (evaluate S.calls (Binary (Pointer t) Add a b)) (evaluate S.calls (Address t (Element t a b))) refl
+    (λ s. first-same (evaluate S.calls a s) (evaluate S.calls b)) refl refl lowers))
+
 pub indexes-addressed : IndexesAreAddressed
 indexes-addressed S site a b t la of u lb of' =
-    subst (λ (p : ValueType). Lowers S (address_part (context_of S) t (AtAddress t
-    (element_of (context_of S) t p (part_of (context_of S) a) (part_of (context_of S) b))))
-    (evaluate S.calls (Address t (Element t a b)))) (sym of)
-    (lowers-again S (address_part (context_of S) t (AtAddress t
-    (element_of (context_of S) t (Pointer t) (part_of (context_of S) a) (part_of (context_of S) b)))) t
-    (evaluate S.calls (Binary (Pointer t) Add a b)) (evaluate S.calls (Address t (Element t a b))) refl
-    (λ s. first-same (evaluate S.calls a s) (evaluate S.calls b)) refl refl (sums-lower S site a b t la of u lb of'))
+    of-sum S a b t (Pointer t) refl of (sums-lower S site Add tt a b t la of u lb of')
+
+pub turned-addressed : TurnedAreAddressed
+turned-addressed S site a b t u la of lb of' =
+    of-sum S a b t (Integer u) refl of (turned-sums S site a b t u la of lb of')

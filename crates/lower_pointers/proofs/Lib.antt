@@ -2,7 +2,9 @@ pub mod Testing
 pub mod Making
 pub mod Starting
 pub mod Moving
+pub mod Both
 pub mod Storing
 pub mod Summing
 pub mod Addressing
 pub mod Updating
+pub mod Stepping

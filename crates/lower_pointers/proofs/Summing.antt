@@ -1,65 +1,51 @@
 -- A pointer and a number: the index moves.
-use Rattle.std.proofs.Common.{◌≡◌, ◌≢◌, ◌⊎◌, ℕ, zero, suc, ◌+◌, ◌*◌, ◌<◌, ◌≤◌, true, ℤ, ◌+ℤ◌, List, [], ◌∷◌}
-use Rattle.std.proofs.Common.{◌++◌, length, max, Option, Some, None, inl, inr, refl, sym, ap, ◌∙◌, subst, arith}
+use Rattle.std.proofs.Common.{◌≡◌, ◌≢◌, ◌⊎◌, ℕ, zero, suc, ◌+◌, ◌*◌, ◌<◌, false, ℤ, ◌+ℤ◌, List, [], ◌∷◌}
+use Rattle.std.proofs.Common.{◌++◌, length, Some, None, inl, inr, refl, sym, ap, ◌∙◌, subst, arith}
 use Rattle.std.proofs.Common.{append-nil}
-use Rattle.std.proofs.Math.Nat.{le-max_left, le-max_right}
 use Rattle.std.specs.Int.{w32, int_wrap}
-use Rattle.std.specs.Prelude.{slice_get}
+use Rattle.std.specs.Prelude.{◌-ℤ◌, slice_get}
 use Rattle.pcc_base.specs.Outcome.{ArrayName}
-use Rattle.c_bounds.specs.Bounds.{state_of}
-use Rattle.c_tree.specs.declared.expression.BinaryOp.TheVariants.{Add}
+use Rattle.c_tree.specs.declared.expression.BinaryOp.{BinaryOp}
+use Rattle.c_tree.specs.declared.expression.BinaryOp.TheVariants.{Add, Subtract}
 use Rattle.c_tree.specs.declared.types.IntegerType.{IntegerType}
 use Rattle.c_tree.specs.declared.types.IntegerType.TheVariants.{Char, Short, Int}
 use Rattle.c_tree.specs.declared.types.ValueType.{ValueType}
 use Rattle.c_tree.specs.declared.types.ValueType.TheVariants.{Integer, Pointer}
-use Rattle.c_tree.specs.Evaluation as evaluation
-use Rattle.c_tree.specs.Evaluation.{computed, evaluate, type_of}
-use Rattle.c_tree.specs.Operators.{binary_value}
+use Rattle.c_tree.specs.Evaluation.{evaluate}
 use Rattle.c_tree.specs.Program.{Local, Function}
 use Rattle.c_tree.specs.Store as source
-use Rattle.c_tree.specs.Store.{Evaluated, Gives, Ends, Held, HoldsNumber, HoldsPointer, and_then}
+use Rattle.c_tree.specs.Store.{Gives, Held, HoldsNumber, HoldsPointer}
+use Rattle.c_tree.specs.WellTyped.{MovesPointer}
+use Rattle.flow_graph.specs.declared.op.Op.{Op}
 use Rattle.flow_graph.specs.declared.op.Op.TheVariants as op
+use Rattle.flow_graph.specs.Graphs.{is_end}
+use Rattle.flow_graph.specs.Kinds.{is_turn, marked}
+use Rattle.flow_graph.specs.Meaning.{act, two_numbers}
 use Rattle.flow_graph.specs.States as graph
-use Rattle.flow_graph.specs.States.{number_at, number_of, with_value}
-use Rattle.lower_lines.specs.Expressions.{binary_part, part_of, target_of}
-use Rattle.lower_lines.specs.Following.{Begins, FollowsPlace, GoesInto, IsSite, Lowers, MayWant, Site, Stand, behind}
-use Rattle.lower_lines.specs.Following.{context_of}
+use Rattle.flow_graph.specs.States.{GraphProgram, number_of, with_value}
+use Rattle.lower_lines.specs.Expressions.{part_of}
+use Rattle.lower_lines.specs.Following.{IsSite, MayWant, Site, Stand, behind, context_of, graphs_of}
 use Rattle.lower_lines.specs.Lines.{Line, Emit}
-use Rattle.lower_lines.specs.Operators.{applied, moving}
-use Rattle.lower_lines.specs.Parts.{Wanted, Dropped, Own, ToLocal, Tests, Part, if_stays, made, operand, standing}
-use Rattle.lower_lines.specs.Parts.{target, tested}
+use Rattle.lower_lines.specs.Parts.{Wanted, Dropped, Own, ToLocal, Tests, made, target, tested}
 use Rattle.lower_lines.specs.Relation.{HoldsAt, IsArrayOf, Shows, array_value}
 use Rattle.lower_lines.specs.Shown.{first_variable, type_widths}
-use Rattle.lower_lines.specs.Variables.{Spot, copied, levels_of, local_variables, own, typed_spot}
-use Rattle.lower_relation.proofs.Changes.{kept-below, kept-none}
+use Rattle.lower_lines.specs.Variables.{ForScratch, Spot, copied, levels_of, local_variables, own, temporary}
+use Rattle.lower_relation.proofs.Changes.{kept-none}
 use Rattle.lower_relation.proofs.Locals.{get-set_other, local-within, same-some}
 use Rattle.lower_steps.proofs.Steps.{two-step}
-use Rattle.lower_expressions.proofs.Binary.{Fits, compound-lowers, turns-fall}
-use Rattle.lower_expressions.proofs.Converting.{begins-again}
+use Rattle.lower_expressions.proofs.Binary.{Fits, turns-fall}
 use Rattle.lower_expressions.proofs.Going.{Goes, stand-back, stand-front}
-use Rattle.lower_expressions.proofs.Made.{some-and}
-use Rattle.lower_expressions.proofs.Operands.{NumberStands, number-operand}
-use Rattle.lower_expressions.proofs.Pairs.{Falls, goes-both}
-use Rattle.lower_expressions.proofs.Unary.{follows-behind}
-use Rattle.lower_places.proofs.Assigning.{address-stays, settled-standing}
+use Rattle.lower_expressions.proofs.Pairs.{goes-both}
 use Rattle.lower_places.proofs.Indexing.{copy-goes}
-use Rattle.lower_places.proofs.Reading.{some-if, standing-pointer}
-use Rattle.lower_places.specs.Laws.{IsSettled}
+use Rattle.lower_pointers.proofs.Both.{Applies, Placed, integer-not-void, operator-lowers, pointer-not-void}
 use Rattle.lower_pointers.proofs.Making.{IsPointerLocal, MayHold, pointer-made, put}
 use Rattle.lower_pointers.proofs.Moving.{starts-apart}
-use Rattle.lower_pointers.specs.Laws.{SumsLower}
+use Rattle.lower_pointers.specs.Laws.{SumsLower, TurnedSumsLower}
 
 -- ---- where both stand
 
-abbrev IsNumberLocal : Site → ℕ → Type 0
-IsNumberLocal S y = (k : ℕ) × (l : Local) × (u : IntegerType) × (slice_get S.function.locals k ≡ Some l)
-    × (l.of ≡ Integer u) × (y ≡ first_variable S.function.locals k)
-
-abbrev PointerPlaced : Site → ℕ → Spot → Type 0
-PointerPlaced S level x = (x ≡ own (context_of S) level) ⊎ IsPointerLocal S x
-
-abbrev NumberPlaced : Site → ℕ → ℕ → Type 0
-NumberPlaced S level y = (y ≡ (own (context_of S) (suc level)).number) ⊎ IsNumberLocal S y
+abbrev PutAt : Site → ℕ → Spot → Type 0
+PutAt S level to = (to ≡ own (context_of S) level) ⊎ IsPointerLocal S to
 
 one-wide : (u : IntegerType) → length (type_widths (Integer u)) ≡ 1
 one-wide Char = refl
@@ -83,14 +69,14 @@ kinds-apart (x ∷ ls) (suc k) zero l m e f two single same =
 kinds-apart (x ∷ ls) (suc k) (suc j) l m e f two single same =
     kinds-apart ls k j l m e f two single (omega (arith, same))
 
-pointer-below : (S : Site) (k : ℕ) (l : Local) (u : IntegerType) → slice_get S.function.locals k ≡ Some l
+pub pointer-below : (S : Site) (k : ℕ) (l : Local) (u : IntegerType) → slice_get S.function.locals k ≡ Some l
     → l.of ≡ Pointer u → suc (first_variable S.function.locals k) < local_variables S.function
 pointer-below S k l u e of =
     let within = local-within S.function.locals k l e in
     let two : length (type_widths l.of) ≡ 2 = ap (λ (m : ValueType). length (type_widths m)) of in
     omega (arith, within, two)
 
-number-below : (S : Site) (k : ℕ) (l : Local) (u : IntegerType) → slice_get S.function.locals k ≡ Some l
+pub number-below : (S : Site) (k : ℕ) (l : Local) (u : IntegerType) → slice_get S.function.locals k ≡ Some l
     → l.of ≡ Integer u → first_variable S.function.locals k < local_variables S.function
 number-below S k l u e of =
     let within = local-within S.function.locals k l e in
@@ -99,253 +85,191 @@ number-below S k l u e of =
     let single = one-wide u in
     omega (arith, within, wide, single)
 
+-- variables of these places are apart, whatever their levels
+own-apart : (a b c : ℕ) → a + b * 5 + 0 ≢ a + c * 5 + 1
+own-apart a b c e = omega (arith, e)
+
+low-apart : (a b v : ℕ) → v < a → a + b + 0 ≢ v
+low-apart a b v low e = omega (arith, low, e)
+
+high-apart : (a b v : ℕ) → v < a → v ≢ a + b + 1
+high-apart a b v low e = omega (arith, low, e)
+
+below-next : (a v : ℕ) → suc v < a → v < a
+below-next a v low = omega (arith, low)
+
 -- what is written first isn't read later
-index-apart : (S : Site) (level : ℕ) (to x : Spot) → PointerPlaced S level to → PointerPlaced S level x
-    → to.array ≢ x.number
-index-apart S level to x (inl p) (inl q) same =
-    by (local_variables S.function) (level * 5)
+pub index-apart : (S : Site) (level other : ℕ) (t : IntegerType) (to x : Spot) → PutAt S level to
+    → Placed S other (Pointer t) x → to.array ≢ x.number
+index-apart S level other t to x (inl p) (inl q) same =
+    own-apart (local_variables S.function) level other
     (sym (ap (λ (r : Spot). r.array) p) ∙ same ∙ ap (λ (r : Spot). r.number) q)
-  where
-    by : (a b : ℕ) → a + b + 0 ≢ a + b + 1
-    by a b e = omega (arith, e)
-index-apart S level to x (inl p) (inr (k, l, u, e, of, q)) same =
-    by (local_variables S.function) (level * 5) (first_variable S.function.locals k) (pointer-below S k l u e of)
+index-apart S level other t to x (inl p) (inr (k, l, e, of, q)) same =
+    low-apart (local_variables S.function) (level * 5) (suc (first_variable S.function.locals k))
+    (pointer-below S k l t e of) (sym (ap (λ (r : Spot). r.array) p) ∙ same ∙ ap (λ (r : Spot). r.number) q)
+index-apart S level other t to x (inr (k, l, u, e, of, p)) (inl q) same =
+    high-apart (local_variables S.function) (other * 5) (first_variable S.function.locals k)
+    (below-next (local_variables S.function) (first_variable S.function.locals k) (pointer-below S k l u e of))
     (sym (ap (λ (r : Spot). r.array) p) ∙ same ∙ ap (λ (r : Spot). r.number) q)
-  where
-    by : (a b v : ℕ) → suc v < a → a + b + 0 ≢ suc v
-    by a b v low e = omega (arith, low, e)
-index-apart S level to x (inr (k, l, u, e, of, p)) (inl q) same =
-    by (local_variables S.function) (level * 5) (first_variable S.function.locals k) (pointer-below S k l u e of)
-    (sym (ap (λ (r : Spot). r.array) p) ∙ same ∙ ap (λ (r : Spot). r.number) q)
-  where
-    by : (a b v : ℕ) → suc v < a → v ≢ a + b + 1
-    by a b v low e = omega (arith, low, e)
-index-apart S level to x (inr (k, l, u, e, of, p)) (inr (j, m, w, f, of', q)) same =
+index-apart S level other t to x (inr (k, l, u, e, of, p)) (inr (j, m, f, of', q)) same =
     starts-apart S.function.locals k j l m e f (ap (λ (n : ValueType). length (type_widths n)) of)
     (ap (λ (n : ValueType). length (type_widths n)) of')
     (sym (ap (λ (r : Spot). r.array) p) ∙ same ∙ ap (λ (r : Spot). r.number) q)
 
-number-apart : (S : Site) (level : ℕ) (to : Spot) (y : ℕ) → PointerPlaced S level to → NumberPlaced S level y
-    → to.array ≢ y
-number-apart S level to y (inl p) (inl q) same =
-    by (local_variables S.function) level (sym (ap (λ (r : Spot). r.array) p) ∙ same ∙ q)
-  where
-    by : (a b : ℕ) → a + b * 5 + 0 ≢ a + suc b * 5 + 1
-    by a b e = omega (arith, e)
-number-apart S level to y (inl p) (inr (k, l, u, e, of, q)) same =
-    by (local_variables S.function) (level * 5) (first_variable S.function.locals k) (number-below S k l u e of)
-    (sym (ap (λ (r : Spot). r.array) p) ∙ same ∙ q)
-  where
-    by : (a b v : ℕ) → v < a → a + b + 0 ≢ v
-    by a b v low e = omega (arith, low, e)
-number-apart S level to y (inr (k, l, u, e, of, p)) (inl q) same =
-    by (local_variables S.function) level (first_variable S.function.locals k) (pointer-below S k l u e of)
-    (sym (ap (λ (r : Spot). r.array) p) ∙ same ∙ q)
-  where
-    by : (a b v : ℕ) → suc v < a → v ≢ a + suc b * 5 + 1
-    by a b v low e = omega (arith, low, e)
-number-apart S level to y (inr (k, l, u, e, of, p)) (inr (j, m, w, f, of', q)) same =
+pub number-apart : (S : Site) (level other : ℕ) (u : IntegerType) (to y : Spot) → PutAt S level to
+    → Placed S other (Integer u) y → to.array ≢ y.number
+number-apart S level other w to y (inl p) (inl q) same =
+    own-apart (local_variables S.function) level other
+    (sym (ap (λ (r : Spot). r.array) p) ∙ same ∙ ap (λ (r : Spot). r.number) q)
+number-apart S level other w to y (inl p) (inr (k, l, e, of, q)) same =
+    low-apart (local_variables S.function) (level * 5) (first_variable S.function.locals k)
+    (number-below S k l w e of) (sym (ap (λ (r : Spot). r.array) p) ∙ same ∙ ap (λ (r : Spot). r.number) q)
+number-apart S level other w to y (inr (k, l, u, e, of, p)) (inl q) same =
+    high-apart (local_variables S.function) (other * 5) (first_variable S.function.locals k)
+    (below-next (local_variables S.function) (first_variable S.function.locals k) (pointer-below S k l u e of))
+    (sym (ap (λ (r : Spot). r.array) p) ∙ same ∙ ap (λ (r : Spot). r.number) q)
+number-apart S level other w to y (inr (k, l, u, e, of, p)) (inr (j, m, f, of', q)) same =
     kinds-apart S.function.locals k j l m e f (ap (λ (n : ValueType). length (type_widths n)) of)
     (ap (λ (n : ValueType). length (type_widths n)) of' ∙ one-wide w)
-    (sym (ap (λ (r : Spot). r.array) p) ∙ same ∙ q)
+    (sym (ap (λ (r : Spot). r.array) p) ∙ same ∙ ap (λ (r : Spot). r.number) q)
 
-pointer-placed : (S : Site) (a : Part) (run : source.State → Evaluated Held) (t : IntegerType) (spot : Option Spot)
-    → ((p : Spot) → spot ≡ Some p → a.stands ≡ Some p) → Lowers S a run → a.of ≡ Pointer t → (level : ℕ)
-    → PointerPlaced S level ((standing (context_of S) a spot).spot level)
-pointer-placed S a run t None from lowers of level = inl refl
-pointer-placed S a run t (Some p) from lowers of level =
-    let (k, is, there, gives) = lowers.stands p (from p refl) in
-    let (l, e, same) = some-and (slice_get S.function.locals k) (λ m. (m.of ≡ a.of) × GoesInto a.of m.of) there in
-    inr (
-      k,
-      l,
-      t,
-      e,
-      same.0 ∙ of,
-      is ∙ ap (λ (o : Option Local). typed_spot (type_of o) (first_variable S.function.locals k)) e
-          ∙ ap (λ (m : ValueType). typed_spot m (first_variable S.function.locals k)) (same.0 ∙ of),
-    )
+-- no operand stands where a constant is put
+pub scratch-apart : (S : Site) (level other : ℕ) (t : IntegerType) (x : Spot) → Placed S other (Pointer t) x
+    → (x.array ≢ temporary (context_of S) level ForScratch) × (x.number ≢ temporary (context_of S) level ForScratch)
+scratch-apart S level other t x (inl p) = (
+  λ same. array-apart (local_variables S.function) other level (sym (ap (λ (r : Spot). r.array) p) ∙ same),
+  λ same. index-apart' (local_variables S.function) other level (sym (ap (λ (r : Spot). r.number) p) ∙ same),
+)
+  where
+    array-apart : (a b c : ℕ) → a + b * 5 + 0 ≢ a + c * 5 + 3
+    array-apart a b c e = omega (arith, e)
 
-number-placed : (S : Site) (a : Part) (run : source.State → Evaluated Held) (u : IntegerType) (spot : Option Spot)
-    → ((p : Spot) → spot ≡ Some p → a.stands ≡ Some p) → Lowers S a run → a.of ≡ Integer u → (level : ℕ)
-    → NumberPlaced S level ((standing (context_of S) a spot).spot (suc level)).number
-number-placed S a run u None from lowers of level = inl refl
-number-placed S a run u (Some p) from lowers of level =
-    let (k, is, there, gives) = lowers.stands p (from p refl) in
-    let (l, e, same) = some-and (slice_get S.function.locals k) (λ m. (m.of ≡ a.of) × GoesInto a.of m.of) there in
-    inr (
-      k,
-      l,
-      u,
-      e,
-      same.0 ∙ of,
-      ap (λ (q : Spot). q.number) is
-          ∙ ap (λ (o : Option Local). (typed_spot (type_of o) (first_variable S.function.locals k)).number) e
-          ∙ ap (λ (m : ValueType). (typed_spot m (first_variable S.function.locals k)).number) (same.0 ∙ of),
+    index-apart' : (a b c : ℕ) → a + b * 5 + 1 ≢ a + c * 5 + 3
+    index-apart' a b c e = omega (arith, e)
+scratch-apart S level other t x (inr (k, l, e, of, q)) =
+    let low = pointer-below S k l t e of in (
+      λ same. local-apart (local_variables S.function) level (first_variable S.function.locals k)
+          (below-next (local_variables S.function) (first_variable S.function.locals k) low)
+          (sym (ap (λ (r : Spot). r.array) q) ∙ same),
+      λ same. local-apart (local_variables S.function) level (suc (first_variable S.function.locals k)) low
+          (sym (ap (λ (r : Spot). r.number) q) ∙ same),
     )
+  where
+    local-apart : (a b v : ℕ) → v < a → v ≢ a + b * 5 + 3
+    local-apart a b v low e = omega (arith, low, e)
 
 -- a test of a pointer is one of any pointer
-tested-same : (S : Site) (t u : IntegerType) (block level : ℕ) (wanted : Wanted)
+pub tested-same : (S : Site) (t u : IntegerType) (block level : ℕ) (wanted : Wanted)
     → tested (context_of S) block level wanted (Pointer t) ≡ tested (context_of S) block level wanted (Pointer u)
 tested-same S t u block level Dropped = refl
 tested-same S t u block level Own = refl
 tested-same S t u block level (ToLocal k) = refl
 tested-same S t u block level (Tests yes' no') = refl
 
--- ---- the sum
+-- ---- an op on the index
 
-module _ (S : Site) (site : IsSite S) (older : List Function) (t : IntegerType) (level : ℕ) (before : List Line)
-    (z : source.State) (i : graph.State) (fits : i.current.function ≡ S.number)
-    (shows : Shows S.program (S.function ∷ older) z i) (room : level < levels_of S.function) (array : ArrayName)
-    (index : ℤ) (x : Spot) (holds : HoldsAt i.current.variables (Pointer t) x (HoldsPointer array index))
-    (is : IsArrayOf S.program (S.function ∷ older) t array) (y : ℕ) (m : ℤ) (at_y : number_at i y ≡ Some m)
-    (px : PointerPlaced S level x) (py : NumberPlaced S level y) where
-  abbrev sum : ℤ
-  sum = int_wrap w32 (index +ℤ m)
+module _ (S : Site) (site : IsSite S) (made_by : ℕ → ℕ → ℕ → Op) (f : ℤ → ℤ → ℤ)
+    (kind : (d a b : ℕ) → (is_turn (made_by d a b) ≡ false) × (marked (made_by d a b) ≡ None)
+    × (is_end (made_by d a b) ≡ false))
+    (does : (program : GraphProgram) (u : graph.State) (d a b : ℕ) → act program u (made_by d a b)
+    ≡ two_numbers program u d a b f) where
+  abbrev moves : Spot → Spot → Spot → List Line
+  moves to x y = copied to.array x.array ++ Emit (made_by to.number x.number y.number) ∷ []
 
-  sum-goes : (to : Spot) → MayHold S level to → Stand S before (moving Add to x y)
-      → Goes S z.turns (behind before i) z.turns (behind (before ++ moving Add to x y) (put to array sum i)) []
-  sum-goes to takes stands =
-      let half = with_value to.array (array_value array) i in
-      let adding = Emit (op.Add to.number x.number y) in
-      goes-both S z.turns z.turns z.turns i half (put to array sum i) before (copied to.array x.array) (adding ∷ []) []
-      []
-      (copy-goes S site before i to.array x.array z.turns (array_value array) fits holds.0
-      (stand-front S before (copied to.array x.array) (adding ∷ []) stands))
-      (λ o r. two-step S site (before ++ copied to.array x.array) half fits (op.Add to.number x.number y) to.number
-      x.number y (λ p q. int_wrap w32 (p +ℤ q)) index m z.turns o
-      (stand-back S before (copied to.array x.array) (adding ∷ []) stands) refl refl refl refl
-      (ap number_of (get-set_other i.current.variables to.array x.number (array_value array)
-      (λ e. index-apart S level to x takes.place px (sym e)) ∙ holds.1))
-      (ap number_of (get-set_other i.current.variables to.array y (array_value array)
-      (λ e. number-apart S level to y takes.place py (sym e))) ∙ at_y) r)
+  module _ (older : List Function) (t u : IntegerType) (level i j : ℕ) (before : List Line) (z : source.State)
+      (h : graph.State) (fits : h.current.function ≡ S.number) (shows : Shows S.program (S.function ∷ older) z h)
+      (room : level < levels_of S.function) (array : ArrayName) (index m : ℤ) (x y : Spot)
+      (holds : HoldsAt h.current.variables (Pointer t) x (HoldsPointer array index))
+      (is : IsArrayOf S.program (S.function ∷ older) t array)
+      (holds' : HoldsAt h.current.variables (Integer u) y (HoldsNumber m)) (px : Placed S i (Pointer t) x)
+      (py : Placed S j (Integer u) y) where
+    moves-goes : (to : Spot) → MayHold S level to → Stand S before (moves to x y)
+        → Goes S z.turns (behind before h) z.turns (behind (before ++ moves to x y) (put to array (f index m) h)) []
+    moves-goes to takes stands =
+        let half = with_value to.array (array_value array) h in
+        let moving = made_by to.number x.number y.number in
+        goes-both S z.turns z.turns z.turns h half (put to array (f index m) h) before (copied to.array x.array)
+        (Emit moving ∷ []) [] []
+        (copy-goes S site before h to.array x.array z.turns (array_value array) fits holds.0
+        (stand-front S before (copied to.array x.array) (Emit moving ∷ []) stands))
+        (λ o r. two-step S site (before ++ copied to.array x.array) half fits moving to.number x.number y.number f index
+        m z.turns o (stand-back S before (copied to.array x.array) (Emit moving ∷ []) stands)
+        (kind to.number x.number y.number).0 (kind to.number x.number y.number).1 (kind to.number x.number y.number).2
+        (does (graphs_of S) (behind (before ++ copied to.array x.array) half) to.number x.number y.number)
+        (ap number_of (get-set_other h.current.variables to.array x.number (array_value array)
+        (λ e. index-apart S level i t to x takes.place px (sym e)) ∙ holds.1))
+        (ap number_of (get-set_other h.current.variables to.array y.number (array_value array)
+        (λ e. number-apart S level j u to y takes.place py (sym e)) ∙ holds')) r)
 
-  pub sum-fits : (block : ℕ) (wanted : Wanted)
-      → Stand S before (made (context_of S) block level wanted (Pointer t) (λ to. moving Add to x y))
-      → MayWant S wanted (Pointer t)
-      → Fits S (S.function ∷ older) before
-      (made (context_of S) block level wanted (Pointer t) (λ to. moving Add to x y)) level wanted (Pointer t) z i
-      (Gives (HoldsPointer array sum) z)
-  sum-fits block wanted stands may = (
-    pointer-made S site older level before z z i i t array sum [] (λ to. moving Add to x y) room shows fits
-        (kept-none (local_variables S.function) level i) (sym (append-nil z.visits)) is sum-goes block wanted stands
-        may,
-    is,
-  )
+    moves-fit : (block : ℕ) (wanted : Wanted)
+        → Stand S before (made (context_of S) block level wanted (Pointer Int) (λ to. moves to x y))
+        → MayWant S wanted (Pointer t)
+        → Fits S (S.function ∷ older) before
+        (made (context_of S) block level wanted (Pointer Int) (λ to. moves to x y)) level wanted (Pointer t) z h
+        (Gives (HoldsPointer array (f index m)) z)
+    moves-fit block wanted stands may =
+        let same = ap (λ (ls : List Line). moves (target (context_of S) level wanted) x y ++ ls)
+        (tested-same S t Int block level wanted) in
+        subst (λ (ls : List Line). Fits S (S.function ∷ older) before ls level wanted (Pointer t) z h
+        (Gives (HoldsPointer array (f index m)) z)) same (
+          pointer-made S site older level before z z h h t array (f index m) [] (λ to. moves to x y) room shows fits
+              (kept-none (local_variables S.function) level h) (sym (append-nil z.visits)) is moves-goes block wanted
+              (subst (λ (ls : List Line). Stand S before ls) (sym same) stands) may,
+          is,
+        )
 
--- ---- both operands, and the sum
+-- ---- the operators
 
-module _ (S : Site) (site : IsSite S) (t : IntegerType) (a b : Part) (run run' : source.State → Evaluated Held)
-    (la : Lowers S a run) (of : a.of ≡ Pointer t) (u : IntegerType) (lb : Lowers S b run') (of' : b.of ≡ Integer u)
-    (falls : Falls run) (older : List Function) (block level : ℕ) (wanted : Wanted) (before : List Line)
-    (s : source.State) (g : graph.State) (room : level + max a.levels (suc b.levels) ≤ levels_of S.function)
-    (may : MayWant S wanted (Pointer t)) (begins : Begins S (S.function ∷ older) s g) where
-  abbrev x : Spot
-  x = (operand (context_of S) b.simple a).spot level
+add-applies : (S : Site) (site : IsSite S) (t u : IntegerType) → Applies S (Pointer t) Add (Pointer t) (Integer u)
+add-applies S site t u older block level wanted before x y (HoldsPointer array index) (HoldsNumber m) z i stands room
+    may b px py holds holds' is is' =
+    moves-fit S site op.Add (λ p q. int_wrap w32 (p +ℤ q)) (λ d p q. (refl, refl, refl)) (λ program v d p q. refl) older
+    t u level level (suc level) before z i b.function b.shows room array index m x y holds is holds' px py block wanted
+    stands may
+add-applies S site t u older block level wanted before x y (HoldsNumber n) v z i stands room may b px py holds holds' is
+    is' = absurd is
+add-applies S site t u older block level wanted before x y (HoldsPointer array index) (HoldsPointer other j) z i stands
+    room may b px py holds holds' is is' = absurd is'
 
-  abbrev y : ℕ
-  y = ((operand (context_of S) true b).spot (suc level)).number
+subtract-applies : (S : Site) (site : IsSite S) (t u : IntegerType)
+    → Applies S (Pointer t) Subtract (Pointer t) (Integer u)
+subtract-applies S site t u older block level wanted before x y (HoldsPointer array index) (HoldsNumber m) z i stands
+    room may b px py holds holds' is is' =
+    moves-fit S site op.Sub (λ p q. int_wrap w32 (p -ℤ q)) (λ d p q. (refl, refl, refl)) (λ program v d p q. refl) older
+    t u level level (suc level) before z i b.function b.shows room array index m x y holds is holds' px py block wanted
+    stands may
+subtract-applies S site t u older block level wanted before x y (HoldsNumber n) v z i stands room may b px py holds
+    holds' is is' = absurd is
+subtract-applies S site t u older block level wanted before x y (HoldsPointer array index) (HoldsPointer other j) z i
+    stands room may b px py holds holds' is is' = absurd is'
 
-  abbrev first : List Line
-  first = (operand (context_of S) b.simple a).lines block level
+pub moves-apply : (S : Site) (site : IsSite S) (operator : BinaryOp) (t u : IntegerType) → MovesPointer operator
+    → Applies S (Pointer t) operator (Pointer t) (Integer u)
+moves-apply S site Add t u moves = add-applies S site t u
+moves-apply S site Subtract t u moves = subtract-applies S site t u
+moves-apply S site _ t u moves = absurd moves
 
-  abbrev second : List Line
-  second = (operand (context_of S) true b).lines (block + (operand (context_of S) b.simple a).blocks) (suc level)
-
-  abbrev third : ℕ
-  third = block + (operand (context_of S) b.simple a).blocks + (operand (context_of S) true b).blocks
-
-  abbrev last : List Line
-  last = made (context_of S) third level wanted (Pointer t) (λ to. moving Add to x y)
-
-  room-first : level + a.levels ≤ levels_of S.function
-  room-first = let m = le-max_left a.levels (suc b.levels) in omega (arith, room, m)
-
-  room-second : suc level + b.levels ≤ levels_of S.function
-  room-second = let m = le-max_right a.levels (suc b.levels) in omega (arith, room, m)
-
-  room-last : level < levels_of S.function
-  room-last = let m = le-max_right a.levels (suc b.levels) in omega (arith, room, m)
-
-  from : (p : Spot) → if_stays b.simple a.stands ≡ Some p → a.stands ≡ Some p
-  from p e = some-if b.simple a.stands p e
-
-  number-fits : (w : source.State) (h : graph.State) (array : ArrayName) (index : ℤ) (r : Evaluated Held) → run' w ≡ r
-      → Stand S (before ++ first) (second ++ last) → Begins S (S.function ∷ older) w h
-      → HoldsAt h.current.variables (Pointer t) x (HoldsPointer array index)
-      → IsArrayOf S.program (S.function ∷ older) t array
-      → NumberStands S (S.function ∷ older) (before ++ first) second (suc level)
-      ((operand (context_of S) true b).spot (suc level)) w h r
-      → Fits S (S.function ∷ older) (before ++ first) (second ++ last) level wanted (Pointer t) w h
-      (and_then r (λ v z. computed (binary_value Add (HoldsPointer array index) v) z))
-  number-fits w h array index (Ends end z) gives stands there holds is ends = (ends, tt)
-  number-fits w h array index (Gives v z) gives stands there holds is
-      (i, us, n, value, shows, keeps, seen, at_y, goes) =
-      let settled : IsSettled S (target_of (context_of S) a) =
-      record { kept = λ k. refl; steady = settled-standing S a run t a.stands (λ p e. e) la of } in
-      let still = address-stays S older (target_of (context_of S) a) b run' b.simple refl settled lb level t array
-      index w z h i v gives there shows keeps holds in
-      let rest = sum-fits S site older t level ((before ++ first) ++ second) z i (keeps.function ∙ there.function) shows
-      room-last array index x still is y n at_y (pointer-placed S a run t (if_stays b.simple a.stands) from la of level)
-      (number-placed S b run' u b.stands (λ p e. e) lb of' level) third wanted
-      (stand-back S (before ++ first) second last stands) may in
-      subst (λ (q : Held). Fits S (S.function ∷ older) (before ++ first) (second ++ last) level wanted (Pointer t) w h
-      (computed (binary_value Add (HoldsPointer array index) q) z)) (sym value) (
-        follows-behind S (S.function ∷ older) (before ++ first) second last level wanted (Pointer t) w z h i us
-            (Gives (HoldsPointer array (int_wrap w32 (index +ℤ n))) z)
-            (kept-below (local_variables S.function) level (suc level) h i (omega arith) keeps) seen goes rest.0,
-        rest.1,
-      )
-
-  pointer-fits : (r : Evaluated Held) → (state_of r).turns ≤ s.turns → Stand S before (first ++ (second ++ last))
-      → FollowsPlace S (S.function ∷ older) before first level t x s g
-      (and_then r (λ v w. Gives (evaluation.target_of v) w))
-      → Fits S (S.function ∷ older) before (first ++ (second ++ last)) level wanted (Pointer t) s g
-      (and_then r (λ p w. and_then (run' w) (λ v z. computed (binary_value Add p v) z)))
-  pointer-fits (Ends end w) fall stands ends = (ends, tt)
-  pointer-fits (Gives (HoldsNumber n) w) fall stands (h, us, shows, keeps, holds, is, seen, goes) = absurd is
-  pointer-fits (Gives (HoldsPointer array index) w) fall stands (h, us, shows, keeps, holds, is, seen, goes) =
-      let there = begins-again S older s w g h level begins shows keeps fall in
-      let behind_first = stand-back S before first (second ++ last) stands in
-      let rest = number-fits w h array index (run' w) refl behind_first there holds is
-      (number-operand S older b run' u lb of' (block + (operand (context_of S) b.simple a).blocks) (suc level)
-      (before ++ first) w h (stand-front S (before ++ first) second last behind_first) room-second there) in (
-        follows-behind S (S.function ∷ older) before first (second ++ last) level wanted (Pointer t) s w g h us
-            (and_then (run' w) (λ v z. computed (binary_value Add (HoldsPointer array index) v) z)) keeps seen goes
-            rest.0,
-        rest.1,
-      )
-
-  pub both-fit : Stand S before (first ++ (second ++ last))
-      → Fits S (S.function ∷ older) before (first ++ (second ++ last)) level wanted (Pointer t) s g
-      (and_then (run s) (λ p w. and_then (run' w) (λ v z. computed (binary_value Add p v) z)))
-  both-fit stands =
-      pointer-fits (run s) (falls s) stands
-      (standing-pointer S older a run t (if_stays b.simple a.stands) from la of block level before s g
-      (stand-front S before first (second ++ last) stands) room-first begins)
-
-  abbrev summing : ValueType → ValueType → List Line
-  summing p q = first ++ (second ++ applied (context_of S) third level wanted Add p q x
-      ((operand (context_of S) true b).spot (suc level)))
-
-  lines-same : summing a.of b.of ≡ first ++ (second ++ last)
-  lines-same = ap (λ (p : ValueType). summing p b.of) of ∙ ap (λ (q : ValueType). summing (Pointer t) q) of'
-      ∙ ap (λ (ls : List Line). first ++ (second ++ (moving Add
-      (target (context_of S) level wanted) x y ++ ls)))
-      (tested-same S Int t third level wanted)
-
-  pub sum-lowers : Stand S before (summing a.of b.of)
-      → Fits S (S.function ∷ older) before (summing a.of b.of) level wanted (Pointer t) s g
-      (and_then (run s) (λ p w. and_then (run' w) (λ v z. computed (binary_value Add p v) z)))
-  sum-lowers stands =
-      subst (λ (ls : List Line). Fits S (S.function ∷ older) before ls level wanted (Pointer t) s g
-      (and_then (run s) (λ p w. and_then (run' w) (λ v z. computed (binary_value Add p v) z)))) (sym lines-same)
-      (both-fit (subst (λ (ls : List Line). Stand S before ls) lines-same stands))
+-- the number first
+pub turned-applies : (S : Site) (site : IsSite S) (t u : IntegerType)
+    → Applies S (Pointer t) Add (Integer u) (Pointer t)
+turned-applies S site t u older block level wanted before x y (HoldsNumber m) (HoldsPointer array index) z i stands room
+    may b px py holds holds' is is' =
+    moves-fit S site op.Add (λ p q. int_wrap w32 (p +ℤ q)) (λ d p q. (refl, refl, refl)) (λ program v d p q. refl) older
+    t u level (suc level) level before z i b.function b.shows room array index m y x holds' is' holds py px block wanted
+    stands may
+turned-applies S site t u older block level wanted before x y (HoldsPointer array index) v z i stands room may b px py
+    holds holds' is is' = absurd is
+turned-applies S site t u older block level wanted before x y (HoldsNumber m) (HoldsNumber n) z i stands room may b px
+    py holds holds' is is' = absurd is'
 
 pub sums-lower : SumsLower
-sums-lower S site a b t la of u lb of' =
-    compound-lowers S (binary_part (context_of S) (Pointer t) Add (part_of (context_of S) a) (part_of (context_of S) b))
-    _ refl refl
-    (λ older block level wanted before s g stands room may begins.
-    sum-lowers S site t (part_of (context_of S) a) (part_of (context_of S) b) (evaluate S.calls a) (evaluate S.calls b)
-    la of u lb of' (turns-fall S site a) older block level wanted before s g room may begins stands)
+sums-lower S site operator moves a b t la of u lb of' =
+    operator-lowers S (Pointer t) operator (part_of (context_of S) a) (part_of (context_of S) b) (evaluate S.calls a)
+    (evaluate S.calls b) (Pointer t) (Integer u) la of lb of' (pointer-not-void t) (integer-not-void u)
+    (turns-fall S site a) (turns-fall S site b) (moves-apply S site operator t u moves)
+
+pub turned-sums : TurnedSumsLower
+turned-sums S site a b t u la of lb of' =
+    operator-lowers S (Pointer t) Add (part_of (context_of S) a) (part_of (context_of S) b) (evaluate S.calls a)
+    (evaluate S.calls b) (Integer u) (Pointer t) la of lb of' (integer-not-void u) (pointer-not-void t)
+    (turns-fall S site a) (turns-fall S site b) (turned-applies S site t u)

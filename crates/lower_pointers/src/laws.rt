@@ -2,6 +2,7 @@
 
 ghost use Rattle.lower_pointers.specs.Laws.{IndexesAreAddressed, PointersAreAssigned, PointersAreRead};
 ghost use Rattle.lower_pointers.specs.Laws.{PointersAreMoved, PointersConvert, StartsLower, SumsLower};
+ghost use Rattle.lower_pointers.specs.Laws.{PointersAreStepped, TurnedAreAddressed, TurnedSumsLower};
 
 /// The lines of the name of an array do what the source does, whatever is wanted of them.
 pub fn starts_lower()
@@ -23,9 +24,14 @@ pub fn pointers_are_assigned()
     ensures { PointersAreAssigned }
 {}
 
-/// The lines of a pointer plus a number do what the source does, where those of both do.
+/// The lines of a pointer plus or minus a number do what the source does, where those of both do.
 pub fn sums_lower()
     ensures { SumsLower }
+{}
+
+/// The lines of a number plus a pointer, in this order, do what the source does, where those of both do.
+pub fn turned_sums_lower()
+    ensures { TurnedSumsLower }
 {}
 
 /// The lines of `&a[i]` do what the source does, where those of both do.
@@ -33,7 +39,17 @@ pub fn indexes_are_addressed()
     ensures { IndexesAreAddressed }
 {}
 
-/// The lines of `p += n`, where p is a local, do what the source does.
+/// The lines of `&i[a]`, where the number comes first, do what the source does, where those of both do.
+pub fn turned_are_addressed()
+    ensures { TurnedAreAddressed }
+{}
+
+/// The lines of `p += n` and `p -= n`, where p is a local, do what the source does.
 pub fn pointers_are_moved()
     ensures { PointersAreMoved }
+{}
+
+/// The lines of `++` and `--` of a local which is a pointer do what the source does.
+pub fn pointers_are_stepped()
+    ensures { PointersAreStepped }
 {}

@@ -5,5 +5,6 @@ mod laws;
 
 pub use laws::{
     indexes_are_addressed, pointers_are_assigned, pointers_are_moved, pointers_are_read,
-    pointers_convert, starts_lower, sums_lower,
+    pointers_are_stepped, pointers_convert, starts_lower, sums_lower, turned_are_addressed,
+    turned_sums_lower,
 };
