@@ -1,0 +1,4 @@
+pub mod Choosing
+pub mod Equality
+pub mod Nulls
+pub mod Ordering
