@@ -119,3 +119,10 @@ IndexesLower = (S : Site) → IsSite S → (a b : Expression) (t : IntegerType)
     → (u : IntegerType) → Lowers S (part_of (context_of S) b) (evaluate S.calls b)
     → (part_of (context_of S) b).of ≡ Integer u
     → LowersPlace S (Integer t) (place_of (context_of S) (Element t a b)) (locate S.calls (Element t a b))
+
+-- `i[a]`, where the number comes first
+abbrev pub TurnedLower : Type 0
+TurnedLower = (S : Site) → IsSite S → (a b : Expression) (t u : IntegerType)
+    → Lowers S (part_of (context_of S) a) (evaluate S.calls a) → (part_of (context_of S) a).of ≡ Integer u
+    → Lowers S (part_of (context_of S) b) (evaluate S.calls b) → (part_of (context_of S) b).of ≡ Pointer t
+    → LowersPlace S (Integer t) (place_of (context_of S) (Element t a b)) (locate S.calls (Element t a b))

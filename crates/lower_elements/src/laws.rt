@@ -3,7 +3,7 @@
 ghost use Rattle.lower_elements.specs.Laws.{ElementsAreStepped, ElementsAreUpdated};
 ghost use Rattle.lower_elements.specs.Laws.{IndexesAreStepped, IndexesAreUpdated, IndexesLower};
 ghost use Rattle.lower_elements.specs.Laws.{TargetsAreStepped, TargetsAreUpdated};
-ghost use Rattle.lower_elements.specs.Laws.{TurnedAreStepped, TurnedAreUpdated};
+ghost use Rattle.lower_elements.specs.Laws.{TurnedAreStepped, TurnedAreUpdated, TurnedLower};
 
 /// The lines of an assignment with an operator to an element do what the source does, where those of its address and of
 /// the right side do.
@@ -49,4 +49,9 @@ pub fn turned_are_stepped()
 /// `a[i]` is a place whose lines do what the source does, where those of both do.
 pub fn indexes_lower()
     ensures { IndexesLower }
+{}
+
+/// `i[a]`, where the number comes first, is a place whose lines do what the source does, where those of both do.
+pub fn turned_lower()
+    ensures { TurnedLower }
 {}
