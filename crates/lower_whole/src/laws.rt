@@ -1,0 +1,41 @@
+//! Laws of the lines of all expressions: each function's contract is one, and the function does nothing.
+
+ghost use Rattle.lower_lines.specs.Laws.{ArgumentsLower, ExpressionsLower};
+ghost use Rattle.lower_whole.specs.Laws.{AllArgumentsPass, AllCallsLower, ChoicesLower};
+ghost use Rattle.lower_whole.specs.Laws.{PointersAreChosen, VoidsAreChosen};
+
+/// The lines of `?:` do what the source does, where its test does and both other operands do as they are converted to
+/// its type.
+pub fn choices_lower()
+    ensures { ChoicesLower }
+{}
+
+/// The lines of `?:` whose value is a pointer do what the source does, where those of its operands do.
+pub fn pointers_are_chosen()
+    ensures { PointersAreChosen }
+{}
+
+/// The lines of `?:` of void do what the source does, where those of its operands do.
+pub fn voids_are_chosen()
+    ensures { VoidsAreChosen }
+{}
+
+/// The lines of arguments do what the source does, as their parameters take them.
+pub fn all_arguments_pass()
+    ensures { AllArgumentsPass }
+{}
+
+/// The lines of a call do what the source does, where calls follow and its arguments do.
+pub fn all_calls_lower()
+    ensures { AllCallsLower }
+{}
+
+/// The lines of every typed expression do what the source does, whatever is wanted of them, where calls follow.
+pub fn expressions_lower()
+    ensures { ExpressionsLower }
+{}
+
+/// So do those of the arguments of every typed call.
+pub fn arguments_lower()
+    ensures { ArgumentsLower }
+{}
