@@ -13,6 +13,7 @@ use Rattle.c_tree.specs.declared.types.IntegerType.{IntegerType}
 use Rattle.c_tree.specs.declared.types.IntegerType.TheVariants.{Int}
 use Rattle.c_tree.specs.declared.types.ValueType.{ValueType}
 use Rattle.c_tree.specs.declared.types.ValueType.TheVariants.{Void, Integer, Pointer}
+use Rattle.c_tree.specs.Evaluation.{locate}
 use Rattle.c_tree.specs.Program.{value_type, Expression, Constant, Start, Read, Address, Unary, Binary, And, Or}
 use Rattle.c_tree.specs.Program.{Conditional, Cast, Assign, Update, Step, Comma, Call, Putchar, Getchar, Exit, Place}
 use Rattle.c_tree.specs.Program.{LocalPlace, StaticPlace, Target, Element, Argument, Arguments, NoMore, Local}
@@ -20,9 +21,9 @@ use Rattle.c_tree.specs.Store.{Gives, held}
 use Rattle.c_tree.specs.WellTyped.{AreArguments, BinaryGives, CanAssign, CanCast, CanUpdate, ConditionalGives}
 use Rattle.c_tree.specs.WellTyped.{IsElement, IsInteger, IsPlace, IsScalar, IsTyped, NumberPointerGives}
 use Rattle.c_tree.specs.WellTyped.{PointerNumberGives, UnaryGives, WellTyped, parameters_of}
-use Rattle.lower_lines.specs.Expressions.{local_part}
-use Rattle.lower_lines.specs.Following.{CallsFollow, IsSite, Site, context_of}
-use Rattle.lower_lines.specs.Laws.{ExpressionsLower, ArgumentsLower}
+use Rattle.lower_lines.specs.Expressions.{local_part, place_of}
+use Rattle.lower_lines.specs.Following.{CallsFollow, IsSite, LowersPlace, Site, context_of}
+use Rattle.lower_lines.specs.Laws.{ArgumentsLower, ExpressionsLower, PlacesLower}
 use Rattle.lower_expressions.proofs.Assigning.{assigns-lower, local-lowers}
 use Rattle.lower_expressions.proofs.Atoms.{constants-lower, getchar-lowers}
 use Rattle.lower_expressions.proofs.Binary.{binaries-lower}
@@ -34,7 +35,7 @@ use Rattle.lower_expressions.proofs.Made.{some-and}
 use Rattle.lower_expressions.proofs.Outside.{commas-lower, exits-lower, putchars-lower}
 use Rattle.lower_expressions.proofs.Stepping.{lowers-same, steps-lower, updates-lower}
 use Rattle.lower_expressions.proofs.Unary.{complements-lower, minuses-lower}
-use Rattle.lower_places.proofs.Addresses.{targets-addressed}
+use Rattle.lower_places.proofs.Addresses.{targets-addressed, targets-lower}
 use Rattle.lower_places.proofs.Assigning.{targets-assigned}
 use Rattle.lower_places.proofs.Indexing.{indexes-assigned, indexes-read}
 use Rattle.lower_places.proofs.Reading.{objects-read, targets-read}
@@ -51,6 +52,7 @@ use Rattle.lower_pointers.proofs.Updating.{pointers-moved}
 use Rattle.lower_pointers.specs.Laws.{GoesToPointer}
 use Rattle.lower_comparisons.proofs.Nulls.{nulls-compared, turned-compared}
 use Rattle.lower_comparisons.proofs.Ordering.{pointers-compared}
+use Rattle.lower_elements.proofs.Locating.{indexes-lower, turned-lower}
 use Rattle.lower_elements.proofs.Naming.{indexes-stepped, indexes-updated, targets-stepped, targets-updated}
 use Rattle.lower_elements.proofs.Naming.{turned-stepped, turned-updated}
 use Rattle.lower_whole.proofs.Calling.{calls-lower}
@@ -87,7 +89,7 @@ updating-integer op (Pointer t) (Integer u) can = (u, refl)
 updating-integer op (Pointer t) (Pointer u) can = absurd can
 
 -- what a place is found by does what the source does
-abbrev PlaceDoes : Site → Place → Type 0
+abbrev pub PlaceDoes : Site → Place → Type 0
 PlaceDoes S (Target element e) = Does S e × (type_in S e ≡ Pointer element)
 PlaceDoes S (Element element a i) = Does S a × Does S i × ArePair element (type_in S a) (type_in S i)
 PlaceDoes S _ = Unit {0}
@@ -412,7 +414,7 @@ module _ (S : Site) (site : IsSite S) (whole : WellTyped S.program) (follow : Ca
     expression-does (Exit e) typed =
         let (t, same) = number-in e typed.0 typed.1 in exits-lower S site e t (expression-does e typed.0) same
 
-    place-does : (place : Place) (of : ValueType) → IsPlace S.program S.function place of → PlaceDoes S place
+    pub place-does : (place : Place) (of : ValueType) → IsPlace S.program S.function place of → PlaceDoes S place
     place-does (LocalPlace k) of typed = tt
     place-does (StaticPlace k) of typed = tt
     place-does (Target t e) of typed = (expression-does e typed.0, part-type S e typed.0 ∙ typed.1)
@@ -441,3 +443,27 @@ expressions-lower S site whole follow e typed = expression-does S site whole fol
 pub arguments-lower : ArgumentsLower
 arguments-lower S site whole follow ls es typed =
     arguments-pass S site ls es (arguments-do S site whole follow ls es typed)
+
+-- ---- every place
+
+element-lowers : (S : Site) (site : IsSite S) (a i : Expression) (t : IntegerType) → Does S a → Does S i
+    → ArePair t (type_in S a) (type_in S i)
+    → LowersPlace S (Integer t) (place_of (context_of S) (Element t a i)) (locate S.calls (Element t a i))
+element-lowers S site a i t da di (inl (is, u, is')) = indexes-lower S site a i t da is u di is'
+element-lowers S site a i t da di (inr (u, is, is')) = turned-lower S site a i t u da is di is'
+
+place-lowers : (S : Site) (site : IsSite S) (place : Place) (of : ValueType)
+    → IsPlace S.program S.function place of → PlaceDoes S place
+    → LowersPlace S of (place_of (context_of S) place) (locate S.calls place)
+place-lowers S site (LocalPlace k) of typed found = (λ s. refl, typed)
+place-lowers S site (StaticPlace k) of typed found = (λ s. refl, typed)
+place-lowers S site (Target t e) of typed found =
+    subst (λ (p : ValueType). LowersPlace S p (place_of (context_of S) (Target t e)) (locate S.calls (Target t e)))
+    typed.2 (targets-lower S site e t found.0 found.1)
+place-lowers S site (Element t a i) of typed found =
+    subst (λ (p : ValueType). LowersPlace S p (place_of (context_of S) (Element t a i))
+    (locate S.calls (Element t a i))) typed.3 (element-lowers S site a i t found.0 found.1 found.2)
+
+pub places-lower : PlacesLower
+places-lower S site whole follow place of typed =
+    place-lowers S site place of typed (place-does S site whole follow place of typed)

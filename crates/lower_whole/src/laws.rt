@@ -1,6 +1,6 @@
 //! Laws of the lines of all expressions: each function's contract is one, and the function does nothing.
 
-ghost use Rattle.lower_lines.specs.Laws.{ArgumentsLower, ExpressionsLower};
+ghost use Rattle.lower_lines.specs.Laws.{ArgumentsLower, ExpressionsLower, PlacesLower};
 ghost use Rattle.lower_whole.specs.Laws.{AllArgumentsPass, AllCallsLower, ChoicesLower};
 ghost use Rattle.lower_whole.specs.Laws.{PointersAreChosen, VoidsAreChosen};
 
@@ -38,4 +38,9 @@ pub fn expressions_lower()
 /// So do those of the arguments of every typed call.
 pub fn arguments_lower()
     ensures { ArgumentsLower }
+{}
+
+/// Every typed place does what the source does: an element's address leads to where the source finds it.
+pub fn places_lower()
+    ensures { PlacesLower }
 {}
