@@ -1,7 +1,7 @@
 -- What kinds of items the code of a graph has, over any placement.
 use Rattle.std.specs.List.{AllByRecursion}
 use Rattle.std.proofs.Common.{◌≡◌, ℕ, zero, suc, ◌+◌, ◌<◌, ◌≤◌, List, [], ◌∷◌, ◌++◌, length, Some, None, sym, ap}
-use Rattle.std.proofs.Common.{subst, ◌∙◌, arith, Option, map}
+use Rattle.std.proofs.Common.{subst, refl, ◌∙◌, arith, Option, map}
 use Rattle.std.specs.Prelude.{◌==◌, ◌||◌, ⊤, ℤ, Bool, true, false, if◌then◌else◌, option_map, slice_get, slice_index_or}
 use Rattle.std.proofs.lemmas.Option.{same_Some, get_or_from_slice_get}
 use Rattle.ia32_regs.specs.declared.names.Reg32.{Reg32}
@@ -29,7 +29,8 @@ use Rattle.flow_graph.specs.declared.op.Op.{Op}
 use Rattle.flow_graph.specs.declared.op.Op.TheVariants as op
 use Rattle.flow_graph.specs.Graphs.{Flow, HasFittingOp, IsFlow, points_of}
 use Rattle.flow_graph.proofs.Points.{every-map}
-use Rattle.ia32_shows.proofs.Spelled.{common-begins}
+use Rattle.ia32_shows.proofs.Spelled.{IsCommon, common-begins}
+use Rattle.ia32_shows.specs.Follows.{is_nop}
 use Rattle.ia32_shows.specs.Placements.{Placement}
 use Rattle.ia32_rows.specs.Moves.{has_operand, target_of, working, read, write, operate, number_row, copy_row}
 use Rattle.ia32_rows.specs.Moves.{operation, commuting, pass}
@@ -73,13 +74,29 @@ IsRowInsn (item.CallStub s) = ⊤
 IsRowInsn (item.JumpTrap c) = ⊤
 IsRowInsn (item.AddressOf r k) = ⊤
 
+-- an instruction of a row, but NOP
+abbrev pub IsOther : Item → Type 0
+IsOther (item.Plain i) = IsCommon i
+IsOther (item.Label l) = ⊥
+IsOther (item.Point p) = ⊥
+IsOther (item.JumpTo l) = ⊤
+IsOther (item.JumpIf c l) = ⊤
+IsOther (item.CallFunction f) = ⊤
+IsOther (item.CallStub s) = ⊤
+IsOther (item.JumpTrap c) = ⊤
+IsOther (item.AddressOf r k) = ⊤
+
+-- instructions of a row, but NOP
+abbrev pub AreOthers : List Item → Type 0
+AreOthers items = AllByRecursion IsOther items
+
 -- instructions of a row
 abbrev pub AreRowInsns : List Item → Type 0
 AreRowInsns items = AllByRecursion IsRowInsn items
 
--- an instruction as it stands
+-- an instruction as it stands, but NOP
 abbrev pub IsPlain : Item → Type 0
-IsPlain (item.Plain i) = ⊤
+IsPlain (item.Plain i) = IsCommon i
 IsPlain (item.Label l) = ⊥
 IsPlain (item.Point p) = ⊥
 IsPlain (item.JumpTo l) = ⊥
@@ -102,6 +119,10 @@ AreSome P items = AllByRecursion P items × IsSome items
 abbrev pub IsRow : List Item → Type 0
 IsRow items = AreSome IsRowInsn items
 
+-- instructions of a row, but NOP, and some
+abbrev pub IsOtherRow : List Item → Type 0
+IsOtherRow items = AreSome IsOther items
+
 -- instructions as they stand alone
 abbrev pub ArePlain : List Item → Type 0
 ArePlain items = AllByRecursion IsPlain items
@@ -109,15 +130,23 @@ ArePlain items = AllByRecursion IsPlain items
 abbrev pub IsPlainRow : List Item → Type 0
 IsPlainRow items = AreSome IsPlain items
 
-plain-insn : (i : Item) → IsPlain i → IsRowInsn i
-plain-insn (item.Plain i) h = tt
-plain-insn i h = absurd h
+plain-other : (i : Item) → IsPlain i → IsOther i
+plain-other (item.Plain i) h = h
+plain-other i h = absurd h
 
-plain-insns : (items : List Item) → ArePlain items → AreRowInsns items
-plain-insns items h = every-map IsPlain IsRowInsn plain-insn items h
+plain-others : (items : List Item) → ArePlain items → AreOthers items
+plain-others items h = every-map IsPlain IsOther plain-other items h
 
-plain-row : (items : List Item) → IsPlainRow items → IsRow items
-plain-row items h = (plain-insns items h.0, h.1)
+plain-row : (items : List Item) → IsPlainRow items → IsOtherRow items
+plain-row items h = (plain-others items h.0, h.1)
+
+other-insn : (i : Item) → IsOther i → IsRowInsn i
+other-insn (item.Label l) h = absurd h
+other-insn (item.Point p) h = absurd h
+other-insn i h = tt
+
+other-row : (items : List Item) → IsOtherRow items → IsRow items
+other-row items h = (every-map IsOther IsRowInsn other-insn items h.0, h.1)
 
 -- what holds of both of two choices holds of the choice
 pub either-way : {X : Type 0} (P : X → Type 0) (b : Bool) (x y : X) → P x → P y → P (if b then x else y)
@@ -207,11 +236,13 @@ multiplying-row p q r =
     written-row (read t q ++ multiply t r) p t
     (row-behind IsPlain (read t q) (multiply t r) (read-insns t q) (multiply-row t r))
 
-changing-row : (how : Rm32 → Insn) (p q : Place) → IsPlainRow (changing how p q)
-changing-row how p q =
+changing-row : (how : Rm32 → Insn) (p q : Place) → ((operand : Rm32) → IsCommon (how operand))
+    → IsPlainRow (changing how p q)
+changing-row how p q common =
     let t : Reg32 = target_of p in
     let one : List Item = plain (how (rm.Reg t)) ∷ [] in
-    written-row (read t q ++ one) p t (row-behind IsPlain (read t q) one (read-insns t q) ((tt, tt), tt))
+    written-row (read t q ++ one) p t
+    (row-behind IsPlain (read t q) one (read-insns t q) ((common (rm.Reg t), tt), tt))
 
 extend-row : (t : Reg32) (p : Place) → IsPlainRow (extend t p)
 extend-row t (InWord r) = ((tt, tt), tt)
@@ -280,40 +311,40 @@ set-insns c (InWord r) = (tt, (tt, tt))
 set-insns c (InByte r) = (tt, tt)
 set-insns c (InSlot k) = (tt, (tt, (tt, tt)))
 
-compared-row : (p q : Place) (items : List Item) → AreRowInsns items → IsRow (comparing p q ++ items)
+compared-row : (p q : Place) (items : List Item) → AreOthers items → IsOtherRow (comparing p q ++ items)
 compared-row p q items h =
-    row-before IsRowInsn (comparing p q) items (plain-row (comparing p q) (comparing-row p q)) h
+    row-before IsOther (comparing p q) items (plain-row (comparing p q) (comparing-row p q)) h
 
 -- ---- of calls
 
 -- the word of a register to a place is the last of a row
-write-row : (p : Place) (t : Reg32) → AreRowInsns (write p t)
-write-row p t = plain-insns (write p t) (write-insns p t)
+write-row : (p : Place) (t : Reg32) → AreOthers (write p t)
+write-row p t = plain-others (write p t) (write-insns p t)
 
-passed-row : (p : Place) (items : List Item) → AreRowInsns items → IsRow (pass p ++ items)
-passed-row p items h = row-before IsRowInsn (pass p) items (plain-row (pass p) (pass-row p)) h
+passed-row : (p : Place) (items : List Item) → AreOthers items → IsOtherRow (pass p ++ items)
+passed-row p items h = row-before IsOther (pass p) items (plain-row (pass p) (pass-row p)) h
 
 pass_all-insns : (places : List Place) → ArePlain (pass_all places)
 pass_all-insns [] = tt
 pass_all-insns (p ∷ places) = every-join IsPlain (pass_all places) (pass p) (pass_all-insns places) (pass-row p).0
 
-drop-insns : (words : ℕ) → AreRowInsns (drop_words words)
+drop-insns : (words : ℕ) → AreOthers (drop_words words)
 drop-insns zero = tt
 drop-insns (suc n) = (tt, tt)
 
-write_any-insns : (p : Option Place) → AreRowInsns (write_any p)
+write_any-insns : (p : Option Place) → AreOthers (write_any p)
 write_any-insns None = tt
 write_any-insns (Some p) = write-row p Eax
 
-call-row : (result : Option Place) (f : ℕ) (arguments : List Place) → IsRow (call_row result f arguments)
+call-row : (result : Option Place) (f : ℕ) (arguments : List Place) → IsOtherRow (call_row result f arguments)
 call-row result f arguments =
     let words : ℕ = length arguments in
-    let back : AreRowInsns (behind_call result words) =
-    every-join IsRowInsn (drop_words words ++ undeepen) (write_any result)
-    (every-join IsRowInsn (drop_words words) undeepen (drop-insns words) (tt, (tt, tt))) (write_any-insns result) in
-    row-before IsRowInsn (before_call arguments) (item.CallFunction f ∷ behind_call result words)
-    (row-before IsRowInsn deepen (pass_all arguments) ((tt, (tt, (tt, (tt, tt)))), tt)
-    (plain-insns (pass_all arguments) (pass_all-insns arguments))) (tt, back)
+    let back : AreOthers (behind_call result words) =
+    every-join IsOther (drop_words words ++ undeepen) (write_any result)
+    (every-join IsOther (drop_words words) undeepen (drop-insns words) (tt, (tt, tt))) (write_any-insns result) in
+    row-before IsOther (before_call arguments) (item.CallFunction f ∷ behind_call result words)
+    (row-before IsOther deepen (pass_all arguments) ((tt, (tt, (tt, (tt, tt)))), tt)
+    (plain-others (pass_all arguments) (pass_all-insns arguments))) (tt, back)
 
 leave-row : IsPlainRow leave
 leave-row = ((tt, (tt, (tt, (tt, (tt, tt))))), tt)
@@ -323,88 +354,95 @@ return-row p = row-behind IsPlain (read Eax p) leave (read-insns Eax p) leave-ro
 
 -- ---- of ops
 
--- the row of an op that has one
-pub row-is : (placement : Placement) (p : ℕ) (o : Op) → HasItems o → IsRow (row placement p o)
-row-is placement p (op.Const d n) h =
+-- the row of an op that has one, but a mark and a turn, has no NOP
+pub other-is : (placement : Placement) (p : ℕ) (o : Op) → HasItems o → is_nop (Some o) ≡ false
+    → IsOtherRow (row placement p o)
+other-is placement p (op.Const d n) h none =
     plain-row (row placement p (op.Const d n))
     (number-row (place_after placement p d) n)
-row-is placement p (op.Copy d s) h =
+other-is placement p (op.Copy d s) h none =
     plain-row (row placement p (op.Copy d s))
     (copy-row (place_before placement p s) (place_after placement p d))
-row-is placement p (op.Wide d s) h =
+other-is placement p (op.Wide d s) h none =
     plain-row (row placement p (op.Wide d s))
     (widening-row (place_after placement p d) (place_before placement p s))
-row-is placement p (op.Low d s) h =
+other-is placement p (op.Low d s) h none =
     plain-row (row placement p (op.Low d s))
     (lowering-row (place_after placement p d) (place_before placement p s))
-row-is placement p (op.Low16 d s) h =
+other-is placement p (op.Low16 d s) h none =
     plain-row (row placement p (op.Low16 d s))
     (halving-row (place_after placement p d) (place_before placement p s))
-row-is placement p (op.Neg d s) h =
+other-is placement p (op.Neg d s) h none =
     plain-row (row placement p (op.Neg d s))
-    (changing-row insn.Neg (place_after placement p d) (place_before placement p s))
-row-is placement p (op.Not d s) h =
+    (changing-row insn.Neg (place_after placement p d) (place_before placement p s) (λ operand. tt))
+other-is placement p (op.Not d s) h none =
     plain-row (row placement p (op.Not d s))
-    (changing-row insn.Not (place_after placement p d) (place_before placement p s))
-row-is placement p (op.Add d a b) h =
+    (changing-row insn.Not (place_after placement p d) (place_before placement p s) (λ operand. tt))
+other-is placement p (op.Add d a b) h none =
     plain-row (row placement p (op.Add d a b))
     (commuting-row alu.Add (place_after placement p d) (place_before placement p a) (place_before placement p b))
-row-is placement p (op.Sub d a b) h =
+other-is placement p (op.Sub d a b) h none =
     plain-row (row placement p (op.Sub d a b))
     (operation-row alu.Sub (place_after placement p d) (place_before placement p a) (place_before placement p b))
-row-is placement p (op.Mul d a b) h =
+other-is placement p (op.Mul d a b) h none =
     plain-row (row placement p (op.Mul d a b))
     (multiplying-row (place_after placement p d) (place_before placement p a) (place_before placement p b))
-row-is placement p (op.And d a b) h =
+other-is placement p (op.And d a b) h none =
     plain-row (row placement p (op.And d a b))
     (commuting-row alu.And (place_after placement p d) (place_before placement p a) (place_before placement p b))
-row-is placement p (op.Or d a b) h =
+other-is placement p (op.Or d a b) h none =
     plain-row (row placement p (op.Or d a b))
     (commuting-row alu.Or (place_after placement p d) (place_before placement p a) (place_before placement p b))
-row-is placement p (op.Xor d a b) h =
+other-is placement p (op.Xor d a b) h none =
     plain-row (row placement p (op.Xor d a b))
     (commuting-row alu.Xor (place_after placement p d) (place_before placement p a) (place_before placement p b))
-row-is placement p (op.Shl d a b) h =
+other-is placement p (op.Shl d a b) h none =
     plain-row (row placement p (op.Shl d a b))
     (shifting-row shift.Shl (place_after placement p d) (place_before placement p a) (place_before placement p b))
-row-is placement p (op.Sar d a b) h =
+other-is placement p (op.Sar d a b) h none =
     plain-row (row placement p (op.Sar d a b))
     (shifting-row shift.Sar (place_after placement p d) (place_before placement p a) (place_before placement p b))
-row-is placement p (op.Div d a b) h =
+other-is placement p (op.Div d a b) h none =
     plain-row (row placement p (op.Div d a b))
     (dividing-row Eax (place_after placement p d) (place_before placement p a) (place_before placement p b))
-row-is placement p (op.Rem d a b) h =
+other-is placement p (op.Rem d a b) h none =
     plain-row (row placement p (op.Rem d a b))
     (dividing-row Edx (place_after placement p d) (place_before placement p a) (place_before placement p b))
-row-is placement p (op.Set how d a b) h =
+other-is placement p (op.Set how d a b) h none =
     let set : List Item = set_row (cond_of how) (place_after placement p d) in
     compared-row (place_before placement p a) (place_before placement p b) set
-    (plain-insns set (set-insns (cond_of how) (place_after placement p d)))
-row-is placement p (op.Param d k) h =
+    (plain-others set (set-insns (cond_of how) (place_after placement p d)))
+other-is placement p (op.Param d k) h none =
     let place : Place = place_after placement p d in
     let load : List Item = plain (insn.MovLoad (target_of place) (argument_word k)) ∷ [] in
     plain-row (param_row place k) (written-row load place (target_of place) ((tt, tt), tt))
-row-is placement p (op.Call d f arguments) h =
+other-is placement p (op.Call d f arguments) h none =
     call-row (option_map (place_after placement p) d) f (map (place_before placement p) arguments)
-row-is placement p (op.Putchar d s) h =
+other-is placement p (op.Putchar d s) h none =
     passed-row (place_before placement p s)
     (item.CallStub stub.Putchar ∷ plain (insn.Pop Edi) ∷ write (place_after placement p d) Eax)
     (tt, (tt, write-row (place_after placement p d) Eax))
-row-is placement p (op.Getchar d) h = ((tt, write-row (place_after placement p d) Eax), tt)
-row-is placement p (op.Exit s) h =
+other-is placement p (op.Getchar d) h none = ((tt, write-row (place_after placement p d) Eax), tt)
+other-is placement p (op.Exit s) h none =
     passed-row (place_before placement p s) (item.CallStub stub.Exit ∷ []) (tt, tt)
-row-is placement p (op.Same a b) h =
+other-is placement p (op.Same a b) h none =
     compared-row (place_before placement p a) (place_before placement p b) (item.JumpTrap (Some cond.Ne) ∷ []) (tt, tt)
-row-is placement p (op.Mark s) h = ((tt, tt), tt)
-row-is placement p op.Turn h = ((tt, tt), tt)
-row-is placement p (op.Jump x) h = ((tt, tt), tt)
-row-is placement p (op.Branch how a b x y) h =
+other-is placement p (op.Mark s) h none = absurd (let e : true ≡ false = none in cc)
+other-is placement p op.Turn h none = absurd (let e : true ≡ false = none in cc)
+other-is placement p (op.Jump x) h none = ((tt, tt), tt)
+other-is placement p (op.Branch how a b x y) h none =
     compared-row (place_before placement p a) (place_before placement p b)
     (item.JumpIf (cond_of how) x ∷ item.JumpTo y ∷ []) (tt, (tt, tt))
-row-is placement p (op.Return (Some a)) h =
+other-is placement p (op.Return (Some a)) h none =
     plain-row (return_row (place_before placement p a)) (return-row (place_before placement p a))
-row-is placement p (op.Return None) h = plain-row leave leave-row
-row-is placement p o h = absurd h
+other-is placement p (op.Return None) h none = plain-row leave leave-row
+other-is placement p o h none = absurd h
+
+-- the row of an op that has one
+pub row-is : (placement : Placement) (p : ℕ) (o : Op) → HasItems o → IsRow (row placement p o)
+row-is placement p (op.Mark s) h = ((tt, tt), tt)
+row-is placement p op.Turn h = ((tt, tt), tt)
+row-is placement p o h = other-row (row placement p o) (other-is placement p o h refl)
 
 -- the row of any op
 pub row-insns : (placement : Placement) (p : ℕ) (o : Op) → AreRowInsns (row placement p o)
@@ -598,7 +636,7 @@ room-behind (item.CallStub s) items h = tt
 room-behind (item.JumpTrap c) items h = tt
 room-behind (item.AddressOf r k) items h = tt
 
-insns-room : (items : List Item) → AreRowInsns items → PointsTakeRoom items
+pub insns-room : (items : List Item) → AreRowInsns items → PointsTakeRoom items
 insns-room [] h = tt
 insns-room (i ∷ items) h = (room-behind i items (insn-room i h.0), insns-room items h.1)
 
@@ -624,7 +662,7 @@ points-have flow homes b f h =
     (λ p fits. (fits.0, fits.1, every-get HasItems flow.ops p fits.0 h fits.1)) (points_of flow b)
     (f.each_block b).fits
 
-point-room : (placement : Placement) (ops : List Op) (p : ℕ) → HasRowOp ops p
+pub point-room : (placement : Placement) (ops : List Op) (p : ℕ) → HasRowOp ops p
     → PointsTakeRoom (point_row placement ops p)
 point-room placement ops p (o, has, is) =
     let room = row-room placement p o is in
@@ -683,7 +721,7 @@ leads-length : (f : ℤ → Insn) (address target : ℕ) (bytes : List ℕ) → 
     → 0 < length bytes
 leads-length f address target bytes (distance, spelled, leads) = insn-length (f distance) bytes spelled
 
-item-room : (symbols : Symbols) (places : Places) (address : ℕ) (i : Item) (bytes : List ℕ) → TakesRoom i
+pub item-room : (symbols : Symbols) (places : Places) (address : ℕ) (i : Item) (bytes : List ℕ) → TakesRoom i
     → ItemAt symbols places address i bytes → 0 < length bytes
 item-room symbols places address (item.Plain i) bytes room at = insn-length i bytes at
 item-room symbols places address (item.Label l) bytes room at = absurd room
@@ -702,7 +740,7 @@ item-room symbols places address (item.AddressOf r k) bytes room (target, z, is,
     insn-length (insn.MovImm (rm.Reg r) z) bytes spelled
 
 -- a point stands no earlier than the items it is among
-later : (symbols : Symbols) (places : Places) (address : ℕ) (items : List Item) (bytes : List ℕ) (j q : ℕ)
+pub later : (symbols : Symbols) (places : Places) (address : ℕ) (items : List Item) (bytes : List ℕ) (j q : ℕ)
     → ItemsAt symbols places address items bytes → slice_get items j ≡ Some (item.Point q) → address ≤ places.points q
 later symbols places address [] bytes j q h e = absurd (cc)
 later symbols places address (x ∷ xs) bytes zero q (first, rest, whole, at, more) e =
@@ -715,7 +753,7 @@ later symbols places address (x ∷ xs) bytes (suc j) q (first, rest, whole, at,
     omega arith
 
 -- and later where these begin with an instruction
-strictly-later : (symbols : Symbols) (places : Places) (address : ℕ) (items : List Item) (bytes : List ℕ) (j q : ℕ)
+pub strictly-later : (symbols : Symbols) (places : Places) (address : ℕ) (items : List Item) (bytes : List ℕ) (j q : ℕ)
     → BeginsWithRoom items → ItemsAt symbols places address items bytes
     → slice_get items j ≡ Some (item.Point q) → address < places.points q
 strictly-later symbols places address [] bytes j q begins h e = absurd begins
@@ -735,11 +773,11 @@ one-point : (x : Item) (p q : ℕ) → Some x ≡ Some (item.Point p) → Some x
 unfolding point_number
 one-point x p q a b = ap point_number (sym (same_Some x (item.Point p) a) ∙ same_Some x (item.Point q) b)
 
-behind-point : (x : Item) (p : ℕ) (items : List Item) → Some x ≡ Some (item.Point p) → Behind x items
+pub behind-point : (x : Item) (p : ℕ) (items : List Item) → Some x ≡ Some (item.Point p) → Behind x items
     → BeginsWithRoom items
 behind-point x p items e h = subst (λ (i : Item). Behind i items) (same_Some x (item.Point p) e) h
 
-point-address : (symbols : Symbols) (places : Places) (address : ℕ) (x : Item) (p : ℕ) (bytes : List ℕ) → Some x
+pub point-address : (symbols : Symbols) (places : Places) (address : ℕ) (x : Item) (p : ℕ) (bytes : List ℕ) → Some x
     ≡ Some (item.Point p) → ItemAt symbols places address x bytes → (length bytes ≡ 0) × (places.points p ≡ address)
 point-address symbols places address x p bytes e at =
     let At : Item → Type 0 = λ i. ItemAt symbols places address i bytes in

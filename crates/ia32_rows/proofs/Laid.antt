@@ -20,7 +20,7 @@ use Rattle.flow_graph.proofs.Points.{choose}
 use Rattle.ia32_shows.specs.Placements.{Placement, Code, objects_of, address_in, point_address}
 use Rattle.ia32_shows.specs.Shows.{ReturnsTo, StartReturns, startup, ending}
 use Rattle.ia32_shows.proofs.Steps.{IsAt, at-front, at-back, items-split, point-passed, label-passed}
-use Rattle.ia32_rows.specs.Rows.{frame_of, entry_label, over_slots, row, prologue, point_row, point_rows, block_rows}
+use Rattle.ia32_rows.specs.Rows.{entry_label, over_slots, row, prologue, point_row, point_rows, block_rows}
 use Rattle.ia32_rows.specs.Rows.{selected}
 use Rattle.ia32_rows.proofs.ItemKinds.{every-get, every-back, IsSlotItem, selected-items, selected-room, slots-have}
 use Rattle.ia32_rows.proofs.ItemKinds.{one-address}
@@ -47,7 +47,7 @@ ready-there symbols places text items address s e h =
     }
 
 -- what comes last of the items stands so far behind
-back-there : (symbols : Symbols) (places : Places) (text : List ℕ) (front back : List Item) (address : ℕ)
+pub back-there : (symbols : Symbols) (places : Places) (text : List ℕ) (front back : List Item) (address : ℕ)
     → StandsThere symbols places text (front ++ back) address
     → (distance : ℕ) × StandsThere symbols places text back (address + distance)
 back-there symbols places text front back address h =
@@ -61,11 +61,11 @@ back-there symbols places text front back address h =
     )
 
 -- a point stands where what follows it stands
-point-there : (symbols : Symbols) (places : Places) (text : List ℕ) (p : ℕ) (items : List Item) (address : ℕ)
+pub point-there : (symbols : Symbols) (places : Places) (text : List ℕ) (p : ℕ) (items : List Item) (address : ℕ)
     → StandsThere symbols places text (item.Point p ∷ items) address → places.points p ≡ address
 point-there symbols places text p items address h = h.stand.3.1
 
-behind-there : (symbols : Symbols) (places : Places) (text : List ℕ) (p : ℕ) (items : List Item) (address : ℕ)
+pub behind-there : (symbols : Symbols) (places : Places) (text : List ℕ) (p : ℕ) (items : List Item) (address : ℕ)
     → StandsThere symbols places text (item.Point p ∷ items) address → StandsThere symbols places text items address
 behind-there symbols places text p items address h =
     let none = h.stand.3.0 in
@@ -80,7 +80,7 @@ behind-there symbols places text p items address h =
     }
 
 -- where a NOP comes first, its byte stands
-nop-there : (symbols : Symbols) (places : Places) (text : List ℕ) (items : List Item) (address : ℕ)
+pub nop-there : (symbols : Symbols) (places : Places) (text : List ℕ) (items : List Item) (address : ℕ)
     → StandsThere symbols places text (plain insn.Nop ∷ items) address → IsAt text address (144 ∷ [])
 nop-there symbols places text items address h =
     let rest : List ℕ = h.stand.1 in
@@ -262,7 +262,7 @@ row-in-points placement ops (x ∷ ps) p (inr i) =
     later))
 
 -- the row of a point of a block
-row-in-blocks : (placement : Placement) (ops : List Op) (k : ℕ) (blocks : List (List ℕ)) (p b : ℕ)
+pub row-in-blocks : (placement : Placement) (ops : List Op) (k : ℕ) (blocks : List (List ℕ)) (p b : ℕ)
     → IsIn p (slice_index_or blocks b []) → HasRow placement ops p (following p (slice_index_or blocks b []))
     (block_rows placement ops k blocks)
 row-in-blocks placement ops k [] p zero h = absurd h
@@ -278,17 +278,16 @@ row-in-blocks placement ops k (points ∷ blocks) p (suc b) h =
     subst (HasRow placement ops p next) none (row-between placement ops p next front back []
     (row-in-blocks placement ops (suc k) blocks p b h))
 
--- the row of a point of the graph
-row-in-graph : (flow : Flow) (slots : List ℕ) (p b : ℕ) → Stands flow p b
-    → HasRow (over_slots flow slots) flow.ops p (following p (points_of flow b)) (selected flow (over_slots flow slots))
-row-in-graph flow slots p b h =
+-- the row of a point of the graph, over any placement
+pub row-in-graph : (flow : Flow) (placement : Placement) (p b : ℕ) → Stands flow p b
+    → HasRow placement flow.ops p (following p (points_of flow b)) (selected flow placement)
+row-in-graph flow placement p b h =
     let next : Option ℕ = following p (points_of flow b) in
-    let front : List Item = prologue (frame_of flow) (entry_label flow) in
-    let back : List Item = block_rows (over_slots flow slots) flow.ops 0 flow.blocks in
+    let front : List Item = prologue placement.frame (entry_label flow) in
+    let back : List Item = block_rows placement flow.ops 0 flow.blocks in
     let none : front ++ (back ++ []) ≡ front ++ back = ap (λ (l : List Item). front ++ l) (append-nil back) in
-    subst (HasRow (over_slots flow slots) flow.ops p next) none
-    (row-between (over_slots flow slots) flow.ops p next front back []
-    (row-in-blocks (over_slots flow slots) flow.ops 0 flow.blocks p b h))
+    subst (HasRow placement flow.ops p next) none
+    (row-between placement flow.ops p next front back [] (row-in-blocks placement flow.ops 0 flow.blocks p b h))
 
 -- where the items of a point stand
 record RowThere (flow : Flow) (slots : List ℕ) (code : Code) (p : ℕ) (next : Option ℕ) : Type 0 where
@@ -301,7 +300,7 @@ row-there : (flow : Flow) (slots : List ℕ) (code : Code) (p b : ℕ)
     → Stands flow p b → RowThere flow slots code p (following p (points_of flow b))
 row-there flow slots code p b h stands =
     let l = laid flow slots code h in
-    let r = row-in-graph flow slots p b stands in
+    let r = row-in-graph flow (over_slots flow slots) p b stands in
     let mine : List Item = point_row (over_slots flow slots) flow.ops p ++ r.rest in
     let whole : StandsIn code (r.front ++ mine) l.address =
     subst (λ (items : List Item). StandsIn code items l.address) r.is l.stands in
@@ -506,16 +505,16 @@ ending-ready flow slots items code address s h (before, after, places, start, en
 -- ---- no two points at one address, and no calls
 
 -- an item stands behind those before it
-at-place : (front back : List Item) (i : Item) → slice_get (front ++ (i ∷ back)) (length front) ≡ Some i
+pub at-place : (front back : List Item) (i : Item) → slice_get (front ++ (i ∷ back)) (length front) ≡ Some i
 at-place [] back i = refl
 at-place (x ∷ front) back i = at-place front back i
 
--- a point of the graph stands among the items
-pub point-among : (flow : Flow) (slots : List ℕ) (p b : ℕ) → Stands flow p b → (j : ℕ)
-    × (slice_get (selected flow (over_slots flow slots)) j ≡ Some (item.Point p))
-point-among flow slots p b h =
-    let r = row-in-graph flow slots p b h in
-    let back : List Item = row (over_slots flow slots) p (slice_index_or flow.ops p op.Turn) ++ r.rest in
+-- a point of the graph stands among the items, over any placement
+pub point-among : (flow : Flow) (placement : Placement) (p b : ℕ) → Stands flow p b → (j : ℕ)
+    × (slice_get (selected flow placement) j ≡ Some (item.Point p))
+point-among flow placement p b h =
+    let r = row-in-graph flow placement p b h in
+    let back : List Item = row placement p (slice_index_or flow.ops p op.Turn) ++ r.rest in
     (length r.front, ap (λ (l : List Item). slice_get l (length r.front)) r.is ∙ at-place r.front back (item.Point p))
 
 -- two points of the graph with one address are one point
@@ -525,8 +524,8 @@ pub apart : (flow : Flow) (slots : List ℕ) (code : Code) (p b q c : ℕ)
     ≡ point_address code 0 q → p ≡ q
 apart flow slots code p b q c h one two e =
     let l = laid flow slots code h in
-    let i = point-among flow slots p b one in
-    let j = point-among flow slots q c two in
+    let i = point-among flow (over_slots flow slots) p b one in
+    let j = point-among flow (over_slots flow slots) q c two in
     let same : (places_of code).points p ≡ (places_of code).points q = sym (address-of flow slots code p l) ∙ e
     ∙ address-of flow slots code q l in
     one-address code.symbols (places_of code) l.address (selected flow (over_slots flow slots)) l.stands.bytes i.0 j.0 p

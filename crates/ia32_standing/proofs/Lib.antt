@@ -1,0 +1,6 @@
+pub mod Functions
+pub mod Points
+pub mod Apart
+pub mod Returns
+pub mod Follows
+pub mod Slots
