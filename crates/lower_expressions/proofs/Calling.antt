@@ -81,12 +81,12 @@ kinds-are S active (p ∷ ps) (q ∷ qs) (x ∷ xs) kinds h =
 -- ---- the caller goes on
 
 -- a state at a point is the state behind the lines of that point
-back-is : (b p : ℕ) (h : graph.State) → h.block ≡ b → h.point ≡ p → record h { block = b; point = p } ≡ h
+pub back-is : (b p : ℕ) (h : graph.State) → h.block ≡ b → h.point ≡ p → record h { block = b; point = p } ≡ h
 back-is b p h eb ep =
     subst (λ (i : ℕ). record h { block = i; point = p } ≡ h) eb
     (subst (λ (j : ℕ). record h { block = h.block; point = j } ≡ h) ep refl)
 
-back-keeps : (first level : ℕ) (before : List Line) (g h : graph.State) → IsBack (behind before g) h
+pub back-keeps : (first level : ℕ) (before : List Line) (g h : graph.State) → IsBack (behind before g) h
     → Keeps first level g h
 back-keeps first level before g h back = record {
   function = back.function;
@@ -95,7 +95,7 @@ back-keeps first level before g h back = record {
   waiting = back.waiting;
 }
 
-begins-behind : (S : Site) (active : List Function) (before : List Line) (s : source.State) (g : graph.State)
+pub begins-behind : (S : Site) (active : List Function) (before : List Line) (s : source.State) (g : graph.State)
     → Begins S active s g → Begins S active s (behind before g)
 begins-behind S active before s g b = record {
   shows = record {

@@ -100,11 +100,11 @@ none-pass S = record {
   simple = λ e older s g b. refl;
 }
 
-first-true : (a b : Bool) → (a && b) ≡ true → a ≡ true
+pub first-true : (a b : Bool) → (a && b) ≡ true → a ≡ true
 first-true true b e = refl
 first-true false b e = absurd (cc)
 
-second-true : (a b : Bool) → (a && b) ≡ true → b ≡ true
+pub second-true : (a b : Bool) → (a && b) ≡ true → b ≡ true
 second-true true b e = e
 second-true false b e = absurd (cc)
 

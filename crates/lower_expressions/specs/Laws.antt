@@ -132,6 +132,14 @@ OrsLower = (S : Site) → IsSite S → (a b : Expression) → Lowers S (part_of 
     → Lowers S (part_of (context_of S) b) (evaluate S.calls b) → (part_of (context_of S) a).of ≢ Void
     → (part_of (context_of S) b).of ≢ Void → Lowers S (part_of (context_of S) (Or a b)) (evaluate S.calls (Or a b))
 
+-- `?:` of any type: what it gives is converted to this type on either way, as by a cast
+abbrev pub ChoicesLower : Type 0
+ChoicesLower = (S : Site) → IsSite S → (of : ValueType) (q a b : Expression)
+    → Lowers S (part_of (context_of S) q) (evaluate S.calls q) → (part_of (context_of S) q).of ≢ Void
+    → Lowers S (part_of (context_of S) (Cast of a)) (evaluate S.calls (Cast of a))
+    → Lowers S (part_of (context_of S) (Cast of b)) (evaluate S.calls (Cast of b))
+    → Lowers S (part_of (context_of S) (Conditional of q a b)) (evaluate S.calls (Conditional of q a b))
+
 -- `?:`, of two numbers
 abbrev pub ConditionalsLower : Type 0
 ConditionalsLower = (S : Site) → IsSite S → (q a b : Expression) (t u : IntegerType)

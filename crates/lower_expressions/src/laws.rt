@@ -6,7 +6,7 @@ ghost use Rattle.lower_expressions.specs.Laws.{BytesCount};
 ghost use Rattle.lower_expressions.specs.Laws.{VoidsLower};
 ghost use Rattle.lower_expressions.specs.Walk.{NumbersLower};
 ghost use Rattle.lower_expressions.specs.Laws.{PlusesLower};
-ghost use Rattle.lower_expressions.specs.Laws.{ConditionalsLower};
+ghost use Rattle.lower_expressions.specs.Laws.{ChoicesLower, ConditionalsLower};
 ghost use Rattle.lower_expressions.specs.Laws.{OrsLower};
 ghost use Rattle.lower_expressions.specs.Laws.{AndsLower};
 ghost use Rattle.lower_expressions.specs.Laws.{NotsLower};
@@ -103,6 +103,12 @@ pub fn ands_lower()
 /// The lines of `||` do what the source does, where those of its operands do.
 pub fn ors_lower()
     ensures { OrsLower }
+{}
+
+/// The lines of `?:` do what the source does, where its test does and both other operands do as they are converted to
+/// its type.
+pub fn choices_lower()
+    ensures { ChoicesLower }
 {}
 
 /// The lines of `?:` with numbers do what the source does, where those of its operands do.

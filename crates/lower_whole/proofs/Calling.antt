@@ -22,16 +22,16 @@ use Rattle.lower_lines.specs.Expressions.{all_passed, arguments_blocks, argument
 use Rattle.lower_lines.specs.Expressions.{arguments_words, call_part, parameters_of, part_of, parts_of, passed}
 use Rattle.lower_lines.specs.Expressions.{result_lines}
 use Rattle.lower_lines.specs.Following.{Begins, CallsFollow, ComesOf, FollowsAll, FollowsCall, GoesInto}
-use Rattle.lower_lines.specs.Following.{IsBack, IsSite, Lowers, LowersAll, MayWant, Site, Stand, WordsHold}
+use Rattle.lower_lines.specs.Following.{IsSite, Lowers, LowersAll, MayWant, Site, Stand, WordsHold}
 use Rattle.lower_lines.specs.Following.{all_as_passed, behind, context_of, graphs_of, parameters_in}
 use Rattle.lower_lines.specs.Lines.{Line, Emit}
 use Rattle.lower_lines.specs.Parts.{Wanted, Dropped, Own, ToLocal, Tests, Part, as_pointer}
-use Rattle.lower_lines.specs.Relation.{IsOf, Keeps}
+use Rattle.lower_lines.specs.Relation.{IsOf}
 use Rattle.lower_lines.specs.Variables.{levels_of, local_variables}
 use Rattle.lower_steps.proofs.Points.{ops-stand}
 use Rattle.lower_steps.proofs.Steps.{no-result-step}
 use Rattle.lower_expressions.proofs.Binary.{Fits, compound-lowers}
-use Rattle.lower_expressions.proofs.Calling.{result-fits}
+use Rattle.lower_expressions.proofs.Calling.{back-is, back-keeps, begins-behind, result-fits}
 use Rattle.lower_expressions.proofs.Converting.{begins-again}
 use Rattle.lower_expressions.proofs.Going.{stand-back, stand-front}
 use Rattle.lower_expressions.proofs.Made.{some-and}
@@ -126,38 +126,6 @@ all-alike S (l ∷ ls) (Argument e es) are = (
 )
 
 -- ---- a call of void
-
--- a state at a point is the state behind the lines of that point
-back-is : (b p : ℕ) (h : graph.State) → h.block ≡ b → h.point ≡ p → record h { block = b; point = p } ≡ h
-back-is b p h eb ep =
-    subst (λ (i : ℕ). record h { block = i; point = p } ≡ h) eb
-    (subst (λ (j : ℕ). record h { block = h.block; point = j } ≡ h) ep refl)
-
-back-keeps : (first level : ℕ) (before : List Line) (g h : graph.State) → IsBack (behind before g) h
-    → Keeps first level g h
-back-keeps first level before g h back = record {
-  function = back.function;
-  arguments = back.arguments;
-  temporaries = λ v low below. ap (λ (vs : List Value). slice_get vs v) back.variables;
-  waiting = back.waiting;
-}
-
-begins-behind : (S : Site) (active : List Function) (before : List Line) (s : source.State) (g : graph.State)
-    → Begins S active s g → Begins S active s (behind before g)
-begins-behind S active before s g b = record {
-  shows = record {
-    calls = b.shows.calls;
-    objects = b.shows.objects;
-    counts = b.shows.counts;
-    fits = b.shows.fits;
-    left = b.shows.left;
-    taken = b.shows.taken;
-    written = b.shows.written;
-  };
-  function = b.function;
-  youngest = b.youngest;
-  turns = b.turns;
-}
 
 into-void : (of : ValueType) → GoesInto Void of → ⊥
 into-void Void h = h

@@ -1,5 +1,5 @@
 -- Arguments of any type, as their parameters take them: each stays in its variables through those behind it.
-use Rattle.std.proofs.Common.{◌≡◌, ◌≢◌, ℕ, suc, ◌+◌, ◌≤◌, Bool, true, false, ◌&&◌, List, [], ◌∷◌, ◌++◌, map, max}
+use Rattle.std.proofs.Common.{◌≡◌, ◌≢◌, ℕ, suc, ◌+◌, ◌≤◌, Bool, true, false, List, [], ◌∷◌, ◌++◌, map, max}
 use Rattle.std.proofs.Common.{inr, refl, sym, ap, ◌∙◌, subst, arith, append-nil, append_assoc}
 use Rattle.std.proofs.Math.Nat.{le-max_left, le-max_right}
 use Rattle.c_bounds.specs.Bounds.{state_of}
@@ -26,6 +26,7 @@ use Rattle.lower_expressions.proofs.Binary.{turns-fall}
 use Rattle.lower_expressions.proofs.Converting.{begins-again}
 use Rattle.lower_expressions.proofs.Going.{goes-end, stand-back, stand-front}
 use Rattle.lower_expressions.proofs.Pairs.{Falls, goes-both}
+use Rattle.lower_expressions.proofs.Passing.{first-true, second-true}
 use Rattle.lower_pointers.proofs.Storing.{pointers-convert}
 use Rattle.lower_whole.proofs.Standing.{Stays, operand-stays}
 use Rattle.lower_whole.specs.Laws.{AllArgumentsPass, ArePassed, Does}
@@ -154,14 +155,6 @@ none-pass S = record {
   );
   simple = λ e older s g b. refl;
 }
-
-first-true : (a b : Bool) → (a && b) ≡ true → a ≡ true
-first-true true b e = refl
-first-true false b e = absurd (cc)
-
-second-true : (a b : Bool) → (a && b) ≡ true → b ≡ true
-second-true true b e = e
-second-true false b e = absurd (cc)
 
 alone-state : (s t : source.State) (values : List Held) (r : Evaluated (List Held)) → AllAlone s r
     → r ≡ Gives values t → t ≡ s

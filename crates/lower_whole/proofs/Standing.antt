@@ -1,12 +1,11 @@
 -- Operands of any type: a value stands in variables for the next op, and stays there through what is evaluated behind
 -- it.
-use Rattle.std.proofs.Common.{◌≡◌, ◌≢◌, ℕ, suc, ◌+◌, ◌*◌, ◌<◌, ◌≤◌, Bool, true, false, List, [], ◌∷◌, ◌++◌}
-use Rattle.std.proofs.Common.{Option, Some, None, refl, sym, ap, ◌∙◌, subst, arith, append-nil}
+use Rattle.std.proofs.Common.{◌≡◌, ◌≢◌, ℕ, suc, ◌+◌, ◌≤◌, Bool, true, false, List, [], ◌∷◌, ◌++◌}
+use Rattle.std.proofs.Common.{Option, Some, None, refl, sym, subst, append-nil}
 use Rattle.std.specs.Prelude.{slice_get}
 use Rattle.pcc_base.specs.Outcome.{Visit}
 use Rattle.c_tree.specs.declared.types.ValueType.{ValueType}
-use Rattle.c_tree.specs.declared.types.ValueType.TheVariants.{Void, Integer, Pointer}
-use Rattle.c_tree.specs.Evaluation.{type_of}
+use Rattle.c_tree.specs.declared.types.ValueType.TheVariants.{Void}
 use Rattle.c_tree.specs.Program.{Function, Local}
 use Rattle.c_tree.specs.Store as source
 use Rattle.c_tree.specs.Store.{Evaluated, Gives, Ends, Held, HoldsNumber, HoldsPointer, held}
@@ -16,12 +15,11 @@ use Rattle.lower_lines.specs.Following.{behind, context_of}
 use Rattle.lower_lines.specs.Lines.{Line}
 use Rattle.lower_lines.specs.Parts.{Own, Part, if_stays, operand, standing}
 use Rattle.lower_lines.specs.Relation.{HoldsAt, IsOf, Keeps, Shows}
-use Rattle.lower_lines.specs.Shown.{first_variable}
-use Rattle.lower_lines.specs.Variables.{Spot, levels_of, local_spot, local_variables, own, typed_spot}
-use Rattle.lower_relation.proofs.Changes.{kept-none, locals-held}
+use Rattle.lower_lines.specs.Variables.{Spot, levels_of, local_spot, local_variables, own}
+use Rattle.lower_relation.proofs.Changes.{kept-none}
 use Rattle.lower_expressions.proofs.Going.{Goes}
 use Rattle.lower_expressions.proofs.Made.{some-and}
-use Rattle.lower_places.proofs.Assigning.{own-same}
+use Rattle.lower_pointers.proofs.Both.{local-holds, own-again}
 
 -- Wherever lines of the next level lead, the value is in the spot; one that stays where a local stands does so as long
 -- as nothing is stored.
@@ -42,25 +40,6 @@ Stays S active stays before lines level of spot s g (Ends end t) = EndsSo S end 
 
 -- ---- in its own temporaries
 
-own-remains : (S : Site) (level : ℕ) (of : ValueType) (h i : graph.State) (value : Held)
-    → Keeps (local_variables S.function) (suc level) h i
-    → HoldsAt h.current.variables of (own (context_of S) level) value
-    → HoldsAt i.current.variables of (own (context_of S) level) value
-own-remains S level Void h i value keeps holds = tt
-own-remains S level (Integer t) h i (HoldsPointer array index) keeps holds = absurd holds
-own-remains S level (Pointer t) h i (HoldsNumber n) keeps holds = absurd holds
-own-remains S level (Pointer t) h i (HoldsPointer array index) keeps holds =
-    own-same S level h i t array index keeps holds
-own-remains S level (Integer t) h i (HoldsNumber n) keeps holds =
-    keeps.temporaries (own (context_of S) level).number (low (local_variables S.function) (level * 5))
-    (high (local_variables S.function) level) ∙ holds
-  where
-    low : (a b : ℕ) → a ≤ a + b + 1
-    low a b = omega arith
-
-    high : (a b : ℕ) → a + b * 5 + 1 < a + suc b * 5
-    high a b = omega arith
-
 own-stays : (S : Site) (active : List Function) (stays : Bool) (before lines : List Line) (level : ℕ) (of : ValueType)
     (s : source.State) (g : graph.State) (r : Evaluated Held) → Follows S active before lines level Own of s g r
     → GivesOf S.program active of r → Stays S active stays before lines level of (own (context_of S) level) s g r
@@ -71,27 +50,12 @@ own-stays S active stays before lines level of s g (Gives value t) (h, us, shows
   shows,
   keeps,
   seen,
-  λ w i same again kept. own-remains S level of h i value kept holds,
+  λ w i same again kept. own-again S level h i of value kept holds,
   typed,
   goes,
 )
 
 -- ---- where a local stands
-
--- the variables of a local hold what the source has
-local-held : (S : Site) (older : List Function) (k : ℕ) (l : Local) (of : ValueType) (s : source.State)
-    (g : graph.State) → slice_get S.function.locals k ≡ Some l → l.of ≡ of → Shows S.program (S.function ∷ older) s g
-    → HoldsAt g.current.variables of (local_spot (context_of S) k) (held s k)
-    × IsOf S.program (S.function ∷ older) of (held s k)
-local-held S older k l of s g e is shows =
-    let v = first_variable S.function.locals k in
-    let at = locals-held S.program S.function older s g k l shows e in
-    let spot : local_spot (context_of S) k ≡ typed_spot of v =
-    ap (λ (o : Option Local). typed_spot (type_of o) v) e ∙ ap (λ (m : ValueType). typed_spot m v) is in (
-      subst (λ (p : Spot). HoldsAt g.current.variables of p (held s k)) (sym spot)
-          (subst (λ (m : ValueType). HoldsAt g.current.variables m (typed_spot m v) (held s k)) is at.0),
-      subst (λ (m : ValueType). IsOf S.program (S.function ∷ older) m (held s k)) is at.1,
-    )
 
 local-stays : (S : Site) (older : List Function) (before : List Line) (level k : ℕ) (l : Local) (of : ValueType)
     (s : source.State) (g : graph.State) → slice_get S.function.locals k ≡ Some l → l.of ≡ of
@@ -104,8 +68,8 @@ local-stays S older before level k l of s g e is shows = (
   kept-none (local_variables S.function) level g,
   sym (append-nil s.visits),
   λ w i same again kept. subst (λ (u : source.State). HoldsAt i.current.variables of (local_spot (context_of S) k)
-      (held u k)) (same refl) (local-held S older k l of w i e is again).0,
-  (local-held S older k l of s g e is shows).1,
+      (held u k)) (same refl) (local-holds S older k l of e is w i again).0,
+  (local-holds S older k l of e is s g shows).1,
   λ o c. subst (λ (ls : List Line). Comes S s.turns (behind ls g) o) (append-nil before) c,
 )
 

@@ -2,10 +2,9 @@
 -- `lower_lines`.
 use Rattle.std.specs.Prelude.{◌≡◌, ◌≢◌, ℕ, List, [], ◌∷◌, Some, slice_get}
 use Rattle.c_tree.specs.declared.types.IntegerType.{IntegerType}
-use Rattle.c_tree.specs.declared.types.ValueType.{ValueType}
 use Rattle.c_tree.specs.declared.types.ValueType.TheVariants.{Void, Pointer}
 use Rattle.c_tree.specs.Evaluation.{evaluate, evaluate_all}
-use Rattle.c_tree.specs.Program.{Argument, Arguments, Call, Cast, Conditional, Expression, Function, Local, NoMore}
+use Rattle.c_tree.specs.Program.{Argument, Arguments, Call, Conditional, Expression, Function, Local, NoMore}
 use Rattle.c_tree.specs.WellTyped.{CanAssign, IsResult}
 use Rattle.lower_lines.specs.Expressions.{all_passed, part_of, parts_of}
 use Rattle.lower_lines.specs.Following.{CallsFollow, IsSite, Lowers, LowersAll, Site, context_of, parameters_in}
@@ -16,11 +15,6 @@ abbrev pub Does : Site → Expression → Type 0
 Does S e = Lowers S (part_of (context_of S) e) (evaluate S.calls e)
 
 -- ---- `?:` (C99 6.5.15)
-
--- of any type: what it gives is converted to this type on either way, as by a cast
-abbrev pub ChoicesLower : Type 0
-ChoicesLower = (S : Site) → IsSite S → (of : ValueType) (q a b : Expression) → Does S q
-    → (part_of (context_of S) q).of ≢ Void → Does S (Cast of a) → Does S (Cast of b) → Does S (Conditional of q a b)
 
 -- of two pointers, or of one and the null constant
 abbrev pub PointersAreChosen : Type 0

@@ -1,14 +1,8 @@
 //! Laws of the lines of all expressions: each function's contract is one, and the function does nothing.
 
 ghost use Rattle.lower_lines.specs.Laws.{ArgumentsLower, ExpressionsLower, PlacesLower};
-ghost use Rattle.lower_whole.specs.Laws.{AllArgumentsPass, AllCallsLower, ChoicesLower};
+ghost use Rattle.lower_whole.specs.Laws.{AllArgumentsPass, AllCallsLower};
 ghost use Rattle.lower_whole.specs.Laws.{PointersAreChosen, VoidsAreChosen};
-
-/// The lines of `?:` do what the source does, where its test does and both other operands do as they are converted to
-/// its type.
-pub fn choices_lower()
-    ensures { ChoicesLower }
-{}
 
 /// The lines of `?:` whose value is a pointer do what the source does, where those of its operands do.
 pub fn pointers_are_chosen()

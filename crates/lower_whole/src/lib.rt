@@ -5,6 +5,6 @@
 mod laws;
 
 pub use laws::{
-    all_arguments_pass, all_calls_lower, arguments_lower, choices_lower, expressions_lower,
-    places_lower, pointers_are_chosen, voids_are_chosen,
+    all_arguments_pass, all_calls_lower, arguments_lower, expressions_lower, places_lower,
+    pointers_are_chosen, voids_are_chosen,
 };
