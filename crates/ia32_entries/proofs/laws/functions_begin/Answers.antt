@@ -1,0 +1,5 @@
+use Rattle.ia32_entries.proofs.Entry.{entry-comes}
+use Rattle.ia32_entries.proofs.laws.functions_begin.Goals as goal
+
+pub returns : goal.returns
+returns c = record { entry = entry-comes }
