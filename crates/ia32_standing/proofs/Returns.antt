@@ -101,8 +101,15 @@ before-inside places =
 -- ---- where a call returns to
 
 pub calls-return : CallsReturn
-calls-return code w result callee words r h below stands has
-    (items, places, address, of-f, placed, named, (front, middle, back, before, after, is, inside, upto, at, text, r-is)) =
+calls-return code w result callee words r h below stands has (
+  items,
+  places,
+  address,
+  of-f,
+  placed,
+  named,
+  (front, middle, back, before, after, is, inside, upto, at, text, r-is),
+) =
     let f : ℕ = w.activation.function in
     let placement : Placement = placement_of code f in
     let site : Site = site_of code f in

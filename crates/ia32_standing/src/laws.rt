@@ -17,8 +17,8 @@ pub fn functions_stand()
     ensures start { StartsStand }
 {}
 
-/// At the address of each point of any function the row of its op stands, and behind it the next point of its block; and
-/// behind each block's label its first point.
+/// At the address of each point of any function the row of its op stands, and behind it the next point of its block;
+/// and behind each block's label its first point.
 pub fn points_stand()
     ensures points { PointsStand }
     ensures rows { RowsStand }
