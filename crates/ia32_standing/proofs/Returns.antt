@@ -21,7 +21,7 @@ use Rattle.ia32_rows.proofs.ItemKinds.{PointsTakeRoom, behind-point, every-join,
 use Rattle.ia32_rows.proofs.Laid.{at-place}
 use Rattle.ia32_keeps.specs.Supports.{no_places, site_of}
 use Rattle.ia32_keeps.proofs.Memory.{address-at}
-use Rattle.ia32_standing.specs.Laws.{CallsReturn, CallsStand, place_behind, places_before}
+use Rattle.ia32_standing.specs.Laws.{CallsReturn, CallsStand, MarkedStand, MarksSayWhere, place_behind, places_before}
 use Rattle.ia32_standing.proofs.Apart.{all-room}
 use Rattle.ia32_standing.proofs.Points.{laid, point-is-there}
 
@@ -179,6 +179,29 @@ pointed-item symbols places r address (item.CallFunction f) bytes inside at = ab
 pointed-item symbols places r address (item.CallStub s) bytes inside at = at
 pointed-item symbols places r address (item.JumpTrap c) bytes inside at = at
 pointed-item symbols places r address (item.AddressOf q k) bytes inside at = at
+
+all-pointed : (symbols : Symbols) (places : Places) (r address : ℕ) (items : List Item) (bytes : List ℕ)
+    → AllByRecursion IsInside items → ItemsAt symbols places address items bytes
+    → ItemsAt symbols (pointed places r) address items bytes
+all-pointed symbols places r address [] bytes inside h = h
+all-pointed symbols places r address (x ∷ items) bytes inside (first, rest, whole, at, more) = (
+  first,
+  rest,
+  whole,
+  pointed-item symbols places r address x first inside.0 at,
+  all-pointed symbols places r (address + length first) items rest inside.1 more,
+)
+
+pub marked-stand : MarkedStand
+marked-stand site r address items inside h =
+    record {
+      bytes = h.bytes;
+      here = h.here;
+      stand = all-pointed site.symbols site.places r address items h.bytes inside h.stand;
+    }
+
+pub marks-say-where : MarksSayWhere
+marks-say-where site r address h = h.stand.3.1
 
 -- a point at the end of the items up to a call
 pointed-items : (symbols : Symbols) (places : Places) (r f address : ℕ) (items : List Item) (bytes : List ℕ)

@@ -17,7 +17,7 @@ use Rattle.flow_graph.specs.WellFormed.{IsState}
 use Rattle.ia32_shows.specs.Follows.{Follows, is_nop}
 use Rattle.ia32_shows.specs.Paths.{IsAt, IsClear}
 use Rattle.ia32_shows.specs.Placements.{Code, IsCode, placement_of, point_address}
-use Rattle.ia32_shows.specs.Shows.{ReturnsTo, Shows, StartReturns, start_of}
+use Rattle.ia32_shows.specs.Shows.{IsInside, ReturnsTo, Shows, StartReturns, start_of}
 use Rattle.ia32_shows.specs.Sites.{ReadyAt, Site, StandsFrom}
 use Rattle.ia32_rows.specs.Right.{IsSlotCode}
 use Rattle.ia32_rows.specs.Rows.{HasItems, before_call, behind_call, entry_label, over_slots, place_after, place_before}
@@ -146,6 +146,16 @@ marked site address = record {
   low = site.low;
   high = site.high;
 }
+
+-- items that are neither points nor calls stand there as in the function's own site, and a point says where it stands
+abbrev pub MarkedStand : Type 0
+MarkedStand =
+    (site : Site) (mark address : ℕ) (items : List Item) → AllByRecursion IsInside items
+    → StandsFrom site items address → StandsFrom (marked site mark) items address
+
+abbrev pub MarksSayWhere : Type 0
+MarksSayWhere =
+    (site : Site) (mark address : ℕ) → StandsFrom (marked site mark) (item.Point 0 ∷ []) address → mark ≡ address
 
 -- The items of a call are ready up to the instruction that calls, and what is behind that stands where the call returns
 -- to: a point there has this address.

@@ -1,7 +1,7 @@
 ghost use Rattle.ia32_standing.specs.Laws.{SlotCodeIsSelected, FunctionsStand, EntriesStand, StartsStand};
 ghost use Rattle.ia32_standing.specs.Laws.{PointsStand, RowsStand, LabelsStand};
 ghost use Rattle.ia32_standing.specs.Laws.{PointsApart, MarksAreNops, OthersAreClear};
-ghost use Rattle.ia32_standing.specs.Laws.{CallsStand, CallsReturn};
+ghost use Rattle.ia32_standing.specs.Laws.{CallsStand, CallsReturn, MarkedStand, MarksSayWhere};
 ghost use Rattle.ia32_standing.specs.Laws.{StepsFollow};
 
 /// The code of a graph over slots is that of a program over placements that support its graphs.
@@ -37,6 +37,8 @@ pub fn points_are_apart()
 pub fn calls_lead_back()
     ensures calls { CallsStand }
     ensures returns { CallsReturn }
+    ensures marked { MarkedStand }
+    ensures marks { MarksSayWhere }
 {}
 
 /// From every state that shows one of the program the machine follows the program's step, but for calls, returns,
