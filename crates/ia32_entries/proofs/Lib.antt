@@ -4,3 +4,7 @@ pub mod Headers
 pub mod Begun
 pub mod Fresh
 pub mod Entry
+pub mod Marked
+pub mod Passed
+pub mod Younger
+pub mod Calling

@@ -1,6 +1,13 @@
 ghost use Rattle.ia32_entries.specs.Laws.{EntryComes};
+ghost use Rattle.ia32_entries.specs.Calls.{CallComes};
 
 /// From a function's first item the machine comes to a state that shows the function's first point.
 pub fn functions_begin()
     ensures entry { EntryComes }
+{}
+
+/// The row of a call comes to the function's first item with the call begun, or, where too many are active, to the trap
+/// of a failed check.
+pub fn functions_are_called()
+    ensures call { CallComes }
 {}
