@@ -1,0 +1,2 @@
+pub mod Outlining
+pub mod Making
