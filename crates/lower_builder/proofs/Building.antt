@@ -123,7 +123,8 @@ no-end block front (i ∷ []) plain last =
 no-end block front (i ∷ j ∷ ops) plain last =
     let more : length (front ++ i ∷ []) ≡ suc (length front) = length-append front (i ∷ []) ∙ omega arith in
     no-end block (front ++ i ∷ []) (j ∷ ops) plain.1
-    (subst (λ (k : ℕ). LastIsEnd ((front ++ i ∷ []) ++ j ∷ ops) (points_from block k true (emitted (j ∷ ops)))) (sym more)
+    (subst (λ (k : ℕ). LastIsEnd ((front ++ i ∷ []) ++ j ∷ ops) (points_from block k true (emitted (j ∷ ops))))
+    (sym more)
     (subst (λ (is : List Op). LastIsEnd is (points_from block (suc (length front)) true (emitted (j ∷ ops))))
     (sym (append_assoc front (i ∷ []) (j ∷ ops))) last))
 
@@ -215,7 +216,8 @@ module _ (widths : List Width) (arrays : List (ℕ × ℕ)) (blocks : ℕ) where
         (λ ended. not-ended before c once (subst (LastIsEnd (ops_in before)) points ended)),
         fits_op-grows (graph []) (graph before) (grown before) i
             (all-back (FitsOp (graph [])) (ops_in before) (i ∷ ops_in rest)
-            (subst (λ (is : List Op). AllByRecursion (FitsOp (graph [])) is) (ops-append before (Emit i ∷ rest)) fit)).0,
+            (subst (λ (is : List Op). AllByRecursion (FitsOp (graph [])) is)
+            (ops-append before (Emit i ∷ rest)) fit)).0,
       )
 
   pub last-behind : (before : List Line) (line : Line)
@@ -242,10 +244,12 @@ module _ (widths : List Width) (arrays : List (ℕ × ℕ)) (blocks : ℕ) where
       λ b. sym (points-append b 0 false before (Start block ∷ []) ∙ append-none (points_in b before)) in
       let blocks-same : map (λ b. points_in b before) (range_with_len 0 blocks)
       ≡ map (λ b. points_in b (before ++ Start block ∷ [])) (range_with_len 0 blocks) =
-      map-same (λ b. points_in b before) (λ b. points_in b (before ++ Start block ∷ [])) (range_with_len 0 blocks) same in
+      map-same (λ b. points_in b before) (λ b. points_in b (before ++ Start block ∷ []))
+      (range_with_len 0 blocks) same in
       let ops-same : ops_in before ≡ ops_in (before ++ Start block ∷ []) =
       sym (ops-append before (Start block ∷ []) ∙ append-none (ops_in before)) in
-      ap (λ (bs : List (List ℕ)). record { widths = widths; arrays = arrays; blocks = bs; ops = ops_in before }) blocks-same
+      ap (λ (bs : List (List ℕ)). record { widths = widths; arrays = arrays; blocks = bs; ops = ops_in before })
+      blocks-same
       ∙ ap (λ (is : List Op). record {
         widths = widths;
         arrays = arrays;

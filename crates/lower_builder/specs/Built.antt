@@ -15,5 +15,6 @@ pub record Built : Type 0 where
   pub next : ℕ
 
 -- so many blocks were taken, and these lines added
-abbrev pub Adds : Built → Built → ℕ → List Line → Type 0
-Adds old new blocks lines = (new.lines ≡ old.lines ++ lines) × (new.next ≡ old.next + blocks)
+pub record Adds (old new : Built) (blocks : ℕ) (more : List Line) : Type 0 where
+  pub lines : new.lines ≡ old.lines ++ more
+  pub next : new.next ≡ old.next + blocks

@@ -26,7 +26,8 @@ follow-requires c =
     (subst (AreClosed c.args.blocks) whole c.requires.closed)
     (subst (AllFit (graph_of_lines c.args.widths.now c.args.arrays.now c.args.blocks [])) whole c.requires.fit) in
     subst (λ (g : Flow). CanFollow g c.loop-line.last (line_of x)) (sym c.loop-line.invariant.graph)
-    (subst (λ (n : ℕ). CanFollow (graph_of_lines c.args.widths.now c.args.arrays.now c.args.blocks before) n (line_of x))
+    (subst (λ (n : ℕ). CanFollow (graph_of_lines c.args.widths.now c.args.arrays.now c.args.blocks before) n
+    (line_of x))
     (sym c.loop-line.invariant.last) follows)
 
 pub loop-line-preserved : goal.loop-line-preserved

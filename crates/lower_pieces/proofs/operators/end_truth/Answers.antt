@@ -1,0 +1,11 @@
+use Rattle.lower_pieces.specs.Sites.{context_of}
+use Rattle.lower_pieces.specs.Spots.{spot_of}
+use Rattle.lower_pieces.specs.Views.{wanted_of}
+use Rattle.lower_pieces.proofs.Joined.{end-whole}
+use Rattle.lower_pieces.proofs.operators.end_truth.Goals as goal
+
+pub returns : goal.returns
+returns c =
+    end-whole (context_of c.args.site.now) c.args.level (wanted_of c.args.wanted) c.args.block c.in_ok-second.second
+    c.in_ok-behind.behind (spot_of c.in_ok-to.to) c.in_ok-second.ensures c.in_ok-behind.ensures c.in_ok-to.ensures
+    c.in_ok-truth_way.ensures c.in_ok-truth_way-2.ensures c.in_ok-start.ensures
