@@ -1,0 +1,4 @@
+pub mod Spans
+pub mod Apart
+pub mod Ints
+pub mod Sources
