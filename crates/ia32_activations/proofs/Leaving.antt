@@ -1,12 +1,14 @@
 -- A return from a frame of any placement.
-use Rattle.std.proofs.Common.{◌≡◌, ◌≢◌, ℕ, ◌+◌, ◌-◌, ◌^◌, ◌<◌, ◌≤◌, Bool, true, false, List, [], ◌∷◌, ◌++◌, Ok}
+use Rattle.std.proofs.Common.{◌≡◌, ◌≢◌, ℕ, ◌+◌, ◌-◌, ◌/◌, ◌%◌, ◌^◌, ◌<◌, ◌≤◌, Bool, true, false, List, [], ◌∷◌, ◌++◌}
+use Rattle.std.proofs.Common.{Ok, drop, take}
 use Rattle.std.proofs.Common.{refl, sym, ap, subst, ◌∙◌, arith, append_assoc}
 use Rattle.std.specs.Prelude.{Result, ◌==◌, if◌then◌else◌}
+use Rattle.byteorder.specs.Endian.{little_bytes}
 use Rattle.pcc_base.specs.Outcome.{End}
 use Rattle.pcc_base.specs.declared.run.Width.TheVariants.{Two}
 use Rattle.ia32_regs.specs.declared.names.Reg32.{Reg32}
 use Rattle.ia32_regs.specs.declared.names.Reg32.TheVariants.{Eax, Ebx, Esp, Ebp, Esi, Edi}
-use Rattle.ia32_regs.specs.Registers.{number32}
+use Rattle.ia32_regs.specs.Registers.{number32, register, word_place}
 use Rattle.ia32_places.specs.Places.{Place, InWord, InByte, InSlot}
 use Rattle.ia32_insn.specs.declared.operand.Rm32.TheVariants as rm
 use Rattle.ia32_insn.specs.declared.insn.Insn.TheVariants as insn
@@ -17,13 +19,13 @@ use Rattle.ia32_insn.specs.Items.{plain}
 use Rattle.ia32_insn.proofs.Access.{ok-once}
 use Rattle.ia32_shows.specs.Paths.{Comes}
 use Rattle.ia32_shows.specs.Placements.{below}
-use Rattle.ia32_shows.specs.Sites.{Framed, ReadyAt, Site}
+use Rattle.ia32_shows.specs.Sites.{Framed, ReadyAt, Site, SoundAt}
 use Rattle.ia32_shows.proofs.Sets.{Sets, set-goes, unlike}
 use Rattle.ia32_shows.proofs.Sound.{load-in, load-same, sound-at, sound-with_word, word-other, word-same}
 use Rattle.ia32_shows.proofs.Steps.{comes-not, comes-then, plain-goes}
 use Rattle.ia32_calls.specs.Laws.{HasWordFrom, Returned}
 use Rattle.ia32_calls.proofs.Pushes.{leave-goes, ret-goes}
-use Rattle.ia32_rows.specs.Rows.{leave, read}
+use Rattle.ia32_rows.specs.Rows.{leave, read, return_row}
 use Rattle.ia32_effects.specs.Contains.{Contains, HoldsWord, IsPlaceIn}
 use Rattle.ia32_effects.proofs.Instructions.{below-loaded}
 use Rattle.ia32_effects.proofs.Moves.{alike, same-word}
@@ -35,11 +37,31 @@ record Loads (site : Site) (frame : ℕ) (items : List Item) (r : Reg32) (d : �
   pub ready : ReadyAt site items u
   pub framed : Framed site frame u
   pub value : HasWordFrom r (word_of Ebp s - d) s u
+  pub any : (w : ℕ) → load 4 (word_of Ebp s - d) s ≡ Ok w → word_of r u ≡ w % 2 ^ 32
   pub others : (q : Reg32) → number32 q ≢ number32 r → word_of q u ≡ word_of q s
   pub memory : u.memory ≡ s.memory
   pub left : u.left ≡ s.left
   pub taken : u.taken ≡ s.taken
   pub written : u.written ≡ s.written
+
+-- a register holds the low 32 bits of a number
+same-bytes : (v : ℕ) → little_bytes 4 (v % 2 ^ 32) ≡ little_bytes 4 v
+same-bytes v =
+    let a : v % 2 ^ 32 % 256 ≡ v % 256 = omega arith in
+    let b : v % 2 ^ 32 / 256 % 256 ≡ v / 256 % 256 = omega arith in
+    let c : v % 2 ^ 32 / 65536 % 256 ≡ v / 65536 % 256 = omega arith in
+    let d : v % 2 ^ 32 / 16777216 % 256 ≡ v / 16777216 % 256 = omega arith in
+    listed (v % 2 ^ 32 % 256) (v % 2 ^ 32 / 256 % 256) (v % 2 ^ 32 / 65536 % 256) (v % 2 ^ 32 / 16777216 % 256)
+    (v % 256) (v / 256 % 256) (v / 65536 % 256) (v / 16777216 % 256) a b c d
+  where
+    listed : (a b c d e f g h : ℕ) → a ≡ e → b ≡ f → c ≡ g → d ≡ h → a ∷ b ∷ c ∷ d ∷ [] ≡ e ∷ f ∷ g ∷ h ∷ []
+    listed a b c d e f g h i j k l = cc
+
+pub word-mod : (site : Site) (r : Reg32) (v : ℕ) (s : State) → SoundAt site s → word_of r (with_word r v s) ≡ v % 2 ^ 32
+word-mod site r v s sound =
+    ap (λ (bytes : List ℕ). register r (take (word_place r) s.registers ++ bytes
+    ++ drop (word_place r + 4) s.registers)) (sym (same-bytes v))
+    ∙ word-same site.text site.low site.high r (v % 2 ^ 32) s sound (omega arith)
 
 loads : (site : Site) (frame : ℕ) (items : List Item) (r : Reg32) (d : ℕ) (s : State) → Framed site frame s
     → number32 Esp ≢ number32 r → number32 Ebp ≢ number32 r → 4 ≤ d → d ≤ frame
@@ -74,6 +96,8 @@ loads site frame items r d s framed other another some within ready =
         };
         value = λ w held fits. subst (λ (v : ℕ). word_of r (with_word r v s) ≡ w) (ok-once w found.0
             (sym held ∙ found.1)) (word-same site.text site.low site.high r w s sound fits);
+        any = λ w held. word-mod site r found.0 s sound
+            ∙ ap (λ (v : ℕ). v % 2 ^ 32) (ok-once found.0 w (sym found.1 ∙ held));
         others = λ q apart. word-other site.text site.low site.high q r found.0 s sound apart;
         memory = refl;
         left = refl;
@@ -94,8 +118,14 @@ held-still : (d w : ℕ) (s u : State) → word_of Ebp u ≡ word_of Ebp s → u
 held-still d w s u ebp memory held =
     load-same 4 (word_of Ebp u - d) w s u memory (subst (λ (k : ℕ). load 4 (k - d) s ≡ Ok w) (sym ebp) held)
 
-pub leave-comes : LeaveComes
-leave-comes site frame x address back s framed room is held fits ready =
+-- also of a number that a word can't hold, EBX gets the low 32 bits
+abbrev pub BringsEbx : State → State → Type 0
+BringsEbx s u = (w : ℕ) → load 4 (word_of Ebp s - 4) s ≡ Ok w → word_of Ebx u ≡ w % 2 ^ 32
+
+pub leave-whole : (site : Site) (frame x address : ℕ) (back : List Item) (s : State) → Framed site frame s
+    → 16 ≤ frame → word_of Eax s ≡ x → load 4 (word_of Ebp s + 4) s ≡ Ok address → address < 2 ^ 32
+    → ReadyAt site (leave ++ back) s → (u : State) × Returned site x address s u × BringsEbx s u
+leave-whole site frame x address back s framed room is held fits ready =
     let end : List Item = plain insn.Leave ∷ plain insn.Ret ∷ back in
     let three : List Item = plain (insn.MovLoad Edi (below 12)) ∷ end in
     let two : List Item = plain (insn.MovLoad Esi (below 8)) ∷ three in
@@ -149,6 +179,8 @@ leave-comes site frame x address back s framed room is held fits ready =
         taken = t.3.taken ∙ l.3.taken ∙ r.1.taken ∙ q.1.taken ∙ p.1.taken;
         written = t.3.written ∙ l.3.written ∙ r.1.written ∙ q.1.written ∙ p.1.written;
       },
+      λ w old. t.3.others Ebx (unlike 3 4 refl) ∙ l.3.others Ebx (unlike 3 5 refl) (unlike 3 4 refl)
+          ∙ r.1.others Ebx (unlike 3 7 refl) ∙ q.1.others Ebx (unlike 3 6 refl) ∙ p.1.any w old,
     )
   where
     from-low : (low esp frame e : ℕ) → low + 4 ≤ esp → esp + frame ≡ e → low ≤ e
@@ -167,6 +199,10 @@ leave-comes site frame x address back s framed room is held fits ready =
 
     left-word : (ebp found w : ℕ) → (found < 2 ^ 32 → ebp ≡ found) → found ≡ w → w < 2 ^ 32 → ebp ≡ w
     left-word ebp found w h same small = h (subst (λ (k : ℕ). k < 2 ^ 32) (sym same) small) ∙ same
+
+pub leave-comes : LeaveComes
+leave-comes site frame x address back s framed room is held fits ready =
+    let p = leave-whole site frame x address back s framed room is held fits ready in (p.0, p.1)
 
 -- what was returned by a state that was come to is returned by the first
 returned-since : (site : Site) (x address : ℕ) (s m u : State) → Comes site.text s m → word_of Ebp m ≡ word_of Ebp s
@@ -267,14 +303,26 @@ reads site frame (InSlot k) x items s framed holds inside contains small ready =
     ready tt small (λ after. ap (λ (y : Result ℕ End). and_then y
     (λ value. let q : Result State End = Ok (with_word Eax value s) in q)) loaded) (λ after. refl))
 
-pub return-comes : ReturnComes
-return-comes site frame place x address back s framed four holds inside contains small held fits ready =
+pub return-whole : (site : Site) (frame : ℕ) (place : Place) (x address : ℕ) (back : List Item) (s : State)
+    → Framed site frame s → 16 ≤ frame → HoldsWord place → IsPlaceIn frame place → Contains s Two place x → x < 2 ^ 32
+    → load 4 (word_of Ebp s + 4) s ≡ Ok address → address < 2 ^ 32 → ReadyAt site (return_row place ++ back) s
+    → (u : State) × Returned site x address s u × BringsEbx s u
+return-whole site frame place x address back s framed four holds inside contains small held fits ready =
     let rest : List Item = leave ++ back in
     let m = reads site frame place x rest s framed holds inside contains small
     (subst (λ (xs : List Item). ReadyAt site xs s) (append_assoc (read Eax place) leave back) ready) in
     let n : State = m.0 in
     let g = m.1 in
-    let last = leave-comes site frame x address back n g.framed four g.eax
+    let last = leave-whole site frame x address back n g.framed four g.eax
     (subst (λ (k : ℕ). load 4 (k + 4) n ≡ Ok address) (sym g.ebp)
-    (load-same 4 (word_of Ebp s + 4) address s n g.memory held)) fits g.ready in
-    (last.0, returned-since site x address s n last.0 g.comes g.ebp g.memory g.left g.taken g.written last.1)
+    (load-same 4 (word_of Ebp s + 4) address s n g.memory held)) fits g.ready in (
+      last.0,
+      returned-since site x address s n last.0 g.comes g.ebp g.memory g.left g.taken g.written last.1,
+      λ w old. last.2 w (subst (λ (k : ℕ). load 4 (k - 4) n ≡ Ok w) (sym g.ebp)
+          (load-same 4 (word_of Ebp s - 4) w s n g.memory old)),
+    )
+
+pub return-comes : ReturnComes
+return-comes site frame place x address back s framed four holds inside contains small held fits ready =
+    let p = return-whole site frame place x address back s framed four holds inside contains small held fits ready in
+    (p.0, p.1)

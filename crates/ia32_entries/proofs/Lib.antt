@@ -8,3 +8,7 @@ pub mod Marked
 pub mod Passed
 pub mod Younger
 pub mod Calling
+pub mod Back
+pub mod Clear
+pub mod Resuming
+pub mod Returning

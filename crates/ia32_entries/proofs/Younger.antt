@@ -1,6 +1,6 @@
 -- What is shown among active calls is shown where one more is active, and what the older ones hold where one less is.
-use Rattle.std.proofs.Common.{◌≡◌, ℕ, suc, ◌-◌, ◌≤◌, List, [], ◌∷◌, length, Some, subst, arith}
-use Rattle.std.specs.Prelude.{slice_get}
+use Rattle.std.proofs.Common.{◌≡◌, ℕ, suc, ◌-◌, ◌≤◌, List, [], ◌∷◌, length, Some, refl, subst, arith}
+use Rattle.std.specs.Prelude.{map, slice_get}
 use Rattle.pcc_base.specs.Outcome.{Null, Static, InFrame, Unknown, Value, Number, Array}
 use Rattle.flow_graph.specs.States.{Activation, Waiting}
 use Rattle.ia32_shows.specs.Placements.{Code}
@@ -46,3 +46,43 @@ old-deeper depth deeper (Array Null) le h = h
 old-deeper depth deeper (Array (Static k)) le h = h
 old-deeper depth deeper (Array (InFrame k of)) le h = (h.0, omega (arith, le, h.1))
 old-deeper depth deeper (Array Unknown) le h = absurd h
+
+-- ---- one less
+
+-- a value that is old has the same word where the youngest call is gone
+pub word-older : (code : Code) (active : List Activation) (a : Activation) (frames : List ℕ) (frame : ℕ)
+    (higher : List ℕ) (depth : ℕ) (value : Value) → frames ≡ frame ∷ higher → depth ≤ length active
+    → IsOldArray depth value → Carried code (a ∷ active) active frames higher value
+word-older code active a frames frame higher depth (Number n) same le old word h = h
+word-older code active a frames frame higher depth (Array Null) same le old word h = h
+word-older code active a frames frame higher depth (Array (Static k)) same le old word h = h
+word-older code active a frames frame higher depth (Array Unknown) same le old word h = absurd h
+word-older code active a frames frame higher depth (Array (InFrame k of)) same le old word h =
+    let high = old.1 in
+    let place : suc (length active) - of ≡ suc (length active - of) = omega (arith, high, le) in
+    record {
+      oldest = h.oldest;
+      youngest = omega (arith, high, le);
+      activation = h.activation;
+      of_depth = subst (λ (i : ℕ). slice_get (a ∷ active) i ≡ Some h.activation) place h.of_depth;
+      elements = h.elements;
+      has = h.has;
+      frame = h.frame;
+      at_frame = subst (λ (i : ℕ). slice_get (frame ∷ higher) i ≡ Some h.frame) place
+          (subst (λ (fs : List ℕ). slice_get fs (suc (length active) - of) ≡ Some h.frame) same h.at_frame);
+      below = h.below;
+      placed = h.placed;
+      address = h.address;
+    }
+
+-- all values that calls which wait hold are old
+pub all-older : (code : Code) (active : List Activation) (a : Activation) (frames : List ℕ) (frame : ℕ)
+    (higher : List ℕ) (depth : ℕ) (waiting : List Waiting) → frames ≡ frame ∷ higher → depth ≤ length active
+    → ((i : ℕ) (b : Activation) → slice_get (map (λ w. w.activation) waiting) i ≡ Some b → (v : ℕ) (value : Value)
+    → slice_get b.variables v ≡ Some value → IsOldArray depth value)
+    → AreCarried code (a ∷ active) active frames higher waiting
+all-older code active a frames frame higher depth [] same le old = tt
+all-older code active a frames frame higher depth (w ∷ waiting) same le old = (
+  λ v value e. word-older code active a frames frame higher depth value same le (old 0 w.activation refl v value e),
+  all-older code active a frames frame higher depth waiting same le (λ i b e. old (suc i) b e),
+)

@@ -1,3 +1,4 @@
 pub mod Called
 pub mod Calls
 pub mod Laws
+pub mod Returns

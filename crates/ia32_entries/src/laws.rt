@@ -1,5 +1,6 @@
 ghost use Rattle.ia32_entries.specs.Laws.{EntryComes};
 ghost use Rattle.ia32_entries.specs.Calls.{CallComes};
+ghost use Rattle.ia32_entries.specs.Returns.{ReturnFollows};
 
 /// From a function's first item the machine comes to a state that shows the function's first point.
 pub fn functions_begin()
@@ -10,4 +11,10 @@ pub fn functions_begin()
 /// of a failed check.
 pub fn functions_are_called()
     ensures call { CallComes }
+{}
+
+/// A return comes back to its caller's next point with the result in its place, or, where the call was that of `main`,
+/// to the end.
+pub fn functions_return()
+    ensures returns { ReturnFollows }
 {}

@@ -3,4 +3,4 @@
 
 mod laws;
 
-pub use laws::{functions_are_called, functions_begin};
+pub use laws::{functions_are_called, functions_begin, functions_return};
