@@ -1,0 +1,4 @@
+pub mod Kinds
+pub mod Finding
+pub mod Rows
+pub mod Ways
