@@ -1,0 +1,6 @@
+mod BlockRows
+mod Chains
+mod Ones
+mod QuietRows
+mod Returning
+mod Sorted

@@ -1,0 +1,24 @@
+-- Conditions and values of switches say nothing beside their trees.
+use Rattle.std.proofs.Common.{refl, Bool, true, false, ◌∷◌, [], if◌then◌else◌}
+use Rattle.pcc_base.specs.declared.span.Span.{Span}
+use Rattle.c_tree.specs.declared.types.ValueType.{ValueType}
+use Rattle.c_tree.specs.declared.types.ValueType.TheVariants.{Void, Integer, Pointer}
+use Rattle.c_tree.specs.Program.{Expression, value_type}
+use Rattle.c_typing.specs.Checked.{Checked, fits}
+use Rattle.c_typing.specs.Rows.{is_scalar, misfit, selected, tested}
+use Rattle.c_expressions.specs.Said.{IsQuiet}
+
+quiet_if : {A : Type 0} (b : Bool) (c d : Checked A) → IsQuiet c → IsQuiet d → IsQuiet (if b then c else d)
+quiet_if true c d h k = h
+quiet_if false c d h k = k
+
+pub quiet_tested : (at : Span) (e : Expression) → IsQuiet (tested at e)
+quiet_tested at e = quiet_if (is_scalar (value_type e)) (fits e) (misfit at (value_type e ∷ [])) refl tt
+
+quiet_by : (of : ValueType) (at : Span) (e : Expression) → IsQuiet (selected of at e)
+quiet_by Void at e = tt
+quiet_by (Integer t) at e = refl
+quiet_by (Pointer t) at e = tt
+
+pub quiet_selected : (at : Span) (e : Expression) → IsQuiet (selected (value_type e) at e)
+quiet_selected at e = quiet_by (value_type e) at e
