@@ -9,6 +9,7 @@ use Rattle.ia32_regs.specs.declared.names.Reg32.TheVariants.{Eax, Edx, Esi, Edi}
 use Rattle.ia32_regs.specs.declared.names.Reg8.TheVariants.{Cl}
 use Rattle.ia32_regs.specs.Registers.{number32, number8}
 use Rattle.ia32_places.specs.Places.{Place, InWord, InByte, InSlot}
+use Rattle.ia32_insn.specs.declared.operand.Mem.{Mem}
 use Rattle.ia32_insn.specs.declared.operand.Rm32.{Rm32}
 use Rattle.ia32_insn.specs.declared.operand.Rm32.TheVariants as rm
 use Rattle.ia32_insn.specs.declared.operand.Rm8.TheVariants as rm8
@@ -23,15 +24,18 @@ use Rattle.ia32_insn.specs.declared.insn.ShiftOp.TheVariants as shift
 use Rattle.ia32_insn.specs.declared.item.Item.{Item}
 use Rattle.ia32_insn.specs.declared.item.Item.TheVariants as item
 use Rattle.ia32_insn.specs.declared.item.Stub.TheVariants as stub
-use Rattle.ia32_insn.specs.Items.{Symbols, Places, ItemAt, ItemsAt, LeadsTo, jump_if, plain, stub_address}
+use Rattle.ia32_insn.specs.Items.{Symbols, Places, ItemAt, ItemsAt, LeadsTo, jump_if, near, plain, stub_address}
 use Rattle.ia32_insn.specs.Spelling.{Spells}
+use Rattle.flow_graph.specs.declared.op.Bits.{Bits}
+use Rattle.flow_graph.specs.declared.op.Bits.TheVariants.{Eight, Sixteen, ThirtyTwo}
 use Rattle.flow_graph.specs.declared.op.Op.{Op}
 use Rattle.flow_graph.specs.declared.op.Op.TheVariants as op
 use Rattle.flow_graph.specs.Graphs.{Flow, HasFittingOp, IsFlow, points_of}
+use Rattle.flow_graph.specs.Meaning.{bytes_of}
 use Rattle.flow_graph.proofs.Points.{every-map}
 use Rattle.ia32_shows.proofs.Spelled.{IsCommon, common-begins}
 use Rattle.ia32_shows.specs.Follows.{is_nop}
-use Rattle.ia32_shows.specs.Placements.{Placement}
+use Rattle.ia32_shows.specs.Placements.{Placement, below}
 use Rattle.ia32_rows.specs.Moves.{has_operand, target_of, working, read, write, operate, number_row, copy_row}
 use Rattle.ia32_rows.specs.Moves.{operation, commuting, pass}
 use Rattle.ia32_rows.specs.Computing.{multiply, multiplying, changing, low_byte, extend, widening, lowering}
@@ -39,6 +43,8 @@ use Rattle.ia32_rows.specs.Computing.{extend_half, halving, into_count, shifted_
 use Rattle.ia32_rows.specs.Computing.{divisor_of, before_division, dividing, cond_of, comparing, set_row}
 use Rattle.ia32_rows.specs.Passing.{argument_word, param_row, pass_all, deepen, undeepen, drop_words, write_any}
 use Rattle.ia32_rows.specs.Passing.{before_call, behind_call, call_row, leave, return_row, prologue}
+use Rattle.ia32_rows.specs.Accesses.{loading, load_from, storing, store_to, index_register, count_before, element}
+use Rattle.ia32_rows.specs.Accesses.{check_array, check_index, checking, load_row, store_row}
 use Rattle.ia32_rows.specs.Rows.{IsSlotOp, HasItems, entry_label, row, place_before, place_after, point_row, point_rows}
 use Rattle.ia32_rows.specs.Rows.{block_rows, selected}
 
@@ -352,6 +358,51 @@ leave-row = ((tt, (tt, (tt, (tt, (tt, tt))))), tt)
 return-row : (p : Place) → IsPlainRow (return_row p)
 return-row p = row-behind IsPlain (read Eax p) leave (read-insns Eax p) leave-row
 
+-- ---- of accesses
+
+-- an item that is no NOP, and the word of a register to a place
+written-behind : (i : Item) (p : Place) (t : Reg32) → IsOther i → IsOtherRow (i ∷ write p t)
+written-behind i p t h = ((h, write-row p t), tt)
+
+load_from-row : (bits : Bits) (p : Place) (m : Mem) → IsOtherRow (load_from bits p m)
+load_from-row Eight p m = written-behind (plain (loading Eight (target_of p) m)) p (target_of p) tt
+load_from-row Sixteen p m = written-behind (plain (loading Sixteen (target_of p) m)) p (target_of p) tt
+load_from-row ThirtyTwo p m = written-behind (plain (loading ThirtyTwo (target_of p) m)) p (target_of p) tt
+
+storing-insns : (bits : Bits) (p : Place) → AreOthers (storing bits p)
+storing-insns ThirtyTwo p = (tt, tt)
+storing-insns Sixteen p = (tt, tt)
+storing-insns Eight (InWord r) = (tt, tt)
+storing-insns Eight (InByte r) = (tt, tt)
+storing-insns Eight (InSlot k) = (tt, (tt, (tt, tt)))
+
+read-row : (t : Reg32) (p : Place) → AreOthers (read t p)
+read-row t p = plain-others (read t p) (read-insns t p)
+
+store_to-insns : (bits : Bits) (p : Place) → AreOthers (store_to bits p)
+store_to-insns bits p =
+    every-join IsOther (read (target_of p) p) (storing bits p) (read-row (target_of p) p) (storing-insns bits p)
+
+checking-insns : (p q : Place) → AreOthers (checking p q)
+checking-insns p q =
+    let test : List Item = plain (insn.Test (rm.Reg (target_of p)) (target_of p)) ∷ item.JumpTrap (Some cond.E) ∷ [] in
+    let compare : List Item = plain (insn.AluLoad alu.Cmp (index_register q) (count_before (target_of p)))
+    ∷ item.JumpTrap (Some cond.Ae) ∷ [] in
+    every-join IsOther (check_array p) (check_index p q)
+    (every-join IsOther (read (target_of p) p) test (read-row (target_of p) p) (tt, (tt, tt)))
+    (every-join IsOther (read (index_register q) q) compare (read-row (index_register q) q) (tt, (tt, tt)))
+
+load-row : (bits : Bits) (p q r : Place) → IsOtherRow (load_row bits p q r)
+load-row bits p q r =
+    let m : Mem = element (bytes_of bits) (target_of q) (index_register r) in
+    row-behind IsOther (checking q r) (load_from bits p m) (checking-insns q r) (load_from-row bits p m)
+
+store-row : (bits : Bits) (p q r : Place) → IsOtherRow (store_row bits p q r)
+store-row bits p q r =
+    let m : Mem = element (bytes_of bits) (target_of p) (index_register q) in
+    row-behind IsOther (checking p q) (plain (insn.Lea Edi m) ∷ store_to bits r) (checking-insns p q)
+    ((tt, store_to-insns bits r), tt)
+
 -- ---- of ops
 
 -- the row of an op that has one, but a mark and a turn, has no NOP
@@ -433,6 +484,20 @@ other-is placement p (op.Jump x) h none = ((tt, tt), tt)
 other-is placement p (op.Branch how a b x y) h none =
     compared-row (place_before placement p a) (place_before placement p b)
     (item.JumpIf (cond_of how) x ∷ item.JumpTo y ∷ []) (tt, (tt, tt))
+other-is placement p (op.Frame d k) h none =
+    let place : Place = place_after placement p d in
+    written-behind (plain (insn.Lea (target_of place) (below (slice_index_or placement.arrays k 0)))) place
+    (target_of place) tt
+other-is placement p (op.Static d k) h none =
+    let place : Place = place_after placement p d in
+    written-behind (item.AddressOf (target_of place) k) place (target_of place) tt
+other-is placement p (op.Load bits d a i) h none =
+    load-row bits (place_after placement p d) (place_before placement p a) (place_before placement p i)
+other-is placement p (op.Store bits a i s) h none =
+    store-row bits (place_before placement p a) (place_before placement p i) (place_before placement p s)
+other-is placement p (op.Get bits d k) h none =
+    ((tt, (load_from-row bits (place_after placement p d) (near Esi 0)).0), tt)
+other-is placement p (op.Put bits k s) h none = ((tt, store_to-insns bits (place_before placement p s)), tt)
 other-is placement p (op.Return (Some a)) h none =
     plain-row (return_row (place_before placement p a)) (return-row (place_before placement p a))
 other-is placement p (op.Return None) h none = plain-row leave leave-row
@@ -446,12 +511,6 @@ row-is placement p o h = other-row (row placement p o) (other-is placement p o h
 
 -- the row of any op
 pub row-insns : (placement : Placement) (p : ℕ) (o : Op) → AreRowInsns (row placement p o)
-row-insns placement p (op.Frame d n) = tt
-row-insns placement p (op.Static d n) = tt
-row-insns placement p (op.Load bits d a i) = tt
-row-insns placement p (op.Store bits a i s) = tt
-row-insns placement p (op.Get bits d n) = tt
-row-insns placement p (op.Put bits n s) = tt
 row-insns placement p (op.Clear n) = tt
 row-insns placement p o = (row-is placement p o tt).0
 

@@ -1,6 +1,6 @@
 -- The rows over slots: each variable stands in its slot, at every point.
 use Rattle.std.proofs.Common.{◌≡◌, ℕ, zero, suc, List, [], ◌∷◌, ◌++◌, Option, Some, None, refl, ap, subst, ◌∙◌, map}
-use Rattle.std.specs.Prelude.{slice_get, unwrap_or, option_map}
+use Rattle.std.specs.Prelude.{slice_get, slice_index_or, unwrap_or, option_map}
 use Rattle.ia32_places.specs.Places.{Place, InSlot}
 use Rattle.ia32_regs.specs.declared.names.Reg32.TheVariants.{Eax, Edx}
 use Rattle.ia32_insn.specs.declared.insn.AluOp.TheVariants as alu
@@ -16,6 +16,7 @@ use Rattle.ia32_rows.specs.Moves.{number_row, copy_row, operation, commuting}
 use Rattle.ia32_rows.specs.Computing.{multiplying, changing, widening, lowering, halving, shifting, dividing, setting}
 use Rattle.ia32_rows.specs.Computing.{branching, same_row}
 use Rattle.ia32_rows.specs.Passing.{putchar_row, getchar_row, exit_row, param_row, call_row, return_row}
+use Rattle.ia32_rows.specs.Accesses.{frame_row, static_row, load_row, store_row, get_row, put_row}
 use Rattle.ia32_rows.specs.Rows.{over_slots}
 use Rattle.ia32_rows.specs.Rows.{items_between, slot_place, row}
 use Rattle.ia32_rows.proofs.Laid.{RowReady}
@@ -60,7 +61,7 @@ any-is slots (Some v) = ap (λ (p : Place). Some p) (place-is slots v)
 
 -- the items of an op over slots
 pub row-over : (flow : Flow) (slots : List ℕ) (p : ℕ) (o : Op)
-    → row (over_slots flow slots) p o ≡ items_between (slot_place slots) (slot_place slots) o
+    → row (over_slots flow slots) p o ≡ items_between [] (slot_place slots) (slot_place slots) o
 row-over flow slots p (op.Const d n) = ap (λ (q : Place). number_row q n) (place-is slots d)
 row-over flow slots p (op.Copy d s) = two copy_row slots s d
 row-over flow slots p (op.Wide d s) = two widening slots d s
@@ -89,13 +90,19 @@ row-over flow slots p (op.Exit s) = ap exit_row (place-is slots s)
 row-over flow slots p (op.Same a b) = two same_row slots a b
 row-over flow slots p (op.Branch how a b x y) =
     two (λ (q r : Place). branching how q r x y) slots a b
+row-over flow slots p (op.Frame d k) = ap (λ (q : Place). frame_row q (slice_index_or [] k 0)) (place-is slots d)
+row-over flow slots p (op.Static d k) = ap (λ (q : Place). static_row q k) (place-is slots d)
+row-over flow slots p (op.Load bits d a i) = three (load_row bits) slots d a i
+row-over flow slots p (op.Store bits a i s) = three (store_row bits) slots a i s
+row-over flow slots p (op.Get bits d k) = ap (λ (q : Place). get_row bits q k) (place-is slots d)
+row-over flow slots p (op.Put bits k s) = ap (put_row bits k) (place-is slots s)
 row-over flow slots p (op.Return (Some a)) = ap return_row (place-is slots a)
 row-over flow slots p o = refl
 
 -- The items of an op over slots are ready, and behind them the next point of its block.
 pub record RowOver (slots : List ℕ) (site : Site) (o : Op) (next : Option ℕ) (s : State) : Type 0 where
   pub rest : List Item
-  pub ready : ReadyAt site (items_between (slot_place slots) (slot_place slots) o ++ rest) s
+  pub ready : ReadyAt site (items_between [] (slot_place slots) (slot_place slots) o ++ rest) s
   pub follows : (q : ℕ) → next ≡ Some q → (more : List Item) × (rest ≡ item.Point q ∷ more)
 
 -- they are where the row of the slots' placement is

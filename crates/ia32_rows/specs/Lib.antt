@@ -1,6 +1,7 @@
 pub mod Moves
 pub mod Computing
 pub mod Passing
+pub mod Accesses
 pub mod Rows
 pub mod Right
 pub mod Worked

@@ -27,6 +27,9 @@ pub use Rattle.ia32_rows.specs.Computing.{branching, jumping, same_row}
 pub use Rattle.ia32_rows.specs.Passing.{putchar_row, getchar_row, exit_row, argument_word, param_row, pass_all}
 pub use Rattle.ia32_rows.specs.Passing.{depth_number, deepen, undeepen, drop_words, write_any, before_call}
 pub use Rattle.ia32_rows.specs.Passing.{behind_call, call_row, leave, return_row, prologue}
+pub use Rattle.ia32_rows.specs.Accesses.{frame_row, static_row, loading, load_from, storing, store_to, get_row, put_row}
+pub use Rattle.ia32_rows.specs.Accesses.{index_register, count_before, element, check_array, check_index, checking}
+pub use Rattle.ia32_rows.specs.Accesses.{load_row, store_row}
 
 -- ---- the graphs that have code so far
 
@@ -67,48 +70,48 @@ over_slots flow slots = in_slots (frame_of flow) [] slots
 
 -- ---- the items of an op
 
--- the items of an op, by the places of variables before and after it
-abbrev pub items_between : (ℕ → Place) → (ℕ → Place) → Op → List Item
-items_between before after (op.Const d n) = number_row (after d) n
-items_between before after (op.Copy d s) = copy_row (before s) (after d)
-items_between before after (op.Wide d s) = widening (after d) (before s)
-items_between before after (op.Low d s) = lowering (after d) (before s)
-items_between before after (op.Low16 d s) = halving (after d) (before s)
-items_between before after (op.Neg d s) = changing insn.Neg (after d) (before s)
-items_between before after (op.Not d s) = changing insn.Not (after d) (before s)
-items_between before after (op.Add d a b) = commuting alu.Add (after d) (before a) (before b)
-items_between before after (op.Sub d a b) = operation alu.Sub (after d) (before a) (before b)
-items_between before after (op.Mul d a b) = multiplying (after d) (before a) (before b)
-items_between before after (op.And d a b) = commuting alu.And (after d) (before a) (before b)
-items_between before after (op.Or d a b) = commuting alu.Or (after d) (before a) (before b)
-items_between before after (op.Xor d a b) = commuting alu.Xor (after d) (before a) (before b)
-items_between before after (op.Shl d a c) = shifting shift.Shl (after d) (before a) (before c)
-items_between before after (op.Sar d a c) = shifting shift.Sar (after d) (before a) (before c)
-items_between before after (op.Div d a b) = dividing Eax (after d) (before a) (before b)
-items_between before after (op.Rem d a b) = dividing Edx (after d) (before a) (before b)
-items_between before after (op.Set how d a b) = setting how (after d) (before a) (before b)
-items_between before after (op.Param d k) = param_row (after d) k
-items_between before after (op.Call d f arguments) = call_row (option_map after d) f (map before arguments)
-items_between before after (op.Putchar d s) = putchar_row (after d) (before s)
-items_between before after (op.Getchar d) = getchar_row (after d)
-items_between before after (op.Exit s) = exit_row (before s)
-items_between before after (op.Same a b) = same_row (before a) (before b)
-items_between before after (op.Mark s) = plain insn.Nop ∷ []
-items_between before after op.Turn = plain insn.Nop ∷ []
-items_between before after (op.Jump x) = jumping x
-items_between before after (op.Branch how a b x y) = branching how (before a) (before b) x y
-items_between before after (op.Return (Some a)) = return_row (before a)
-items_between before after (op.Return None) = leave
--- these have none so far
-items_between before after (op.Frame d n) = []
-items_between before after (op.Static d n) = []
-items_between before after (op.Load bits d a i) = []
-items_between before after (op.Store bits a i s) = []
-items_between before after (op.Get bits d n) = []
-items_between before after (op.Put bits n s) = []
-items_between before after (op.Clear n) = []
+-- the items of an op, by how far below EBP frame arrays stand, and the places of variables before and after it
+abbrev pub items_between : List ℕ → (ℕ → Place) → (ℕ → Place) → Op → List Item
+items_between arrays before after (op.Const d n) = number_row (after d) n
+items_between arrays before after (op.Copy d s) = copy_row (before s) (after d)
+items_between arrays before after (op.Wide d s) = widening (after d) (before s)
+items_between arrays before after (op.Low d s) = lowering (after d) (before s)
+items_between arrays before after (op.Low16 d s) = halving (after d) (before s)
+items_between arrays before after (op.Neg d s) = changing insn.Neg (after d) (before s)
+items_between arrays before after (op.Not d s) = changing insn.Not (after d) (before s)
+items_between arrays before after (op.Add d a b) = commuting alu.Add (after d) (before a) (before b)
+items_between arrays before after (op.Sub d a b) = operation alu.Sub (after d) (before a) (before b)
+items_between arrays before after (op.Mul d a b) = multiplying (after d) (before a) (before b)
+items_between arrays before after (op.And d a b) = commuting alu.And (after d) (before a) (before b)
+items_between arrays before after (op.Or d a b) = commuting alu.Or (after d) (before a) (before b)
+items_between arrays before after (op.Xor d a b) = commuting alu.Xor (after d) (before a) (before b)
+items_between arrays before after (op.Shl d a c) = shifting shift.Shl (after d) (before a) (before c)
+items_between arrays before after (op.Sar d a c) = shifting shift.Sar (after d) (before a) (before c)
+items_between arrays before after (op.Div d a b) = dividing Eax (after d) (before a) (before b)
+items_between arrays before after (op.Rem d a b) = dividing Edx (after d) (before a) (before b)
+items_between arrays before after (op.Set how d a b) = setting how (after d) (before a) (before b)
+items_between arrays before after (op.Param d k) = param_row (after d) k
+items_between arrays before after (op.Call d f arguments) = call_row (option_map after d) f (map before arguments)
+items_between arrays before after (op.Putchar d s) = putchar_row (after d) (before s)
+items_between arrays before after (op.Getchar d) = getchar_row (after d)
+items_between arrays before after (op.Exit s) = exit_row (before s)
+items_between arrays before after (op.Same a b) = same_row (before a) (before b)
+items_between arrays before after (op.Mark s) = plain insn.Nop ∷ []
+items_between arrays before after op.Turn = plain insn.Nop ∷ []
+items_between arrays before after (op.Jump x) = jumping x
+items_between arrays before after (op.Branch how a b x y) = branching how (before a) (before b) x y
+items_between arrays before after (op.Return (Some a)) = return_row (before a)
+items_between arrays before after (op.Return None) = leave
+items_between arrays before after (op.Frame d k) = frame_row (after d) (slice_index_or arrays k 0)
+items_between arrays before after (op.Static d k) = static_row (after d) k
+items_between arrays before after (op.Load bits d p i) = load_row bits (after d) (before p) (before i)
+items_between arrays before after (op.Store bits p i s) = store_row bits (before p) (before i) (before s)
+items_between arrays before after (op.Get bits d k) = get_row bits (after d) k
+items_between arrays before after (op.Put bits k s) = put_row bits k (before s)
+-- this one has none so far
+items_between arrays before after (op.Clear k) = []
 
--- the ops that have items: all but those on arrays and static objects
+-- the ops that have items: all but `clear`
 abbrev pub HasItems : Op → Type 0
 HasItems (op.Const d n) = ⊤
 HasItems (op.Copy d s) = ⊤
@@ -139,12 +142,12 @@ HasItems op.Turn = ⊤
 HasItems (op.Jump x) = ⊤
 HasItems (op.Branch how a b x y) = ⊤
 HasItems (op.Return a) = ⊤
-HasItems (op.Frame d n) = ⊥
-HasItems (op.Static d n) = ⊥
-HasItems (op.Load bits d a i) = ⊥
-HasItems (op.Store bits a i s) = ⊥
-HasItems (op.Get bits d n) = ⊥
-HasItems (op.Put bits n s) = ⊥
+HasItems (op.Frame d n) = ⊤
+HasItems (op.Static d n) = ⊤
+HasItems (op.Load bits d a i) = ⊤
+HasItems (op.Store bits a i s) = ⊤
+HasItems (op.Get bits d n) = ⊤
+HasItems (op.Put bits n s) = ⊤
 HasItems (op.Clear n) = ⊥
 
 -- where a variable stands before a point, and after it; one that stands nowhere is at EBP, where no variable stands
@@ -160,7 +163,8 @@ slot_place slots v = InSlot (slice_index_or slots v 0)
 
 -- the items of an op at a point
 abbrev pub row : Placement → ℕ → Op → List Item
-row placement point o = items_between (place_before placement point) (place_after placement point) o
+row placement point o =
+    items_between placement.arrays (place_before placement point) (place_after placement point) o
 
 -- ---- the items of a graph
 

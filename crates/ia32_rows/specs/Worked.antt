@@ -1,7 +1,7 @@
 -- The items of ops, over slots and over registers.
-use Rattle.std.specs.Prelude.{◌≡◌, pos, [], ◌∷◌, slice_get, Some, None}
-use Rattle.ia32_regs.specs.declared.names.Reg32.TheVariants.{Eax, Ecx, Edx, Ebx, Esp, Ebp, Esi}
-use Rattle.ia32_regs.specs.declared.names.Reg8.TheVariants.{Bl, Bh}
+use Rattle.std.specs.Prelude.{◌≡◌, pos, negsuc, [], ◌∷◌, slice_get, Some, None}
+use Rattle.ia32_regs.specs.declared.names.Reg32.TheVariants.{Eax, Ecx, Edx, Ebx, Esp, Ebp, Esi, Edi}
+use Rattle.ia32_regs.specs.declared.names.Reg8.TheVariants.{Al, Bl, Bh, Cl}
 use Rattle.ia32_places.specs.Places.{Place, InWord, InByte, InSlot}
 use Rattle.ia32_insn.specs.declared.operand.Rm32.TheVariants as rm
 use Rattle.ia32_insn.specs.declared.operand.Rm8.TheVariants as rm8
@@ -11,6 +11,7 @@ use Rattle.ia32_insn.specs.declared.insn.Insn.TheVariants as insn
 use Rattle.ia32_insn.specs.declared.item.Item.TheVariants as item
 use Rattle.ia32_insn.specs.declared.item.Stub.TheVariants as stub
 use Rattle.ia32_insn.specs.Items.{near, plain}
+use Rattle.flow_graph.specs.declared.op.Bits.TheVariants.{Eight, Sixteen, ThirtyTwo}
 use Rattle.flow_graph.specs.declared.op.Comparison.TheVariants.{Lt}
 use Rattle.flow_graph.specs.declared.op.Op.TheVariants as op
 use Rattle.ia32_shows.specs.Placements.{Placement, below, in_slots}
@@ -111,3 +112,51 @@ BranchesAreRows =
     ≡ plain (insn.MovLoad Esi (below 20)) ∷ plain (insn.AluLoad alu.Cmp Esi (below 24))
     ∷ item.JumpTrap (Some cond.Ne) ∷ [])
     × (row (all_in (InWord Eax) (InSlot 20) (InSlot 24)) 7 (op.Jump 3) ≡ item.JumpTo 3 ∷ [])
+
+-- ---- arrays and static objects
+
+-- three variables in such places, and a frame array 40 bytes below EBP
+abbrev pub with_array : Place → Place → Place → Placement
+with_array first second third = record {
+  frame = 44;
+  arrays = 40 ∷ [];
+  before = λ point variable. slice_get (first ∷ second ∷ third ∷ []) variable;
+  after = λ point variable. slice_get (first ∷ second ∷ third ∷ []) variable;
+}
+
+-- The address of a frame array is one instruction in a register, that of a static object too. A static number goes by
+-- its address, and a byte is stored by a byte register.
+abbrev pub ObjectsAreRows : Type 0
+ObjectsAreRows =
+    (row (with_array (InWord Edx) (InSlot 20) (InWord Ecx)) 7 (op.Frame 0 0)
+    ≡ plain (insn.Lea Edx (below 40)) ∷ [])
+    × (row (with_array (InWord Edx) (InSlot 20) (InWord Ecx)) 7 (op.Static 1 5)
+    ≡ item.AddressOf Esi 5 ∷ plain (insn.Mov (rm.Mem (below 20)) Esi) ∷ [])
+    × (row (with_array (InWord Edx) (InSlot 20) (InWord Ecx)) 7 (op.Get ThirtyTwo 0 5)
+    ≡ item.AddressOf Esi 5 ∷ plain (insn.MovLoad Edx (near Esi 0)) ∷ [])
+    × (row (with_array (InWord Edx) (InSlot 20) (InWord Ecx)) 7 (op.Put Eight 5 2)
+    ≡ item.AddressOf Edi 5 ∷ plain (insn.Mov8 (rm8.Mem (near Edi 0)) Cl) ∷ [])
+    × (row (with_array (InWord Edx) (InSlot 20) (InWord Ecx)) 7 (op.Put Eight 5 1)
+    ≡ item.AddressOf Edi 5 ∷ plain (insn.MovLoad Esi (below 20)) ∷ plain (insn.Xchg (rm.Reg Esi) Eax)
+    ∷ plain (insn.Mov8 (rm8.Mem (near Edi 0)) Al) ∷ plain (insn.Xchg (rm.Reg Esi) Eax) ∷ [])
+
+-- An access checks that there is an array, and then the index against the number of its elements.
+abbrev pub AccessesAreRows : Type 0
+AccessesAreRows =
+    (row (with_array (InWord Edx) (InWord Ebx) (InWord Ecx)) 7 (op.Load Sixteen 0 1 2)
+    ≡ plain (insn.Test (rm.Reg Ebx) Ebx)
+    ∷ item.JumpTrap (Some cond.E)
+    ∷ plain (insn.AluLoad alu.Cmp Ecx (record { base = Some Ebx; index = None; disp = negsuc 3 }))
+    ∷ item.JumpTrap (Some cond.Ae)
+    ∷ plain (insn.MovSx16 Edx (rm.Mem (record { base = Some Ebx; index = Some (Ecx, 2); disp = pos 0 })))
+    ∷ [])
+    × (row (with_array (InSlot 20) (InSlot 24) (InWord Ecx)) 7 (op.Store ThirtyTwo 0 1 2)
+    ≡ plain (insn.MovLoad Esi (below 20))
+    ∷ plain (insn.Test (rm.Reg Esi) Esi)
+    ∷ item.JumpTrap (Some cond.E)
+    ∷ plain (insn.MovLoad Edi (below 24))
+    ∷ plain (insn.AluLoad alu.Cmp Edi (record { base = Some Esi; index = None; disp = negsuc 3 }))
+    ∷ item.JumpTrap (Some cond.Ae)
+    ∷ plain (insn.Lea Edi (record { base = Some Esi; index = Some (Edi, 4); disp = pos 0 }))
+    ∷ plain (insn.Mov (rm.Mem (near Edi 0)) Ecx)
+    ∷ [])

@@ -10,6 +10,7 @@ ghost use Rattle.ia32_shows.specs.Placements.{Code, point_address};
 ghost use Rattle.ia32_rows.specs.Rows.{over_slots, row, selected};
 ghost use Rattle.ia32_rows.specs.Right.{IsSlotCode};
 ghost use Rattle.ia32_rows.specs.Worked.{SumsAreRows, MovesAreRows, CallsAreRows, BranchesAreRows};
+ghost use Rattle.ia32_rows.specs.Worked.{ObjectsAreRows, AccessesAreRows};
 
 /// At the address of a point of a block the items of its op stand, and behind them the block's next point; no two
 /// points have one address.
@@ -44,4 +45,6 @@ pub fn rows_are_short()
     ensures moves { MovesAreRows }
     ensures calls { CallsAreRows }
     ensures branches { BranchesAreRows }
+    ensures objects { ObjectsAreRows }
+    ensures accesses { AccessesAreRows }
 {}

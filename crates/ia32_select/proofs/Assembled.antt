@@ -81,7 +81,7 @@ number-spelled r z h = spelling-indexed (insn.MovImm (rm.Reg r) z) (tt, h) (tt, 
 
 -- the items of an op over slots
 row-spelled : (slots : List ℕ) (o : Op) → IsSlotOp o → AreSmall slots → NumbersFit o
-    → AllByRecursion IsSpelled (items_between (slot_place slots) (slot_place slots) o)
+    → AllByRecursion IsSpelled (items_between [] (slot_place slots) (slot_place slots) o)
 row-spelled slots (op.Const d n) is small fits = (constant-spelled _ n (small d) fits, tt)
 row-spelled slots (op.Copy d s) is small fits = (read-spelled Esi _ (small s), (write-spelled Esi _ (small d), tt))
 row-spelled slots (op.Add d a b) is small fits =
@@ -269,7 +269,7 @@ fields-size reg d =
     choice _ _ (byte_bytes z) (word_bytes z) (omega arith) (omega arith) in
     omega arith
 
-row-size : (slots : List ℕ) (o : Op) → IsSlotOp o → items_size (items_between (slot_place slots) (slot_place slots) o) ≤ 64
+row-size : (slots : List ℕ) (o : Op) → IsSlotOp o → items_size (items_between [] (slot_place slots) (slot_place slots) o) ≤ 64
 row-size slots (op.Const d n) is =
     let slot : ℕ = slice_index_or slots d 0 in
     let one = fields-size 0 slot in

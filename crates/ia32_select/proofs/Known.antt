@@ -70,7 +70,7 @@ over-offsets flow homes offsets p o f h (block, stands) has =
 -- a point and the items of its op behind others
 pub point-emitted : (old pushed new : List Item) (flow : Flow) (slots : List ℕ) (p : ℕ) (o : Op) → pushed
     ≡ old ++ item.Point p ∷ [] → slice_get flow.ops p ≡ Some o
-    → new ≡ pushed ++ items_between (slot_place slots) (slot_place slots) o
+    → new ≡ pushed ++ items_between [] (slot_place slots) (slot_place slots) o
     → new ≡ old ++ point_row (over_slots flow slots) flow.ops p
 point-emitted old pushed new flow slots p o one has e =
     let mine : List Item = row (over_slots flow slots) p o in

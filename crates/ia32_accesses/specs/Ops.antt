@@ -1,0 +1,17 @@
+-- That the machine follows these ops through their rows, over any placement that supports the graph.
+use Rattle.std.specs.Prelude.{ℕ}
+use Rattle.flow_graph.specs.declared.op.Bits.{Bits}
+use Rattle.flow_graph.specs.declared.op.Op.TheVariants as op
+use Rattle.ia32_keeps.specs.Ops.{RowFollows}
+
+-- the address of a frame array of the current call
+abbrev pub FrameFollows : Type 0
+FrameFollows = (d k : ℕ) → RowFollows (op.Frame d k)
+
+-- the address of a static object
+abbrev pub StaticFollows : Type 0
+StaticFollows = (d k : ℕ) → RowFollows (op.Static d k)
+
+-- the number in a static object of one element
+abbrev pub GetFollows : Type 0
+GetFollows = (bits : Bits) (d k : ℕ) → RowFollows (op.Get bits d k)

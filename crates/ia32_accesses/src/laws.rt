@@ -1,0 +1,22 @@
+ghost use Rattle.ia32_accesses.specs.Laws.{FramePuts, LoadPuts, ElementStores};
+ghost use Rattle.ia32_accesses.specs.Ops.{FrameFollows, StaticFollows, GetFollows};
+
+/// The address of a place of the frame comes to a place, and so does an element in memory, with its sign; the low
+/// bits of the word of a place go to an address.
+pub fn rows_move_elements()
+    ensures address { FramePuts }
+    ensures load { LoadPuts }
+    ensures store { ElementStores }
+{}
+
+/// Where a state of the machine shows one of the program at an op that takes the address of a frame array or of a static
+/// object, the machine follows the op's step through its row, over any placement that supports the graph.
+pub fn addresses_are_followed()
+    ensures frame { FrameFollows }
+    ensures static_object { StaticFollows }
+{}
+
+/// It follows the ops on static objects of one element.
+pub fn objects_are_followed()
+    ensures get { GetFollows }
+{}
