@@ -16,7 +16,6 @@ use Rattle.ia32_shows.specs.Follows.{Follows, is_nop}
 use Rattle.ia32_shows.specs.Placements.{Code}
 use Rattle.ia32_shows.specs.Shows.{Shows}
 use Rattle.ia32_shows.proofs.Steps.{comes-then}
-use Rattle.ia32_rows.specs.Rows.{HasItems}
 use Rattle.ia32_standing.specs.Laws.{IsSelected}
 use Rattle.ia32_standing.proofs.Follows.{steps-follow}
 use Rattle.ia32_standing.proofs.Points.{rows-stand}
@@ -24,7 +23,7 @@ use Rattle.ia32_standing.proofs.Returns.{calls-return, calls-stand}
 use Rattle.ia32_entries.specs.Calls.{ComesCalled}
 use Rattle.ia32_entries.proofs.Calling.{call-comes}
 use Rattle.ia32_entries.proofs.Returning.{return-follows}
-use Rattle.ia32_programs.specs.Right.{IsScalar, ScalarsFollow}
+use Rattle.ia32_programs.specs.Right.{IsNumberOp, IsScalar, ScalarsFollow}
 use Rattle.ia32_programs.proofs.Entries.{scalar-entry}
 use Rattle.ia32_programs.proofs.Numbers.{number-held}
 
@@ -69,7 +68,7 @@ scalar-return code input g s a h state shown has =
 
 by-op : (code : Code) (input : List ℕ) (g : graph.State) (s : machine.State) (o : Op) → IsSelected code
     → IsScalar code.program → IsState code.program g → Shows code input g s → op_at code.program g ≡ Some o
-    → HasItems o → FitsOp (flow_at code.program g.current.function) o
+    → IsNumberOp o → FitsOp (flow_at code.program g.current.function) o
     → Follows code input s g (is_nop (op_at code.program g)) (step code.program g)
 by-op code input g s (op.Call d f arguments) h scalar state shown has items fits =
     subst (λ (at : Option Op). Follows code input s g (is_nop at) (given at (act code.program g))) (sym has)
@@ -100,5 +99,5 @@ scalars-follow code h scalar input g s state shown =
     let lt = (state.active.0).function in
     let known = op-at code.program g.current.function g.point g.block (h.supported).program lt state.placed in
     by-op code input g s known.op h scalar state shown known.there
-    (every-at HasItems (flow_at code.program g.current.function).ops g.point known.op
-    (h.have g.current.function lt) known.there) known.fits
+    (every-at IsNumberOp (flow_at code.program g.current.function).ops g.point known.op
+    (scalar.ops g.current.function lt) known.there) known.fits
