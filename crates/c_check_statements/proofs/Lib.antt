@@ -1,0 +1,4 @@
+mod Arms
+mod Following
+mod Leaving
+mod NamesGrow
