@@ -1,3 +1,4 @@
 pub mod Addresses
 pub mod Loading
 pub mod Storing
+pub mod Elements

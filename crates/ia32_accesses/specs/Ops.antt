@@ -15,3 +15,7 @@ StaticFollows = (d k : ℕ) → RowFollows (op.Static d k)
 -- the number in a static object of one element
 abbrev pub GetFollows : Type 0
 GetFollows = (bits : Bits) (d k : ℕ) → RowFollows (op.Get bits d k)
+
+-- a number, cut to the object's bits, to one
+abbrev pub PutFollows : Type 0
+PutFollows = (bits : Bits) (k a : ℕ) → RowFollows (op.Put bits k a)

@@ -1,5 +1,5 @@
 ghost use Rattle.ia32_accesses.specs.Laws.{FramePuts, LoadPuts, ElementStores};
-ghost use Rattle.ia32_accesses.specs.Ops.{FrameFollows, StaticFollows, GetFollows};
+ghost use Rattle.ia32_accesses.specs.Ops.{FrameFollows, StaticFollows, GetFollows, PutFollows};
 
 /// The address of a place of the frame comes to a place, and so does an element in memory, with its sign; the low
 /// bits of the word of a place go to an address.
@@ -19,4 +19,5 @@ pub fn addresses_are_followed()
 /// It follows the ops on static objects of one element.
 pub fn objects_are_followed()
     ensures get { GetFollows }
+    ensures put { PutFollows }
 {}
