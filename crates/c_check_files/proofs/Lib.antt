@@ -1,0 +1,4 @@
+pub mod Behind
+pub mod Bodies
+pub mod Copied
+pub mod Externals
