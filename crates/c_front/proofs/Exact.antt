@@ -1,6 +1,6 @@
--- A text has one answer: a program, a fault or too many tokens.
+-- Texts have one answer: a program, a fault or too many tokens.
 use Rattle.std.proofs.Common.{◌≡◌, ◌≤◌, ℕ, zero, suc, false, List, [], ◌∷◌, ◌++◌, length, length-append, ap, ap₂, sym}
-use Rattle.std.proofs.Common.{◌∙◌, subst, inl, inr, arith}
+use Rattle.std.proofs.Common.{◌∙◌, subst, refl, inl, inr, arith}
 use Rattle.std.proofs.lemmas.Bool.{false≢true}
 use Rattle.pcc_base.specs.declared.span.Span.{Span}
 use Rattle.pcc_base.specs.declared.keyword.Keyword.{Keyword}
@@ -18,12 +18,11 @@ use Rattle.c_grammar.specs.Statements.{ExternalTree}
 use Rattle.c_grammar.specs.Grammar.{Tree}
 use Rattle.c_grammar.proofs.StatementComplete.{one_tree}
 use Rattle.c_tree.specs.Program.{Program}
-use Rattle.c_locals.specs.Form.{HasSlotProgram}
 use Rattle.c_locals.proofs.Exact.{one_read}
 use Rattle.c_parser.specs.Refusals.{is_outside, NoneUnsupported}
-use Rattle.c_front.specs.Accepted.{HasProgram, IsProgram}
-use Rattle.c_front.specs.Refusals.{HasManyTokens, HasLexicalFault, WithTokens, IsTreeFault, IsFaultOfKind}
-use Rattle.c_front.specs.Refusals.{IsSourceFault}
+use Rattle.c_front.specs.Accepted.{HaveProgram, HaveSlotProgram, HasTree, HaveTokens, HaveTrees, IsProgram, total}
+use Rattle.c_front.specs.Refusals.{FaultBehind, FirstFaulty, HaveLexicalFault, HaveManyTokens, IsFaultOfKind}
+use Rattle.c_front.specs.Refusals.{IsFaultyIn, IsSourceFault, IsTreeFault, StandBefore, WithTokens}
 use Rattle.c_front.proofs.Inside.{unit_inside}
 
 -- ---- what stands before any fault
@@ -53,17 +52,75 @@ leads_fewer (suc k) (suc l) from to other a b p q stuck =
     )
 
 -- what stands before any fault has no more tokens than the text has
-begins_fewer : (text : List ℕ) (a b : List Token) → BeginsWith 0 text a → HasTokens 0 text b → length a ≤ length b
-begins_fewer text a b (k, to, p) (l, other, q, stop) =
-    leads_fewer k l (start_of 0 text) to other a b p q (none_at_end other.fresh other.rest stop)
+begins_fewer : (file : ℕ) (text : List ℕ) (a b : List Token) → BeginsWith file text a → HasTokens file text b
+    → length a ≤ length b
+begins_fewer file text a b (k, to, p) (l, other, q, stop) =
+    leads_fewer k l (start_of file text) to other a b p q (none_at_end other.fresh other.rest stop)
 
 -- and no more than stand before the fault
-begins_fewer_fault : (text : List ℕ) (a b : List Token) (fault : Fault) → BeginsWith 0 text a
-    → HasFault 0 text b fault → length a ≤ length b
-begins_fewer_fault text a b fault (k, to, p) (l, other, q, some, none, kind, at) =
-    leads_fewer k l (start_of 0 text) to other a b p q none
+begins_fewer_fault : (file : ℕ) (text : List ℕ) (a b : List Token) (fault : Fault) → BeginsWith file text a
+    → HasFault file text b fault → length a ≤ length b
+begins_fewer_fault file text a b fault (k, to, p) (l, other, q, some, none, kind, at) =
+    leads_fewer k l (start_of file text) to other a b p q none
 
--- ---- tokens
+-- ---- tokens of files
+
+-- files have one list of tokens each
+tokens_once : (file : ℕ) (texts : List (List ℕ)) (a b : List (List Token)) → HaveTokens file texts a
+    → HaveTokens file texts b → a ≡ b
+tokens_once file [] [] [] p q = refl
+tokens_once file [] [] (y ∷ b) p q = absurd q
+tokens_once file [] (x ∷ a) b p q = absurd p
+tokens_once file (text ∷ texts) [] b p q = absurd p
+tokens_once file (text ∷ texts) (x ∷ a) [] p q = absurd q
+tokens_once file (text ∷ texts) (x ∷ a) (y ∷ b) p q =
+    ap₂ (λ (t : List Token) (ts : List (List Token)). t ∷ ts) (one_list file text x y p.0 q.0)
+    (tokens_once (suc file) texts a b p.1 q.1)
+
+-- no more tokens stand before any fault than there are
+stand_fewer : (file : ℕ) (texts : List (List ℕ)) (n : ℕ) (files : List (List Token)) → StandBefore file texts n
+    → HaveTokens file texts files → n ≤ total files
+stand_fewer file [] n files stand have = absurd stand
+stand_fewer file (text ∷ texts) n [] stand have = absurd have
+stand_fewer file (text ∷ texts) n (tokens ∷ files) (inl (before, begins, is)) have =
+    omega (arith, is, begins_fewer file text before tokens begins have.0)
+stand_fewer file (text ∷ texts) n (tokens ∷ files) (inr (own, has, m, is, stand)) have = omega (
+  arith,
+  is,
+  ap length (one_list file text own tokens has have.0),
+  stand_fewer (suc file) texts m files stand have.1,
+)
+
+-- and no more than stand before the first fault
+stand_fewer_fault : (file : ℕ) (texts : List (List ℕ)) (n m : ℕ) (fault : Fault) → StandBefore file texts n
+    → FaultBehind file texts m fault → n ≤ m
+stand_fewer_fault file [] n m fault stand behind = absurd stand
+stand_fewer_fault file (text ∷ texts) n m fault (inl (before, begins, is)) (inl (own, has, at)) =
+    omega (arith, is, at, begins_fewer_fault file text before own fault begins has)
+stand_fewer_fault file (text ∷ texts) n m fault (inl (before, begins, is)) (inr (own, has, k, at, behind)) =
+    omega (arith, is, at, begins_fewer file text before own begins has)
+stand_fewer_fault file (text ∷ texts) n m fault (inr (own, has, k, is, stand)) (inl (before, other, at)) =
+    absurd (tokens_or_fault file text own before fault has other)
+stand_fewer_fault file (text ∷ texts) n m fault (inr (own, has, k, is, stand)) (inr (same, again, l, at, behind)) =
+    omega (
+      arith,
+      is,
+      at,
+      ap length (one_list file text own same has again),
+      stand_fewer_fault (suc file) texts k l fault stand behind,
+    )
+
+-- files with tokens have no lexical fault
+no_lexical : (file : ℕ) (texts : List (List ℕ)) (n : ℕ) (fault : Fault) (files : List (List Token))
+    → FaultBehind file texts n fault → HaveTokens file texts files → ⊥
+no_lexical file [] n fault files behind have = behind
+no_lexical file (text ∷ texts) n fault [] behind have = have
+no_lexical file (text ∷ texts) n fault (tokens ∷ files) (inl (before, has, is)) have =
+    tokens_or_fault file text tokens before fault have.0 has
+no_lexical file (text ∷ texts) n fault (tokens ∷ files) (inr (own, has, m, is, behind)) have =
+    no_lexical (suc file) texts m fault files behind have.1
+
+-- ---- trees of files
 
 -- the keyword stands inside the tokens, so it would have to be inside the profile
 first_outside : (before after : List Token) (keyword : Keyword) (at : Span)
@@ -76,85 +133,118 @@ tree_inside : (tokens : List Token) (height : ℕ) (unit : List ExternalTree) �
     → NoneUnsupported tokens
 tree_inside tokens height unit tree = subst NoneUnsupported (sym tree.tokens_are) (unit_inside unit)
 
--- tokens with a program have no fault
-tokens_fault : (tokens : List Token) (p : Program) (kind : FaultKind) (at : Span) → HasProgram tokens p
-    → IsTreeFault tokens kind at → ⊥
-tokens_fault tokens p Syntax at has fault = fault.1 has.height has.unit has.low has.tree
-tokens_fault tokens p TooDeep at has fault = fault.1 has.height has.unit has.low has.tree
-tokens_fault tokens p (Unsupported keyword) at has (before, after, none, outside, same) =
+-- tokens with a tree have no fault
+tree_or_fault : (file : ℕ) (tokens : List Token) (unit : List ExternalTree) (kind : FaultKind) (at : Span)
+    → HasTree tokens unit → IsFaultyIn file tokens kind at → ⊥
+tree_or_fault file tokens unit Syntax at has fault = fault.2 has.0 unit has.1 has.2
+tree_or_fault file tokens unit TooDeep at has fault = fault.2 has.0 unit has.1 has.2
+tree_or_fault file tokens unit (Unsupported keyword) at has (before, after, none, outside, same) =
     let inside : NoneUnsupported (before ++ word keyword at ∷ after) =
-    subst NoneUnsupported same (tree_inside tokens has.height has.unit has.tree) in
+    subst NoneUnsupported same (tree_inside tokens has.0 unit has.2) in
     false≢true (sym (first_outside before after keyword at inside) ∙ outside)
-tokens_fault tokens p NotYet at has (place, (height, unit, low, tree, inl many)) = let few = has.few in
-    omega (arith, few, many)
-tokens_fault tokens p NotYet at has (place, (height, unit, low, tree, inr none)) =
-    none p (subst (λ (u : List ExternalTree). HasSlotProgram u p)
-    (one_tree tokens has.height height has.unit unit has.tree tree).1 has.form)
-tokens_fault tokens p kind at has fault = absurd fault
+tree_or_fault file tokens unit kind at has fault = absurd fault
+
+-- files with trees have none
+trees_or_fault : (file : ℕ) (files : List (List Token)) (units : List (List ExternalTree)) (kind : FaultKind) (at : Span)
+    → HaveTrees files units → FirstFaulty file files kind at → ⊥
+trees_or_fault file [] units kind at have fault = fault
+trees_or_fault file (tokens ∷ files) [] kind at have fault = have
+trees_or_fault file (tokens ∷ files) (unit ∷ units) kind at have (inl fault) =
+    tree_or_fault file tokens unit kind at have.0 fault
+trees_or_fault file (tokens ∷ files) (unit ∷ units) kind at have (inr (own, has, fault)) =
+    trees_or_fault (suc file) files units kind at have.1 fault
+
+-- tokens have one tree
+tree_once : (tokens : List Token) (a b : List ExternalTree) → HasTree tokens a → HasTree tokens b → a ≡ b
+tree_once tokens a b p q = (one_tree tokens p.0 q.0 a b p.2 q.2).1
+
+-- files have one tree each
+trees_once : (files : List (List Token)) (a b : List (List ExternalTree)) → HaveTrees files a → HaveTrees files b
+    → a ≡ b
+trees_once [] [] [] p q = refl
+trees_once [] [] (y ∷ b) p q = absurd q
+trees_once [] (x ∷ a) b p q = absurd p
+trees_once (tokens ∷ files) [] b p q = absurd p
+trees_once (tokens ∷ files) (x ∷ a) [] p q = absurd q
+trees_once (tokens ∷ files) (x ∷ a) (y ∷ b) p q =
+    ap₂ (λ (t : List ExternalTree) (ts : List (List ExternalTree)). t ∷ ts) (tree_once tokens x y p.0 q.0)
+    (trees_once files a b p.1 q.1)
+
+-- trees have one program
+form_once : (units : List (List ExternalTree)) (p q : Program) → HaveSlotProgram units p → HaveSlotProgram units q
+    → p ≡ q
+form_once [] p q a b = absurd a
+form_once (unit ∷ []) p q a b = one_read unit p q a b
+form_once (unit ∷ (other ∷ units)) p q a b = absurd a
+
+-- tokens with a program have no fault
+tokens_fault : (files : List (List Token)) (p : Program) (kind : FaultKind) (at : Span) → HaveProgram files p
+    → IsTreeFault files kind at → ⊥
+tokens_fault files p Syntax at has fault = trees_or_fault 0 files has.units Syntax at has.trees fault
+tokens_fault files p TooDeep at has fault = trees_or_fault 0 files has.units TooDeep at has.trees fault
+tokens_fault files p (Unsupported keyword) at has fault =
+    trees_or_fault 0 files has.units (Unsupported keyword) at has.trees fault
+tokens_fault files p NotYet at has (place, (units, trees, inl many)) = let few = has.few in omega (arith, few, many)
+tokens_fault files p NotYet at has (place, (units, trees, inr none)) =
+    none p (subst (λ (us : List (List ExternalTree)). HaveSlotProgram us p)
+    (trees_once files has.units units has.trees trees) has.form)
+tokens_fault files p kind at has fault = absurd fault
 
 -- ---- texts
 
--- a text has one program
-pub one_program_text : (text : List ℕ) (p q : Program) → IsProgram text p → IsProgram text q → p ≡ q
-one_program_text text p q (a, lexed, has) (b, again, other) =
-    let same : HasProgram a q = subst (λ (tokens : List Token). HasProgram tokens q)
-    (sym (one_list 0 text a b lexed again)) other in
-    let unit : has.unit ≡ same.unit = (one_tree a has.height same.height has.unit same.unit has.tree same.tree).1 in
-    one_read same.unit p q (subst (λ (u : List ExternalTree). HasSlotProgram u p) unit has.form) same.form
+-- texts have one program
+pub one_program_text : (texts : List (List ℕ)) (p q : Program) → IsProgram texts p → IsProgram texts q → p ≡ q
+one_program_text texts p q (a, lexed, has) (b, again, other) =
+    let same : HaveProgram a q = subst (λ (files : List (List Token)). HaveProgram files q)
+    (sym (tokens_once 0 texts a b lexed again)) other in
+    let units : has.units ≡ same.units = trees_once a has.units same.units has.trees same.trees in
+    form_once same.units p q (subst (λ (us : List (List ExternalTree)). HaveSlotProgram us p) units has.form) same.form
 
--- a program's text has none of these faults
-with_tokens : (text : List ℕ) (p : Program) (kind : FaultKind) (at : Span) → IsProgram text p
-    → WithTokens text (λ tokens. IsTreeFault tokens kind at) → ⊥
-with_tokens text p kind at (a, lexed, has) (b, again, few, fault) =
-    tokens_fault a p kind at has (subst (λ (tokens : List Token). IsTreeFault tokens kind at)
-    (sym (one_list 0 text a b lexed again)) fault)
+-- a program's texts have none of these faults
+with_tokens : (texts : List (List ℕ)) (p : Program) (kind : FaultKind) (at : Span) → IsProgram texts p
+    → WithTokens texts (λ files. IsTreeFault files kind at) → ⊥
+with_tokens texts p kind at (a, lexed, has) (b, again, few, fault) =
+    tokens_fault a p kind at has (subst (λ (files : List (List Token)). IsTreeFault files kind at)
+    (sym (tokens_once 0 texts a b lexed again)) fault)
 
--- a program's text has no lexical fault
-lexical : (text : List ℕ) (p : Program) (fault : Fault) → IsProgram text p → HasLexicalFault text fault → ⊥
-lexical text p fault (a, lexed, has) (before, is, few) = tokens_or_fault 0 text a before fault lexed is
+-- a program's texts have no lexical fault
+lexical : (texts : List (List ℕ)) (p : Program) (fault : Fault) → IsProgram texts p → HaveLexicalFault texts fault → ⊥
+lexical texts p fault (a, lexed, has) (n, behind, few) = no_lexical 0 texts n fault a behind lexed
 
--- a program's text has no fault of any kind
-fault_of_kind : (text : List ℕ) (p : Program) (fault : Fault) (kind : FaultKind) → IsProgram text p
-    → IsFaultOfKind text fault kind → ⊥
-fault_of_kind text p fault BadByte is h = lexical text p fault is h
-fault_of_kind text p fault BadNumber is h = lexical text p fault is h
-fault_of_kind text p fault Unclosed is h = lexical text p fault is h
-fault_of_kind text p fault BadEscape is h = lexical text p fault is h
-fault_of_kind text p fault kind is h = with_tokens text p kind fault.at is h
+-- a program's texts have no fault of any kind
+fault_of_kind : (texts : List (List ℕ)) (p : Program) (fault : Fault) (kind : FaultKind) → IsProgram texts p
+    → IsFaultOfKind texts fault kind → ⊥
+fault_of_kind texts p fault BadByte is h = lexical texts p fault is h
+fault_of_kind texts p fault BadNumber is h = lexical texts p fault is h
+fault_of_kind texts p fault Unclosed is h = lexical texts p fault is h
+fault_of_kind texts p fault BadEscape is h = lexical texts p fault is h
+fault_of_kind texts p fault kind is h = with_tokens texts p kind fault.at is h
 
--- a program's text has no fault
-pub no_fault : (text : List ℕ) (p : Program) (fault : Fault) → IsProgram text p → IsSourceFault text fault → ⊥
-no_fault text p fault = fault_of_kind text p fault fault.kind
+-- a program's texts have no fault
+pub no_fault : (texts : List (List ℕ)) (p : Program) (fault : Fault) → IsProgram texts p → IsSourceFault texts fault → ⊥
+no_fault texts p fault = fault_of_kind texts p fault fault.kind
 
--- a program's text hasn't too many tokens
-pub no_limit : (text : List ℕ) (p : Program) → IsProgram text p → HasManyTokens text → ⊥
-no_limit text p (a, lexed, has) (before, begins, many) =
+-- a program's texts haven't too many tokens
+pub no_limit : (texts : List (List ℕ)) (p : Program) → IsProgram texts p → HaveManyTokens texts → ⊥
+no_limit texts p (a, lexed, has) many =
     let few = has.few in
-    omega (arith, begins_fewer text before a begins lexed, few, many)
+    omega (arith, stand_fewer 0 texts 65537 a many lexed, few)
 
--- a text with a lexical fault has at most 65,536 tokens before it
-lexical_or_limit : (text : List ℕ) (fault : Fault) → HasLexicalFault text fault → HasManyTokens text → ⊥
-lexical_or_limit text fault (b, is, few) (before, begins, many) = omega (
-  arith,
-  begins_fewer_fault text before b fault begins is,
-  few,
-  many,
-)
+-- texts with a lexical fault have at most 65,536 tokens before it
+lexical_or_limit : (texts : List (List ℕ)) (fault : Fault) → HaveLexicalFault texts fault → HaveManyTokens texts → ⊥
+lexical_or_limit texts fault (n, behind, few) many =
+    omega (arith, stand_fewer_fault 0 texts 65537 n fault many behind, few)
 
 -- so it is with a fault of any kind
-fault_or_limit : (text : List ℕ) (fault : Fault) (kind : FaultKind) → IsFaultOfKind text fault kind
-    → HasManyTokens text → ⊥
-fault_or_limit text fault BadByte h many = lexical_or_limit text fault h many
-fault_or_limit text fault BadNumber h many = lexical_or_limit text fault h many
-fault_or_limit text fault Unclosed h many = lexical_or_limit text fault h many
-fault_or_limit text fault BadEscape h many = lexical_or_limit text fault h many
-fault_or_limit text fault kind (tokens, lexed, few, h) (before, begins, many) = omega (
-  arith,
-  begins_fewer text before tokens begins lexed,
-  few,
-  many,
-)
+fault_or_limit : (texts : List (List ℕ)) (fault : Fault) (kind : FaultKind) → IsFaultOfKind texts fault kind
+    → HaveManyTokens texts → ⊥
+fault_or_limit texts fault BadByte h many = lexical_or_limit texts fault h many
+fault_or_limit texts fault BadNumber h many = lexical_or_limit texts fault h many
+fault_or_limit texts fault Unclosed h many = lexical_or_limit texts fault h many
+fault_or_limit texts fault BadEscape h many = lexical_or_limit texts fault h many
+fault_or_limit texts fault kind (files, lexed, few, h) many =
+    omega (arith, stand_fewer 0 texts 65537 files many lexed, few)
 
--- a text with a fault hasn't too many tokens
-pub either : (text : List ℕ) (fault : Fault) → IsSourceFault text fault → HasManyTokens text → ⊥
-either text fault = fault_or_limit text fault fault.kind
+-- texts with a fault haven't too many tokens
+pub either : (texts : List (List ℕ)) (fault : Fault) → IsSourceFault texts fault → HaveManyTokens texts → ⊥
+either texts fault = fault_or_limit texts fault fault.kind

@@ -11,7 +11,7 @@ use Rattle.c_lexer.specs.declared.token.TokenKind.TheVariants as kinds
 use Rattle.c_lexer.specs.Bytes.{is_letter, is_word_byte}
 use Rattle.c_lexer.specs.Literals.{AllPass}
 use Rattle.c_lexer.specs.Pieces.{Piece, Space, Comment, Skipped, Spelled, IsPiece, IsWordText}
-use Rattle.c_lexer.specs.Tokens.{Reached, Leads, behind, start_of, tokens_of}
+use Rattle.c_lexer.specs.Tokens.{HasTokens, Reached, Leads, behind, start_of, tokens_of}
 use Rattle.c_grammar.specs.Expressions as trees
 use Rattle.c_grammar.specs.Expressions.{Expr, Exprs, NoExpr, OneExpr}
 use Rattle.c_grammar.specs.ExpressionTokens.{specifiers_tokens, pointer_tokens}
@@ -28,7 +28,7 @@ use Rattle.c_locals.specs.Shapes.{is_int, variable, assigns, is_plain, one_argum
 use Rattle.c_locals.specs.Shapes.{block_items, main_items}
 use Rattle.c_locals.specs.Form.{int_local, IsItem, IsBody, HasSlotProgram}
 use Rattle.pcc_base.specs.Names.{IsDigit, IsNameByte, IsName}
-use Rattle.c_front.specs.Accepted.{IsProgram, IsNamed}
+use Rattle.c_front.specs.Accepted.{HasTree, HaveSlotProgram, HaveTokens, HaveTrees, IsProgram, IsNamed}
 
 -- ---- a word is a name
 
@@ -268,8 +268,23 @@ unit_names unit p h spelled =
     let named : AllByRecursion IsName h.1 = body_names h.0 [] 0 h.1 h.2 h.5 (unit_spelled unit h.0 h.3 spelled) tt in
     subst (λ (q : Program). AllByRecursion IsNamed q.functions) (sym h.6) ((main_name, local_names h.1 named), tt)
 
+-- the names of the program of one file
+file_names : (file : ℕ) (text : List ℕ) (tokens : List Token) (unit : List ExternalTree) (p : Program)
+    → HasTokens file text tokens → HasTree tokens unit → HasSlotProgram unit p → AllByRecursion IsNamed p.functions
+file_names file text tokens unit p lexed tree form =
+    unit_names unit p form (subst (AllByRecursion IsSpelled) tree.2.tokens_are
+    (leads_spelled lexed.0 (start_of file text) tokens lexed.1 lexed.2))
+
+-- of trees of files
+units_names : (texts : List (List ℕ)) (files : List (List Token)) (units : List (List ExternalTree)) (p : Program)
+    → HaveTokens 0 texts files → HaveTrees files units → HaveSlotProgram units p → AllByRecursion IsNamed p.functions
+units_names texts files [] p lexed trees form = absurd form
+units_names texts files (unit ∷ (other ∷ units)) p lexed trees form = absurd form
+units_names texts [] (unit ∷ []) p lexed trees form = absurd trees
+units_names [] (tokens ∷ files) (unit ∷ []) p lexed trees form = absurd lexed
+units_names (text ∷ texts) (tokens ∷ files) (unit ∷ []) p lexed trees form =
+    file_names 0 text tokens unit p lexed.0 trees.0 form
+
 -- the names of a program's functions and locals are identifiers
-pub program_names : (text : List ℕ) (p : Program) → IsProgram text p → AllByRecursion IsNamed p.functions
-program_names text p (tokens, lexed, has) =
-    unit_names has.unit p has.form (subst (AllByRecursion IsSpelled) has.tree.tokens_are
-    (leads_spelled lexed.0 (start_of 0 text) tokens lexed.1 lexed.2))
+pub program_names : (texts : List (List ℕ)) (p : Program) → IsProgram texts p → AllByRecursion IsNamed p.functions
+program_names texts p (files, lexed, has) = units_names texts files has.units p lexed has.trees has.form

@@ -4,12 +4,13 @@ ghost use Rattle.std.specs.Prelude.{◌≡◌, ℕ, List};
 ghost use Rattle.pcc_base.specs.declared.fault.Fault.{Fault};
 ghost use Rattle.c_tree.specs.Program.{Program};
 ghost use Rattle.c_front.specs.Accepted.{IsProgram};
-ghost use Rattle.c_front.specs.Refusals.{HasManyTokens, IsSourceFault};
+ghost use Rattle.c_front.specs.Refusals.{HaveManyTokens, IsSourceFault};
 
-/// A text is of one program at most; no program's text has a fault or too many tokens, and none has both.
+/// Texts are of one program at most; no program's texts have a fault or too many tokens, and none have both.
 pub fn one_answer()
-    ensures program { (text : List ℕ) (p q : Program) → IsProgram text p → IsProgram text q → p ≡ q }
-    ensures no_fault { (text : List ℕ) (p : Program) (fault : Fault) → IsProgram text p → IsSourceFault text fault → ⊥ }
-    ensures few { (text : List ℕ) (p : Program) → IsProgram text p → HasManyTokens text → ⊥ }
-    ensures either { (text : List ℕ) (fault : Fault) → IsSourceFault text fault → HasManyTokens text → ⊥ }
+    ensures program { (texts : List (List ℕ)) (p q : Program) → IsProgram texts p → IsProgram texts q → p ≡ q }
+    ensures no_fault { (texts : List (List ℕ)) (p : Program) (fault : Fault) → IsProgram texts p
+        → IsSourceFault texts fault → ⊥ }
+    ensures few { (texts : List (List ℕ)) (p : Program) → IsProgram texts p → HaveManyTokens texts → ⊥ }
+    ensures either { (texts : List (List ℕ)) (fault : Fault) → IsSourceFault texts fault → HaveManyTokens texts → ⊥ }
 {}

@@ -1,12 +1,14 @@
-//! The typed program of a source file: its bytes in, its program out, or why it is none, and where.
+//! The typed program of source files: their bytes in, their program out, or why they are none, and where.
 //!
-//! `program_of_source` gives exactly the program of `specs/Accepted.antt`, through tokens, the raw tree and the
-//! form of slot programs, and refuses a text only for the reasons of `specs/Refusals.antt`, which no program's text has
+//! `program_of_sources` gives exactly the program of `specs/Accepted.antt`, through tokens, raw trees and the
+//! form of slot programs, and refuses texts only for the reasons of `specs/Refusals.antt`, which no program's texts have
 //! (`one_answer`).
 #![tactic(auto)]
 
 mod laws;
+mod lexed;
+mod parsed;
 mod program;
 
 pub use laws::one_answer;
-pub use program::program_of_source;
+pub use program::program_of_sources;

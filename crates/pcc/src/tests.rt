@@ -160,21 +160,25 @@ fn refuses_words_and_names(rt: HostRuntime) -> Result<(), Fail> {
     for (line, status, err) in [
         ("compile -o a a.c", 0, ""),
         ("run a", 0, "exit 44\n"),
+        ("run --steps 18446744073709551615 a", 0, "exit 44\n"),
+        ("run --steps 0 a", 10, "budget 0\n"),
+        ("run --steps=3 a", 10, "budget 3\n"),
         ("run a.map", 7, "not an image\n"),
         ("run b.c", 6, "no file b.c\n"),
         ("solve b.c", 6, "no file b.c\n"),
         ("solve a", 1, "a: 25 BadBoard\n"),
         ("compile -o a b.c", 6, "no file b.c\n"),
-        ("compile -o a.c a.c", 2, "usage\n"),
-        ("compile -o a a.map", 2, "usage\n"),
-        ("compile a.c", 2, "usage\n"),
-        ("compile -O a a.c", 2, "usage\n"),
-        ("compile -o a a.c a.c", 2, "usage\n"),
-        ("run", 2, "usage\n"),
-        ("solve", 2, "usage\n"),
-        ("run a a", 2, "usage\n"),
-        ("--help", 2, "usage\n"),
-        ("", 2, "usage\n"),
+        ("compile a.c -o a", 0, ""),
+        (
+            "compile -o a 1 2 3 4 5 6 7 8 9 10 11 12 13 14 15 16 a",
+            3,
+            "limit 23 Files 17\n",
+        ),
+        (
+            "eval 1 2 3 4 5 6 7 8 9 10 11 12 13 14 15 16 17 18",
+            3,
+            "limit 23 Files 18\n",
+        ),
     ] {
         let answer = run_line(alloc, line, &mut files, 0)?;
         assert_eq!(rt; answer.err.taken(), err.as_bytes(), "{line}");
@@ -183,6 +187,74 @@ fn refuses_words_and_names(rt: HostRuntime) -> Result<(), Fail> {
     }
     let map = files.content("a.map").unwrap_or(b"");
     assert!(rt; map.starts_with(b"pcc map 1\n") && map.ends_with(b"end\n"));
+    Ok(())
+}
+
+/// Words that mean no command are told what is wrong with them and the commands; help that is asked for is told alone.
+#[test]
+fn tells_usage(rt: HostRuntime) -> Result<(), Fail> {
+    let alloc = rt.alloc();
+    let commands = "\n  pcc run [--steps N] IMAGE ";
+    let mut files = files_with(alloc, "int main(void){return 300;}", 0)?;
+    for (line, wrong, more) in [
+        ("", "'pcc' requires a subcommand", commands),
+        ("compile a.c", "-o <NAME>", commands),
+        ("compile -o a", "<SRC>...", commands),
+        ("compile -O a a.c", "'-O'", commands),
+        ("compile -o a.c a.c", "NAME and NAME.map", commands),
+        ("compile -o a b.c a.map", "NAME and NAME.map", commands),
+        ("run", "<IMAGE>", commands),
+        ("run a a", "'a'", commands),
+        ("run --steps 18446744073709551616 a", "--steps <N>", commands),
+        ("eval --turns x a.c", "invalid value 'x'", commands),
+        ("solve", "<FILE>", commands),
+        ("gcc a.c", "'gcc'", commands),
+        ("--help", "  compile  Compiles C files", "  solve "),
+        ("run --help", "--steps <N>", "[default: 1000000000]"),
+        ("compile -h", "-o <NAME>", "its map is NAME.map"),
+    ] {
+        let answer = run_line(alloc, line, &mut files, 0)?;
+        let text = std::str::from_utf8(answer.err.taken()).unwrap_or("");
+        assert!(rt; text.starts_with("usage\n") && text.ends_with('\n'), "{line}");
+        assert!(rt; text.contains(wrong) && text.contains(more), "{line}");
+        assert_eq!(rt; answer.status, 2, "{line}");
+        assert!(rt; answer.out.taken().is_empty(), "{line}");
+    }
+    Ok(())
+}
+
+/// Sources are read in their order, then lexed in it, and then parsed in it; more than one isn't compiled yet.
+#[test]
+fn refuses_several_sources(rt: HostRuntime) -> Result<(), Fail> {
+    let alloc = rt.alloc();
+    let mut files = files_with(alloc, "int main(void){return 300;}", 0)?;
+    for (name, text) in [
+        ("b.c", "int f(void){return 1;}\n"),
+        ("syntax.c", "\nint f(void){return 1}"),
+        ("goto.c", "int f(void){goto x;}"),
+        ("byte.c", "int f(void)\n{return @;}"),
+    ] {
+        if files.place(name, text.as_bytes()).is_err() {
+            return Err(Fail::new("no memory"));
+        }
+    }
+    for (sources, status, err) in [
+        ("a.c b.c", 1, "a.c:1:1: 26 NotYet\n"),
+        ("b.c a.c", 1, "b.c:1:1: 26 NotYet\n"),
+        ("a.c a.c", 1, "a.c:1:1: 26 NotYet\n"),
+        ("a.c x.c byte.c", 6, "no file x.c\n"),
+        ("x.c y.c", 6, "no file x.c\n"),
+        ("a.c byte.c", 1, "byte.c:2:9: 1 BadByte\n"),
+        ("syntax.c byte.c", 1, "byte.c:2:9: 1 BadByte\n"),
+        ("a.c syntax.c goto.c", 1, "syntax.c:2:21: 5 Syntax\n"),
+        ("goto.c syntax.c", 1, "goto.c:1:13: 6 Unsupported goto\n"),
+    ] {
+        let line = format!(in alloc; "compile -o p {sources}")?;
+        let answer = run_line(alloc, line.as_str(), &mut files, 0)?;
+        assert_eq!(rt; answer.err.taken(), err.as_bytes(), "{sources}");
+        assert_eq!(rt; answer.status, status, "{sources}");
+        assert!(rt; files.content("p").is_none() && files.content("p.map").is_none(), "{sources}");
+    }
     Ok(())
 }
 

@@ -5,11 +5,11 @@ use Rattle.pcc_base.specs.Counts.{Rose}
 use Rattle.pcc_outside.specs.Streams.{SinkCounts, CountsPut}
 use Rattle.pcc_outside.specs.declared.sink.WriteRefusal.{WriteRefusal}
 use Rattle.pcc_outside.specs.declared.sink.WriteRefusal.TheVariants as put
-use Rattle.pcc_driver.specs.Answers.{HasCause, CommandTold, Ends, IsShown, status_after}
-use Rattle.pcc_driver.specs.Commands as commands
-use Rattle.pcc_driver.specs.Commands.{Command}
+use Rattle.pcc_driver.specs.Answers.{HasCause, CommandTold, Ends, NothingDone, IsUnlessMemory, status_after}
+use Rattle.pcc_words.specs.Asked as commands
+use Rattle.pcc_words.specs.Asked.{Command}
 use Rattle.pcc_driver.specs.Outside.{Outside, Output, Work}
-use Rattle.pcc_driver.specs.Promises.{TokensCause, HasCauses}
+use Rattle.pcc_driver.specs.Promises.{LimitCause, HasCauses}
 use Rattle.pcc_driver.specs.Reports.{status_of}
 use Rattle.pcc_driver.specs.declared.report.Report.{Report}
 use Rattle.pcc_driver.specs.declared.report.Report.TheVariants as reports
@@ -23,7 +23,7 @@ put_status status (Err put.Failed) counts counts' counted = inr (inl (refl, coun
 put_status status (Err put.NoMemory) counts counts' counted = inl refl
 
 -- the status of the line that is shown is the report's, or that of want of memory
-shown_status : (report shown : Report) (status : ℕ) → IsShown report shown → status ≡ status_of shown → (status ≡ 11)
+shown_status : (report shown : Report) (status : ℕ) → IsUnlessMemory report shown → status ≡ status_of shown → (status ≡ 11)
     ⊎ (status ≡ status_of report)
 shown_status report shown status (inl same) e = inr (e ∙ ap status_of same)
 shown_status report shown status (inr none) e = inl (e ∙ ap status_of none)
@@ -33,31 +33,57 @@ pub ended_status : (command : Command) (report : Report) (old new : Output) (res
     → Ends command report old new result → (result ≡ 11)
     ⊎ (((result ≡ 5) × Rose old.counts.faults new.counts.faults) ⊎ (result ≡ status_of report))
 ended_status command report old new result ends =
-    elim (put_status (status_of ends.0) ends.2.0 old.counts new.counts ends.2.1) [
-      | inl e ↦ inl (ends.2.3 ∙ e)
-      | inr (inl (e, rose)) ↦ inr (inl (ends.2.3 ∙ e, rose))
-      | inr (inr e) ↦ elim (shown_status report ends.0 result ends.1 (ends.2.3 ∙ e)) [
+    let put = ends.4 in
+    elim (put_status (status_of ends.0) put.0 old.counts new.counts put.1) [
+      | inl e ↦ inl (put.3 ∙ e)
+      | inr (inl (e, rose)) ↦ inr (inl (put.3 ∙ e, rose))
+      | inr (inr e) ↦ elim (shown_status report ends.0 result ends.1 (put.3 ∙ e)) [
         | inl none ↦ inl none
         | inr same ↦ inr (inr same)
       ]
     ]
 
--- too many tokens are told of a source that is compiled
-many_told : (command : Command) (old new : Work) (tokens : ℕ)
-    → CommandTold command old new (reports.TooManyTokens tokens) → TokensCause command old.files
-many_told (commands.Compile name source) old new tokens told = λ f. (told.0 f).1
-many_told (commands.Run image) old new tokens told = absurd told.0
-many_told (commands.Solve file) old new tokens told = absurd told.0
-many_told commands.Usage old new tokens told =
-    let other : 3 ≡ 2 = ap status_of told.0 in
-    absurd (omega (arith, other))
+-- nothing but its own report, or want of memory, is told of words that ask for nothing
+pub own_status : (own report : Report) (old new : Work) → NothingDone own old new report → (status_of report ≡ 11)
+    ⊎ (status_of report ≡ status_of own)
+own_status own report old new told = shown_status own report (status_of report) told.0 refl
 
--- a report of status 3 is of a file that is too long, or of too many tokens
+-- such a report has no status of a limit
+no_limit : (report : Report) (old new : Work) → NothingDone reports.Usage old new report → status_of report ≡ 3 → ⊥
+no_limit report old new told e = elim (own_status reports.Usage report old new told) [
+  | inl none ↦ omega (arith, none, e)
+  | inr usage ↦ omega (arith, usage, e)
+]
+
+-- too many tokens are told of sources that are compiled
+many_told : (command : Command) (old new : Work) (tokens : ℕ)
+    → CommandTold command old new (reports.TooManyTokens tokens) → LimitCause command old.files
+many_told (commands.Compile name sources) old new tokens told = λ f. (told.0 f).1
+many_told (commands.Run steps image) old new tokens told = absurd told.0
+many_told (commands.Solve file) old new tokens told = absurd told.0
+many_told (commands.Eval turns sources) old new tokens told =
+    absurd (no_limit (reports.TooManyTokens tokens) old new told refl)
+many_told (commands.ManyFiles count) old new tokens told = tt
+many_told commands.Usage old new tokens told = absurd (no_limit (reports.TooManyTokens tokens) old new told refl)
+
+-- too many sources are told of words that have them
+files_told : (command : Command) (old new : Work) (count : ℕ)
+    → CommandTold command old new (reports.TooManyFiles count) → LimitCause command old.files
+files_told (commands.Compile name sources) old new count told = λ f. absurd (told.0 f)
+files_told (commands.Run steps image) old new count told = absurd told.0
+files_told (commands.Solve file) old new count told = absurd told.0
+files_told (commands.Eval turns sources) old new count told =
+    absurd (no_limit (reports.TooManyFiles count) old new told refl)
+files_told (commands.ManyFiles number) old new count told = tt
+files_told commands.Usage old new count told = absurd (no_limit (reports.TooManyFiles count) old new told refl)
+
+-- a report of status 3 is of a file that is too long, or of too many tokens or sources
 limit_report : (report : Report) (command : Command) (old new : Work) → HasCause report old new
     → CommandTold command old new report → status_of report ≡ 3
-    → Rose old.files.counts.too_long new.files.counts.too_long ⊎ TokensCause command old.files
+    → Rose old.files.counts.too_long new.files.counts.too_long ⊎ LimitCause command old.files
 limit_report (reports.TooLong file) command old new cause told e = inl cause.files.0
 limit_report (reports.TooManyTokens tokens) command old new cause told e = inr (many_told command old new tokens told)
+limit_report (reports.TooManyFiles count) command old new cause told e = inr (files_told command old new count told)
 limit_report report command old new cause told e = absurd (omega (arith, e))
 
 -- a report of status 4 is of a fault of reading

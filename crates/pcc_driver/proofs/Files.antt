@@ -7,7 +7,7 @@ use Rattle.pcc_outside.specs.Files.{WriteTold}
 use Rattle.pcc_outside.specs.declared.sink.WriteRefusal.{WriteRefusal}
 use Rattle.pcc_outside.specs.declared.sink.WriteRefusal.TheVariants as put
 use Rattle.pcc_driver.specs.Answers.{SameFiles, OnlyFile, WritesTold, report_of_write}
-use Rattle.pcc_driver.specs.Commands.{map_name}
+use Rattle.pcc_words.specs.Asked.{map_name}
 use Rattle.pcc_driver.specs.Headline.{Files}
 use Rattle.pcc_driver.specs.declared.report.Named.TheVariants.{Map}
 

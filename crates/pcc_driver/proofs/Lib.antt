@@ -2,7 +2,8 @@ pub mod Causes
 pub mod Exact
 pub mod Files
 pub mod Formed
+pub mod Reading
 pub mod Running
 pub mod Solving
-pub mod Texts
+pub mod Wanting
 pub mod Written

@@ -11,7 +11,7 @@ use Rattle.ia32_machine.specs.declared.ends.MachineEnd.{MachineEnd}
 use Rattle.ia32_machine.specs.declared.ends.MachineEnd.TheVariants as machine
 use Rattle.pcc_driver.specs.declared.report.Named.TheVariants.{Source, Map, Image, Board}
 use Rattle.pcc_driver.specs.Answers.{SameStreams, ImageTold, RunTold, RunGives, RunGivesSoFar, RunGivesPart, Holds}
-use Rattle.pcc_driver.specs.Answers.{GivesNoMachine, IsNoImage, report_of_end, run_steps}
+use Rattle.pcc_driver.specs.Answers.{GivesNoMachine, IsNoImage, report_of_end}
 use Rattle.pcc_driver.specs.Headline.{file_limit}
 use Rattle.pcc_driver.specs.Outside.{Work}
 use Rattle.pcc_driver.specs.declared.report.Report.{Report}
@@ -22,52 +22,54 @@ pub no_image : (image input : List ℕ) → ((segments : Segments) → Loads ima
 no_image image input none s first = none first.0 first.1
 
 -- the report of bytes that give no machine
-pub no_machine_told : (report : Report) (content : Option (List ℕ)) (image : List ℕ) (old new : Work)
+pub no_machine_told : (steps : ℕ) (report : Report) (content : Option (List ℕ)) (image : List ℕ) (old new : Work)
     → SameStreams old new → content ≡ Some image → length image ≤ file_limit → GivesNoMachine image report
-    → RunTold content old new report
-no_machine_told reports.NotImage content image old new same read small none =
+    → RunTold steps content old new report
+no_machine_told steps reports.NotImage content image old new same read small none =
     ((image, read, small, no_image image old.input.left none), same)
-no_machine_told reports.NoMemory content image old new same read small none = inl same
-no_machine_told reports.Compiled content image old new same read small none = none
-no_machine_told (reports.Exited status) content image old new same read small none = absurd none
-no_machine_told (reports.SourceFault fault) content image old new same read small none = absurd none
-no_machine_told reports.Usage content image old new same read small none = absurd none
-no_machine_told (reports.TooLong file) content image old new same read small none = absurd none
-no_machine_told (reports.TooManyTokens tokens) content image old new same read small none = absurd none
-no_machine_told (reports.ReadFault file) content image old new same read small none = absurd none
-no_machine_told reports.InputFault content image old new same read small none = absurd none
-no_machine_told (reports.WriteFault file) content image old new same read small none = absurd none
-no_machine_told reports.OutputFault content image old new same read small none = absurd none
-no_machine_told (reports.NoFile file) content image old new same read small none = absurd none
-no_machine_told (reports.Trapped trap) content image old new same read small none = absurd none
-no_machine_told (reports.Stopped cause address) content image old new same read small none = absurd none
-no_machine_told (reports.BudgetSpent steps) content image old new same read small none = absurd none
-no_machine_told reports.Solved content image old new same read small none = absurd none
-no_machine_told reports.BadBoard content image old new same read small none = absurd none
+no_machine_told steps reports.NoMemory content image old new same read small none = inl same
+no_machine_told steps reports.Compiled content image old new same read small none = none
+no_machine_told steps (reports.Exited status) content image old new same read small none = absurd none
+no_machine_told steps (reports.SourceFault fault) content image old new same read small none = absurd none
+no_machine_told steps reports.Usage content image old new same read small none = absurd none
+no_machine_told steps (reports.TooLong file) content image old new same read small none = absurd none
+no_machine_told steps (reports.TooManyTokens tokens) content image old new same read small none = absurd none
+no_machine_told steps (reports.TooManyFiles count) content image old new same read small none = absurd none
+no_machine_told steps (reports.ReadFault file) content image old new same read small none = absurd none
+no_machine_told steps reports.InputFault content image old new same read small none = absurd none
+no_machine_told steps (reports.WriteFault file) content image old new same read small none = absurd none
+no_machine_told steps reports.OutputFault content image old new same read small none = absurd none
+no_machine_told steps (reports.NoFile file) content image old new same read small none = absurd none
+no_machine_told steps (reports.Trapped trap) content image old new same read small none = absurd none
+no_machine_told steps (reports.Stopped cause address) content image old new same read small none = absurd none
+no_machine_told steps (reports.BudgetSpent spent) content image old new same read small none = absurd none
+no_machine_told steps reports.Solved content image old new same read small none = absurd none
+no_machine_told steps reports.BadBoard content image old new same read small none = absurd none
 
 -- such a report says what the file holds
 pub no_machine_file : (report : Report) (content : Option (List ℕ)) (image : List ℕ) → content ≡ Some image
     → length image ≤ file_limit → GivesNoMachine image report → ImageTold content report
 no_machine_file reports.NotImage content image read small none = (image, read, small, none)
 no_machine_file (reports.NoFile Image) content image read small none = absurd none
-no_machine_file (reports.NoFile Source) content image read small none = tt
+no_machine_file (reports.NoFile (Source i)) content image read small none = tt
 no_machine_file (reports.NoFile Map) content image read small none = tt
 no_machine_file (reports.NoFile Board) content image read small none = tt
 no_machine_file (reports.TooLong Image) content image read small none = absurd none
-no_machine_file (reports.TooLong Source) content image read small none = tt
+no_machine_file (reports.TooLong (Source i)) content image read small none = tt
 no_machine_file (reports.TooLong Map) content image read small none = tt
 no_machine_file (reports.TooLong Board) content image read small none = tt
 no_machine_file _ content image read small none = tt
 
 -- and so does that of a run
-pub machine_file : (end : MachineEnd) (content : Option (List ℕ)) → ImageTold content (report_of_end end)
-machine_file (machine.Ended status) content = tt
-machine_file (machine.Trapped trap) content = tt
-machine_file (machine.Stopped cause address) content = tt
-machine_file machine.BudgetSpent content = tt
-machine_file machine.ReadFault content = tt
-machine_file machine.WriteFault content = tt
-machine_file machine.NoMemory content = tt
+pub machine_file : (steps : ℕ) (end : MachineEnd) (content : Option (List ℕ))
+    → ImageTold content (report_of_end steps end)
+machine_file steps (machine.Ended status) content = tt
+machine_file steps (machine.Trapped trap) content = tt
+machine_file steps (machine.Stopped cause address) content = tt
+machine_file steps machine.BudgetSpent content = tt
+machine_file steps machine.ReadFault content = tt
+machine_file steps machine.WriteFault content = tt
+machine_file steps machine.NoMemory content = tt
 
 -- a loaded machine that is lent an input is in the first state
 pub lent_first : (image : List ℕ) (segments : Segments) (machine : State) (left : List ℕ) → Loads image segments
@@ -75,18 +77,18 @@ pub lent_first : (image : List ℕ) (segments : Segments) (machine : State) (lef
 lent_first image segments machine left loads same = (segments, loads, ap (λ (m : State). lent m left) same)
 
 -- the end of a run is told by its report
-gives_told : (content : Option (List ℕ)) (image : List ℕ) (s : State) (old new : Work) (end : outcome.End)
+gives_told : (steps : ℕ) (content : Option (List ℕ)) (image : List ℕ) (s : State) (old new : Work) (end : outcome.End)
     → content ≡ Some image → length image ≤ file_limit → First image old.input.left s
-    → Gives run_steps s old.input.left new.input.left old.out.taken new.out.taken end
-    → Holds content (RunGives old new end)
-gives_told content image s old new end read small first told =
+    → Gives steps s old.input.left new.input.left old.out.taken new.out.taken end
+    → Holds content (RunGives steps old new end)
+gives_told steps content image s old new end read small first told =
     (image, read, small, (s, first, told.0, told.1, told.2, told.3, told.4))
 
-so_far_told : (content : Option (List ℕ)) (image : List ℕ) (s left : State) (old new : Work)
+so_far_told : (steps : ℕ) (content : Option (List ℕ)) (image : List ℕ) (s left : State) (old new : Work)
     (IsLeft : State → Type 0) → content ≡ Some image → length image ≤ file_limit → First image old.input.left s
-    → GivesSoFar run_steps s left old.input.left new.input.left old.out.taken new.out.taken IsLeft
-    → Holds content (RunGivesSoFar IsLeft old new)
-so_far_told content image s left old new IsLeft read small first told =
+    → GivesSoFar steps s left old.input.left new.input.left old.out.taken new.out.taken IsLeft
+    → Holds content (RunGivesSoFar steps IsLeft old new)
+so_far_told steps content image s left old new IsLeft read small first told =
     let gives = told.2 in
     let last = told.3 in (
       image,
@@ -108,30 +110,30 @@ so_far_told content image s left old new IsLeft read small first told =
       ),
     )
 
-part_told : (content : Option (List ℕ)) (image : List ℕ) (s left : State) (old new : Work)
+part_told : (steps : ℕ) (content : Option (List ℕ)) (image : List ℕ) (s left : State) (old new : Work)
     → content ≡ Some image → length image ≤ file_limit → First image old.input.left s
-    → GivesPart run_steps s left old.input.left new.input.left old.out.taken new.out.taken
-    → Holds content (RunGivesPart old new)
-part_told content image s left old new read small first told =
+    → GivesPart steps s left old.input.left new.input.left old.out.taken new.out.taken
+    → Holds content (RunGivesPart steps old new)
+part_told steps content image s left old new read small first told =
     (image, read, small, (s, first, told.0, told.1, told.2, told.3, told.4, told.5, told.6, told.7, told.8))
 
 -- the report of a run of the machine, which was left in some state, tells what the machine does
-pub machine_told : (end : MachineEnd) (content : Option (List ℕ)) (image : List ℕ) (s left : State)
+pub machine_told : (steps : ℕ) (end : MachineEnd) (content : Option (List ℕ)) (image : List ℕ) (s left : State)
     (old new : Work) → content ≡ Some image → length image ≤ file_limit → First image old.input.left s
-    → runs.RunTold run_steps s left old.input.left new.input.left old.out.taken new.out.taken end
-    → RunTold content old new (report_of_end end)
+    → runs.RunTold steps s left old.input.left new.input.left old.out.taken new.out.taken end
+    → RunTold steps content old new (report_of_end steps end)
 unfolding runs.RunTold
-machine_told (machine.Ended status) content image s left old new read small first told =
-    gives_told content image s old new (outcome.Ended status) read small first told.0
-machine_told (machine.Trapped trap) content image s left old new read small first told =
-    gives_told content image s old new (outcome.Trapped trap) read small first told.0
-machine_told (machine.Stopped cause address) content image s left old new read small first told =
-    gives_told content image s old new (outcome.Stopped cause address) read small first told.0
-machine_told machine.BudgetSpent content image s left old new read small first told =
-    (refl, gives_told content image s old new outcome.Goes read small first told.0)
-machine_told machine.ReadFault content image s left old new read small first told =
-    so_far_told content image s left old new (λ t. ⊤) read small first told
-machine_told machine.WriteFault content image s left old new read small first told =
-    part_told content image s left old new read small first told
-machine_told machine.NoMemory content image s left old new read small first told =
-    inr (so_far_told content image s left old new WritesNext read small first told)
+machine_told steps (machine.Ended status) content image s left old new read small first told =
+    gives_told steps content image s old new (outcome.Ended status) read small first told.0
+machine_told steps (machine.Trapped trap) content image s left old new read small first told =
+    gives_told steps content image s old new (outcome.Trapped trap) read small first told.0
+machine_told steps (machine.Stopped cause address) content image s left old new read small first told =
+    gives_told steps content image s old new (outcome.Stopped cause address) read small first told.0
+machine_told steps machine.BudgetSpent content image s left old new read small first told =
+    (refl, gives_told steps content image s old new outcome.Goes read small first told.0)
+machine_told steps machine.ReadFault content image s left old new read small first told =
+    so_far_told steps content image s left old new (λ t. ⊤) read small first told
+machine_told steps machine.WriteFault content image s left old new read small first told =
+    part_told steps content image s left old new read small first told
+machine_told steps machine.NoMemory content image s left old new read small first told =
+    inr (so_far_told steps content image s left old new WritesNext read small first told)

@@ -1,80 +1,81 @@
 -- What the writes of a compilation leave is what its report tells.
-use Rattle.std.proofs.Common.{◌≡◌, ◌≢◌, ◌≤◌, ℕ, List, length, Some, ap, ◌∙◌, inl, inr}
+use Rattle.std.proofs.Common.{◌≡◌, ◌≢◌, ℕ, List, Some, ap, ◌∙◌, inl, inr}
 use Rattle.pcc_driver.specs.Answers.{CompileTold, WritesTold, MapStands}
-use Rattle.pcc_driver.specs.Commands.{map_name}
-use Rattle.pcc_driver.specs.Headline.{Files, file_limit}
+use Rattle.pcc_words.specs.Asked.{map_name}
+use Rattle.pcc_driver.specs.Headline.{Files, AreRead}
 use Rattle.pcc_driver.specs.Products.{AreProducts}
 use Rattle.pcc_driver.specs.declared.report.Named.TheVariants.{Source, Map, Image, Board}
 use Rattle.pcc_driver.specs.declared.report.Report.{Report}
 use Rattle.pcc_driver.specs.declared.report.Report.TheVariants as reports
 
 -- the map's text stands, and what else changed is the image
-map_stands : (name source text map_bytes image : List ℕ) (old mid new : Files)
-    → ((other : List ℕ) → mid other ≡ old other) → old source ≡ Some text → length text ≤ file_limit
-    → AreProducts text map_bytes image → new (map_name name) ≡ Some map_bytes
-    → ((other : List ℕ) → other ≢ name → other ≢ map_name name → new other ≡ mid other) → MapStands name source old new
-map_stands name source text map_bytes image old mid new kept read small products written others = (
-  (text, products.0, products.2.0, image, read, small, products.1, products.2.2, written ∙ ap Some products.2.1),
+map_stands : (name : List ℕ) (sources texts : List (List ℕ)) (map_bytes image : List ℕ) (old mid new : Files)
+    → ((other : List ℕ) → mid other ≡ old other) → AreRead old sources texts
+    → AreProducts texts map_bytes image → new (map_name name) ≡ Some map_bytes
+    → ((other : List ℕ) → other ≢ name → other ≢ map_name name → new other ≡ mid other) → MapStands name sources old new
+map_stands name sources texts map_bytes image old mid new kept read products written others = (
+  (texts, products.0, products.2.0, image, read, products.1, products.2.2, written ∙ ap Some products.2.1),
   λ other n m. others other n m ∙ kept other,
 )
 
 -- the report of the writes tells what the compilation did
-pub written_told : (report : Report) (name source text map_bytes image : List ℕ) (old mid new : Files)
-    → ((other : List ℕ) → mid other ≡ old other) → old source ≡ Some text → length text ≤ file_limit
-    → AreProducts text map_bytes image → WritesTold (map_name name) name map_bytes image mid new report
-    → CompileTold name source old new report
-written_told reports.Compiled name source text map_bytes image old mid new kept read small products told =
+pub written_told : (report : Report) (name : List ℕ) (sources texts : List (List ℕ)) (map_bytes image : List ℕ)
+    (old mid new : Files) → ((other : List ℕ) → mid other ≡ old other) → AreRead old sources texts
+    → AreProducts texts map_bytes image → WritesTold (map_name name) name map_bytes image mid new report
+    → CompileTold name sources old new report
+written_told reports.Compiled name sources texts map_bytes image old mid new kept read products told =
     record {
-      text = text;
+      texts = texts;
       program = products.0;
       map = products.2.0;
       image = image;
-      source_read = read;
-      small = small;
+      sources_read = read;
       accepted = products.1;
       map_written = told.0 ∙ ap Some products.2.1;
       image_written = told.1;
       others = λ other n m. told.2 other n m ∙ kept other;
       correct = products.2.2;
     }
-written_told (reports.WriteFault Map) name source text map_bytes image old mid new kept read small products told =
+written_told (reports.WriteFault Map) name sources texts map_bytes image old mid new kept read products told =
     λ other n. told other n ∙ kept other
-written_told (reports.WriteFault Image) name source text map_bytes image old mid new kept read small products told =
-    map_stands name source text map_bytes image old mid new kept read small products told.0 told.1
-written_told reports.NoMemory name source text map_bytes image old mid new kept read small products told =
+written_told (reports.WriteFault Image) name sources texts map_bytes image old mid new kept read products told =
+    map_stands name sources texts map_bytes image old mid new kept read products told.0 told.1
+written_told reports.NoMemory name sources texts map_bytes image old mid new kept read products told =
     elim told [
       | inl same ↦ inl (λ other. same other ∙ kept other)
       | inr half ↦ inr (
-        map_stands name source text map_bytes image old mid new kept read small products half.0 half.1,
+        map_stands name sources texts map_bytes image old mid new kept read products half.0 half.1,
         half.2 ∙ kept name,
       )
     ]
-written_told (reports.WriteFault Source) name source text map_bytes image old mid new kept read small products told =
+written_told (reports.WriteFault (Source i)) name sources texts map_bytes image old mid new kept read products told =
     absurd told
-written_told (reports.WriteFault Board) name source text map_bytes image old mid new kept read small products told =
+written_told (reports.WriteFault Board) name sources texts map_bytes image old mid new kept read products told =
     absurd told
-written_told (reports.Exited status) name source text map_bytes image old mid new kept read small products told =
+written_told (reports.Exited status) name sources texts map_bytes image old mid new kept read products told =
     absurd told
-written_told (reports.SourceFault fault) name source text map_bytes image old mid new kept read small products told =
+written_told (reports.SourceFault fault) name sources texts map_bytes image old mid new kept read products told =
     absurd told
-written_told reports.Usage name source text map_bytes image old mid new kept read small products told = absurd told
-written_told (reports.TooLong file) name source text map_bytes image old mid new kept read small products told =
+written_told (reports.TooManyFiles count) name sources texts map_bytes image old mid new kept read products told =
     absurd told
-written_told (reports.TooManyTokens tokens) name source text map_bytes image old mid new kept read small products told =
+written_told reports.Usage name sources texts map_bytes image old mid new kept read products told = absurd told
+written_told (reports.TooLong file) name sources texts map_bytes image old mid new kept read products told =
     absurd told
-written_told (reports.ReadFault file) name source text map_bytes image old mid new kept read small products told =
+written_told (reports.TooManyTokens tokens) name sources texts map_bytes image old mid new kept read products told =
     absurd told
-written_told reports.InputFault name source text map_bytes image old mid new kept read small products told = absurd told
-written_told reports.OutputFault name source text map_bytes image old mid new kept read small products told =
+written_told (reports.ReadFault file) name sources texts map_bytes image old mid new kept read products told =
     absurd told
-written_told (reports.NoFile file) name source text map_bytes image old mid new kept read small products told =
+written_told reports.InputFault name sources texts map_bytes image old mid new kept read products told = absurd told
+written_told reports.OutputFault name sources texts map_bytes image old mid new kept read products told =
     absurd told
-written_told reports.NotImage name source text map_bytes image old mid new kept read small products told = absurd told
-written_told (reports.Trapped trap) name source text map_bytes image old mid new kept read small products told =
+written_told (reports.NoFile file) name sources texts map_bytes image old mid new kept read products told =
     absurd told
-written_told (reports.Stopped cause address) name source text map_bytes image old mid new kept read small products
+written_told reports.NotImage name sources texts map_bytes image old mid new kept read products told = absurd told
+written_told (reports.Trapped trap) name sources texts map_bytes image old mid new kept read products told =
+    absurd told
+written_told (reports.Stopped cause address) name sources texts map_bytes image old mid new kept read products
     told = absurd told
-written_told (reports.BudgetSpent steps) name source text map_bytes image old mid new kept read small products told =
+written_told (reports.BudgetSpent steps) name sources texts map_bytes image old mid new kept read products told =
     absurd told
-written_told reports.Solved name source text map_bytes image old mid new kept read small products told = absurd told
-written_told reports.BadBoard name source text map_bytes image old mid new kept read small products told = absurd told
+written_told reports.Solved name sources texts map_bytes image old mid new kept read products told = absurd told
+written_told reports.BadBoard name sources texts map_bytes image old mid new kept read products told = absurd told

@@ -1,5 +1,5 @@
 -- What a command leaves behind and why, by cases over its report: impossible reports are refused.
-use Rattle.std.specs.Prelude.{◌≡◌, ◌≢◌, ◌<◌, ◌≤◌, ◌⊎◌, ℕ, suc, ◌+◌, List, ◌++◌, length, take, drop, Option, Some, None}
+use Rattle.std.specs.Prelude.{◌≡◌, ◌≢◌, ◌<◌, ◌≤◌, ◌⊎◌, ℕ, zero, suc, ◌+◌, List, [], ◌∷◌, ◌++◌, length, take, drop, Option, Some, None}
 use Rattle.std.specs.Prelude.{Result, Ok, Err, ⊤}
 use Rattle.pcc_base.specs.Counts.{Rose}
 use Rattle.pcc_base.specs.Outcome as outcome
@@ -21,22 +21,18 @@ use Rattle.pcc_listing.specs.Lines.{map_text}
 use Rattle.pcc_listing.specs.Maps as maps
 use Rattle.c_tree.specs.Program.{Program}
 use Rattle.c_front.specs.Accepted.{IsProgram}
-use Rattle.c_front.specs.Refusals.{HasManyTokens, IsSourceFault}
+use Rattle.c_front.specs.Refusals.{HaveManyTokens, IsSourceFault}
 use Rattle.pcc_compile.specs.Products.{IsImageOf}
 use Rattle.puzzle_texts.specs.Reading.{IsNoBoard}
-use Rattle.pcc_driver.specs.Commands.{Command, Compile, Run, Solve, Usage, map_name}
-use Rattle.pcc_driver.specs.Headline.{Files, file_limit, IsCompiled}
+use Rattle.pcc_words.specs.Asked.{Command, Compile, Run, Eval, Solve, ManyFiles, Usage, map_name}
+use Rattle.pcc_driver.specs.Headline.{Files, file_limit, AreRead, IsCompiled}
 use Rattle.pcc_driver.specs.Outside.{Output, Work}
-use Rattle.pcc_driver.specs.Reports.{status_of, report_line}
+use Rattle.pcc_driver.specs.Reports.{status_of, IsShownAs}
 use Rattle.pcc_driver.specs.Solutions.{IsSolution}
 use Rattle.pcc_driver.specs.declared.report.Named.{Named}
 use Rattle.pcc_driver.specs.declared.report.Named.TheVariants.{Source, Map, Image, Board}
 use Rattle.pcc_driver.specs.declared.report.Report.{Report}
 use Rattle.pcc_driver.specs.declared.report.Report.TheVariants as reports
-
--- the steps that `run` makes at most
-abbrev pub run_steps : ℕ
-run_steps = 1000000000
 
 -- ---- counts
 
@@ -71,13 +67,12 @@ SameFiles old new = (other : List ℕ) → new other ≡ old other
 abbrev pub OnlyFile : List ℕ → Files → Files → Type 0
 OnlyFile name old new = (other : List ℕ) → other ≢ name → new other ≡ old other
 
--- NAME.map holds the text of the map of an image that does what the source's program does; NAME, and no other file, may
+-- NAME.map holds the text of the map of an image that does what the sources' program does; NAME, and no other file, may
 -- have changed
-abbrev pub MapStands : List ℕ → List ℕ → Files → Files → Type 0
-MapStands name source old new =
-    ((text : List ℕ) × (program : Program) × (map : maps.Map) × (image : List ℕ) × (old source ≡ Some text)
-    × (length text ≤ file_limit) × IsProgram text program × IsImageOf program map image
-    × (new (map_name name) ≡ Some (map_text map)))
+abbrev pub MapStands : List ℕ → List (List ℕ) → Files → Files → Type 0
+MapStands name sources old new =
+    ((texts : List (List ℕ)) × (program : Program) × (map : maps.Map) × (image : List ℕ) × AreRead old sources texts
+    × IsProgram texts program × IsImageOf program map image × (new (map_name name) ≡ Some (map_text map)))
     × ((other : List ℕ) → other ≢ name → other ≢ map_name name → new other ≡ old other)
 
 -- the file holds a text that may be read, and of which this holds
@@ -87,21 +82,38 @@ Holds content P = (text : List ℕ) × (content ≡ Some text) × (length text �
 abbrev pub IsTooLong : Option (List ℕ) → Type 0
 IsTooLong content = (text : List ℕ) × (content ≡ Some text) × (file_limit < length text)
 
+-- the names hold texts that may be read, and of which this holds
+abbrev pub HoldAll : Files → List (List ℕ) → (List (List ℕ) → Type 0) → Type 0
+HoldAll files sources P = (texts : List (List ℕ)) × AreRead files sources texts × P texts
+
+-- why a file of this content isn't read, where that says anything of it
+abbrev pub IsUnreadable : ReadRefusal → Option (List ℕ) → Type 0
+IsUnreadable read.Missing content = content ≡ None
+IsUnreadable read.TooLong content = IsTooLong content
+IsUnreadable read.Failed content = ⊤
+IsUnreadable read.NoMemory content = ⊤
+
+-- so many sources, from the first one on, hold texts that may be read, and the next one isn't read for this reason
+abbrev pub StopsAt : Files → ReadRefusal → List (List ℕ) → ℕ → Type 0
+StopsAt files refusal [] i = ⊥
+StopsAt files refusal (source ∷ sources) zero = IsUnreadable refusal (files source)
+StopsAt files refusal (source ∷ sources) (suc i) = Holds (files source) (λ text. ⊤) × StopsAt files refusal sources i
+
 -- the report of `compile` on files that are told
-abbrev pub CompileTold : List ℕ → List ℕ → Files → Files → Report → Type 0
-CompileTold name source old new reports.Compiled = IsCompiled old new name source
-CompileTold name source old new (reports.SourceFault fault) =
-    Holds (old source) (λ text. IsSourceFault text fault) × SameFiles old new
-CompileTold name source old new (reports.TooManyTokens tokens) = (tokens ≡ 65537) × Holds (old source) HasManyTokens
-    × SameFiles old new
-CompileTold name source old new (reports.TooLong Source) = IsTooLong (old source) × SameFiles old new
-CompileTold name source old new (reports.ReadFault Source) = SameFiles old new
-CompileTold name source old new (reports.NoFile Source) = (old source ≡ None) × SameFiles old new
-CompileTold name source old new (reports.WriteFault Map) = OnlyFile (map_name name) old new
-CompileTold name source old new (reports.WriteFault Image) = MapStands name source old new
-CompileTold name source old new reports.NoMemory = SameFiles old new
-    ⊎ (MapStands name source old new × (new name ≡ old name))
-CompileTold name source old new _ = ⊥
+abbrev pub CompileTold : List ℕ → List (List ℕ) → Files → Files → Report → Type 0
+CompileTold name sources old new reports.Compiled = IsCompiled old new name sources
+CompileTold name sources old new (reports.SourceFault fault) =
+    HoldAll old sources (λ texts. IsSourceFault texts fault) × SameFiles old new
+CompileTold name sources old new (reports.TooManyTokens tokens) =
+    (tokens ≡ 65537) × HoldAll old sources HaveManyTokens × SameFiles old new
+CompileTold name sources old new (reports.TooLong (Source i)) = StopsAt old read.TooLong sources i × SameFiles old new
+CompileTold name sources old new (reports.ReadFault (Source i)) = StopsAt old read.Failed sources i × SameFiles old new
+CompileTold name sources old new (reports.NoFile (Source i)) = StopsAt old read.Missing sources i × SameFiles old new
+CompileTold name sources old new (reports.WriteFault Map) = OnlyFile (map_name name) old new
+CompileTold name sources old new (reports.WriteFault Image) = MapStands name sources old new
+CompileTold name sources old new reports.NoMemory = SameFiles old new
+    ⊎ (MapStands name sources old new × (new name ≡ old name))
+CompileTold name sources old new _ = ⊥
 
 -- ---- the steps of a command
 
@@ -117,15 +129,26 @@ abbrev pub report_of_write : WriteRefusal → Named → Report
 report_of_write put.Failed file = reports.WriteFault file
 report_of_write put.NoMemory file = reports.NoMemory
 
--- the report of a run of the machine
-abbrev pub report_of_end : MachineEnd → Report
-report_of_end (machine.Ended status) = reports.Exited status
-report_of_end (machine.Trapped trap) = reports.Trapped trap
-report_of_end (machine.Stopped cause address) = reports.Stopped cause address
-report_of_end machine.BudgetSpent = reports.BudgetSpent run_steps
-report_of_end machine.ReadFault = reports.InputFault
-report_of_end machine.WriteFault = reports.OutputFault
-report_of_end machine.NoMemory = reports.NoMemory
+-- the source at a position, of this content, isn't read, and this is the report
+abbrev pub IsUnreadFile : Option (List ℕ) → ℕ → Report → Type 0
+IsUnreadFile content i report =
+    (refusal : ReadRefusal) × (report ≡ report_of_read refusal (Source i)) × IsUnreadable refusal content
+
+-- some source isn't read, or there is no memory to keep it, and this is the report
+abbrev pub AreUnread : Files → List (List ℕ) → Report → Type 0
+AreUnread files sources report =
+    ((refusal : ReadRefusal) × (i : ℕ) × (report ≡ report_of_read refusal (Source i)) × StopsAt files refusal sources i)
+    ⊎ (report ≡ reports.NoMemory)
+
+-- the report of a run of the machine for so many steps
+abbrev pub report_of_end : ℕ → MachineEnd → Report
+report_of_end steps (machine.Ended status) = reports.Exited status
+report_of_end steps (machine.Trapped trap) = reports.Trapped trap
+report_of_end steps (machine.Stopped cause address) = reports.Stopped cause address
+report_of_end steps machine.BudgetSpent = reports.BudgetSpent steps
+report_of_end steps machine.ReadFault = reports.InputFault
+report_of_end steps machine.WriteFault = reports.OutputFault
+report_of_end steps machine.NoMemory = reports.NoMemory
 
 -- why bytes give no machine
 abbrev pub GivesNoMachine : List ℕ → Report → Type 0
@@ -153,25 +176,24 @@ WritesTold map_name name map_bytes image old new _ = ⊥
 abbrev pub SameStreams : Work → Work → Type 0
 SameStreams old new = (new.input.left ≡ old.input.left) × (new.out.taken ≡ old.out.taken)
 
--- all the steps of the image with these bytes have this end
-abbrev pub RunGives : Work → Work → outcome.End → List ℕ → Type 0
-RunGives old new end image =
-    (s : State) × First image old.input.left s × (o : Outcome) × Runs no_visits run_steps s o × (o.end ≡ end)
+-- so many steps of the image with these bytes have this end
+abbrev pub RunGives : ℕ → Work → Work → outcome.End → List ℕ → Type 0
+RunGives steps old new end image =
+    (s : State) × First image old.input.left s × (o : Outcome) × Runs no_visits steps s o × (o.end ≡ end)
     × (new.input.left ≡ drop o.taken old.input.left) × (new.out.taken ≡ old.out.taken ++ o.written)
 
 -- Fewer steps than that lead to a state of which this holds, and the streams are as those steps leave them.
-abbrev pub RunGivesSoFar : (State → Type 0) → Work → Work → List ℕ → Type 0
-RunGivesSoFar IsLeft old new image =
-    (s : State) × First image old.input.left s × (n : ℕ) × (n < run_steps) × (o : Outcome) × Runs no_visits n s o
+abbrev pub RunGivesSoFar : ℕ → (State → Type 0) → Work → Work → List ℕ → Type 0
+RunGivesSoFar steps IsLeft old new image =
+    (s : State) × First image old.input.left s × (n : ℕ) × (n < steps) × (o : Outcome) × Runs no_visits n s o
     × (o.end ≡ outcome.Goes) × (new.input.left ≡ drop o.taken old.input.left)
     × (new.out.taken ≡ old.out.taken ++ o.written) × (t : State) × Reaches n s t × IsLeft t
 
 -- The input is as fewer steps leave it, and what was put on the output is what they write, and a prefix of what one
--- step
--- more writes.
-abbrev pub RunGivesPart : Work → Work → List ℕ → Type 0
-RunGivesPart old new image =
-    (s : State) × First image old.input.left s × (n : ℕ) × (n < run_steps) × (o next : Outcome)
+-- step more writes.
+abbrev pub RunGivesPart : ℕ → Work → Work → List ℕ → Type 0
+RunGivesPart steps old new image =
+    (s : State) × First image old.input.left s × (n : ℕ) × (n < steps) × (o next : Outcome)
     × Runs no_visits n s o × Runs no_visits (suc n) s next × (new.input.left ≡ drop o.taken old.input.left)
     × (k : ℕ) × (new.out.taken ≡ old.out.taken ++ take (length o.written + k) next.written)
 
@@ -179,9 +201,10 @@ RunGivesPart old new image =
 abbrev pub IsNoImage : List ℕ → List ℕ → Type 0
 IsNoImage input image = (s : State) → First image input s → ⊥
 
--- neither an image nor a board has tokens that may be too many
+-- neither an image nor a board has tokens or sources that may be too many
 abbrev pub HasNoTokens : Report → Type 0
 HasNoTokens (reports.TooManyTokens tokens) = ⊥
+HasNoTokens (reports.TooManyFiles count) = ⊥
 HasNoTokens _ = ⊤
 
 -- what the report of `run` says of the image's file, where files tell
@@ -191,24 +214,23 @@ ImageTold content (reports.TooLong Image) = IsTooLong content
 ImageTold content reports.NotImage = Holds content (λ image. (segments : Segments) → Loads image segments → ⊥)
 ImageTold content _ = ⊤
 
--- The report of `run` on files and streams that are told; no file has changed. Where the output finds no memory, the
--- next
--- step writes.
-abbrev pub RunTold : Option (List ℕ) → Work → Work → Report → Type 0
-RunTold content old new (reports.Exited status) = Holds content (RunGives old new (outcome.Ended status))
-RunTold content old new (reports.Trapped trap) = Holds content (RunGives old new (outcome.Trapped trap))
-RunTold content old new (reports.Stopped cause address) =
-    Holds content (RunGives old new (outcome.Stopped cause address))
-RunTold content old new (reports.BudgetSpent steps) = (steps ≡ run_steps)
-    × Holds content (RunGives old new outcome.Goes)
-RunTold content old new reports.NotImage = Holds content (IsNoImage old.input.left) × SameStreams old new
-RunTold content old new (reports.TooLong Image) = IsTooLong content × SameStreams old new
-RunTold content old new (reports.ReadFault Image) = SameStreams old new
-RunTold content old new (reports.NoFile Image) = (content ≡ None) × SameStreams old new
-RunTold content old new reports.InputFault = Holds content (RunGivesSoFar (λ t. ⊤) old new)
-RunTold content old new reports.OutputFault = Holds content (RunGivesPart old new)
-RunTold content old new reports.NoMemory = SameStreams old new ⊎ Holds content (RunGivesSoFar WritesNext old new)
-RunTold content old new _ = ⊥
+-- The report of `run` for so many steps on files and streams that are told; no file has changed. Where the output finds
+-- no memory, the next step writes.
+abbrev pub RunTold : ℕ → Option (List ℕ) → Work → Work → Report → Type 0
+RunTold steps content old new (reports.Exited status) = Holds content (RunGives steps old new (outcome.Ended status))
+RunTold steps content old new (reports.Trapped trap) = Holds content (RunGives steps old new (outcome.Trapped trap))
+RunTold steps content old new (reports.Stopped cause address) =
+    Holds content (RunGives steps old new (outcome.Stopped cause address))
+RunTold steps content old new (reports.BudgetSpent spent) = (spent ≡ steps)
+    × Holds content (RunGives steps old new outcome.Goes)
+RunTold steps content old new reports.NotImage = Holds content (IsNoImage old.input.left) × SameStreams old new
+RunTold steps content old new (reports.TooLong Image) = IsTooLong content × SameStreams old new
+RunTold steps content old new (reports.ReadFault Image) = SameStreams old new
+RunTold steps content old new (reports.NoFile Image) = (content ≡ None) × SameStreams old new
+RunTold steps content old new reports.InputFault = Holds content (RunGivesSoFar steps (λ t. ⊤) old new)
+RunTold steps content old new reports.OutputFault = Holds content (RunGivesPart steps old new)
+RunTold steps content old new reports.NoMemory = SameStreams old new ⊎ Holds content (RunGivesSoFar steps WritesNext old new)
+RunTold steps content old new _ = ⊥
 
 -- ---- solve
 
@@ -248,9 +270,9 @@ status_after status (Ok done) = status
 status_after status (Err put.Failed) = 5
 status_after status (Err put.NoMemory) = 11
 
--- The line of the report was put, or that of want of memory where there was none for the line.
-abbrev pub IsShown : Report → Report → Type 0
-IsShown report shown = (shown ≡ report) ⊎ (shown ≡ reports.NoMemory)
+-- this report, or that of want of memory
+abbrev pub IsUnlessMemory : Report → Report → Type 0
+IsUnlessMemory report other = (other ≡ report) ⊎ (other ≡ reports.NoMemory)
 
 -- The line was put on standard error, which is this before and after, and the status is that of the report, or 5 or 11
 -- where standard error refused.
@@ -259,22 +281,29 @@ IsPut line status old new result =
     (answer : Result Unit WriteRefusal) × CountsPut old.counts new.counts answer
     × (old.tells → PutTold old.taken new.taken line answer) × (result ≡ status_after status answer)
 
--- a command's report ends in its status
+-- a command's report ends in its status; it is shown, or want of memory is where there was none for its line
 abbrev pub Ends : Command → Report → Output → Output → ℕ → Type 0
 Ends command report old new result =
-    (shown : Report) × IsShown report shown × IsPut (report_line command shown) (status_of shown) old new result
+    (shown : Report) × IsUnlessMemory report shown × (line : List ℕ) × IsShownAs command shown line
+    × IsPut line (status_of shown) old new result
 
--- the report of a command on what is told
+-- words that ask for nothing have this report, and nothing is done
+abbrev pub NothingDone : Report → Work → Work → Report → Type 0
+NothingDone own old new report =
+    IsUnlessMemory own report × (old.files.tells → SameFiles old.files.content new.files.content) × SameStreams old new
+
+-- the report of a command on what is told; `eval` isn't built yet
 abbrev pub CommandTold : Command → Work → Work → Report → Type 0
-CommandTold (Compile name source) old new report =
-    (old.files.tells → CompileTold name source old.files.content new.files.content report) × SameStreams old new
-CommandTold (Run image) old new report =
+CommandTold (Compile name sources) old new report =
+    (old.files.tells → CompileTold name sources old.files.content new.files.content report) × SameStreams old new
+CommandTold (Run steps image) old new report =
     HasNoTokens report × (old.files.tells → SameFiles old.files.content new.files.content)
     × (old.files.tells → ImageTold (old.files.content image) report)
-    × (old.files.tells → old.input.tells → old.out.tells → RunTold (old.files.content image) old new report)
+    × (old.files.tells → old.input.tells → old.out.tells → RunTold steps (old.files.content image) old new report)
+CommandTold (Eval turns sources) old new report = NothingDone reports.Usage old new report
 CommandTold (Solve file) old new report =
     HasNoTokens report × (old.files.tells → SameFiles old.files.content new.files.content)
     × (new.input.left ≡ old.input.left)
     × (old.files.tells → SolveTold (old.files.content file) old.out new.out report)
-CommandTold Usage old new report =
-    (report ≡ reports.Usage) × (old.files.tells → SameFiles old.files.content new.files.content) × SameStreams old new
+CommandTold (ManyFiles count) old new report = NothingDone (reports.TooManyFiles count) old new report
+CommandTold Usage old new report = NothingDone reports.Usage old new report

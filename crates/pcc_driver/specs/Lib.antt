@@ -1,9 +1,7 @@
 pub mod Answers
-pub mod Commands
 pub mod Headline
 pub mod Outside
 pub mod Products
 pub mod Promises
 pub mod Reports
 pub mod Solutions
-pub mod Words

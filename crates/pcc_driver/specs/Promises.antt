@@ -1,5 +1,6 @@
 -- The promises of the top call on its statuses.
-use Rattle.std.specs.Prelude.{◌≡◌, ◌<◌, ◌≤◌, ◌⊎◌, ℕ, List, length, Option, Some, None}
+use Rattle.pcc_outside.specs.declared.file_store.ReadRefusal.TheVariants.{Missing, TooLong}
+use Rattle.std.specs.Prelude.{◌≡◌, ◌<◌, ◌≤◌, ◌⊎◌, ⊤, ℕ, List, length, Option, Some, None}
 use Rattle.pcc_base.specs.Counts.{Rose}
 use Rattle.pcc_base.specs.Outcome.{Outcome, End, Ended, Trapped, Stopped, Goes}
 use Rattle.c_tree.specs.Program.{Program}
@@ -7,11 +8,11 @@ use Rattle.ia32_insn.specs.State.{State}
 use Rattle.ia32_insn.specs.Runs.{Runs, no_visits}
 use Rattle.ia32_machine.specs.First.{First}
 use Rattle.c_front.specs.Accepted.{IsProgram}
-use Rattle.c_front.specs.Refusals.{HasManyTokens}
-use Rattle.pcc_driver.specs.Answers.{Holds, run_steps, IsNoImage}
+use Rattle.c_front.specs.Refusals.{HaveManyTokens}
+use Rattle.pcc_driver.specs.Answers.{HoldAll, IsNoImage, StopsAt}
 use Rattle.puzzle_texts.specs.Reading.{IsNoBoard}
-use Rattle.pcc_driver.specs.Commands.{Command, Compile, Run, Solve, Usage}
-use Rattle.pcc_driver.specs.Headline.{file_limit}
+use Rattle.pcc_words.specs.Asked.{Command, Compile, Run, Eval, Solve, ManyFiles, Usage}
+use Rattle.pcc_driver.specs.Headline.{AreRead, Files, file_limit}
 use Rattle.pcc_driver.specs.Outside.{Outside, Store, Work}
 use Rattle.pcc_driver.specs.Solutions.{IsSomeBoard}
 
@@ -23,15 +24,16 @@ pub record IsQuiet (old new : Outside) : Type 0 where
   pub output : Rose old.work.out.counts.faults new.work.out.counts.faults → ⊥
   pub errors : Rose old.err.counts.faults new.err.counts.faults → ⊥
 
--- the status of `compile` for what the source's file holds
-abbrev pub CompileStatus : Option (List ℕ) → ℕ → Type 0
-CompileStatus None status = status ≡ 6
-CompileStatus (Some text) status =
-    (file_limit < length text → status ≡ 3)
-    × (length text ≤ file_limit → (program : Program) → IsProgram text program → status ≡ 0)
-    × (length text ≤ file_limit → HasManyTokens text → status ≡ 3)
-    × (length text ≤ file_limit → ((program : Program) → IsProgram text program → ⊥) → (HasManyTokens text → ⊥) → status
-    ≡ 1)
+-- The status of `compile` for what the files hold: the first source that can't be read decides; where all can, their
+-- texts do.
+pub record CompileStatus (files : Files) (sources : List (List ℕ)) (status : ℕ) : Type 0 where
+  pub missing : (i : ℕ) → StopsAt files Missing sources i → status ≡ 6
+  pub too_long : (i : ℕ) → StopsAt files TooLong sources i → status ≡ 3
+  pub accepted : (texts : List (List ℕ)) (program : Program) → AreRead files sources texts → IsProgram texts program
+      → status ≡ 0
+  pub tokens : (texts : List (List ℕ)) → AreRead files sources texts → HaveManyTokens texts → status ≡ 3
+  pub refused : (texts : List (List ℕ)) → AreRead files sources texts
+      → ((program : Program) → IsProgram texts program → ⊥) → (HaveManyTokens texts → ⊥) → status ≡ 1
 
 -- the status of `run` for the end of its steps
 abbrev pub end_status : End → ℕ
@@ -40,13 +42,13 @@ end_status (Trapped trap) = 8
 end_status (Stopped cause address) = 9
 end_status Goes = 10
 
--- the status of `run` for what the image's file holds
-abbrev pub RunStatus : List ℕ → Option (List ℕ) → ℕ → Type 0
-RunStatus input None status = status ≡ 6
-RunStatus input (Some image) status =
+-- the status of `run` for so many steps and what the image's file holds
+abbrev pub RunStatus : ℕ → List ℕ → Option (List ℕ) → ℕ → Type 0
+RunStatus steps input None status = status ≡ 6
+RunStatus steps input (Some image) status =
     (file_limit < length image → status ≡ 3)
     × (length image ≤ file_limit → IsNoImage input image → status ≡ 7)
-    × (length image ≤ file_limit → (s : State) (o : Outcome) → First image input s → Runs no_visits run_steps s o
+    × (length image ≤ file_limit → (s : State) (o : Outcome) → First image input s → Runs no_visits steps s o
     → status ≡ end_status o.end)
 
 -- the status of `solve` for what the board's file holds
@@ -59,23 +61,27 @@ SolveStatus (Some text) status =
 
 -- the one status of a command on this where nothing fails
 abbrev pub HasStatus : Command → Work → ℕ → Type 0
-HasStatus (Compile name source) old status = CompileStatus (old.files.content source) status
-HasStatus (Run image) old status = RunStatus old.input.left (old.files.content image) status
+HasStatus (Compile name sources) old status = CompileStatus old.files.content sources status
+HasStatus (Run steps image) old status = RunStatus steps old.input.left (old.files.content image) status
+HasStatus (Eval turns sources) old status = status ≡ 2
 HasStatus (Solve file) old status = SolveStatus (old.files.content file) status
+HasStatus (ManyFiles count) old status = status ≡ 3
 HasStatus Usage old status = status ≡ 2
 
--- the command compiles a source, which has more than 65,536 tokens where the files tell
-abbrev pub TokensCause : Command → Store → Type 0
-TokensCause (Compile name source) files = files.tells → Holds (files.content source) HasManyTokens
-TokensCause (Run image) files = ⊥
-TokensCause (Solve file) files = ⊥
-TokensCause Usage files = ⊥
+-- the command has too many sources, or compiles some that have more than 65,536 tokens where the files tell
+abbrev pub LimitCause : Command → Store → Type 0
+LimitCause (Compile name sources) files = files.tells → HoldAll files.content sources HaveManyTokens
+LimitCause (Run steps image) files = ⊥
+LimitCause (Eval turns sources) files = ⊥
+LimitCause (Solve file) files = ⊥
+LimitCause (ManyFiles count) files = ⊤
+LimitCause Usage files = ⊥
 
--- Which count rose where a status comes that the outside causes. Status 3 comes besides where a source has too
--- many tokens.
+-- Which count rose where a status comes that the outside causes. Status 3 comes besides where there are too many
+-- sources or tokens.
 pub record HasCauses (command : Command) (old new : Outside) (status : ℕ) : Type 0 where
   pub limit : status ≡ 3 → Rose old.work.files.counts.too_long new.work.files.counts.too_long
-      ⊎ TokensCause command old.work.files
+      ⊎ LimitCause command old.work.files
   pub read_fault : status ≡ 4 → Rose old.work.files.counts.read_faults new.work.files.counts.read_faults
       ⊎ Rose old.work.input.faults new.work.input.faults
   pub write_fault : status ≡ 5 → Rose old.work.files.counts.write_faults new.work.files.counts.write_faults

@@ -1,5 +1,5 @@
 -- The status of each report, and its line on standard error.
-use Rattle.std.specs.Prelude.{ℕ, Bool, true, false, List, [], ◌++◌, codes, decimal, if◌then◌else◌}
+use Rattle.std.specs.Prelude.{◌≡◌, ℕ, Bool, true, false, List, [], ◌++◌, codes, decimal, get_or, if◌then◌else◌}
 use Rattle.pcc_base.specs.Faults.{number_of, name_of}
 use Rattle.pcc_base.specs.declared.fault.Fault.{Fault}
 use Rattle.pcc_base.specs.declared.fault.FaultKind.{FaultKind}
@@ -11,13 +11,13 @@ use Rattle.pcc_base.specs.declared.run.Stop.{Stop}
 use Rattle.pcc_base.specs.declared.run.Stop.TheVariants.{Instruction, Access, Flags, Call}
 use Rattle.c_lexer.specs.Spellings.{keyword_text}
 use Rattle.pcc_listing.specs.Lines.{address_text}
-use Rattle.pcc_driver.specs.Commands as commands
-use Rattle.pcc_driver.specs.Commands.{map_name}
+use Rattle.pcc_words.specs.Asked as commands
+use Rattle.pcc_words.specs.Asked.{map_name}
 use Rattle.pcc_driver.specs.declared.report.Named.{Named}
 use Rattle.pcc_driver.specs.declared.report.Named.TheVariants.{Source, Map, Image, Board}
 use Rattle.pcc_driver.specs.declared.report.Report.{Report}
 use Rattle.pcc_driver.specs.declared.report.Report.TheVariants.{Compiled, Exited, SourceFault, Usage, TooLong}
-use Rattle.pcc_driver.specs.declared.report.Report.TheVariants.{TooManyTokens, ReadFault, InputFault, WriteFault}
+use Rattle.pcc_driver.specs.declared.report.Report.TheVariants.{TooManyFiles, TooManyTokens, ReadFault, InputFault, WriteFault}
 use Rattle.pcc_driver.specs.declared.report.Report.TheVariants.{OutputFault, NoFile, NotImage, Trapped, Stopped}
 use Rattle.pcc_driver.specs.declared.report.Report.TheVariants.{BudgetSpent, Solved, BadBoard, NoMemory}
 
@@ -30,6 +30,7 @@ status_of BadBoard = 1
 status_of Usage = 2
 status_of (TooLong file) = 3
 status_of (TooManyTokens tokens) = 3
+status_of (TooManyFiles count) = 3
 status_of (ReadFault file) = 4
 status_of InputFault = 4
 status_of (WriteFault file) = 5
@@ -43,12 +44,15 @@ status_of NoMemory = 11
 
 -- the name of a file in a command
 abbrev pub name_in : commands.Command → Named → List ℕ
-name_in (commands.Compile name source) Source = source
-name_in (commands.Compile name source) Map = map_name name
-name_in (commands.Compile name source) Image = name
-name_in (commands.Compile name source) Board = []
-name_in (commands.Run image) named = image
+name_in (commands.Compile name sources) (Source i) = get_or sources i []
+name_in (commands.Compile name sources) Map = map_name name
+name_in (commands.Compile name sources) Image = name
+name_in (commands.Compile name sources) Board = []
+name_in (commands.Run steps image) named = image
+name_in (commands.Eval turns sources) (Source i) = get_or sources i []
+name_in (commands.Eval turns sources) named = []
 name_in (commands.Solve file) named = file
+name_in (commands.ManyFiles count) named = []
 name_in commands.Usage named = []
 
 abbrev pub trap_text : Trap → List ℕ
@@ -78,10 +82,11 @@ fault_text fault = codes ":" ++ decimal fault.at.line ++ codes ":" ++ decimal fa
 abbrev pub report_text : commands.Command → Report → List ℕ
 report_text command Compiled = []
 report_text command (Exited status) = codes "exit " ++ decimal status
-report_text command (SourceFault fault) = name_in command Source ++ fault_text fault
+report_text command (SourceFault fault) = name_in command (Source fault.at.file) ++ fault_text fault
 report_text command Usage = codes "usage"
 report_text command (TooLong file) = codes "limit 24 FileBytes " ++ name_in command file
 report_text command (TooManyTokens tokens) = codes "limit 20 Tokens " ++ decimal tokens
+report_text command (TooManyFiles count) = codes "limit 23 Files " ++ decimal count
 report_text command (ReadFault file) = codes "read fault " ++ name_in command file
 report_text command InputFault = codes "read fault input"
 report_text command (WriteFault file) = codes "write fault " ++ name_in command file
@@ -101,6 +106,16 @@ is_silent Compiled = true
 is_silent Solved = true
 is_silent _ = false
 
+-- the words mean no command
+abbrev pub is_usage : Report → Bool
+is_usage Usage = true
+is_usage _ = false
+
 -- the line that is put on standard error
 abbrev pub report_line : commands.Command → Report → List ℕ
 report_line command report = if is_silent report then [] else report_text command report ++ codes "\n"
+
+-- what is put on standard error: the line, and behind that of a usage fault what helps
+abbrev pub IsShownAs : commands.Command → Report → List ℕ → Type 0
+IsShownAs command report text =
+    (help : List ℕ) × (text ≡ report_line command report ++ (if is_usage report then help else []))

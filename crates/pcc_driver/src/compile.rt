@@ -1,35 +1,20 @@
-ghost use Rattle.std.specs.Prelude.{◌≡◌, ◌≢◌, ℕ};
+ghost use Rattle.std.specs.Prelude.{◌≡◌, ◌≢◌, ◌≤◌, ℕ, length, map};
 ghost use Rattle.pcc_outside.specs.Streams.{SinkCounts};
 ghost use Rattle.pcc_driver.specs.Answers.{
   FilesCause,
   StreamsCause,
   CompileTold,
   WritesTold,
-  report_of_read,
   report_of_write,
 };
 
 use crate::products::products_of;
 use crate::report::{Named, Report};
+use crate::sources::read_sources;
 use pcc_base::{Limit, Refusal};
 use pcc_compile::Products;
-use pcc_outside::{FileStore, ReadRefusal, WriteRefusal};
+use pcc_outside::{FileStore, WriteRefusal};
 use std::alloc::Global;
-
-/// The most bytes of one file that is read.
-pub const FILE_LIMIT: usize = 1_342_177_280;
-
-/// The report of a refused read.
-pub fn read_report(refusal: ReadRefusal, file: Named) -> Report
-    ensures { result ≡ report_of_read refusal file }
-{
-    match refusal {
-        ReadRefusal::Missing => Report::NoFile(file),
-        ReadRefusal::TooLong => Report::TooLong(file),
-        ReadRefusal::Failed => Report::ReadFault(file),
-        ReadRefusal::NoMemory => Report::NoMemory,
-    }
-}
 
 /// The report of a refused write.
 fn write_report(refusal: WriteRefusal, file: Named) -> Report
@@ -65,20 +50,21 @@ fn write_products<F: FileStore>(
     Report::Compiled
 }
 
-/// Reads the source and writes its map and its image. Nothing is written where an earlier step refuses.
-pub fn compile<F: FileStore>(alloc: Global, name: &str, source: &str, files: &mut F) -> Report
+/// Reads the sources and writes their map and their image. Nothing is written where an earlier step refuses.
+pub fn compile<F: FileStore>(alloc: Global, name: &str, sources: &[&str], files: &mut F) -> Report
+    requires few { length sources.now ≤ 16 }
     ensures cause { FilesCause result (F.counts files.old) (F.counts files.new) }
     // It speaks of no input and no output.
     ensures streams { (input : ℕ) (out : SinkCounts) → StreamsCause result input input out out }
     ensures telling { F.tells files.old → F.tells files.new }
     ensures told { F.tells files.old →
-        CompileTold name.now source.now (F.content files.old) (F.content files.new) result }
+        CompileTold name.now (map (λ s. s.now) sources.now) (F.content files.old) (F.content files.new) result }
 {
-    let text = match files.read(alloc, source, FILE_LIMIT) {
-        Ok(text) => text,
-        Err(refusal) => return read_report(refusal, Named::Source),
+    let texts = match read_sources(alloc, sources, files) {
+        Ok(texts) => texts,
+        Err(report) => return report,
     };
-    let products = match products_of(alloc, text.as_slice()) {
+    let products = match products_of(alloc, texts.as_slice()) {
         Ok(products) => products,
         Err(Refusal::Fault(fault)) => return Report::SourceFault(fault),
         Err(Refusal::Limit(Limit::Tokens(tokens))) => return Report::TooManyTokens(tokens),

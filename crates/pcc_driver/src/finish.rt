@@ -1,8 +1,23 @@
-ghost use Rattle.std.specs.Prelude.{◌≡◌, ◌++◌, IfOk, OnOk, decimal};
+ghost use Rattle.std.specs.Prelude.{
+  ◌≡◌,
+  ◌++◌,
+  ℕ,
+  List,
+  [],
+  IfOk,
+  OnOk,
+  decimal,
+  get_or,
+  map,
+  if◌then◌else◌,
+};
+ghost use Rattle.pcc_driver.specs.declared.report.Report.{Report};
 ghost use Rattle.pcc_driver.specs.Answers.{Ends, IsPut};
+ghost use Rattle.pcc_words.specs.Asked as asked;
 ghost use Rattle.pcc_driver.specs.Outside.{output_of};
 ghost use Rattle.pcc_driver.specs.Reports.{
   fault_text,
+  is_usage,
   kind_text,
   name_in,
   report_line,
@@ -10,25 +25,36 @@ ghost use Rattle.pcc_driver.specs.Reports.{
   stop_text,
   trap_text,
   word_text,
+  IsShownAs,
 };
-ghost use Rattle.pcc_driver.specs.Words.{meaning};
+ghost use Rattle.pcc_words.specs.Words.{meaning};
 ghost use Rattle.pcc_listing.specs.Lines.{address_text};
 
 use crate::report::{Named, Report};
-use crate::words::Command;
 use c_lexer::spelling;
 use pcc_base::{Fault, FaultKind, NoMemory, Stop, Trap};
 use pcc_listing::{push_address, push_number};
 use pcc_outside::{Sink, WriteRefusal};
+use pcc_words::Command;
 use std::alloc::Global;
 
+/// Puts the name of the source at this position at the end. The only refusal is want of memory.
+fn push_source(out: &mut Vec<u8>, sources: &[&str], position: u32) -> Result<(), NoMemory>
+    ensures { OnOk result (out.new.items ≡ out.old.items ++ get_or (map (λ s. s.now) sources.now) position []) }
+{
+    if let Some(source) = sources.get(position as usize) {
+        out.extend_from_slice(source.as_bytes())?;
+    }
+    Ok(())
+}
+
 /// Puts a file's name at the end. The only refusal is want of memory.
-fn push_name(out: &mut Vec<u8>, command: Command<'_>, file: Named) -> Result<(), NoMemory>
-    ensures { OnOk result (out.new.items ≡ out.old.items ++ name_in (meaning command.entry) file) }
+fn push_name(out: &mut Vec<u8>, command: &Command<'_>, file: Named) -> Result<(), NoMemory>
+    ensures { OnOk result (out.new.items ≡ out.old.items ++ name_in (meaning command.now) file) }
 {
     match command {
-        Command::Compile { name, source } => match file {
-            Named::Source => out.extend_from_slice(source.as_bytes())?,
+        Command::Compile { name, sources } => match file {
+            Named::Source(position) => push_source(out, sources.as_slice(), position)?,
             Named::Map => {
                 out.extend_from_slice(name.as_bytes())?;
                 out.extend_from_slice(b".map")?;
@@ -36,9 +62,13 @@ fn push_name(out: &mut Vec<u8>, command: Command<'_>, file: Named) -> Result<(),
             Named::Image => out.extend_from_slice(name.as_bytes())?,
             Named::Board => {}
         },
-        Command::Run { image } => out.extend_from_slice(image.as_bytes())?,
+        Command::Eval { sources, .. } => match file {
+            Named::Source(position) => push_source(out, sources.as_slice(), position)?,
+            Named::Map | Named::Image | Named::Board => {}
+        },
+        Command::Run { image, .. } => out.extend_from_slice(image.as_bytes())?,
         Command::Solve { file } => out.extend_from_slice(file.as_bytes())?,
-        Command::Usage => {}
+        Command::ManyFiles(_) | Command::Usage(_) => {}
     }
     Ok(())
 }
@@ -47,10 +77,10 @@ fn push_name(out: &mut Vec<u8>, command: Command<'_>, file: Named) -> Result<(),
 fn push_about(
     out: &mut Vec<u8>,
     words: &[u8],
-    command: Command<'_>,
+    command: &Command<'_>,
     file: Named,
 ) -> Result<(), NoMemory>
-    ensures { OnOk result (out.new.items ≡ out.old.items ++ (words.now ++ name_in (meaning command.entry) file)) }
+    ensures { OnOk result (out.new.items ≡ out.old.items ++ (words.now ++ name_in (meaning command.now) file)) }
 {
     out.extend_from_slice(words)?;
     push_name(out, command, file)
@@ -142,21 +172,22 @@ fn push_words(out: &mut Vec<u8>, words: &[u8]) -> Result<(), NoMemory>
 fn push_report(
     alloc: Global,
     out: &mut Vec<u8>,
-    command: Command<'_>,
+    command: &Command<'_>,
     report: Report,
 ) -> Result<(), NoMemory>
-    ensures { OnOk result (out.new.items ≡ out.old.items ++ report_text (meaning command.entry) report) }
+    ensures { OnOk result (out.new.items ≡ out.old.items ++ report_text (meaning command.now) report) }
 {
     match report {
         Report::Compiled | Report::Solved => Ok(()),
         Report::Exited(status) => push_count(alloc, out, b"exit ", u64::from(status)),
         Report::SourceFault(fault) => {
-            push_name(out, command, Named::Source)?;
+            push_name(out, command, Named::Source(fault.at.file))?;
             push_fault(alloc, out, fault)
         }
         Report::Usage => push_words(out, b"usage"),
         Report::TooLong(file) => push_about(out, b"limit 24 FileBytes ", command, file),
         Report::TooManyTokens(tokens) => push_count(alloc, out, b"limit 20 Tokens ", tokens),
+        Report::TooManyFiles(count) => push_count(alloc, out, b"limit 23 Files ", count),
         Report::ReadFault(file) => push_about(out, b"read fault ", command, file),
         Report::InputFault => push_words(out, b"read fault input"),
         Report::WriteFault(file) => push_about(out, b"write fault ", command, file),
@@ -181,9 +212,22 @@ fn push_report(
     }
 }
 
+/// Puts what helps at the end, behind the line of a usage fault. The only refusal is want of memory.
+fn push_help(out: &mut Vec<u8>, command: &Command<'_>, report: Report) -> Result<(), NoMemory>
+    ensures { OnOk result ((help : List ℕ) × (out.new.items ≡ out.old.items
+        ++ (if is_usage report then help else []))) }
+{
+    if report.is_usage() {
+        if let Command::Usage(help) = command {
+            out.extend_from_slice(help.as_bytes())?;
+        }
+    }
+    Ok(())
+}
+
 /// The line of a report, with its newline. The only refusal is want of memory.
-fn line_of(alloc: Global, command: Command<'_>, report: Report) -> Result<Vec<u8>, NoMemory>
-    ensures { IfOk result (λ line. line.items ≡ report_line (meaning command.entry) report) }
+fn line_of(alloc: Global, command: &Command<'_>, report: Report) -> Result<Vec<u8>, NoMemory>
+    ensures { IfOk result (λ line. line.items ≡ report_line (meaning command.now) report) }
 {
     let mut line = Vec::new(alloc);
     if !report.is_silent() {
@@ -191,6 +235,15 @@ fn line_of(alloc: Global, command: Command<'_>, report: Report) -> Result<Vec<u8
         line.push(b'\n')?;
     }
     Ok(line)
+}
+
+/// What is shown of a report: its line, and what helps behind it. The only refusal is want of memory.
+fn text_of(alloc: Global, command: &Command<'_>, report: Report) -> Result<Vec<u8>, NoMemory>
+    ensures { IfOk result (λ text. IsShownAs (meaning command.now) report text.items) }
+{
+    let mut text = line_of(alloc, command, report)?;
+    push_help(&mut text, command, report)?;
+    Ok(text)
 }
 
 /// Puts a line on standard error, and answers the status: 5 where standard error fails, and 11 where it
@@ -206,17 +259,26 @@ fn put_line<E: Sink>(line: &[u8], status: u8, err: &mut E) -> u8
     }
 }
 
+/// Puts the line of want of memory on standard error, and answers the status, whatever the command and its report.
+pub fn finish_wanting<E: Sink>(err: &mut E) -> u8
+    ensures ends { (command : asked.Command) (report : Report)
+        → Ends command report (output_of E.Sink err.old) (output_of E.Sink err.new) result }
+    ensures telling { E.tells err.old → E.tells err.new }
+{
+    put_line(b"no memory\n", Report::NoMemory.status(), err)
+}
+
 /// Puts the report's line on standard error, and answers its status: 5 where standard error fails, and
 /// 11 where there is no memory for the line or for putting it. Nothing is put for a report without a line.
-pub fn finish<E: Sink>(alloc: Global, command: Command<'_>, report: Report, err: &mut E) -> u8
-    ensures ends { Ends (meaning command.entry) report (output_of E.Sink err.old) (output_of E.Sink err.new) result }
+pub fn finish<E: Sink>(alloc: Global, command: &Command<'_>, report: Report, err: &mut E) -> u8
+    ensures ends { Ends (meaning command.now) report (output_of E.Sink err.old) (output_of E.Sink err.new) result }
     ensures telling { E.tells err.old → E.tells err.new }
 {
     if report.is_silent() {
         return report.status();
     }
-    match line_of(alloc, command, report) {
-        Ok(line) => put_line(line.as_slice(), report.status(), err),
-        Err(NoMemory) => put_line(b"no memory\n", Report::NoMemory.status(), err),
+    match text_of(alloc, command, report) {
+        Ok(text) => put_line(text.as_slice(), report.status(), err),
+        Err(NoMemory) => finish_wanting(err),
     }
 }

@@ -12,9 +12,8 @@ mod products;
 mod report;
 mod run;
 mod solve;
+mod sources;
 mod top;
-mod words;
 
 pub use report::{Named, Report};
 pub use top::pcc;
-pub use words::Command;

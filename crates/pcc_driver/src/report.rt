@@ -1,13 +1,13 @@
 ghost use Rattle.std.specs.Prelude.{◌≡◌};
-ghost use Rattle.pcc_driver.specs.Reports.{is_silent, status_of};
+ghost use Rattle.pcc_driver.specs.Reports.{is_silent, is_usage, status_of};
 
 use pcc_base::{Fault, Stop, Trap};
 
 /// A file that a command names.
 #[derive(Clone, Copy, Debug, PartialEq, Eq)]
 pub enum Named {
-    /// The source that `compile` reads.
-    Source,
+    /// The source at this position that `compile` reads.
+    Source(u32),
     /// The map that `compile` writes.
     Map,
     /// The image that `compile` writes or `run` reads.
@@ -23,14 +23,16 @@ pub enum Report {
     Compiled,
     /// The program ended with this exit status.
     Exited(u8),
-    /// The source is faulty.
+    /// A source is faulty.
     SourceFault(Fault),
     /// The words mean no command.
     Usage,
     /// The file that is read has too many bytes.
     TooLong(Named),
-    /// The source has so many tokens, more than are read.
+    /// The sources have so many tokens, more than are read.
     TooManyTokens(u64),
+    /// There are so many sources, more than are read.
+    TooManyFiles(u64),
     /// Reading the file failed.
     ReadFault(Named),
     /// Reading the input failed.
@@ -66,7 +68,7 @@ impl Report {
             Report::Compiled | Report::Exited(_) | Report::Solved => 0,
             Report::SourceFault(_) | Report::BadBoard => 1,
             Report::Usage => 2,
-            Report::TooLong(_) | Report::TooManyTokens(_) => 3,
+            Report::TooLong(_) | Report::TooManyTokens(_) | Report::TooManyFiles(_) => 3,
             Report::ReadFault(_) | Report::InputFault => 4,
             Report::WriteFault(_) | Report::OutputFault => 5,
             Report::NoFile(_) => 6,
@@ -83,5 +85,12 @@ impl Report {
         ensures { result ≡ is_silent self }
     {
         matches!(self, Report::Compiled | Report::Solved)
+    }
+
+    /// Whether the words mean no command.
+    pub fn is_usage(self) -> bool
+        ensures { result ≡ is_usage self }
+    {
+        matches!(self, Report::Usage)
     }
 }

@@ -13,15 +13,12 @@ ghost use Rattle.pcc_driver.specs.Answers.{
   report_of_end,
 };
 
-use crate::compile::{FILE_LIMIT, read_report};
 use crate::report::{Named, Report};
+use crate::sources::{FILE_LIMIT, read_report};
 use elf_image::{ImageRefusal, read_image};
 use ia32_machine::{Machine, MachineEnd};
 use pcc_outside::{FileStore, Sink, Source};
 use std::alloc::Global;
-
-/// The steps that a run makes at most.
-pub const RUN_STEPS: u64 = 1_000_000_000;
 
 /// The machine that the bytes of an image load.
 fn machine_of(alloc: Global, image: &[u8]) -> Result<Machine, Report>
@@ -39,24 +36,25 @@ fn machine_of(alloc: Global, image: &[u8]) -> Result<Machine, Report>
     }
 }
 
-/// The report of a run of the machine.
-fn end_report(end: MachineEnd) -> Report
-    ensures { result ≡ report_of_end end }
+/// The report of a run of the machine for so many steps.
+fn end_report(steps: u64, end: MachineEnd) -> Report
+    ensures { result ≡ report_of_end steps end }
 {
     match end {
         MachineEnd::Ended(status) => Report::Exited(status),
         MachineEnd::Trapped(trap) => Report::Trapped(trap),
         MachineEnd::Stopped(cause, address) => Report::Stopped(cause, address),
-        MachineEnd::BudgetSpent => Report::BudgetSpent(RUN_STEPS),
+        MachineEnd::BudgetSpent => Report::BudgetSpent(steps),
         MachineEnd::ReadFault => Report::InputFault,
         MachineEnd::WriteFault => Report::OutputFault,
         MachineEnd::NoMemory => Report::NoMemory,
     }
 }
 
-/// Reads the image and runs it in the machine. No file is changed.
+/// Reads the image and runs it in the machine, for so many steps at most. No file is changed.
 pub fn run<F: FileStore, I: Source, O: Sink>(
     alloc: Global,
+    steps: u64,
     image: &str,
     files: &mut F,
     input: &mut I,
@@ -72,7 +70,7 @@ pub fn run<F: FileStore, I: Source, O: Sink>(
     ensures same { F.tells files.old → SameFiles (F.content files.old) (F.content files.new) }
     ensures file { F.tells files.old → ImageTold (F.content files.old image.now) result }
     ensures told { F.tells files.old → I.tells input.old → O.tells out.old →
-        RunTold (F.content files.old image.now)
+        RunTold steps (F.content files.old image.now)
         (work_of F.FileStore I.Source O.Sink files.old input.old out.old)
         (work_of F.FileStore I.Source O.Sink files.new input.new out.new)
         result }
@@ -82,7 +80,7 @@ pub fn run<F: FileStore, I: Source, O: Sink>(
         Err(refusal) => return read_report(refusal, Named::Image),
     };
     match machine_of(alloc, bytes.as_slice()) {
-        Ok(mut machine) => end_report(machine.run(input, out, RUN_STEPS)),
+        Ok(mut machine) => end_report(steps, machine.run(input, out, steps)),
         Err(report) => report,
     }
 }

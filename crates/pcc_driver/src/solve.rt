@@ -13,8 +13,8 @@ ghost use Rattle.pcc_driver.specs.Answers.{
 ghost use Rattle.pcc_driver.specs.Outside.{output_of};
 ghost use Rattle.pcc_driver.specs.Solutions.{IsAnswer, IsSolution};
 
-use crate::compile::{FILE_LIMIT, read_report};
 use crate::report::{Named, Report};
+use crate::sources::{FILE_LIMIT, read_report};
 use pcc_base::{NoMemory, Steps};
 use pcc_outside::{FileStore, Sink, WriteRefusal};
 use puzzle_board::Board;

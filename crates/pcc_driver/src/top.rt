@@ -1,42 +1,46 @@
 ghost use Rattle.std.specs.Prelude.{◌≡◌, ◌≤◌, ◌⊎◌, ℕ, List, map, string_bytes};
 ghost use Rattle.pcc_driver.specs.Answers.{HasCause, CommandTold, Ends};
-ghost use Rattle.pcc_driver.specs.Commands.{command_of, Compile};
+ghost use Rattle.pcc_words.specs.Asked.{command_of, Compile, HasFewSources};
 ghost use Rattle.pcc_driver.specs.Headline.{IsCompiled};
 ghost use Rattle.pcc_driver.specs.Outside.{work_of, outside_of};
 ghost use Rattle.pcc_driver.specs.Promises.{IsQuiet, HasStatus, HasCauses, NoticesFaults};
-ghost use Rattle.pcc_driver.specs.Words.{meaning};
+ghost use Rattle.pcc_words.specs.Words.{meaning};
 ghost use Rattle.pcc_driver.specs.declared.report.Report.{Report};
 
 use crate::compile::compile;
-use crate::finish::finish;
+use crate::finish::{finish, finish_wanting};
 use crate::report::Report;
 use crate::run::run;
 use crate::solve::solve;
-use crate::words::{Command, command_of};
+use pcc_base::NoMemory;
 use pcc_outside::{FileStore, Sink, Source};
+use pcc_words::{Command, command_of};
 use std::alloc::Global;
 
 /// Does what the command asks for, and says how it went.
 fn carry_out<F: FileStore, I: Source, O: Sink>(
     alloc: Global,
-    command: Command<'_>,
+    command: &Command<'_>,
     files: &mut F,
     input: &mut I,
     out: &mut O,
 ) -> Report
+    requires few { HasFewSources (meaning command.now) }
     ensures cause { HasCause result
         (work_of F.FileStore I.Source O.Sink files.old input.old out.old)
         (work_of F.FileStore I.Source O.Sink files.new input.new out.new) }
-    ensures told { CommandTold (meaning command.entry)
+    ensures told { CommandTold (meaning command.now)
         (work_of F.FileStore I.Source O.Sink files.old input.old out.old)
         (work_of F.FileStore I.Source O.Sink files.new input.new out.new)
         result }
 {
     match command {
-        Command::Compile { name, source } => compile(alloc, name, source, files),
-        Command::Run { image } => run(alloc, image, files, input, out),
+        Command::Compile { name, sources } => compile(alloc, name, sources.as_slice(), files),
+        Command::Run { steps, image } => run(alloc, *steps, image, files, input, out),
         Command::Solve { file } => solve(alloc, file, files, out),
-        Command::Usage => Report::Usage,
+        Command::ManyFiles(count) => Report::TooManyFiles(*count as u64),
+        // `eval` isn't built yet.
+        Command::Eval { .. } | Command::Usage(_) => Report::Usage,
     }
 }
 
@@ -46,16 +50,16 @@ fn carry_out<F: FileStore, I: Source, O: Sink>(
 /// | status | only where |
 /// |---|---|
 /// | 0 | the command did its work |
-/// | 1 | the source isn't accepted, or the file is no board |
+/// | 1 | the sources aren't accepted, or the file is no board |
 /// | 2 | the words mean no command |
-/// | 3 | a file has too many bytes, or the source too many tokens |
+/// | 3 | a file has too many bytes, there are too many sources, or they have too many tokens |
 /// | 4 | reading a file or the input failed |
 /// | 5 | writing a file, the output or standard error failed |
 /// | 6 | a file isn't there |
 /// | 7 | the file is no image |
 /// | 8 | the program trapped |
 /// | 9 | the machine stopped |
-/// | 10 | the program still runs after 1,000,000,000 steps |
+/// | 10 | the program still runs after the steps that the words have |
 /// | 11 | there was no memory |
 pub fn pcc<F: FileStore, I: Source, O: Sink, E: Sink>(
     alloc: Global,
@@ -68,11 +72,11 @@ pub fn pcc<F: FileStore, I: Source, O: Sink, E: Sink>(
     // No other status is answered.
     ensures statuses { result ≤ 11 }
 
-    // A compiled image does exactly what its source does.
-    ensures headline { (name source : List ℕ) →
-        command_of (map string_bytes words.now.items) ≡ Compile name source →
+    // A compiled image does exactly what its sources do.
+    ensures headline { (name : List ℕ) (sources : List (List ℕ)) →
+        command_of (map string_bytes words.now.items) ≡ Compile name sources →
         F.tells files.old → result ≡ 0 →
-        IsCompiled (F.content files.old) (F.content files.new) name source }
+        IsCompiled (F.content files.old) (F.content files.new) name sources }
 
     // The status is the one that the words, the files and the input have, unless memory was wanting or a
     // fault came.
@@ -81,7 +85,7 @@ pub fn pcc<F: FileStore, I: Source, O: Sink, E: Sink>(
         old.work.files.tells → old.work.input.tells → old.work.out.tells → IsQuiet old new →
         (result ≡ 11) ⊎ HasStatus (command_of (map string_bytes words.now.items)) old.work result }
 
-    // Which count rose where the outside is the cause, and that a source has too many tokens else.
+    // Which count rose where the outside is the cause, and that there are too many sources or tokens else.
     ensures causes { let old = outside_of F.FileStore I.Source O.Sink E.Sink files.old input.old out.old err.old in
         let new = outside_of F.FileStore I.Source O.Sink E.Sink files.new input.new out.new err.new in
         HasCauses (command_of (map string_bytes words.now.items)) old new result }
@@ -99,7 +103,11 @@ pub fn pcc<F: FileStore, I: Source, O: Sink, E: Sink>(
         (report : Report) × HasCause report old.work new.work × CommandTold command old.work new.work report
         × Ends command report old.err new.err result }
 {
-    let command = command_of(words.as_slice());
-    let report = carry_out(alloc, command, files, input, out);
-    finish(alloc, command, report, err)
+    match command_of(alloc, words.as_slice()) {
+        Ok(command) => {
+            let report = carry_out(alloc, &command, files, input, out);
+            finish(alloc, &command, report, err)
+        }
+        Err(NoMemory) => finish_wanting(err),
+    }
 }

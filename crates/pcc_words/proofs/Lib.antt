@@ -4,3 +4,4 @@ mod Rows
 mod Clashes
 mod Told
 mod Refused
+pub mod Few

@@ -30,11 +30,23 @@ steps = record (new_rule (codes "N")) {
   parser = Some (Unsigned 0 18446744073709551615);
 }
 
+-- `--turns N`, a number of 64 bits
+abbrev pub turns : Rule
+turns = record (new_rule (codes "N")) {
+  long = Some (codes "turns");
+  action = Some Set;
+  defaults = codes "100000000" ∷ [];
+  parser = Some (Unsigned 0 18446744073709551615);
+}
+
 abbrev pub compile : App
 compile = with_rule (with_rule (new_app (codes "compile")) name) sources
 
 abbrev pub run : App
 run = with_rule (with_rule (new_app (codes "run")) steps) (wanted (codes "IMAGE"))
+
+abbrev pub eval : App
+eval = with_rule (with_rule (new_app (codes "eval")) turns) sources
 
 abbrev pub solve : App
 solve = with_rule (new_app (codes "solve")) (wanted (codes "FILE"))
@@ -46,4 +58,4 @@ top = record (new_app (codes "pcc")) {
 }
 
 abbrev pub app : App
-app = with_subcommand (with_subcommand (with_subcommand top compile.top) run.top) solve.top
+app = with_subcommand (with_subcommand (with_subcommand (with_subcommand top compile.top) run.top) eval.top) solve.top

@@ -1,5 +1,5 @@
 -- What the words of the command line ask for: the matches of the command, and two rules on the names of files.
-use Rattle.std.specs.Prelude.{ℕ, ◌||◌, List, [], ◌∷◌, ◌++◌, length, codes, bytes_eq, nat_lt, Bool, Option, Some, None}
+use Rattle.std.specs.Prelude.{ℕ, ⊤, ◌≤◌, ◌||◌, List, [], ◌∷◌, ◌++◌, length, codes, bytes_eq, nat_lt, Bool, Option, Some, None}
 use Rattle.std.specs.Prelude.{if◌then◌else◌}
 use Rattle.std.specs.List.{list_any}
 use Rattle.std.specs.Str.Parse.{digits_value, without_leading_plus}
@@ -12,6 +12,8 @@ pub data Command : Type 0 where
   Compile : (name : List ℕ) (sources : List (List ℕ)) → Command
   -- run the image for so many steps at most
   Run : (steps : ℕ) (image : List ℕ) → Command
+  -- evaluate the sources for so many turns at most
+  Eval : (turns : ℕ) (sources : List (List ℕ)) → Command
   -- solve the board of the file
   Solve : (file : List ℕ) → Command
   -- there are so many sources, more than are read
@@ -52,6 +54,15 @@ abbrev pub run_asked : Option Text → Option Text → Command
 run_asked (Some steps) (Some image) = run_command (number_of steps) image
 run_asked _ _ = Usage
 
+abbrev pub eval_command : Option ℕ → List (List ℕ) → Command
+eval_command None sources = Usage
+eval_command (Some n) sources =
+    if nat_lt file_count_limit (length sources) then ManyFiles (length sources) else Eval n sources
+
+abbrev pub eval_asked : Option Text → Option (List Text) → Command
+eval_asked (Some turns) (Some sources) = eval_command (number_of turns) sources
+eval_asked _ _ = Usage
+
 abbrev pub solve_asked : Option Text → Command
 solve_asked None = Usage
 solve_asked (Some file) = Solve file
@@ -61,6 +72,7 @@ abbrev pub asked_by : Text → List Row → Command
 asked_by command rows =
     if bytes_eq command (codes "compile") then compile_asked (first_of (codes "NAME") rows) (all_of (codes "SRC") rows)
     else if bytes_eq command (codes "run") then run_asked (first_of (codes "N") rows) (first_of (codes "IMAGE") rows)
+    else if bytes_eq command (codes "eval") then eval_asked (first_of (codes "N") rows) (all_of (codes "SRC") rows)
     else if bytes_eq command (codes "solve") then solve_asked (first_of (codes "FILE") rows) else Usage
 
 abbrev pub asked_in : Option (Text × List Row) → Command
@@ -71,6 +83,12 @@ asked_in (Some matched) = asked_by matched.0 matched.1
 abbrev pub asked_unless : Kinds → Option (Text × List Row) → Command
 asked_unless [] found = asked_in found
 asked_unless (kind ∷ kinds) found = Usage
+
+-- a command has so many sources at most
+abbrev pub HasFewSources : Command → Type 0
+HasFewSources (Compile name sources) = length sources ≤ file_count_limit
+HasFewSources (Eval turns sources) = length sources ≤ file_count_limit
+HasFewSources _ = ⊤
 
 -- the words are those behind the program's name
 abbrev pub command_of : List (List ℕ) → Command

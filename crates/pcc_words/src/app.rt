@@ -48,6 +48,27 @@ fn run<'a>(alloc: Global) -> Result<Command<'a>, AllocError>
         .arg(image)
 }
 
+/// `eval [--turns N] SRC..`
+fn eval<'a>(alloc: Global) -> Result<Command<'a>, AllocError>
+    ensures { IfOk result (λ c. (app_of c ≡ apps.eval) × ((out-Command c).has_globals ≡ false)) }
+{
+    let turns = Arg::new(alloc, "N")
+        .long("turns")
+        .action(ArgAction::Set)
+        .default_value("100000000")
+        .value_parser(value_parser!(u64))
+        .help("The most turns that are taken");
+    let sources = Arg::new(alloc, "SRC")
+        .action(ArgAction::Append)
+        .num_args(1..)
+        .required(true)
+        .help("The C files, 16 at most");
+    Command::new(alloc, "eval")
+        .about("Evaluates C files (not built yet)")
+        .arg(turns)?
+        .arg(sources)
+}
+
 /// `solve FILE`
 fn solve<'a>(alloc: Global) -> Result<Command<'a>, AllocError>
     ensures { IfOk result (λ c. (app_of c ≡ apps.solve) × ((out-Command c).has_globals ≡ false)) }
@@ -67,6 +88,7 @@ pub fn app<'a>(alloc: Global) -> Result<Command<'a>, AllocError>
 {
     let compile = compile(alloc)?;
     let run = run(alloc)?;
+    let eval = eval(alloc)?;
     let solve = solve(alloc)?;
     Command::new(alloc, "pcc")
         .about("A compiler of a subset of C99 to static i386 ELF")
@@ -74,5 +96,6 @@ pub fn app<'a>(alloc: Global) -> Result<Command<'a>, AllocError>
         .subcommand_required(true)
         .subcommand(compile)?
         .subcommand(run)?
+        .subcommand(eval)?
         .subcommand(solve)
 }

@@ -1,6 +1,20 @@
 //! The command that the matches mean.
 
-ghost use Rattle.std.specs.Prelude.{◌≡◌, ◌≢◌, ◌||◌, ⊤, IfOk, MatchResult, map, string_bytes, bytes_eq, codes};
+ghost use Rattle.std.specs.Prelude.{
+  ◌≡◌,
+  ◌≢◌,
+  ◌||◌,
+  ⊤,
+  IfOk,
+  MatchResult,
+  Some,
+  map,
+  length,
+  nat_lt,
+  string_bytes,
+  bytes_eq,
+  codes,
+};
 ghost use Rattle.clap.specs.Values.{kind_of};
 ghost use Rattle.clap.specs.Words.{all_of, first_of, found_of, rows_of, subcommand_rows_of};
 ghost use Rattle.clap.specs.declared.error.kind.ErrorKind.TheVariants.{OutOfMemory};
@@ -11,6 +25,9 @@ ghost use Rattle.pcc_words.specs.Asked.{
   command_of,
   compile_asked,
   compile_command,
+  eval_asked,
+  eval_command,
+  file_count_limit,
   map_name,
   number_of,
   run_asked,
@@ -47,12 +64,28 @@ fn is_written(name: &str, source: &str) -> bool
     name == source || is_map_of(source, name)
 }
 
+/// The commands with their options, told of words that mean none.
+const COMMANDS: &str = "\
+Commands:
+  pcc compile -o NAME SRC..   compiles C files to the image NAME and its map NAME.map
+  pcc run [--steps N] IMAGE   runs an image in the machine
+  pcc eval [--turns N] SRC..  evaluates C files (not built yet)
+  pcc solve FILE              prints a legal placement of a board's pieces, or `none`
+";
+
 /// No command, and why.
 fn usage<'a>(alloc: Global, text: &str) -> Result<Command<'a>, NoMemory>
     ensures { IfOk result (λ c. meaning c ≡ Usage) }
 {
-    let text = format!(in alloc; "{text}\n")?;
+    let text = format!(in alloc; "error: {text}\n\n{COMMANDS}")?;
     Ok(Command::Usage(text))
+}
+
+/// There are more sources than are read.
+fn are_many(sources: &[&str]) -> bool
+    ensures { result ≡ nat_lt file_count_limit (length sources.now) }
+{
+    sources.len() > FILE_COUNT_LIMIT
 }
 
 /// Some source is what is written.
@@ -76,7 +109,7 @@ fn compile_of<'a>(
 ) -> Result<Command<'a>, NoMemory>
     ensures { IfOk result (λ c. meaning c ≡ compile_command name.now (map (λ s. s.now) sources.now)) }
 {
-    if sources.len() > FILE_COUNT_LIMIT {
+    if are_many(sources) {
         return Ok(Command::ManyFiles(sources.len()));
     }
     if is_any_written(name, sources) {
@@ -100,6 +133,32 @@ fn run_of<'a>(alloc: Global, steps: &str, image: &'a str) -> Result<Command<'a>,
 {
     match steps.parse::<u64>() {
         Ok(steps) => Ok(Command::Run { steps, image }),
+        Err(_) => usage(alloc, "N is a number of 64 bits"),
+    }
+}
+
+/// `eval` for so many turns.
+fn eval_for<'a>(alloc: Global, turns: u64, sources: &[&'a str]) -> Result<Command<'a>, NoMemory>
+    ensures { IfOk result (λ c. meaning c ≡ eval_command (Some turns) (map (λ s. s.now) sources.now)) }
+{
+    if are_many(sources) {
+        return Ok(Command::ManyFiles(sources.len()));
+    }
+    let mut copies = Vec::new(alloc);
+    copies.extend_from_slice(sources)?;
+    Ok(Command::Eval {
+        turns,
+        sources: copies,
+    })
+}
+
+/// `eval`, where the number of turns has 64 bits.
+#[tactic(auto, using(crate::proofs::Numbers::number_is, crate::proofs::Numbers::no_number))]
+fn eval_of<'a>(alloc: Global, turns: &str, sources: &[&'a str]) -> Result<Command<'a>, NoMemory>
+    ensures { IfOk result (λ c. meaning c ≡ eval_command (number_of turns.now) (map (λ s. s.now) sources.now)) }
+{
+    match turns.parse::<u64>() {
+        Ok(turns) => eval_for(alloc, turns, sources),
         Err(_) => usage(alloc, "N is a number of 64 bits"),
     }
 }
@@ -128,6 +187,18 @@ fn run_asked<'a>(alloc: Global, matches: &ArgMatches<'a>) -> Result<Command<'a>,
     }
 }
 
+/// The matches of `eval`.
+#[tactic(auto, using(crate::proofs::Rows::str_row, crate::proofs::Rows::strs_row))]
+fn eval_asked<'a>(alloc: Global, matches: &ArgMatches<'a>) -> Result<Command<'a>, NoMemory>
+    ensures { IfOk result (λ c. meaning c ≡ eval_asked (first_of (codes "N") (rows_of (found_of matches.now)))
+        (all_of (codes "SRC") (rows_of (found_of matches.now)))) }
+{
+    match (matches.get_str("N"), matches.get_strs("SRC")) {
+        (Some(turns), Some(sources)) => eval_of(alloc, turns, sources),
+        _ => usage(alloc, "SRC is wanted"),
+    }
+}
+
 /// The matches of `solve`.
 #[tactic(auto, using(crate::proofs::Rows::str_row, crate::proofs::Rows::strs_row))]
 fn solve_asked<'a>(alloc: Global, matches: &ArgMatches<'a>) -> Result<Command<'a>, NoMemory>
@@ -151,6 +222,8 @@ fn asked_by<'a>(
         compile_asked(alloc, matches)
     } else if command == "run" {
         run_asked(alloc, matches)
+    } else if command == "eval" {
+        eval_asked(alloc, matches)
     } else if command == "solve" {
         solve_asked(alloc, matches)
     } else {
@@ -175,7 +248,11 @@ fn refused<'a>(alloc: Global, error: &Error) -> Result<Command<'a>, NoMemory>
     if error.kind() == ErrorKind::OutOfMemory {
         return Err(NoMemory);
     }
-    let text = format!(in alloc; "{error}")?;
+    if error.kind() == ErrorKind::DisplayHelp {
+        let text = format!(in alloc; "{error}")?;
+        return Ok(Command::Usage(text));
+    }
+    let text = format!(in alloc; "{error}\n{COMMANDS}")?;
     Ok(Command::Usage(text))
 }
 

@@ -13,6 +13,11 @@ pub enum Command<'a> {
         steps: u64,
         image: &'a str,
     },
+    /// `eval [--turns N] SRC..`: evaluate the sources, for N turns at most.
+    Eval {
+        turns: u64,
+        sources: Vec<&'a str>,
+    },
     /// `solve FILE`: solve the board of the file.
     Solve {
         file: &'a str,

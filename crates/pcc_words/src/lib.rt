@@ -8,6 +8,8 @@
 mod app;
 mod asked;
 mod command;
+mod laws;
 
 pub use asked::command_of;
 pub use command::Command;
+pub use laws::few_sources;

@@ -9,7 +9,7 @@ pub returns-clause-told : goal.returns-clause-told
 returns-clause-told g c = λ f i o.
     let small : length c.as_slice.result.now ≤ file_limit =
     omega (arith, c.in-Ok.ensures.size, c.as_slice.ensures.len) in
-    no_machine_told c.in-Err-machine_of.report (g.F.FileStore.content c.args.files.now c.args.image.now)
+    no_machine_told c.args.steps c.in-Err-machine_of.report (g.F.FileStore.content c.args.files.now c.args.image.now)
     c.as_slice.result.now
     (work_of g.F.FileStore g.I.Source g.O.Sink c.args.files.now c.args.input.now c.args.out.now)
     (work_of g.F.FileStore g.I.Source g.O.Sink c.read.new.self c.args.input.now c.args.out.now) (refl, refl)
@@ -20,7 +20,7 @@ returns-in-Ok-machine_of-clause-told g c = λ f i o.
     let small : length c.as_slice.result.now ≤ file_limit =
     omega (arith, c.in-Ok.ensures.size, c.as_slice.ensures.len) in
     let loaded = c.in-Ok-machine_of.ensures in
-    rw c.end_report.ensures (machine_told c.run.result (g.F.FileStore.content c.args.files.now c.args.image.now)
+    rw c.end_report.ensures (machine_told c.args.steps c.run.result (g.F.FileStore.content c.args.files.now c.args.image.now)
     c.as_slice.result.now
     (lent c.in-Ok-machine_of.machine (g.I.Source.left c.args.input.now)) c.run.new.self
     (work_of g.F.FileStore g.I.Source g.O.Sink c.args.files.now c.args.input.now c.args.out.now)
@@ -40,4 +40,4 @@ returns-clause-file g c = λ f.
 
 pub returns-in-Ok-machine_of-clause-file : goal.returns-in-Ok-machine_of-clause-file
 returns-in-Ok-machine_of-clause-file g c = λ f.
-    rw c.end_report.ensures (machine_file c.run.result (g.F.FileStore.content c.args.files.now c.args.image.now))
+    rw c.end_report.ensures (machine_file c.args.steps c.run.result (g.F.FileStore.content c.args.files.now c.args.image.now))

@@ -18,6 +18,10 @@ returns c =
     ≡ with_subcommand (with_subcommand apps.top apps.compile.top) apps.run.top =
     c.in_ok-subcommand-2.ensures.shape c.in_ok-run.ensures.1
     ∙ ap₂ with_subcommand one (ap first c.in_ok-run.ensures.0) in
-    IfOk-weaker c.subcommand-3.result _ _ (λ k added.
-    added.shape c.in_ok-solve.ensures.1 ∙ ap₂ with_subcommand two (ap first c.in_ok-solve.ensures.0))
-    c.subcommand-3.ensures
+    let three : app_of c.in_ok-subcommand-3.field-0
+    ≡ with_subcommand (with_subcommand (with_subcommand apps.top apps.compile.top) apps.run.top) apps.eval.top =
+    c.in_ok-subcommand-3.ensures.shape c.in_ok-eval.ensures.1
+    ∙ ap₂ with_subcommand two (ap first c.in_ok-eval.ensures.0) in
+    IfOk-weaker c.subcommand-4.result _ _ (λ k added.
+    added.shape c.in_ok-solve.ensures.1 ∙ ap₂ with_subcommand three (ap first c.in_ok-solve.ensures.0))
+    c.subcommand-4.ensures

@@ -1,0 +1,51 @@
+-- How far files are read, and what that says of all of them.
+use Rattle.std.specs.Prelude.{◌≡◌, ◌≤◌, ℕ, ◌+◌, List, ◌++◌, length, ⊤}
+use Rattle.pcc_base.specs.declared.span.Span.{Span}
+use Rattle.pcc_base.specs.declared.fault.Fault.{Fault}
+use Rattle.pcc_base.specs.declared.fault.FaultKind.{FaultKind}
+use Rattle.pcc_base.specs.declared.refusal.Limit.TheVariants.{Tokens}
+use Rattle.pcc_base.specs.declared.refusal.Refusal.{Refusal}
+use Rattle.pcc_base.specs.declared.refusal.Refusal.TheVariants as refusals
+use Rattle.c_lexer.specs.declared.token.Token.{Token}
+use Rattle.c_lexer.specs.Tokens.{HasFault, BeginsWith}
+use Rattle.c_grammar.specs.Statements.{ExternalTree}
+use Rattle.c_front.specs.Accepted.{HaveTokens, HaveTrees, total}
+use Rattle.c_front.specs.Refusals.{StandBefore, FaultBehind, FirstFaulty, IsFaultyIn}
+
+-- The files before the rest have these tokens, and so many more may come: what holds of the rest, of which the first file
+-- has this number, holds of all.
+pub record LexedSoFar (texts : List (List ℕ)) (files : List (List Token)) (file left : ℕ) (rest : List (List ℕ)) : Type 0
+  where
+    pub counted : file + length rest ≡ length texts
+    pub left_is : total files + left ≡ 65536
+    pub tokens : (others : List (List Token)) → HaveTokens file rest others → HaveTokens 0 texts (files ++ others)
+    pub fault : (n : ℕ) (fault : Fault) → FaultBehind file rest n fault → FaultBehind 0 texts (total files + n) fault
+    pub many : (n : ℕ) → StandBefore file rest n → StandBefore 0 texts (total files + n)
+
+-- the same of the raw trees
+pub record ParsedSoFar (files : List (List Token)) (units : List (List ExternalTree)) (file : ℕ)
+    (rest : List (List Token)) : Type 0 where
+  pub counted : file + length rest ≡ length files
+  pub trees : (others : List (List ExternalTree)) → HaveTrees rest others → HaveTrees files (units ++ others)
+  pub fault : (kind : FaultKind) (at : Span) → FirstFaulty file rest kind at → FirstFaulty 0 files kind at
+
+-- why a file has no more than so many tokens
+abbrev pub IsUnread : ℕ → List ℕ → ℕ → Refusal → Type 0
+IsUnread file text left (refusals.Fault fault) = (before : List Token) × HasFault file text before fault
+    × (length before ≤ left)
+IsUnread file text left (refusals.Limit (Tokens n)) = (n ≡ 65537)
+    × ((before : List Token) × BeginsWith file text before × (length before ≡ left + 1))
+IsUnread file text left refusals.NoMemory = ⊤
+IsUnread file text left _ = ⊥
+
+-- why a file has no raw tree
+abbrev pub IsUnparsed : ℕ → List Token → Refusal → Type 0
+IsUnparsed file tokens (refusals.Fault fault) = IsFaultyIn file tokens fault.kind fault.at
+IsUnparsed file tokens (refusals.Limit limit) = ⊥
+IsUnparsed file tokens refusals.NoMemory = ⊤
+
+-- why files have no raw trees
+abbrev pub AreUnparsed : List (List Token) → Refusal → Type 0
+AreUnparsed files (refusals.Fault fault) = FirstFaulty 0 files fault.kind fault.at
+AreUnparsed files (refusals.Limit limit) = ⊥
+AreUnparsed files refusals.NoMemory = ⊤

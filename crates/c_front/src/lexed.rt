@@ -1,0 +1,72 @@
+//! The tokens of files.
+
+ghost use Rattle.std.specs.Prelude.{◌≡◌, ◌≤◌, ◌<◌, ◌+◌, ◌^◌, length, map, IfOk, IfErr};
+ghost use Rattle.std.specs.List.{AllByRecursion};
+ghost use Rattle.c_lexer.specs.Tokens.{HasTokens};
+ghost use Rattle.c_front.specs.Accepted.{HaveTokens, total};
+ghost use Rattle.c_front.specs.Refusals.{AreUnread};
+ghost use Rattle.c_front.specs.SoFar.{IsUnread};
+
+use c_cursor::push;
+use c_lexer::{Token, advance, lex};
+use pcc_base::{Limit, Refusal, Span};
+use std::alloc::Global;
+
+/// The most tokens of all files that are read.
+const MOST_TOKENS: usize = 65_536;
+
+/// The number of tokens that is told where there are more.
+const MANY_TOKENS: u64 = 65_537;
+
+/// A file in tokens, and the place behind its last byte.
+#[derive(Drop)]
+pub(crate) struct Lexed {
+    pub(crate) tokens: Vec<Token>,
+    pub(crate) end: Span,
+}
+
+/// The tokens of the file at this position, where at most so many are left of those that are read.
+fn lex_file(alloc: Global, file: u32, text: &[u8], left: usize) -> Result<Lexed, Refusal>
+    requires small { length text.now + 1 < 2 ^ 32 }
+    ensures tokens { IfOk result (λ f. HasTokens file text.now f.tokens.items) }
+    ensures few { IfOk result (λ f. length f.tokens.items ≤ left) }
+    ensures refused { IfErr result (IsUnread file text.now left) }
+{
+    let start = Span {
+        file,
+        line: 1,
+        col: 1,
+    };
+    match lex(alloc, file, text, left) {
+        Ok(tokens) => Ok(Lexed {
+            tokens,
+            end: advance(start, text),
+        }),
+        Err(Refusal::Limit(_)) => Err(Refusal::Limit(Limit::Tokens(MANY_TOKENS))),
+        Err(refusal) => Err(refusal),
+    }
+}
+
+/// The tokens of each file. The first lexical fault is answered where at most 65,536 tokens stand before it, and the
+/// limit on tokens where more do.
+pub(crate) fn lex_files(alloc: Global, texts: &[Vec<u8>]) -> Result<Vec<Lexed>, Refusal>
+    requires few { length texts.now ≤ 16 }
+    requires small { AllByRecursion (λ t. length t.items + 1 < 2 ^ 32) texts.now }
+    ensures tokens { IfOk result (λ files. HaveTokens 0 (map (λ t. t.items) texts.now)
+        (map (λ f. f.tokens.items) files.items)) }
+    ensures few { IfOk result (λ files. total (map (λ f. f.tokens.items) files.items) ≤ 65536) }
+    ensures refused { IfErr result (AreUnread (map (λ t. t.items) texts.now)) }
+{
+    let mut files = Vec::new(alloc);
+    let mut left = MOST_TOKENS;
+    let mut file = 0;
+    let mut rest = texts;
+    'texts: while let Some((text, others)) = rest.split_first() {
+        let lexed = lex_file(alloc, file, text.as_slice(), left)?;
+        left -= lexed.tokens.len();
+        push(&mut files, lexed)?;
+        file += 1;
+        rest = others;
+    }
+    Ok(files)
+}
