@@ -231,7 +231,7 @@ stored-low ThirtyTwo n fits = refl
 
 -- ---- the op
 
-edi-works : IsWorking Edi
+pub edi-works : IsWorking Edi
 edi-works = ((λ e. omega arith), (λ e. omega arith))
 
 -- an element of an object or an array is in the data

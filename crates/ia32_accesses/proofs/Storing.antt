@@ -301,7 +301,7 @@ target-read site frame (InSlot k) x s framed holds placed contains fits =
     (g.0, record { goes = goes-of site frame (read Esi (InSlot k)) Esi x s g.0 g.1; value = g.1.value })
 
 -- it is no register of scratch but ESI
-target-general : (frame : ℕ) (q : Place) → HoldsWord q → IsPlaceIn frame q → number32 (target_of q) ≢ number32 Edi
+pub target-general : (frame : ℕ) (q : Place) → HoldsWord q → IsPlaceIn frame q → number32 (target_of q) ≢ number32 Edi
 target-general frame (InWord r) holds placed e = let b = general-below r placed in omega (arith, e, b)
 target-general frame (InByte r) holds placed e = absurd holds
 target-general frame (InSlot k) holds placed e = omega (arith, e)

@@ -1,5 +1,7 @@
 -- What the rows of ops on arrays and static objects do to the machine, over places of any kind.
 use Rattle.std.specs.Prelude.{◌≡◌, ◌+◌, ◌-◌, ◌*◌, ◌%◌, ◌^◌, ◌<◌, ◌≤◌, ℕ, List, Ok}
+use Rattle.pcc_base.specs.Outcome.{Trapped}
+use Rattle.pcc_base.specs.declared.run.Trap.TheVariants.{Check}
 use Rattle.pcc_base.specs.declared.run.Width.TheVariants.{Two}
 use Rattle.flow_graph.specs.declared.op.Bits.{Bits}
 use Rattle.flow_graph.specs.declared.op.Bits.TheVariants.{Eight, Sixteen, ThirtyTwo}
@@ -11,7 +13,9 @@ use Rattle.ia32_insn.specs.declared.item.Item.{Item}
 use Rattle.ia32_insn.specs.Keeps.{AreDisjoint}
 use Rattle.ia32_insn.specs.State.{State}
 use Rattle.ia32_insn.specs.Arithmetic.{extended8, extended16}
-use Rattle.ia32_insn.specs.Meaning.{address_of, load, word_of}
+use Rattle.ia32_insn.specs.Meaning.{Halts, address_of, load, word_of}
+use Rattle.ia32_insn.specs.Runs.{Steps}
+use Rattle.ia32_shows.specs.Paths.{Comes, IsClear}
 use Rattle.ia32_shows.specs.Sites.{Framed, Site}
 use Rattle.ia32_rows.specs.Rows.{frame_row, load_from, store_to}
 use Rattle.ia32_effects.specs.Effects.{Keeps, Leads, OutsideWord}
@@ -61,3 +65,11 @@ ElementStores =
     → HoldsWord q → IsPlaceIn frame q → Contains s Two q x → x < 2 ^ 32 → word_of Edi s ≡ address
     → site.low ≤ address → address + bytes_of bits ≤ site.high
     → (u : State) × Stores site frame (store_to bits q) address (bytes_of bits) (x % 2 ^ (8 * bytes_of bits)) s u
+
+-- the run ends with the trap of a failed check
+pub record FailsAccess (site : Site) (s u : State) : Type 0 where
+  pub comes : Comes site.text s u
+  pub clear : IsClear site.text u.eip
+  pub halts : Steps u (Halts (Trapped Check))
+  pub taken : u.taken ≡ s.taken
+  pub written : u.written ≡ s.written

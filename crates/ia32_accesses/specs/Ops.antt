@@ -19,3 +19,11 @@ GetFollows = (bits : Bits) (d k : ℕ) → RowFollows (op.Get bits d k)
 -- a number, cut to the object's bits, to one
 abbrev pub PutFollows : Type 0
 PutFollows = (bits : Bits) (k a : ℕ) → RowFollows (op.Put bits k a)
+
+-- an element of the array in a variable, by an index; the trap where there is no such element
+abbrev pub LoadFollows : Type 0
+LoadFollows = (bits : Bits) (d p i : ℕ) → RowFollows (op.Load bits d p i)
+
+-- a number, cut to the element's bits, to one; the same trap
+abbrev pub StoreFollows : Type 0
+StoreFollows = (bits : Bits) (p i a : ℕ) → RowFollows (op.Store bits p i a)

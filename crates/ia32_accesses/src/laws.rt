@@ -1,5 +1,5 @@
 ghost use Rattle.ia32_accesses.specs.Laws.{FramePuts, LoadPuts, ElementStores};
-ghost use Rattle.ia32_accesses.specs.Ops.{FrameFollows, StaticFollows, GetFollows, PutFollows};
+ghost use Rattle.ia32_accesses.specs.Ops.{FrameFollows, StaticFollows, GetFollows, PutFollows, LoadFollows, StoreFollows};
 
 /// The address of a place of the frame comes to a place, and so does an element in memory, with its sign; the low
 /// bits of the word of a place go to an address.
@@ -20,4 +20,11 @@ pub fn addresses_are_followed()
 pub fn objects_are_followed()
     ensures get { GetFollows }
     ensures put { PutFollows }
+{}
+
+/// It follows loads and stores of elements of arrays of any depth and of static objects, and their traps: where there is
+/// no array, or no such element.
+pub fn accesses_are_followed()
+    ensures load { LoadFollows }
+    ensures store { StoreFollows }
 {}

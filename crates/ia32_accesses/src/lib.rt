@@ -4,4 +4,6 @@
 
 mod laws;
 
-pub use laws::{addresses_are_followed, objects_are_followed, rows_move_elements};
+pub use laws::{
+    accesses_are_followed, addresses_are_followed, objects_are_followed, rows_move_elements,
+};

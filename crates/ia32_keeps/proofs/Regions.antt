@@ -63,14 +63,14 @@ IsPart code a frame at n =
     × (at ≡ frame - slot) × (n ≤ 4))
 
 -- what is known of the bytes of the array's elements
-record IsRegion (frame size first bytes below z : ℕ) : Type 0 where
-  at_frame : first + below ≡ frame
-  inside : 16 + z ≤ below
-  header : below + 4 ≤ size
-  room : size ≤ frame
-  all : bytes ≡ z
+pub record IsRegion (frame size first bytes below z : ℕ) : Type 0 where
+  pub at_frame : first + below ≡ frame
+  pub inside : 16 + z ≤ below
+  pub header : below + 4 ≤ size
+  pub room : size ≤ frame
+  pub all : bytes ≡ z
 
-region-of : (code : Code) (input : List ℕ) (g : graph.State) (s : machine.State) (c k address width : ℕ)
+pub region-of : (code : Code) (input : List ℕ) (g : graph.State) (s : machine.State) (c k address width : ℕ)
     (elements : List ℤ) → IsSupported code → IsState code.program g → (shown : Shows code input g s)
     → (h : IsArrayOf code g shown.frames c k address width elements)
     → IsRegion h.frame (frame_size code h.activation) address (width * length elements) h.below (size_of h.array)

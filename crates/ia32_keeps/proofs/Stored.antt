@@ -28,12 +28,12 @@ use Rattle.ia32_keeps.proofs.Changed.{array-of, array-shows, mapped-some, place-
 
 -- ---- which array it is
 
-abbrev IsNamed : Code → graph.State → List ℕ → ℕ → ℕ → List ℤ → Type 0
+abbrev pub IsNamed : Code → graph.State → List ℕ → ℕ → ℕ → List ℤ → Type 0
 IsNamed code g frames address width elements =
     ((k : ℕ) × IsStatic code g k address width elements)
     ⊎ ((c : ℕ) × (k : ℕ) × IsArrayOf code g frames c k address width elements)
 
-named : (code : Code) (g : graph.State) (frames : List ℕ) (array : ArrayName) (address width : ℕ) (elements : List ℤ)
+pub named : (code : Code) (g : graph.State) (frames : List ℕ) (array : ArrayName) (address width : ℕ) (elements : List ℤ)
     → elements_of code.program g array ≡ Some (width, elements) → IsArrayAt code (active_of g) frames array address
     → IsNamed code g frames address width elements
 named code g frames Null address width elements is at = absurd (none-some (width, elements) is)
@@ -96,11 +96,11 @@ named code g frames (InFrame k depth) address width elements is at = chosen (dep
 -- ---- its elements before
 
 -- the elements stand, with four bytes before them
-record StandNow (s : machine.State) (address width : ℕ) (elements : List ℤ) : Type 0 where
-  front : 4 ≤ address
-  stand : ElementsStand s address width elements
+pub record StandNow (s : machine.State) (address width : ℕ) (elements : List ℤ) : Type 0 where
+  pub front : 4 ≤ address
+  pub stand : ElementsStand s address width elements
 
-stand-now : (code : Code) (input : List ℕ) (g : graph.State) (s : machine.State) (address width : ℕ)
+pub stand-now : (code : Code) (input : List ℕ) (g : graph.State) (s : machine.State) (address width : ℕ)
     (elements : List ℤ) → IsSupported code → IsState code.program g → (shown : Shows code input g s)
     → IsNamed code g shown.frames address width elements → StandNow s address width elements
 stand-now code input g s address width elements supported state shown (inl (k, h)) =

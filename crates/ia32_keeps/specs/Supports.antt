@@ -2,7 +2,7 @@
 -- stay from a point to the next.
 use Rattle.std.specs.Prelude.{◌≡◌, ◌≢◌, ◌<◌, ◌≤◌, ◌⊎◌, ◌+◌, ◌*◌, ◌%◌, ⊤, ℕ, List, length, slice_get, slice_index_or}
 use Rattle.std.specs.Prelude.{Option, Some, None}
-use Rattle.std.specs.List.{AllByRecursion}
+use Rattle.std.specs.List.{All, AllByRecursion}
 use Rattle.pcc_base.specs.declared.run.Width.{Width}
 use Rattle.pcc_base.specs.declared.run.Width.TheVariants.{One, Two}
 use Rattle.ia32_regs.specs.declared.names.Reg32.TheVariants.{Eax, Ecx, Edx}
@@ -187,7 +187,8 @@ OverSlotsSupport =
 -- ---- a program
 
 -- The code of a program, laid out in a text, over placements that support its graphs. A call takes at most 16,384 bytes
--- of the stack, with the argument words that it passes, and all addresses fit 32 bits.
+-- of the stack, with the argument words that it passes, and all addresses fit 32 bits. A static object has at most
+-- 2 ^ 31 elements, so that a negative index, as a word without a sign, is none of theirs.
 pub record IsSupported (code : Code) : Type 0 where
   pub is_code : IsCode code
   pub program : IsGraphProgram code.program
@@ -196,6 +197,7 @@ pub record IsSupported (code : Code) : Type 0 where
   pub bytes : (f : ℕ) → f < length code.program.functions
       → 8 + (placement_of code f).frame + 4 * most_words (flow_at code.program f).ops ≤ 16384
   pub fits : stack_end code.text (objects_of code.program) < 4294967296
+  pub few : All (λ object. length object.elements ≤ 2147483648) code.program.objects
 
 -- where code and data of a function stand
 abbrev pub no_places : Places

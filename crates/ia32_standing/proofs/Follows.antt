@@ -27,6 +27,10 @@ use Rattle.ia32_routines.proofs.Passed.{exit-follows}
 use Rattle.ia32_routines.proofs.Putchar.{putchar-follows}
 use Rattle.ia32_routines.proofs.Reading.{getchar-follows}
 use Rattle.ia32_routines.proofs.Same.{numbers-same-follow}
+use Rattle.ia32_accesses.proofs.Addresses.{frame-follows, static-follows}
+use Rattle.ia32_accesses.proofs.Elements.{put-follows}
+use Rattle.ia32_accesses.proofs.Loading.{get-follows}
+use Rattle.ia32_accesses.proofs.Reaching.{load-follows, store-follows}
 use Rattle.ia32_standing.specs.Laws.{IsFollowed, IsSelected, StepsFollow}
 use Rattle.ia32_standing.proofs.Points.{labels-stand, rows-stand}
 
@@ -71,6 +75,18 @@ follow code input g s (op.Div d a b) h state shown has known r =
     quotient-follows d a b code input g s h.supported state shown has r
 follow code input g s (op.Rem d a b) h state shown has known r =
     remainder-follows d a b code input g s h.supported state shown has r
+follow code input g s (op.Frame d k) h state shown has known r =
+    frame-follows d k code input g s h.supported state shown has r
+follow code input g s (op.Static d k) h state shown has known r =
+    static-follows d k code input g s h.supported state shown has r
+follow code input g s (op.Load bits d p i) h state shown has known r =
+    load-follows bits d p i code input g s h.supported state shown has r
+follow code input g s (op.Store bits p i a) h state shown has known r =
+    store-follows bits p i a code input g s h.supported state shown has r
+follow code input g s (op.Get bits d k) h state shown has known r =
+    get-follows bits d k code input g s h.supported state shown has r
+follow code input g s (op.Put bits k a) h state shown has known r =
+    put-follows bits k a code input g s h.supported state shown has r
 follow code input g s (op.Param d k) h state shown has known r =
     param-follows d k code input g s h.supported state shown has r
 follow code input g s (op.Putchar d a) h state shown has known r =

@@ -1,7 +1,8 @@
 -- The code of a graph over slots is that of a program over placements that support its graphs.
 use Rattle.std.proofs.Common.{◌≡◌, ℕ, ◌+◌, ◌*◌, ◌<◌, ◌≤◌, List, [], ◌∷◌, length, Some, refl, sym, ap, subst, ◌∙◌}
 use Rattle.std.proofs.Common.{arith}
-use Rattle.std.specs.List.{AllByRecursion}
+use Rattle.std.specs.List.{All, AllByRecursion}
+use Rattle.std.proofs.lemmas.List.Elements.{All-nil}
 use Rattle.std.specs.Prelude.{slice_get, slice_index_or}
 use Rattle.ia32_insn.specs.declared.item.Item.{Item}
 use Rattle.ia32_insn.specs.Items.{IsText, stack_end}
@@ -57,6 +58,8 @@ slot-code-is-selected flow slots code h =
             h.has_slots.small;
         fits = subst (λ (p : GraphProgram). stack_end code.text (objects_of p) < 4294967296) (sym h.program)
             (first-sound code.text [] h.fits).below;
+        few = subst (λ (p : GraphProgram). All (λ object. length object.elements ≤ 2147483648) p.objects) (sym h.program)
+            (All-nil (λ object. length object.elements ≤ 2147483648));
       };
       have = each (λ f p ps is. AllByRecursion HasItems (flow_at p f).ops) (slots-have flow.ops h.has_slots.ops);
       items = each (λ f p ps is. slice_get is f ≡ Some (selected (flow_at p f) (slice_index_or ps f no_placement)))

@@ -196,8 +196,7 @@ CallsReturn =
 abbrev pub AreNumbers : graph.State → ℕ → ℕ → Type 0
 AreNumbers g a b = ((x : ℤ) × (number_at g a ≡ Some x)) × ((y : ℤ) × (number_at g b ≡ Some y))
 
--- The ops that the machine is known to follow so far: all but calls, returns, comparisons of arrays, and the ops on
--- arrays and static objects.
+-- The ops that the machine is known to follow so far: all but calls, returns, comparisons of arrays, and `clear`.
 abbrev pub IsFollowed : graph.State → Op → Type 0
 IsFollowed g (op.Const d n) = ⊤
 IsFollowed g (op.Copy d s) = ⊤
@@ -217,12 +216,12 @@ IsFollowed g (op.Sar d a c) = ⊤
 IsFollowed g (op.Div d a b) = ⊤
 IsFollowed g (op.Rem d a b) = ⊤
 IsFollowed g (op.Set how d a b) = AreNumbers g a b
-IsFollowed g (op.Frame d k) = ⊥
-IsFollowed g (op.Static d k) = ⊥
-IsFollowed g (op.Load bits d p i) = ⊥
-IsFollowed g (op.Store bits p i s) = ⊥
-IsFollowed g (op.Get bits d k) = ⊥
-IsFollowed g (op.Put bits k s) = ⊥
+IsFollowed g (op.Frame d k) = ⊤
+IsFollowed g (op.Static d k) = ⊤
+IsFollowed g (op.Load bits d p i) = ⊤
+IsFollowed g (op.Store bits p i s) = ⊤
+IsFollowed g (op.Get bits d k) = ⊤
+IsFollowed g (op.Put bits k s) = ⊤
 IsFollowed g (op.Clear k) = ⊥
 IsFollowed g (op.Param d k) = ⊤
 IsFollowed g (op.Call d f arguments) = ⊥
