@@ -1,0 +1,95 @@
+//! Each row of the tables, checked.
+
+use crate::rows::{Row, answer, read};
+use crate::{declarations, expressions, statements, typed};
+use pcc_base::{Fault, FaultKind, Limit, Refusal};
+use std::alloc::Global;
+use std::process::Abort;
+use std::test::Fail;
+
+/// The program of each row has this least fault, at the place of its `@`.
+fn expect_faults(rt: &impl Abort, alloc: Global, rows: &[(&str, FaultKind)]) -> Result<(), Fail> {
+    for (text, kind) in rows {
+        let Row { files, at } = read(alloc, text)?;
+        let fault = Fault { kind: *kind, at };
+        assert_eq!(rt;
+            answer(alloc, files.as_slice()),
+            Some(Refusal::Fault(fault)),
+            "{text}"
+        );
+    }
+    Ok(())
+}
+
+#[test]
+fn faults(rt: HostRuntime) -> Result<(), Fail> {
+    let alloc = rt.alloc();
+    expect_faults(&rt, alloc, &declarations::FIRST_ROWS)?;
+    expect_faults(&rt, alloc, &declarations::SPECIFIERS)?;
+    expect_faults(&rt, alloc, &declarations::OBJECTS)?;
+    expect_faults(&rt, alloc, &declarations::PARAMETERS)?;
+    expect_faults(&rt, alloc, &declarations::ARRAY_SIZES)?;
+    expect_faults(&rt, alloc, &declarations::REDECLARATIONS)?;
+    expect_faults(&rt, alloc, &declarations::FILES)?;
+    expect_faults(&rt, alloc, &declarations::INITIALISERS)?;
+    expect_faults(&rt, alloc, &expressions::EXPRESSIONS)?;
+    expect_faults(&rt, alloc, &expressions::CALLS)?;
+    expect_faults(&rt, alloc, &statements::STATEMENTS)?;
+    expect_faults(&rt, alloc, &statements::LEAST)
+}
+
+/// The program of each row is typed, and within the limits.
+fn expect_typed(rt: &impl Abort, alloc: Global, rows: &[&str]) -> Result<(), Fail> {
+    for text in rows {
+        let Row { files, .. } = read(alloc, text)?;
+        assert_eq!(rt; answer(alloc, files.as_slice()), None, "{text}");
+    }
+    Ok(())
+}
+
+#[test]
+fn typed_programs(rt: HostRuntime) -> Result<(), Fail> {
+    expect_typed(&rt, rt.alloc(), &typed::TYPED)
+}
+
+/// Programs, and the limit that each is above: that on static objects first, then the first function's.
+const LIMITS: [(&str, Limit); 5] = [
+    (
+        "int main(void){char a[16221]; return 0;}",
+        Limit::Frame(0, 16388),
+    ),
+    (
+        "int f(void){return 0;}\nint f(void); int main(void){char a[16221]; return f();}",
+        Limit::Frame(1, 16388),
+    ),
+    (
+        "char g[16777213]; int main(void){return 0;}",
+        Limit::Arrays(16777220),
+    ),
+    (
+        "char g[16777213]; int main(void){char a[16221]; return 0;}",
+        Limit::Arrays(16777220),
+    ),
+    (
+        "int g[2000000000]; int main(void){return 0;}",
+        Limit::Arrays(8000000004),
+    ),
+];
+
+/// The program of each row is above this limit.
+fn expect_limits(rt: &impl Abort, alloc: Global, rows: &[(&str, Limit)]) -> Result<(), Fail> {
+    for (text, limit) in rows {
+        let Row { files, .. } = read(alloc, text)?;
+        assert_eq!(rt;
+            answer(alloc, files.as_slice()),
+            Some(Refusal::Limit(*limit)),
+            "{text}"
+        );
+    }
+    Ok(())
+}
+
+#[test]
+fn limits(rt: HostRuntime) -> Result<(), Fail> {
+    expect_limits(&rt, rt.alloc(), &LIMITS)
+}

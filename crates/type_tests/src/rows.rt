@@ -1,0 +1,92 @@
+//! The files of a row, and what `check` answers of them.
+
+use c_lexer::{advance, lex};
+use c_parser::parse;
+use c_syntax::RawUnit;
+use c_types::check;
+use pcc_base::{Refusal, Span};
+use std::alloc::{AllocError, Global};
+
+/// The most tokens of all files.
+const MOST: usize = 65536;
+
+/// The first place of a file.
+fn first_place(file: u32) -> Span {
+    Span {
+        file,
+        line: 1,
+        col: 1,
+    }
+}
+
+/// The files of a row, and where its `@` stands.
+#[derive(Drop)]
+pub struct Row {
+    pub files: Vec<Vec<u8>>,
+    pub at: Span,
+}
+
+/// Reads a row: each line is a file.
+pub fn read(alloc: Global, text: &str) -> Result<Row, AllocError> {
+    let mut files = Vec::new(alloc);
+    let mut file = Vec::new(alloc);
+    let mut here = first_place(0);
+    let mut at = here;
+    for byte in text.as_bytes() {
+        match *byte {
+            b'@' => at = here,
+            b'\n' => {
+                files.push(std::mem::replace(&mut file, Vec::new(alloc)))?;
+                here = first_place(here.file.saturating_add(1));
+            }
+            other => {
+                file.push(other)?;
+                here.col = here.col.saturating_add(1);
+            }
+        }
+    }
+    files.push(file)?;
+    Ok(Row { files, at })
+}
+
+/// The raw tree of a file, and where it ends.
+fn parsed(alloc: Global, file: u32, text: &[u8]) -> Result<(RawUnit, Span), Refusal> {
+    if text.len() > 1000 {
+        return Err(Refusal::NoMemory);
+    }
+    let tokens = lex(alloc, file, text, MOST)?;
+    let first = Span {
+        file,
+        line: 1,
+        col: 1,
+    };
+    let end = advance(first, text);
+    Ok((parse(alloc, &tokens, end)?, end))
+}
+
+/// The raw trees of all files, and where the last one ends.
+fn parsed_files(alloc: Global, files: &[Vec<u8>]) -> Result<(Vec<RawUnit>, Span), Refusal> {
+    let mut units = Vec::new(alloc);
+    let mut end = first_place(0);
+    let mut file = 0u32;
+    for text in files {
+        let (unit, behind) = parsed(alloc, file, text.as_slice())?;
+        if units.push(unit).is_err() {
+            return Err(Refusal::NoMemory);
+        }
+        end = behind;
+        file = file.saturating_add(1);
+    }
+    Ok((units, end))
+}
+
+/// Why the files are refused, if they are.
+pub fn answer(alloc: Global, files: &[Vec<u8>]) -> Option<Refusal> {
+    match parsed_files(alloc, files) {
+        Err(refusal) => Some(refusal),
+        Ok((units, end)) => match check(alloc, units.as_slice(), end) {
+            Ok(_) => None,
+            Err(refusal) => Some(refusal),
+        },
+    }
+}
