@@ -1,1 +1,10 @@
 pub mod Paths
+pub mod Sets
+pub mod Applied
+pub mod Parts
+pub mod Compound
+pub mod Places
+pub mod Addresses
+pub mod Updates
+pub mod Steps
+pub mod Walk

@@ -153,7 +153,8 @@ module _ (L : ℕ) (B : ℕ → List ℕ) where
   true-false e = cc
 
   -- the point right behind one whose op is no end
-  next-is : (S : List ℕ) (lines : List Line) (T : List ℕ) (h : Flows L B S lines T) (b q n : ℕ) → Closes true lines false
+  next-is : (S : List ℕ) (lines : List Line) (T : List ℕ) (h : Flows L B S lines T)
+      (b q n : ℕ) → Closes true lines false
       → slice_get (points_from b q true lines) 0 ≡ Some n → (n ≡ q) × Within (set_at S lines T h 0) S
   next-is S [] T h b q n c e = absurd (true-false c)
   next-is S (Start x ∷ lines) T h b q n c e = absurd (true-false c.0)
@@ -223,7 +224,8 @@ module _ (L : ℕ) (B : ℕ → List ℕ) where
 
 -- ---- the graph of lines
 
-module _ (widths : List Width) (arrays : List (ℕ × ℕ)) (count : ℕ) (lines : List Line) (closed : Closes false lines false)
+module _ (widths : List Width) (arrays : List (ℕ × ℕ)) (count : ℕ) (lines : List Line)
+    (closed : Closes false lines false)
     (L : ℕ) (B : ℕ → List ℕ) (h : Flows L B [] lines []) where
   abbrev flow : Flow
   flow = graph_of_lines widths arrays count lines

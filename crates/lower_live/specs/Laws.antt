@@ -1,14 +1,18 @@
 -- Laws on what is live in the graphs of functions.
 use Rattle.std.specs.Prelude.{◌≡◌, ◌≤◌, ℕ, false, List, [], slice_get, Some}
-use Rattle.c_tree.specs.Program.{Function, Program}
+use Rattle.c_tree.specs.Program.{Expression, Function, Program, value_type}
+use Rattle.c_tree.specs.WellTyped.{IsTyped, WellTyped}
 use Rattle.flow_graph.specs.declared.op.Op.{Op}
 use Rattle.flow_graph.specs.declared.op.Op.TheVariants.{Mark}
 use Rattle.flow_graph.specs.Graphs.{Flow, IsIn}
 use Rattle.flow_graph.specs.Liveness.{BeginsWith, FixedDies, IsLiveBefore}
+use Rattle.lower_lines.specs.Expressions.{part_of}
 use Rattle.lower_lines.specs.Following.{Closes}
+use Rattle.lower_lines.specs.Parts.{Wanted}
 use Rattle.lower_lines.specs.Programs.{graph_of_function, lines_of_function}
 use Rattle.lower_lines.specs.Variables.{local_variables}
 use Rattle.lower_live.specs.Flows.{Flows}
+use Rattle.lower_live.specs.Settled.{HasLocals, LowTarget, Settled, context_in, reached}
 
 -- no temporary is live at a mark, where the variables below the first temporary are those of locals
 abbrev pub NoneAtMarks : ℕ → Flow → Type 0
@@ -30,3 +34,13 @@ FlowsSuffice = (p : Program) (f : Function) (at_block : ℕ → List ℕ)
     → Flows (local_variables f) at_block [] (lines_of_function (record { program = p; function = f })) []
     → FirstWithin (at_block 0) (graph_of_function p f) × NoneAtMarks (local_variables f) (graph_of_function p f)
     × AllFixedDie (graph_of_function p f)
+
+-- The lines of every typed expression have sets, whatever is wanted of it: of the temporaries of its level and of
+-- higher
+-- ones it uses none before it writes it, and behind it there is its value, and what was there before.
+abbrev pub ExpressionsSettle : Type 0
+ExpressionsSettle = (p : Program) → WellTyped p → (k : ℕ) (f : Function) → slice_get p.functions k ≡ Some f
+    → (e : Expression) → IsTyped p f e → (block level : ℕ) (w : Wanted) (set : List ℕ)
+    → HasLocals (context_in p f) level set → LowTarget (context_in p f) w (value_type e)
+    → Settled (context_in p f) block ((part_of (context_in p f) e).blocks w) w set
+    ((part_of (context_in p f) e).lines block level w) (reached (context_in p f) level w (value_type e) set)

@@ -3,4 +3,4 @@
 
 mod laws;
 
-pub use laws::flows_suffice;
+pub use laws::{expressions_settle, flows_suffice};
