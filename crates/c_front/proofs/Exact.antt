@@ -66,7 +66,7 @@ begins_fewer_fault file text a b fault (k, to, p) (l, other, q, some, none, kind
 -- ---- tokens of files
 
 -- files have one list of tokens each
-tokens_once : (file : ℕ) (texts : List (List ℕ)) (a b : List (List Token)) → HaveTokens file texts a
+pub tokens_once : (file : ℕ) (texts : List (List ℕ)) (a b : List (List Token)) → HaveTokens file texts a
     → HaveTokens file texts b → a ≡ b
 tokens_once file [] [] [] p q = refl
 tokens_once file [] [] (y ∷ b) p q = absurd q
@@ -78,7 +78,7 @@ tokens_once file (text ∷ texts) (x ∷ a) (y ∷ b) p q =
     (tokens_once (suc file) texts a b p.1 q.1)
 
 -- no more tokens stand before any fault than there are
-stand_fewer : (file : ℕ) (texts : List (List ℕ)) (n : ℕ) (files : List (List Token)) → StandBefore file texts n
+pub stand_fewer : (file : ℕ) (texts : List (List ℕ)) (n : ℕ) (files : List (List Token)) → StandBefore file texts n
     → HaveTokens file texts files → n ≤ total files
 stand_fewer file [] n files stand have = absurd stand
 stand_fewer file (text ∷ texts) n [] stand have = absurd have
@@ -111,7 +111,7 @@ stand_fewer_fault file (text ∷ texts) n m fault (inr (own, has, k, is, stand))
     )
 
 -- files with tokens have no lexical fault
-no_lexical : (file : ℕ) (texts : List (List ℕ)) (n : ℕ) (fault : Fault) (files : List (List Token))
+pub no_lexical : (file : ℕ) (texts : List (List ℕ)) (n : ℕ) (fault : Fault) (files : List (List Token))
     → FaultBehind file texts n fault → HaveTokens file texts files → ⊥
 no_lexical file [] n fault files behind have = behind
 no_lexical file (text ∷ texts) n fault [] behind have = have
@@ -145,7 +145,7 @@ tree_or_fault file tokens unit (Unsupported keyword) at has (before, after, none
 tree_or_fault file tokens unit kind at has fault = absurd fault
 
 -- files with trees have none
-trees_or_fault : (file : ℕ) (files : List (List Token)) (units : List (List ExternalTree)) (kind : FaultKind) (at : Span)
+pub trees_or_fault : (file : ℕ) (files : List (List Token)) (units : List (List ExternalTree)) (kind : FaultKind) (at : Span)
     → HaveTrees files units → FirstFaulty file files kind at → ⊥
 trees_or_fault file [] units kind at have fault = fault
 trees_or_fault file (tokens ∷ files) [] kind at have fault = have
@@ -159,7 +159,7 @@ tree_once : (tokens : List Token) (a b : List ExternalTree) → HasTree tokens a
 tree_once tokens a b p q = (one_tree tokens p.0 q.0 a b p.2 q.2).1
 
 -- files have one tree each
-trees_once : (files : List (List Token)) (a b : List (List ExternalTree)) → HaveTrees files a → HaveTrees files b
+pub trees_once : (files : List (List Token)) (a b : List (List ExternalTree)) → HaveTrees files a → HaveTrees files b
     → a ≡ b
 trees_once [] [] [] p q = refl
 trees_once [] [] (y ∷ b) p q = absurd q
@@ -231,7 +231,7 @@ no_limit texts p (a, lexed, has) many =
     omega (arith, stand_fewer 0 texts 65537 a many lexed, few)
 
 -- texts with a lexical fault have at most 65,536 tokens before it
-lexical_or_limit : (texts : List (List ℕ)) (fault : Fault) → HaveLexicalFault texts fault → HaveManyTokens texts → ⊥
+pub lexical_or_limit : (texts : List (List ℕ)) (fault : Fault) → HaveLexicalFault texts fault → HaveManyTokens texts → ⊥
 lexical_or_limit texts fault (n, behind, few) many =
     omega (arith, stand_fewer_fault 0 texts 65537 n fault many behind, few)
 

@@ -20,9 +20,9 @@ const MANY_TOKENS: u64 = 65_537;
 
 /// A file in tokens, and the place behind its last byte.
 #[derive(Drop)]
-pub(crate) struct Lexed {
-    pub(crate) tokens: Vec<Token>,
-    pub(crate) end: Span,
+pub struct Lexed {
+    pub tokens: Vec<Token>,
+    pub end: Span,
 }
 
 /// The tokens of the file at this position, where at most so many are left of those that are read.
@@ -49,7 +49,7 @@ fn lex_file(alloc: Global, file: u32, text: &[u8], left: usize) -> Result<Lexed,
 
 /// The tokens of each file. The first lexical fault is answered where at most 65,536 tokens stand before it, and the
 /// limit on tokens where more do.
-pub(crate) fn lex_files(alloc: Global, texts: &[Vec<u8>]) -> Result<Vec<Lexed>, Refusal>
+pub fn lex_files(alloc: Global, texts: &[Vec<u8>]) -> Result<Vec<Lexed>, Refusal>
     requires few { length texts.now ≤ 16 }
     requires small { AllByRecursion (λ t. length t.items + 1 < 2 ^ 32) texts.now }
     ensures tokens { IfOk result (λ files. HaveTokens 0 (map (λ t. t.items) texts.now)

@@ -11,4 +11,6 @@ mod parsed;
 mod program;
 
 pub use laws::one_answer;
+pub use lexed::{Lexed, lex_files};
+pub use parsed::parse_files;
 pub use program::program_of_sources;

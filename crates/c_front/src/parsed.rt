@@ -47,7 +47,7 @@ fn parse_file(alloc: Global, file: u32, tokens: &Vec<Token>, end: Span) -> Resul
 }
 
 /// The raw tree of each file, or why the first file without one has none.
-pub(crate) fn parse_files(alloc: Global, files: &[Lexed]) -> Result<Vec<RawUnit>, Refusal>
+pub fn parse_files(alloc: Global, files: &[Lexed]) -> Result<Vec<RawUnit>, Refusal>
     requires few { length files.now ≤ 16 }
     ensures trees { IfOk result (λ units. HaveTrees (map (λ f. f.tokens.items) files.now) (map unit_of units.items)) }
     ensures refused { IfErr result (AreUnparsed (map (λ f. f.tokens.items) files.now)) }
