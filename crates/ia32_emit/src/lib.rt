@@ -1,0 +1,20 @@
+//! The items of each op of a graph, by where its operands and its result stand, as the definitions name them
+//! (`ia32_rows`, `specs/Rows.antt`).
+#![tactic(auto)]
+
+mod comparisons;
+mod computing;
+mod instructions;
+mod locations;
+mod moves;
+mod passing;
+
+pub use comparisons::{emit_branch, emit_jump, emit_same, emit_set, emit_shift};
+pub use computing::{
+    emit_complement, emit_division, emit_half, emit_low, emit_negation, emit_product, emit_wide,
+};
+pub use locations::Location;
+pub use moves::{emit_commuting, emit_copy, emit_number, emit_operation};
+pub use passing::{
+    emit_exit, emit_getchar, emit_leave, emit_param, emit_prologue, emit_putchar, emit_return,
+};
