@@ -1,5 +1,5 @@
 -- Texts have one answer: a typed program, a fault, or a limit.
-use Rattle.std.proofs.Common.{◌≡◌, ℕ, List, sym, subst, inl, inr, arith}
+use Rattle.std.proofs.Common.{◌≡◌, ℕ, List, subst, inl, inr, arith}
 use Rattle.pcc_base.specs.declared.fault.Fault.{Fault}
 use Rattle.pcc_base.specs.declared.refusal.Limit.{Limit}
 use Rattle.c_lexer.specs.declared.token.Token.{Token}
@@ -7,8 +7,7 @@ use Rattle.c_grammar.specs.Statements.{ExternalTree}
 use Rattle.c_tree.specs.Program.{Program}
 use Rattle.c_typing.specs.Typed.{IsAbove, IsAccepted, IsLeastFault}
 use Rattle.c_types.proofs.OneAnswer.{one_answer}
-use Rattle.c_types.specs.Laws.{OneAnswer}
-use Rattle.c_front.specs.Accepted.{HaveTokens, HaveTrees}
+use Rattle.c_front.specs.Accepted.{HaveTrees}
 use Rattle.c_front.specs.Refusals.{FirstFaulty, HaveLexicalFault, HaveManyTokens, WithTokens}
 use Rattle.c_front.proofs.Exact.{lexical_or_limit, no_lexical, stand_fewer, tokens_once, trees_once, trees_or_fault}
 use Rattle.c_program.specs.Answers.{AreAbove, HaveFault, HaveTypedProgram, HaveUnits, WithUnits, end_of}

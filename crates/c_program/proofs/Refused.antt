@@ -1,10 +1,7 @@
 -- The raw trees of texts, and why texts have no program.
-use Rattle.std.proofs.Common.{◌≡◌, ◌≤◌, ◌<◌, ◌+◌, ◌-◌, ◌^◌, ℕ, zero, suc, List, [], ◌∷◌, Option, Some, None, length}
-use Rattle.std.proofs.Common.{if◌then◌else◌, subst, Bool, true, false, inl, inr, arith}
-use Rattle.std.specs.Prelude.{slice_get, nat_lt}
-use Rattle.pcc_base.specs.declared.span.Span.{Span}
-use Rattle.pcc_base.specs.declared.fault.Fault.{Fault}
-use Rattle.pcc_base.specs.declared.refusal.Limit.{Limit}
+use Rattle.std.proofs.Common.{◌≡◌, ◌≤◌, ℕ, suc, List, [], ◌∷◌, Some}
+use Rattle.std.proofs.Common.{if◌then◌else◌, Bool, true, false, inl, inr}
+use Rattle.std.specs.Prelude.{nat_lt}
 use Rattle.pcc_base.specs.declared.refusal.Limit.TheVariants as limits
 use Rattle.pcc_base.specs.declared.refusal.Refusal.{Refusal}
 use Rattle.pcc_base.specs.declared.refusal.Refusal.TheVariants as refusals

@@ -1,5 +1,5 @@
 -- The raw trees are those of the texts, so the program is well typed, and why they have none is why the texts have none.
-use Rattle.std.proofs.Common.{◌≡◌, ◌≤◌, ℕ, List, Vec, Global, length, map, ap, arith}
+use Rattle.std.proofs.Common.{◌≡◌, ℕ, List, Vec, Global, length, map, ap, arith}
 use Rattle.std.proofs.lemmas.List.{length-map}
 use Rattle.std.proofs.lemmas.Result.{IfErr-weaker, IfOk-weaker}
 use Rattle.c_lexer.specs.declared.token.Token.{Token}
@@ -8,8 +8,7 @@ use Rattle.c_syntax.specs.declared.unit.RawUnit.{RawUnit}
 use Rattle.c_front.specs.declared.lexed.Lexed.{Lexed}
 use Rattle.c_front.specs.Accepted.{HaveTrees}
 use Rattle.c_front.proofs.Reading.{tokens_same}
-use Rattle.c_check_programs.specs.Answers.{IsRefusal}
-use Rattle.c_program.specs.Answers.{HaveUnits, end_of}
+use Rattle.c_program.specs.Answers.{HaveUnits}
 use Rattle.c_program.proofs.Refused.{units_of, untyped}
 use Rattle.c_program.proofs.typed.typed_program.Goals as goal
 
