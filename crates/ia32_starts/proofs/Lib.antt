@@ -1,0 +1,4 @@
+pub mod Parts
+pub mod Data
+pub mod Start
+pub mod Called

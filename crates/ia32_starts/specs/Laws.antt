@@ -1,0 +1,72 @@
+-- The start of a program with any static objects: what stands in the data of its image, and the state in which `main`
+-- begins.
+use Rattle.std.specs.Prelude.{◌≡◌, ◌+◌, ◌<◌, ◌≤◌, ◌^◌, ℕ, List, [], length, map, slice_get, Some, Ok}
+use Rattle.ia32_regs.specs.declared.names.Reg32.TheVariants.{Esp}
+use Rattle.ia32_insn.specs.declared.item.Item.{Item}
+use Rattle.ia32_insn.specs.State as machine
+use Rattle.ia32_insn.specs.Meaning.{load, word_of}
+use Rattle.ia32_insn.specs.Keeps.{AreDisjoint}
+use Rattle.ia32_insn.specs.Items.{IsText, Object, Places, Symbols, data_bytes, data_start, stack_end, text_state}
+use Rattle.flow_graph.specs.Running.{first_state}
+use Rattle.flow_graph.specs.States as graph
+use Rattle.ia32_shows.specs.Paths.{Comes}
+use Rattle.ia32_shows.specs.Placements.{Code, objects_of}
+use Rattle.ia32_shows.specs.Shows.{ObjectsStand}
+use Rattle.ia32_shows.specs.Sites.{IsSound}
+use Rattle.ia32_calls.specs.Laws.{ReturnsToStart}
+use Rattle.ia32_keeps.specs.Supports.{IsSupported}
+use Rattle.ia32_entries.specs.Called.{Called}
+
+-- ---- the data
+
+-- the first state of the image of the code
+abbrev pub image_state : Code → List ℕ → machine.State
+image_state code input = text_state code.text (objects_of code.program) input
+
+-- The data of an image as they begin: every static object has its number of elements and its elements, no call is
+-- active, and all behind the objects is 0, up to the stack's end.
+pub record DataStand (code : Code) (s : machine.State) : Type 0 where
+  pub objects : ObjectsStand code s (map (λ object. object.elements) code.program.objects)
+  pub depth : load 4 code.symbols.depth s ≡ Ok 0
+  pub zeros : (n a : ℕ) → data_start code.text + length (data_bytes (objects_of code.program)) ≤ a
+      → a + n ≤ stack_end code.text (objects_of code.program) → 0 < n → load n a s ≡ Ok 0
+
+abbrev pub DataBegin : Type 0
+DataBegin = (code : Code) (input : List ℕ) → IsSupported code → DataStand code (image_state code input)
+
+-- ---- the start
+
+-- The state in which `main` begins: one call is active, the return address is in the last word of the stack, and what
+-- is loaded from elsewhere is as in the image.
+pub record StartedOver (symbols : Symbols) (text : List ℕ) (objects : List Object) (main address : ℕ) (input : List ℕ)
+    (t : machine.State) : Type 0 where
+  pub comes : Comes text (text_state text objects input) t
+  pub eip : t.eip ≡ address
+  pub sound : IsSound text (data_start text) (stack_end text objects) t
+  pub esp : word_of Esp t + 4 ≡ stack_end text objects
+  pub return_address : ℕ
+  pub returns : load 4 (word_of Esp t) t ≡ Ok return_address
+  pub returns_to : ReturnsToStart symbols text objects main return_address
+  pub depth : load 4 symbols.depth t ≡ Ok 1
+  pub kept : (n b w : ℕ) → AreDisjoint (word_of Esp t) 4 b n → AreDisjoint symbols.depth 4 b n
+      → load n b (text_state text objects input) ≡ Ok w → load n b t ≡ Ok w
+  pub left : t.left ≡ input
+  pub taken : t.taken ≡ 0
+  pub written : t.written ≡ []
+
+-- The start comes to the address of the function that it calls, over any static objects whose image ends below 2 ^ 32.
+-- `StartGoes` of `ia32_calls` is the case without any.
+abbrev pub StartGoesOver : Type 0
+StartGoesOver =
+    (functions : List (List Item)) (order : List ℕ) (objects : List Object) (main : ℕ) (places : List Places)
+    (symbols : Symbols) (text : List ℕ) (address : ℕ) (input : List ℕ)
+    → IsText functions order objects main places symbols text → stack_end text objects < 2 ^ 32
+    → slice_get symbols.functions main ≡ Some address
+    → (t : machine.State) × StartedOver symbols text objects main address input t
+
+-- From the image's first state the machine comes to the first item of `main`, with the program in its first state: every
+-- static object is shown.
+abbrev pub MainIsCalled : Type 0
+MainIsCalled =
+    (code : Code) (input : List ℕ) (g : graph.State) → IsSupported code → first_state code.program input ≡ Some g
+    → (t : machine.State) × Comes code.text (image_state code input) t × Called code input g t

@@ -1,0 +1,13 @@
+ghost use Rattle.ia32_starts.specs.Laws.{DataBegin, MainIsCalled, StartGoesOver};
+
+/// In the image's first state every static object has its number of elements and its elements where they are shown, the
+/// depth word is 0, and so is all that stands behind the objects.
+pub fn data_begin()
+    ensures { DataBegin }
+{}
+
+/// The start comes to the function that is `main`, with one call active and all static objects as they were.
+pub fn main_is_called()
+    ensures start { StartGoesOver }
+    ensures called { MainIsCalled }
+{}
