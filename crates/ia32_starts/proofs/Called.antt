@@ -15,15 +15,17 @@ use Rattle.flow_graph.specs.Graphs.{points_of}
 use Rattle.flow_graph.specs.States as graph
 use Rattle.flow_graph.specs.States.{Activation, entry_of, first_activation, first_state_at, flow_at}
 use Rattle.graph_states.proofs.Changes.{first-in}
-use Rattle.graph_states.proofs.Keeping.{functions_begin}
+use Rattle.graph_states.proofs.Keeping.{first_is_state, functions_begin}
 use Rattle.ia32_shows.specs.Placements.{Code, objects_of}
+use Rattle.ia32_shows.proofs.Steps.{comes-then}
 use Rattle.ia32_shows.specs.Shows.{ArgumentsStand, ElementsStand, HoldsOldArrays, IsOldArray, ObjectsStand}
 use Rattle.ia32_keeps.specs.Supports.{IsSupported}
 use Rattle.ia32_keeps.proofs.Memory.{round-above, shapes-are, text-is}
 use Rattle.ia32_keeps.proofs.Objects.{object-in}
 use Rattle.ia32_standing.proofs.Functions.{function-stands}
 use Rattle.ia32_entries.specs.Called.{Called}
-use Rattle.ia32_starts.specs.Laws.{MainIsCalled, StartedOver, image_state}
+use Rattle.ia32_entries.proofs.Entry.{entry-comes}
+use Rattle.ia32_starts.specs.Laws.{MainIsCalled, MainIsShown, StartedOver, image_state}
 use Rattle.ia32_starts.proofs.Data.{copied, objects-begin}
 use Rattle.ia32_starts.proofs.Start.{enough, start-goes-over}
 
@@ -213,3 +215,10 @@ main-is-called code input g h e =
       subst (λ (s : graph.State). Called code input s start.0) same
           (called code input point at.address start.0 h first at.named start.1),
     )
+
+pub main-is-shown : MainIsShown
+main-is-shown code h ready input g bytes e =
+    let c = main-is-called code input g h e in
+    let state = first_is_state code.program input g h.program bytes e in
+    let last = entry-comes code input g c.0 h state c.2 (ready input g c.0 e c.2) in
+    (last.0, comes-then code.text (image_state code input) c.0 last.0 c.1 last.1, last.2)

@@ -27,8 +27,10 @@ use Rattle.ia32_calls.proofs.First.{zero-registers}
 use Rattle.graph_states.proofs.Lists.{all-at}
 use Rattle.ia32_keeps.specs.Supports.{IsSupported}
 use Rattle.ia32_keeps.proofs.Memory.{long-data, text-above}
+use Rattle.ia32_keeps.proofs.Objects.{elements-within}
 use Rattle.ia32_starts.specs.Laws.{DataBegin, image_state}
-use Rattle.ia32_starts.proofs.Parts.{ElementIn, ObjectIn, all_objects, element-in, object-in, one_element}
+use Rattle.ia32_starts.proofs.Parts.{ElementIn, ObjectIn, all_objects, element-in, length-elements, object-in}
+use Rattle.ia32_starts.proofs.Parts.{one_element}
 
 -- ---- the first state
 
@@ -249,35 +251,86 @@ depth-begins text objects input fits =
     none : (n : ℕ) → n + 0 ≡ n
     none n = omega arith
 
--- all that stands behind the objects is 0
-zeros-begin : (text : List ℕ) (objects : List Object) (input : List ℕ) (n a : ℕ) → stack_end text objects < 2 ^ 32
-    → data_start text + length (data_bytes objects) ≤ a → a + n ≤ stack_end text objects → 0 < n
+-- zeros behind a front, up to more
+zeros-within : (text : List ℕ) (objects : List Object) (input front back : List ℕ) (m n a : ℕ)
+    → stack_end text objects < 2 ^ 32 → whole_data text objects ≡ front ++ (zeros m ++ back)
+    → data_start text + length front ≤ a → a + n ≤ data_start text + length front + m → 0 < n
     → load n a (text_state text objects input) ≡ Ok 0
 unfolding begins-sound
-zeros-begin text objects input n a fits from to some =
+zeros-within text objects input front back m n a fits whole from to some =
     let low : ℕ = data_start text in
-    let held : List ℕ = data_bytes objects in
-    let m : ℕ = data_memory objects - length held in
-    let i : ℕ = a - low - length held in
+    let i : ℕ = a - low - length front in
     let r : ℕ = m - i - n in
-    let split : m ≡ i + (n + r) = divided low (length held) (data_memory objects) a n from to in
-    let whole : whole_data text objects ≡ (held ++ zeros i) ++ (zeros n ++ zeros r) =
-    ap (λ (k : ℕ). held ++ zeros k) split
-    ∙ ap (λ (l : List ℕ). held ++ l) (zeros-join i (n + r) ∙ ap (λ (l : List ℕ). zeros i ++ l) (zeros-join n r))
-    ∙ sym (append_assoc held (zeros i) (zeros n ++ zeros r)) in
-    let place : low + length (held ++ zeros i) ≡ a =
-    behind low (length held) (length (held ++ zeros i)) a
-    (length-append held (zeros i) ∙ ap (λ (k : ℕ). length held + k) (length-zeros i)) from in
-    part-loads text low (stack_end text objects) n a (text_state text objects input) (held ++ zeros i) (zeros n)
-    (zeros r) (begins-sound text objects input fits) whole place (length-zeros n) some
+    let split : m ≡ i + (n + r) = divided low (length front) m a n from to in
+    let parted : whole_data text objects ≡ (front ++ zeros i) ++ (zeros n ++ (zeros r ++ back)) =
+    whole ∙ ap (λ (k : ℕ). front ++ (zeros k ++ back)) split
+    ∙ ap (λ (l : List ℕ). front ++ (l ++ back))
+    (zeros-join i (n + r) ∙ ap (λ (l : List ℕ). zeros i ++ l) (zeros-join n r))
+    ∙ grouped front (zeros i) (zeros n) (zeros r) back in
+    let place : low + length (front ++ zeros i) ≡ a =
+    behind low (length front) (length (front ++ zeros i)) a
+    (length-append front (zeros i) ∙ ap (λ (k : ℕ). length front + k) (length-zeros i)) from in
+    part-loads text low (stack_end text objects) n a (text_state text objects input) (front ++ zeros i) (zeros n)
+    (zeros r ++ back) (begins-sound text objects input fits) parted place (length-zeros n) some
     ∙ ap (λ (k : ℕ). let o : Result ℕ End = Ok k in o) (zeros-read n 0 n)
   where
-    divided : (low d m a n : ℕ) → low + d ≤ a → a + n ≤ low + m
-        → m - d ≡ (a - low - d) + (n + (m - d - (a - low - d) - n))
+    divided : (low d m a n : ℕ) → low + d ≤ a → a + n ≤ low + d + m → m ≡ (a - low - d) + (n + (m - (a - low - d) - n))
     divided low d m a n from to = omega arith
 
     behind : (low d l a : ℕ) → l ≡ d + (a - low - d) → low + d ≤ a → low + l ≡ a
     behind low d l a e from = omega arith
+
+    grouped : (f i n r b : List ℕ) → f ++ ((i ++ (n ++ r)) ++ b) ≡ (f ++ i) ++ (n ++ (r ++ b))
+    grouped f i n r b = simp append_assoc refl
+
+-- all that stands behind the objects is 0
+zeros-begin : (text : List ℕ) (objects : List Object) (input : List ℕ) (n a : ℕ) → stack_end text objects < 2 ^ 32
+    → data_start text + length (data_bytes objects) ≤ a → a + n ≤ stack_end text objects → 0 < n
+    → load n a (text_state text objects input) ≡ Ok 0
+zeros-begin text objects input n a fits from to some =
+    let held : List ℕ = data_bytes objects in
+    let m : ℕ = data_memory objects - length held in
+    zeros-within text objects input held [] m n a fits
+    (ap (λ (l : List ℕ). held ++ l) (sym (append-nil (zeros m)))) from
+    (up (data_start text) (length held) (data_memory objects) a n from to some) some
+  where
+    up : (low d m a n : ℕ) → low + d ≤ a → a + n ≤ low + m → 0 < n → a + n ≤ low + d + (m - d)
+    up low d m a n from to some = omega arith
+
+-- and so is the padding behind an object's elements
+padding-begins : (text : List ℕ) (objects : List Object) (input : List ℕ) (k n a : ℕ) (o : Object)
+    → stack_end text objects < 2 ^ 32 → (at : ObjectIn (data_start text + 4) objects k o)
+    → at.address + o.width * length o.elements ≤ a → a + n ≤ at.address + elements_size o → 0 < n
+    → load n a (text_state text objects input) ≡ Ok 0
+padding-begins text objects input k n a o fits at from to some =
+    let tail : List ℕ = zeros (data_memory objects - length (data_bytes objects)) in
+    let front : List ℕ = zeros 4 ++ (at.front ++ (little_bytes 4 (length o.elements) ++ element_bytes o)) in
+    let m : ℕ = elements_size o - o.width * length o.elements in
+    let whole : whole_data text objects ≡ front ++ (zeros m ++ (at.back ++ tail)) =
+    ap (λ (l : List ℕ). (zeros 4 ++ l) ++ tail) at.whole
+    ∙ grouped (zeros 4) at.front (little_bytes 4 (length o.elements)) (element_bytes o) (zeros m) at.back tail in
+    let long : length front ≡ 4 + (length at.front + (4 + o.width * length o.elements)) =
+    length-append (zeros 4) (at.front ++ (little_bytes 4 (length o.elements) ++ element_bytes o))
+    ∙ ap (λ (j : ℕ). j + length (at.front ++ (little_bytes 4 (length o.elements) ++ element_bytes o))) (length-zeros 4)
+    ∙ ap (λ (j : ℕ). 4 + j) (length-append at.front (little_bytes 4 (length o.elements) ++ element_bytes o)
+    ∙ ap (λ (j : ℕ). length at.front + j) (length-append (little_bytes 4 (length o.elements)) (element_bytes o)
+    ∙ ap (λ (j : ℕ). 4 + j) (length-elements o.width o.elements))) in
+    let low : ℕ = data_start text in
+    zeros-within text objects input front (at.back ++ tail) m n a fits whole
+    (begins low (length at.front) (o.width * length o.elements) (length front) at.address a long at.place from)
+    (ends low (length at.front) (o.width * length o.elements) (elements_size o) (length front) at.address a n long
+    at.place (elements-within o) to) some
+  where
+    grouped : (z f c e p b t : List ℕ)
+        → (z ++ (f ++ ((c ++ e ++ p) ++ b))) ++ t ≡ (z ++ (f ++ (c ++ e))) ++ (p ++ (b ++ t))
+    grouped z f c e p b t = simp append_assoc refl
+
+    begins : (low f n l at a : ℕ) → l ≡ 4 + (f + (4 + n)) → low + 4 + f + 4 ≡ at → at + n ≤ a → low + l ≤ a
+    begins low f n l at a long place from = omega arith
+
+    ends : (low f n size l at a k : ℕ) → l ≡ 4 + (f + (4 + n)) → low + 4 + f + 4 ≡ at → n ≤ size → a + k ≤ at + size
+        → a + k ≤ low + l + (size - n)
+    ends low f n size l at a k long place le to = omega arith
 
 -- an element of a mapped list comes from one at the same place
 pub map-of : {X Y : Type 0} → (f : X → Y) (xs : List X) (k : ℕ) (y : Y) → slice_get (map f xs) k ≡ Some y
@@ -310,11 +363,28 @@ objects-begin code input h k elements e =
       subst (ElementsStand (image_state code input) at.address o.width) same stand,
     )
 
+-- the padding of an object of the code
+padding-shown : (code : Code) (input : List ℕ) (k address n a : ℕ) (o : Object) → IsSupported code
+    → slice_get code.program.objects k ≡ Some o → slice_get code.symbols.objects k ≡ Some address
+    → address + o.width * length o.elements ≤ a → a + n ≤ address + elements_size o → 0 < n
+    → load n a (image_state code input) ≡ Ok 0
+padding-shown code input k address n a o h declared named from to some =
+    let there : slice_get (objects_of code.program) k ≡ Some (copied o) =
+    slice_get-map copied code.program.objects k ∙ ap (λ (x : Option Object). option_map copied x) declared in
+    let at = object-in (data_start code.text + 4) (objects_of code.program) k (copied o) there in
+    let same : address ≡ at.address = same_Some address at.address
+    (sym named ∙ ap (λ (l : List ℕ). slice_get l k) (h.is_code).text.objects_are ∙ at.named) in
+    padding-begins code.text (objects_of code.program) input k n a (copied o) h.fits at
+    (subst (λ (b : ℕ). b + o.width * length o.elements ≤ a) same from)
+    (subst (λ (b : ℕ). a + n ≤ b + elements_size o) same to) some
+
 pub data-begin : DataBegin
 data-begin code input h =
     record {
       objects = objects-begin code input h;
       depth = subst (λ (d : ℕ). load 4 d (image_state code input) ≡ Ok 0) (sym (h.is_code).text.depth_is)
           (depth-begins code.text (objects_of code.program) input h.fits);
+      padding = λ k address n a object declared named from to some.
+          padding-shown code input k address n a object h declared named from to some;
       zeros = λ n a from to some. zeros-begin code.text (objects_of code.program) input n a h.fits from to some;
     }

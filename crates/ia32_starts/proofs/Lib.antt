@@ -2,3 +2,4 @@ pub mod Parts
 pub mod Data
 pub mod Start
 pub mod Called
+pub mod Ready

@@ -1,6 +1,6 @@
 -- Where the bytes of a static object, and of one of its elements, stand among those of all.
-use Rattle.std.proofs.Common.{◌≡◌, ℕ, zero, suc, ◌+◌, ◌-◌, ◌*◌, ◌≤◌, ℤ, List, [], ◌∷◌, ◌++◌, length, Some, refl, sym, ap}
-use Rattle.std.proofs.Common.{◌∙◌, arith, length-append, append_assoc}
+use Rattle.std.proofs.Common.{◌≡◌, ℕ, zero, suc, ◌+◌, ◌-◌, ◌*◌, ◌≤◌, ℤ, List, [], ◌∷◌, ◌++◌, length, Some, refl, sym}
+use Rattle.std.proofs.Common.{ap, ◌∙◌, arith, length-append, append_assoc}
 use Rattle.std.specs.Prelude.{flat_map, slice_get}
 use Rattle.std.specs.Int.{w32, cast_unsigned}
 use Rattle.std.proofs.Math.Nat.{mul-suc}
@@ -25,7 +25,7 @@ all_elements width zs = flat_map (λ (z : ℤ). little_bytes width (cast_unsigne
 one-more : (w n : ℕ) → w + w * n ≡ w * suc n
 one-more w n = omega (arith, mul-suc w n)
 
-length-elements : (width : ℕ) (zs : List ℤ) → length (all_elements width zs) ≡ width * length zs
+pub length-elements : (width : ℕ) (zs : List ℤ) → length (all_elements width zs) ≡ width * length zs
 length-elements width [] = omega arith
 length-elements width (z ∷ zs) =
     length-append (one_element width z) (all_elements width zs)

@@ -1,21 +1,26 @@
 -- The start of a program with any static objects: what stands in the data of its image, and the state in which `main`
 -- begins.
-use Rattle.std.specs.Prelude.{◌≡◌, ◌+◌, ◌<◌, ◌≤◌, ◌^◌, ℕ, List, [], length, map, slice_get, Some, Ok}
+use Rattle.std.specs.Prelude.{◌≡◌, ◌+◌, ◌*◌, ◌<◌, ◌≤◌, ◌^◌, ℕ, List, [], length, map, slice_get, Some, Ok}
 use Rattle.ia32_regs.specs.declared.names.Reg32.TheVariants.{Esp}
 use Rattle.ia32_insn.specs.declared.item.Item.{Item}
 use Rattle.ia32_insn.specs.State as machine
 use Rattle.ia32_insn.specs.Meaning.{load, word_of}
 use Rattle.ia32_insn.specs.Keeps.{AreDisjoint}
-use Rattle.ia32_insn.specs.Items.{IsText, Object, Places, Symbols, data_bytes, data_start, stack_end, text_state}
+use Rattle.ia32_insn.specs.Items.{IsText, Object, Places, Symbols, data_bytes, data_start, elements_size, stack_end}
+use Rattle.ia32_insn.specs.Items.{text_state}
 use Rattle.flow_graph.specs.Running.{first_state}
 use Rattle.flow_graph.specs.States as graph
+use Rattle.flow_graph.specs.States.{flow_at}
+use Rattle.ia32_shows.specs.Follows.{Starts}
 use Rattle.ia32_shows.specs.Paths.{Comes}
 use Rattle.ia32_shows.specs.Placements.{Code, objects_of}
 use Rattle.ia32_shows.specs.Shows.{ObjectsStand}
 use Rattle.ia32_shows.specs.Sites.{IsSound}
 use Rattle.ia32_calls.specs.Laws.{ReturnsToStart}
 use Rattle.ia32_keeps.specs.Supports.{IsSupported}
+use Rattle.ia32_standing.specs.Laws.{IsSelected}
 use Rattle.ia32_entries.specs.Called.{Called}
+use Rattle.ia32_entries.specs.Laws.{EntryAt}
 
 -- ---- the data
 
@@ -24,10 +29,14 @@ abbrev pub image_state : Code → List ℕ → machine.State
 image_state code input = text_state code.text (objects_of code.program) input
 
 -- The data of an image as they begin: every static object has its number of elements and its elements, no call is
--- active, and all behind the objects is 0, up to the stack's end.
+-- active, and all else is 0, up to the stack's end.
 pub record DataStand (code : Code) (s : machine.State) : Type 0 where
   pub objects : ObjectsStand code s (map (λ object. object.elements) code.program.objects)
   pub depth : load 4 code.symbols.depth s ≡ Ok 0
+  -- behind an object's elements, up to a multiple of four bytes
+  pub padding : (k address n a : ℕ) (object : Object) → slice_get code.program.objects k ≡ Some object
+      → slice_get code.symbols.objects k ≡ Some address → address + object.width * length object.elements ≤ a
+      → a + n ≤ address + elements_size object → 0 < n → load n a s ≡ Ok 0
   pub zeros : (n a : ℕ) → data_start code.text + length (data_bytes (objects_of code.program)) ≤ a
       → a + n ≤ stack_end code.text (objects_of code.program) → 0 < n → load n a s ≡ Ok 0
 
@@ -64,9 +73,25 @@ StartGoesOver =
     → slice_get symbols.functions main ≡ Some address
     → (t : machine.State) × StartedOver symbols text objects main address input t
 
--- From the image's first state the machine comes to the first item of `main`, with the program in its first state: every
--- static object is shown.
+-- From the image's first state the machine comes to the first item of `main`, with the program in its first state, and
+-- every static object is shown.
 abbrev pub MainIsCalled : Type 0
 MainIsCalled =
     (code : Code) (input : List ℕ) (g : graph.State) → IsSupported code → first_state code.program input ≡ Some g
     → (t : machine.State) × Comes code.text (image_state code input) t × Called code input g t
+
+-- The first items of `main` stand where its call begins.
+abbrev pub MainIsReady : Code → Type 0
+MainIsReady code =
+    (input : List ℕ) (g : graph.State) (s : machine.State) → first_state code.program input ≡ Some g
+    → Called code input g s → EntryAt code g s
+
+-- Then the machine comes from the image's first state over a list of bytes to one that shows the program's first state.
+abbrev pub MainIsShown : Type 0
+MainIsShown = (code : Code) → IsSupported code → MainIsReady code → Starts code
+
+-- So does selected code with any static objects, where `main` has no frame arrays. `ScalarsStart` of `ia32_programs` is
+-- the case without static objects.
+abbrev pub ObjectsStart : Type 0
+ObjectsStart =
+    (code : Code) → IsSelected code → (flow_at code.program code.program.main).arrays ≡ [] → Starts code

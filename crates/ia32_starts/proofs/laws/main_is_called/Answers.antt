@@ -1,4 +1,5 @@
-use Rattle.ia32_starts.proofs.Called.{main-is-called}
+use Rattle.ia32_starts.proofs.Called.{main-is-called, main-is-shown}
+use Rattle.ia32_starts.proofs.Ready.{objects-start}
 use Rattle.ia32_starts.proofs.Start.{start-goes-over}
 use Rattle.ia32_starts.proofs.laws.main_is_called.Goals as goal
 
@@ -7,3 +8,9 @@ returns-clause-start c = start-goes-over
 
 pub returns-clause-called : goal.returns-clause-called
 returns-clause-called c = main-is-called
+
+pub returns-clause-shown : goal.returns-clause-shown
+returns-clause-shown c = main-is-shown
+
+pub returns-clause-starts : goal.returns-clause-starts
+returns-clause-starts c = objects-start
