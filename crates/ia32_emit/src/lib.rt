@@ -2,6 +2,8 @@
 //! (`ia32_rows`, `specs/Rows.antt`).
 #![tactic(auto)]
 
+mod accesses;
+mod calls;
 mod comparisons;
 mod computing;
 mod instructions;
@@ -9,6 +11,8 @@ mod locations;
 mod moves;
 mod passing;
 
+pub use accesses::{emit_frame_array, emit_get, emit_load, emit_put, emit_static, emit_store};
+pub use calls::emit_call;
 pub use comparisons::{emit_branch, emit_jump, emit_same, emit_set, emit_shift};
 pub use computing::{
     emit_complement, emit_division, emit_half, emit_low, emit_negation, emit_product, emit_wide,

@@ -69,7 +69,7 @@ pub fn emit_return(out: &mut Vec<Item>, from: Location) -> Result<(), NoMemory>
 }
 
 /// One call more is active, unless 4,096 are.
-fn emit_deepen(out: &mut Vec<Item>) -> Result<(), NoMemory>
+pub fn emit_deepen(out: &mut Vec<Item>) -> Result<(), NoMemory>
     ensures { OnOk result (out.new.items ≡ out.old.items ++ deepen) }
 {
     out.push(Item::AddressOf(Reg32::Esi, 0xffff_ffff))?;
@@ -85,7 +85,7 @@ fn emit_deepen(out: &mut Vec<Item>) -> Result<(), NoMemory>
 }
 
 /// One call less is active.
-fn emit_undeepen(out: &mut Vec<Item>) -> Result<(), NoMemory>
+pub fn emit_undeepen(out: &mut Vec<Item>) -> Result<(), NoMemory>
     ensures { OnOk result (out.new.items ≡ out.old.items ++ undeepen) }
 {
     out.push(Item::AddressOf(Reg32::Esi, 0xffff_ffff))?;
@@ -96,7 +96,7 @@ fn emit_undeepen(out: &mut Vec<Item>) -> Result<(), NoMemory>
 }
 
 /// The result to its place, where it is wanted.
-fn emit_write_any(out: &mut Vec<Item>, to: Option<Location>) -> Result<(), NoMemory>
+pub fn emit_write_any(out: &mut Vec<Item>, to: Option<Location>) -> Result<(), NoMemory>
     ensures { OnOk result (out.new.items ≡ out.old.items ++ write_any (option_map place_of to)) }
 {
     match to {
