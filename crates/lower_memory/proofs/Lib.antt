@@ -1,0 +1,4 @@
+pub mod Expressions
+pub mod Items
+pub mod Statements
+pub mod Files
