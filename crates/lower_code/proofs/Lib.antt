@@ -1,7 +1,8 @@
 pub mod Alike
 pub mod Arms
-pub mod Ordered
-pub mod Whole
-mod Comparisons
+pub mod Bodies
 mod Cases
+mod Comparisons
+pub mod Ordered
 mod Switched
+pub mod Whole
