@@ -2,3 +2,4 @@ pub mod Expressions
 pub mod Items
 pub mod Statements
 pub mod Files
+pub mod Texts
