@@ -325,7 +325,8 @@ first_fine n None h = h
 first_fine n (Some e) h = h
 
 for_fine : (number i j k l n : ℕ) (a : Checked First) (b : Checked (Option Expression))
-    (c : Checked (Option Expression)) (d : Checked Statement) → suc (i + j + k + l) ≤ n → IfFits (FirstFine i) a → IfFits (OptionFine j) b
+    (c : Checked (Option Expression)) (d : Checked Statement) → suc (i + j + k + l) ≤ n
+    → IfFits (FirstFine i) a → IfFits (OptionFine j) b
     → IfFits (OptionFine k) c → IfFits (OneFine l) d → IfFits (ListFine n) (for_loop number a b c d)
 for_fine number i j k l n a b c d le h f g o =
     holds_both (λ p. FirstFine i p.0 × OptionFine j p.1) (λ q. OptionFine k q.0 × OneFine l q.1)
