@@ -203,7 +203,7 @@ module _ (code : Code) (input : List ℕ) (g : graph.State) (s t : machine.State
         depth = b.depth;
         chain = subst (λ (k : ℕ). WaitFrom code (active_of H) (base ∷ rest) t H.current k waiting rest) (sym b.ebp)
             (moved (chain-carried code (active_of G) Active shown.frames (base ∷ rest) s t w.activation base waiting
-            rest             shown.registers sound.registers supported
+            rest shown.registers sound.registers supported
             (all-older code Active g.current shown.frames (word_of Ebp s) (base ∷ rest) (suc (length waiting)) waiting
             frames (within waiting) olds)
             (λ n a x reads. let up = chain-above code (active_of G) shown.frames s w.activation base waiting rest a n
