@@ -205,7 +205,11 @@ fn tells_usage(rt: HostRuntime) -> Result<(), Fail> {
         ("compile -o a b.c a.map", "NAME and NAME.map", commands),
         ("run", "<IMAGE>", commands),
         ("run a a", "'a'", commands),
-        ("run --steps 18446744073709551616 a", "--steps <N>", commands),
+        (
+            "run --steps 18446744073709551616 a",
+            "--steps <N>",
+            commands,
+        ),
         ("eval --turns x a.c", "invalid value 'x'", commands),
         ("solve", "<FILE>", commands),
         ("gcc a.c", "'gcc'", commands),
@@ -215,7 +219,10 @@ fn tells_usage(rt: HostRuntime) -> Result<(), Fail> {
     ] {
         let answer = run_line(alloc, line, &mut files, 0)?;
         let text = std::str::from_utf8(answer.err.taken()).unwrap_or("");
-        assert!(rt; text.starts_with("usage\n") && text.ends_with('\n'), "{line}");
+        assert!(rt;
+            text.starts_with("usage\n") && text.ends_with('\n'),
+            "{line}"
+        );
         assert!(rt; text.contains(wrong) && text.contains(more), "{line}");
         assert_eq!(rt; answer.status, 2, "{line}");
         assert!(rt; answer.out.taken().is_empty(), "{line}");
@@ -253,7 +260,10 @@ fn refuses_several_sources(rt: HostRuntime) -> Result<(), Fail> {
         let answer = run_line(alloc, line.as_str(), &mut files, 0)?;
         assert_eq!(rt; answer.err.taken(), err.as_bytes(), "{sources}");
         assert_eq!(rt; answer.status, status, "{sources}");
-        assert!(rt; files.content("p").is_none() && files.content("p.map").is_none(), "{sources}");
+        assert!(rt;
+            files.content("p").is_none() && files.content("p.map").is_none(),
+            "{sources}"
+        );
     }
     Ok(())
 }
