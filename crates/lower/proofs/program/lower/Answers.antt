@@ -1,0 +1,28 @@
+use Rattle.std.proofs.Common.{rules, ◌≡◌, subst, sym}
+use Rattle.c_tree.specs.Erased.{program_of}
+use Rattle.flow_graph.specs.States.{GraphProgram}
+use Rattle.flow_graph.specs.WellFormed.{IsGraphProgram}
+use Rattle.lower.specs.Graphs.{graphs_of}
+use Rattle.lower_lines.specs.Lowering.{KeepsOutcome}
+use Rattle.lower_lines.specs.Programs.{lowered}
+use Rattle.lower.proofs.program.lower.Goals as goal
+
+pub returns-clause-outcome : goal.returns-clause-outcome
+returns-clause-outcome c =
+    let e : graphs_of record {
+      functions = c.in_ok-functions.functions;
+      objects = c.in_ok-objects.objects;
+      main = c.args.program.now.main;
+    } ≡ lowered (program_of c.args.program.now) = search rules in
+    subst (λ (g : GraphProgram). KeepsOutcome (program_of c.args.program.now) g) (sym e)
+    (c.all_programs_lower.ensures (program_of c.args.program.now) c.requires.typed c.requires.memory)
+
+pub returns-clause-well_formed : goal.returns-clause-well_formed
+returns-clause-well_formed c =
+    let e : graphs_of record {
+      functions = c.in_ok-functions.functions;
+      objects = c.in_ok-objects.objects;
+      main = c.args.program.now.main;
+    } ≡ lowered (program_of c.args.program.now) = search rules in
+    subst (λ (g : GraphProgram). IsGraphProgram g) (sym e)
+    (c.graphs_are_there.ensures (program_of c.args.program.now) c.requires.typed c.requires.memory)

@@ -1,0 +1,60 @@
+//! The graphs of a program.
+
+ghost use Rattle.std.specs.Prelude.{◌≡◌, IfOk};
+ghost use Rattle.c_tree.specs.Erased.{program_of};
+ghost use Rattle.c_tree.specs.WellTyped.{WellTyped};
+ghost use Rattle.flow_graph.specs.WellFormed.{IsGraphProgram};
+ghost use Rattle.lower.specs.Graphs.{graphs_of};
+ghost use Rattle.lower_lines.specs.Lowering.{KeepsOutcome};
+ghost use Rattle.lower_lines.specs.Programs.{lowered};
+ghost use Rattle.lower_lines.specs.Words.{IsInMemory};
+
+use crate::graphs::Graphs;
+use crate::objects::objects_of;
+use c_tree::Program;
+use flow_graph::Graph;
+use lower_fits::graphs_are_there;
+use lower_graphs::graph;
+use lower_programs::all_programs_lower;
+use pcc_base::NoMemory;
+use std::alloc::Global;
+
+/// The graphs of the functions, in order.
+fn functions_of(alloc: Global, program: &Program) -> Result<Vec<Graph>, NoMemory>
+    requires typed { WellTyped (program_of program.now) }
+    requires memory { IsInMemory (program_of program.now) }
+    ensures { IfOk result (λ v. v.items ≡ (lowered (program_of program.now)).functions) }
+{
+    let mut graphs = Vec::new(alloc);
+    for function in program.functions.as_slice() {
+        let made = graph(alloc, program, function)?;
+        graphs.push(made)?;
+    }
+    Ok(graphs)
+}
+
+/// The graphs of a typed program in memory. The only refusal is want of memory; a number above 32 bits counts as it.
+pub fn lower(alloc: Global, program: &Program) -> Result<Graphs, NoMemory>
+    requires typed { WellTyped (program_of program.now) }
+    requires memory { IsInMemory (program_of program.now) }
+
+    // They are those of the program's lines.
+    ensures graphs { IfOk result (λ graphs. graphs_of graphs ≡ lowered (program_of program.now)) }
+
+    // For every input and number of turns the graphs do what the program does (C99 5.1.2.3).
+    ensures outcome { IfOk result (λ graphs. KeepsOutcome (program_of program.now) (graphs_of graphs)) }
+
+    // Each graph is one, and each of its blocks is ended; ops name functions and objects of the graphs alone; each
+    // object is one.
+    ensures well_formed { IfOk result (λ graphs. IsGraphProgram (graphs_of graphs)) }
+{
+    let functions = functions_of(alloc, program)?;
+    let objects = objects_of(alloc, program.objects.as_slice())?;
+    graphs_are_there();
+    all_programs_lower();
+    Ok(Graphs {
+        functions,
+        objects,
+        main: program.main,
+    })
+}
