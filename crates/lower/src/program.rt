@@ -3,6 +3,7 @@
 ghost use Rattle.std.specs.Prelude.{◌≡◌, IfOk};
 ghost use Rattle.c_tree.specs.Erased.{program_of};
 ghost use Rattle.c_tree.specs.WellTyped.{WellTyped};
+ghost use Rattle.flow_graph.specs.Running.{IsNeverStuck};
 ghost use Rattle.flow_graph.specs.WellFormed.{IsGraphProgram};
 ghost use Rattle.lower.specs.Graphs.{graphs_of};
 ghost use Rattle.lower_lines.specs.Lowering.{KeepsOutcome};
@@ -12,7 +13,7 @@ ghost use Rattle.lower_lines.specs.Words.{IsInMemory};
 use crate::graphs::Graphs;
 use crate::objects::objects_of;
 use c_tree::Program;
-use flow_graph::Graph;
+use flow_graph::{Graph, never_stuck};
 use lower_fits::graphs_are_there;
 use lower_graphs::graph;
 use lower_programs::all_programs_lower;
@@ -44,6 +45,9 @@ pub fn lower(alloc: Global, program: &Program) -> Result<Graphs, NoMemory>
     // For every input and number of turns the graphs do what the program does (C99 5.1.2.3).
     ensures outcome { IfOk result (λ graphs. KeepsOutcome (program_of program.now) (graphs_of graphs)) }
 
+    // Every state that comes has its next one or an end.
+    ensures never_stuck { IfOk result (λ graphs. IsNeverStuck (graphs_of graphs)) }
+
     // Each graph is one, and each of its blocks is ended; ops name functions and objects of the graphs alone; each
     // object is one.
     ensures well_formed { IfOk result (λ graphs. IsGraphProgram (graphs_of graphs)) }
@@ -52,6 +56,7 @@ pub fn lower(alloc: Global, program: &Program) -> Result<Graphs, NoMemory>
     let objects = objects_of(alloc, program.objects.as_slice())?;
     graphs_are_there();
     all_programs_lower();
+    never_stuck();
     Ok(Graphs {
         functions,
         objects,

@@ -1,10 +1,13 @@
-use Rattle.std.proofs.Common.{rules, ◌≡◌, subst, sym}
+use Rattle.std.proofs.Common.{rules, ◌≡◌, ℕ, [], subst, sym}
 use Rattle.c_tree.specs.Erased.{program_of}
+use Rattle.c_tree.specs.Evaluation.{source_outcome}
+use Rattle.flow_graph.specs.Running.{IsNeverStuck}
 use Rattle.flow_graph.specs.States.{GraphProgram}
 use Rattle.flow_graph.specs.WellFormed.{IsGraphProgram}
 use Rattle.lower.specs.Graphs.{graphs_of}
 use Rattle.lower_lines.specs.Lowering.{KeepsOutcome}
 use Rattle.lower_lines.specs.Programs.{lowered}
+use Rattle.lower_lines.specs.Shown.{variables_shown}
 use Rattle.lower.proofs.program.lower.Goals as goal
 
 pub returns-clause-outcome : goal.returns-clause-outcome
@@ -26,3 +29,19 @@ returns-clause-well_formed c =
     } ≡ lowered (program_of c.args.program.now) = search rules in
     subst (λ (g : GraphProgram). IsGraphProgram g) (sym e)
     (c.graphs_are_there.ensures (program_of c.args.program.now) c.requires.typed c.requires.memory)
+
+pub returns-clause-never_stuck : goal.returns-clause-never_stuck
+returns-clause-never_stuck c =
+    let e : graphs_of record {
+      functions = c.in_ok-functions.functions;
+      objects = c.in_ok-objects.objects;
+      main = c.args.program.now.main;
+    } ≡ lowered (program_of c.args.program.now) = search rules in
+    subst (λ (g : GraphProgram). IsNeverStuck g) (sym e)
+    (c.never_stuck.ensures (lowered (program_of c.args.program.now))
+    (variables_shown (program_of c.args.program.now) (λ (statement : ℕ). []))
+    (λ input turns. (
+      source_outcome (program_of c.args.program.now) (λ (statement : ℕ). []) input turns,
+      c.all_programs_lower.ensures (program_of c.args.program.now) c.requires.typed c.requires.memory
+          (λ (statement : ℕ). []) (λ statement. tt) input turns,
+    )))
