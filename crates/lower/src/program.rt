@@ -6,7 +6,14 @@ ghost use Rattle.c_tree.specs.WellTyped.{WellTyped};
 ghost use Rattle.flow_graph.specs.Running.{IsNeverStuck};
 ghost use Rattle.flow_graph.specs.WellFormed.{IsGraphProgram};
 ghost use Rattle.lower.specs.Graphs.{graphs_of};
-ghost use Rattle.lower_lines.specs.Lowering.{KeepsOutcome};
+ghost use Rattle.lower_lines.specs.Lowering.{
+  AreSmall,
+  HasObjects,
+  HaveMarks,
+  HaveShapes,
+  KeepsOutcome,
+  MarksOnce,
+};
 ghost use Rattle.lower_lines.specs.Programs.{lowered};
 ghost use Rattle.lower_lines.specs.Words.{IsInMemory};
 
@@ -14,6 +21,7 @@ use crate::graphs::Graphs;
 use crate::objects::objects_of;
 use c_tree::Program;
 use flow_graph::{Graph, never_stuck};
+use lower_bounds::{graphs_are_small, marks_hold, objects_hold, shapes_hold};
 use lower_fits::graphs_are_there;
 use lower_graphs::graph;
 use lower_programs::all_programs_lower;
@@ -51,12 +59,28 @@ pub fn lower(alloc: Global, program: &Program) -> Result<Graphs, NoMemory>
     // Each graph is one, and each of its blocks is ended; ops name functions and objects of the graphs alone; each
     // object is one.
     ensures well_formed { IfOk result (λ graphs. IsGraphProgram (graphs_of graphs)) }
+
+    // The first variables are the locals, frame arrays are the functions', blocks are ended, and frames are within their
+    // bound.
+    ensures shapes { IfOk result (λ graphs. HaveShapes (program_of program.now) (graphs_of graphs)) }
+    ensures has_objects { IfOk result (λ graphs. HasObjects (program_of program.now) (graphs_of graphs)) }
+
+    // Each statement has one mark, in the graph of its function.
+    ensures marks { IfOk result (λ graphs. MarksOnce (graphs_of graphs)) }
+    ensures statements { IfOk result (λ graphs. HaveMarks (program_of program.now) (graphs_of graphs)) }
+
+    // The graphs grow no faster than the program.
+    ensures small { IfOk result (λ graphs. AreSmall (program_of program.now) (graphs_of graphs)) }
 {
     let functions = functions_of(alloc, program)?;
     let objects = objects_of(alloc, program.objects.as_slice())?;
     graphs_are_there();
     all_programs_lower();
     never_stuck();
+    shapes_hold();
+    objects_hold();
+    marks_hold();
+    graphs_are_small();
     Ok(Graphs {
         functions,
         objects,

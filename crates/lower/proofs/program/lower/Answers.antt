@@ -5,7 +5,7 @@ use Rattle.flow_graph.specs.Running.{IsNeverStuck}
 use Rattle.flow_graph.specs.States.{GraphProgram}
 use Rattle.flow_graph.specs.WellFormed.{IsGraphProgram}
 use Rattle.lower.specs.Graphs.{graphs_of}
-use Rattle.lower_lines.specs.Lowering.{KeepsOutcome}
+use Rattle.lower_lines.specs.Lowering.{AreSmall, HasObjects, HaveMarks, HaveShapes, KeepsOutcome, MarksOnce}
 use Rattle.lower_lines.specs.Programs.{lowered}
 use Rattle.lower_lines.specs.Shown.{variables_shown}
 use Rattle.lower.proofs.program.lower.Goals as goal
@@ -45,3 +45,53 @@ returns-clause-never_stuck c =
       c.all_programs_lower.ensures (program_of c.args.program.now) c.requires.typed c.requires.memory
           (λ (statement : ℕ). []) (λ statement. tt) input turns,
     )))
+
+pub returns-clause-shapes : goal.returns-clause-shapes
+returns-clause-shapes c =
+    let e : graphs_of record {
+      functions = c.in_ok-functions.functions;
+      objects = c.in_ok-objects.objects;
+      main = c.args.program.now.main;
+    } ≡ lowered (program_of c.args.program.now) = search rules in
+    subst (λ (g : GraphProgram). HaveShapes (program_of c.args.program.now) g) (sym e)
+    (c.shapes_hold.ensures (program_of c.args.program.now) c.requires.typed)
+
+pub returns-clause-has_objects : goal.returns-clause-has_objects
+returns-clause-has_objects c =
+    let e : graphs_of record {
+      functions = c.in_ok-functions.functions;
+      objects = c.in_ok-objects.objects;
+      main = c.args.program.now.main;
+    } ≡ lowered (program_of c.args.program.now) = search rules in
+    subst (λ (g : GraphProgram). HasObjects (program_of c.args.program.now) g) (sym e)
+    (c.objects_hold.ensures (program_of c.args.program.now))
+
+pub returns-clause-marks : goal.returns-clause-marks
+returns-clause-marks c =
+    let e : graphs_of record {
+      functions = c.in_ok-functions.functions;
+      objects = c.in_ok-objects.objects;
+      main = c.args.program.now.main;
+    } ≡ lowered (program_of c.args.program.now) = search rules in
+    subst (λ (g : GraphProgram). MarksOnce g) (sym e)
+    ((c.marks_hold.ensures (program_of c.args.program.now) c.requires.typed).0)
+
+pub returns-clause-statements : goal.returns-clause-statements
+returns-clause-statements c =
+    let e : graphs_of record {
+      functions = c.in_ok-functions.functions;
+      objects = c.in_ok-objects.objects;
+      main = c.args.program.now.main;
+    } ≡ lowered (program_of c.args.program.now) = search rules in
+    subst (λ (g : GraphProgram). HaveMarks (program_of c.args.program.now) g) (sym e)
+    ((c.marks_hold.ensures (program_of c.args.program.now) c.requires.typed).1)
+
+pub returns-clause-small : goal.returns-clause-small
+returns-clause-small c =
+    let e : graphs_of record {
+      functions = c.in_ok-functions.functions;
+      objects = c.in_ok-objects.objects;
+      main = c.args.program.now.main;
+    } ≡ lowered (program_of c.args.program.now) = search rules in
+    subst (λ (g : GraphProgram). AreSmall (program_of c.args.program.now) g) (sym e)
+    (c.graphs_are_small.ensures (program_of c.args.program.now) c.requires.typed c.requires.memory)
