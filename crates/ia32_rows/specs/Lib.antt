@@ -2,6 +2,7 @@ pub mod Moves
 pub mod Computing
 pub mod Passing
 pub mod Accesses
+pub mod Clearing
 pub mod Rows
 pub mod Right
 pub mod Worked
