@@ -301,7 +301,7 @@ few-elements code input g s word width elements supported state shown some (inr 
     start : (d m w : ℕ) → d + m + 4 ≤ w → d ≤ w
     start d m w h = omega (arith, h)
 
-    counted : (w l z b size words : ℕ) → 0 < w → w * l ≡ z → 16 + z ≤ b → b + 4 ≤ size → 8 + size + words ≤ 16384
+    counted : (w l z b size words : ℕ) → 0 < w → w * l ≤ z → 16 + z ≤ b → b + 4 ≤ size → 8 + size + words ≤ 16384
         → l ≤ 2147483648
     counted w l z b size words some all inside header bytes =
         let more = mul-le 1 l w l some (omega arith) in

@@ -21,7 +21,7 @@ use Rattle.ia32_keeps.specs.Laws.{data_end}
 use Rattle.ia32_keeps.specs.Supports.{IsSupported}
 use Rattle.ia32_keeps.proofs.Apart.{image-object}
 use Rattle.ia32_keeps.proofs.Objects.{object-in, objects-apart}
-use Rattle.ia32_keeps.proofs.Regions.{IsArrayOf, array-above, other-array-apart}
+use Rattle.ia32_keeps.proofs.Regions.{IsArrayOf, array-above, other-array-apart, region-of}
 use Rattle.ia32_keeps.proofs.Zones.{activation-at}
 use Rattle.ia32_comparisons.specs.Laws.{AddressesTell}
 
@@ -137,7 +137,9 @@ arrays-differ code input g s k depth l other m n h state shown one two distinct 
     let first = one.youngest in
     let second = two.youngest in
     apart m (a.width * length a.elements) n b.width same a.some b.wide
-    (other-array-apart code input g s (length (active_of g) - depth) k m a.width a.elements n b.width h state shown a.is
+    (other-array-apart code input g s (length (active_of g) - depth) k m a.width a.elements (a.width * length a.elements) n
+    b.width h state shown a.is
+    (region-of code input g s (length (active_of g) - depth) k m a.width a.elements h state shown a.is).all
     (record {
       call = length (active_of g) - other;
       activation = i.activation;

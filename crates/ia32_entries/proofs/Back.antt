@@ -119,7 +119,7 @@ module _ (code : Code) (input : List ℕ) (g : graph.State) (s t : machine.State
       front : (size at d x : ℕ) → d + 4 ≤ size → x + d ≡ at → size ≤ at → 4 ≤ x
       front size at d x h e k = omega arith
 
-      spanned : (x d f b n m k : ℕ) → m ≡ k → x + d ≡ f → x ≤ b + 4 → b + n ≤ x + m
+      spanned : (x d f b n m k : ℕ) → m ≤ k → x + d ≡ f → x ≤ b + 4 → b + n ≤ x + m
           → (f ≤ b + d + 4) × (b + n + d ≤ f + k)
       spanned x d f b n m k e h l o = (omega arith, omega arith)
 

@@ -1,6 +1,6 @@
 -- A call that has just begun: its variables and the elements of its arrays are 0.
-use Rattle.std.proofs.Common.{◌≡◌, ◌⊎◌, ℕ, zero, suc, ◌+◌, ◌-◌, ◌*◌, ◌%◌, ◌^◌, ◌<◌, ◌≤◌, ℤ, pos, List, [], ◌∷◌, length}
-use Rattle.std.proofs.Common.{Option, Some, None, Ok, inl, inr, refl, sym, ap, subst, ◌∙◌, arith, replicate}
+use Rattle.std.proofs.Common.{◌≡◌, ◌⊎◌, ℕ, zero, suc, ◌+◌, ◌-◌, ◌*◌, ◌/◌, ◌%◌, ◌^◌, ◌<◌, ◌≤◌, ℤ, pos, List, []}
+use Rattle.std.proofs.Common.{◌∷◌, length, Option, Some, None, Ok, inl, inr, refl, sym, ap, subst, ◌∙◌, arith, replicate}
 use Rattle.std.specs.Prelude.{map, slice_get}
 use Rattle.std.specs.Int.{w32, cast_unsigned}
 use Rattle.std.proofs.Math.ListN.{length-replicate}
@@ -141,8 +141,12 @@ elements-apart frame size arrays belows k d b n array inside room has placed low
     ]
 
 -- an element is within its array
-element-high : (w i count : ℕ) → i < count → w * i + w ≤ w * count
-element-high w i count lt = omega (arith, mul-suc w i, mul-le w (suc i) w count (omega arith) lt)
+element-high : (w i count : ℕ) → i < count → w * i + w ≤ (w * count + 3) / 4 * 4
+element-high w i count lt =
+    words (w * i + w) (w * count) (omega (arith, mul-suc w i, mul-le w (suc i) w count (omega arith) lt))
+  where
+    words : (m n : ℕ) → m ≤ n → m ≤ (n + 3) / 4 * 4
+    words m n h = omega arith
 
 fresh-elements : (frame size : ℕ) (arrays : List (ℕ × ℕ)) (belows : List ℕ) (k d address : ℕ) (array : ℕ × ℕ)
     (u : machine.State) → AreArraysIn arrays size belows → size ≤ frame → IsArray array

@@ -1,6 +1,6 @@
 -- What is protected has no byte in common with the places of the current call's variables, nor with the stack below.
-use Rattle.std.proofs.Common.{◌≡◌, ◌⊎◌, ℕ, zero, suc, ◌+◌, ◌-◌, ◌*◌, ◌<◌, ◌≤◌, ℤ, List, length, Some, inl, inr}
-use Rattle.std.proofs.Common.{refl, sym, ap, subst, ◌∙◌, arith}
+use Rattle.std.proofs.Common.{◌≡◌, ◌⊎◌, ℕ, zero, suc, ◌+◌, ◌-◌, ◌*◌, ◌/◌, ◌<◌, ◌≤◌, ℤ, List, length, Some, inl}
+use Rattle.std.proofs.Common.{inr, refl, sym, ap, subst, ◌∙◌, arith}
 use Rattle.std.specs.Prelude.{slice_get, option_map}
 use Rattle.std.proofs.Math.Nat.{mul-suc}
 use Rattle.std.proofs.lemmas.Nat.{mul-le}
@@ -114,11 +114,15 @@ object-read code g a n supported state h =
 
 -- ---- frame arrays
 
+-- so many bytes are among their words
+whole-words : (n : ℕ) → n ≤ (n + 3) / 4 * 4
+whole-words n = omega arith
+
 -- where an array of an active call stands
 pub record IsFrameArray (code : Code) (a : Activation) (frame k below address : ℕ) (array : ℕ × ℕ)
     (elements : List ℤ) : Type 0 where
   pub inside : IsArrayIn (frame_size code a) array below
-  pub size : array.0 * length elements ≡ size_of array
+  pub size : array.0 * length elements ≤ size_of array
   pub room : frame_size code a ≤ frame
 
 pub frame-array : (code : Code) (g : graph.State) (frames : List ℕ) (i : ℕ) (a : Activation)
@@ -134,7 +138,7 @@ frame-array code g frames i a frame k below address array elements supported sta
     has).many in
     record {
       inside = (supported.supports a.function active.function).arrays.inside k below array declared placed;
-      size = ap (λ (n : ℕ). array.0 * n) many;
+      size = subst (λ (n : ℕ). array.0 * n ≤ size_of array) (sym many) (whole-words (array.0 * array.1));
       room = room;
     }
 
@@ -235,7 +239,7 @@ array-read-somewhere code input g s a n supported state shown h =
         front : (x b f m : ℕ) → x + b ≡ f → b + 4 ≤ m → m ≤ f → 4 ≤ x
         front x b f m e h k = omega arith
 
-        spanned : (x b f a n m k : ℕ) → m ≡ k → x + b ≡ f → x ≤ a + 4 → a + n ≤ x + m
+        spanned : (x b f a n m k : ℕ) → m ≤ k → x + b ≡ f → x ≤ a + 4 → a + n ≤ x + m
             → (f ≤ a + b + 4) × (a + n + b ≤ f + k)
         spanned x b f a n m k e h l o = (omega arith, omega arith)
 

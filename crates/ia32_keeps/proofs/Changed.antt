@@ -25,7 +25,7 @@ use Rattle.ia32_shows.specs.Shows.{ElementsStand, FrameArraysStand, HoldsOldArra
 use Rattle.ia32_shows.specs.Shows.{IsFrameArrayAt, StandsIn}
 use Rattle.graph_states.proofs.Active.{length-active}
 use Rattle.graph_states.proofs.Changes.{are-there}
-use Rattle.ia32_keeps.specs.Supports.{IsPlaceFor, IsSupported, Supports, SupportsPoint}
+use Rattle.ia32_keeps.specs.Supports.{IsPlaceFor, IsSupported, Supports, SupportsPoint, size_of}
 use Rattle.ia32_keeps.specs.Protected.{FrameArrayReads, IsCallRead, IsSame, ObjectReads}
 use Rattle.ia32_keeps.specs.Laws.{ArrayShows, Arrives, IsSameRegister, KeepsOutside, data_end, moved_to}
 use Rattle.ia32_keeps.proofs.Objects.{depth-in}
@@ -35,7 +35,7 @@ use Rattle.ia32_keeps.proofs.Shown.{same-waits}
 use Rattle.ia32_keeps.proofs.Zones.{IsCallAt, IsSlotOf, argument-read-of, chain-read-of}
 use Rattle.ia32_keeps.proofs.Apart.{element-within, object-read}
 use Rattle.ia32_keeps.proofs.Regions.{IsArrayOf, IsPart, IsStatic, array-above, other-array-apart, other-object-apart}
-use Rattle.ia32_keeps.proofs.Regions.{part-above, part-apart, static-ends}
+use Rattle.ia32_keeps.proofs.Regions.{part-above, part-apart, region-of, static-ends}
 
 -- ---- apart from all that is read of calls and of the current variables
 
@@ -45,7 +45,7 @@ record HasApart (code : Code) (g : graph.State) (frames : List ℕ) (base first 
       (placement_of code g.current.function) v (InSlot slot) → n ≤ 4 → AreDisjoint first bytes (base - slot) n
 
 -- the current call at EBP
-current-at : (code : Code) (input : List ℕ) (g : graph.State) (s : machine.State) → (shown : Shows code input g s)
+pub current-at : (code : Code) (input : List ℕ) (g : graph.State) (s : machine.State) → (shown : Shows code input g s)
     → IsCallAt g shown.frames 0 g.current (word_of Ebp s)
 current-at code input g s shown =
     record { is_active = refl; at_frame = ap (λ (fs : List ℕ). slice_get fs 0) shown.youngest }
@@ -73,21 +73,22 @@ by-part code input g s P supported state shown depth part at n (inr (inr h)) =
 
 -- a frame array is apart from it
 array-has-apart : (code : Code) (input : List ℕ) (g : graph.State) (s : machine.State) (c k address width : ℕ)
-    (elements : List ℤ) → IsSupported code → IsState code.program g → (shown : Shows code input g s)
-    → IsArrayOf code g shown.frames c k address width elements
-    → HasApart code g shown.frames (word_of Ebp s) address (width * length elements)
-array-has-apart code input g s c k address width elements supported state shown h =
+    (elements : List ℤ) (bytes : ℕ) → IsSupported code → IsState code.program g → (shown : Shows code input g s)
+    → (h : IsArrayOf code g shown.frames c k address width elements) → bytes ≤ size_of h.array
+    → HasApart code g shown.frames (word_of Ebp s) address bytes
+array-has-apart code input g s c k address width elements bytes supported state shown h few =
     record {
-      calls = by-part code input g s (AreDisjoint address (width * length elements)) supported state shown
+      calls = by-part code input g s (AreDisjoint address bytes) supported state shown
           (inr (counted (data_start code.text) (length (data_bytes
           (objects_of code.program))) code.symbols.depth address
           supported.is_code.text.depth_is (depth-in (objects_of code.program))
           (array-above code input g s c k address width elements supported state shown h)))
           (λ j a frame at n other part.
-          part-apart code input g s c k address width elements j a frame at n supported state shown h other part);
+          part-apart code input g s c k address width elements bytes j a frame at n supported state shown h few other
+          part);
       slots = λ v slot n place short.
-          part-apart code input g s c k address width elements 0 g.current (word_of Ebp s) (word_of Ebp s - slot) n
-          supported state shown h (current-at code input g s shown) (inr (v, slot, place, refl, short));
+          part-apart code input g s c k address width elements bytes 0 g.current (word_of Ebp s) (word_of Ebp s - slot) n
+          supported state shown h few (current-at code input g s shown) (inr (v, slot, place, refl, short));
     }
   where
     counted : (s m d x : ℕ) → d ≡ s → 4 ≤ m → s + m + 4 ≤ x → d + 4 ≤ x
@@ -357,27 +358,27 @@ StandsAt code t frame f l elements =
     × (slice_get (placement_of code f).arrays l ≡ Some below) × (address + below ≡ frame)
     × ElementsStand t address array.0 elements
 
--- so the array of the call at a place may change
+-- so the array of the call at a place may change, up to the end of its last word
 frame-shows : (code : Code) (input : List ℕ) (g : graph.State) (s t : machine.State) (o : Op) (c k address width : ℕ)
-    (elements new : List ℤ) (block point : ℕ) (left : List ℕ) (taken : ℕ) (written : List ℕ)
+    (elements new : List ℤ) (bytes block point : ℕ) (left : List ℕ) (taken : ℕ) (written : List ℕ)
     (arrays : List (List ℤ)) (after : List Waiting) → IsSupported code → IsState code.program g
     → (shown : Shows code input g s) → op_at code.program g ≡ Some o → defined o ≡ None
-    → IsArrayOf code g shown.frames c k address width elements
-    → KeepsOutside code g address (width * length elements) s t → ElementsStand t address width new
+    → (mine : IsArrayOf code g shown.frames c k address width elements) → bytes ≤ size_of mine.array
+    → KeepsOutside code g address bytes s t → ElementsStand t address width new
     → Arrives code input g (moved_to block point left taken written g) t → HasArrays g.current.arrays arrays
     → AllZip IsWaitAlike g.waiting after
     → ((i : ℕ) (b : Activation) → slice_get (remade g.current.variables arrays g.current
     ∷ map (λ w. w.activation) after) i ≡ Some b → IsChangedAt g c k new i b)
     → Shows code input
     (next_state g.current.variables arrays after g.objects (moved_to block point left taken written g)) t
-frame-shows code input g s t o c k address width elements new block point left taken written arrays after supported
-    state shown has none mine keeps stand arrives arrays_there waits changed =
-    array-next code input g s t o block point left taken written arrays after g.objects address
-    (width * length elements) supported state shown has none
-    (array-has-apart code input g s c k address width elements supported state shown mine) keeps arrays_there waits
-    arrives
+frame-shows code input g s t o c k address width elements new bytes block point left taken written arrays after
+    supported state shown has none mine few keeps stand arrives arrays_there waits changed =
+    array-next code input g s t o block point left taken written arrays after g.objects address bytes supported state
+    shown has none
+    (array-has-apart code input g s c k address width elements bytes supported state shown mine few) keeps arrays_there
+    waits arrives
     (λ i b e. old i b (changed i b e))
-    (λ l es e. kept-object code input g s t address (width * length elements) shown keeps l es e
+    (λ l es e. kept-object code input g s t address bytes shown keeps l es e
     (λ at n h is. inr (below at n h)))
     (λ i b frame e f l es there. each i b frame l es (changed i b e) f ((changed i b e).arrays l es there))
   where
@@ -420,27 +421,27 @@ frame-shows code input g s t o c k address width elements new block point left t
         (subst (λ (fr : ℕ). StandsAt code t fr mine.activation.function k new) where_is there)))
     each i b frame l es h f (inr (distinct, there)) =
         subst (λ (fn : ℕ). StandsAt code t frame fn l es) (sym h.function)
-        (kept-array code input g s t address (width * length elements) shown keeps i h.before frame
+        (kept-array code input g s t address bytes shown keeps i h.before frame
         (record { is_active = h.is_active; at_frame = f }) l es there
         (λ at n r is number.
-        other-array-apart code input g s c k address width elements at n supported state shown mine r
+        other-array-apart code input g s c k address width elements bytes at n supported state shown mine few r
         (λ p. distinct (sym is ∙ p.0, sym number ∙ p.1))))
 
 -- ---- the current call's, and a waiting one's
 
-current-shows : (code : Code) (input : List ℕ) (g : graph.State) (s t : machine.State) (o : Op) (k address width : ℕ)
-    (elements new : List ℤ) (block point : ℕ) (left : List ℕ) (taken : ℕ) (written : List ℕ) → IsSupported code
+pub current-shows : (code : Code) (input : List ℕ) (g : graph.State) (s t : machine.State) (o : Op) (k address width : ℕ)
+    (elements new : List ℤ) (bytes block point : ℕ) (left : List ℕ) (taken : ℕ) (written : List ℕ) → IsSupported code
     → IsState code.program g → (shown : Shows code input g s) → op_at code.program g ≡ Some o → defined o ≡ None
-    → IsArrayOf code g shown.frames 0 k address width elements
-    → KeepsOutside code g address (width * length elements) s t → ElementsStand t address width new
+    → (mine : IsArrayOf code g shown.frames 0 k address width elements) → bytes ≤ size_of mine.array
+    → KeepsOutside code g address bytes s t → ElementsStand t address width new
     → Arrives code input g (moved_to block point left taken written g) t
     → Shows code input
     (next_state g.current.variables (slice_set g.current.arrays k new) g.waiting g.objects
     (moved_to block point left taken written g)) t
-current-shows code input g s t o k address width elements new block point left taken written supported state shown has
-    none mine keeps stand arrives =
-    frame-shows code input g s t o 0 k address width elements new block point left taken written
-    (slice_set g.current.arrays k new) g.waiting supported state shown has none mine keeps stand arrives
+current-shows code input g s t o k address width elements new bytes block point left taken written supported state shown
+    has none mine few keeps stand arrives =
+    frame-shows code input g s t o 0 k address width elements new bytes block point left taken written
+    (slice_set g.current.arrays k new) g.waiting supported state shown has none mine few keeps stand arrives
     (set-has g.current.arrays k new) (same-waits g.waiting) changed
   where
     changed : (i : ℕ) (b : Activation) → slice_get (remade g.current.variables (slice_set g.current.arrays k new)
@@ -498,8 +499,10 @@ waiting-shows : (code : Code) (input : List ℕ) (g : graph.State) (s t : machin
     (moved_to block point left taken written g)) t
 waiting-shows code input g s t o p k address width w elements new block point left taken written supported state shown
     has none there mine keeps stand arrives =
-    frame-shows code input g s t o (suc p) k address width elements new block point left taken written g.current.arrays
-    (slice_set g.waiting p v) supported state shown has none mine keeps stand arrives (λ j es e. (es, e))
+    frame-shows code input g s t o (suc p) k address width elements new (width * length elements) block point left taken
+    written g.current.arrays (slice_set g.waiting p v) supported state shown has none mine
+    (region-of code input g s (suc p) k address width elements supported state shown mine).all keeps stand arrives
+    (λ j es e. (es, e))
     (waits-set g.waiting p k new w there) changed
   where
     v : Waiting
@@ -640,17 +643,20 @@ array-shows code input g s t o (InFrame k depth) address width elements new bloc
         (if test then record m { current = with_elements k new m.current }
         else record m { waiting = waiting_with k new place (slice_get m.waiting place) m.waiting }) t
     chosen true test =
-        current-shows code input g s t o k address width elements new block point left taken written supported state
-        shown has none (array-of code g shown.frames 0 k depth address width g.current elements
-        (first (length (active_of g)) (depth_of g) depth (length-active g) (alike depth (depth_of g) test)) refl
-        (subst (λ (b : Bool). elements_in code.program k (call b) ≡ Some (width, elements)) test is) at) keeps stand
-        arrives
+        current-shows code input g s t o k address width elements new (width * length elements) block point left taken
+        written supported state shown has none mine
+        (region-of code input g s 0 k address width elements supported state shown mine).all keeps stand arrives
       where
         alike : (a b : ℕ) → (a == b) ≡ true → a ≡ b
         alike a b e = grind (arith, nat_tests)
 
         first : (a b d : ℕ) → a ≡ b → d ≡ b → a - d ≡ 0
         first a b d e f = omega arith
+
+        mine : IsArrayOf code g shown.frames 0 k address width elements
+        mine = array-of code g shown.frames 0 k depth address width g.current elements
+            (first (length (active_of g)) (depth_of g) depth (length-active g) (alike depth (depth_of g) test)) refl
+            (subst (λ (b : Bool). elements_in code.program k (call b) ≡ Some (width, elements)) test is) at
     chosen false test =
         older (slice_get g.waiting place) refl test
         (subst (λ (b : Bool). elements_in code.program k (call b) ≡ Some (width, elements)) test is)

@@ -13,4 +13,5 @@ pub mod Ops
 pub mod Marks
 pub mod Copies
 pub mod Stored
+pub mod Owned
 pub mod Changes

@@ -62,13 +62,13 @@ IsPart code a frame at n =
     (InSlot slot)
     × (at ≡ frame - slot) × (n ≤ 4))
 
--- what is known of the bytes of the array's elements
+-- what is known of so many bytes from the array's address on, which are among those of its elements
 pub record IsRegion (frame size first bytes below z : ℕ) : Type 0 where
   pub at_frame : first + below ≡ frame
   pub inside : 16 + z ≤ below
   pub header : below + 4 ≤ size
   pub room : size ≤ frame
-  pub all : bytes ≡ z
+  pub all : bytes ≤ z
 
 pub region-of : (code : Code) (input : List ℕ) (g : graph.State) (s : machine.State) (c k address width : ℕ)
     (elements : List ℤ) → IsSupported code → IsState code.program g → (shown : Shows code input g s)
@@ -84,23 +84,28 @@ region-of code input g s c k address width elements supported state shown h =
       inside = there.inside.low;
       header = there.inside.high;
       room = room;
-      all = ap (λ (n : ℕ). n * length elements) (sym h.width_is) ∙ there.size;
+      all = subst (λ (n : ℕ). n * length elements ≤ size_of h.array) h.width_is there.size;
     }
+
+-- as many bytes as the elements have, up to the end of their last word, are among them
+pub words-region : (code : Code) (input : List ℕ) (g : graph.State) (s : machine.State) (c k address width : ℕ)
+    (elements : List ℤ) (bytes : ℕ) → IsSupported code → IsState code.program g → (shown : Shows code input g s)
+    → (h : IsArrayOf code g shown.frames c k address width elements) → bytes ≤ size_of h.array
+    → IsRegion h.frame (frame_size code h.activation) address bytes h.below (size_of h.array)
+words-region code input g s c k address width elements bytes supported state shown h few =
+    let r = region-of code input g s c k address width elements supported state shown h in
+    record { at_frame = r.at_frame; inside = r.inside; header = r.header; room = r.room; all = few }
 
 -- the part of another call, or of the same
 pub part-apart : (code : Code) (input : List ℕ) (g : graph.State) (s : machine.State) (c k address width : ℕ)
-    (elements : List ℤ) (j : ℕ) (a : Activation) (frame at n : ℕ) → IsSupported code → IsState code.program g
-    → (shown : Shows code input g s) → IsArrayOf code g shown.frames c k address width elements
-    → IsCallAt g shown.frames j a frame → IsPart code a frame at n
-    → AreDisjoint address (width * length elements) at n
-part-apart code input g s c k address width elements j a frame at n supported state shown h other part =
+    (elements : List ℤ) (m j : ℕ) (a : Activation) (frame at n : ℕ) → IsSupported code → IsState code.program g
+    → (shown : Shows code input g s) → (h : IsArrayOf code g shown.frames c k address width elements)
+    → m ≤ size_of h.array → IsCallAt g shown.frames j a frame → IsPart code a frame at n → AreDisjoint address m at n
+part-apart code input g s c k address width elements m j a frame at n supported state shown h few other part =
     ordered (less-or-more j c)
   where
-    m : ℕ
-    m = width * length elements
-
     r : IsRegion h.frame (frame_size code h.activation) address m h.below (size_of h.array)
-    r = region-of code input g s c k address width elements supported state shown h
+    r = words-region code input g s c k address width elements m supported state shown h few
 
     room : frame_size code a ≤ frame
     room = frame-room code input g s j a frame supported state shown other
@@ -127,7 +132,7 @@ part-apart code input g s c k address width elements j a frame at n supported st
         (frame_size code a) frame at r.at_frame r.inside r.all
         (calls-above code input g s c j h.activation a h.frame frame shown lt h.is other) (zone part).0)
       where
-        counted : (e x b m z l w f a : ℕ) → x + b ≡ e → 16 + z ≤ b → m ≡ z → e + 8 + 4 * l + w ≤ f → f ≤ a + w
+        counted : (e x b m z l w f a : ℕ) → x + b ≡ e → 16 + z ≤ b → m ≤ z → e + 8 + 4 * l + w ≤ f → f ≤ a + w
             → x + m ≤ a
         counted e x b m z l w f a h i j k o = omega arith
 
@@ -159,7 +164,7 @@ part-apart code input g s c k address width elements j a frame at n supported st
             within e declared placed (inl p) =
                 inl (counted h.frame frame address h.below m (size_of h.array) at e r.at_frame r.inside r.all p.0)
               where
-                counted : (e f x b m z a : ℕ) → e ≡ f → x + b ≡ e → 16 + z ≤ b → m ≡ z → f ≤ a + 4 → x + m ≤ a
+                counted : (e f x b m z a : ℕ) → e ≡ f → x + b ≡ e → 16 + z ≤ b → m ≤ z → f ≤ a + 4 → x + m ≤ a
                 counted e f x b m z a g h i j k = omega arith
             within e declared placed (inr (v, slot, place, is, long)) =
                 beside (place.apart k h.below h.array declared placed)
@@ -168,7 +173,7 @@ part-apart code input g s c k address width elements j a frame at n supported st
                     → a + n ≤ x
                 front e f x b s z a n g h i j k l o = omega arith
 
-                back : (e f x b s m z a : ℕ) → e ≡ f → x + b ≡ e → s + z ≤ b → m ≡ z → a ≡ f - s → x + m ≤ a
+                back : (e f x b s m z a : ℕ) → e ≡ f → x + b ≡ e → s + z ≤ b → m ≤ z → a ≡ f - s → x + m ≤ a
                 back e f x b s m z a g h i j k = omega arith
 
                 beside : IsSlotApart slot h.array h.below → AreDisjoint address m at n
@@ -184,18 +189,15 @@ part-apart code input g s c k address width elements j a frame at n supported st
 
 -- another array of the same call, or one of another
 pub other-array-apart : (code : Code) (input : List ℕ) (g : graph.State) (s : machine.State) (c k address width : ℕ)
-    (elements : List ℤ) (at n : ℕ) → IsSupported code → IsState code.program g → (shown : Shows code input g s)
-    → IsArrayOf code g shown.frames c k address width elements
+    (elements : List ℤ) (m at n : ℕ) → IsSupported code → IsState code.program g → (shown : Shows code input g s)
+    → (mine : IsArrayOf code g shown.frames c k address width elements) → m ≤ size_of mine.array
     → (h : FrameArrayReads code (active_of g) shown.frames at n) → ((h.call ≡ c) × (h.number ≡ k) → ⊥)
-    → AreDisjoint address (width * length elements) at n
-other-array-apart code input g s c k address width elements at n supported state shown mine h distinct =
+    → AreDisjoint address m at n
+other-array-apart code input g s c k address width elements m at n supported state shown mine few h distinct =
     ordered (less-or-more h.call c)
   where
-    m : ℕ
-    m = width * length elements
-
     r : IsRegion mine.frame (frame_size code mine.activation) address m mine.below (size_of mine.array)
-    r = region-of code input g s c k address width elements supported state shown mine
+    r = words-region code input g s c k address width elements m supported state shown mine few
 
     other : IsArrayOf code g shown.frames h.call h.number h.address h.array.0 h.elements
     other = record {
@@ -228,7 +230,7 @@ other-array-apart code input g s c k address width elements at n supported state
         (calls-above code input g s c h.call mine.activation h.activation mine.frame h.frame shown lt mine.is other.is)
         q.at_frame q.header ends.0)
       where
-        counted : (e x b m z l w f y d a : ℕ) → x + b ≡ e → 16 + z ≤ b → m ≡ z → e + 8 + 4 * l + w ≤ f → y + d ≡ f
+        counted : (e x b m z l w f y d a : ℕ) → x + b ≡ e → 16 + z ≤ b → m ≤ z → e + 8 + 4 * l + w ≤ f → y + d ≡ f
             → d + 4 ≤ w → y ≤ a + 4 → x + m ≤ a
         counted e x b m z l w f y d a h i j k o p v = omega arith
 
@@ -240,7 +242,7 @@ other-array-apart code input g s c k address width elements at n supported state
         q.at_frame q.inside q.all ends.1)
       where
         counted : (e x b w l f y d m z a n : ℕ) → x + b ≡ e → b + 4 ≤ w → f + 8 + 4 * l + w ≤ e → y + d ≡ f
-            → 16 + z ≤ d → m ≡ z → a + n ≤ y + m → a + n ≤ x
+            → 16 + z ≤ d → m ≤ z → a + n ≤ y + m → a + n ≤ x
         counted e x b w l f y d m z a n h i j k o p v = omega arith
 
     same : h.call ≡ c → AreDisjoint address m at n
@@ -261,11 +263,11 @@ other-array-apart code input g s c k address width elements at n supported state
             (subst (λ (b : Activation). slice_get (placement_of code b.function).arrays k ≡ Some mine.below) call
             mine.placed) h.declared h.placed)
           where
-            front : (e f x b y d m z a n : ℕ) → e ≡ f → x + b ≡ e → y + d ≡ f → m ≡ z → b + 4 + z ≤ d → a + n ≤ y + m
+            front : (e f x b y d m z a n : ℕ) → e ≡ f → x + b ≡ e → y + d ≡ f → m ≤ z → b + 4 + z ≤ d → a + n ≤ y + m
                 → a + n ≤ x
             front e f x b y d m z a n g h i j k l = omega arith
 
-            back : (e f x b m z y d a : ℕ) → e ≡ f → x + b ≡ e → y + d ≡ f → m ≡ z → d + 4 + z ≤ b → y ≤ a + 4
+            back : (e f x b m z y d a : ℕ) → e ≡ f → x + b ≡ e → y + d ≡ f → m ≤ z → d + 4 + z ≤ b → y ≤ a + 4
                 → x + m ≤ a
             back e f x b m z y d a g h i j k l = omega arith
 

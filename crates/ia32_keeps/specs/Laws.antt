@@ -2,7 +2,7 @@
 use Rattle.std.specs.Prelude.{◌≡◌, ◌<◌, ◌≤◌, ◌⊎◌, ◌+◌, ◌-◌, ◌*◌, ◌%◌, ◌^◌, ⊤, ℕ, ℤ, List, length, drop, slice_get}
 use Rattle.std.specs.Prelude.{slice_set, Some, None, Ok}
 use Rattle.std.specs.Int.{w32, cast_unsigned}
-use Rattle.pcc_base.specs.Outcome.{ArrayName, Value}
+use Rattle.pcc_base.specs.Outcome.{ArrayName, InFrame as FrameArray, Value}
 use Rattle.ia32_regs.specs.declared.names.Reg32.TheVariants.{Esp, Ebp}
 use Rattle.ia32_places.specs.Places.{Place, InWord, InByte, InSlot}
 use Rattle.ia32_insn.specs.State as machine
@@ -19,7 +19,7 @@ use Rattle.ia32_shows.specs.Placements.{Code, objects_of, placement_of, point_ad
 use Rattle.ia32_shows.specs.Shows.{ElementsStand, IsArrayAt, IsOldArray, Shows, StandsIn}
 use Rattle.ia32_shows.specs.Sites.{Framed, SoundAt}
 use Rattle.ia32_effects.specs.Contains.{ApartFromPlace}
-use Rattle.ia32_keeps.specs.Supports.{IsPlaceFor, IsSupported, site_of}
+use Rattle.ia32_keeps.specs.Supports.{IsPlaceFor, IsSupported, site_of, size_of}
 use Rattle.ia32_keeps.specs.Protected.{IsProtected, KeepsShown}
 
 -- ---- where a state is shown
@@ -140,6 +140,21 @@ ArrayShows =
     → KeepsOutside code g address (width * length elements) s t → ElementsStand t address width new
     → Arrives code input g (moved_to block point left taken written g) t
     → Shows code input (with_array array new (moved_to block point left taken written g)) t
+
+-- Where an array of the current call does, all of its last word may change with it.
+abbrev pub OwnArrayShows : Type 0
+OwnArrayShows =
+    (code : Code) (input : List ℕ) (g : graph.State) (s t : machine.State) (o : Op) (k distance : ℕ)
+    (array : ℕ × ℕ) (elements new : List ℤ) (block point : ℕ) (left : List ℕ) (taken : ℕ) (written : List ℕ)
+    → IsSupported code → IsState code.program g → Shows code input g s → op_at code.program g ≡ Some o
+    → defined o ≡ None → slice_get g.current.arrays k ≡ Some elements
+    → slice_get (flow_at code.program g.current.function).arrays k ≡ Some array
+    → slice_get (placement_of code g.current.function).arrays k ≡ Some distance
+    → KeepsOutside code g (word_of Ebp s - distance) (size_of array) s t
+    → ElementsStand t (word_of Ebp s - distance) array.0 new
+    → Arrives code input g (moved_to block point left taken written g) t
+    → Shows code input
+    (with_array (FrameArray k (depth_of g)) new (moved_to block point left taken written g)) t
 
 -- Where one element is stored, it is shown once that stands in its place, and all outside its bytes is kept.
 abbrev pub ElementShows : Type 0

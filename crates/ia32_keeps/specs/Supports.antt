@@ -1,7 +1,7 @@
 -- Which placements a graph can have code over: where variables, frame arrays and their headers stand, and which places
 -- stay from a point to the next.
-use Rattle.std.specs.Prelude.{◌≡◌, ◌≢◌, ◌<◌, ◌≤◌, ◌⊎◌, ◌+◌, ◌*◌, ◌%◌, ⊤, ℕ, List, length, slice_get, slice_index_or}
-use Rattle.std.specs.Prelude.{Option, Some, None}
+use Rattle.std.specs.Prelude.{◌≡◌, ◌≢◌, ◌<◌, ◌≤◌, ◌⊎◌, ◌+◌, ◌*◌, ◌/◌, ◌%◌, ⊤, ℕ, List, length, slice_get}
+use Rattle.std.specs.Prelude.{slice_index_or, Option, Some, None}
 use Rattle.std.specs.List.{All, AllByRecursion}
 use Rattle.pcc_base.specs.declared.run.Width.{Width}
 use Rattle.pcc_base.specs.declared.run.Width.TheVariants.{One, Two}
@@ -24,9 +24,9 @@ use Rattle.ia32_effects.specs.Laws.{ArePlacesApart}
 
 -- ---- frame arrays
 
--- the bytes of an array's elements, where these are the bytes of one and their number
+-- the bytes of an array's elements, up to the end of their last word, where these are the bytes of one and their number
 abbrev pub size_of : ℕ × ℕ → ℕ
-size_of array = array.0 * array.1
+size_of array = (array.0 * array.1 + 3) / 4 * 4
 
 -- Element 0 stands so far below EBP: the elements end below the four words of the caller's registers and of scratch,
 -- and the four bytes of their number, before them, are in the frame.

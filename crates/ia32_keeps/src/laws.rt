@@ -1,6 +1,6 @@
 ghost use Rattle.ia32_keeps.specs.Supports.{SlotsSupport, OverSlotsSupport};
 ghost use Rattle.ia32_keeps.specs.Laws.{ShownInFrame, ProtectedIsApart, PushedIsApart, MovedShows, SetShows};
-ghost use Rattle.ia32_keeps.specs.Laws.{ArrayShows, ElementShows};
+ghost use Rattle.ia32_keeps.specs.Laws.{ArrayShows, OwnArrayShows, ElementShows};
 ghost use Rattle.ia32_keeps.specs.Ops.{ExtensionFollows};
 ghost use Rattle.ia32_keeps.specs.Ops.{NumberFollows, CopyFollows, SumFollows, DifferenceFollows, AndFollows};
 ghost use Rattle.ia32_keeps.specs.Ops.{OrFollows};
@@ -31,9 +31,11 @@ pub fn kept_stays_shown()
 {}
 
 /// The next state is shown once an array of any depth, or a static object, has other elements at its address, and all
-/// outside them is kept; so it is where one element is stored.
+/// outside them is kept; of an array of the current call, all outside their words. So it is where one element is
+/// stored.
 pub fn changed_array_is_shown()
     ensures array { ArrayShows }
+    ensures own_array { OwnArrayShows }
     ensures element { ElementShows }
 {}
 
