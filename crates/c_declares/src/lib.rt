@@ -1,6 +1,7 @@
-//! The law that an item of its own declares each array of a typed program. No code; `specs/Laws.antt` has the law.
+//! Laws of what declares and defines the parts of a typed program: an item of its own declares each array, and its
+//! definition names each function. No code; `specs/Laws.antt` has the laws.
 #![tactic(auto)]
 
 mod laws;
 
-pub use laws::arrays_are_declared;
+pub use laws::{arrays_are_declared, functions_are_named};
