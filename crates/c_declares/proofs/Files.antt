@@ -1,5 +1,5 @@
 -- The functions of files have the names of their definitions, and none has more arrays than tokens.
-use Rattle.std.proofs.Common.{arith, ◌≡◌, refl, ap, subst, ◌∙◌, ℕ, true, false, List, [], ◌∷◌, ◌++◌, map}
+use Rattle.std.proofs.Common.{arith, ◌≡◌, refl, sym, ap, subst, ◌∙◌, ℕ, true, false, List, [], ◌∷◌, ◌++◌, map}
 use Rattle.std.specs.Prelude.{Option, Some, None, is_some, unwrap_or, filter_map}
 use Rattle.pcc_base.specs.declared.span.Span.{Span}
 use Rattle.c_syntax.specs.declared.expression.Identifier.{Identifier}
@@ -80,55 +80,58 @@ parameters_many s (p ∷ ps) =
 
 -- ---- what defines no function
 
-stored_are : (e : Entity) (type : ObjectType) (c : Checked Contents) → IfFits (Are []) (stored e type [] c)
-stored_are e type (Fits a ns) = are_none
-stored_are e type (Fails f fs) = tt
+abbrev pub IsNone : List tree.Function → Type 0
+IsNone fs = fs ≡ []
 
-object_are : (said : Specified) (i : ItemTree) (s : Scope) → IfFits (Are []) (typed_object said i s)
-object_are said i s =
+stored_none : (e : Entity) (type : ObjectType) (c : Checked Contents) → IfFits IsNone (stored e type [] c)
+stored_none e type (Fits a ns) = refl
+stored_none e type (Fails f fs) = tt
+
+object_none : (said : Specified) (i : ItemTree) (s : Scope) → IfFits IsNone (typed_object said i s)
+object_none said i s =
     let name = i.declarator.name in
     let whole = is_some i.initialiser in
-    holds_if Always (Are []) (object_declared s said i.declarator i.initialiser)
+    holds_if Always IsNone (object_declared s said i.declarator i.initialiser)
     (λ type. also (redeclared_faults s name (outer_of s said name whole type))
     (if_fits (object_allowed true name.at type) (λ allowed. stored (outer_of s said name whole type).entity allowed []
     (contents_for (after_object said i s) allowed (without_value said) i.initialiser))))
     (always (object_declared s said i.declarator i.initialiser)) (λ type x.
-    holds_also (Are []) (redeclared_faults s name (outer_of s said name whole type))
+    holds_also IsNone (redeclared_faults s name (outer_of s said name whole type))
     (if_fits (object_allowed true name.at type) (λ allowed. stored (outer_of s said name whole type).entity allowed []
     (contents_for (after_object said i s) allowed (without_value said) i.initialiser)))
-    (holds_if Always (Are []) (object_allowed true name.at type) (λ allowed.
+    (holds_if Always IsNone (object_allowed true name.at type) (λ allowed.
     stored (outer_of s said name whole type).entity allowed []
     (contents_for (after_object said i s) allowed (without_value said) i.initialiser))
     (always (object_allowed true name.at type)) (λ allowed y.
-    stored_are (outer_of s said name whole type).entity allowed
+    stored_none (outer_of s said name whole type).entity allowed
     (contents_for (after_object said i s) allowed (without_value said) i.initialiser))))
 
-prototype_are : (said : Specified) (i : ItemTree) (ps : List ParameterTree) (s : Scope)
-    → IfFits (Are []) (typed_prototype said i ps s)
-prototype_are said i ps s =
-    holds_also (Are []) (no_initialiser i.initialiser)
+prototype_none : (said : Specified) (i : ItemTree) (ps : List ParameterTree) (s : Scope)
+    → IfFits IsNone (typed_prototype said i ps s)
+prototype_none said i ps s =
+    holds_also IsNone (no_initialiser i.initialiser)
     (if_fits (function_signature s said i.declarator false ps) (λ g. fits []))
-    (holds_if Always (Are []) (function_signature s said i.declarator false ps) (λ g. fits [])
-    (always (function_signature s said i.declarator false ps)) (λ g x. are_none))
+    (holds_if Always IsNone (function_signature s said i.declarator false ps) (λ g. fits [])
+    (always (function_signature s said i.declarator false ps)) (λ g x. refl))
 
-outer_item_are : (said : Specified) (i : ItemTree) (p : PartTree) (s : Scope)
-    → IfFits (Are []) (typed_outer_item said i p s)
-outer_item_are said i trees.Plain s = object_are said i s
-outer_item_are said i (trees.Array a) s = object_are said i s
-outer_item_are said i (trees.Function ps) s = prototype_are said i ps.parameters s
+outer_item_none : (said : Specified) (i : ItemTree) (p : PartTree) (s : Scope)
+    → IfFits IsNone (typed_outer_item said i p s)
+outer_item_none said i trees.Plain s = object_none said i s
+outer_item_none said i (trees.Array a) s = object_none said i s
+outer_item_none said i (trees.Function ps) s = prototype_none said i ps.parameters s
 
-both_are : (ms ns : List (List ℕ)) (c d : Checked (List tree.Function)) → IfFits (Are ms) c → IfFits (Are ns) d
-    → IfFits (Are (ms ++ ns)) (both c d (λ fs gs. fits (fs ++ gs)))
-both_are ms ns c d h g =
-    holds_both (Are ms) (Are ns) (Are (ms ++ ns)) c d (λ fs gs. fits (fs ++ gs)) h g
-    (λ fs gs x y. are_on ms ns fs gs x y)
-
-outer_items_are : (said : Specified) (is : List ItemTree) (s : Scope) → IfFits (Are []) (typed_outer_items said is s)
-outer_items_are said [] s = are_none
-outer_items_are said (i ∷ is) s =
+-- a declaration outside functions defines no function
+pub outer_items_none : (said : Specified) (is : List ItemTree) (s : Scope) → IfFits IsNone (typed_outer_items said is s)
+outer_items_none said [] s = refl
+outer_items_none said (i ∷ is) s =
     let t = after_outer_item said i i.declarator.part s in
-    both_are [] [] (typed_outer_item said i i.declarator.part s) (typed_outer_items said is t)
-    (outer_item_are said i i.declarator.part s) (outer_items_are said is t)
+    holds_both IsNone IsNone IsNone (typed_outer_item said i i.declarator.part s) (typed_outer_items said is t)
+    (λ fs gs. fits (fs ++ gs)) (outer_item_none said i i.declarator.part s) (outer_items_none said is t)
+    (λ fs gs x y. ap (λ zs. zs ++ gs) x ∙ y)
+
+are_empty : (c : Checked (List tree.Function)) → IfFits IsNone c → IfFits (Are []) c
+are_empty (Fits fs ns) e = subst (λ gs. Are [] gs) (sym e) are_none
+are_empty (Fails f fs) e = tt
 
 -- ---- definitions
 
@@ -162,7 +165,8 @@ items_said_are : (o : Option Specified) (at : Span) (d : trees.DeclarationTree) 
     → IfFits (Are []) (if_fits (or_fails o TypeRule at) (λ said. typed_outer_items said d.items s))
 items_said_are None at d s = tt
 items_said_are (Some said) at d s =
-    holds_noted (Are []) [] (typed_outer_items said d.items s) (outer_items_are said d.items s)
+    holds_noted (Are []) [] (typed_outer_items said d.items s)
+    (are_empty (typed_outer_items said d.items s) (outer_items_none said d.items s))
 
 abbrev named_by : ExternalTree → List (List ℕ)
 named_by e = cons_option (defined_name e) []
@@ -170,6 +174,12 @@ named_by e = cons_option (defined_name e) []
 named_first : (o : Option (List ℕ)) (ns : List (List ℕ)) → cons_option o [] ++ ns ≡ cons_option o ns
 named_first None ns = refl
 named_first (Some n) ns = refl
+
+both_are : (ms ns : List (List ℕ)) (c d : Checked (List tree.Function)) → IfFits (Are ms) c → IfFits (Are ns) d
+    → IfFits (Are (ms ++ ns)) (both c d (λ fs gs. fits (fs ++ gs)))
+both_are ms ns c d h g =
+    holds_both (Are ms) (Are ns) (Are (ms ++ ns)) c d (λ fs gs. fits (fs ++ gs)) h g
+    (λ fs gs x y. are_on ms ns fs gs x y)
 
 external_are : (e : ExternalTree) (s : Scope) → IfFits (Are (named_by e)) (typed_external e s)
 external_are (FunctionTree specifiers d body) s =
