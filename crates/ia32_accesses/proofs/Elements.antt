@@ -49,7 +49,7 @@ use Rattle.ia32_effects.proofs.Kept.{HasCells, PlaceHasCells, PlaceHasMemory, co
 use Rattle.ia32_effects.proofs.Moves.{byte-below, general-below, gives-word}
 use Rattle.ia32_effects.proofs.Straight.{leads-join, straight-goes}
 use Rattle.ia32_keeps.specs.Supports.{IsSupported, site_of}
-use Rattle.ia32_keeps.specs.Laws.{IsSameRegister, KeepsOutside, moved_to}
+use Rattle.ia32_keeps.specs.Laws.{Arrives, IsSameRegister, KeepsOutside, moved_to}
 use Rattle.ia32_keeps.proofs.Apart.{object-at}
 use Rattle.ia32_keeps.proofs.Memory.{address-at}
 use Rattle.ia32_keeps.proofs.Ops.{at-before, given-number, has-number, op-is}
@@ -146,6 +146,48 @@ array-onward code (InFrame k depth) new g = chosen (depth == depth_of g)
         })
         _ (λ q. refl) (point_after code.program g.current.function g.block g.point)
 
+-- where the machine came to what stands behind the row of such a step, with the input and the output as before, it
+-- follows the step once the state behind is shown
+pub array-follows : (code : Code) (input : List ℕ) (g : graph.State) (s t : machine.State) (o : Op) (array : ArrayName)
+    (new : List ℤ) (rest : List Item) → IsSupported code → IsState code.program g → Shows code input g s
+    → op_at code.program g ≡ Some o
+    → ((next : ℕ) → IsBehind (flow_at code.program g.current.function) g.point next
+    → LeadsTo (flow_at code.program g.current.function) g.point next o)
+    → SoundAt (site_of code g.current.function) t → Comes code.text s t
+    → ReadyAt (site_of code g.current.function) rest t → IsNext code g rest → t.left ≡ s.left → t.taken ≡ s.taken
+    → t.written ≡ s.written
+    → ((q : ℕ) → Arrives code input g (moved_to g.block q g.left g.taken g.written g) t
+    → Shows code input (with_array array new (moved_to g.block q g.left g.taken g.written g)) t)
+    → Follows code input s g false (onward code.program (with_array array new g))
+array-follows code input g s t o array new rest supported state shown has leads sound comes ready follows left taken
+    written shows =
+    subst (Follows code input s g false) (sym (array-onward code array new g))
+    (follow (point_after code.program g.current.function g.block g.point) refl)
+  where
+    follow : (next : Option ℕ) → point_after code.program g.current.function g.block g.point ≡ next
+        → Follows code input s g false
+        (leads_to (λ q. with_array array new (moved_to g.block q g.left g.taken g.written g)) next)
+    follow None e = tt
+    follow (Some q) e =
+        let site : Site = site_of code g.current.function in
+        let more = follows q e in
+        let there : ReadyAt site (item.Point q ∷ more.0) t =
+        subst (λ (xs : List Item). ReadyAt site xs t) more.1 ready in
+        let point = point-passed site.symbols site.places site.text q more.0 t there in (
+          t,
+          comes,
+          shows q (record {
+            leads = ((g.block, state.placed), o, has, leads q (g.block, e));
+            placed = following-in g.point q (points_of (flow_at code.program g.current.function) g.block) e;
+            sound = sound;
+            eip = sym point.0 ∙ sym (address-at code.places g.current.function q);
+            left = left ∙ shown.left;
+            taken = taken ∙ shown.taken;
+            written = written ∙ shown.written;
+            of_input = left ∙ shown.of_input ∙ ap (λ (k : ℕ). drop k input) (sym taken);
+          }),
+        )
+
 pub stored-follows : (code : Code) (input : List ℕ) (g : graph.State) (s u : machine.State) (o : Op) (array : ArrayName)
     (address width : ℕ) (elements : List ℤ) (i : ℕ) (z : ℤ) (after : ℕ) (rest : List Item) → IsSupported code
     → IsState code.program g → (shown : Shows code input g s) → op_at code.program g ≡ Some o → defined o ≡ None
@@ -160,8 +202,11 @@ pub stored-follows : (code : Code) (input : List ℕ) (g : graph.State) (s u : m
     → Follows code input s g false (onward code.program (with_array array (slice_set elements i z) g))
 stored-follows code input g s u o array address width elements i z after rest supported state shown has none leads is at
     within keeps held sound comes ready follows =
-    subst (Follows code input s g false) (sym (array-onward code array (slice_set elements i z) g))
-    (follow (point_after code.program g.current.function g.block g.point) refl)
+    array-follows code input g s t o array (slice_set elements i z) rest supported state shown has leads
+    (sound-at site.text site.low site.high after u sound) comes ready follows keeps.left keeps.taken keeps.written
+    (λ q arrives. element-shows code input g s t o array address width elements i z g.block q g.left g.taken g.written
+    supported state shown has none is at within outside
+    (load-same width (address + width * i) (cast_unsigned w32 z % 2 ^ (8 * width)) u t refl held) arrives)
   where
     site : Site
     site = site_of code g.current.function
@@ -185,32 +230,6 @@ stored-follows code input g s u o array address width elements i z after rest su
         moved (InWord r) h = h
         moved (InByte r) h = h
         moved (InSlot k) h = h
-
-    follow : (next : Option ℕ) → point_after code.program g.current.function g.block g.point ≡ next
-        → Follows code input s g false
-        (leads_to (λ q. with_array array (slice_set elements i z) (moved_to g.block q g.left g.taken g.written g)) next)
-    follow None e = tt
-    follow (Some q) e =
-        let more = follows q e in
-        let there : ReadyAt site (item.Point q ∷ more.0) t =
-        subst (λ (xs : List Item). ReadyAt site xs t) more.1 ready in
-        let point = point-passed site.symbols site.places site.text q more.0 t there in (
-          t,
-          comes,
-          element-shows code input g s t o array address width elements i z g.block q g.left g.taken g.written supported
-              state shown has none is at within outside
-              (load-same width (address + width * i) (cast_unsigned w32 z % 2 ^ (8 * width)) u t refl held)
-              (record {
-                leads = ((g.block, state.placed), o, has, leads q (g.block, e));
-                placed = following-in g.point q (points_of (flow_at code.program g.current.function) g.block) e;
-                sound = sound-at site.text site.low site.high after u sound;
-                eip = sym point.0 ∙ sym (address-at code.places g.current.function q);
-                left = keeps.left ∙ shown.left;
-                taken = keeps.taken ∙ shown.taken;
-                written = keeps.written ∙ shown.written;
-                of_input = keeps.left ∙ shown.of_input ∙ ap (λ (k : ℕ). drop k input) (sym keeps.taken);
-              }),
-        )
 
 -- ---- stored numbers
 

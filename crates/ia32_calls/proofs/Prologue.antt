@@ -366,7 +366,7 @@ made site frame f g h i pg qg ph qh pi qi =
     }
 
 -- LEA of an address below EBP
-lea-goes : (site : Site) (items : List Item) (r : Reg32) (d : ℕ) (s : State) → SoundAt site s
+pub lea-goes : (site : Site) (items : List Item) (r : Reg32) (d : ℕ) (s : State) → SoundAt site s
     → ReadyAt site (plain (insn.Lea r (below d)) ∷ items) s → 0 < d → d ≤ word_of Ebp s
     → (u : State) × Comes site.text s u × ReadyAt site items u × Sets site r (word_of Ebp s - d) s.written s u
 lea-goes site items r d s sound ready some within =

@@ -1,12 +1,8 @@
 -- A call that has just begun: its variables and the elements of its arrays are 0.
-use Rattle.std.proofs.Common.{◌≡◌, ◌⊎◌, ℕ, zero, suc, ◌+◌, ◌-◌, ◌*◌, ◌/◌, ◌%◌, ◌^◌, ◌<◌, ◌≤◌, ℤ, pos, List, []}
-use Rattle.std.proofs.Common.{◌∷◌, length, Option, Some, None, Ok, inl, inr, refl, sym, ap, subst, ◌∙◌, arith, replicate}
+use Rattle.std.proofs.Common.{◌≡◌, ◌⊎◌, ℕ, zero, suc, ◌+◌, ◌-◌, ◌<◌, ◌≤◌, ℤ, pos, List, []}
+use Rattle.std.proofs.Common.{◌∷◌, Option, Some, None, Ok, inl, inr, refl, sym, ap, subst, ◌∙◌, arith}
 use Rattle.std.specs.Prelude.{map, slice_get}
-use Rattle.std.specs.Int.{w32, cast_unsigned}
-use Rattle.std.proofs.Math.ListN.{length-replicate}
-use Rattle.std.proofs.Math.Nat.{mul-suc}
 use Rattle.std.proofs.lemmas.Bool.{cases_eq}
-use Rattle.std.proofs.lemmas.Nat.{mul-le}
 use Rattle.std.proofs.lemmas.Option.{none-some, same_Some, slice_get_within}
 use Rattle.pcc_base.specs.Outcome.{Value, Number}
 use Rattle.pcc_base.specs.declared.run.Width.{Width}
@@ -26,6 +22,7 @@ use Rattle.ia32_shows.specs.Placements.{Code, placement_of}
 use Rattle.ia32_shows.specs.Shows.{AllStand, ElementsStand, FrameArraysStand, InSlotOf, StandsIn}
 use Rattle.ia32_keeps.specs.Supports.{AreArraysIn, HoldsWidth, IsPlaceFor}
 use Rattle.ia32_keeps.specs.Supports.{IsSupported, Supports, site_of, size_of}
+use Rattle.ia32_keeps.proofs.Zeros.{zeros-stand}
 use Rattle.ia32_keeps.proofs.Zones.{frame_size}
 use Rattle.ia32_entries.specs.Called.{Called}
 use Rattle.ia32_entries.proofs.Begun.{Begun}
@@ -45,11 +42,6 @@ map-of : {X Y : Type 0} → (f : X → Y) (xs : List X) (k : ℕ) (y : Y) → sl
 map-of f [] k y e = absurd (none-some y e)
 map-of f (x ∷ xs) zero y e = (x, refl, same_Some (f x) y e)
 map-of f (x ∷ xs) (suc k) y e = map-of f xs k y e
-
-repeated : {X : Type 0} → (n : ℕ) (x y : X) (i : ℕ) → slice_get (replicate n x) i ≡ Some y → x ≡ y
-repeated zero x y i e = absurd (none-some y e)
-repeated (suc n) x y zero e = same_Some x y e
-repeated (suc n) x y (suc i) e = repeated n x y i e
 
 -- ---- variables
 
@@ -112,14 +104,6 @@ fresh-stand code input g s u h state c room b v value place e at =
 
 -- ---- arrays
 
-zero-part : (w : ℕ) → (w ≡ 1) ⊎ (w ≡ 2) ⊎ (w ≡ 4) → (0 < w) × (0 ≡ cast_unsigned w32 (pos 0) % 2 ^ (8 * w))
-zero-part w (inl e) = subst (λ (k : ℕ). (0 < k) × (0 ≡ cast_unsigned w32 (pos 0) % 2 ^ (8 * k))) (sym e)
-    (omega arith, refl)
-zero-part w (inr (inl e)) = subst (λ (k : ℕ). (0 < k) × (0 ≡ cast_unsigned w32 (pos 0) % 2 ^ (8 * k))) (sym e)
-    (omega arith, refl)
-zero-part w (inr (inr e)) = subst (λ (k : ℕ). (0 < k) × (0 ≡ cast_unsigned w32 (pos 0) % 2 ^ (8 * k))) (sym e)
-    (omega arith, refl)
-
 -- an element of an array is apart from the numbers of elements, its own and others
 own-apart : (frame size d b n : ℕ) → d + 4 ≤ size → size ≤ frame → frame - d ≤ b → AreDisjoint (frame - (d + 4)) 4 b n
 own-apart frame size d b n h room k = inl (omega arith)
@@ -140,14 +124,6 @@ elements-apart frame size arrays belows k d b n array inside room has placed low
           (inside.inside l o other e f).high room low high (inside.apart k l d o array other distinct has placed e f)
     ]
 
--- an element is within its array
-element-high : (w i count : ℕ) → i < count → w * i + w ≤ (w * count + 3) / 4 * 4
-element-high w i count lt =
-    words (w * i + w) (w * count) (omega (arith, mul-suc w i, mul-le w (suc i) w count (omega arith) lt))
-  where
-    words : (m n : ℕ) → m ≤ n → m ≤ (n + 3) / 4 * 4
-    words m n h = omega arith
-
 fresh-elements : (frame size : ℕ) (arrays : List (ℕ × ℕ)) (belows : List ℕ) (k d address : ℕ) (array : ℕ × ℕ)
     (u : machine.State) → AreArraysIn arrays size belows → size ≤ frame → IsArray array
     → slice_get arrays k ≡ Some array → slice_get belows k ≡ Some d → address + d ≡ frame
@@ -159,40 +135,27 @@ fresh-elements frame size arrays belows k d address array u inside room is has p
     let there = inside.inside k d array has placed in
     let low = there.low in
     let high = there.high in
-    let part = zero-part array.0 is.0 in (
-      subst (λ (a : ℕ). load 4 a u ≡ Ok (length (first_array array))) (header-at frame d address at)
-          (count ∙ ap (λ (n : ℕ). Ok n) (sym (length-replicate array.1 (pos 0)))),
-      λ i z e.
-          let same = repeated array.1 (pos 0) z i e in
-          let lt : i < array.1 = subst (λ (n : ℕ). i < n) (length-replicate array.1 (pos 0))
-          (slice_get_within (first_array array) i z e) in
-          let more = element-high array.0 i array.1 lt in (
-            0,
-            zeros array.0 (address + array.0 * i) (above frame size d address (array.0 * i) at high)
-                (below frame size d address (array.0 * i) array.0 (size_of array) at low more)
-                part.0
-                (elements-apart frame size arrays belows k d (address + array.0 * i) array.0 array inside room has
-                placed (from frame d address (array.0 * i) at)
-                (to frame d address (array.0 * i) array.0 (size_of array) at more)),
-            subst (λ (x : ℤ). 0 ≡ cast_unsigned w32 x % 2 ^ (8 * array.0)) same part.1,
-          ),
-    )
+    zeros-stand u address array is
+    (subst (λ (a : ℕ). load 4 a u ≡ Ok array.1) (header-at frame d address at) count)
+    (λ n b from to some. zeros n b (above frame size d address b at high from)
+    (below frame d address b n (size_of array) at low to) some
+    (elements-apart frame size arrays belows k d b n array inside room has placed (first frame d address b at from)
+    (last frame d address b n (size_of array) at to)))
   where
     header-at : (frame d address : ℕ) → address + d ≡ frame → frame - (d + 4) ≡ address - 4
     header-at frame d address h = omega arith
 
-    above : (frame size d address m : ℕ) → address + d ≡ frame → d + 4 ≤ size → frame ≤ address + m + size
-    above frame size d address m h k = omega arith
+    above : (frame size d address b : ℕ) → address + d ≡ frame → d + 4 ≤ size → address ≤ b → frame ≤ b + size
+    above frame size d address b h k l = omega arith
 
-    below : (frame size d address m w z : ℕ) → address + d ≡ frame → 16 + z ≤ d → m + w ≤ z
-        → address + m + w + 12 ≤ frame
-    below frame size d address m w z h k l = omega arith
+    below : (frame d address b n z : ℕ) → address + d ≡ frame → 16 + z ≤ d → b + n ≤ address + z → b + n + 12 ≤ frame
+    below frame d address b n z h k l = omega arith
 
-    from : (frame d address m : ℕ) → address + d ≡ frame → frame - d ≤ address + m
-    from frame d address m h = omega arith
+    first : (frame d address b : ℕ) → address + d ≡ frame → address ≤ b → frame - d ≤ b
+    first frame d address b h k = omega arith
 
-    to : (frame d address m w z : ℕ) → address + d ≡ frame → m + w ≤ z → address + m + w + d ≤ frame + z
-    to frame d address m w z h k = omega arith
+    last : (frame d address b n z : ℕ) → address + d ≡ frame → b + n ≤ address + z → b + n + d ≤ frame + z
+    last frame d address b n z h k = omega arith
 
 pub fresh-arrays : (code : Code) (input : List ℕ) (g : graph.State) (s u : machine.State) → (h : IsSupported code)
     → IsState code.program g → (c : Called code input g s) → frame_size code g.current ≤ c.frame

@@ -13,5 +13,6 @@ pub mod Ops
 pub mod Marks
 pub mod Copies
 pub mod Stored
+pub mod Zeros
 pub mod Owned
 pub mod Changes

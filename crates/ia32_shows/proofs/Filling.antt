@@ -1,9 +1,10 @@
--- A loop that fills words of memory with a register's word, from an address down to another.
+-- A loop that fills words of memory, from an address down to another: with a register's word, or with a number.
 use Rattle.std.proofs.Common.{◌≡◌, ◌≢◌, ℕ, zero, suc, ◌+◌, ◌-◌, ◌*◌, ◌/◌, ◌%◌, ◌^◌, ◌<◌, ◌≤◌, true, false, List, []}
 use Rattle.std.proofs.Common.{◌∷◌}
 use Rattle.std.proofs.Common.{Option, Some, Ok, drop, refl, sym, ap, subst, ◌∙◌, inl, inr, arith, pos}
 use Rattle.std.proofs.Common.{get_or}
-use Rattle.std.specs.Prelude.{◌==◌, not, Bool, Result}
+use Rattle.std.specs.Prelude.{◌==◌, not, Bool, ℤ, ⊤, Result}
+use Rattle.std.specs.Int.{w32, cast_unsigned}
 use Rattle.std.proofs.lemmas.Bool.Decides.{eqb_tells}
 use Rattle.std.proofs.lemmas.Bool.Decides.{nat_tests}
 use Rattle.std.proofs.lemmas.List.{get_or-drop}
@@ -15,6 +16,7 @@ use Rattle.ia32_regs.specs.Registers.{number32}
 use Rattle.ia32_insn.specs.declared.operand.Rm32.TheVariants as rm
 use Rattle.ia32_insn.specs.declared.insn.AluOp.TheVariants.{Sub, Cmp}
 use Rattle.ia32_insn.specs.declared.insn.Cond.TheVariants.{Ne}
+use Rattle.ia32_insn.specs.declared.insn.Insn.{Insn}
 use Rattle.ia32_insn.specs.declared.insn.Insn.TheVariants as insn
 use Rattle.ia32_insn.specs.declared.item.Item.{Item}
 use Rattle.ia32_insn.specs.declared.item.Item.TheVariants as item
@@ -22,11 +24,13 @@ use Rattle.ia32_insn.specs.declared.flags.Flags.{Flags}
 use Rattle.ia32_insn.specs.State.{State, at_address}
 use Rattle.ia32_insn.specs.Arithmetic.{difference, alu_flags, holds}
 use Rattle.ia32_insn.specs.Meaning.{and_then, or_end, denied, address_of, load, store, word_of, with_flags, effect}
+use Rattle.ia32_insn.specs.Meaning.{target}
 use Rattle.ia32_insn.specs.Keeps.{AreDisjoint}
 use Rattle.ia32_insn.specs.Items.{plain, near}
 use Rattle.ia32_shows.specs.Filling.{Filled, FillGoes, ZerosLoad}
 use Rattle.ia32_shows.specs.Sites.{IsSound, Site, SoundAt, ReadyAt, StandsFrom}
 use Rattle.ia32_shows.proofs.Sound.{bytes-in, load-same, sound-at, sound-with_flags, word-below}
+use Rattle.ia32_shows.proofs.Spelled.{IsCommon}
 use Rattle.ia32_shows.proofs.Steps.{Comes, comes-then, label-passed, plain-goes}
 use Rattle.ia32_shows.proofs.Frames.{with_result}
 use Rattle.ia32_shows.proofs.Sets.{disjoint-part, Sets, set-goes}
@@ -58,14 +62,24 @@ place-zero p a e h = omega arith
 
 -- ---- once through the loop
 
--- the items of the loop behind its label
-abbrev turn : Reg32 → Reg32 → Reg32 → ℕ → List Item → List Item
-turn pointer word limit label back =
+-- the items of the loop behind its label, whose second instruction fills a word
+abbrev pub turn : Reg32 → Insn → Reg32 → ℕ → List Item → List Item
+turn pointer filler limit label back =
     plain (insn.AluImm Sub (rm.Reg pointer) (pos 4))
-    ∷ plain (insn.Mov (rm.Mem (near pointer 0)) word)
+    ∷ plain filler
     ∷ plain (insn.Alu Cmp (rm.Reg pointer) limit)
     ∷ item.JumpIf Ne label
     ∷ back
+
+-- The instruction stores the value at the pointer's address, wherever a test of the other registers holds.
+pub record Fills (pointer : Reg32) (Holds : State → Type 0) (value : ℕ) (filler : Insn) : Type 0 where
+  pub common : IsCommon filler
+  pub fits : value < 2 ^ 32
+  pub does : (a after : ℕ) (t : State) → Holds t → word_of pointer t ≡ a → a < 2 ^ 32
+      → effect filler after t ≡ store 4 a value t
+  pub goes : (after : ℕ) (t : State) → target filler after t ≡ Ok after
+  pub stays : (s t : State) → ((q : Reg32) → number32 q ≢ number32 pointer → word_of q t ≡ word_of q s) → Holds s
+      → Holds t
 
 -- the word at an address was filled, and the address compared with the limit
 record Turned (site : Site) (pointer : Reg32) (a value last : ℕ) (s u : State) : Type 0 where
@@ -112,13 +126,13 @@ turned site pointer a value last address s t u one two =
       written = two.written ∙ one.written;
     }
 
-turn-goes : (site : Site) (pointer word limit : Reg32) (label a value last : ℕ) (back : List Item) (s : State)
-    → number32 word ≢ number32 pointer → number32 limit ≢ number32 pointer → SoundAt site s
-    → ReadyAt site (turn pointer word limit label back) s → site.low ≤ a → a + 4 ≤ site.high
-    → word_of pointer s ≡ a + 4 → word_of word s ≡ value → word_of limit s ≡ last
+turn-goes : (site : Site) (pointer limit : Reg32) (Holds : State → Type 0) (filler : Insn) (label a value last : ℕ)
+    (back : List Item) (s : State) → Fills pointer Holds value filler → number32 limit ≢ number32 pointer
+    → SoundAt site s → ReadyAt site (turn pointer filler limit label back) s → site.low ≤ a → a + 4 ≤ site.high
+    → word_of pointer s ≡ a + 4 → Holds s → word_of limit s ≡ last
     → (u : State) × Comes site.text s u × ReadyAt site (item.JumpIf Ne label ∷ back) u
     × Turned site pointer a value last s u
-turn-goes site pointer word limit label a value last back s apart other sound ready low high at filler ends =
+turn-goes site pointer limit Holds filler label a value last back s fills other sound ready low high at held ends =
     let fits = word-below site.text site.low site.high pointer s sound in
     let v : ℕ = difference (word_of pointer s) 4 in
     let is : v ≡ a = four-less (word_of pointer s) a at fits in
@@ -126,19 +140,13 @@ turn-goes site pointer word limit label a value last back s apart other sound re
     let flags : Option Flags = Some (alu_flags Sub (word_of pointer s) 4) in
     let three : List Item = item.JumpIf Ne label ∷ back in
     let two : List Item = plain (insn.Alu Cmp (rm.Reg pointer) limit) ∷ three in
-    let one : List Item = plain (insn.Mov (rm.Mem (near pointer 0)) word) ∷ two in
+    let one : List Item = plain filler ∷ two in
     let p = set-goes site one (insn.AluImm Sub (rm.Reg pointer) (pos 4)) pointer a flags s sound ready tt a_fits
     (λ after. ap (λ (k : ℕ). let r : Result State End = Ok (with_result pointer k flags s) in r) is)
     (λ after. refl) in
     let t : State = p.0 in
-    let filler_t : word_of word t ≡ value = p.3.others word apart ∙ filler in
-    let value_fits : value < 2 ^ 32 = subst (λ (k : ℕ). k < 2 ^ 32) filler
-    (word-below site.text site.low site.high word s sound) in
-    let place : address_of (near pointer 0) t ≡ a = place-zero (word_of pointer t) a p.3.value a_fits in
-    let does : (after : ℕ) → effect (insn.Mov (rm.Mem (near pointer 0)) word) after t ≡ store 4 a value t = λ after.
-    ap (λ (k : ℕ). store 4 k (word_of word t) t) place ∙ ap (λ (k : ℕ). store 4 a k t) filler_t in
-    let q = store-goes site two (insn.Mov (rm.Mem (near pointer 0)) word) a value t p.3.sound p.2 tt low high value_fits
-    does (λ after. refl) in
+    let q = store-goes site two filler a value t p.3.sound p.2 fills.common low high fills.fits
+    (λ after. fills.does a after t (fills.stays s t p.3.others held) p.3.value a_fits) (λ after. fills.goes after t) in
     let u : State = q.0 in
     let r = compare-goes site three pointer limit a last u q.3.sound q.2 (q.3.words pointer ∙ p.3.value)
     (q.3.words limit ∙ p.3.others limit other ∙ ends) in
@@ -214,16 +222,16 @@ filled-more site pointer first n value last address s u v h r =
     }
 
 -- the loop, from its first instruction on, with n words to be filled behind the one that is filled first
-loop-goes : (site : Site) (pointer word limit : Reg32) (label first value start n : ℕ) (back : List Item) (s : State)
-    → number32 word ≢ number32 pointer → number32 limit ≢ number32 pointer
-    → StandsFrom site (item.Label label ∷ turn pointer word limit label back) start → SoundAt site s
-    → ReadyAt site (turn pointer word limit label back) s → site.low ≤ first → first + 4 * suc n ≤ site.high
-    → word_of pointer s ≡ first + 4 * suc n → word_of word s ≡ value → word_of limit s ≡ first
+loop-goes : (site : Site) (pointer limit : Reg32) (Holds : State → Type 0) (filler : Insn)
+    (label first value start n : ℕ) (back : List Item) (s : State) → Fills pointer Holds value filler
+    → number32 limit ≢ number32 pointer → StandsFrom site (item.Label label ∷ turn pointer filler limit label back) start
+    → SoundAt site s → ReadyAt site (turn pointer filler limit label back) s → site.low ≤ first
+    → first + 4 * suc n ≤ site.high → word_of pointer s ≡ first + 4 * suc n → Holds s → word_of limit s ≡ first
     → (u : State) × Comes site.text s u × ReadyAt site back u × Filled site pointer first (suc n) value s u
-loop-goes site pointer word limit label first value start zero back s apart other stands sound ready low high at filler
-    ends =
-    let p = turn-goes site pointer word limit label (first + 4 * 0) value first back s apart other sound ready
-    (omega arith) (omega arith) (omega arith) filler ends in
+loop-goes site pointer limit Holds filler label first value start zero back s fills other stands sound ready low high at
+    held ends =
+    let p = turn-goes site pointer limit Holds filler label (first + 4 * 0) value first back s fills other sound ready
+    (omega arith) (omega arith) (omega arith) held ends in
     let u : State = p.0 in
     let fits : first < 2 ^ 32 = subst (λ (k : ℕ). k < 2 ^ 32) ends
     (word-below site.text site.low site.high limit s sound) in
@@ -234,35 +242,76 @@ loop-goes site pointer word limit label first value start zero back s apart othe
       q.2,
       filled-once site pointer first value first q.0 s u p.3,
     )
-loop-goes site pointer word limit label first value start (suc n) back s apart other stands sound ready low high at
-    filler ends =
+loop-goes site pointer limit Holds filler label first value start (suc n) back s fills other stands sound ready low
+    high at held ends =
     let a : ℕ = first + 4 * suc n in
-    let p = turn-goes site pointer word limit label a value first back s apart other sound ready
-    (omega arith) (omega arith) (omega arith) filler ends in
+    let p = turn-goes site pointer limit Holds filler label a value first back s fills other sound ready
+    (omega arith) (omega arith) (omega arith) held ends in
     let u : State = p.0 in
     let fits : a < 2 ^ 32 = subst (λ (k : ℕ). k < 2 ^ 32) p.3.pointer_is
     (word-below site.text site.low site.high pointer u p.3.sound) in
-    let q = branch-leads site Ne [] (turn pointer word limit label back) back start label u p.3.sound stands p.2
+    let q = branch-leads site Ne [] (turn pointer filler limit label back) back start label u p.3.sound stands p.2
     (goes-on a first u.flags p.3.flags (omega arith) fits) in
     let t : State = at_address q.0 u in
-    let r = loop-goes site pointer word limit label first value start n back t apart other stands
+    let r = loop-goes site pointer limit Holds filler label first value start n back t fills other stands
     (sound-at site.text site.low site.high q.0 u p.3.sound) q.2 low (omega arith) p.3.pointer_is
-    (p.3.others word apart ∙ filler) (p.3.others limit other ∙ ends) in (
+    (fills.stays s t p.3.others held) (p.3.others limit other ∙ ends) in (
       r.0,
       comes-then site.text s u r.0 p.1 (comes-then site.text u t r.0 q.1 r.1),
       r.2,
       filled-more site pointer first n value first q.0 s u r.0 p.3 r.3,
     )
 
-pub fill-goes : FillGoes
-fill-goes site pointer word limit label first zero back s apart other sound ready some low high at ends =
-    absurd (omega arith)
-fill-goes site pointer word limit label first (suc n) back s apart other sound ready some low high at ends =
-    let stands : StandsFrom site (item.Label label ∷ turn pointer word limit label back) s.eip =
+-- the whole loop, with any instruction that fills
+pub words-fill : (site : Site) (pointer limit : Reg32) (Holds : State → Type 0) (filler : Insn)
+    (label first value count : ℕ) (back : List Item) (s : State) → Fills pointer Holds value filler
+    → number32 limit ≢ number32 pointer → SoundAt site s
+    → ReadyAt site (item.Label label ∷ turn pointer filler limit label back) s → 0 < count → site.low ≤ first
+    → first + 4 * count ≤ site.high → word_of pointer s ≡ first + 4 * count → Holds s → word_of limit s ≡ first
+    → (u : State) × Comes site.text s u × ReadyAt site back u × Filled site pointer first count value s u
+words-fill site pointer limit Holds filler label first value zero back s fills other sound ready some low high at held
+    ends = absurd (omega arith)
+words-fill site pointer limit Holds filler label first value (suc n) back s fills other sound ready some low high at
+    held ends =
+    let stands : StandsFrom site (item.Label label ∷ turn pointer filler limit label back) s.eip =
     record { bytes = ready.bytes; here = ready.here; stand = ready.stand } in
-    loop-goes site pointer word limit label first (word_of word s) s.eip n back s apart other stands sound
-    (label-passed site.symbols site.places site.text label (turn pointer word limit label back) s ready) low high at
-    refl ends
+    loop-goes site pointer limit Holds filler label first value s.eip n back s fills other stands sound
+    (label-passed site.symbols site.places site.text label (turn pointer filler limit label back) s ready) low high at
+    held ends
+
+-- with a register's word
+word-fills : (pointer word : Reg32) (value : ℕ) → number32 word ≢ number32 pointer → value < 2 ^ 32
+    → Fills pointer (λ t. word_of word t ≡ value) value (insn.Mov (rm.Mem (near pointer 0)) word)
+word-fills pointer word value apart fits =
+    record {
+      common = tt;
+      fits = fits;
+      does = λ a after t held at small.
+          ap (λ (k : ℕ). store 4 k (word_of word t) t) (place-zero (word_of pointer t) a at small)
+          ∙ ap (λ (k : ℕ). store 4 a k t) held;
+      goes = λ after t. refl;
+      stays = λ s t others held. others word apart ∙ held;
+    }
+
+pub fill-goes : FillGoes
+fill-goes site pointer word limit label first count back s apart other sound ready some low high at ends =
+    words-fill site pointer limit (λ t. word_of word t ≡ word_of word s) (insn.Mov (rm.Mem (near pointer 0)) word) label
+    first (word_of word s) count back s
+    (word-fills pointer word (word_of word s) apart (word-below site.text site.low site.high word s sound)) other sound
+    ready some low high at refl ends
+
+-- with a number
+pub number-fills : (pointer : Reg32) (z : ℤ) → cast_unsigned w32 z < 2 ^ 32
+    → Fills pointer (λ t. ⊤) (cast_unsigned w32 z) (insn.MovImm (rm.Mem (near pointer 0)) z)
+number-fills pointer z fits =
+    record {
+      common = tt;
+      fits = fits;
+      does = λ a after t held at small. ap (λ (k : ℕ). store 4 k (cast_unsigned w32 z) t)
+          (place-zero (word_of pointer t) a at small);
+      goes = λ after t. refl;
+      stays = λ s t others held. tt;
+    }
 
 -- ---- words of 0
 
