@@ -3,7 +3,7 @@ use Rattle.std.specs.List.{AllByRecursion}
 use Rattle.std.proofs.Common.{◌≡◌, ℕ, zero, suc, ◌+◌, ◌<◌, ◌≤◌, List, [], ◌∷◌, ◌++◌, length, Some, None, sym, ap}
 use Rattle.std.proofs.Common.{subst, refl, ◌∙◌, arith, Option, map}
 use Rattle.std.specs.Prelude.{◌==◌, ◌||◌, ⊤, ℤ, Bool, true, false, if◌then◌else◌, option_map, slice_get, slice_index_or}
-use Rattle.std.proofs.lemmas.Option.{same_Some, get_or_from_slice_get}
+use Rattle.std.proofs.lemmas.Option.{same_Some}
 use Rattle.ia32_regs.specs.declared.names.Reg32.{Reg32}
 use Rattle.ia32_regs.specs.declared.names.Reg32.TheVariants.{Eax, Edx, Esi, Edi}
 use Rattle.ia32_regs.specs.declared.names.Reg8.TheVariants.{Cl}
@@ -30,7 +30,7 @@ use Rattle.flow_graph.specs.declared.op.Bits.{Bits}
 use Rattle.flow_graph.specs.declared.op.Bits.TheVariants.{Eight, Sixteen, ThirtyTwo}
 use Rattle.flow_graph.specs.declared.op.Op.{Op}
 use Rattle.flow_graph.specs.declared.op.Op.TheVariants as op
-use Rattle.flow_graph.specs.Graphs.{Flow, HasFittingOp, IsFlow, points_of}
+use Rattle.flow_graph.specs.Graphs.{Flow}
 use Rattle.flow_graph.specs.Meaning.{bytes_of}
 use Rattle.flow_graph.proofs.Points.{every-map}
 use Rattle.ia32_shows.proofs.Spelled.{IsCommon, common-begins}
@@ -45,8 +45,8 @@ use Rattle.ia32_rows.specs.Passing.{argument_word, param_row, pass_all, deepen, 
 use Rattle.ia32_rows.specs.Passing.{before_call, behind_call, call_row, leave, return_row, prologue}
 use Rattle.ia32_rows.specs.Accesses.{loading, load_from, storing, store_to, index_register, count_before, element}
 use Rattle.ia32_rows.specs.Accesses.{check_array, check_index, checking, load_row, store_row}
-use Rattle.ia32_rows.specs.Rows.{IsSlotOp, HasItems, entry_label, row, place_before, place_after, point_row, point_rows}
-use Rattle.ia32_rows.specs.Rows.{block_rows, selected}
+use Rattle.ia32_rows.specs.Rows.{IsSlotOp, entry_label, row, place_before, place_after, point_row, point_rows}
+use Rattle.ia32_rows.specs.Rows.{block_rows, headers, selected}
 
 -- what holds of each of two lists holds of each of both
 pub every-join : {X : Type 0} (P : X → Type 0) (xs ys : List X) → AllByRecursion P xs → AllByRecursion P ys
@@ -68,17 +68,17 @@ every-get P (y ∷ xs) (suc i) x h e = every-get P xs i x h.1 e
 
 -- ---- the kinds of items
 
--- an instruction of a row: no label and no point
-abbrev pub IsRowInsn : Item → Type 0
-IsRowInsn (item.Plain i) = ⊤
-IsRowInsn (item.Label l) = ⊥
-IsRowInsn (item.Point p) = ⊥
-IsRowInsn (item.JumpTo l) = ⊤
-IsRowInsn (item.JumpIf c l) = ⊤
-IsRowInsn (item.CallFunction f) = ⊤
-IsRowInsn (item.CallStub s) = ⊤
-IsRowInsn (item.JumpTrap c) = ⊤
-IsRowInsn (item.AddressOf r k) = ⊤
+-- an item of a row: an instruction, or the label of a loop, and no point
+abbrev pub IsRowItem : Item → Type 0
+IsRowItem (item.Plain i) = ⊤
+IsRowItem (item.Label l) = ⊤
+IsRowItem (item.Point p) = ⊥
+IsRowItem (item.JumpTo l) = ⊤
+IsRowItem (item.JumpIf c l) = ⊤
+IsRowItem (item.CallFunction f) = ⊤
+IsRowItem (item.CallStub s) = ⊤
+IsRowItem (item.JumpTrap c) = ⊤
+IsRowItem (item.AddressOf r k) = ⊤
 
 -- an instruction of a row, but NOP
 abbrev pub IsOther : Item → Type 0
@@ -95,10 +95,6 @@ IsOther (item.AddressOf r k) = ⊤
 -- instructions of a row, but NOP
 abbrev pub AreOthers : List Item → Type 0
 AreOthers items = AllByRecursion IsOther items
-
--- instructions of a row
-abbrev pub AreRowInsns : List Item → Type 0
-AreRowInsns items = AllByRecursion IsRowInsn items
 
 -- an instruction as it stands, but NOP
 abbrev pub IsPlain : Item → Type 0
@@ -121,13 +117,35 @@ IsSome (i ∷ items) = ⊤
 abbrev pub AreSome : (Item → Type 0) → List Item → Type 0
 AreSome P items = AllByRecursion P items × IsSome items
 
--- instructions of a row, and some
-abbrev pub IsRow : List Item → Type 0
-IsRow items = AreSome IsRowInsn items
-
 -- instructions of a row, but NOP, and some
 abbrev pub IsOtherRow : List Item → Type 0
 IsOtherRow items = AreSome IsOther items
+
+-- an instruction: neither a label nor a point
+abbrev pub TakesRoom : Item → Type 0
+TakesRoom (item.Plain i) = ⊤
+TakesRoom (item.Label l) = ⊥
+TakesRoom (item.Point p) = ⊥
+TakesRoom (item.JumpTo l) = ⊤
+TakesRoom (item.JumpIf c l) = ⊤
+TakesRoom (item.CallFunction f) = ⊤
+TakesRoom (item.CallStub s) = ⊤
+TakesRoom (item.JumpTrap c) = ⊤
+TakesRoom (item.AddressOf r k) = ⊤
+
+-- they begin with one
+abbrev pub BeginsWithRoom : List Item → Type 0
+BeginsWithRoom [] = ⊥
+BeginsWithRoom (i ∷ items) = TakesRoom i
+
+-- items of a row, the first of which is an instruction
+abbrev pub IsRow : List Item → Type 0
+IsRow items = AllByRecursion IsRowItem items × BeginsWithRoom items
+
+-- they begin with an instruction that is no NOP
+abbrev pub BeginsWithOther : List Item → Type 0
+BeginsWithOther [] = ⊥
+BeginsWithOther (i ∷ items) = IsOther i
 
 -- instructions as they stand alone
 abbrev pub ArePlain : List Item → Type 0
@@ -146,13 +164,23 @@ plain-others items h = every-map IsPlain IsOther plain-other items h
 plain-row : (items : List Item) → IsPlainRow items → IsOtherRow items
 plain-row items h = (plain-others items h.0, h.1)
 
-other-insn : (i : Item) → IsOther i → IsRowInsn i
-other-insn (item.Label l) h = absurd h
-other-insn (item.Point p) h = absurd h
-other-insn i h = tt
+other-item : (i : Item) → IsOther i → IsRowItem i
+other-item (item.Label l) h = absurd h
+other-item (item.Point p) h = absurd h
+other-item i h = tt
+
+other-room : (i : Item) → IsOther i → TakesRoom i
+other-room (item.Label l) h = absurd h
+other-room (item.Point p) h = absurd h
+other-room i h = tt
 
 other-row : (items : List Item) → IsOtherRow items → IsRow items
-other-row items h = (every-map IsOther IsRowInsn other-insn items h.0, h.1)
+other-row [] h = absurd h.1
+other-row (i ∷ items) h = (every-map IsOther IsRowItem other-item (i ∷ items) h.0, other-room i h.0.0)
+
+other-first : (items : List Item) → IsOtherRow items → BeginsWithOther items
+other-first [] h = absurd h.1
+other-first (i ∷ items) h = h.0.0
 
 -- what holds of both of two choices holds of the choice
 pub either-way : {X : Type 0} (P : X → Type 0) (b : Bool) (x y : X) → P x → P y → P (if b then x else y)
@@ -405,114 +433,124 @@ store-row bits p q r =
 
 -- ---- of ops
 
--- the row of an op that has one, but a mark and a turn, has no NOP
-pub other-is : (placement : Placement) (p : ℕ) (o : Op) → HasItems o → is_nop (Some o) ≡ false
-    → IsOtherRow (row placement p o)
-other-is placement p (op.Const d n) h none =
-    plain-row (row placement p (op.Const d n))
+-- the op has a loop in its row
+abbrev has_loop : Op → Bool
+has_loop (op.Clear k) = true
+has_loop o = false
+
+-- the row of an op, but a mark, a turn and `clear`, has no NOP and no label
+other-is : (flow : Flow) (placement : Placement) (p : ℕ) (o : Op) → has_loop o ≡ false → is_nop (Some o) ≡ false
+    → IsOtherRow (row flow placement p o)
+other-is flow placement p (op.Const d n) straight none =
+    plain-row (row flow placement p (op.Const d n))
     (number-row (place_after placement p d) n)
-other-is placement p (op.Copy d s) h none =
-    plain-row (row placement p (op.Copy d s))
+other-is flow placement p (op.Copy d s) straight none =
+    plain-row (row flow placement p (op.Copy d s))
     (copy-row (place_before placement p s) (place_after placement p d))
-other-is placement p (op.Wide d s) h none =
-    plain-row (row placement p (op.Wide d s))
+other-is flow placement p (op.Wide d s) straight none =
+    plain-row (row flow placement p (op.Wide d s))
     (widening-row (place_after placement p d) (place_before placement p s))
-other-is placement p (op.Low d s) h none =
-    plain-row (row placement p (op.Low d s))
+other-is flow placement p (op.Low d s) straight none =
+    plain-row (row flow placement p (op.Low d s))
     (lowering-row (place_after placement p d) (place_before placement p s))
-other-is placement p (op.Low16 d s) h none =
-    plain-row (row placement p (op.Low16 d s))
+other-is flow placement p (op.Low16 d s) straight none =
+    plain-row (row flow placement p (op.Low16 d s))
     (halving-row (place_after placement p d) (place_before placement p s))
-other-is placement p (op.Neg d s) h none =
-    plain-row (row placement p (op.Neg d s))
+other-is flow placement p (op.Neg d s) straight none =
+    plain-row (row flow placement p (op.Neg d s))
     (changing-row insn.Neg (place_after placement p d) (place_before placement p s) (λ operand. tt))
-other-is placement p (op.Not d s) h none =
-    plain-row (row placement p (op.Not d s))
+other-is flow placement p (op.Not d s) straight none =
+    plain-row (row flow placement p (op.Not d s))
     (changing-row insn.Not (place_after placement p d) (place_before placement p s) (λ operand. tt))
-other-is placement p (op.Add d a b) h none =
-    plain-row (row placement p (op.Add d a b))
+other-is flow placement p (op.Add d a b) straight none =
+    plain-row (row flow placement p (op.Add d a b))
     (commuting-row alu.Add (place_after placement p d) (place_before placement p a) (place_before placement p b))
-other-is placement p (op.Sub d a b) h none =
-    plain-row (row placement p (op.Sub d a b))
+other-is flow placement p (op.Sub d a b) straight none =
+    plain-row (row flow placement p (op.Sub d a b))
     (operation-row alu.Sub (place_after placement p d) (place_before placement p a) (place_before placement p b))
-other-is placement p (op.Mul d a b) h none =
-    plain-row (row placement p (op.Mul d a b))
+other-is flow placement p (op.Mul d a b) straight none =
+    plain-row (row flow placement p (op.Mul d a b))
     (multiplying-row (place_after placement p d) (place_before placement p a) (place_before placement p b))
-other-is placement p (op.And d a b) h none =
-    plain-row (row placement p (op.And d a b))
+other-is flow placement p (op.And d a b) straight none =
+    plain-row (row flow placement p (op.And d a b))
     (commuting-row alu.And (place_after placement p d) (place_before placement p a) (place_before placement p b))
-other-is placement p (op.Or d a b) h none =
-    plain-row (row placement p (op.Or d a b))
+other-is flow placement p (op.Or d a b) straight none =
+    plain-row (row flow placement p (op.Or d a b))
     (commuting-row alu.Or (place_after placement p d) (place_before placement p a) (place_before placement p b))
-other-is placement p (op.Xor d a b) h none =
-    plain-row (row placement p (op.Xor d a b))
+other-is flow placement p (op.Xor d a b) straight none =
+    plain-row (row flow placement p (op.Xor d a b))
     (commuting-row alu.Xor (place_after placement p d) (place_before placement p a) (place_before placement p b))
-other-is placement p (op.Shl d a b) h none =
-    plain-row (row placement p (op.Shl d a b))
+other-is flow placement p (op.Shl d a b) straight none =
+    plain-row (row flow placement p (op.Shl d a b))
     (shifting-row shift.Shl (place_after placement p d) (place_before placement p a) (place_before placement p b))
-other-is placement p (op.Sar d a b) h none =
-    plain-row (row placement p (op.Sar d a b))
+other-is flow placement p (op.Sar d a b) straight none =
+    plain-row (row flow placement p (op.Sar d a b))
     (shifting-row shift.Sar (place_after placement p d) (place_before placement p a) (place_before placement p b))
-other-is placement p (op.Div d a b) h none =
-    plain-row (row placement p (op.Div d a b))
+other-is flow placement p (op.Div d a b) straight none =
+    plain-row (row flow placement p (op.Div d a b))
     (dividing-row Eax (place_after placement p d) (place_before placement p a) (place_before placement p b))
-other-is placement p (op.Rem d a b) h none =
-    plain-row (row placement p (op.Rem d a b))
+other-is flow placement p (op.Rem d a b) straight none =
+    plain-row (row flow placement p (op.Rem d a b))
     (dividing-row Edx (place_after placement p d) (place_before placement p a) (place_before placement p b))
-other-is placement p (op.Set how d a b) h none =
+other-is flow placement p (op.Set how d a b) straight none =
     let set : List Item = set_row (cond_of how) (place_after placement p d) in
     compared-row (place_before placement p a) (place_before placement p b) set
     (plain-others set (set-insns (cond_of how) (place_after placement p d)))
-other-is placement p (op.Param d k) h none =
+other-is flow placement p (op.Param d k) straight none =
     let place : Place = place_after placement p d in
     let load : List Item = plain (insn.MovLoad (target_of place) (argument_word k)) ∷ [] in
     plain-row (param_row place k) (written-row load place (target_of place) ((tt, tt), tt))
-other-is placement p (op.Call d f arguments) h none =
+other-is flow placement p (op.Call d f arguments) straight none =
     call-row (option_map (place_after placement p) d) f (map (place_before placement p) arguments)
-other-is placement p (op.Putchar d s) h none =
+other-is flow placement p (op.Putchar d s) straight none =
     passed-row (place_before placement p s)
     (item.CallStub stub.Putchar ∷ plain (insn.Pop Edi) ∷ write (place_after placement p d) Eax)
     (tt, (tt, write-row (place_after placement p d) Eax))
-other-is placement p (op.Getchar d) h none = ((tt, write-row (place_after placement p d) Eax), tt)
-other-is placement p (op.Exit s) h none =
+other-is flow placement p (op.Getchar d) straight none = ((tt, write-row (place_after placement p d) Eax), tt)
+other-is flow placement p (op.Exit s) straight none =
     passed-row (place_before placement p s) (item.CallStub stub.Exit ∷ []) (tt, tt)
-other-is placement p (op.Same a b) h none =
+other-is flow placement p (op.Same a b) straight none =
     compared-row (place_before placement p a) (place_before placement p b) (item.JumpTrap (Some cond.Ne) ∷ []) (tt, tt)
-other-is placement p (op.Mark s) h none = absurd (let e : true ≡ false = none in cc)
-other-is placement p op.Turn h none = absurd (let e : true ≡ false = none in cc)
-other-is placement p (op.Jump x) h none = ((tt, tt), tt)
-other-is placement p (op.Branch how a b x y) h none =
+other-is flow placement p (op.Mark s) straight none = absurd (let e : true ≡ false = none in cc)
+other-is flow placement p op.Turn straight none = absurd (let e : true ≡ false = none in cc)
+other-is flow placement p (op.Jump x) straight none = ((tt, tt), tt)
+other-is flow placement p (op.Branch how a b x y) straight none =
     compared-row (place_before placement p a) (place_before placement p b)
     (item.JumpIf (cond_of how) x ∷ item.JumpTo y ∷ []) (tt, (tt, tt))
-other-is placement p (op.Frame d k) h none =
+other-is flow placement p (op.Frame d k) straight none =
     let place : Place = place_after placement p d in
     written-behind (plain (insn.Lea (target_of place) (below (slice_index_or placement.arrays k 0)))) place
     (target_of place) tt
-other-is placement p (op.Static d k) h none =
+other-is flow placement p (op.Static d k) straight none =
     let place : Place = place_after placement p d in
     written-behind (item.AddressOf (target_of place) k) place (target_of place) tt
-other-is placement p (op.Load bits d a i) h none =
+other-is flow placement p (op.Load bits d a i) straight none =
     load-row bits (place_after placement p d) (place_before placement p a) (place_before placement p i)
-other-is placement p (op.Store bits a i s) h none =
+other-is flow placement p (op.Store bits a i s) straight none =
     store-row bits (place_before placement p a) (place_before placement p i) (place_before placement p s)
-other-is placement p (op.Get bits d k) h none =
+other-is flow placement p (op.Get bits d k) straight none =
     ((tt, (load_from-row bits (place_after placement p d) (near Esi 0)).0), tt)
-other-is placement p (op.Put bits k s) h none = ((tt, store_to-insns bits (place_before placement p s)), tt)
-other-is placement p (op.Return (Some a)) h none =
+other-is flow placement p (op.Put bits k s) straight none = ((tt, store_to-insns bits (place_before placement p s)), tt)
+other-is flow placement p (op.Return (Some a)) straight none =
     plain-row (return_row (place_before placement p a)) (return-row (place_before placement p a))
-other-is placement p (op.Return None) h none = plain-row leave leave-row
-other-is placement p o h none = absurd h
+other-is flow placement p (op.Return None) straight none = plain-row leave leave-row
+other-is flow placement p (op.Clear k) straight none = absurd (let e : true ≡ false = straight in cc)
 
--- the row of an op that has one
-pub row-is : (placement : Placement) (p : ℕ) (o : Op) → HasItems o → IsRow (row placement p o)
-row-is placement p (op.Mark s) h = ((tt, tt), tt)
-row-is placement p op.Turn h = ((tt, tt), tt)
-row-is placement p o h = other-row (row placement p o) (other-is placement p o h refl)
+-- an op's row is one
+pub row-is : (flow : Flow) (placement : Placement) (p : ℕ) (o : Op) → IsRow (row flow placement p o)
+row-is flow placement p (op.Mark s) = ((tt, tt), tt)
+row-is flow placement p op.Turn = ((tt, tt), tt)
+row-is flow placement p (op.Clear k) = ((tt, (tt, (tt, (tt, (tt, (tt, (tt, tt))))))), tt)
+row-is flow placement p o = other-row (row flow placement p o) (other-is flow placement p o refl refl)
 
--- the row of any op
-pub row-insns : (placement : Placement) (p : ℕ) (o : Op) → AreRowInsns (row placement p o)
-row-insns placement p (op.Clear n) = tt
-row-insns placement p o = (row-is placement p o tt).0
+-- that of a mark or a turn is a NOP, and that of any other op begins with another instruction
+pub other-begins : (flow : Flow) (placement : Placement) (p : ℕ) (o : Op) → is_nop (Some o) ≡ false
+    → BeginsWithOther (row flow placement p o)
+other-begins flow placement p (op.Mark s) none = absurd (let e : true ≡ false = none in cc)
+other-begins flow placement p op.Turn none = absurd (let e : true ≡ false = none in cc)
+other-begins flow placement p (op.Clear k) none = tt
+other-begins flow placement p o none =
+    other-first (row flow placement p o) (other-is flow placement p o refl refl)
 
 -- ---- over slots
 
@@ -552,31 +590,31 @@ plain-slots : (items : List Item) → ArePlain items → AllByRecursion IsSlotIn
 plain-slots items h = every-map IsPlain IsSlotInsn plain-slot items h
 
 -- the row of such an op
-pub slot-insns : (placement : Placement) (p : ℕ) (o : Op) → IsSlotOp o
-    → AllByRecursion IsSlotInsn (row placement p o)
-slot-insns placement p (op.Const d n) h =
-    plain-slots (row placement p (op.Const d n))
+pub slot-insns : (flow : Flow) (placement : Placement) (p : ℕ) (o : Op) → IsSlotOp o
+    → AllByRecursion IsSlotInsn (row flow placement p o)
+slot-insns flow placement p (op.Const d n) h =
+    plain-slots (row flow placement p (op.Const d n))
     (number-row (place_after placement p d) n).0
-slot-insns placement p (op.Copy d s) h =
-    plain-slots (row placement p (op.Copy d s))
+slot-insns flow placement p (op.Copy d s) h =
+    plain-slots (row flow placement p (op.Copy d s))
     (copy-row (place_before placement p s) (place_after placement p d)).0
-slot-insns placement p (op.Add d a b) h =
-    plain-slots (row placement p (op.Add d a b))
+slot-insns flow placement p (op.Add d a b) h =
+    plain-slots (row flow placement p (op.Add d a b))
     (commuting-row alu.Add (place_after placement p d) (place_before placement p a) (place_before placement p b)).0
-slot-insns placement p (op.Sub d a b) h =
-    plain-slots (row placement p (op.Sub d a b))
+slot-insns flow placement p (op.Sub d a b) h =
+    plain-slots (row flow placement p (op.Sub d a b))
     (operation-row alu.Sub (place_after placement p d) (place_before placement p a) (place_before placement p b)).0
-slot-insns placement p (op.Putchar d s) h =
+slot-insns flow placement p (op.Putchar d s) h =
     let place : Place = place_after placement p d in
     every-join IsSlotInsn (pass (place_before placement p s))
     (item.CallStub stub.Putchar ∷ plain (insn.Pop Edi) ∷ write place Eax)
     (plain-slots (pass (place_before placement p s)) (pass-row (place_before placement p s)).0)
     (tt, (tt, plain-slots (write place Eax) (write-insns place Eax)))
-slot-insns placement p (op.Mark s) h = (tt, tt)
-slot-insns placement p op.Turn h = (tt, tt)
-slot-insns placement p (op.Return (Some a)) h =
+slot-insns flow placement p (op.Mark s) h = (tt, tt)
+slot-insns flow placement p op.Turn h = (tt, tt)
+slot-insns flow placement p (op.Return (Some a)) h =
     plain-slots (return_row (place_before placement p a)) (return-row (place_before placement p a)).0
-slot-insns placement p o h = absurd h
+slot-insns flow placement p o h = absurd h
 
 -- where all ops are such, each point has one
 pub slot-op : (ops : List Op) (p : ℕ) → AllByRecursion IsSlotOp ops → IsSlotOp (slice_index_or ops p op.Turn)
@@ -590,52 +628,47 @@ slot-item (item.Plain i) h = tt
 slot-item (item.CallStub stub.Putchar) h = tt
 slot-item i h = absurd h
 
-row-items : (placement : Placement) (ops : List Op) (p : ℕ) → AllByRecursion IsSlotOp ops
-    → AllByRecursion IsSlotItem (row placement p (slice_index_or ops p op.Turn))
-row-items placement ops p h =
-    let o : Op = slice_index_or ops p op.Turn in
-    every-map IsSlotInsn IsSlotItem slot-item (row placement p o) (slot-insns placement p o (slot-op ops p h))
+row-items : (flow : Flow) (placement : Placement) (p : ℕ) → AllByRecursion IsSlotOp flow.ops
+    → AllByRecursion IsSlotItem (row flow placement p (slice_index_or flow.ops p op.Turn))
+row-items flow placement p h =
+    let o : Op = slice_index_or flow.ops p op.Turn in
+    every-map IsSlotInsn IsSlotItem slot-item (row flow placement p o)
+    (slot-insns flow placement p o (slot-op flow.ops p h))
 
 prologue-items : (frame label : ℕ) → AllByRecursion IsSlotItem (prologue frame label)
 prologue-items frame label = (tt, (tt, (tt, (tt, (tt, (tt, (tt, (tt, (tt, (tt, (tt, (tt, (tt, tt)))))))))))))
 
-point_rows-items : (placement : Placement) (ops : List Op) (points : List ℕ) → AllByRecursion IsSlotOp ops
-    → AllByRecursion IsSlotItem (point_rows placement ops points)
-point_rows-items placement ops [] h = tt
-point_rows-items placement ops (p ∷ ps) h =
-    every-join IsSlotItem (point_row placement ops p) (point_rows placement ops ps)
-    (tt, row-items placement ops p h) (point_rows-items placement ops ps h)
+headers-items : (arrays : List (ℕ × ℕ)) (belows : List ℕ) → AllByRecursion IsSlotItem (headers arrays belows)
+headers-items arrays [] = tt
+headers-items [] (d ∷ belows) = tt
+headers-items (array ∷ arrays) (d ∷ belows) = (tt, headers-items arrays belows)
 
-block_rows-items : (placement : Placement) (ops : List Op) (k : ℕ) (blocks : List (List ℕ))
-    → AllByRecursion IsSlotOp ops → AllByRecursion IsSlotItem (block_rows placement ops k blocks)
-block_rows-items placement ops k [] h = tt
-block_rows-items placement ops k (points ∷ blocks) h =
-    every-join IsSlotItem (item.Label k ∷ point_rows placement ops points) (block_rows placement ops (suc k) blocks)
-    (tt, point_rows-items placement ops points h) (block_rows-items placement ops (suc k) blocks h)
+point_rows-items : (flow : Flow) (placement : Placement) (points : List ℕ) → AllByRecursion IsSlotOp flow.ops
+    → AllByRecursion IsSlotItem (point_rows flow placement points)
+point_rows-items flow placement [] h = tt
+point_rows-items flow placement (p ∷ ps) h =
+    every-join IsSlotItem (point_row flow placement p) (point_rows flow placement ps)
+    (tt, row-items flow placement p h) (point_rows-items flow placement ps h)
+
+block_rows-items : (flow : Flow) (placement : Placement) (k : ℕ) (blocks : List (List ℕ))
+    → AllByRecursion IsSlotOp flow.ops → AllByRecursion IsSlotItem (block_rows flow placement k blocks)
+block_rows-items flow placement k [] h = tt
+block_rows-items flow placement k (points ∷ blocks) h =
+    every-join IsSlotItem (item.Label k ∷ point_rows flow placement points) (block_rows flow placement (suc k) blocks)
+    (tt, point_rows-items flow placement points h) (block_rows-items flow placement (suc k) blocks h)
 
 -- every item of such a graph's code is of these kinds, over any placement
 pub selected-items : (flow : Flow) (placement : Placement) → AllByRecursion IsSlotOp flow.ops
     → AllByRecursion IsSlotItem (selected flow placement)
 selected-items flow placement h =
-    every-join IsSlotItem (prologue placement.frame (entry_label flow)) (block_rows placement flow.ops 0 flow.blocks)
-    (prologue-items placement.frame (entry_label flow)) (block_rows-items placement flow.ops 0 flow.blocks h)
+    let numbers : List Item = headers flow.arrays placement.arrays in
+    let blocks : List Item = block_rows flow placement 0 flow.blocks in
+    every-join IsSlotItem (prologue placement.frame (entry_label flow)) (numbers ++ blocks)
+    (prologue-items placement.frame (entry_label flow))
+    (every-join IsSlotItem numbers blocks (headers-items flow.arrays placement.arrays)
+    (block_rows-items flow placement 0 flow.blocks h))
 
 -- ---- points are followed by instructions
-
-abbrev pub TakesRoom : Item → Type 0
-TakesRoom (item.Plain i) = ⊤
-TakesRoom (item.Label l) = ⊥
-TakesRoom (item.Point p) = ⊥
-TakesRoom (item.JumpTo l) = ⊤
-TakesRoom (item.JumpIf c l) = ⊤
-TakesRoom (item.CallFunction f) = ⊤
-TakesRoom (item.CallStub s) = ⊤
-TakesRoom (item.JumpTrap c) = ⊤
-TakesRoom (item.AddressOf r k) = ⊤
-
-abbrev pub BeginsWithRoom : List Item → Type 0
-BeginsWithRoom [] = ⊥
-BeginsWithRoom (i ∷ items) = TakesRoom i
 
 -- what follows an item: behind a point an instruction
 abbrev pub Behind : Item → List Item → Type 0
@@ -672,103 +705,58 @@ room-join : (xs ys : List Item) → PointsTakeRoom xs → PointsTakeRoom ys → 
 room-join [] ys a b = b
 room-join (x ∷ xs) ys a b = (behind-join x xs ys a.0, room-join xs ys a.1 b)
 
-insn-room : (i : Item) → IsRowInsn i → TakesRoom i
-insn-room (item.Plain i) h = tt
-insn-room (item.Label l) h = absurd h
-insn-room (item.Point p) h = absurd h
-insn-room (item.JumpTo l) h = tt
-insn-room (item.JumpIf c l) h = tt
-insn-room (item.CallFunction f) h = tt
-insn-room (item.CallStub s) h = tt
-insn-room (item.JumpTrap c) h = tt
-insn-room (item.AddressOf r k) h = tt
+-- behind what is no point anything may stand
+item-behind : (i : Item) (items : List Item) → IsRowItem i → Behind i items
+item-behind (item.Point p) items h = absurd h
+item-behind (item.Plain i) items h = tt
+item-behind (item.Label l) items h = tt
+item-behind (item.JumpTo l) items h = tt
+item-behind (item.JumpIf c l) items h = tt
+item-behind (item.CallFunction f) items h = tt
+item-behind (item.CallStub s) items h = tt
+item-behind (item.JumpTrap c) items h = tt
+item-behind (item.AddressOf r k) items h = tt
 
--- what takes room is no point
-room-behind : (i : Item) (items : List Item) → TakesRoom i → Behind i items
-room-behind (item.Plain i) items h = tt
-room-behind (item.Label l) items h = tt
-room-behind (item.Point p) items h = absurd h
-room-behind (item.JumpTo l) items h = tt
-room-behind (item.JumpIf c l) items h = tt
-room-behind (item.CallFunction f) items h = tt
-room-behind (item.CallStub s) items h = tt
-room-behind (item.JumpTrap c) items h = tt
-room-behind (item.AddressOf r k) items h = tt
+items-room : (items : List Item) → AllByRecursion IsRowItem items → PointsTakeRoom items
+items-room [] h = tt
+items-room (i ∷ items) h = (item-behind i items h.0, items-room items h.1)
 
-pub insns-room : (items : List Item) → AreRowInsns items → PointsTakeRoom items
-insns-room [] h = tt
-insns-room (i ∷ items) h = (room-behind i items (insn-room i h.0), insns-room items h.1)
+point-room : (flow : Flow) (placement : Placement) (p : ℕ) → PointsTakeRoom (point_row flow placement p)
+point-room flow placement p =
+    let o : Op = slice_index_or flow.ops p op.Turn in
+    let r = row-is flow placement p o in
+    (r.1, items-room (row flow placement p o) r.0)
 
-insns-begin : (items : List Item) → IsRow items → BeginsWithRoom items
-insns-begin [] h = h.1
-insns-begin (i ∷ items) h = insn-room i h.0.0
+points-room : (flow : Flow) (placement : Placement) (points : List ℕ) → PointsTakeRoom (point_rows flow placement points)
+points-room flow placement [] = tt
+points-room flow placement (p ∷ ps) =
+    room-join (point_row flow placement p) (point_rows flow placement ps) (point-room flow placement p)
+    (points-room flow placement ps)
 
-row-room : (placement : Placement) (p : ℕ) (o : Op) → HasItems o
-    → BeginsWithRoom (row placement p o) × PointsTakeRoom (row placement p o)
-row-room placement p o h =
-    let r = row-is placement p o h in
-    (insns-begin (row placement p o) r, insns-room (row placement p o) r.0)
-
--- the point has one of the ops that have items
-abbrev pub HasRowOp : List Op → ℕ → Type 0
-HasRowOp ops p = (o : Op) × (slice_get ops p ≡ Some o) × HasItems o
-
--- every point of a block has, where all ops have items
-pub points-have : (flow : Flow) (homes : List ℕ) (b : ℕ) → IsFlow flow homes → AllByRecursion HasItems flow.ops
-    → AllByRecursion (HasRowOp flow.ops) (points_of flow b)
-points-have flow homes b f h =
-    every-map (HasFittingOp flow) (HasRowOp flow.ops)
-    (λ p fits. (fits.0, fits.1, every-get HasItems flow.ops p fits.0 h fits.1)) (points_of flow b)
-    (f.each_block b).fits
-
-pub point-room : (placement : Placement) (ops : List Op) (p : ℕ) → HasRowOp ops p
-    → PointsTakeRoom (point_row placement ops p)
-point-room placement ops p (o, has, is) =
-    let room = row-room placement p o is in
-    subst (λ (i : Op). BeginsWithRoom (row placement p i) × PointsTakeRoom (row placement p i))
-    (sym (get_or_from_slice_get ops p o op.Turn has)) room
-
-points-room : (placement : Placement) (ops : List Op) (points : List ℕ) → AllByRecursion (HasRowOp ops) points
-    → PointsTakeRoom (point_rows placement ops points)
-points-room placement ops [] h = tt
-points-room placement ops (p ∷ ps) h = room-join (point_row placement ops p) (point_rows placement ops ps)
-    (point-room placement ops p h.0) (points-room placement ops ps h.1)
-
-blocks-room : (placement : Placement) (ops : List Op) (k : ℕ) (blocks : List (List ℕ))
-    → ((b : ℕ) → AllByRecursion (HasRowOp ops) (slice_index_or blocks b []))
-    → PointsTakeRoom (block_rows placement ops k blocks)
-blocks-room placement ops k [] h = tt
-blocks-room placement ops k (points ∷ blocks) h =
-    room-join (item.Label k ∷ point_rows placement ops points) (block_rows placement ops (suc k) blocks)
-    (tt, points-room placement ops points (h 0)) (blocks-room placement ops (suc k) blocks (λ b. h (suc b)))
+blocks-room : (flow : Flow) (placement : Placement) (k : ℕ) (blocks : List (List ℕ))
+    → PointsTakeRoom (block_rows flow placement k blocks)
+blocks-room flow placement k [] = tt
+blocks-room flow placement k (points ∷ blocks) =
+    room-join (item.Label k ∷ point_rows flow placement points) (block_rows flow placement (suc k) blocks)
+    (tt, points-room flow placement points) (blocks-room flow placement (suc k) blocks)
 
 prologue-room : (frame label : ℕ) → PointsTakeRoom (prologue frame label)
 prologue-room frame label =
     (tt, (tt, (tt, (tt, (tt, (tt, (tt, (tt, (tt, (tt, (tt, (tt, (tt, tt)))))))))))))
 
+headers-room : (arrays : List (ℕ × ℕ)) (belows : List ℕ) → PointsTakeRoom (headers arrays belows)
+headers-room arrays [] = tt
+headers-room [] (d ∷ belows) = tt
+headers-room (array ∷ arrays) (d ∷ belows) = (tt, headers-room arrays belows)
+
 -- behind every point of a graph's code comes an instruction
-pub selected-room : (flow : Flow) (placement : Placement) (homes : List ℕ) → IsFlow flow homes
-    → AllByRecursion HasItems flow.ops → PointsTakeRoom (selected flow placement)
-selected-room flow placement homes f h =
-    room-join (prologue placement.frame (entry_label flow)) (block_rows placement flow.ops 0 flow.blocks)
+pub selected-room : (flow : Flow) (placement : Placement) → PointsTakeRoom (selected flow placement)
+selected-room flow placement =
+    let numbers : List Item = headers flow.arrays placement.arrays in
+    let blocks : List Item = block_rows flow placement 0 flow.blocks in
+    room-join (prologue placement.frame (entry_label flow)) (numbers ++ blocks)
     (prologue-room placement.frame (entry_label flow))
-    (blocks-room placement flow.ops 0 flow.blocks (λ b. points-have flow homes b f h))
-
--- ops that have code over slots have items
-slot-has : (o : Op) → IsSlotOp o → HasItems o
-slot-has (op.Const d n) h = tt
-slot-has (op.Copy d s) h = tt
-slot-has (op.Add d a b) h = tt
-slot-has (op.Sub d a b) h = tt
-slot-has (op.Putchar d s) h = tt
-slot-has (op.Mark s) h = tt
-slot-has op.Turn h = tt
-slot-has (op.Return (Some a)) h = tt
-slot-has o h = absurd h
-
-pub slots-have : (ops : List Op) → AllByRecursion IsSlotOp ops → AllByRecursion HasItems ops
-slots-have [] h = tt
-slots-have (o ∷ ops) h = (slot-has o h.0, slots-have ops h.1)
+    (room-join numbers blocks (headers-room flow.arrays placement.arrays) (blocks-room flow placement 0 flow.blocks))
 
 -- ---- so two points have two addresses
 

@@ -20,9 +20,9 @@ use Rattle.flow_graph.proofs.Points.{choose}
 use Rattle.ia32_shows.specs.Placements.{Placement, Code, objects_of, address_in, point_address}
 use Rattle.ia32_shows.specs.Shows.{ReturnsTo, StartReturns, startup, ending}
 use Rattle.ia32_shows.proofs.Steps.{IsAt, at-front, at-back, items-split, point-passed, label-passed}
-use Rattle.ia32_rows.specs.Rows.{entry_label, over_slots, row, prologue, point_row, point_rows, block_rows}
-use Rattle.ia32_rows.specs.Rows.{selected}
-use Rattle.ia32_rows.proofs.ItemKinds.{every-get, every-back, IsSlotItem, selected-items, selected-room, slots-have}
+use Rattle.ia32_rows.specs.Rows.{entry_label, over_slots, row, prologue, headers, point_row, point_rows}
+use Rattle.ia32_rows.specs.Rows.{block_rows, selected}
+use Rattle.ia32_rows.proofs.ItemKinds.{every-get, every-back, IsSlotItem, selected-items, selected-room}
 use Rattle.ia32_rows.proofs.ItemKinds.{one-address}
 use Rattle.ia32_rows.specs.Right.{IsSlotCode}
 use Rattle.ia32_shows.specs.Sites.{Ready, Site, ReadyAt}
@@ -202,33 +202,33 @@ address-of flow slots code p l = ap (λ (o : Option Places). address_in o p) l.p
 -- ---- points among the items
 
 -- The items of a point stand among these, and right behind them the next point of its block, if it has one.
-pub record HasRow (placement : Placement) (ops : List Op) (p : ℕ) (next : Option ℕ) (items : List Item) : Type 0 where
+pub record HasRow (flow : Flow) (placement : Placement) (p : ℕ) (next : Option ℕ) (items : List Item) : Type 0 where
   pub front : List Item
   pub rest : List Item
-  pub is : items ≡ front ++ (point_row placement ops p ++ rest)
+  pub is : items ≡ front ++ (point_row flow placement p ++ rest)
   pub follows : (q : ℕ) → next ≡ Some q → (more : List Item) × (rest ≡ item.Point q ∷ more)
 
 -- the row of the first point of a list
-first-row : (placement : Placement) (ops : List Op) (p : ℕ) (ps : List ℕ)
-    → HasRow placement ops p (slice_get ps 0) (point_rows placement ops (p ∷ ps))
-first-row placement ops p [] = record { front = []; rest = []; is = refl; follows = λ q e. absurd (cc) }
-first-row placement ops p (x ∷ ps) =
+first-row : (flow : Flow) (placement : Placement) (p : ℕ) (ps : List ℕ)
+    → HasRow flow placement p (slice_get ps 0) (point_rows flow placement (p ∷ ps))
+first-row flow placement p [] = record { front = []; rest = []; is = refl; follows = λ q e. absurd (cc) }
+first-row flow placement p (x ∷ ps) =
     record {
       front = [];
-      rest = point_rows placement ops (x ∷ ps);
+      rest = point_rows flow placement (x ∷ ps);
       is = refl;
       follows = λ q e. (
-        row placement x (slice_index_or ops x op.Turn) ++ point_rows placement ops ps,
-        ap (λ (n : ℕ). item.Point n ∷ (row placement x (slice_index_or ops x op.Turn) ++ point_rows placement ops ps))
+        row flow placement x (slice_index_or flow.ops x op.Turn) ++ point_rows flow placement ps,
+        ap (λ (n : ℕ). item.Point n ∷ (row flow placement x (slice_index_or flow.ops x op.Turn) ++ point_rows flow placement ps))
             (same_Some x q e),
       );
     }
 
 -- items before and behind
-row-between : (placement : Placement) (ops : List Op) (p : ℕ) (next : Option ℕ) (before items behind : List Item)
-    → HasRow placement ops p next items → HasRow placement ops p next (before ++ (items ++ behind))
-row-between placement ops p next before items behind h =
-    let mine : List Item = point_row placement ops p in
+row-between : (flow : Flow) (placement : Placement) (p : ℕ) (next : Option ℕ) (before items behind : List Item)
+    → HasRow flow placement p next items → HasRow flow placement p next (before ++ (items ++ behind))
+row-between flow placement p next before items behind h =
+    let mine : List Item = point_row flow placement p in
     record {
       front = before ++ h.front;
       rest = h.rest ++ behind;
@@ -240,59 +240,62 @@ row-between placement ops p next before items behind h =
     between a b c d e = simp append_assoc refl
 
 -- the row of a point of a list
-row-in-points : (placement : Placement) (ops : List Op) (points : List ℕ) (p : ℕ) → IsIn p points
-    → HasRow placement ops p (following p points) (point_rows placement ops points)
-row-in-points placement ops [] p h = absurd h
-row-in-points placement ops (x ∷ ps) p (inl e) =
-    let P : Bool → Type 0 = λ b. HasRow placement ops p (cond b (slice_get ps 0) (following p ps))
-    (point_rows placement ops (x ∷ ps)) in
+row-in-points : (flow : Flow) (placement : Placement) (points : List ℕ) (p : ℕ) → IsIn p points
+    → HasRow flow placement p (following p points) (point_rows flow placement points)
+row-in-points flow placement [] p h = absurd h
+row-in-points flow placement (x ∷ ps) p (inl e) =
+    let P : Bool → Type 0 = λ b. HasRow flow placement p (cond b (slice_get ps 0) (following p ps))
+    (point_rows flow placement (x ∷ ps)) in
     subst P (sym (eq-eqb x p e)) (subst (λ (n : ℕ).
-    HasRow placement ops n (slice_get ps 0) (point_rows placement ops (x ∷ ps)))
-    e (first-row placement ops x ps))
-row-in-points placement ops (x ∷ ps) p (inr i) =
-    let items : List Item = point_rows placement ops (x ∷ ps) in
-    let later : HasRow placement ops p (following p ps) (point_rows placement ops ps) =
-    row-in-points placement ops ps p i in
-    let none : point_row placement ops x ++ (point_rows placement ops ps ++ []) ≡ items =
-    ap (λ (l : List Item). point_row placement ops x ++ l) (append-nil (point_rows placement ops ps)) in
-    choose x p (λ (n : Option ℕ). HasRow placement ops p n items) (slice_get ps 0) (following p ps)
-    (λ e. subst (λ (n : ℕ). HasRow placement ops n (slice_get ps 0) items) e (first-row placement ops x ps))
-    (subst (HasRow placement ops p (following p ps)) none
-    (row-between placement ops p (following p ps) (point_row placement ops x) (point_rows placement ops ps) []
+    HasRow flow placement n (slice_get ps 0) (point_rows flow placement (x ∷ ps)))
+    e (first-row flow placement x ps))
+row-in-points flow placement (x ∷ ps) p (inr i) =
+    let items : List Item = point_rows flow placement (x ∷ ps) in
+    let later : HasRow flow placement p (following p ps) (point_rows flow placement ps) =
+    row-in-points flow placement ps p i in
+    let none : point_row flow placement x ++ (point_rows flow placement ps ++ []) ≡ items =
+    ap (λ (l : List Item). point_row flow placement x ++ l) (append-nil (point_rows flow placement ps)) in
+    choose x p (λ (n : Option ℕ). HasRow flow placement p n items) (slice_get ps 0) (following p ps)
+    (λ e. subst (λ (n : ℕ). HasRow flow placement n (slice_get ps 0) items) e (first-row flow placement x ps))
+    (subst (HasRow flow placement p (following p ps)) none
+    (row-between flow placement p (following p ps) (point_row flow placement x) (point_rows flow placement ps) []
     later))
 
 -- the row of a point of a block
-pub row-in-blocks : (placement : Placement) (ops : List Op) (k : ℕ) (blocks : List (List ℕ)) (p b : ℕ)
-    → IsIn p (slice_index_or blocks b []) → HasRow placement ops p (following p (slice_index_or blocks b []))
-    (block_rows placement ops k blocks)
-row-in-blocks placement ops k [] p zero h = absurd h
-row-in-blocks placement ops k [] p (suc b) h = absurd h
-row-in-blocks placement ops k (points ∷ blocks) p zero h =
-    row-between placement ops p (following p points) (item.Label k ∷ []) (point_rows placement ops points)
-    (block_rows placement ops (suc k) blocks) (row-in-points placement ops points p h)
-row-in-blocks placement ops k (points ∷ blocks) p (suc b) h =
+pub row-in-blocks : (flow : Flow) (placement : Placement) (k : ℕ) (blocks : List (List ℕ)) (p b : ℕ)
+    → IsIn p (slice_index_or blocks b []) → HasRow flow placement p (following p (slice_index_or blocks b []))
+    (block_rows flow placement k blocks)
+row-in-blocks flow placement k [] p zero h = absurd h
+row-in-blocks flow placement k [] p (suc b) h = absurd h
+row-in-blocks flow placement k (points ∷ blocks) p zero h =
+    row-between flow placement p (following p points) (item.Label k ∷ []) (point_rows flow placement points)
+    (block_rows flow placement (suc k) blocks) (row-in-points flow placement points p h)
+row-in-blocks flow placement k (points ∷ blocks) p (suc b) h =
     let next : Option ℕ = following p (slice_index_or blocks b []) in
-    let back : List Item = block_rows placement ops (suc k) blocks in
-    let front : List Item = item.Label k ∷ point_rows placement ops points in
+    let back : List Item = block_rows flow placement (suc k) blocks in
+    let front : List Item = item.Label k ∷ point_rows flow placement points in
     let none : front ++ (back ++ []) ≡ front ++ back = ap (λ (l : List Item). front ++ l) (append-nil back) in
-    subst (HasRow placement ops p next) none (row-between placement ops p next front back []
-    (row-in-blocks placement ops (suc k) blocks p b h))
+    subst (HasRow flow placement p next) none (row-between flow placement p next front back []
+    (row-in-blocks flow placement (suc k) blocks p b h))
 
 -- the row of a point of the graph, over any placement
 pub row-in-graph : (flow : Flow) (placement : Placement) (p b : ℕ) → Stands flow p b
-    → HasRow placement flow.ops p (following p (points_of flow b)) (selected flow placement)
+    → HasRow flow placement p (following p (points_of flow b)) (selected flow placement)
 row-in-graph flow placement p b h =
     let next : Option ℕ = following p (points_of flow b) in
     let front : List Item = prologue placement.frame (entry_label flow) in
-    let back : List Item = block_rows placement flow.ops 0 flow.blocks in
-    let none : front ++ (back ++ []) ≡ front ++ back = ap (λ (l : List Item). front ++ l) (append-nil back) in
-    subst (HasRow placement flow.ops p next) none
-    (row-between placement flow.ops p next front back [] (row-in-blocks placement flow.ops 0 flow.blocks p b h))
+    let numbers : List Item = headers flow.arrays placement.arrays in
+    let back : List Item = block_rows flow placement 0 flow.blocks in
+    subst (HasRow flow placement p next) (behind-two front numbers back)
+    (row-between flow placement p next (front ++ numbers) back [] (row-in-blocks flow placement 0 flow.blocks p b h))
+  where
+    behind-two : (a b c : List Item) → (a ++ b) ++ (c ++ []) ≡ a ++ (b ++ c)
+    behind-two a b c = simp append_assoc (ap (λ (l : List Item). a ++ (b ++ l)) (append-nil c))
 
 -- where the items of a point stand
 record RowThere (flow : Flow) (slots : List ℕ) (code : Code) (p : ℕ) (next : Option ℕ) : Type 0 where
   rest : List Item
-  stands : StandsIn code (point_row (over_slots flow slots) flow.ops p ++ rest) (point_address code 0 p)
+  stands : StandsIn code (point_row flow (over_slots flow slots) p ++ rest) (point_address code 0 p)
   follows : (q : ℕ) → next ≡ Some q → (more : List Item) × (rest ≡ item.Point q ∷ more)
 
 row-there : (flow : Flow) (slots : List ℕ) (code : Code) (p b : ℕ)
@@ -301,13 +304,13 @@ row-there : (flow : Flow) (slots : List ℕ) (code : Code) (p b : ℕ)
 row-there flow slots code p b h stands =
     let l = laid flow slots code h in
     let r = row-in-graph flow (over_slots flow slots) p b stands in
-    let mine : List Item = point_row (over_slots flow slots) flow.ops p ++ r.rest in
+    let mine : List Item = point_row flow (over_slots flow slots) p ++ r.rest in
     let whole : StandsIn code (r.front ++ mine) l.address =
     subst (λ (items : List Item). StandsIn code items l.address) r.is l.stands in
     let behind = back-there code.symbols (places_of code) code.text r.front mine l.address whole in
     let address : (places_of code).points p ≡ l.address + behind.0 =
     point-there code.symbols (places_of code) code.text p
-    (row (over_slots flow slots) p (slice_index_or flow.ops p op.Turn) ++ r.rest)
+    (row flow (over_slots flow slots) p (slice_index_or flow.ops p op.Turn) ++ r.rest)
     (l.address + behind.0) behind.1 in
     let same : l.address + behind.0 ≡ point_address code 0 p = sym (address-of flow slots code p l ∙ address) in
     record { rest = r.rest; stands = subst (StandsIn code mine) same behind.1; follows = r.follows }
@@ -319,55 +322,55 @@ op-of flow p o e = get_or_from_slice_get flow.ops p o op.Turn e
 -- A state at the first point of block 0 has come through the label to its row.
 pub first-ready : (flow : Flow) (slots : List ℕ) (code : Code) (low high p : ℕ) (s : State)
     → IsSlotCode flow slots (selected flow (over_slots flow slots)) code → slice_get (points_of flow 0) 0 ≡ Some p
-    → ReadyAt (site_of code low high) (block_rows (over_slots flow slots) flow.ops 0 flow.blocks) s
+    → ReadyAt (site_of code low high) (block_rows flow (over_slots flow slots) 0 flow.blocks) s
     → (s.eip ≡ point_address code 0 p) × (rest : List Item)
-    × ReadyAt (site_of code low high) (point_row (over_slots flow slots) flow.ops p ++ rest) s
+    × ReadyAt (site_of code low high) (point_row flow (over_slots flow slots) p ++ rest) s
 first-ready flow slots code low high p s h first ready =
     let l = laid flow slots code h in
     let r = begin flow.blocks first ready in
     let passed = point-passed code.symbols (places_of code) code.text p
-    (row (over_slots flow slots) p (slice_index_or flow.ops p op.Turn) ++ r.0) s r.1 in
+    (row flow (over_slots flow slots) p (slice_index_or flow.ops p op.Turn) ++ r.0) s r.1 in
     (sym passed.0 ∙ sym (address-of flow slots code p l), r.0, r.1)
   where
     begin : (blocks : List (List ℕ)) → slice_get (slice_index_or blocks 0 []) 0 ≡ Some p
-        → ReadyAt (site_of code low high) (block_rows (over_slots flow slots) flow.ops 0 blocks) s
-        → (rest : List Item) × ReadyAt (site_of code low high) (point_row (over_slots flow slots) flow.ops p ++ rest) s
+        → ReadyAt (site_of code low high) (block_rows flow (over_slots flow slots) 0 blocks) s
+        → (rest : List Item) × ReadyAt (site_of code low high) (point_row flow (over_slots flow slots) p ++ rest) s
     begin [] e r = absurd (cc)
     begin ([] ∷ blocks) e r = absurd (cc)
     begin ((x ∷ points) ∷ blocks) e r =
-        let back : List Item = block_rows (over_slots flow slots) flow.ops 1 blocks in
-        let items : List Item = (point_row (over_slots flow slots) flow.ops x
-        ++ point_rows (over_slots flow slots) flow.ops points) ++ back in
-        let rest : List Item = point_rows (over_slots flow slots) flow.ops points ++ back in
+        let back : List Item = block_rows flow (over_slots flow slots) 1 blocks in
+        let items : List Item = (point_row flow (over_slots flow slots) x
+        ++ point_rows flow (over_slots flow slots) points) ++ back in
+        let rest : List Item = point_rows flow (over_slots flow slots) points ++ back in
         let at : ReadyAt (site_of code low high) items s =
         label-passed code.symbols (places_of code) code.text 0 items s r in
-        let grouped : items ≡ point_row (over_slots flow slots) flow.ops x ++ rest =
-        append_assoc (point_row (over_slots flow slots) flow.ops x)
-        (point_rows (over_slots flow slots) flow.ops points) back in
-        let here : ReadyAt (site_of code low high) (point_row (over_slots flow slots) flow.ops x ++ rest) s =
+        let grouped : items ≡ point_row flow (over_slots flow slots) x ++ rest =
+        append_assoc (point_row flow (over_slots flow slots) x)
+        (point_rows flow (over_slots flow slots) points) back in
+        let here : ReadyAt (site_of code low high) (point_row flow (over_slots flow slots) x ++ rest) s =
         subst (λ (i : List Item). ReadyAt (site_of code low high) i s) grouped at in (
           rest,
-          subst (λ (n : ℕ). ReadyAt (site_of code low high) (point_row (over_slots flow slots) flow.ops n ++ rest)
+          subst (λ (n : ℕ). ReadyAt (site_of code low high) (point_row flow (over_slots flow slots) n ++ rest)
               s)
               (same_Some x p e) here,
         )
 
 -- what stands behind a point, and then the next point of its block
-pub record RowLaid (placement : Placement) (code : Code) (p : ℕ) (o : Op) (next : Option ℕ) : Type 0 where
+pub record RowLaid (flow : Flow) (placement : Placement) (code : Code) (p : ℕ) (o : Op) (next : Option ℕ) : Type 0 where
   pub rest : List Item
-  pub there : StandsIn code (row placement p o ++ rest) (point_address code 0 p)
+  pub there : StandsIn code (row flow placement p o ++ rest) (point_address code 0 p)
   pub follows : (q : ℕ) → next ≡ Some q → (more : List Item) × (rest ≡ item.Point q ∷ more)
 
 -- The items of the op of a point stand at its address, and behind them the block's next point.
 pub point-laid : (flow : Flow) (slots : List ℕ) (code : Code) (p b : ℕ) (o : Op)
     → IsSlotCode flow slots (selected flow (over_slots flow slots)) code → Stands flow p b → slice_get flow.ops p
     ≡ Some o
-    → RowLaid (over_slots flow slots) code p o (following p (points_of flow b))
+    → RowLaid flow (over_slots flow slots) code p o (following p (points_of flow b))
 point-laid flow slots code p b o h stands has =
     let r = row-there flow slots code p b h stands in
-    let back : List Item = row (over_slots flow slots) p o ++ r.rest in
+    let back : List Item = row flow (over_slots flow slots) p o ++ r.rest in
     let there : StandsIn code (item.Point p ∷ back) (point_address code 0 p) =
-    subst (λ (i : Op). StandsIn code (item.Point p ∷ row (over_slots flow slots) p i ++ r.rest)
+    subst (λ (i : Op). StandsIn code (item.Point p ∷ row flow (over_slots flow slots) p i ++ r.rest)
     (point_address code 0 p))
     (op-of flow p o has) r.stands in
     record {
@@ -378,10 +381,10 @@ point-laid flow slots code p b o h stands has =
     }
 
 -- what is ready at a point, and behind it the next point of its block
-pub record RowReady (placement : Placement) (site : Site) (p : ℕ) (o : Op) (next : Option ℕ) (s : State) : Type 0
+pub record RowReady (flow : Flow) (placement : Placement) (site : Site) (p : ℕ) (o : Op) (next : Option ℕ) (s : State) : Type 0
   where
     pub rest : List Item
-    pub ready : ReadyAt site (row placement p o ++ rest) s
+    pub ready : ReadyAt site (row flow placement p o ++ rest) s
     pub follows : (q : ℕ) → next ≡ Some q → (more : List Item) × (rest ≡ item.Point q ∷ more)
 
 -- A state at the address of a point has the items of its op ready, and behind them the block's next point.
@@ -389,13 +392,13 @@ pub point-ready : (flow : Flow) (slots : List ℕ) (code : Code) (low high p b :
     → IsSlotCode flow slots (selected flow (over_slots flow slots)) code → Stands flow p b → slice_get flow.ops p
     ≡ Some o → s.eip
     ≡ point_address code 0 p
-    → RowReady (over_slots flow slots) (site_of code low high) p o (following p (points_of flow b)) s
+    → RowReady flow (over_slots flow slots) (site_of code low high) p o (following p (points_of flow b)) s
 point-ready flow slots code low high p b o s h stands has e =
     let r = point-laid flow slots code p b o h stands has in
     record {
       rest = r.rest;
       ready = ready-there code.symbols (places_of code) code.text
-          (row (over_slots flow slots) p o ++ r.rest)
+          (row flow (over_slots flow slots) p o ++ r.rest)
           (point_address code 0 p) s e r.there;
       follows = r.follows;
     }
@@ -514,7 +517,7 @@ pub point-among : (flow : Flow) (placement : Placement) (p b : ℕ) → Stands f
     × (slice_get (selected flow placement) j ≡ Some (item.Point p))
 point-among flow placement p b h =
     let r = row-in-graph flow placement p b h in
-    let back : List Item = row placement p (slice_index_or flow.ops p op.Turn) ++ r.rest in
+    let back : List Item = row flow placement p (slice_index_or flow.ops p op.Turn) ++ r.rest in
     (length r.front, ap (λ (l : List Item). slice_get l (length r.front)) r.is ∙ at-place r.front back (item.Point p))
 
 -- two points of the graph with one address are one point
@@ -529,7 +532,7 @@ apart flow slots code p b q c h one two e =
     let same : (places_of code).points p ≡ (places_of code).points q = sym (address-of flow slots code p l) ∙ e
     ∙ address-of flow slots code q l in
     one-address code.symbols (places_of code) l.address (selected flow (over_slots flow slots)) l.stands.bytes i.0 j.0 p
-    q (selected-room flow (over_slots flow slots) h.homes h.is_flow (slots-have flow.ops h.has_slots.ops))
+    q (selected-room flow (over_slots flow slots))
     l.stands.stand i.1 j.1 same
 
 -- a point and the items up to a call, with the call at the end of them or at the head of what follows

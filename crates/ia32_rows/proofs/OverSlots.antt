@@ -18,7 +18,7 @@ use Rattle.ia32_rows.specs.Computing.{branching, same_row}
 use Rattle.ia32_rows.specs.Passing.{putchar_row, getchar_row, exit_row, param_row, call_row, return_row}
 use Rattle.ia32_rows.specs.Accesses.{frame_row, static_row, load_row, store_row, get_row, put_row}
 use Rattle.ia32_rows.specs.Rows.{over_slots}
-use Rattle.ia32_rows.specs.Rows.{items_between, slot_place, row}
+use Rattle.ia32_rows.specs.Rows.{items_between, loop_label, slot_place, row}
 use Rattle.ia32_rows.proofs.Laid.{RowReady}
 use Rattle.ia32_shows.specs.Sites.{Site, ReadyAt}
 
@@ -60,8 +60,12 @@ any-is slots (Some v) = ap (λ (p : Place). Some p) (place-is slots v)
 -- ---- rows
 
 -- the items of an op over slots
+abbrev pub slot_row : Flow → List ℕ → ℕ → Op → List Item
+slot_row flow slots p o =
+    items_between (loop_label flow p) flow.arrays [] (slot_place slots) (slot_place slots) o
+
 pub row-over : (flow : Flow) (slots : List ℕ) (p : ℕ) (o : Op)
-    → row (over_slots flow slots) p o ≡ items_between [] (slot_place slots) (slot_place slots) o
+    → row flow (over_slots flow slots) p o ≡ slot_row flow slots p o
 row-over flow slots p (op.Const d n) = ap (λ (q : Place). number_row q n) (place-is slots d)
 row-over flow slots p (op.Copy d s) = two copy_row slots s d
 row-over flow slots p (op.Wide d s) = two widening slots d s
@@ -100,14 +104,15 @@ row-over flow slots p (op.Return (Some a)) = ap return_row (place-is slots a)
 row-over flow slots p o = refl
 
 -- The items of an op over slots are ready, and behind them the next point of its block.
-pub record RowOver (slots : List ℕ) (site : Site) (o : Op) (next : Option ℕ) (s : State) : Type 0 where
-  pub rest : List Item
-  pub ready : ReadyAt site (items_between [] (slot_place slots) (slot_place slots) o ++ rest) s
-  pub follows : (q : ℕ) → next ≡ Some q → (more : List Item) × (rest ≡ item.Point q ∷ more)
+pub record RowOver (flow : Flow) (slots : List ℕ) (site : Site) (p : ℕ) (o : Op) (next : Option ℕ) (s : State) : Type 0
+  where
+    pub rest : List Item
+    pub ready : ReadyAt site (slot_row flow slots p o ++ rest) s
+    pub follows : (q : ℕ) → next ≡ Some q → (more : List Item) × (rest ≡ item.Point q ∷ more)
 
 -- they are where the row of the slots' placement is
 pub over-ready : (flow : Flow) (slots : List ℕ) (site : Site) (p : ℕ) (o : Op) (next : Option ℕ) (s : State)
-    → RowReady (over_slots flow slots) site p o next s → RowOver slots site o next s
+    → RowReady flow (over_slots flow slots) site p o next s → RowOver flow slots site p o next s
 over-ready flow slots site p o next s r =
     record {
       rest = r.rest;

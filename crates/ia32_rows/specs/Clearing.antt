@@ -1,5 +1,5 @@
--- The row that makes every element of a frame array 0.
-use Rattle.std.specs.Prelude.{◌-◌, ℕ, pos, List, [], ◌∷◌}
+-- The row that makes every element of a frame array 0, and how many bytes that is.
+use Rattle.std.specs.Prelude.{◌+◌, ◌-◌, ◌*◌, ◌/◌, ℕ, pos, List, [], ◌∷◌}
 use Rattle.ia32_regs.specs.declared.names.Reg32.TheVariants.{Esi, Edi}
 use Rattle.ia32_insn.specs.declared.operand.Rm32.TheVariants as rm
 use Rattle.ia32_insn.specs.declared.insn.AluOp.TheVariants as alu
@@ -9,6 +9,10 @@ use Rattle.ia32_insn.specs.declared.item.Item.{Item}
 use Rattle.ia32_insn.specs.declared.item.Item.TheVariants as item
 use Rattle.ia32_insn.specs.Items.{near, plain}
 use Rattle.ia32_shows.specs.Placements.{below}
+
+-- the bytes of an array's elements, in whole words, where these are the bytes of one and their number
+abbrev pub size_of : ℕ × ℕ → ℕ
+size_of array = (array.0 * array.1 + 3) / 4 * 4
 
 -- The elements stand from so far below EBP on and take so many bytes, a multiple of 4 and at least one word. A loop
 -- over their words, from the last one down: ESI is behind the word that is next, and EDI at the first. The label is

@@ -112,3 +112,11 @@ prologue frame label =
     ∷ plain (insn.MovImm (rm.Reg Esi) (pos 0))
     ∷ plain (insn.Lea Edi (below 12))
     ∷ fill Edi Esi Esp label
+
+-- Behind them the number of each frame array's elements goes into the four bytes before it. There are as many arrays as
+-- distances below EBP.
+abbrev pub headers : List (ℕ × ℕ) → List ℕ → List Item
+headers arrays [] = []
+headers [] (distance ∷ belows) = []
+headers (array ∷ arrays) (distance ∷ belows) =
+    plain (insn.MovImm (rm.Mem (below (distance + 4))) (pos array.1)) ∷ headers arrays belows

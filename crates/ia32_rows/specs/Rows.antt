@@ -26,10 +26,11 @@ pub use Rattle.ia32_rows.specs.Computing.{divisor_of, before_division, dividing,
 pub use Rattle.ia32_rows.specs.Computing.{branching, jumping, same_row}
 pub use Rattle.ia32_rows.specs.Passing.{putchar_row, getchar_row, exit_row, argument_word, param_row, pass_all}
 pub use Rattle.ia32_rows.specs.Passing.{depth_number, deepen, undeepen, drop_words, write_any, before_call}
-pub use Rattle.ia32_rows.specs.Passing.{behind_call, call_row, leave, return_row, prologue}
+pub use Rattle.ia32_rows.specs.Passing.{behind_call, call_row, leave, return_row, prologue, headers}
 pub use Rattle.ia32_rows.specs.Accesses.{frame_row, static_row, loading, load_from, storing, store_to, get_row, put_row}
 pub use Rattle.ia32_rows.specs.Accesses.{index_register, count_before, element, check_array, check_index, checking}
 pub use Rattle.ia32_rows.specs.Accesses.{load_row, store_row}
+pub use Rattle.ia32_rows.specs.Clearing.{clear_row, size_of}
 
 -- ---- the graphs that have code so far
 
@@ -70,85 +71,49 @@ over_slots flow slots = in_slots (frame_of flow) [] slots
 
 -- ---- the items of an op
 
--- the items of an op, by how far below EBP frame arrays stand, and the places of variables before and after it
-abbrev pub items_between : List ℕ → (ℕ → Place) → (ℕ → Place) → Op → List Item
-items_between arrays before after (op.Const d n) = number_row (after d) n
-items_between arrays before after (op.Copy d s) = copy_row (before s) (after d)
-items_between arrays before after (op.Wide d s) = widening (after d) (before s)
-items_between arrays before after (op.Low d s) = lowering (after d) (before s)
-items_between arrays before after (op.Low16 d s) = halving (after d) (before s)
-items_between arrays before after (op.Neg d s) = changing insn.Neg (after d) (before s)
-items_between arrays before after (op.Not d s) = changing insn.Not (after d) (before s)
-items_between arrays before after (op.Add d a b) = commuting alu.Add (after d) (before a) (before b)
-items_between arrays before after (op.Sub d a b) = operation alu.Sub (after d) (before a) (before b)
-items_between arrays before after (op.Mul d a b) = multiplying (after d) (before a) (before b)
-items_between arrays before after (op.And d a b) = commuting alu.And (after d) (before a) (before b)
-items_between arrays before after (op.Or d a b) = commuting alu.Or (after d) (before a) (before b)
-items_between arrays before after (op.Xor d a b) = commuting alu.Xor (after d) (before a) (before b)
-items_between arrays before after (op.Shl d a c) = shifting shift.Shl (after d) (before a) (before c)
-items_between arrays before after (op.Sar d a c) = shifting shift.Sar (after d) (before a) (before c)
-items_between arrays before after (op.Div d a b) = dividing Eax (after d) (before a) (before b)
-items_between arrays before after (op.Rem d a b) = dividing Edx (after d) (before a) (before b)
-items_between arrays before after (op.Set how d a b) = setting how (after d) (before a) (before b)
-items_between arrays before after (op.Param d k) = param_row (after d) k
-items_between arrays before after (op.Call d f arguments) = call_row (option_map after d) f (map before arguments)
-items_between arrays before after (op.Putchar d s) = putchar_row (after d) (before s)
-items_between arrays before after (op.Getchar d) = getchar_row (after d)
-items_between arrays before after (op.Exit s) = exit_row (before s)
-items_between arrays before after (op.Same a b) = same_row (before a) (before b)
-items_between arrays before after (op.Mark s) = plain insn.Nop ∷ []
-items_between arrays before after op.Turn = plain insn.Nop ∷ []
-items_between arrays before after (op.Jump x) = jumping x
-items_between arrays before after (op.Branch how a b x y) = branching how (before a) (before b) x y
-items_between arrays before after (op.Return (Some a)) = return_row (before a)
-items_between arrays before after (op.Return None) = leave
-items_between arrays before after (op.Frame d k) = frame_row (after d) (slice_index_or arrays k 0)
-items_between arrays before after (op.Static d k) = static_row (after d) k
-items_between arrays before after (op.Load bits d p i) = load_row bits (after d) (before p) (before i)
-items_between arrays before after (op.Store bits p i s) = store_row bits (before p) (before i) (before s)
-items_between arrays before after (op.Get bits d k) = get_row bits (after d) k
-items_between arrays before after (op.Put bits k s) = put_row bits k (before s)
--- this one has none so far
-items_between arrays before after (op.Clear k) = []
-
--- the ops that have items: all but `clear`
-abbrev pub HasItems : Op → Type 0
-HasItems (op.Const d n) = ⊤
-HasItems (op.Copy d s) = ⊤
-HasItems (op.Wide d s) = ⊤
-HasItems (op.Low d s) = ⊤
-HasItems (op.Low16 d s) = ⊤
-HasItems (op.Neg d s) = ⊤
-HasItems (op.Not d s) = ⊤
-HasItems (op.Add d a b) = ⊤
-HasItems (op.Sub d a b) = ⊤
-HasItems (op.Mul d a b) = ⊤
-HasItems (op.And d a b) = ⊤
-HasItems (op.Or d a b) = ⊤
-HasItems (op.Xor d a b) = ⊤
-HasItems (op.Shl d a c) = ⊤
-HasItems (op.Sar d a c) = ⊤
-HasItems (op.Div d a b) = ⊤
-HasItems (op.Rem d a b) = ⊤
-HasItems (op.Set how d a b) = ⊤
-HasItems (op.Param d k) = ⊤
-HasItems (op.Call d f arguments) = ⊤
-HasItems (op.Putchar d s) = ⊤
-HasItems (op.Getchar d) = ⊤
-HasItems (op.Exit s) = ⊤
-HasItems (op.Same a b) = ⊤
-HasItems (op.Mark s) = ⊤
-HasItems op.Turn = ⊤
-HasItems (op.Jump x) = ⊤
-HasItems (op.Branch how a b x y) = ⊤
-HasItems (op.Return a) = ⊤
-HasItems (op.Frame d n) = ⊤
-HasItems (op.Static d n) = ⊤
-HasItems (op.Load bits d a i) = ⊤
-HasItems (op.Store bits a i s) = ⊤
-HasItems (op.Get bits d n) = ⊤
-HasItems (op.Put bits n s) = ⊤
-HasItems (op.Clear n) = ⊥
+-- The items of an op, by the label of its loop, if it has one, the frame arrays and how far below EBP they stand, and the
+-- places of variables before and after it.
+abbrev pub items_between : ℕ → List (ℕ × ℕ) → List ℕ → (ℕ → Place) → (ℕ → Place) → Op → List Item
+items_between label arrays distances before after (op.Const d n) = number_row (after d) n
+items_between label arrays distances before after (op.Copy d s) = copy_row (before s) (after d)
+items_between label arrays distances before after (op.Wide d s) = widening (after d) (before s)
+items_between label arrays distances before after (op.Low d s) = lowering (after d) (before s)
+items_between label arrays distances before after (op.Low16 d s) = halving (after d) (before s)
+items_between label arrays distances before after (op.Neg d s) = changing insn.Neg (after d) (before s)
+items_between label arrays distances before after (op.Not d s) = changing insn.Not (after d) (before s)
+items_between label arrays distances before after (op.Add d a b) = commuting alu.Add (after d) (before a) (before b)
+items_between label arrays distances before after (op.Sub d a b) = operation alu.Sub (after d) (before a) (before b)
+items_between label arrays distances before after (op.Mul d a b) = multiplying (after d) (before a) (before b)
+items_between label arrays distances before after (op.And d a b) = commuting alu.And (after d) (before a) (before b)
+items_between label arrays distances before after (op.Or d a b) = commuting alu.Or (after d) (before a) (before b)
+items_between label arrays distances before after (op.Xor d a b) = commuting alu.Xor (after d) (before a) (before b)
+items_between label arrays distances before after (op.Shl d a c) = shifting shift.Shl (after d) (before a) (before c)
+items_between label arrays distances before after (op.Sar d a c) = shifting shift.Sar (after d) (before a) (before c)
+items_between label arrays distances before after (op.Div d a b) = dividing Eax (after d) (before a) (before b)
+items_between label arrays distances before after (op.Rem d a b) = dividing Edx (after d) (before a) (before b)
+items_between label arrays distances before after (op.Set how d a b) = setting how (after d) (before a) (before b)
+items_between label arrays distances before after (op.Param d k) = param_row (after d) k
+items_between label arrays distances before after (op.Call d f arguments) =
+    call_row (option_map after d) f (map before arguments)
+items_between label arrays distances before after (op.Putchar d s) = putchar_row (after d) (before s)
+items_between label arrays distances before after (op.Getchar d) = getchar_row (after d)
+items_between label arrays distances before after (op.Exit s) = exit_row (before s)
+items_between label arrays distances before after (op.Same a b) = same_row (before a) (before b)
+items_between label arrays distances before after (op.Mark s) = plain insn.Nop ∷ []
+items_between label arrays distances before after op.Turn = plain insn.Nop ∷ []
+items_between label arrays distances before after (op.Jump x) = jumping x
+items_between label arrays distances before after (op.Branch how a b x y) = branching how (before a) (before b) x y
+items_between label arrays distances before after (op.Return (Some a)) = return_row (before a)
+items_between label arrays distances before after (op.Return None) = leave
+items_between label arrays distances before after (op.Frame d k) = frame_row (after d) (slice_index_or distances k 0)
+items_between label arrays distances before after (op.Static d k) = static_row (after d) k
+items_between label arrays distances before after (op.Load bits d p i) = load_row bits (after d) (before p) (before i)
+items_between label arrays distances before after (op.Store bits p i s) =
+    store_row bits (before p) (before i) (before s)
+items_between label arrays distances before after (op.Get bits d k) = get_row bits (after d) k
+items_between label arrays distances before after (op.Put bits k s) = put_row bits k (before s)
+items_between label arrays distances before after (op.Clear k) =
+    clear_row label (slice_index_or distances k 0) (size_of (slice_index_or arrays k (0, 0)))
 
 -- where a variable stands before a point, and after it; one that stands nowhere is at EBP, where no variable stands
 abbrev pub place_before : Placement → ℕ → ℕ → Place
@@ -161,32 +126,42 @@ place_after placement point v = unwrap_or (placement.after point v) (InSlot 0)
 abbrev pub slot_place : List ℕ → ℕ → Place
 slot_place slots v = InSlot (slice_index_or slots v 0)
 
--- the items of an op at a point
-abbrev pub row : Placement → ℕ → Op → List Item
-row placement point o =
-    items_between placement.arrays (place_before placement point) (place_after placement point) o
+-- ---- labels
 
--- ---- the items of a graph
-
--- the label of the loop is the number behind those of the blocks
+-- Block k has the label k, the loop of the first items the number behind those of the blocks, and the loop of a point
+-- the one that is so far behind that.
 abbrev pub entry_label : Flow → ℕ
 entry_label flow = length flow.blocks
 
--- a point and the items of its op
-abbrev pub point_row : Placement → List Op → ℕ → List Item
-point_row placement ops point = item.Point point ∷ row placement point (slice_index_or ops point op.Turn)
+abbrev pub loop_label : Flow → ℕ → ℕ
+loop_label flow point = suc (length flow.blocks) + point
 
-abbrev pub point_rows : Placement → List Op → List ℕ → List Item
-point_rows placement ops [] = []
-point_rows placement ops (point ∷ points) = point_row placement ops point ++ point_rows placement ops points
+-- ---- the items of a graph
+
+-- the items of an op at a point
+abbrev pub row : Flow → Placement → ℕ → Op → List Item
+row flow placement point o =
+    items_between (loop_label flow point) flow.arrays placement.arrays (place_before placement point)
+    (place_after placement point) o
+
+-- a point and the items of its op
+abbrev pub point_row : Flow → Placement → ℕ → List Item
+point_row flow placement point =
+    item.Point point ∷ row flow placement point (slice_index_or flow.ops point op.Turn)
+
+abbrev pub point_rows : Flow → Placement → List ℕ → List Item
+point_rows flow placement [] = []
+point_rows flow placement (point ∷ points) = point_row flow placement point ++ point_rows flow placement points
 
 -- the blocks from a number on, each behind its label
-abbrev pub block_rows : Placement → List Op → ℕ → List (List ℕ) → List Item
-block_rows placement ops k [] = []
-block_rows placement ops k (points ∷ blocks) =
-    (item.Label k ∷ point_rows placement ops points) ++ block_rows placement ops (suc k) blocks
+abbrev pub block_rows : Flow → Placement → ℕ → List (List ℕ) → List Item
+block_rows flow placement k [] = []
+block_rows flow placement k (points ∷ blocks) =
+    (item.Label k ∷ point_rows flow placement points) ++ block_rows flow placement (suc k) blocks
 
--- the items of a graph whose variables stand in these places
+-- The items of a graph whose variables and frame arrays stand in these places: its first items, the number of each
+-- array's elements, and its blocks.
 abbrev pub selected : Flow → Placement → List Item
 selected flow placement =
-    prologue placement.frame (entry_label flow) ++ block_rows placement flow.ops 0 flow.blocks
+    prologue placement.frame (entry_label flow)
+    ++ (headers flow.arrays placement.arrays ++ block_rows flow placement 0 flow.blocks)

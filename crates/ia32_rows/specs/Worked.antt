@@ -1,5 +1,5 @@
 -- The items of ops, over slots and over registers.
-use Rattle.std.specs.Prelude.{◌≡◌, pos, negsuc, [], ◌∷◌, slice_get, Some, None}
+use Rattle.std.specs.Prelude.{◌≡◌, pos, negsuc, List, [], ◌∷◌, slice_get, Some, None}
 use Rattle.ia32_regs.specs.declared.names.Reg32.TheVariants.{Eax, Ecx, Edx, Ebx, Esp, Ebp, Esi, Edi}
 use Rattle.ia32_regs.specs.declared.names.Reg8.TheVariants.{Al, Bl, Bh, Cl}
 use Rattle.ia32_places.specs.Places.{Place, InWord, InByte, InSlot}
@@ -8,14 +8,21 @@ use Rattle.ia32_insn.specs.declared.operand.Rm8.TheVariants as rm8
 use Rattle.ia32_insn.specs.declared.insn.AluOp.TheVariants as alu
 use Rattle.ia32_insn.specs.declared.insn.Cond.TheVariants as cond
 use Rattle.ia32_insn.specs.declared.insn.Insn.TheVariants as insn
+use Rattle.ia32_insn.specs.declared.item.Item.{Item}
 use Rattle.ia32_insn.specs.declared.item.Item.TheVariants as item
 use Rattle.ia32_insn.specs.declared.item.Stub.TheVariants as stub
 use Rattle.ia32_insn.specs.Items.{near, plain}
 use Rattle.flow_graph.specs.declared.op.Bits.TheVariants.{Eight, Sixteen, ThirtyTwo}
 use Rattle.flow_graph.specs.declared.op.Comparison.TheVariants.{Lt}
+use Rattle.flow_graph.specs.declared.op.Op.{Op}
 use Rattle.flow_graph.specs.declared.op.Op.TheVariants as op
 use Rattle.ia32_shows.specs.Placements.{Placement, below, in_slots}
-use Rattle.ia32_rows.specs.Rows.{row}
+use Rattle.ia32_rows.specs.Rows.{headers, row}
+
+-- the items of an op at point 7 of a graph of one block, with a frame array of five elements of two bytes
+abbrev pub row_in : Placement → Op → List Item
+row_in placement o =
+    row (record { widths = []; arrays = (2, 5) ∷ []; blocks = [] ∷ []; ops = [] }) placement 7 o
 
 -- three variables, each in the same place before and after each point
 abbrev pub all_in : Place → Place → Place → Placement
@@ -39,43 +46,43 @@ result_to result = record {
 -- did; a difference whose result stands where its second operand did goes by ESI.
 abbrev pub SumsAreRows : Type 0
 SumsAreRows =
-    (row (in_slots 28 [] (20 ∷ 24 ∷ 28 ∷ [])) 7 (op.Add 2 0 1)
+    (row_in (in_slots 28 [] (20 ∷ 24 ∷ 28 ∷ [])) (op.Add 2 0 1)
     ≡ plain (insn.MovLoad Esi (below 20)) ∷ plain (insn.AluLoad alu.Add Esi (below 24))
     ∷ plain (insn.Mov (rm.Mem (below 28)) Esi) ∷ [])
-    × (row (result_to (InWord Edx)) 7 (op.Add 2 0 1)
+    × (row_in (result_to (InWord Edx)) (op.Add 2 0 1)
     ≡ plain (insn.Mov (rm.Reg Edx) Eax) ∷ plain (insn.Alu alu.Add (rm.Reg Edx) Ecx) ∷ [])
-    × (row (result_to (InWord Eax)) 7 (op.Add 2 0 1) ≡ plain (insn.Alu alu.Add (rm.Reg Eax) Ecx) ∷ [])
-    × (row (result_to (InWord Ecx)) 7 (op.Add 2 0 1) ≡ plain (insn.Alu alu.Add (rm.Reg Ecx) Eax) ∷ [])
-    × (row (result_to (InWord Ecx)) 7 (op.Sub 2 0 1)
+    × (row_in (result_to (InWord Eax)) (op.Add 2 0 1) ≡ plain (insn.Alu alu.Add (rm.Reg Eax) Ecx) ∷ [])
+    × (row_in (result_to (InWord Ecx)) (op.Add 2 0 1) ≡ plain (insn.Alu alu.Add (rm.Reg Ecx) Eax) ∷ [])
+    × (row_in (result_to (InWord Ecx)) (op.Sub 2 0 1)
     ≡ plain (insn.Mov (rm.Reg Esi) Eax) ∷ plain (insn.Alu alu.Sub (rm.Reg Esi) Ecx)
     ∷ plain (insn.Mov (rm.Reg Ecx) Esi) ∷ [])
-    × (row (result_to (InSlot 20)) 7 (op.Sub 2 0 1)
+    × (row_in (result_to (InSlot 20)) (op.Sub 2 0 1)
     ≡ plain (insn.Mov (rm.Reg Esi) Eax) ∷ plain (insn.Alu alu.Sub (rm.Reg Esi) Ecx)
     ∷ plain (insn.Mov (rm.Mem (below 20)) Esi) ∷ [])
-    × (row (result_to (InWord Eax)) 7 (op.Sub 2 0 0) ≡ plain (insn.Alu alu.Sub (rm.Reg Eax) Eax) ∷ [])
-    × (row (all_in (InWord Eax) (InSlot 20) (InWord Edx)) 7 (op.Add 2 1 0)
+    × (row_in (result_to (InWord Eax)) (op.Sub 2 0 0) ≡ plain (insn.Alu alu.Sub (rm.Reg Eax) Eax) ∷ [])
+    × (row_in (all_in (InWord Eax) (InSlot 20) (InWord Edx)) (op.Add 2 1 0)
     ≡ plain (insn.MovLoad Edx (below 20)) ∷ plain (insn.Alu alu.Add (rm.Reg Edx) Eax) ∷ [])
 
 -- Numbers and copies are one instruction, but from a slot to a slot; a byte is moved as a byte.
 abbrev pub MovesAreRows : Type 0
 MovesAreRows =
-    (row (all_in (InWord Eax) (InSlot 20) (InByte Bh)) 7 (op.Const 0 (pos 5))
+    (row_in (all_in (InWord Eax) (InSlot 20) (InByte Bh)) (op.Const 0 (pos 5))
     ≡ plain (insn.MovImm (rm.Reg Eax) (pos 5)) ∷ [])
-    × (row (all_in (InWord Eax) (InSlot 20) (InByte Bh)) 7 (op.Const 1 (pos 5))
+    × (row_in (all_in (InWord Eax) (InSlot 20) (InByte Bh)) (op.Const 1 (pos 5))
     ≡ plain (insn.MovImm (rm.Mem (below 20)) (pos 5)) ∷ [])
-    × (row (all_in (InWord Eax) (InSlot 20) (InByte Bh)) 7 (op.Const 2 (pos 5)) ≡ plain (insn.Mov8Imm Bh 5) ∷ [])
-    × (row (all_in (InWord Eax) (InSlot 20) (InWord Edx)) 7 (op.Copy 2 1)
+    × (row_in (all_in (InWord Eax) (InSlot 20) (InByte Bh)) (op.Const 2 (pos 5)) ≡ plain (insn.Mov8Imm Bh 5) ∷ [])
+    × (row_in (all_in (InWord Eax) (InSlot 20) (InWord Edx)) (op.Copy 2 1)
     ≡ plain (insn.MovLoad Edx (below 20)) ∷ [])
-    × (row (all_in (InSlot 24) (InSlot 20) (InWord Edx)) 7 (op.Copy 0 1)
+    × (row_in (all_in (InSlot 24) (InSlot 20) (InWord Edx)) (op.Copy 0 1)
     ≡ plain (insn.MovLoad Esi (below 20)) ∷ plain (insn.Mov (rm.Mem (below 24)) Esi) ∷ [])
-    × (row (all_in (InByte Bl) (InSlot 20) (InByte Bh)) 7 (op.Copy 2 0)
+    × (row_in (all_in (InByte Bl) (InSlot 20) (InByte Bh)) (op.Copy 2 0)
     ≡ plain (insn.Mov8 (rm8.Reg Bh) Bl) ∷ [])
 
 -- A call counts itself, passes its words from the last one on, and takes them off and the count back behind itself; the
 -- result is in EAX. Where it passes no words, it takes none off; where no result is wanted, none is written.
 abbrev pub CallsAreRows : Type 0
 CallsAreRows =
-    (row (all_in (InSlot 20) (InWord Ebx) (InSlot 28)) 7 (op.Call (Some 2) 5 (0 ∷ 1 ∷ []))
+    (row_in (all_in (InSlot 20) (InWord Ebx) (InSlot 28)) (op.Call (Some 2) 5 (0 ∷ 1 ∷ []))
     ≡ item.AddressOf Esi 0xffffffff
     ∷ plain (insn.AluImm alu.Cmp (rm.Mem (near Esi 0)) (pos 4096))
     ∷ item.JumpTrap (Some cond.Ae)
@@ -88,7 +95,7 @@ CallsAreRows =
     ∷ plain (insn.AluImm alu.Sub (rm.Mem (near Esi 0)) (pos 1))
     ∷ plain (insn.Mov (rm.Mem (below 28)) Eax)
     ∷ [])
-    × (row (result_to (InWord Edx)) 7 (op.Call None 5 [])
+    × (row_in (result_to (InWord Edx)) (op.Call None 5 [])
     ≡ item.AddressOf Esi 0xffffffff
     ∷ plain (insn.AluImm alu.Cmp (rm.Mem (near Esi 0)) (pos 4096))
     ∷ item.JumpTrap (Some cond.Ae)
@@ -97,21 +104,21 @@ CallsAreRows =
     ∷ item.AddressOf Esi 0xffffffff
     ∷ plain (insn.AluImm alu.Sub (rm.Mem (near Esi 0)) (pos 1))
     ∷ [])
-    × (row (result_to (InWord Edx)) 7 (op.Param 2 3)
+    × (row_in (result_to (InWord Edx)) (op.Param 2 3)
     ≡ plain (insn.MovLoad Edx (record { base = Some Ebp; index = None; disp = pos 20 })) ∷ [])
-    × (row (result_to (InWord Eax)) 7 (op.Getchar 2) ≡ item.CallStub stub.Getchar ∷ [])
-    × (row (all_in (InWord Ebx) (InSlot 20) (InSlot 24)) 7 (op.Exit 0)
+    × (row_in (result_to (InWord Eax)) (op.Getchar 2) ≡ item.CallStub stub.Getchar ∷ [])
+    × (row_in (all_in (InWord Ebx) (InSlot 20) (InSlot 24)) (op.Exit 0)
     ≡ plain (insn.Push (rm.Reg Ebx)) ∷ item.CallStub stub.Exit ∷ [])
 
 -- A branch compares its words where they stand, and so does the check that two are the same.
 abbrev pub BranchesAreRows : Type 0
 BranchesAreRows =
-    (row (all_in (InWord Eax) (InSlot 20) (InSlot 24)) 7 (op.Branch Lt 0 1 3 4)
+    (row_in (all_in (InWord Eax) (InSlot 20) (InSlot 24)) (op.Branch Lt 0 1 3 4)
     ≡ plain (insn.AluLoad alu.Cmp Eax (below 20)) ∷ item.JumpIf cond.L 3 ∷ item.JumpTo 4 ∷ [])
-    × (row (all_in (InWord Eax) (InSlot 20) (InSlot 24)) 7 (op.Same 1 2)
+    × (row_in (all_in (InWord Eax) (InSlot 20) (InSlot 24)) (op.Same 1 2)
     ≡ plain (insn.MovLoad Esi (below 20)) ∷ plain (insn.AluLoad alu.Cmp Esi (below 24))
     ∷ item.JumpTrap (Some cond.Ne) ∷ [])
-    × (row (all_in (InWord Eax) (InSlot 20) (InSlot 24)) 7 (op.Jump 3) ≡ item.JumpTo 3 ∷ [])
+    × (row_in (all_in (InWord Eax) (InSlot 20) (InSlot 24)) (op.Jump 3) ≡ item.JumpTo 3 ∷ [])
 
 -- ---- arrays and static objects
 
@@ -128,29 +135,29 @@ with_array first second third = record {
 -- its address, and a byte is stored by a byte register.
 abbrev pub ObjectsAreRows : Type 0
 ObjectsAreRows =
-    (row (with_array (InWord Edx) (InSlot 20) (InWord Ecx)) 7 (op.Frame 0 0)
+    (row_in (with_array (InWord Edx) (InSlot 20) (InWord Ecx)) (op.Frame 0 0)
     ≡ plain (insn.Lea Edx (below 40)) ∷ [])
-    × (row (with_array (InWord Edx) (InSlot 20) (InWord Ecx)) 7 (op.Static 1 5)
+    × (row_in (with_array (InWord Edx) (InSlot 20) (InWord Ecx)) (op.Static 1 5)
     ≡ item.AddressOf Esi 5 ∷ plain (insn.Mov (rm.Mem (below 20)) Esi) ∷ [])
-    × (row (with_array (InWord Edx) (InSlot 20) (InWord Ecx)) 7 (op.Get ThirtyTwo 0 5)
+    × (row_in (with_array (InWord Edx) (InSlot 20) (InWord Ecx)) (op.Get ThirtyTwo 0 5)
     ≡ item.AddressOf Esi 5 ∷ plain (insn.MovLoad Edx (near Esi 0)) ∷ [])
-    × (row (with_array (InWord Edx) (InSlot 20) (InWord Ecx)) 7 (op.Put Eight 5 2)
+    × (row_in (with_array (InWord Edx) (InSlot 20) (InWord Ecx)) (op.Put Eight 5 2)
     ≡ item.AddressOf Edi 5 ∷ plain (insn.Mov8 (rm8.Mem (near Edi 0)) Cl) ∷ [])
-    × (row (with_array (InWord Edx) (InSlot 20) (InWord Ecx)) 7 (op.Put Eight 5 1)
+    × (row_in (with_array (InWord Edx) (InSlot 20) (InWord Ecx)) (op.Put Eight 5 1)
     ≡ item.AddressOf Edi 5 ∷ plain (insn.MovLoad Esi (below 20)) ∷ plain (insn.Xchg (rm.Reg Esi) Eax)
     ∷ plain (insn.Mov8 (rm8.Mem (near Edi 0)) Al) ∷ plain (insn.Xchg (rm.Reg Esi) Eax) ∷ [])
 
 -- An access checks that there is an array, and then the index against the number of its elements.
 abbrev pub AccessesAreRows : Type 0
 AccessesAreRows =
-    (row (with_array (InWord Edx) (InWord Ebx) (InWord Ecx)) 7 (op.Load Sixteen 0 1 2)
+    (row_in (with_array (InWord Edx) (InWord Ebx) (InWord Ecx)) (op.Load Sixteen 0 1 2)
     ≡ plain (insn.Test (rm.Reg Ebx) Ebx)
     ∷ item.JumpTrap (Some cond.E)
     ∷ plain (insn.AluLoad alu.Cmp Ecx (record { base = Some Ebx; index = None; disp = negsuc 3 }))
     ∷ item.JumpTrap (Some cond.Ae)
     ∷ plain (insn.MovSx16 Edx (rm.Mem (record { base = Some Ebx; index = Some (Ecx, 2); disp = pos 0 })))
     ∷ [])
-    × (row (with_array (InSlot 20) (InSlot 24) (InWord Ecx)) 7 (op.Store ThirtyTwo 0 1 2)
+    × (row_in (with_array (InSlot 20) (InSlot 24) (InWord Ecx)) (op.Store ThirtyTwo 0 1 2)
     ≡ plain (insn.MovLoad Esi (below 20))
     ∷ plain (insn.Test (rm.Reg Esi) Esi)
     ∷ item.JumpTrap (Some cond.E)
@@ -160,3 +167,23 @@ AccessesAreRows =
     ∷ plain (insn.Lea Edi (record { base = Some Esi; index = Some (Edi, 4); disp = pos 0 }))
     ∷ plain (insn.Mov (rm.Mem (near Edi 0)) Ecx)
     ∷ [])
+
+-- An array is made 0 word by word, from the last one down, in a loop of its own: five elements of two bytes are three
+-- words.
+abbrev pub ClearsAreRows : Type 0
+ClearsAreRows =
+    row_in (with_array (InWord Edx) (InSlot 20) (InWord Ecx)) (op.Clear 0)
+    ≡ plain (insn.Lea Edi (below 40))
+    ∷ plain (insn.Lea Esi (below 28))
+    ∷ item.Label 9
+    ∷ plain (insn.AluImm alu.Sub (rm.Reg Esi) (pos 4))
+    ∷ plain (insn.MovImm (rm.Mem (near Esi 0)) (pos 0))
+    ∷ plain (insn.Alu alu.Cmp (rm.Reg Esi) Edi)
+    ∷ item.JumpIf cond.Ne 9
+    ∷ []
+
+-- Behind the first items the number of each array's elements goes before it.
+abbrev pub HeadersAreRows : Type 0
+HeadersAreRows =
+    headers ((2, 5) ∷ (4, 3) ∷ []) (28 ∷ 44 ∷ [])
+    ≡ plain (insn.MovImm (rm.Mem (below 32)) (pos 5)) ∷ plain (insn.MovImm (rm.Mem (below 48)) (pos 3)) ∷ []

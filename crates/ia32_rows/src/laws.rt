@@ -10,7 +10,7 @@ ghost use Rattle.ia32_shows.specs.Placements.{Code, point_address};
 ghost use Rattle.ia32_rows.specs.Rows.{over_slots, row, selected};
 ghost use Rattle.ia32_rows.specs.Right.{IsSlotCode};
 ghost use Rattle.ia32_rows.specs.Worked.{SumsAreRows, MovesAreRows, CallsAreRows, BranchesAreRows};
-ghost use Rattle.ia32_rows.specs.Worked.{ObjectsAreRows, AccessesAreRows};
+ghost use Rattle.ia32_rows.specs.Worked.{ObjectsAreRows, AccessesAreRows, ClearsAreRows, HeadersAreRows};
 
 /// At the address of a point of a block the items of its op stand, and behind them the block's next point; no two
 /// points have one address.
@@ -20,7 +20,7 @@ pub fn points_are_laid()
         → slice_get flow.ops p ≡ Some o
         → (places : Places) × (rest : List Item) × (bytes : List ℕ) × (slice_get code.places 0 ≡ Some places)
         × IsAt code.text (point_address code 0 p) bytes
-        × ItemsAt code.symbols places (point_address code 0 p) (row (over_slots flow slots) p o ++ rest) bytes
+        × ItemsAt code.symbols places (point_address code 0 p) (row flow (over_slots flow slots) p o ++ rest) bytes
         × ((q : ℕ) → following p (points_of flow b) ≡ Some q → (more : List Item) × (rest ≡ item.Point q ∷ more)) }
     ensures apart { (flow : Flow) (slots : List ℕ) (code : Code) (p b q c : ℕ)
         → IsSlotCode flow slots (selected flow (over_slots flow slots)) code → Stands flow p b → Stands flow q c
@@ -47,4 +47,6 @@ pub fn rows_are_short()
     ensures branches { BranchesAreRows }
     ensures objects { ObjectsAreRows }
     ensures accesses { AccessesAreRows }
+    ensures clears { ClearsAreRows }
+    ensures headers { HeadersAreRows }
 {}
