@@ -22,6 +22,7 @@ use Rattle.ia32_shows.specs.Shows.{stack_bytes}
 use Rattle.ia32_shows.specs.Sites.{Site, SoundAt}
 use Rattle.ia32_shows.proofs.Sound.{load-place}
 use Rattle.ia32_shows.proofs.Steps.{comes-then, label-passed, point-passed}
+use Rattle.ia32_rows.specs.Rows.{headers}
 use Rattle.ia32_calls.specs.Laws.{Entered}
 use Rattle.ia32_calls.proofs.Prologue.{prologue-goes}
 use Rattle.ia32_keeps.specs.Laws.{data_end}
@@ -29,7 +30,7 @@ use Rattle.ia32_keeps.specs.Supports.{AreArraysIn, IsSupported, Supports, site_o
 use Rattle.ia32_keeps.proofs.Memory.{areas-are, text-above}
 use Rattle.ia32_keeps.proofs.Zones.{frame_size}
 use Rattle.ia32_entries.specs.Called.{Called, WaitAtEbp}
-use Rattle.ia32_entries.specs.Laws.{EntryAt, headers}
+use Rattle.ia32_entries.specs.Laws.{EntryAt}
 use Rattle.ia32_entries.proofs.Chains.{stack-small}
 use Rattle.ia32_entries.proofs.Headers.{Headed, HeadersApart, headers-go}
 

@@ -15,7 +15,7 @@ use Rattle.ia32_shows.specs.Sites.{Framed, ReadyAt, Site}
 use Rattle.ia32_shows.proofs.Frames.{number-stored}
 use Rattle.ia32_shows.proofs.Steps.{comes-not, comes-then}
 use Rattle.ia32_keeps.specs.Supports.{AreArraysIn, size_of}
-use Rattle.ia32_entries.specs.Laws.{headers}
+use Rattle.ia32_rows.specs.Rows.{headers}
 
 -- the four bytes of the number of each array are apart from so many bytes
 abbrev pub HeadersApart : ℕ → List (ℕ × ℕ) → List ℕ → ℕ → ℕ → Type 0

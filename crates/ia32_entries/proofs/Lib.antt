@@ -6,6 +6,7 @@ pub mod Fresh
 pub mod Entry
 pub mod Marked
 pub mod Passed
+pub mod Ready
 pub mod Younger
 pub mod Calling
 pub mod Back

@@ -1,29 +1,20 @@
 -- That a function's first items come to its first point.
-use Rattle.std.specs.Prelude.{◌+◌, ℕ, pos, List, [], ◌∷◌, ◌++◌}
-use Rattle.ia32_insn.specs.declared.operand.Rm32.TheVariants as rm
-use Rattle.ia32_insn.specs.declared.insn.Insn.TheVariants as insn
+use Rattle.std.specs.Prelude.{◌<◌, ℕ, List, ◌∷◌, ◌++◌, length}
 use Rattle.ia32_insn.specs.declared.item.Item.{Item}
 use Rattle.ia32_insn.specs.declared.item.Item.TheVariants as item
 use Rattle.ia32_insn.specs.State as machine
-use Rattle.ia32_insn.specs.Items.{plain}
 use Rattle.flow_graph.specs.States as graph
 use Rattle.flow_graph.specs.States.{flow_at}
 use Rattle.flow_graph.specs.WellFormed.{IsState}
 use Rattle.ia32_shows.specs.Follows.{ComesTo}
-use Rattle.ia32_shows.specs.Placements.{Code, below, placement_of}
+use Rattle.ia32_shows.specs.Placements.{Code, placement_of}
 use Rattle.ia32_shows.specs.Sites.{ReadyAt}
-use Rattle.ia32_rows.specs.Rows.{prologue}
+use Rattle.ia32_rows.specs.Rows.{headers, prologue}
 use Rattle.ia32_keeps.specs.Supports.{IsSupported, site_of}
+use Rattle.ia32_standing.specs.Laws.{IsSelected}
 use Rattle.ia32_entries.specs.Called.{Called}
 
 -- ---- a function's first items
-
--- The number of each frame array's elements goes into the four bytes before it. There are as many arrays as distances.
-abbrev pub headers : List (ℕ × ℕ) → List ℕ → List Item
-headers arrays [] = []
-headers [] (distance ∷ belows) = []
-headers (array ∷ arrays) (distance ∷ belows) =
-    plain (insn.MovImm (rm.Mem (below (distance + 4))) (pos array.1)) ∷ headers arrays belows
 
 -- The first items of the current call's function are ready at EIP, and behind them stand its first point and more.
 pub record EntryAt (code : Code) (g : graph.State) (s : machine.State) : Type 0 where
@@ -33,6 +24,12 @@ pub record EntryAt (code : Code) (g : graph.State) (s : machine.State) : Type 0 
       (prologue (placement_of code g.current.function).frame label
       ++ (headers (flow_at code.program g.current.function).arrays (placement_of code g.current.function).arrays
       ++ (item.Label 0 ∷ item.Point g.point ∷ rest))) s
+
+-- So it is in selected code where a call has begun.
+abbrev pub EntriesAreReady : Type 0
+EntriesAreReady =
+    (code : Code) (input : List ℕ) (g : graph.State) (s : machine.State) → IsSelected code
+    → g.current.function < length code.program.functions → Called code input g s → EntryAt code g s
 
 -- From a function's first item the machine comes to a state that shows its first point: the frame is made, variables
 -- and elements are 0, and each array has its number of elements.

@@ -4,7 +4,7 @@ use Rattle.ia32_insn.specs.State as machine
 use Rattle.flow_graph.specs.declared.op.Op.TheVariants as op
 use Rattle.flow_graph.specs.Meaning.{act}
 use Rattle.flow_graph.specs.States as graph
-use Rattle.flow_graph.specs.States.{Waiting, op_at, op_of}
+use Rattle.flow_graph.specs.States.{Waiting, flow_at, op_at, op_of}
 use Rattle.flow_graph.specs.WellFormed.{IsState}
 use Rattle.ia32_shows.specs.Follows.{Follows}
 use Rattle.ia32_shows.specs.Placements.{Code, placement_of}
@@ -29,5 +29,7 @@ abbrev pub ReturnFollows : Type 0
 ReturnFollows =
     (a : Option ℕ) (code : Code) (input : List ℕ) (g : graph.State) (s : machine.State) → IsSupported code
     → IsState code.program g → Shows code input g s → op_at code.program g ≡ Some (op.Return a)
-    → RowAt code g (row (placement_of code g.current.function) g.point (op.Return a)) s → StandsBehind code g
+    → RowAt code g
+    (row (flow_at code.program g.current.function) (placement_of code g.current.function) g.point (op.Return a)) s
+    → StandsBehind code g
     → Follows code input s g false (act code.program g (op.Return a))

@@ -1,9 +1,11 @@
-ghost use Rattle.ia32_entries.specs.Laws.{EntryComes};
+ghost use Rattle.ia32_entries.specs.Laws.{EntriesAreReady, EntryComes};
 ghost use Rattle.ia32_entries.specs.Calls.{CallComes};
 ghost use Rattle.ia32_entries.specs.Returns.{ReturnFollows};
 
-/// From a function's first item the machine comes to a state that shows the function's first point.
+/// A function's first items stand where its call begins, and from the first of them the machine comes to a state that
+/// shows the function's first point.
 pub fn functions_begin()
+    ensures ready { EntriesAreReady }
     ensures entry { EntryComes }
 {}
 

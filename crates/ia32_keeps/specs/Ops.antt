@@ -40,7 +40,9 @@ ItemsFollow o items =
 
 -- and through the op's own row
 abbrev pub RowFollows : Op → Type 0
-RowFollows o = ItemsFollow o (λ code g. row (placement_of code g.current.function) g.point o)
+RowFollows o =
+    ItemsFollow o (λ code g.
+    row (flow_at code.program g.current.function) (placement_of code g.current.function) g.point o)
 
 -- ---- the ops
 

@@ -16,15 +16,14 @@ use Rattle.flow_graph.specs.declared.op.Op.{Op}
 use Rattle.flow_graph.specs.declared.op.Op.TheVariants as op
 use Rattle.flow_graph.specs.Graphs.{Flow, Stands}
 use Rattle.flow_graph.specs.States.{flow_at, op_of}
-use Rattle.graph_states.proofs.Values.{graph-of}
 use Rattle.ia32_shows.specs.Paths.{IsAt, IsClear}
 use Rattle.ia32_shows.specs.Placements.{Code, Placement, address_in, placement_of, point_address}
 use Rattle.ia32_shows.specs.Sites.{Site, StandsFrom}
 use Rattle.ia32_shows.proofs.Spelled.{BeginsOther, common-begins}
 use Rattle.ia32_shows.proofs.Steps.{at-front, clear-at}
-use Rattle.ia32_rows.specs.Rows.{HasItems, row, selected}
+use Rattle.ia32_rows.specs.Rows.{row, selected}
 use Rattle.ia32_rows.proofs.ItemKinds.{BeginsWithRoom, PointsTakeRoom, behind-point, item-room, later, one-address}
-use Rattle.ia32_rows.proofs.ItemKinds.{IsOther, IsOtherRow, every-get, other-is, point-address, selected-room}
+use Rattle.ia32_rows.proofs.ItemKinds.{BeginsWithOther, IsOther, other-begins, point-address, selected-room}
 use Rattle.ia32_rows.proofs.Laid.{nop-there, point-among}
 use Rattle.ia32_keeps.specs.Supports.{site_of}
 use Rattle.ia32_standing.specs.Laws.{IsSelected, MarksAreNops, OthersAreClear, PointsApart}
@@ -34,11 +33,8 @@ use Rattle.ia32_standing.proofs.Points.{laid, points-stand, there-of}
 -- ---- points among items
 
 -- behind every point of a function's items comes an instruction
-pub all-room : (code : Code) (f : ℕ) → IsSelected code → f < length code.program.functions
-    → PointsTakeRoom (selected (flow_at code.program f) (placement_of code f))
-all-room code f h below =
-    let g = graph-of code.program f h.supported.program below in
-    selected-room (flow_at code.program f) (placement_of code f) g.keeps.0 g.keeps.1 (h.have f below)
+pub all-room : (code : Code) (f : ℕ) → PointsTakeRoom (selected (flow_at code.program f) (placement_of code f))
+all-room code f = selected-room (flow_at code.program f) (placement_of code f)
 
 -- items that begin with an instruction have bytes
 some-bytes : (symbols : Symbols) (places : Places) (address : ℕ) (items : List Item) (bytes : List ℕ)
@@ -86,7 +82,7 @@ point-within code f block p address bytes h below stands at =
           (later code.symbols at.place address (selected flow placement) bytes j.0 p items j.1),
       subst (λ (n : ℕ). n < address + length bytes) own
           (before-end code.symbols at.place address (selected flow placement) bytes j.0 p
-          (all-room code f h below) items j.1),
+          (all-room code f) items j.1),
     )
 
 -- points of two functions, of which one stands before the other
@@ -117,7 +113,7 @@ one-function code f block other p q h below one two e =
     let own : (n : ℕ) → point_address code f n ≡ site.places.points n =
     λ n. ap (λ (o : Option Places). address_in o n) l.placed in
     one-address site.symbols site.places l.address (selected flow placement) l.stands.bytes i.0 j.0 p q
-    (all-room code f h below) l.stands.stand i.1 j.1 (sym (own p) ∙ e ∙ own q)
+    (all-room code f) l.stands.stand i.1 j.1 (sym (own p) ∙ e ∙ own q)
 
 pub points-apart : PointsApart
 points-apart code f h block other p q selected below under one two e =
@@ -148,7 +144,7 @@ points-apart code f h block other p q selected below under one two e =
 
 nop-at : (code : Code) (f block p : ℕ) (o : Op) → IsSelected code → f < length code.program.functions
     → Stands (flow_at code.program f) p block → op_of code.program f p ≡ Some o
-    → row (placement_of code f) p o ≡ plain insn.Nop ∷ [] → IsAt code.text (point_address code f p) (144 ∷ [])
+    → row (flow_at code.program f) (placement_of code f) p o ≡ plain insn.Nop ∷ [] → IsAt code.text (point_address code f p) (144 ∷ [])
 nop-at code f block p o h below stands has e =
     let site : Site = site_of code f in
     let address : ℕ = point_address code f p in
@@ -189,19 +185,18 @@ item-other symbols places address (item.AddressOf r k) bytes other (target, z, i
     common-begins (insn.MovImm (rm.Reg r) z) bytes tt spelled
 
 -- items that begin with one are no NOP
-clear-there : (site : Site) (items rest : List Item) (address : ℕ) → IsOtherRow items
+clear-there : (site : Site) (items rest : List Item) (address : ℕ) → BeginsWithOther items
     → StandsFrom site (items ++ rest) address → IsClear site.text address
-clear-there site [] rest address some h = absurd some.1
+clear-there site [] rest address some h = absurd some
 clear-there site (x ∷ items) rest address some h =
     let first : List ℕ = h.stand.0 in
     let here : IsAt site.text address first =
     at-front site.text address first h.stand.1 (subst (IsAt site.text address) h.stand.2 h.here) in
     clear-at site.text address first here
-    (item-other site.symbols site.places address x first some.0.0 h.stand.3)
+    (item-other site.symbols site.places address x first some h.stand.3)
 
 pub others-are-clear : OthersAreClear
 others-are-clear code f block p o h below stands has nop =
     let r = points-stand code f block p o h below stands has in
-    clear-there (site_of code f) (row (placement_of code f) p o) r.rest (point_address code f p)
-    (other-is (placement_of code f) p o (every-get HasItems (flow_at code.program f).ops p o (h.have f below) has) nop)
-    r.stands
+    clear-there (site_of code f) (row (flow_at code.program f) (placement_of code f) p o) r.rest (point_address code f p)
+    (other-begins (flow_at code.program f) (placement_of code f) p o nop) r.stands

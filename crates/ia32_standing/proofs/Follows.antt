@@ -5,7 +5,7 @@ use Rattle.flow_graph.specs.declared.op.Op.{Op}
 use Rattle.flow_graph.specs.declared.op.Op.TheVariants as op
 use Rattle.flow_graph.specs.Meaning.{act, given}
 use Rattle.flow_graph.specs.States as graph
-use Rattle.flow_graph.specs.States.{op_at}
+use Rattle.flow_graph.specs.States.{flow_at, op_at}
 use Rattle.flow_graph.specs.WellFormed.{IsState}
 use Rattle.ia32_shows.specs.Follows.{Follows, is_nop}
 use Rattle.ia32_shows.specs.Placements.{Code, placement_of}
@@ -40,7 +40,9 @@ IsDone code input g s o = Follows code input s g (is_nop (Some o)) (act code.pro
 
 follow : (code : Code) (input : List ℕ) (g : graph.State) (s : machine.State) (o : Op) → IsSelected code
     → IsState code.program g → Shows code input g s → op_at code.program g ≡ Some o → IsFollowed g o
-    → RowAt code g (row (placement_of code g.current.function) g.point o) s → IsDone code input g s o
+    → RowAt code g
+    (row (flow_at code.program g.current.function) (placement_of code g.current.function) g.point o) s
+    → IsDone code input g s o
 follow code input g s (op.Const d n) h state shown has known r =
     number-follows d n code input g s h.supported state shown has r
 follow code input g s (op.Copy d a) h state shown has known r =

@@ -13,7 +13,7 @@ use Rattle.flow_graph.specs.States.{flow_at, op_of}
 use Rattle.ia32_shows.specs.Paths.{IsAt}
 use Rattle.ia32_shows.specs.Placements.{Code, Placement, placement_of, point_address}
 use Rattle.ia32_shows.specs.Sites.{Site, StandsFrom}
-use Rattle.ia32_rows.specs.Rows.{block_rows, entry_label, prologue, row, selected}
+use Rattle.ia32_rows.specs.Rows.{block_rows, entry_label, headers, prologue, row, selected}
 use Rattle.ia32_rows.proofs.Laid.{StandsThere, back-there, behind-there, point-there, row-in-graph}
 use Rattle.ia32_keeps.specs.Supports.{site_of}
 use Rattle.ia32_keeps.proofs.Memory.{address-at}
@@ -63,8 +63,8 @@ pub record PointThere (code : Code) (f p : ℕ) (o : Op) (next : Option ℕ) : T
   pub front : List Item
   pub rest : List Item
   pub is : selected (flow_at code.program f) (placement_of code f)
-      ≡ front ++ (item.Point p ∷ row (placement_of code f) p o ++ rest)
-  pub stands : StandsFrom (site_of code f) (item.Point p ∷ row (placement_of code f) p o ++ rest)
+      ≡ front ++ (item.Point p ∷ row (flow_at code.program f) (placement_of code f) p o ++ rest)
+  pub stands : StandsFrom (site_of code f) (item.Point p ∷ row (flow_at code.program f) (placement_of code f) p o ++ rest)
       (point_address code f p)
   pub follows : (q : ℕ) → next ≡ Some q → (more : List Item) × (rest ≡ item.Point q ∷ more)
 
@@ -78,13 +78,13 @@ point-is-there code f block p o h below stands has =
     let l = laid code f h below in
     let r = row-in-graph flow placement p block stands in
     let same : slice_index_or flow.ops p op.Turn ≡ o = get_or_from_slice_get flow.ops p o op.Turn has in
-    let mine : List Item = item.Point p ∷ row placement p o ++ r.rest in
+    let mine : List Item = item.Point p ∷ row flow placement p o ++ r.rest in
     let is : selected flow placement ≡ r.front ++ mine =
-    subst (λ (i : Op). selected flow placement ≡ r.front ++ (item.Point p ∷ row placement p i ++ r.rest)) same r.is in
+    subst (λ (i : Op). selected flow placement ≡ r.front ++ (item.Point p ∷ row flow placement p i ++ r.rest)) same r.is in
     let behind = stands-back site r.front mine l.address
     (subst (λ (items : List Item). StandsFrom site items l.address) is l.stands) in
     let own : site.places.points p ≡ l.address + behind.0 =
-    point-there site.symbols site.places site.text p (row placement p o ++ r.rest) (l.address + behind.0)
+    point-there site.symbols site.places site.text p (row flow placement p o ++ r.rest) (l.address + behind.0)
     (there-of site mine (l.address + behind.0) behind.1) in
     record {
       front = r.front;
@@ -98,7 +98,7 @@ pub points-stand : PointsStand
 points-stand code f block p o h below stands has =
     let r = point-is-there code f block p o h below stands has in
     let site : Site = site_of code f in
-    let items : List Item = row (placement_of code f) p o ++ r.rest in
+    let items : List Item = row (flow_at code.program f) (placement_of code f) p o ++ r.rest in
     let address : ℕ = point_address code f p in
     record {
       rest = r.rest;
@@ -112,7 +112,7 @@ pub rows-stand : RowsStand
 rows-stand code g s o h state has e =
     let f : ℕ = g.current.function in
     let r = points-stand code f g.block g.point o h state.active.0.function state.placed has in
-    let ready = ready-from (site_of code f) (row (placement_of code f) g.point o ++ r.rest)
+    let ready = ready-from (site_of code f) (row (flow_at code.program f) (placement_of code f) g.point o ++ r.rest)
     (point_address code f g.point) s.eip r.stands e in
     record {
       rest = r.rest;
@@ -128,14 +128,14 @@ labels-stand code g block h state below =
     blocks-stand code g l.address block l.stands below
 
 -- the rows of blocks begin with the first point of the first
-begins : (placement : Placement) (ops : List Op) (blocks : List (List ℕ)) (q : ℕ)
+begins : (flow : Flow) (placement : Placement) (blocks : List (List ℕ)) (q : ℕ)
     → slice_get (slice_index_or blocks 0 []) 0 ≡ Some q
-    → (more : List Item) × (block_rows placement ops 0 blocks ≡ item.Label 0 ∷ item.Point q ∷ more)
-begins placement ops [] q e = absurd (none-some q e)
-begins placement ops ([] ∷ blocks) q e = absurd (none-some q e)
-begins placement ops ((p ∷ points) ∷ blocks) q e =
+    → (more : List Item) × (block_rows flow placement 0 blocks ≡ item.Label 0 ∷ item.Point q ∷ more)
+begins flow placement [] q e = absurd (none-some q e)
+begins flow placement ([] ∷ blocks) q e = absurd (none-some q e)
+begins flow placement ((p ∷ points) ∷ blocks) q e =
     subst (λ (n : ℕ). (more : List Item)
-    × (block_rows placement ops 0 ((p ∷ points) ∷ blocks) ≡ item.Label 0 ∷ item.Point n ∷ more)) (same_Some p q e)
+    × (block_rows flow placement 0 ((p ∷ points) ∷ blocks) ≡ item.Label 0 ∷ item.Point n ∷ more)) (same_Some p q e)
     (_, refl)
 
 pub entries-stand : EntriesStand
@@ -144,11 +144,13 @@ entries-stand code f address q h below named first =
     let placement : Placement = placement_of code f in
     let site : Site = site_of code f in
     let l = laid code f h below in
-    let b = begins placement flow.ops flow.blocks q first in
+    let b = begins flow placement flow.blocks q first in
     let front : List Item = prologue placement.frame (entry_label flow) in
+    let numbers : List Item = headers flow.arrays placement.arrays in
     let same : l.address ≡ address = same_Some l.address address (sym l.named ∙ named) in
     record {
       more = b.0;
-      stands = subst (λ (a : ℕ). StandsFrom site (front ++ (item.Label 0 ∷ item.Point q ∷ b.0)) a) same
-          (subst (λ (items : List Item). StandsFrom site (front ++ items) l.address) b.1 l.stands);
+      stands = subst (λ (a : ℕ).
+          StandsFrom site (front ++ (numbers ++ (item.Label 0 ∷ item.Point q ∷ b.0))) a) same
+          (subst (λ (items : List Item). StandsFrom site (front ++ (numbers ++ items)) l.address) b.1 l.stands);
     }

@@ -125,7 +125,7 @@ calls-return code w result callee words r h below stands has (
     let behind : (before_call arguments ++ (item.CallFunction callee ∷ tail)) ++ own.rest ≡ second =
     parted-once site.symbols site.places l.address mine own.front front
     ((before_call arguments ++ (item.CallFunction callee ∷ tail)) ++ own.rest) second w.point l.stands.bytes
-    (all-room code f h below) l.stands.stand own.is parts in
+    (all-room code f) l.stands.stand own.is parts in
     let tails : back ≡ tail ++ own.rest =
     sym (called-once (before_call arguments) middle (tail ++ own.rest) back callee callee (before-inside arguments)
     inside (sym (append_assoc (before_call arguments) (item.CallFunction callee ∷ tail) own.rest) ∙ behind)) in

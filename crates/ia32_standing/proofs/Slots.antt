@@ -1,7 +1,7 @@
 -- The code of a graph over slots is that of a program over placements that support its graphs.
 use Rattle.std.proofs.Common.{◌≡◌, ℕ, ◌+◌, ◌*◌, ◌<◌, ◌≤◌, List, [], ◌∷◌, length, Some, refl, sym, ap, subst, ◌∙◌}
 use Rattle.std.proofs.Common.{arith}
-use Rattle.std.specs.List.{All, AllByRecursion}
+use Rattle.std.specs.List.{All}
 use Rattle.std.proofs.lemmas.List.Elements.{All-nil}
 use Rattle.std.specs.Prelude.{slice_get, slice_index_or}
 use Rattle.ia32_insn.specs.declared.item.Item.{Item}
@@ -12,8 +12,7 @@ use Rattle.flow_graph.specs.States.{GraphProgram, flow_at}
 use Rattle.flow_graph.specs.WellFormed.{IsGraphProgram}
 use Rattle.ia32_shows.specs.Placements.{Code, Placement, no_placement, objects_of}
 use Rattle.ia32_rows.specs.Right.{one_graph}
-use Rattle.ia32_rows.specs.Rows.{HasItems, over_slots, selected}
-use Rattle.ia32_rows.proofs.ItemKinds.{slots-have}
+use Rattle.ia32_rows.specs.Rows.{over_slots, selected}
 use Rattle.ia32_calls.proofs.First.{first-sound}
 use Rattle.ia32_keeps.specs.Supports.{Supports}
 use Rattle.ia32_keeps.proofs.Slots.{over-slots-support}
@@ -61,7 +60,6 @@ slot-code-is-selected flow slots code h =
         few = subst (λ (p : GraphProgram). All (λ object. length object.elements ≤ 2147483648) p.objects) (sym h.program)
             (All-nil (λ object. length object.elements ≤ 2147483648));
       };
-      have = each (λ f p ps is. AllByRecursion HasItems (flow_at p f).ops) (slots-have flow.ops h.has_slots.ops);
       items = each (λ f p ps is. slice_get is f ≡ Some (selected (flow_at p f) (slice_index_or ps f no_placement)))
           refl;
     }

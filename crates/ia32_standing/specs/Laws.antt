@@ -20,18 +20,16 @@ use Rattle.ia32_shows.specs.Placements.{Code, IsCode, placement_of, point_addres
 use Rattle.ia32_shows.specs.Shows.{IsInside, ReturnsTo, Shows, StartReturns, start_of}
 use Rattle.ia32_shows.specs.Sites.{ReadyAt, Site, StandsFrom}
 use Rattle.ia32_rows.specs.Right.{IsSlotCode}
-use Rattle.ia32_rows.specs.Rows.{HasItems, before_call, behind_call, entry_label, over_slots, place_after, place_before}
+use Rattle.ia32_rows.specs.Rows.{before_call, behind_call, entry_label, headers, over_slots, place_after, place_before}
 use Rattle.ia32_rows.specs.Rows.{prologue, row, selected}
 use Rattle.ia32_keeps.specs.Supports.{IsSupported, site_of}
 use Rattle.ia32_keeps.specs.Ops.{RowAt}
 use Rattle.ia32_cores.specs.Ops.{BlockAt}
 
--- The code of a program over placements that support its graphs, whose ops all have items: each function's items are
--- those of its graph over its placement.
+-- The code of a program over placements that support its graphs: each function's items are those of its graph over its
+-- placement.
 pub record IsSelected (code : Code) : Type 0 where
   pub supported : IsSupported code
-  pub have : (f : ℕ) → f < length code.program.functions
-      → AllByRecursion HasItems (flow_at code.program f).ops
   pub items : (f : ℕ) → f < length code.program.functions
       → slice_get code.items f ≡ Some (selected (flow_at code.program f) (placement_of code f))
 
@@ -55,13 +53,14 @@ FunctionsStand =
     (code : Code) (f : ℕ) (items : List Item) → IsCode code → slice_get code.items f ≡ Some items
     → FunctionStands code f items
 
--- At a function's address its prologue stands, and behind it the first point of its first block, behind that block's
--- label.
+-- At a function's address its prologue stands, behind it the number of each frame array's elements is set, and then
+-- comes the first point of its first block, behind that block's label.
 pub record EntryAt (code : Code) (f address point : ℕ) : Type 0 where
   pub more : List Item
   pub stands : StandsFrom (site_of code f)
       (prologue (placement_of code f).frame (entry_label (flow_at code.program f))
-      ++ (item.Label 0 ∷ item.Point point ∷ more)) address
+      ++ (headers (flow_at code.program f).arrays (placement_of code f).arrays
+      ++ (item.Label 0 ∷ item.Point point ∷ more))) address
 
 abbrev pub EntriesStand : Type 0
 EntriesStand =
@@ -84,7 +83,7 @@ StartsStand = (code : Code) (f : ℕ) → IsCode code → StartAt code f
 -- At the address of a point the row of its op stands, and behind it the next point of the block, if there is one.
 pub record PointAt (code : Code) (f block point : ℕ) (o : Op) : Type 0 where
   pub rest : List Item
-  pub stands : StandsFrom (site_of code f) (row (placement_of code f) point o ++ rest) (point_address code f point)
+  pub stands : StandsFrom (site_of code f) (row (flow_at code.program f) (placement_of code f) point o ++ rest) (point_address code f point)
   pub follows : (q : ℕ) → point_after code.program f block point ≡ Some q
       → (more : List Item) × (rest ≡ item.Point q ∷ more)
 
@@ -99,7 +98,8 @@ abbrev pub RowsStand : Type 0
 RowsStand =
     (code : Code) (g : graph.State) (s : machine.State) (o : Op) → IsSelected code → IsState code.program g
     → op_at code.program g ≡ Some o → s.eip ≡ point_address code g.current.function g.point
-    → RowAt code g (row (placement_of code g.current.function) g.point o) s
+    → RowAt code g
+    (row (flow_at code.program g.current.function) (placement_of code g.current.function) g.point o) s
 
 -- behind the label of each block of the current function stands its first point
 abbrev pub LabelsStand : Type 0

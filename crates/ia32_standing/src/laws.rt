@@ -9,8 +9,9 @@ pub fn slot_code_is_selected()
     ensures { SlotCodeIsSelected }
 {}
 
-/// The items of each function stand in the text from its address on; there its prologue stands, and behind it the first
-/// point of its first block. The start stands where the text begins, and its call returns to its ending.
+/// The items of each function stand in the text from its address on; there its prologue stands, behind it the numbers of
+/// its arrays' elements are set, and then comes the first point of its first block. The start stands where the text
+/// begins, and its call returns to its ending.
 pub fn functions_stand()
     ensures functions { FunctionsStand }
     ensures entries { EntriesStand }
