@@ -1,5 +1,5 @@
 -- A function's first items stand where its call begins.
-use Rattle.std.proofs.Common.{ℕ, ◌<◌, List, ◌∷◌, ◌++◌, length, refl}
+use Rattle.std.proofs.Common.{ℕ, List, ◌∷◌, ◌++◌, refl}
 use Rattle.ia32_insn.specs.declared.item.Item.{Item}
 use Rattle.ia32_insn.specs.declared.item.Item.TheVariants as item
 use Rattle.flow_graph.specs.Graphs.{Flow}

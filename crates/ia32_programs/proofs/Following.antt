@@ -24,7 +24,7 @@ use Rattle.ia32_entries.specs.Calls.{ComesCalled}
 use Rattle.ia32_entries.proofs.Calling.{call-comes}
 use Rattle.ia32_entries.proofs.Returning.{return-follows}
 use Rattle.ia32_programs.specs.Right.{IsNumberOp, IsScalar, ScalarsFollow}
-use Rattle.ia32_programs.proofs.Entries.{scalar-entry}
+use Rattle.ia32_programs.proofs.Entries.{begun}
 use Rattle.ia32_programs.proofs.Numbers.{number-held}
 
 -- ---- calls
@@ -36,7 +36,7 @@ entered : (code : Code) (input : List ℕ) (g : graph.State) (s : machine.State)
 entered code input g s o (Moves h) selected scalar state has e (t, comes, called) =
     let moves : step code.program g ≡ Moves h = ap (λ (at : Option Op). given at (act code.program g)) has ∙ e in
     let next = step_keeps_state code.program g h (selected.supported).program state moves in
-    let last = scalar-entry code input h t selected scalar next called in
+    let last = begun code input h t selected next called in
     (last.0, comes-then code.text s t last.0 comes last.1, last.2)
 entered code input g s o (Halts end) selected scalar state has e ends = ends
 entered code input g s o Stuck selected scalar state has e done = tt

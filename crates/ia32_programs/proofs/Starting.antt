@@ -28,7 +28,7 @@ use Rattle.ia32_keeps.proofs.Memory.{shapes-are, text-is}
 use Rattle.ia32_standing.proofs.Functions.{function-stands}
 use Rattle.ia32_entries.specs.Called.{Called}
 use Rattle.ia32_programs.specs.Right.{IsScalar, ScalarsAreRight, ScalarsStart}
-use Rattle.ia32_programs.proofs.Entries.{scalar-entry}
+use Rattle.ia32_programs.proofs.Entries.{begun}
 use Rattle.ia32_programs.proofs.Following.{scalars-follow}
 
 -- an element of a list of one value is that
@@ -134,7 +134,7 @@ scalars-start code h scalar fits input g bytes e =
     none is_code.text) fits at.named in
     let t : machine.State = start.0 in
     let state = first_is_state code.program input (first_state_at code.program input point) program bytes here in
-    let last = scalar-entry code input (first_state_at code.program input point) t h scalar state
+    let last = begun code input (first_state_at code.program input point) t h state
     (started-called code input point at.address t scalar first at.named none start.1) in
     let comes : Comes code.text (text_state code.text (objects_of code.program) input) t =
     subst (λ (os : List Object). Comes code.text (text_state code.text os input) t) (sym none) (start.1).comes in

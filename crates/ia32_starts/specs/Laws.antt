@@ -10,7 +10,6 @@ use Rattle.ia32_insn.specs.Items.{IsText, Object, Places, Symbols, data_bytes, d
 use Rattle.ia32_insn.specs.Items.{text_state}
 use Rattle.flow_graph.specs.Running.{first_state}
 use Rattle.flow_graph.specs.States as graph
-use Rattle.flow_graph.specs.States.{flow_at}
 use Rattle.ia32_shows.specs.Follows.{Starts}
 use Rattle.ia32_shows.specs.Paths.{Comes}
 use Rattle.ia32_shows.specs.Placements.{Code, objects_of}
@@ -80,7 +79,7 @@ MainIsCalled =
     (code : Code) (input : List ℕ) (g : graph.State) → IsSupported code → first_state code.program input ≡ Some g
     → (t : machine.State) × Comes code.text (image_state code input) t × Called code input g t
 
--- The first items of `main` stand where its call begins.
+-- The first items of `main` stand where its call begins. So they do in selected code.
 abbrev pub MainIsReady : Code → Type 0
 MainIsReady code =
     (input : List ℕ) (g : graph.State) (s : machine.State) → first_state code.program input ≡ Some g
@@ -90,8 +89,10 @@ MainIsReady code =
 abbrev pub MainIsShown : Type 0
 MainIsShown = (code : Code) → IsSupported code → MainIsReady code → Starts code
 
--- So does selected code with any static objects, where `main` has no frame arrays. `ScalarsStart` of `ia32_programs` is
--- the case without static objects.
+abbrev pub MainsAreReady : Type 0
+MainsAreReady = (code : Code) → IsSelected code → MainIsReady code
+
+-- So selected code comes there, with any static objects and frame arrays. `ScalarsStart` of `ia32_programs` is the case
+-- without any.
 abbrev pub ObjectsStart : Type 0
-ObjectsStart =
-    (code : Code) → IsSelected code → (flow_at code.program code.program.main).arrays ≡ [] → Starts code
+ObjectsStart = (code : Code) → IsSelected code → Starts code

@@ -1,5 +1,5 @@
 use Rattle.ia32_starts.proofs.Called.{main-is-called, main-is-shown}
-use Rattle.ia32_starts.proofs.Ready.{objects-start}
+use Rattle.ia32_starts.proofs.Ready.{mains-are-ready, objects-start}
 use Rattle.ia32_starts.proofs.Start.{start-goes-over}
 use Rattle.ia32_starts.proofs.laws.main_is_called.Goals as goal
 
@@ -11,6 +11,9 @@ returns-clause-called c = main-is-called
 
 pub returns-clause-shown : goal.returns-clause-shown
 returns-clause-shown c = main-is-shown
+
+pub returns-clause-ready : goal.returns-clause-ready
+returns-clause-ready c = mains-are-ready
 
 pub returns-clause-starts : goal.returns-clause-starts
 returns-clause-starts c = objects-start
