@@ -1,6 +1,6 @@
 -- Which placements a graph can have code over: where variables, frame arrays and their headers stand, and which places
 -- stay from a point to the next.
-use Rattle.std.specs.Prelude.{◌≡◌, ◌≢◌, ◌<◌, ◌≤◌, ◌⊎◌, ◌+◌, ◌*◌, ◌/◌, ◌%◌, ⊤, ℕ, List, length, slice_get}
+use Rattle.std.specs.Prelude.{◌≡◌, ◌≢◌, ◌<◌, ◌≤◌, ◌⊎◌, ◌+◌, ◌*◌, ◌%◌, ⊤, ℕ, List, length, slice_get}
 use Rattle.std.specs.Prelude.{slice_index_or, Option, Some, None}
 use Rattle.std.specs.List.{All, AllByRecursion}
 use Rattle.pcc_base.specs.declared.run.Width.{Width}
@@ -19,14 +19,11 @@ use Rattle.flow_graph.specs.WellFormed.{IsGraphProgram}
 use Rattle.ia32_shows.specs.Placements.{Code, IsCode, Placement, in_slots, objects_of, placement_of}
 use Rattle.ia32_shows.specs.Sites.{Site}
 use Rattle.ia32_rows.specs.Rows.{AllApart, HasSlots, IsSlot, over_slots}
+pub use Rattle.ia32_rows.specs.Rows.{size_of}
 use Rattle.ia32_effects.specs.Contains.{IsPlaceIn}
 use Rattle.ia32_effects.specs.Laws.{ArePlacesApart}
 
 -- ---- frame arrays
-
--- the bytes of an array's elements, up to the end of their last word, where these are the bytes of one and their number
-abbrev pub size_of : ℕ × ℕ → ℕ
-size_of array = (array.0 * array.1 + 3) / 4 * 4
 
 -- Element 0 stands so far below EBP: the elements end below the four words of the caller's registers and of scratch,
 -- and the four bytes of their number, before them, are in the frame.

@@ -434,12 +434,12 @@ store-row bits p q r =
 -- ---- of ops
 
 -- the op has a loop in its row
-abbrev has_loop : Op → Bool
+abbrev pub has_loop : Op → Bool
 has_loop (op.Clear k) = true
 has_loop o = false
 
 -- the row of an op, but a mark, a turn and `clear`, has no NOP and no label
-other-is : (flow : Flow) (placement : Placement) (p : ℕ) (o : Op) → has_loop o ≡ false → is_nop (Some o) ≡ false
+pub other-is : (flow : Flow) (placement : Placement) (p : ℕ) (o : Op) → has_loop o ≡ false → is_nop (Some o) ≡ false
     → IsOtherRow (row flow placement p o)
 other-is flow placement p (op.Const d n) straight none =
     plain-row (row flow placement p (op.Const d n))

@@ -1,3 +1,4 @@
 pub mod ItemKinds
 pub mod Laid
+pub mod Numbered
 pub mod OverSlots

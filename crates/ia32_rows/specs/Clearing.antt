@@ -10,7 +10,7 @@ use Rattle.ia32_insn.specs.declared.item.Item.TheVariants as item
 use Rattle.ia32_insn.specs.Items.{near, plain}
 use Rattle.ia32_shows.specs.Placements.{below}
 
--- the bytes of an array's elements, in whole words, where these are the bytes of one and their number
+-- the bytes of an array's elements, up to the end of their last word, where these are the bytes of one and their number
 abbrev pub size_of : ℕ × ℕ → ℕ
 size_of array = (array.0 * array.1 + 3) / 4 * 4
 

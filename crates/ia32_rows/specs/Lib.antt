@@ -4,5 +4,6 @@ pub mod Passing
 pub mod Accesses
 pub mod Clearing
 pub mod Rows
+pub mod Once
 pub mod Right
 pub mod Worked

@@ -9,6 +9,7 @@ ghost use Rattle.ia32_shows.specs.Paths.{IsAt};
 ghost use Rattle.ia32_shows.specs.Placements.{Code, point_address};
 ghost use Rattle.ia32_rows.specs.Rows.{over_slots, row, selected};
 ghost use Rattle.ia32_rows.specs.Right.{IsSlotCode};
+ghost use Rattle.ia32_rows.specs.Once.{LabelsStandOnce, PointsStandOnce, PointsArePlaced};
 ghost use Rattle.ia32_rows.specs.Worked.{SumsAreRows, MovesAreRows, CallsAreRows, BranchesAreRows};
 ghost use Rattle.ia32_rows.specs.Worked.{ObjectsAreRows, AccessesAreRows, ClearsAreRows, HeadersAreRows};
 
@@ -49,4 +50,12 @@ pub fn rows_are_short()
     ensures accesses { AccessesAreRows }
     ensures clears { ClearsAreRows }
     ensures headers { HeadersAreRows }
+{}
+
+/// No label and no point stands twice among the items of a graph, over any placement, and the points are those of the
+/// blocks.
+pub fn labels_and_points_stand_once()
+    ensures labels { LabelsStandOnce }
+    ensures points { PointsStandOnce }
+    ensures placed { PointsArePlaced }
 {}

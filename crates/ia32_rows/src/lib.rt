@@ -4,4 +4,4 @@
 
 mod laws;
 
-pub use laws::{marks_are_nops, points_are_laid, rows_are_short};
+pub use laws::{labels_and_points_stand_once, marks_are_nops, points_are_laid, rows_are_short};
