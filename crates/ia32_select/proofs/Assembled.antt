@@ -29,14 +29,14 @@ use Rattle.ia32_asm.specs.Sections.{CanAssemble, IsSpelled, HasLabel, Stands, it
 use Rattle.ia32_asm.proofs.Laying.{items_size-append}
 use Rattle.ia32_shows.specs.Filling.{fill}
 use Rattle.ia32_shows.specs.Placements.{Placement, below}
-use Rattle.ia32_rows.specs.Rows.{IsSlot, IsSlotOp, HasSlots, frame_of, entry_label, over_slots, slot_place, items_between, row}
+use Rattle.ia32_rows.specs.Rows.{IsSlot, IsSlotOp, HasSlots, frame_of, entry_label, over_slots, row}
 use Rattle.ia32_rows.specs.Rows.{prologue, point_row, point_rows, block_rows, selected}
-use Rattle.ia32_rows.proofs.OverSlots.{row-over}
+use Rattle.ia32_rows.proofs.Numbered.{all_points, labels-once, points-once, few-points, some-points}
+use Rattle.ia32_rows.proofs.OverSlots.{row-over, slot_row}
 use Rattle.ia32_rows.proofs.ItemKinds.{IsSlotInsn, IsSlotItem, every-join, every-get, selected-items, slot-insns}
 use Rattle.ia32_rows.proofs.ItemKinds.{slot-op}
 use Rattle.ia32_select.specs.Offsets.{NamesOnlyPutchar}
 use Rattle.ia32_select.specs.Sizes.{most_bytes}
-use Rattle.ia32_select.proofs.Marked.{all_points, labels-once, entry-stands, points-once, few-points, some-points}
 
 -- ---- spellings
 
@@ -80,19 +80,19 @@ number-spelled : (r : Reg32) (z : ℤ) → FitsSigned w32 z → HasSpelling (ins
 number-spelled r z h = spelling-indexed (insn.MovImm (rm.Reg r) z) (tt, h) (tt, tt)
 
 -- the items of an op over slots
-row-spelled : (slots : List ℕ) (o : Op) → IsSlotOp o → AreSmall slots → NumbersFit o
-    → AllByRecursion IsSpelled (items_between [] (slot_place slots) (slot_place slots) o)
-row-spelled slots (op.Const d n) is small fits = (constant-spelled _ n (small d) fits, tt)
-row-spelled slots (op.Copy d s) is small fits = (read-spelled Esi _ (small s), (write-spelled Esi _ (small d), tt))
-row-spelled slots (op.Add d a b) is small fits =
+row-spelled : (flow : Flow) (slots : List ℕ) (p : ℕ) (o : Op) → IsSlotOp o → AreSmall slots → NumbersFit o
+    → AllByRecursion IsSpelled (slot_row flow slots p o)
+row-spelled flow slots p (op.Const d n) is small fits = (constant-spelled _ n (small d) fits, tt)
+row-spelled flow slots p (op.Copy d s) is small fits = (read-spelled Esi _ (small s), (write-spelled Esi _ (small d), tt))
+row-spelled flow slots p (op.Add d a b) is small fits =
     (read-spelled Esi _ (small a), (operation-spelled alu.Add Esi _ (small b), (write-spelled Esi _ (small d), tt)))
-row-spelled slots (op.Sub d a b) is small fits =
+row-spelled flow slots p (op.Sub d a b) is small fits =
     (read-spelled Esi _ (small a), (operation-spelled alu.Sub Esi _ (small b), (write-spelled Esi _ (small d), tt)))
-row-spelled slots (op.Putchar d s) is small fits =
+row-spelled flow slots p (op.Putchar d s) is small fits =
     (pass-spelled _ (small s), (tt, ((95 ∷ [], refl), (write-spelled Eax _ (small d), tt))))
-row-spelled slots (op.Mark s) is small fits = ((144 ∷ [], refl), tt)
-row-spelled slots op.Turn is small fits = ((144 ∷ [], refl), tt)
-row-spelled slots (op.Return (Some a)) is small fits = (
+row-spelled flow slots p (op.Mark s) is small fits = ((144 ∷ [], refl), tt)
+row-spelled flow slots p op.Turn is small fits = ((144 ∷ [], refl), tt)
+row-spelled flow slots p (op.Return (Some a)) is small fits = (
   read-spelled Eax _ (small a),
   (
     read-spelled Ebx 4 (omega arith),
@@ -102,7 +102,7 @@ row-spelled slots (op.Return (Some a)) is small fits = (
     ),
   ),
 )
-row-spelled slots o is small fits = absurd is
+row-spelled flow slots p o is small fits = absurd is
 
 fill-spelled : (label : ℕ) → AllByRecursion IsSpelled (fill Edi Esi Esp label)
 fill-spelled label = (
@@ -148,31 +148,31 @@ word-at (o ∷ ops) zero h = h.0
 word-at (o ∷ ops) (suc p) h = word-at ops p h.1
 
 -- every row of a placement has spellings
-abbrev AreSpelledRows : Placement → List Op → Type 0
-AreSpelledRows placement ops =
-    (p : ℕ) → AllByRecursion IsSpelled (row placement p (slice_index_or ops p op.Turn))
+abbrev AreSpelledRows : Flow → Placement → Type 0
+AreSpelledRows flow placement =
+    (p : ℕ) → AllByRecursion IsSpelled (row flow placement p (slice_index_or flow.ops p op.Turn))
 
-points-spelled : (placement : Placement) (ops : List Op) (points : List ℕ) → AreSpelledRows placement ops
-    → AllByRecursion IsSpelled (point_rows placement ops points)
-points-spelled placement ops [] rows = tt
-points-spelled placement ops (p ∷ ps) rows =
-    every-join IsSpelled (point_row placement ops p) (point_rows placement ops ps) (tt, rows p)
-    (points-spelled placement ops ps rows)
+points-spelled : (flow : Flow) (placement : Placement) (points : List ℕ) → AreSpelledRows flow placement
+    → AllByRecursion IsSpelled (point_rows flow placement points)
+points-spelled flow placement [] rows = tt
+points-spelled flow placement (p ∷ ps) rows =
+    every-join IsSpelled (point_row flow placement p) (point_rows flow placement ps) (tt, rows p)
+    (points-spelled flow placement ps rows)
 
-blocks-spelled : (placement : Placement) (ops : List Op) (k : ℕ) (blocks : List (List ℕ))
-    → AreSpelledRows placement ops → AllByRecursion IsSpelled (block_rows placement ops k blocks)
-blocks-spelled placement ops k [] rows = tt
-blocks-spelled placement ops k (points ∷ blocks) rows =
-    every-join IsSpelled (item.Label k ∷ point_rows placement ops points) (block_rows placement ops (suc k) blocks)
-    (tt, points-spelled placement ops points rows) (blocks-spelled placement ops (suc k) blocks rows)
+blocks-spelled : (flow : Flow) (placement : Placement) (k : ℕ) (blocks : List (List ℕ))
+    → AreSpelledRows flow placement → AllByRecursion IsSpelled (block_rows flow placement k blocks)
+blocks-spelled flow placement k [] rows = tt
+blocks-spelled flow placement k (points ∷ blocks) rows =
+    every-join IsSpelled (item.Label k ∷ point_rows flow placement points) (block_rows flow placement (suc k) blocks)
+    (tt, points-spelled flow placement points rows) (blocks-spelled flow placement (suc k) blocks rows)
 
 -- those over slots have
 slots-spelled : (flow : Flow) (slots : List ℕ) → AllByRecursion IsSlotOp flow.ops → AreSmall slots
-    → AllByRecursion NumbersFit flow.ops → AreSpelledRows (over_slots flow slots) flow.ops
+    → AllByRecursion NumbersFit flow.ops → AreSpelledRows flow (over_slots flow slots)
 slots-spelled flow slots is small words p =
     let o : Op = slice_index_or flow.ops p op.Turn in
     subst (AllByRecursion IsSpelled) (sym (row-over flow slots p o))
-    (row-spelled slots o (slot-op flow.ops p is) small (word-at flow.ops p words))
+    (row-spelled flow slots p o (slot-op flow.ops p is) small (word-at flow.ops p words))
 
 selected-spelled : (flow : Flow) (slots : List ℕ) → HasSlots flow slots → AllByRecursion NumbersFit flow.ops
     → AllByRecursion IsSpelled (selected flow (over_slots flow slots))
@@ -180,11 +180,16 @@ selected-spelled flow slots h words =
     let small : AreSmall slots = λ v. let in_frame = slot-small (frame_of flow) slots v h.within in let frame =
     h.small in omega arith in
     every-join IsSpelled (prologue (frame_of flow) (entry_label flow))
-    (block_rows (over_slots flow slots) flow.ops 0 flow.blocks)
+    (block_rows flow (over_slots flow slots) 0 flow.blocks)
     (prologue-spelled (frame_of flow) (entry_label flow) (let frame = h.small in omega arith))
-    (blocks-spelled (over_slots flow slots) flow.ops 0 flow.blocks (slots-spelled flow slots h.ops small words))
+    (blocks-spelled flow (over_slots flow slots) 0 flow.blocks (slots-spelled flow slots h.ops small words))
 
 -- ---- labels
+
+-- the label of the prologue's loop stands behind eight instructions
+entry-stands : (flow : Flow) (slots : List ℕ)
+    → Stands (item.Label (entry_label flow)) (selected flow (over_slots flow slots))
+entry-stands flow slots = (8, refl)
 
 insns-labelled : (items back : List Item) → AllByRecursion IsSlotInsn back → AllByRecursion (HasLabel items) back
 insns-labelled items [] h = tt
@@ -200,22 +205,22 @@ insns-labelled items (item.CallStub stub.Exit ∷ back) h = absurd h.0
 insns-labelled items (item.JumpTrap c ∷ back) h = absurd h.0
 insns-labelled items (item.AddressOf r k ∷ back) h = absurd h.0
 
-points-labelled : (items : List Item) (placement : Placement) (ops : List Op) (points : List ℕ)
-    → AllByRecursion IsSlotOp ops → AllByRecursion (HasLabel items) (point_rows placement ops points)
-points-labelled items placement ops [] h = tt
-points-labelled items placement ops (p ∷ ps) h =
-    let mine : List Item = row placement p (slice_index_or ops p op.Turn) in
-    every-join (HasLabel items) (point_row placement ops p) (point_rows placement ops ps)
-    (tt, insns-labelled items mine (slot-insns placement p (slice_index_or ops p op.Turn) (slot-op ops p h)))
-    (points-labelled items placement ops ps h)
+points-labelled : (items : List Item) (flow : Flow) (placement : Placement) (points : List ℕ)
+    → AllByRecursion IsSlotOp flow.ops → AllByRecursion (HasLabel items) (point_rows flow placement points)
+points-labelled items flow placement [] h = tt
+points-labelled items flow placement (p ∷ ps) h =
+    let mine : List Item = row flow placement p (slice_index_or flow.ops p op.Turn) in
+    every-join (HasLabel items) (point_row flow placement p) (point_rows flow placement ps)
+    (tt, insns-labelled items mine (slot-insns flow placement p (slice_index_or flow.ops p op.Turn) (slot-op flow.ops p h)))
+    (points-labelled items flow placement ps h)
 
-blocks-labelled : (items : List Item) (placement : Placement) (ops : List Op) (k : ℕ) (blocks : List (List ℕ))
-    → AllByRecursion IsSlotOp ops → AllByRecursion (HasLabel items) (block_rows placement ops k blocks)
-blocks-labelled items placement ops k [] h = tt
-blocks-labelled items placement ops k (points ∷ blocks) h =
-    every-join (HasLabel items) (item.Label k ∷ point_rows placement ops points)
-    (block_rows placement ops (suc k) blocks)
-    (tt, points-labelled items placement ops points h) (blocks-labelled items placement ops (suc k) blocks h)
+blocks-labelled : (items : List Item) (flow : Flow) (placement : Placement) (k : ℕ) (blocks : List (List ℕ))
+    → AllByRecursion IsSlotOp flow.ops → AllByRecursion (HasLabel items) (block_rows flow placement k blocks)
+blocks-labelled items flow placement k [] h = tt
+blocks-labelled items flow placement k (points ∷ blocks) h =
+    every-join (HasLabel items) (item.Label k ∷ point_rows flow placement points)
+    (block_rows flow placement (suc k) blocks)
+    (tt, points-labelled items flow placement points h) (blocks-labelled items flow placement (suc k) blocks h)
 
 prologue-labelled : (items : List Item) (frame label : ℕ) → Stands (item.Label label) items
     → AllByRecursion (HasLabel items) (prologue frame label)
@@ -228,9 +233,9 @@ selected-labelled : (flow : Flow) (slots : List ℕ) → AllByRecursion IsSlotOp
 selected-labelled flow slots h =
     let items : List Item = selected flow (over_slots flow slots) in
     every-join (HasLabel items) (prologue (frame_of flow) (entry_label flow))
-    (block_rows (over_slots flow slots) flow.ops 0 flow.blocks)
+    (block_rows flow (over_slots flow slots) 0 flow.blocks)
     (prologue-labelled items (frame_of flow) (entry_label flow) (entry-stands flow slots))
-    (blocks-labelled items (over_slots flow slots) flow.ops 0 flow.blocks h)
+    (blocks-labelled items flow (over_slots flow slots) 0 flow.blocks h)
 
 -- ---- no names but putchar
 
@@ -269,55 +274,55 @@ fields-size reg d =
     choice _ _ (byte_bytes z) (word_bytes z) (omega arith) (omega arith) in
     omega arith
 
-row-size : (slots : List ℕ) (o : Op) → IsSlotOp o → items_size (items_between [] (slot_place slots) (slot_place slots) o) ≤ 64
-row-size slots (op.Const d n) is =
+row-size : (flow : Flow) (slots : List ℕ) (p : ℕ) (o : Op) → IsSlotOp o → items_size (slot_row flow slots p o) ≤ 64
+row-size flow slots p (op.Const d n) is =
     let slot : ℕ = slice_index_or slots d 0 in
     let one = fields-size 0 slot in
     let whole = length-append (displacement_for (Some Ebp) (neg_ℤ (pos slot))) (word_bytes n) in
     omega (arith, whole)
-row-size slots (op.Copy d s) is = let one = fields-size 6 (slice_index_or slots d 0) in let two =
+row-size flow slots p (op.Copy d s) is = let one = fields-size 6 (slice_index_or slots d 0) in let two =
     fields-size 6 (slice_index_or slots s 0) in omega arith
-row-size slots (op.Add d a b) is = let one = fields-size 6 (slice_index_or slots d 0) in let two =
+row-size flow slots p (op.Add d a b) is = let one = fields-size 6 (slice_index_or slots d 0) in let two =
     fields-size 6 (slice_index_or slots a 0) in let three = fields-size 6 (slice_index_or slots b 0) in omega arith
-row-size slots (op.Sub d a b) is = let one = fields-size 6 (slice_index_or slots d 0) in let two =
+row-size flow slots p (op.Sub d a b) is = let one = fields-size 6 (slice_index_or slots d 0) in let two =
     fields-size 6 (slice_index_or slots a 0) in let three = fields-size 6 (slice_index_or slots b 0) in omega arith
-row-size slots (op.Putchar d s) is = let one = fields-size 0 (slice_index_or slots d 0) in let two =
+row-size flow slots p (op.Putchar d s) is = let one = fields-size 0 (slice_index_or slots d 0) in let two =
     fields-size 6 (slice_index_or slots s 0) in omega arith
-row-size slots (op.Mark s) is = omega arith
-row-size slots op.Turn is = omega arith
-row-size slots (op.Return (Some a)) is = let one = fields-size 0 (slice_index_or slots a 0) in omega arith
-row-size slots o is = absurd is
+row-size flow slots p (op.Mark s) is = omega arith
+row-size flow slots p op.Turn is = omega arith
+row-size flow slots p (op.Return (Some a)) is = let one = fields-size 0 (slice_index_or slots a 0) in omega arith
+row-size flow slots p o is = absurd is
 
 -- every row of a placement has at most so many bytes
-abbrev AreSmallRows : Placement → List Op → Type 0
-AreSmallRows placement ops = (p : ℕ) → items_size (row placement p (slice_index_or ops p op.Turn)) ≤ 64
+abbrev AreSmallRows : Flow → Placement → Type 0
+AreSmallRows flow placement = (p : ℕ) → items_size (row flow placement p (slice_index_or flow.ops p op.Turn)) ≤ 64
 
-slots-small : (flow : Flow) (slots : List ℕ) → AllByRecursion IsSlotOp flow.ops → AreSmallRows (over_slots flow slots) flow.ops
+slots-small : (flow : Flow) (slots : List ℕ) → AllByRecursion IsSlotOp flow.ops → AreSmallRows flow (over_slots flow slots)
 slots-small flow slots h p =
     let o : Op = slice_index_or flow.ops p op.Turn in
-    subst (λ (items : List Item). items_size items ≤ 64) (sym (row-over flow slots p o)) (row-size slots o (slot-op flow.ops p h))
+    subst (λ (items : List Item). items_size items ≤ 64) (sym (row-over flow slots p o)) (row-size flow slots p o (slot-op flow.ops p h))
 
 prologue-size : (frame label : ℕ) → items_size (prologue frame label) ≤ 64
 prologue-size frame label = let one = fields-size 4 frame in let two = fields-size 7 12 in omega arith
 
-points-size : (placement : Placement) (ops : List Op) (points : List ℕ) → AreSmallRows placement ops
-    → items_size (point_rows placement ops points) ≤ 64 * length points
-points-size placement ops [] rows = omega arith
-points-size placement ops (p ∷ ps) rows =
-    let mine : List Item = row placement p (slice_index_or ops p op.Turn) in
+points-size : (flow : Flow) (placement : Placement) (points : List ℕ) → AreSmallRows flow placement
+    → items_size (point_rows flow placement points) ≤ 64 * length points
+points-size flow placement [] rows = omega arith
+points-size flow placement (p ∷ ps) rows =
+    let mine : List Item = row flow placement p (slice_index_or flow.ops p op.Turn) in
     let one = rows p in
-    let rest = points-size placement ops ps rows in
-    let whole = items_size-append mine (point_rows placement ops ps) in
+    let rest = points-size flow placement ps rows in
+    let whole = items_size-append mine (point_rows flow placement ps) in
     omega arith
 
-blocks-size : (placement : Placement) (ops : List Op) (k : ℕ) (blocks : List (List ℕ)) → AreSmallRows placement ops
-    → items_size (block_rows placement ops k blocks) ≤ 64 * length (all_points blocks)
-blocks-size placement ops k [] rows = omega arith
-blocks-size placement ops k (points ∷ blocks) rows =
-    let one = points-size placement ops points rows in
-    let rest = blocks-size placement ops (suc k) blocks rows in
-    let whole = items_size-append (item.Label k ∷ point_rows placement ops points)
-    (block_rows placement ops (suc k) blocks) in
+blocks-size : (flow : Flow) (placement : Placement) (k : ℕ) (blocks : List (List ℕ)) → AreSmallRows flow placement
+    → items_size (block_rows flow placement k blocks) ≤ 64 * length (all_points blocks)
+blocks-size flow placement k [] rows = omega arith
+blocks-size flow placement k (points ∷ blocks) rows =
+    let one = points-size flow placement points rows in
+    let rest = blocks-size flow placement (suc k) blocks rows in
+    let whole = items_size-append (item.Label k ∷ point_rows flow placement points)
+    (block_rows flow placement (suc k) blocks) in
     let long = length-append points (all_points blocks) in
     omega arith
 
@@ -327,9 +332,9 @@ pub selected-size : (flow : Flow) (homes slots : List ℕ) → IsFlow flow homes
     → items_size (selected flow (over_slots flow slots)) ≤ most_bytes flow
 selected-size flow homes slots f h =
     let one = prologue-size (frame_of flow) (entry_label flow) in
-    let rest = blocks-size (over_slots flow slots) flow.ops 0 flow.blocks (slots-small flow slots h.ops) in
+    let rest = blocks-size flow (over_slots flow slots) 0 flow.blocks (slots-small flow slots h.ops) in
     let whole = items_size-append (prologue (frame_of flow) (entry_label flow))
-    (block_rows (over_slots flow slots) flow.ops 0 flow.blocks) in
+    (block_rows flow (over_slots flow slots) 0 flow.blocks) in
     let few = few-points flow homes f in
     let some = some-points flow h.begins (h.ended 0 h.begins) in
     omega arith
@@ -345,7 +350,7 @@ selected-assembles flow homes slots f h bound =
       labelled = λ j i e. every-get (HasLabel (selected flow (over_slots flow slots)))
           (selected flow (over_slots flow slots)) j i
           (selected-labelled flow slots h.ops) e;
-      labels_once = labels-once flow slots;
-      points_once = points-once flow homes slots f;
+      labels_once = labels-once flow homes (over_slots flow slots) f;
+      points_once = points-once flow homes (over_slots flow slots) f;
       size = bound;
     }

@@ -13,7 +13,7 @@ use Rattle.flow_graph.specs.declared.op.Op.TheVariants as op
 use Rattle.flow_graph.specs.Graphs.{Flow, HasFittingOp, IsFlow, IsIn, IsPlaced, points_of, FitsOp}
 use Rattle.flow_graph.proofs.Points.{every-in}
 use Rattle.ia32_rows.specs.Rows.{IsSlot, IsSlotOp, HasSlots, over_slots, slot_place, items_between, row, point_row}
-use Rattle.ia32_rows.proofs.OverSlots.{row-over}
+use Rattle.ia32_rows.proofs.OverSlots.{row-over, slot_row}
 use Rattle.ia32_rows.proofs.ItemKinds.{every-get}
 use Rattle.ia32_select.specs.Offsets.{distance, slots_of, AreBelow, IsSlotOpOver}
 
@@ -67,17 +67,31 @@ over-offsets flow homes offsets p o f h (block, stands) has =
     over-variables flow (length offsets) o (sym (length-offsets flow offsets h))
     (every-get IsSlotOp flow.ops p o h.ops has) fits
 
+-- no loop and no array is in the rows of these ops
+without-loop : (flow : Flow) (slots : List ℕ) (p : ℕ) (o : Op) → IsSlotOp o
+    → items_between 0 [] [] (slot_place slots) (slot_place slots) o ≡ slot_row flow slots p o
+without-loop flow slots p (op.Const d n) h = refl
+without-loop flow slots p (op.Copy d s) h = refl
+without-loop flow slots p (op.Add d a b) h = refl
+without-loop flow slots p (op.Sub d a b) h = refl
+without-loop flow slots p (op.Putchar d s) h = refl
+without-loop flow slots p (op.Mark s) h = refl
+without-loop flow slots p op.Turn h = refl
+without-loop flow slots p (op.Return (Some a)) h = refl
+without-loop flow slots p o h = absurd h
+
 -- a point and the items of its op behind others
 pub point-emitted : (old pushed new : List Item) (flow : Flow) (slots : List ℕ) (p : ℕ) (o : Op) → pushed
-    ≡ old ++ item.Point p ∷ [] → slice_get flow.ops p ≡ Some o
-    → new ≡ pushed ++ items_between [] (slot_place slots) (slot_place slots) o
-    → new ≡ old ++ point_row (over_slots flow slots) flow.ops p
-point-emitted old pushed new flow slots p o one has e =
-    let mine : List Item = row (over_slots flow slots) p o in
+    ≡ old ++ item.Point p ∷ [] → AllByRecursion IsSlotOp flow.ops → slice_get flow.ops p ≡ Some o
+    → new ≡ pushed ++ items_between 0 [] [] (slot_place slots) (slot_place slots) o
+    → new ≡ old ++ point_row flow (over_slots flow slots) p
+point-emitted old pushed new flow slots p o one ops has e =
+    let mine : List Item = row flow (over_slots flow slots) p o in
+    let own = without-loop flow slots p o (every-get IsSlotOp flow.ops p o ops has) in
     let is : o ≡ slice_index_or flow.ops p op.Turn = sym (get_or_from_slice_get flow.ops p o op.Turn has) in
-    e ∙ ap (λ (l : List Item). pushed ++ l) (sym (row-over flow slots p o)) ∙ ap (λ (l : List Item). l ++ mine) one
+    e ∙ ap (λ (l : List Item). pushed ++ l) (own ∙ sym (row-over flow slots p o)) ∙ ap (λ (l : List Item). l ++ mine) one
     ∙ append_assoc old (item.Point p ∷ []) mine
-    ∙ ap (λ (i : Op). old ++ item.Point p ∷ row (over_slots flow slots) p i) is
+    ∙ ap (λ (i : Op). old ++ item.Point p ∷ row flow (over_slots flow slots) p i) is
 
 -- a point at a place is among the points
 pub in-at : (ps : List ℕ) (i : ℕ) → i < length ps → IsIn (get_or ps i 0) ps

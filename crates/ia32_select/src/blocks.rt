@@ -22,7 +22,7 @@ fn emit_point(
     requires slots { HasSlots graph.now (slots_of offsets.now) }
     requires placed { IsPlaced graph.now point }
     ensures { OnOk result (items.new.items
-        ≡ items.old.items ++ point_row (over_slots graph.now (slots_of offsets.now)) graph.now.ops point) }
+        ≡ items.old.items ++ point_row graph.now (over_slots graph.now (slots_of offsets.now)) point) }
 {
     graph.is_flow();
     items.push(Item::Point(point))?;
@@ -41,7 +41,7 @@ fn emit_block(
     requires in_range { block < length graph.now.blocks }
     ensures { OnOk result (items.new.items ≡ items.old.items
         ++ item.Label block
-        ∷ point_rows (over_slots graph.now (slots_of offsets.now)) graph.now.ops (points_of graph.now block)) }
+        ∷ point_rows graph.now (over_slots graph.now (slots_of offsets.now)) (points_of graph.now block)) }
 {
     items.push(Item::Label(block))?;
     let points = graph.points_in(alloc, block)?;
@@ -61,7 +61,7 @@ pub fn emit_blocks(
     requires { HasSlots graph.now (slots_of offsets.now) }
     ensures { OnOk result (items.new.items
         ≡ items.old.items
-        ++ block_rows (over_slots graph.now (slots_of offsets.now)) graph.now.ops 0 graph.now.blocks) }
+        ++ block_rows graph.now (over_slots graph.now (slots_of offsets.now)) 0 graph.now.blocks) }
 {
     for block in 0..graph.blocks() {
         emit_block(alloc, items, graph, offsets, block)?;

@@ -75,7 +75,7 @@ pub fn emit_op(items: &mut Vec<Item>, offsets: &[i32], op: &Op) -> Result<(), No
     requires op { IsSlotOpOver (length offsets.now) op.now }
     requires below { AreBelow offsets.now }
     ensures { OnOk result (items.new.items ≡ items.old.items
-        ++ items_between [] (slot_place (slots_of offsets.now)) (slot_place (slots_of offsets.now)) op.now) }
+        ++ items_between 0 [] [] (slot_place (slots_of offsets.now)) (slot_place (slots_of offsets.now)) op.now) }
 {
     match op {
         Op::Const(variable, number) => emit_constant(items, offsets, *variable, *number),

@@ -40,7 +40,7 @@ FollowsMain x input s g moved = Follows (code_in x) input s (main_state g) false
 
 -- the row of the op at the state's point is ready
 abbrev pub RowAt : Setup → graph.State → Op → machine.State → Type 0
-RowAt x g o s = RowOver x.slots (site_in x) o (following g.point (points_of x.flow g.block)) s
+RowAt x g o s = RowOver x.flow x.slots (site_in x) g.point o (following g.point (points_of x.flow g.block)) s
 
 -- ---- variables
 

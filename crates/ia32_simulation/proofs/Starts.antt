@@ -57,7 +57,7 @@ slot-zero frame back slot t u inside enter =
 -- behind the prologue the machine is at the first state
 entered-main : (x : Setup) (input : List ℕ) (p l : ℕ) (t u : machine.State) → IsSetup x
     → slice_get (points_of x.flow 0) 0 ≡ Some p → Started x.symbols x.text 0 l input t
-    → Entered (site_in x) (frame_of x.flow) (block_rows (over_slots x.flow x.slots) x.flow.ops 0 x.flow.blocks) t u
+    → Entered (site_in x) (frame_of x.flow) (block_rows x.flow (over_slots x.flow x.slots) 0 x.flow.blocks) t u
     → AtMain x input (first_state_at (one_graph x.flow) input p) u
 entered-main x input p l t u h first start enter =
     let b = bounds x h in
@@ -84,7 +84,7 @@ entered-main x input p l t u h first start enter =
       variables = λ v value slot e f.
           let is : Number (pos 0) ≡ value = mapped x.flow.widths (Number (pos 0)) value v e in (
             0,
-            slot-zero (frame_of x.flow) (block_rows (over_slots x.flow x.slots) x.flow.ops 0 x.flow.blocks) slot t u
+            slot-zero (frame_of x.flow) (block_rows x.flow (over_slots x.flow x.slots) 0 x.flow.blocks) slot t u
                 (every-at (IsSlot (frame_of x.flow)) x.slots v slot h.has_slots.within f) enter,
             subst (λ (z : Value). IsPlainWord z 0) is (zero_fits, refl),
           );
@@ -123,7 +123,7 @@ setup-starts starts enters x input g h first =
     let small = h.has_slots.small in
     let esp = start.1.esp in
     let enter = enters site (frame_of x.flow) (entry_label x.flow)
-    (block_rows (over_slots x.flow x.slots) x.flow.ops 0 x.flow.blocks) t start.1.sound ready (omega arith)
+    (block_rows x.flow (over_slots x.flow x.slots) 0 x.flow.blocks) t start.1.sound ready (omega arith)
     (omega arith) (omega arith) (words-whole (length x.flow.widths)) in
     let u : machine.State = enter.0 in
     let at = entered-main x input point.0 l.address t u h point.1 start.1 enter.1 in

@@ -6,7 +6,7 @@ use Rattle.ia32_select.proofs.blocks.emit_block.Given as goal
 
 abbrev pub invariant-loop-point : goal.invariant-loop-point
 invariant-loop-point l =
-    l.items.items ++ point_rows (over_slots l.graph (slots_of l.offsets)) l.graph.ops
+    l.items.items ++ point_rows l.graph (over_slots l.graph (slots_of l.offsets))
     (drop l.point-index (points_of l.graph l.block))
-    ≡ l.initial.items.items ++ point_rows (over_slots l.graph (slots_of l.offsets)) l.graph.ops
+    ≡ l.initial.items.items ++ point_rows l.graph (over_slots l.graph (slots_of l.offsets))
     (points_of l.graph l.block)

@@ -5,6 +5,6 @@ use Rattle.ia32_select.proofs.blocks.emit_blocks.Given as goal
 
 abbrev pub invariant-loop-block : goal.invariant-loop-block
 invariant-loop-block l =
-    l.items.items ++ block_rows (over_slots l.graph (slots_of l.offsets)) l.graph.ops l.block
+    l.items.items ++ block_rows l.graph (over_slots l.graph (slots_of l.offsets)) l.block
     (drop l.block l.graph.blocks)
-    ≡ l.initial.items.items ++ block_rows (over_slots l.graph (slots_of l.offsets)) l.graph.ops 0 l.graph.blocks
+    ≡ l.initial.items.items ++ block_rows l.graph (over_slots l.graph (slots_of l.offsets)) 0 l.graph.blocks

@@ -16,5 +16,5 @@ pub returns : goal.returns
 returns c =
     on_ok_weaker c.emit_op.result
     (point-emitted c.args.items.now.items c.push.new.self.items c.emit_op.new.items.items c.args.graph.now
-    (slots_of c.args.offsets.now) c.args.point c.op.result.now (search rules) c.op.ensures)
+    (slots_of c.args.offsets.now) c.args.point c.op.result.now (search rules) c.requires.slots.ops c.op.ensures)
     c.emit_op.ensures

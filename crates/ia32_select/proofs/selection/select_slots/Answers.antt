@@ -7,9 +7,9 @@ use Rattle.flow_graph.specs.Graphs.{Flow, IsPlaced}
 use Rattle.ia32_asm.specs.Sections.{CanAssemble, Stands, items_size}
 use Rattle.ia32_rows.specs.Right.{AreRight}
 use Rattle.ia32_rows.specs.Rows.{over_slots, selected}
+use Rattle.ia32_rows.proofs.Numbered.{points-placed}
 use Rattle.ia32_select.specs.Offsets.{slots_of, NamesOnlyPutchar}
 use Rattle.ia32_select.specs.Sizes.{most_bytes}
-use Rattle.ia32_select.proofs.Marked.{stands-placed, placed-stands}
 use Rattle.ia32_select.proofs.Assembled.{selected-size, selected-names, selected-assembles}
 use Rattle.ia32_select.proofs.selection.select_slots.Goals as goal
 
@@ -49,8 +49,8 @@ returns-clause-points c =
     IfOk-weaker c.select_items.result (λ v. v.items ≡ selected flow (over_slots flow slots))
     (λ v. (p : ℕ) → Stands (item.Point p) v.items ↔ IsPlaced flow p)
     (λ v e p. (
-      λ s. stands-placed flow slots p (subst (Stands (item.Point p)) e s),
-      λ s. subst (Stands (item.Point p)) (sym e) (placed-stands flow slots p s),
+      λ s. (points-placed flow (over_slots flow slots) p).0 (subst (Stands (item.Point p)) e s),
+      λ s. subst (Stands (item.Point p)) (sym e) ((points-placed flow (over_slots flow slots) p).1 s),
     ))
     c.select_items.ensures
 
