@@ -1,62 +1,80 @@
--- The machine follows each step of a program of numbers.
-use Rattle.std.proofs.Common.{◌≡◌, ℕ, false, List, Option, Some, refl, sym, ap, subst, ◌∙◌}
+-- The machine follows each step of a program.
+use Rattle.std.proofs.Common.{◌≡◌, ℕ, false, List, Option, Some, refl, sym, ap, subst, ◌∙◌, arith}
+use Rattle.std.specs.Prelude.{slice_index_or}
+use Rattle.std.proofs.lemmas.Option.{get_or_from_slice_get}
+use Rattle.ia32_insn.specs.declared.item.Item.{Item}
 use Rattle.ia32_insn.specs.State as machine
+use Rattle.flow_graph.specs.declared.op.Comparison.{Comparison}
 use Rattle.flow_graph.specs.declared.op.Op.{Op}
 use Rattle.flow_graph.specs.declared.op.Op.TheVariants as op
-use Rattle.flow_graph.specs.Graphs.{FitsOp}
+use Rattle.flow_graph.specs.Graphs.{Flow}
 use Rattle.flow_graph.specs.Meaning.{Moved, Moves, Halts, Stuck, act, given, step}
 use Rattle.flow_graph.specs.States as graph
 use Rattle.flow_graph.specs.States.{flow_at, op_at}
 use Rattle.flow_graph.specs.WellFormed.{IsState}
 use Rattle.graph_states.proofs.Calls.{back-kept}
 use Rattle.graph_states.proofs.Keeping.{step_keeps_state}
-use Rattle.graph_states.proofs.Lists.{every-at}
+use Rattle.graph_states.proofs.Lists.{at-within}
 use Rattle.graph_states.proofs.Values.{op-at}
-use Rattle.ia32_shows.specs.Follows.{Follows, is_nop}
-use Rattle.ia32_shows.specs.Placements.{Code}
+use Rattle.ia32_shows.specs.Follows.{ComesTo, Follows, is_nop}
+use Rattle.ia32_shows.specs.Placements.{Code, Placement, placement_of}
 use Rattle.ia32_shows.specs.Shows.{Shows}
 use Rattle.ia32_shows.proofs.Steps.{comes-then}
+use Rattle.ia32_rows.specs.Rows.{clear_row, loop_label, row, size_of}
+use Rattle.ia32_keeps.specs.Ops.{RowAt}
+use Rattle.ia32_keeps.proofs.Ops.{op-is}
+use Rattle.ia32_comparisons.proofs.Comparing.{branch-follows, same-follows, set-follows}
 use Rattle.ia32_standing.specs.Laws.{IsSelected}
 use Rattle.ia32_standing.proofs.Follows.{steps-follow}
-use Rattle.ia32_standing.proofs.Points.{rows-stand}
+use Rattle.ia32_standing.proofs.Points.{labels-stand, rows-stand}
 use Rattle.ia32_standing.proofs.Returns.{calls-return, calls-stand}
+use Rattle.ia32_clears.proofs.Following.{clear-follows}
+use Rattle.ia32_entries.specs.Called.{Called}
 use Rattle.ia32_entries.specs.Calls.{ComesCalled}
 use Rattle.ia32_entries.proofs.Calling.{call-comes}
+use Rattle.ia32_entries.proofs.Entry.{entry-comes}
+use Rattle.ia32_entries.proofs.Ready.{entries-are-ready}
 use Rattle.ia32_entries.proofs.Returning.{return-follows}
-use Rattle.ia32_programs.specs.Right.{IsNumberOp, IsScalar, ScalarsFollow}
-use Rattle.ia32_programs.proofs.Entries.{begun}
-use Rattle.ia32_programs.proofs.Numbers.{number-held}
+use Rattle.ia32_programs.specs.Right.{ProgramsFollow}
+
+-- an op is followed from this state
+abbrev IsDone : Code → List ℕ → graph.State → machine.State → Op → Type 0
+IsDone code input g s o = Follows code input s g (is_nop (Some o)) (act code.program g o)
 
 -- ---- calls
 
 -- what has come to a function's first item comes to its first point
+begun : (code : Code) (input : List ℕ) (g : graph.State) (s : machine.State) → IsSelected code
+    → IsState code.program g → Called code input g s → ComesTo code input s g
+begun code input g s h state c =
+    entry-comes code input g s h.supported state c (entries-are-ready code input g s h (state.active.0).function c)
+
 entered : (code : Code) (input : List ℕ) (g : graph.State) (s : machine.State) (o : Op) (m : Moved) → IsSelected code
-    → IsScalar code.program → IsState code.program g → op_at code.program g ≡ Some o → act code.program g o ≡ m
+    → IsState code.program g → op_at code.program g ≡ Some o → act code.program g o ≡ m
     → ComesCalled code input s g m → Follows code input s g false m
-entered code input g s o (Moves h) selected scalar state has e (t, comes, called) =
+entered code input g s o (Moves h) selected state has e (t, comes, called) =
     let moves : step code.program g ≡ Moves h = ap (λ (at : Option Op). given at (act code.program g)) has ∙ e in
     let next = step_keeps_state code.program g h (selected.supported).program state moves in
     let last = begun code input h t selected next called in
     (last.0, comes-then code.text s t last.0 comes last.1, last.2)
-entered code input g s o (Halts end) selected scalar state has e ends = ends
-entered code input g s o Stuck selected scalar state has e done = tt
+entered code input g s o (Halts end) selected state has e ends = ends
+entered code input g s o Stuck selected state has e done = tt
 
-scalar-call : (code : Code) (input : List ℕ) (g : graph.State) (s : machine.State) (d : Option ℕ) (f : ℕ)
-    (arguments : List ℕ) → IsSelected code → IsScalar code.program → IsState code.program g → Shows code input g s
-    → op_at code.program g ≡ Some (op.Call d f arguments)
-    → Follows code input s g false (act code.program g (op.Call d f arguments))
-scalar-call code input g s d f arguments h scalar state shown has =
+call-done : (code : Code) (input : List ℕ) (g : graph.State) (s : machine.State) (d : Option ℕ) (f : ℕ)
+    (arguments : List ℕ) → IsSelected code → IsState code.program g → Shows code input g s
+    → op_at code.program g ≡ Some (op.Call d f arguments) → IsDone code input g s (op.Call d f arguments)
+call-done code input g s d f arguments h state shown has =
     let at = calls-stand code (record { activation = g.current; block = g.block; point = g.point }) d f arguments s h
     (state.active.0).function state.placed has shown.eip in
-    entered code input g s (op.Call d f arguments) (act code.program g (op.Call d f arguments)) h scalar state has refl
+    entered code input g s (op.Call d f arguments) (act code.program g (op.Call d f arguments)) h state has refl
     (call-comes d f arguments code input g s h.supported state shown has at)
 
 -- ---- returns
 
-scalar-return : (code : Code) (input : List ℕ) (g : graph.State) (s : machine.State) (a : Option ℕ) → IsSelected code
+return-done : (code : Code) (input : List ℕ) (g : graph.State) (s : machine.State) (a : Option ℕ) → IsSelected code
     → IsState code.program g → Shows code input g s → op_at code.program g ≡ Some (op.Return a)
-    → Follows code input s g false (act code.program g (op.Return a))
-scalar-return code input g s a h state shown has =
+    → IsDone code input g s (op.Return a)
+return-done code input g s a h state shown has =
     return-follows a code input g s h.supported state shown has
     (rows-stand code g s (op.Return a) h state has shown.eip)
     (λ w waiting result words address e calls returns.
@@ -64,40 +82,73 @@ scalar-return code input g s a h state shown has =
     calls-return code w result g.current.function words address h ((back.0).active.0).function (back.1).placed calls
     returns)
 
+-- ---- arrays made 0
+
+clear-done : (code : Code) (input : List ℕ) (g : graph.State) (s : machine.State) (k : ℕ) → IsSelected code
+    → IsState code.program g → Shows code input g s → op_at code.program g ≡ Some (op.Clear k)
+    → IsDone code input g s (op.Clear k)
+clear-done code input g s k h state shown has =
+    let f : ℕ = g.current.function in
+    let flow : Flow = flow_at code.program f in
+    let placement : Placement = placement_of code f in
+    let label : ℕ = loop_label flow g.point in
+    let lt = (op-is code g (op.Clear k) h.supported state has).fits.0 in
+    let many = ((h.supported).supports f (state.active.0).function).arrays.as_many in
+    let (array, declared) = at-within flow.arrays k lt in
+    let (distance, placed) = at-within placement.arrays k (omega (arith, many, lt)) in
+    let there : slice_index_or placement.arrays k 0 ≡ distance =
+    get_or_from_slice_get placement.arrays k distance 0 placed in
+    let own : slice_index_or flow.arrays k (0, 0) ≡ array =
+    get_or_from_slice_get flow.arrays k array (0, 0) declared in
+    let is : row flow placement g.point (op.Clear k) ≡ clear_row label distance (size_of array) =
+    ap (λ (d : ℕ). clear_row label d (size_of (slice_index_or flow.arrays k (0, 0)))) there
+    ∙ ap (λ (a : ℕ × ℕ). clear_row label distance (size_of a)) own in
+    clear-follows k label distance array code input g s h.supported state shown has declared placed
+    (subst (λ (items : List Item). RowAt code g items s) is (rows-stand code g s (op.Clear k) h state has shown.eip))
+
+-- ---- comparisons
+
+branch-done : (code : Code) (input : List ℕ) (g : graph.State) (s : machine.State) (how : Comparison) (a b x y : ℕ)
+    → IsSelected code → IsState code.program g → Shows code input g s
+    → op_at code.program g ≡ Some (op.Branch how a b x y) → IsDone code input g s (op.Branch how a b x y)
+branch-done code input g s how a b x y h state shown has =
+    let is = op-is code g (op.Branch how a b x y) h.supported state has in
+    let r = rows-stand code g s (op.Branch how a b x y) h state has shown.eip in
+    branch-follows how a b x y code input g s r.rest h.supported state shown has
+    (labels-stand code g x h state is.fits.1.1.0) (labels-stand code g y h state is.fits.1.1.1.0) r.ready
+
 -- ---- all ops
 
-by-op : (code : Code) (input : List ℕ) (g : graph.State) (s : machine.State) (o : Op) → IsSelected code
-    → IsScalar code.program → IsState code.program g → Shows code input g s → op_at code.program g ≡ Some o
-    → IsNumberOp o → FitsOp (flow_at code.program g.current.function) o
+-- an op that is followed is so from the state's point
+at-point : (code : Code) (input : List ℕ) (g : graph.State) (s : machine.State) (o : Op)
+    → op_at code.program g ≡ Some o → IsDone code input g s o
     → Follows code input s g (is_nop (op_at code.program g)) (step code.program g)
-by-op code input g s (op.Call d f arguments) h scalar state shown has items fits =
-    subst (λ (at : Option Op). Follows code input s g (is_nop at) (given at (act code.program g))) (sym has)
-    (scalar-call code input g s d f arguments h scalar state shown has)
-by-op code input g s (op.Return a) h scalar state shown has items fits =
-    subst (λ (at : Option Op). Follows code input s g (is_nop at) (given at (act code.program g))) (sym has)
-    (scalar-return code input g s a h state shown has)
-by-op code input g s (op.Set how d a b) h scalar state shown has items fits =
-    steps-follow code input g s (op.Set how d a b) h state shown has
-    (number-held code.program g a scalar state fits.1.0, number-held code.program g b scalar state fits.1.1.0)
-by-op code input g s (op.Same a b) h scalar state shown has items fits =
-    steps-follow code input g s (op.Same a b) h state shown has
-    (number-held code.program g a scalar state fits.0, number-held code.program g b scalar state fits.1.0)
-by-op code input g s (op.Branch how a b x y) h scalar state shown has items fits =
-    steps-follow code input g s (op.Branch how a b x y) h state shown has
-    (number-held code.program g a scalar state fits.0, number-held code.program g b scalar state fits.1.0)
-by-op code input g s (op.Frame d k) h scalar state shown has items fits = absurd items
-by-op code input g s (op.Static d k) h scalar state shown has items fits = absurd items
-by-op code input g s (op.Load bits d p i) h scalar state shown has items fits = absurd items
-by-op code input g s (op.Store bits p i a) h scalar state shown has items fits = absurd items
-by-op code input g s (op.Get bits d k) h scalar state shown has items fits = absurd items
-by-op code input g s (op.Put bits k a) h scalar state shown has items fits = absurd items
-by-op code input g s (op.Clear k) h scalar state shown has items fits = absurd items
-by-op code input g s o h scalar state shown has items fits = steps-follow code input g s o h state shown has tt
+at-point code input g s o has done =
+    subst (λ (at : Option Op). Follows code input s g (is_nop at) (given at (act code.program g))) (sym has) done
 
-pub scalars-follow : ScalarsFollow
-scalars-follow code h scalar input g s state shown =
-    let lt = (state.active.0).function in
-    let known = op-at code.program g.current.function g.point g.block (h.supported).program lt state.placed in
-    by-op code input g s known.op h scalar state shown known.there
-    (every-at IsNumberOp (flow_at code.program g.current.function).ops g.point known.op
-    (scalar.ops g.current.function lt) known.there) known.fits
+by-op : (code : Code) (input : List ℕ) (g : graph.State) (s : machine.State) (o : Op) → IsSelected code
+    → IsState code.program g → Shows code input g s → op_at code.program g ≡ Some o
+    → Follows code input s g (is_nop (op_at code.program g)) (step code.program g)
+by-op code input g s (op.Call d f arguments) h state shown has =
+    at-point code input g s (op.Call d f arguments) has (call-done code input g s d f arguments h state shown has)
+by-op code input g s (op.Return a) h state shown has =
+    at-point code input g s (op.Return a) has (return-done code input g s a h state shown has)
+by-op code input g s (op.Clear k) h state shown has =
+    at-point code input g s (op.Clear k) has (clear-done code input g s k h state shown has)
+by-op code input g s (op.Set how d a b) h state shown has =
+    at-point code input g s (op.Set how d a b) has
+    (set-follows how d a b code input g s h.supported state shown has
+    (rows-stand code g s (op.Set how d a b) h state has shown.eip))
+by-op code input g s (op.Same a b) h state shown has =
+    at-point code input g s (op.Same a b) has
+    (same-follows a b code input g s h.supported state shown has
+    (rows-stand code g s (op.Same a b) h state has shown.eip))
+by-op code input g s (op.Branch how a b x y) h state shown has =
+    at-point code input g s (op.Branch how a b x y) has (branch-done code input g s how a b x y h state shown has)
+by-op code input g s o h state shown has = steps-follow code input g s o h state shown has tt
+
+pub programs-follow : ProgramsFollow
+programs-follow code h input g s state shown =
+    let known = op-at code.program g.current.function g.point g.block (h.supported).program
+    (state.active.0).function state.placed in
+    by-op code input g s known.op h state shown known.there

@@ -1,4 +1,2 @@
-pub mod Numbers
-pub mod Entries
 pub mod Following
-pub mod Starting
+pub mod Whole

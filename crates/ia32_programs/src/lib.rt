@@ -1,7 +1,7 @@
-//! That the code of a program of any number of functions over numbers is right, over any placements that support its
-//! graphs. Laws alone, no code.
+//! That the code of a program is right: of any number of functions, with arrays and static objects, over any placements
+//! that support its graphs. Laws alone, no code.
 #![tactic(auto)]
 
 mod laws;
 
-pub use laws::scalars_are_right;
+pub use laws::programs_are_right;

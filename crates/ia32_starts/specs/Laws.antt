@@ -92,7 +92,6 @@ MainIsShown = (code : Code) → IsSupported code → MainIsReady code → Starts
 abbrev pub MainsAreReady : Type 0
 MainsAreReady = (code : Code) → IsSelected code → MainIsReady code
 
--- So selected code comes there, with any static objects and frame arrays. `ScalarsStart` of `ia32_programs` is the case
--- without any.
+-- So selected code comes there, with any static objects and frame arrays.
 abbrev pub ObjectsStart : Type 0
 ObjectsStart = (code : Code) → IsSelected code → Starts code

@@ -1,0 +1,11 @@
+-- Selected code does what its program does.
+use Rattle.ia32_shows.proofs.Along.{whole_runs}
+use Rattle.ia32_starts.proofs.Ready.{objects-start}
+use Rattle.ia32_programs.specs.Right.{ProgramsAreRight}
+use Rattle.ia32_programs.proofs.Following.{programs-follow}
+
+pub programs-are-right : ProgramsAreRight
+programs-are-right code h =
+    let starts = objects-start code h in
+    let follows = programs-follow code h in
+    record { starts = starts; follows = follows; runs = whole_runs code (h.supported).program starts follows }
