@@ -1,9 +1,9 @@
 -- The machine follows the op that clears a frame array.
 use Rattle.std.proofs.Common.{◌≡◌, ◌⊎◌, ℕ, ◌+◌, ◌-◌, ◌*◌, ◌/◌, ◌%◌, ◌<◌, ◌≤◌, ℤ, pos, List, length, Option, Some, Ok}
 use Rattle.std.proofs.Common.{false, inl, inr, refl, sym, ap, subst, ◌∙◌, arith, replicate}
-use Rattle.std.specs.Prelude.{slice_get}
+use Rattle.std.specs.Prelude.{slice_get, slice_index_or}
 use Rattle.std.proofs.lemmas.Nat.{mul-le}
-use Rattle.std.proofs.lemmas.Option.{same_Some}
+use Rattle.std.proofs.lemmas.Option.{get_or_from_slice_get, same_Some}
 use Rattle.pcc_base.specs.Outcome.{InFrame}
 use Rattle.ia32_regs.specs.declared.names.Reg32.TheVariants.{Eax, Ecx, Edx, Ebx, Esp, Ebp}
 use Rattle.ia32_places.specs.Places.{Place, InWord, InByte, InSlot}
@@ -11,21 +11,26 @@ use Rattle.ia32_insn.specs.State as machine
 use Rattle.ia32_insn.specs.Meaning.{load, word_of}
 use Rattle.flow_graph.specs.declared.op.Op.{Op}
 use Rattle.flow_graph.specs.declared.op.Op.TheVariants as op
-use Rattle.flow_graph.specs.Graphs.{IsArray}
-use Rattle.flow_graph.specs.Meaning.{given, onward}
-use Rattle.flow_graph.specs.States.{depth_of, flow_at, with_array}
-use Rattle.flow_graph.specs.WellFormed.{AreElementsOf}
-use Rattle.graph_states.proofs.Lists.{every-at, zip-second}
+use Rattle.flow_graph.specs.Graphs.{Flow, IsArray}
+use Rattle.flow_graph.specs.Meaning.{act, given, onward}
+use Rattle.flow_graph.specs.States as graph
+use Rattle.flow_graph.specs.States.{depth_of, flow_at, op_at, with_array}
+use Rattle.flow_graph.specs.WellFormed.{AreElementsOf, IsState}
+use Rattle.graph_states.proofs.Lists.{at-within, every-at, zip-second}
 use Rattle.graph_states.proofs.Values.{graph-of}
-use Rattle.ia32_shows.specs.Follows.{Follows}
-use Rattle.ia32_shows.specs.Placements.{placement_of}
-use Rattle.ia32_shows.specs.Shows.{ElementsStand}
+use Rattle.ia32_shows.specs.Follows.{Follows, is_nop}
+use Rattle.ia32_shows.specs.Placements.{Code, placement_of}
+use Rattle.ia32_shows.specs.Shows.{ElementsStand, Shows}
 use Rattle.ia32_shows.specs.Sites.{Framed, Site}
 use Rattle.ia32_shows.proofs.Sets.{unlike}
+use Rattle.ia32_rows.specs.Clearing.{clear_row}
+use Rattle.ia32_rows.specs.Rows.{loop_label}
 use Rattle.ia32_effects.specs.Contains.{IsPlaceIn}
 use Rattle.ia32_effects.proofs.Moves.{general-below}
 use Rattle.ia32_keeps.specs.Laws.{IsSameRegister, KeepsOutside}
-use Rattle.ia32_keeps.specs.Supports.{IsArrayIn, site_of, size_of}
+use Rattle.ia32_keeps.specs.Ops.{RowAt}
+use Rattle.ia32_keeps.specs.Supports.{IsArrayIn, IsSupported, site_of, size_of}
+use Rattle.ia32_keeps.proofs.Ops.{op-is}
 use Rattle.ia32_keeps.proofs.Owned.{own-array-shows}
 use Rattle.ia32_keeps.proofs.Shown.{point-supported}
 use Rattle.ia32_keeps.proofs.Zeros.{zeros-stand}
@@ -62,12 +67,19 @@ register-same site frame first bytes items (InByte r) s u inside framed h =
     (h.others Ebx (unlike 3 6 refl) (unlike 3 7 refl))
 register-same site frame first bytes items (InSlot slot) s u inside framed h = tt
 
-pub clear-follows : ClearFollows
-clear-follows k label distance array code input g s supported state shown has declared placed r =
+-- by any label, where these are the array and its distance below EBP
+pub array-cleared : (k label distance : ℕ) (array : ℕ × ℕ) (code : Code) (input : List ℕ) (g : graph.State)
+    (s : machine.State) → IsSupported code → IsState code.program g → Shows code input g s
+    → op_at code.program g ≡ Some (op.Clear k)
+    → slice_get (flow_at code.program g.current.function).arrays k ≡ Some array
+    → slice_get (placement_of code g.current.function).arrays k ≡ Some distance
+    → RowAt code g (clear_row label distance (size_of array)) s
+    → Follows code input s g (is_nop (Some (op.Clear k))) (act code.program g (op.Clear k))
+array-cleared k label distance array code input g s supported state shown has declared placed r =
     subst (λ (o : Option (List ℤ)). Follows code input s g false (given o (λ zs.
     onward code.program (with_array (InFrame k (depth_of g)) (replicate (length zs) (pos 0)) g)))) (sym there)
-    (array-follows code input g s u o (InFrame k (depth_of g)) new r.rest supported state shown has (λ next h. h) c.sound
-    c.comes c.ready r.follows c.left c.taken c.written (λ q arrives.
+    (array-follows code input g s u o (InFrame k (depth_of g)) new r.rest supported state shown has (λ next h. h)
+    c.sound c.comes c.ready r.follows c.left c.taken c.written (λ q arrives.
     own-array-shows code input g s u o k distance array elements new g.block q g.left g.taken g.written supported state
     shown has refl there declared placed outside stand arrives))
   where
@@ -156,3 +168,19 @@ clear-follows k label distance array code input g s supported state shown has de
     stand : ElementsStand u first array.0 new
     stand = subst (λ (n : ℕ). ElementsStand u first array.0 (replicate n (pos 0))) (sym known.2.many)
         (zeros-stand u first array is count c.zeros)
+
+-- so does the op's own row
+pub clear-follows : ClearFollows
+clear-follows k code input g s supported state shown has r =
+    let f : ℕ = g.current.function in
+    let flow : Flow = flow_at code.program f in
+    let lt : k < length flow.arrays = (op-is code g (op.Clear k) supported state has).fits.0 in
+    let many = (supported.supports f state.active.0.function).arrays.as_many in
+    let (array, declared) = at-within flow.arrays k lt in
+    let (distance, placed) = at-within (placement_of code f).arrays k (omega (arith, many, lt)) in
+    array-cleared k (loop_label flow g.point) distance array code input g s supported state shown has declared placed
+    (subst (λ (d : ℕ). RowAt code g (clear_row (loop_label flow g.point) d (size_of array)) s)
+    (get_or_from_slice_get (placement_of code f).arrays k distance 0 placed)
+    (subst (λ (a : ℕ × ℕ). RowAt code g (clear_row (loop_label flow g.point)
+    (slice_index_or (placement_of code f).arrays k 0) (size_of a)) s)
+    (get_or_from_slice_get flow.arrays k array (0, 0) declared) r))
