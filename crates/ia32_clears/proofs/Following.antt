@@ -68,14 +68,14 @@ register-same site frame first bytes items (InByte r) s u inside framed h =
 register-same site frame first bytes items (InSlot slot) s u inside framed h = tt
 
 -- by any label, where these are the array and its distance below EBP
-pub array-cleared : (k label distance : ℕ) (array : ℕ × ℕ) (code : Code) (input : List ℕ) (g : graph.State)
+pub clear-follows : (k label distance : ℕ) (array : ℕ × ℕ) (code : Code) (input : List ℕ) (g : graph.State)
     (s : machine.State) → IsSupported code → IsState code.program g → Shows code input g s
     → op_at code.program g ≡ Some (op.Clear k)
     → slice_get (flow_at code.program g.current.function).arrays k ≡ Some array
     → slice_get (placement_of code g.current.function).arrays k ≡ Some distance
     → RowAt code g (clear_row label distance (size_of array)) s
     → Follows code input s g (is_nop (Some (op.Clear k))) (act code.program g (op.Clear k))
-array-cleared k label distance array code input g s supported state shown has declared placed r =
+clear-follows k label distance array code input g s supported state shown has declared placed r =
     subst (λ (o : Option (List ℤ)). Follows code input s g false (given o (λ zs.
     onward code.program (with_array (InFrame k (depth_of g)) (replicate (length zs) (pos 0)) g)))) (sym there)
     (array-follows code input g s u o (InFrame k (depth_of g)) new r.rest supported state shown has (λ next h. h)
@@ -170,15 +170,15 @@ array-cleared k label distance array code input g s supported state shown has de
         (zeros-stand u first array is count c.zeros)
 
 -- so does the op's own row
-pub clear-follows : ClearFollows
-clear-follows k code input g s supported state shown has r =
+pub row-follows : ClearFollows
+row-follows k code input g s supported state shown has r =
     let f : ℕ = g.current.function in
     let flow : Flow = flow_at code.program f in
     let lt : k < length flow.arrays = (op-is code g (op.Clear k) supported state has).fits.0 in
     let many = (supported.supports f state.active.0.function).arrays.as_many in
     let (array, declared) = at-within flow.arrays k lt in
     let (distance, placed) = at-within (placement_of code f).arrays k (omega (arith, many, lt)) in
-    array-cleared k (loop_label flow g.point) distance array code input g s supported state shown has declared placed
+    clear-follows k (loop_label flow g.point) distance array code input g s supported state shown has declared placed
     (subst (λ (d : ℕ). RowAt code g (clear_row (loop_label flow g.point) d (size_of array)) s)
     (get_or_from_slice_get (placement_of code f).arrays k distance 0 placed)
     (subst (λ (a : ℕ × ℕ). RowAt code g (clear_row (loop_label flow g.point)
