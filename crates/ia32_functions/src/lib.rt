@@ -1,0 +1,12 @@
+//! The items of a whole function, over slots: in go its graph and how far from EBP its variables and frame arrays stand,
+//! out come the items that the definitions name (`ia32_rows`, `specs/Rows.antt`).
+#![tactic(auto)]
+
+mod arrays;
+mod blocks;
+mod function;
+mod ops;
+mod rows;
+mod site;
+
+pub use function::select_function;
