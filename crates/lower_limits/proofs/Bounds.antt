@@ -17,7 +17,7 @@ use Rattle.lower_lines.specs.Words.{FunctionHasWords}
 use Rattle.lower_limits.specs.Laws.{KeepsWords, LimitsBound}
 
 -- a limit that isn't passed, and then none of the others
-below-limit : (m n : ℕ) (l : Limit) (rest : Option Limit) → (if nat_lt m n then Some l else rest) ≡ None
+pub below-limit : (m n : ℕ) (l : Limit) (rest : Option Limit) → (if nat_lt m n then Some l else rest) ≡ None
     → (n ≤ m) × (rest ≡ None)
 below-limit m n l rest e = by (nat_lt m n) refl e
   where
@@ -25,7 +25,7 @@ below-limit m n l rest e = by (nat_lt m n) refl e
     by true t e = absurd (cc)
     by false t e = (grind (arith, nat_tests, t), e)
 
-frames-below : (k : ℕ) (fs : List Function) → large_frame k fs ≡ None → AllByRecursion (λ f. frame_bound f ≤ 16384) fs
+pub frames-below : (k : ℕ) (fs : List Function) → large_frame k fs ≡ None → AllByRecursion (λ f. frame_bound f ≤ 16384) fs
 frames-below k [] e = tt
 frames-below k (f ∷ fs) e =
     let h = below-limit most_frame (frame_bound f) _ (large_frame (suc k) fs) e in

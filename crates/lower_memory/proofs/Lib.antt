@@ -2,4 +2,3 @@ pub mod Expressions
 pub mod Items
 pub mod Statements
 pub mod Files
-pub mod Texts

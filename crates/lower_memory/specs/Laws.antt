@@ -1,9 +1,7 @@
 -- Typed programs of files whose tokens are few are ones in memory, as lowering asks for them.
-use Rattle.std.specs.Prelude.{◌≤◌, ℕ, List, length, flat_map}
-use Rattle.c_lexer.specs.declared.token.Token.{Token}
+use Rattle.std.specs.Prelude.{◌≤◌, List, length, flat_map}
 use Rattle.c_grammar.specs.Grammar.{unit_tokens}
 use Rattle.c_grammar.specs.Statements.{ExternalTree}
-use Rattle.c_front.specs.Accepted.{HaveTokens, HaveTrees, total}
 use Rattle.c_tree.specs.Program.{Program}
 use Rattle.c_typing.specs.Laws.{AreSources}
 use Rattle.c_typing.specs.Typed.{IsAccepted}
@@ -13,8 +11,3 @@ use Rattle.lower_lines.specs.Words.{IsInMemory}
 abbrev pub SourcesAreInMemory : Type 0
 SourcesAreInMemory = (units : List (List ExternalTree)) (p : Program) → AreSources units
     → length (flat_map unit_tokens units) ≤ 65536 → IsAccepted units p → IsInMemory p
-
--- So is the program of texts whose raw trees are the files.
-abbrev pub TextsAreInMemory : Type 0
-TextsAreInMemory = (texts : List (List ℕ)) (files : List (List Token)) (units : List (List ExternalTree)) (p : Program)
-    → HaveTokens 0 texts files → HaveTrees files units → total files ≤ 65536 → IsAccepted units p → IsInMemory p

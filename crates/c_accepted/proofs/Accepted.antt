@@ -1,0 +1,22 @@
+-- The accepted program of texts is ready.
+use Rattle.c_sound.proofs.Sound.{typed_is_well_typed}
+use Rattle.c_typing.specs.Typed.{arrays_bytes, large_frame, most_arrays}
+use Rattle.c_identifiers.proofs.Files.{programs_have_names}
+use Rattle.c_units.proofs.Units.{units_are_few, units_are_sources, units_have_names}
+use Rattle.lower_limits.proofs.Bounds.{below-limit, frames-below}
+use Rattle.lower_memory.proofs.Files.{sources_are_in_memory}
+use Rattle.c_accepted.specs.Ready.{ProgramsAreReady}
+
+pub programs_are_ready : ProgramsAreReady
+programs_are_ready texts p (units, have, accepted) =
+    let sources = units_are_sources texts units have in
+    let memory = sources_are_in_memory units p sources (units_are_few texts units have) accepted in
+    let within = below-limit most_arrays (arrays_bytes p) _ (large_frame 0 p.functions) accepted.small in
+    record {
+      typed = typed_is_well_typed units p sources accepted.typed;
+      memory = memory;
+      names = programs_have_names units p sources.trees (units_have_names texts units have) accepted.typed;
+      frames = frames-below 0 p.functions within.1;
+      objects = within.0;
+      small = memory.small;
+    }
