@@ -20,7 +20,7 @@ use Rattle.ia32_shows.specs.Placements.{Code, IsCode, objects_of}
 use Rattle.pcc_listing.specs.Lines.{map_text}
 use Rattle.pcc_listing.specs.Maps.{Map, IsMap}
 use Rattle.pcc_listing.specs.Marks.{visits_of, listed}
-use Rattle.slot_map.specs.Belongs.{IsMapOf}
+use Rattle.program_map.specs.Belongs.{IsMapOf}
 
 -- m steps of the image with these bytes have this outcome, with the visits that the map shows
 abbrev pub ImageOutcome : List ℕ → Map → List ℕ → ℕ → Outcome → Type 0

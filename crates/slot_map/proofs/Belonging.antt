@@ -29,8 +29,8 @@ use Rattle.ia32_rows.proofs.Laid.{mark-at}
 use Rattle.ia32_places.specs.Places.{Place, InSlot}
 use Rattle.pcc_listing.specs.Maps.{MapArray, MapFunction, MapObject, MapPoint, MapVariable, Standing, points_of}
 use Rattle.pcc_listing.specs.Marks.{MarkAt, marks_of}
-use Rattle.slot_map.specs.Belongs.{AreDistinct, IsFunctionOf, IsMarkOf, IsMapOf, arrays_at, local_variables, objects_at}
-use Rattle.slot_map.specs.Belongs.{temporary, typed_variables}
+use Rattle.program_map.specs.Belongs.{AreDistinct, IsFunctionOf, IsMarkOf, IsMapOf, arrays_at, local_variables, objects_at}
+use Rattle.program_map.specs.Belongs.{temporary, typed_variables}
 use Rattle.slot_map.specs.SlotMap.{all_points, marked_point, op_points, points_over, slot_function, standings_from}
 use Rattle.slot_map.specs.SlotMap.{variables_over}
 use Rattle.slot_map.specs.MapLaws.{IsCodeOf, MapBelongs, map_in}

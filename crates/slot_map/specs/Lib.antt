@@ -1,3 +1,2 @@
-pub mod Belongs
 pub mod MapLaws
 pub mod SlotMap

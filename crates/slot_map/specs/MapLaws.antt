@@ -16,7 +16,7 @@ use Rattle.ia32_shows.specs.Follows.{ShowsVisits}
 use Rattle.ia32_rows.specs.Right.{IsSlotCode}
 use Rattle.pcc_listing.specs.Maps.{Map, IsMap}
 use Rattle.pcc_listing.specs.Marks.{listed, visits_of}
-use Rattle.slot_map.specs.Belongs.{IsMapOf}
+use Rattle.program_map.specs.Belongs.{IsMapOf}
 use Rattle.slot_map.specs.SlotMap.{slot_map}
 
 -- the code over slots of the graph of a program's one function, whose marks are the function's statements, each once

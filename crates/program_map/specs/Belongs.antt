@@ -1,7 +1,7 @@
 -- When a map is that of a program: the program, its graphs, where their variables stand, and the addresses of their
 -- points fix what stands in it.
 use Rattle.std.specs.Prelude.{◌≡◌, ◌<◌, ◌≤◌, ◌⊎◌, ◌≢◌, ⊤, ℕ, ◌+◌, ◌*◌, List, [], ◌∷◌, ◌++◌, flat_map, length, map}
-use Rattle.std.specs.Prelude.{slice_get, sum_by, take, Some}
+use Rattle.std.specs.Prelude.{slice_get, sum_by, take, Option, Some}
 use Rattle.std.specs.List.{All, range_with_len}
 use Rattle.pcc_base.specs.declared.run.Width.{Width}
 use Rattle.pcc_base.specs.declared.run.Width.TheVariants.{One, Two}
@@ -10,11 +10,11 @@ use Rattle.c_tree.specs.declared.types.ValueType.{ValueType}
 use Rattle.c_tree.specs.declared.types.ValueType.TheVariants.{Void, Integer, Pointer}
 use Rattle.c_tree.specs.Program.{StaticObject, Local, LocalArray, Function, Program}
 use Rattle.c_tree.specs.Sizes.{bytes_of}
-use Rattle.flow_graph.specs.declared.op.Op.TheVariants.{Mark}
+use Rattle.flow_graph.specs.declared.op.Op.TheVariants.{Call, Mark}
 use Rattle.flow_graph.specs.Graphs.{Flow, IsDistinct, IsIn, IsPlaced}
 use Rattle.flow_graph.specs.Sizes.{array_bytes}
-use Rattle.c_lower.specs.Lowering.{first_statement}
-use Rattle.c_lower.specs.Shown.{declared_before, local_widths, numbers_of}
+use Rattle.lower_lines.specs.Lowering.{first_statement}
+use Rattle.lower_lines.specs.Shown.{declared_before, local_widths, numbers_of}
 use Rattle.ia32_shows.specs.Paths.{IsAt}
 use Rattle.ia32_shows.specs.Placements.{Code, Placement, placement_of, point_address}
 use Rattle.ia32_places.specs.Places.{Place}
@@ -75,6 +75,23 @@ pub record IsMarkOf (first : ℕ) (f : Function) (flow : Flow) (placement : Plac
   pub places : All (λ s. placement.before p.number s.variable ≡ Some s.place) p.before
   pub apart : AreDistinct (map (λ s. s.place) p.before)
 
+-- The point is a call of a function in a function's graph, where nothing is listed: by its address the map finds the
+-- function of the frame that the call leaves waiting.
+pub record IsCallOf (flow : Flow) (addresses : ℕ → ℕ) (p : MapPoint) : Type 0 where
+  pub result : Option ℕ
+  pub callee : ℕ
+  pub arguments : List ℕ
+  pub calls : p.op ≡ Call result callee arguments
+  pub placed : IsPlaced flow p.number
+  pub same_op : slice_get flow.ops p.number ≡ Some p.op
+  pub address : p.address ≡ addresses p.number
+  pub lists_none : p.before ≡ []
+
+-- a mark or a call
+abbrev pub IsPointOf : ℕ → Function → Flow → Placement → (ℕ → ℕ) → MapPoint → Type 0
+IsPointOf first f flow placement addresses p =
+    IsMarkOf first f flow placement addresses p ⊎ IsCallOf flow addresses p
+
 -- ---- functions
 
 -- The function of the map is that of a function of the program, whose first statement has this number, and of its
@@ -90,15 +107,18 @@ pub record IsFunctionOf (first : ℕ) (f : Function) (flow : Flow) (placement : 
   pub temporaries : List Width
   pub variables : m.variables ≡ flat_map local_variables f.locals ++ map temporary temporaries
   pub widths : map (λ v. v.width) m.variables ≡ flow.widths
-  -- its points are the marks of the graph
-  pub marks : All (IsMarkOf first f flow placement addresses) (points_of m)
+  -- its points are the marks and the calls of the graph
+  pub points : All (IsPointOf first f flow placement addresses) (points_of m)
   pub all_marks : (point statement : ℕ) → IsPlaced flow point → slice_get flow.ops point ≡ Some (Mark statement)
+      → IsIn point (map (λ p. p.number) (points_of m))
+  pub all_calls : (point : ℕ) (result : Option ℕ) (callee : ℕ) (arguments : List ℕ) → IsPlaced flow point
+      → slice_get flow.ops point ≡ Some (Call result callee arguments)
       → IsIn point (map (λ p. p.number) (points_of m))
 
 -- ---- programs
 
--- The map is that of the program, with the code of its graphs: it has their objects and functions, and marks each
--- statement of the program once, at a NOP, and nothing else.
+-- The map is that of the program, with the code of its graphs: it has their objects and functions, marks each
+-- statement of the program once, at a NOP, and has each call of a function, and nothing else.
 pub record IsMapOf (program : Program) (code : Code) (m : Map) : Type 0 where
   pub objects : m.objects ≡ objects_at program.objects code.symbols.objects
   pub as_many : length m.functions ≡ length program.functions
