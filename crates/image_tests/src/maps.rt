@@ -1,7 +1,7 @@
 //! Texts of maps and of their parts, by hand.
 
 use pcc_base::{Name, Width};
-use pcc_listing::{Line, Standing, print_lines, push_address, push_number};
+use pcc_listing::{Line, Named, Standing, print_lines, push_address, push_number};
 use std::test::Fail;
 
 const NUMBERS: [(u64, &str); 4] = [(0, "0"), (7, "7"), (100, "100"), (4294967295, "4294967295")];
@@ -41,11 +41,18 @@ fn no_lines(rt: HostRuntime) -> Result<(), Fail> {
 
 /// What a map of the lines below says.
 const TEXT: &str = "pcc map 1
+object 0 0804a008 3 4
 function 0 main frame 28
+array 0 -32 2 1
 var 0 2 x1
-var 1 1 -
+var 1 2 p.base
+var 2 2 p.index
+var 3 1 -
 point 3 0804801f mark 1
 before 0=[ebp-20] 2=[ebp-28]
+point 4 08048020 call 3 1 0 2
+before
+point 5 08048030 call - 0
 before
 end
 ";
@@ -54,28 +61,60 @@ fn standing(variable: u32, below: u32) -> Standing {
     Standing { variable, below }
 }
 
-/// A line of each kind.
+/// The line of a variable of width Two.
+fn word(number: u32, name: Named) -> Line {
+    Line::Variable {
+        number,
+        width: Width::Two,
+        name,
+    }
+}
+
+/// The line of a call at a point.
+fn call(point: u32, address: u32, to: Option<u32>, function: u32, arguments: Words) -> Line {
+    Line::Call {
+        point,
+        address,
+        to,
+        function,
+        arguments,
+    }
+}
+
+/// Lines of each kind.
 #[test]
 fn each_kind(rt: HostRuntime) -> Result<(), Fail> {
     let alloc = rt.alloc();
     let standings = vec![in alloc; standing(0, 20), standing(2, 28)]?;
     let main = Name::new(b"main".to_vec(alloc)?);
     let x1 = Name::new(b"x1".to_vec(alloc)?);
+    let base = Name::new(b"p".to_vec(alloc)?);
+    let index = Name::new(b"p".to_vec(alloc)?);
     let lines = vec![in alloc;
+        Line::Object {
+            number: 0,
+            address: 0x0804_a008,
+            count: 3,
+            bytes: 4
+        },
         Line::Function {
             number: 0,
             name: main,
             frame: 28
         },
-        Line::Variable {
+        Line::Array {
             number: 0,
-            width: Width::Two,
-            name: Some(x1)
+            below: 32,
+            count: 2,
+            bytes: 1
         },
+        word(0, Named::Scalar(x1)),
+        word(1, Named::Array(base)),
+        word(2, Named::Index(index)),
         Line::Variable {
-            number: 1,
+            number: 3,
             width: Width::One,
-            name: None
+            name: Named::Temporary
         },
         Line::Mark {
             point: 3,
@@ -83,6 +122,9 @@ fn each_kind(rt: HostRuntime) -> Result<(), Fail> {
             statement: 1
         },
         Line::Before(standings),
+        call(4, 0x0804_8020, Some(3), 1, Words::new(vec![in alloc; 0, 2]?)),
+        Line::Before(Vec::new(alloc)),
+        call(5, 0x0804_8030, None, 0, Words::new(Vec::new(alloc))),
         Line::Before(Vec::new(alloc)),
     ]?;
     let text = print_lines(alloc, &lines)?;

@@ -47,7 +47,7 @@ all-append P [] ys all all' = all'
 all-append P (x ∷ xs) ys all all' = (all.0, all-append P xs ys all.1 all')
 
 -- decimal digits
-decimal-digits : (n : ℕ) → n < 2 ^ 64 → AllByRecursion IsDigit (decimal n)
+pub decimal-digits : (n : ℕ) → n < 2 ^ 64 → AllByRecursion IsDigit (decimal n)
 decimal-digits = decimal_by_steps (λ n ds. AllByRecursion IsDigit ds)
     (λ n h. ((omega arith, omega arith), tt))
     (λ n ds h all. all-append IsDigit ds ((48 + n % 10) ∷ []) all ((omega arith, omega arith), tt))

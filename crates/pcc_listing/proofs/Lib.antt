@@ -1,7 +1,8 @@
+pub mod Calls
 pub mod Fields
 pub mod Hexadecimal
 pub mod LineRules
-pub mod Named
+pub mod LocalNames
 pub mod OneMap
 pub mod OneText
 pub mod Places

@@ -1,6 +1,7 @@
 -- What a line's text needs to determine the line.
-use Rattle.std.proofs.Common.{List}
-use Rattle.std.specs.List.{All}
+use Rattle.std.proofs.Common.{ℕ, List, Option, Some, None}
+use Rattle.std.specs.Prelude.{⊤}
+use Rattle.std.specs.List.{All, AllByRecursion}
 use Rattle.flow_graph.specs.declared.op.Op.{Op}
 use Rattle.flow_graph.specs.declared.op.Op.TheVariants as op
 use Rattle.pcc_base.specs.Names.{IsName}
@@ -12,8 +13,14 @@ pub record IsStandingText (s : Standing) : Type 0 where
   pub variable : IsNumber s.variable
   pub place : IsPlace s.place
 
+-- the number of a variable, where there is one
+abbrev pub IsAnyNumber : Option ℕ → Type 0
+IsAnyNumber None = ⊤
+IsAnyNumber (Some v) = IsNumber v
+
 abbrev pub IsOpText : Op → Type 0
 IsOpText (op.Mark s) = IsNumber s
+IsOpText (op.Call d f arguments) = IsAnyNumber d × IsNumber f × AllByRecursion IsNumber arguments
 IsOpText _ = ⊥
 
 abbrev pub IsLine : Line → Type 0

@@ -1,21 +1,22 @@
 -- A map's text determines the map: its lines determine its tree.
 use Rattle.std.proofs.Common.{◌≡◌, ◌<◌, ◌≤◌, ◌^◌, ℕ, zero, suc, ◌+◌, List, [], ◌∷◌, ◌++◌, length, map, flat_map, refl}
 use Rattle.std.proofs.Common.{sym, ap, ◌∙◌, arith, append_assoc, inl, inr, subst}
-use Rattle.std.specs.Prelude.{⊤, ◌⊎◌}
+use Rattle.std.specs.Prelude.{⊤, ◌⊎◌, Option, Some, None}
 use Rattle.std.specs.List.{All, AllByRecursion}
-use Rattle.std.proofs.lemmas.List.{append-nil}
+use Rattle.std.proofs.lemmas.List.{append-nil, length-map}
 use Rattle.std.proofs.lemmas.List.Elements.{recursion_from_All, All-from_recursion}
 use Rattle.flow_graph.specs.declared.op.Op.{Op}
 use Rattle.flow_graph.specs.declared.op.Op.TheVariants as op
+use Rattle.flow_graph.specs.Graphs.{Flow, IsMet, two, two_if_any}
 use Rattle.std.proofs.lemmas.Option.{slice_get_within}
 use Rattle.pcc_base.specs.declared.run.Width.{Width}
 use Rattle.pcc_base.specs.declared.run.Width.TheVariants.{One, Two}
-use Rattle.pcc_listing.proofs.LineRules.{AreLines, IsLine, IsOpText, IsStandingText}
+use Rattle.pcc_listing.proofs.LineRules.{AreLines, IsAnyNumber, IsLine, IsOpText, IsStandingText}
 use Rattle.pcc_listing.proofs.OneText.{text-one}
 use Rattle.ia32_places.specs.Places.{IsPlace, Place, InWord, InByte, InSlot}
 use Rattle.pcc_listing.specs.Maps.{Map, MapObject, MapFunction, MapArray, MapVariable, MapPoint, Standing, IsMap}
 use Rattle.pcc_listing.specs.Maps.{IsMapFunction, IsMapPoint, IsListed, IsMapObject, IsMapArray, IsMapVariable, IsMapOp}
-use Rattle.pcc_listing.specs.Maps.{IsNumber, IsStanding, Named, points_of}
+use Rattle.pcc_listing.specs.Maps.{IsNumber, IsStanding, Named, flow_of, points_of}
 use Rattle.pcc_listing.specs.Lines.{Line, ObjectLine, FunctionLine, ArrayLine, VariableLine, PointLine, BeforeLine}
 use Rattle.pcc_listing.specs.Lines.{array_lines, function_lines, lines_of, map_text, numbered, object_lines}
 use Rattle.pcc_listing.specs.Lines.{point_lines, variable_lines}
@@ -307,30 +308,54 @@ standing-texts vs (s ∷ ss) few ((v, at, fits, place), all) = (
   standing-texts vs ss few all,
 )
 
-listed-text : (m : Map) (f : MapFunction) (o : Op) → IsListed o → IsMapOp m f o → IsOpText o
-listed-text m f (op.Mark s) listed is = is.numbers
-listed-text m f _ listed is = absurd listed
+-- the variables that an op asks for are among few
+variable-number : (flow : Flow) (v : ℕ) → length flow.widths ≤ 2 ^ 32 → IsMet flow (two v) → IsNumber v
+variable-number flow v few met = omega (arith, few, slice_get_within flow.widths v Two met)
 
-points-lines : (m : Map) (f : MapFunction) (ps : List MapPoint) → length f.variables ≤ 2 ^ 32
+argument-numbers : (flow : Flow) (xs : List ℕ) → length flow.widths ≤ 2 ^ 32 → AllByRecursion (IsMet flow) (map two xs)
+    → AllByRecursion IsNumber xs
+argument-numbers flow [] few met = tt
+argument-numbers flow (x ∷ xs) few met = (variable-number flow x few met.0, argument-numbers flow xs few met.1)
+
+call-numbers : (flow : Flow) (d : Option ℕ) (xs : List ℕ) → length flow.widths ≤ 2 ^ 32
+    → AllByRecursion (IsMet flow) (two_if_any d ++ map two xs) → IsAnyNumber d × AllByRecursion IsNumber xs
+call-numbers flow None xs few met = (tt, argument-numbers flow xs few met)
+call-numbers flow (Some v) xs few met = (variable-number flow v few met.0, argument-numbers flow xs few met.1)
+
+-- a map of few functions, and a function of few variables
+pub record AreFew (m : Map) (f : MapFunction) : Type 0 where
+  pub functions : length m.functions ≤ 2 ^ 32
+  pub variables : length f.variables ≤ 2 ^ 32
+
+listed-text : (m : Map) (f : MapFunction) (o : Op) → AreFew m f → IsListed o → IsMapOp m f o → IsOpText o
+listed-text m f (op.Mark s) few listed is = is.numbers
+listed-text m f (op.Call d g xs) few listed is =
+    let many = length-map f.variables (λ (v : MapVariable). v.width) in
+    let parts = call-numbers (flow_of f) d xs (omega (arith, many, few.variables)) is.fits in
+    (parts.0, omega (arith, is.names, few.functions), parts.1)
+listed-text m f _ few listed is = absurd listed
+
+points-lines : (m : Map) (f : MapFunction) (ps : List MapPoint) → AreFew m f
     → AllByRecursion (IsMapPoint m f) ps → AllByRecursion IsLine (flat_map point_lines ps)
 points-lines m f [] few all = tt
 points-lines m f (p ∷ ps) few all = (
-  (all.0.number, all.0.address, listed-text m f p.op all.0.listed all.0.op),
+  (all.0.number, all.0.address, listed-text m f p.op few all.0.listed all.0.op),
   (
     All-from_recursion IsStandingText p.before
-        (standing-texts f.variables p.before few (recursion_from_All (IsStanding f.variables) p.before all.0.before.0)),
+        (standing-texts f.variables p.before few.variables
+        (recursion_from_All (IsStanding f.variables) p.before all.0.before.0)),
     points-lines m f ps few all.1,
   ),
 )
 
-function-line : (m : Map) (k : ℕ) (f : MapFunction) → IsNumber k → IsMapFunction m f
+function-line : (m : Map) → length m.functions ≤ 2 ^ 32 → (k : ℕ) (f : MapFunction) → IsNumber k → IsMapFunction m f
     → AllByRecursion IsLine (function_lines k f)
-function-line m k f n is =
+function-line m few k f n is =
     let arrays = numbered-lines IsMapArray array_lines array-line 0 f.arrays (omega (arith, is.few_arrays))
     (recursion_from_All IsMapArray f.arrays is.arrays) in
     let variables = numbered-lines IsMapVariable variable_lines variable-line 0 f.variables
     (omega (arith, is.few_variables)) (recursion_from_All IsMapVariable f.variables is.variables) in
-    let points = points-lines m f (points_of f) is.few_variables
+    let points = points-lines m f (points_of f) (record { functions = few; variables = is.few_variables })
     (recursion_from_All (IsMapPoint m f) (points_of f) is.points) in
     ((n, is.name, is.frame), both-lines _ _ (both-lines _ _ arrays variables) points)
 
@@ -339,7 +364,7 @@ map-lines m is =
     All-from_recursion IsLine (lines_of m)
     (both-lines _ _ (numbered-lines IsMapObject object_lines object-line 0 m.objects (omega (arith, is.few_objects))
     (recursion_from_All IsMapObject m.objects is.objects))
-    (numbered-lines (IsMapFunction m) function_lines (function-line m) 0 m.functions (omega (arith, is.few_functions))
+    (numbered-lines (IsMapFunction m) function_lines (function-line m is.few_functions) 0 m.functions (omega (arith, is.few_functions))
     (recursion_from_All (IsMapFunction m) m.functions is.functions)))
 
 -- maps with one text are the same

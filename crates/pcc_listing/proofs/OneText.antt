@@ -1,6 +1,6 @@
 -- The text of lines determines them.
 use Rattle.std.proofs.Common.{◌≡◌, ℕ, List, [], ◌∷◌, ◌++◌, codes, decimal, flat_map, get_or, ap, sym, refl, ◌∙◌, arith}
-use Rattle.std.proofs.Common.{append_assoc}
+use Rattle.std.proofs.Common.{append_assoc, Option, Some, None}
 use Rattle.std.specs.List.{AllByRecursion}
 use Rattle.std.proofs.lemmas.List.{append_cancel_left}
 use Rattle.std.proofs.lemmas.List.Elements.{recursion_from_All}
@@ -12,11 +12,13 @@ use Rattle.ia32_places.specs.Places.{Place}
 use Rattle.pcc_listing.specs.Maps.{Standing, Named, IsNumber}
 use Rattle.pcc_base.specs.Names.{IsDigit, IsNameByte}
 use Rattle.pcc_listing.specs.Lines.{Line, ObjectLine, FunctionLine, ArrayLine, VariableLine, PointLine, BeforeLine}
+use Rattle.pcc_listing.specs.Lines.{argument_text, if_any_text}
 use Rattle.pcc_listing.specs.Lines.{newline, address_text, width_text, place_text, named_text, standing_text, op_text}
 use Rattle.pcc_listing.specs.Lines.{line_text, lines_text}
-use Rattle.pcc_listing.proofs.LineRules.{IsLine, IsOpText, IsStandingText, AreLines}
-use Rattle.pcc_listing.proofs.Fields.{field-one, number-at, address-one}
-use Rattle.pcc_listing.proofs.Named.{no-name-byte, name-bytes, named-one}
+use Rattle.pcc_listing.proofs.LineRules.{IsAnyNumber, IsLine, IsOpText, IsStandingText, AreLines}
+use Rattle.pcc_listing.proofs.Calls.{call-text}
+use Rattle.pcc_listing.proofs.Fields.{Stops, decimal-digits, field-one, number-at, number-one, address-one}
+use Rattle.pcc_listing.proofs.LocalNames.{no-name-byte, name-bytes, named-one}
 use Rattle.pcc_listing.proofs.Places.{first-same, place-one}
 
 -- no digit is a space or a newline
@@ -161,10 +163,66 @@ mark-one : (m m' : ℕ) (r s : List ℕ) → IsNumber m → IsNumber m' → op_t
     ≡ op_text (op.Mark m') ++ (10 ∷ s) → (m ≡ m') × (r ≡ s)
 mark-one m m' r s ok ok' e = number-at 10 m m' r s line_end ok ok' (append_cancel_left (codes "mark ") _ _ e)
 
+-- a line or another argument follows an argument
+argument-stops : (xs r : List ℕ) → Stops IsDigit (flat_map argument_text xs ++ (10 ∷ r))
+argument-stops [] r = line_end
+argument-stops (x ∷ xs) r = space
+
+argument-parts : (x : ℕ) (xs r : List ℕ) → flat_map argument_text (x ∷ xs) ++ (10 ∷ r)
+    ≡ 32 ∷ (decimal x ++ (flat_map argument_text xs ++ (10 ∷ r)))
+argument-parts x xs r = simp append_assoc
+
+arguments-one : (xs ys r s : List ℕ) → AllByRecursion IsNumber xs → AllByRecursion IsNumber ys
+    → flat_map argument_text xs ++ (10 ∷ r) ≡ flat_map argument_text ys ++ (10 ∷ s) → (xs ≡ ys) × (r ≡ s)
+arguments-one [] [] r s ok ok' e = (refl, cc)
+arguments-one [] (y ∷ ys) r s ok ok' e = let h = first-same _ _ e in absurd (omega arith)
+arguments-one (x ∷ xs) [] r s ok ok' e = let h = first-same _ _ e in absurd (omega arith)
+arguments-one (x ∷ xs) (y ∷ ys) r s ok ok' e =
+    let e1 : 32 ∷ (decimal x ++ (flat_map argument_text xs ++ (10 ∷ r)))
+    ≡ 32 ∷ (decimal y ++ (flat_map argument_text ys ++ (10 ∷ s))) = sym (argument-parts x xs r) ∙ e
+    ∙ argument-parts y ys s in
+    let one = number-one x y _ _ ok.0 ok'.0 (argument-stops xs r) (argument-stops ys s) (cc e1) in
+    let more = arguments-one xs ys r s ok.1 ok'.1 one.1 in
+    let first : x ≡ y = one.0 in
+    let others : xs ≡ ys = more.0 in
+    (cc (first, others), more.1)
+
+-- no number begins with `-`
+no-number : (v : ℕ) (r s : List ℕ) → IsNumber v → 45 ∷ 32 ∷ r ≡ decimal v ++ (32 ∷ s) → ⊥
+no-number v r s small e =
+    let parts = field-one IsDigit [] (decimal v) (45 ∷ 32 ∷ r) (32 ∷ s) tt (decimal-digits v (omega (arith, small)))
+    (λ h. omega arith) space e in
+    let h = first-same _ _ parts.1 in
+    absurd (omega arith)
+
+if-any-one : (d d' : Option ℕ) (r s : List ℕ) → IsAnyNumber d → IsAnyNumber d'
+    → if_any_text d ++ (32 ∷ r) ≡ if_any_text d' ++ (32 ∷ s) → (d ≡ d') × (r ≡ s)
+if-any-one None None r s ok ok' e = (refl, cc)
+if-any-one None (Some v) r s ok ok' e = absurd (no-number v r s ok' e)
+if-any-one (Some v) None r s ok ok' e = absurd (no-number v s r ok (sym e))
+if-any-one (Some v) (Some w) r s ok ok' e =
+    let parts = number-at 32 v w r s space ok ok' e in (ap Some parts.0, parts.1)
+
+call-one : (d : Option ℕ) (f : ℕ) (xs : List ℕ) (d' : Option ℕ) (f' : ℕ) (ys r s : List ℕ)
+    → IsOpText (op.Call d f xs) → IsOpText (op.Call d' f' ys)
+    → op_text (op.Call d f xs) ++ (10 ∷ r) ≡ op_text (op.Call d' f' ys) ++ (10 ∷ s)
+    → (op.Call d f xs ≡ op.Call d' f' ys) × (r ≡ s)
+call-one d f xs d' f' ys r s ok ok' e =
+    let e1 = append_cancel_left (codes "call ") _ _ (sym (call-text d f xs (10 ∷ r)) ∙ e
+    ∙ call-text d' f' ys (10 ∷ s)) in
+    let p1 = if-any-one d d' _ _ ok.0 ok'.0 e1 in
+    let p2 = number-one f f' _ _ ok.1 ok'.1 (argument-stops xs r) (argument-stops ys s) p1.1 in
+    let p3 = arguments-one xs ys r s ok.2 ok'.2 p2.1 in
+    (cc (p1.0, p2.0, p3.0), p3.1)
+
 op-one : (o o' : Op) (r s : List ℕ) → IsOpText o → IsOpText o' → op_text o ++ (10 ∷ r) ≡ op_text o' ++ (10 ∷ s)
     → (o ≡ o') × (r ≡ s)
 op-one (op.Mark m) (op.Mark m') r s ok ok' e = let parts = mark-one m m' r s ok ok' e in (ap op.Mark parts.0, parts.1)
+op-one (op.Call d f xs) (op.Call d' f' ys) r s ok ok' e = call-one d f xs d' f' ys r s ok ok' e
+op-one (op.Mark m) (op.Call d f xs) r s ok ok' e = let h = first-same _ _ e in absurd (omega arith)
+op-one (op.Call d f xs) (op.Mark m) r s ok ok' e = let h = first-same _ _ e in absurd (omega arith)
 op-one (op.Mark m) _ r s ok ok' e = absurd ok'
+op-one (op.Call d f xs) _ r s ok ok' e = absurd ok'
 op-one _ o' r s ok ok' e = absurd ok
 
 abbrev point_parts : ℕ → ℕ → Op → List ℕ → List ℕ

@@ -132,6 +132,10 @@ abbrev pub if_any_text : Option ℕ → List ℕ
 if_any_text None = codes "-"
 if_any_text (Some v) = decimal v
 
+-- an argument word, with the space before it
+abbrev pub argument_text : ℕ → List ℕ
+argument_text v = codes " " ++ decimal v
+
 -- the words of an op
 abbrev pub op_words : Op → List (List ℕ)
 op_words (op.Const d n) = codes "const" ∷ decimal d ∷ signed_decimal n ∷ []

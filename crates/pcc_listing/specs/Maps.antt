@@ -167,9 +167,10 @@ pub record IsMapOp (m : Map) (f : MapFunction) (op : Op) : Type 0 where
   pub names : NamesWithin (length m.functions) (length m.objects) op
   pub numbers : HasNumbers op
 
--- the ops whose points have a line so far
+-- the ops whose points have a line so far: marks, and calls of functions
 abbrev pub IsListed : Op → Type 0
 IsListed (op.Mark s) = ⊤
+IsListed (op.Call d f arguments) = ⊤
 IsListed _ = ⊥
 
 -- So far a point has no variables after it and none that are spilled.

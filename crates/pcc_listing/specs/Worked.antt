@@ -1,5 +1,5 @@
 -- A small map and a state of the machine, to read the definitions by: `main` has called another function,
--- whose mark is at EIP.
+-- whose mark is at EIP. The point of the call is the last one below the address that it returns to.
 use Rattle.std.specs.Prelude.{ℕ, true, false, List, [], ◌∷◌, ◌++◌, replicate, None, codes, negsuc, pos}
 use Rattle.byteorder.specs.Endian.{little_bytes}
 use Rattle.pcc_base.specs.declared.run.Width.TheVariants.{One, Two}
@@ -7,7 +7,7 @@ use Rattle.pcc_base.specs.Outcome.{ArrayName, Number, Array, Visit}
 use Rattle.ia32_regs.specs.declared.names.Reg32.TheVariants.{Eax, Edx, Ebx}
 use Rattle.ia32_regs.specs.declared.names.Reg8.TheVariants.{Ch}
 use Rattle.ia32_insn.specs.State.{State}
-use Rattle.flow_graph.specs.declared.op.Op.TheVariants.{Mark}
+use Rattle.flow_graph.specs.declared.op.Op.TheVariants.{Call, Mark}
 use Rattle.pcc_base.specs.declared.run.Width.{Width}
 use Rattle.ia32_places.specs.Places.{Place, InWord, InByte, InSlot}
 use Rattle.pcc_listing.specs.Maps.{Map, MapPoint, MapVariable, Standing, Named, NamesScalar, NamesArray, NamesIndex}
@@ -23,6 +23,11 @@ variable width named = record { width = width; named = named }
 abbrev pub point : ℕ → ℕ → List Standing → MapPoint
 point address statement before =
     record { number = 0; address = address; op = Mark statement; before = before; after = []; spilled = [] }
+
+-- a call of function 1 at an address
+abbrev pub call_point : ℕ → MapPoint
+call_point address =
+    record { number = 1; address = address; op = Call None 1 []; before = []; after = []; spilled = [] }
 
 abbrev pub worked_standings : List Standing
 worked_standings =
@@ -45,7 +50,7 @@ worked_map =
             frame = 80;
             arrays = record { below = 44; count = 2; bytes = 4 } ∷ [];
             variables = [];
-            blocks = (point 1015 3 [] ∷ []) ∷ [];
+            blocks = (point 1005 3 [] ∷ call_point 1010 ∷ []) ∷ [];
           }
           ∷ record {
             name = codes "f";
@@ -58,7 +63,7 @@ worked_map =
                 ∷ variable One (NamesScalar (codes "c"))
                 ∷ variable Two Temporary
                 ∷ [];
-            blocks = (point 1100 7 worked_standings ∷ []) ∷ [];
+            blocks = (point 1007 4 [] ∷ point 1100 7 worked_standings ∷ []) ∷ [];
           }
           ∷ [];
     }

@@ -11,4 +11,4 @@ mod lines;
 
 pub use digits::{push_address, push_number};
 pub use laws::{one_map, worked_example};
-pub use lines::{Line, Standing, print_lines};
+pub use lines::{Line, Named, Standing, print_lines};

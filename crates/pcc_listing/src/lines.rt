@@ -1,10 +1,29 @@
 //! The lines of a map, and its text.
 
-ghost use Rattle.std.specs.Prelude.{◌≡◌, ◌++◌, IfOk, OnOk, flat_map, map};
-ghost use Rattle.pcc_listing.specs.Lines.{line_text, lines_text, named_text, standing_text, width_text};
-ghost use Rattle.pcc_listing.specs.Views.{line_of, named_by, standing_of};
+ghost use Rattle.std.specs.Prelude.{◌≡◌, ◌∷◌, [], ◌++◌, IfOk, OnOk, codes, decimal, flat_map, map};
+ghost use Rattle.flow_graph.specs.declared.op.Op.TheVariants as op;
+ghost use Rattle.pcc_listing.specs.Lines.{
+  ArrayLine,
+  BeforeLine,
+  FunctionLine,
+  ObjectLine,
+  PointLine,
+  VariableLine,
+  address_text,
+  argument_text,
+  if_any_text,
+  line_text,
+  lines_text,
+  named_text,
+  newline,
+  op_text,
+  standing_text,
+  width_text,
+};
+ghost use Rattle.pcc_listing.specs.Views.{line_of, named_of, standing_of};
 
 use crate::digits::{push_address, push_number};
+use flow_graph::Words;
 use pcc_base::{Name, NoMemory, Width};
 use std::alloc::Global;
 
@@ -15,26 +34,58 @@ pub struct Standing {
     pub below: u32,
 }
 
+/// What a variable of a function is: a scalar local, the array or the index of a pointer local, or a temporary.
+#[derive(Debug, Drop)]
+pub enum Named {
+    Scalar(Name),
+    Array(Name),
+    Index(Name),
+    Temporary,
+}
+
 /// A line of a map, of the kinds that are made so far.
 #[derive(Debug, Drop)]
 pub enum Line {
+    /// A static object: the address of its element 0, its elements, and the bytes of one.
+    Object {
+        number: u32,
+        address: u32,
+        count: u32,
+        bytes: u32,
+    },
     /// The lines up to the next function are this function's; its frame has so many bytes.
     Function {
         number: u32,
         name: Name,
         frame: u32,
     },
-    /// A variable of the function: the name of its scalar local, or none for a temporary.
+    /// A frame array: how many bytes below EBP its element 0 is, its elements, and the bytes of one.
+    Array {
+        number: u32,
+        below: u32,
+        count: u32,
+        bytes: u32,
+    },
+    /// A variable of the function.
     Variable {
         number: u32,
         width: Width,
-        name: Option<Name>,
+        name: Named,
     },
     /// The address of a point at which a statement is marked.
     Mark {
         point: u32,
         address: u32,
         statement: u32,
+    },
+    /// The address of a point at which a function is called: the variable of the result, if it is wanted, the function,
+    /// and the argument words.
+    Call {
+        point: u32,
+        address: u32,
+        to: Option<u32>,
+        function: u32,
+        arguments: Words,
     },
     /// Where variables stand before the point above.
     Before(Vec<Standing>),
@@ -62,13 +113,21 @@ fn push_standings(alloc: Global, out: &mut Vec<u8>, standings: &[Standing]) -> R
     Ok(())
 }
 
-/// Puts the name of a local at the end, or that of a temporary.
-fn push_name(out: &mut Vec<u8>, name: &Option<Name>) -> Result<(), NoMemory>
-    ensures { OnOk result (out.new.items ≡ out.old.items ++ named_text (named_by name.now)) }
+/// Puts the name of a variable at the end.
+fn push_name(out: &mut Vec<u8>, name: &Named) -> Result<(), NoMemory>
+    ensures { OnOk result (out.new.items ≡ out.old.items ++ named_text (named_of name.now)) }
 {
     match name {
-        Some(name) => out.extend_from_slice(name.as_bytes())?,
-        None => out.extend_from_slice(b"-")?,
+        Named::Scalar(name) => out.extend_from_slice(name.as_bytes())?,
+        Named::Array(name) => {
+            out.extend_from_slice(name.as_bytes())?;
+            out.extend_from_slice(b".base")?;
+        }
+        Named::Index(name) => {
+            out.extend_from_slice(name.as_bytes())?;
+            out.extend_from_slice(b".index")?;
+        }
+        Named::Temporary => out.extend_from_slice(b"-")?,
     }
     Ok(())
 }
@@ -84,53 +143,233 @@ fn push_width(out: &mut Vec<u8>, width: Width) -> Result<(), NoMemory>
     Ok(())
 }
 
+/// Puts the line of a static object at the end: its address, its elements, and the bytes of one.
+fn push_object(
+    alloc: Global,
+    out: &mut Vec<u8>,
+    number: u32,
+    address: u32,
+    count: u32,
+    bytes: u32,
+) -> Result<(), NoMemory>
+    ensures { OnOk result (
+        out.new.items ≡ out.old.items ++ line_text (ObjectLine number address count bytes)) }
+{
+    out.extend_from_slice(b"object ")?;
+    push_number(alloc, out, u64::from(number))?;
+    out.extend_from_slice(b" ")?;
+    push_address(out, address)?;
+    out.extend_from_slice(b" ")?;
+    push_number(alloc, out, u64::from(count))?;
+    out.extend_from_slice(b" ")?;
+    push_number(alloc, out, u64::from(bytes))?;
+    out.extend_from_slice(b"\n")?;
+    Ok(())
+}
+
+/// Puts the line of a function at the end: its name, and the bytes of its frame.
+fn push_function(
+    alloc: Global,
+    out: &mut Vec<u8>,
+    number: u32,
+    name: &Name,
+    frame: u32,
+) -> Result<(), NoMemory>
+    ensures { OnOk result (out.new.items ≡ out.old.items ++ line_text (FunctionLine number name.now frame)) }
+{
+    out.extend_from_slice(b"function ")?;
+    push_number(alloc, out, u64::from(number))?;
+    out.extend_from_slice(b" ")?;
+    out.extend_from_slice(name.as_bytes())?;
+    out.extend_from_slice(b" frame ")?;
+    push_number(alloc, out, u64::from(frame))?;
+    out.extend_from_slice(b"\n")?;
+    Ok(())
+}
+
+/// Puts the line of a frame array at the end: how far below EBP it is, its elements, and the bytes of one.
+fn push_array(
+    alloc: Global,
+    out: &mut Vec<u8>,
+    number: u32,
+    below: u32,
+    count: u32,
+    bytes: u32,
+) -> Result<(), NoMemory>
+    ensures { OnOk result (
+        out.new.items ≡ out.old.items ++ line_text (ArrayLine number below count bytes)) }
+{
+    out.extend_from_slice(b"array ")?;
+    push_number(alloc, out, u64::from(number))?;
+    out.extend_from_slice(b" -")?;
+    push_number(alloc, out, u64::from(below))?;
+    out.extend_from_slice(b" ")?;
+    push_number(alloc, out, u64::from(count))?;
+    out.extend_from_slice(b" ")?;
+    push_number(alloc, out, u64::from(bytes))?;
+    out.extend_from_slice(b"\n")?;
+    Ok(())
+}
+
+/// Puts the line of a variable at the end.
+fn push_variable(
+    alloc: Global,
+    out: &mut Vec<u8>,
+    number: u32,
+    width: Width,
+    name: &Named,
+) -> Result<(), NoMemory>
+    ensures { OnOk result (
+        out.new.items ≡ out.old.items ++ line_text (VariableLine number width (named_of name.now))) }
+{
+    out.extend_from_slice(b"var ")?;
+    push_number(alloc, out, u64::from(number))?;
+    out.extend_from_slice(b" ")?;
+    push_width(out, width)?;
+    out.extend_from_slice(b" ")?;
+    push_name(out, name)?;
+    out.extend_from_slice(b"\n")?;
+    Ok(())
+}
+
+/// Puts what the line of a point begins with at the end, up to its op.
+fn push_point(
+    alloc: Global,
+    out: &mut Vec<u8>,
+    point: u32,
+    address: u32,
+) -> Result<(), NoMemory>
+    ensures { OnOk result (
+        out.new.items
+        ≡ out.old.items ++ codes "point " ++ decimal point ++ codes " " ++ address_text address ++ codes " ") }
+{
+    out.extend_from_slice(b"point ")?;
+    push_number(alloc, out, u64::from(point))?;
+    out.extend_from_slice(b" ")?;
+    push_address(out, address)?;
+    out.extend_from_slice(b" ")?;
+    Ok(())
+}
+
+/// Puts a variable at the end, or `-` where there is none.
+fn push_if_any(alloc: Global, out: &mut Vec<u8>, variable: Option<u32>) -> Result<(), NoMemory>
+    ensures { OnOk result (out.new.items ≡ out.old.items ++ if_any_text variable) }
+{
+    match variable {
+        Some(variable) => push_number(alloc, out, u64::from(variable))?,
+        None => out.extend_from_slice(b"-")?,
+    }
+    Ok(())
+}
+
+/// Puts the argument words of a call at the end, a space before each.
+fn push_arguments(alloc: Global, out: &mut Vec<u8>, arguments: &[u32]) -> Result<(), NoMemory>
+    ensures { OnOk result (out.new.items ≡ out.old.items ++ flat_map argument_text arguments.now) }
+{
+    for argument in arguments {
+        out.extend_from_slice(b" ")?;
+        push_number(alloc, out, u64::from(*argument))?;
+    }
+    Ok(())
+}
+
+/// Puts the words of a call at the end: the variable of its result, the function, and the argument words; and a newline.
+#[tactic(auto, using(crate::proofs::Calls::call_pushed))]
+fn push_call(
+    alloc: Global,
+    out: &mut Vec<u8>,
+    to: Option<u32>,
+    function: u32,
+    arguments: &Words,
+) -> Result<(), NoMemory>
+    ensures { OnOk result (
+        out.new.items ≡ out.old.items ++ op_text (op.Call to function arguments.now) ++ newline ∷ []) }
+{
+    out.extend_from_slice(b"call ")?;
+    push_if_any(alloc, out, to)?;
+    out.extend_from_slice(b" ")?;
+    push_number(alloc, out, u64::from(function))?;
+    push_arguments(alloc, out, arguments.as_slice())?;
+    out.extend_from_slice(b"\n")?;
+    Ok(())
+}
+
+/// Puts the line of a point at which a statement is marked at the end.
+fn push_mark(
+    alloc: Global,
+    out: &mut Vec<u8>,
+    point: u32,
+    address: u32,
+    statement: u32,
+) -> Result<(), NoMemory>
+    ensures { OnOk result (
+        out.new.items ≡ out.old.items ++ line_text (PointLine point address (op.Mark statement))) }
+{
+    out.extend_from_slice(b"point ")?;
+    push_number(alloc, out, u64::from(point))?;
+    out.extend_from_slice(b" ")?;
+    push_address(out, address)?;
+    out.extend_from_slice(b" mark ")?;
+    push_number(alloc, out, u64::from(statement))?;
+    out.extend_from_slice(b"\n")?;
+    Ok(())
+}
+
+/// Puts where variables stand at the end, with the line's word before them.
+fn push_before(alloc: Global, out: &mut Vec<u8>, standings: &[Standing]) -> Result<(), NoMemory>
+    ensures { OnOk result (
+        out.new.items ≡ out.old.items ++ line_text (BeforeLine (map standing_of standings.now))) }
+{
+    out.extend_from_slice(b"before")?;
+    push_standings(alloc, out, standings)?;
+    out.extend_from_slice(b"\n")?;
+    Ok(())
+}
+
 /// Puts a line at the end.
 fn push_line(alloc: Global, out: &mut Vec<u8>, line: &Line) -> Result<(), NoMemory>
     ensures { OnOk result (out.new.items ≡ out.old.items ++ line_text (line_of line.now)) }
 {
     match line {
+        Line::Object {
+            number,
+            address,
+            count,
+            bytes,
+        } => push_object(alloc, out, *number, *address, *count, *bytes)?,
         Line::Function {
             number,
             name,
             frame,
-        } => {
-            out.extend_from_slice(b"function ")?;
-            push_number(alloc, out, u64::from(*number))?;
-            out.extend_from_slice(b" ")?;
-            out.extend_from_slice(name.as_bytes())?;
-            out.extend_from_slice(b" frame ")?;
-            push_number(alloc, out, u64::from(*frame))?;
-        }
+        } => push_function(alloc, out, *number, name, *frame)?,
+        Line::Array {
+            number,
+            below,
+            count,
+            bytes,
+        } => push_array(alloc, out, *number, *below, *count, *bytes)?,
         Line::Variable {
             number,
             width,
             name,
-        } => {
-            out.extend_from_slice(b"var ")?;
-            push_number(alloc, out, u64::from(*number))?;
-            out.extend_from_slice(b" ")?;
-            push_width(out, *width)?;
-            out.extend_from_slice(b" ")?;
-            push_name(out, name)?;
-        }
+        } => push_variable(alloc, out, *number, *width, name)?,
         Line::Mark {
             point,
             address,
             statement,
+        } => push_mark(alloc, out, *point, *address, *statement)?,
+        Line::Call {
+            point,
+            address,
+            to,
+            function,
+            arguments,
         } => {
-            out.extend_from_slice(b"point ")?;
-            push_number(alloc, out, u64::from(*point))?;
-            out.extend_from_slice(b" ")?;
-            push_address(out, *address)?;
-            out.extend_from_slice(b" mark ")?;
-            push_number(alloc, out, u64::from(*statement))?;
+            push_point(alloc, out, *point, *address)?;
+            push_call(alloc, out, *to, *function, arguments)?;
         }
-        Line::Before(standings) => {
-            out.extend_from_slice(b"before")?;
-            push_standings(alloc, out, standings)?;
-        }
+        Line::Before(standings) => push_before(alloc, out, standings)?,
     }
-    out.extend_from_slice(b"\n")?;
     Ok(())
 }
 

@@ -16,6 +16,7 @@ use Rattle.c_tree.specs.SlotForm.{AreIntLocals, IsSlotFunction, IsSlotProgram}
 use Rattle.flow_graph.specs.declared.op.Op.{Op}
 use Rattle.flow_graph.specs.declared.op.Op.TheVariants as op
 use Rattle.flow_graph.specs.Graphs.{Flow, IsDistinct, IsIn}
+use Rattle.flow_graph.specs.SlotGraphs.{IsSlotOp}
 use Rattle.flow_graph.specs.States.{GraphProgram}
 use Rattle.flow_graph.proofs.Points.{every-in}
 use Rattle.flow_graph.specs.Sizes.{array_bytes}
@@ -25,12 +26,13 @@ use Rattle.c_lower.proofs.Kept.{length-widths}
 use Rattle.ia32_shows.specs.Paths.{IsAt}
 use Rattle.ia32_shows.specs.Placements.{Code, Placement, in_slots, placement_of, point_address}
 use Rattle.ia32_rows.specs.Rows.{AllApart, AreApart, frame_of}
+use Rattle.ia32_rows.proofs.ItemKinds.{every-get}
 use Rattle.ia32_rows.proofs.Laid.{mark-at}
 use Rattle.ia32_places.specs.Places.{Place, InSlot}
 use Rattle.pcc_listing.specs.Maps.{MapArray, MapFunction, MapObject, MapPoint, MapVariable, Standing, points_of}
 use Rattle.pcc_listing.specs.Marks.{MarkAt, marks_of}
-use Rattle.program_map.specs.Belongs.{AreDistinct, IsFunctionOf, IsMarkOf, IsMapOf, arrays_at, local_variables, objects_at}
-use Rattle.program_map.specs.Belongs.{temporary, typed_variables}
+use Rattle.program_map.specs.Belongs.{AreDistinct, IsFunctionOf, IsMarkOf, IsMapOf, IsPointOf, arrays_at}
+use Rattle.program_map.specs.Belongs.{local_variables, objects_at, temporary, typed_variables}
 use Rattle.slot_map.specs.SlotMap.{all_points, marked_point, op_points, points_over, slot_function, standings_from}
 use Rattle.slot_map.specs.SlotMap.{variables_over}
 use Rattle.slot_map.specs.MapLaws.{IsCodeOf, MapBelongs, map_in}
@@ -260,9 +262,9 @@ function-belongs f flow slots code form is =
     let none : sum_by array_bytes flow.arrays ≡ 0 = ap (sum_by array_bytes) h.has_slots.no_arrays in
     let ps = points_over f slots address flow.ops (all_points flow) in
     let same = sym (points-are f flow slots address) in
-    let P = IsMarkOf 0 f flow (placement_of code 0) address in
+    let P = IsPointOf 0 f flow (placement_of code 0) address in
     let each : (p n : ℕ) → IsIn p (all_points flow) → slice_get flow.ops p ≡ Some (op.Mark n)
-    → P (marked_point p (address p) n (slots_before f slots n)) =
+    → IsMarkOf 0 f flow (placement_of code 0) address (marked_point p (address p) n (slots_before f slots n)) =
     λ p n within at.
     let declared = declared_before f n in
     let few = function-declares f n form in
@@ -298,12 +300,15 @@ function-belongs f flow slots code form is =
       temporaries = temporaries;
       variables = ap (variables_over f.locals) are ∙ over-locals f.locals temporaries form.locals;
       widths = widths-over f.locals flow.widths;
-      marks = subst (λ (xs : List MapPoint). All P xs) same
-          (All-from_recursion P ps (each-point P f slots address flow.ops (all_points flow) each));
+      points = subst (λ (xs : List MapPoint). All P xs) same
+          (All-from_recursion P ps
+          (each-point P f slots address flow.ops (all_points flow) (λ p n within at. inl (each p n within at))));
       all_marks = λ point statement (b, stands) at.
           subst (λ (xs : List MapPoint). IsIn point (map (λ (x : MapPoint). x.number) xs)) same
           (numbers-listed f slots address flow.ops (all_points flow) point statement (in-placed flow point b stands)
           at);
+      all_calls = λ point result callee arguments placed at.
+          absurd (every-get IsSlotOp flow.ops point (op.Call result callee arguments) h.has_slots.ops at);
     }
 
 -- ---- the program

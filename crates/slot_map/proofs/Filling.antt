@@ -19,18 +19,19 @@ use Rattle.flow_graph.specs.declared.op.Op.{Op}
 use Rattle.flow_graph.specs.declared.op.Op.TheVariants as op
 use Rattle.flow_graph.specs.Graphs.{Flow, IsIn, IsPlaced}
 use Rattle.ia32_places.specs.Places.{InSlot}
-use Rattle.pcc_listing.specs.Maps.{MapFunction, MapPoint, MapVariable, Map, Standing, NamesScalar, Temporary}
+use Rattle.pcc_listing.specs.Maps.{MapFunction, MapPoint, MapVariable, Map, Named, Standing, NamesScalar, Temporary}
 use Rattle.pcc_listing.specs.Lines.{Line, FunctionLine, VariableLine, function_lines, lines_of, numbered, point_lines}
 use Rattle.pcc_listing.specs.Lines.{variable_lines}
-use Rattle.pcc_listing.specs.Views.{line_of, named_by, standing_of}
+use Rattle.pcc_listing.specs.Views.{line_of, named_of, standing_of}
 use Rattle.pcc_listing.specs.declared.lines.Line as made
 use Rattle.pcc_listing.specs.declared.lines.Line.TheVariants.{Variable}
+use Rattle.pcc_listing.specs.declared.lines.Named as given
 use Rattle.pcc_listing.specs.declared.lines.Standing as stood
 use Rattle.ia32_rows.specs.Rows.{frame_of}
 use Rattle.c_lower.specs.Shown.{declared_before}
 use Rattle.slot_map.specs.MapLaws.{MapBySameAddresses}
 use Rattle.slot_map.specs.SlotMap.{all_points, marked_point, op_points, points_over, slot_function, slot_map}
-use Rattle.slot_map.specs.SlotMap.{standings_from, variables_over}
+use Rattle.slot_map.specs.SlotMap.{named_by, standings_from, variables_over}
 use Rattle.slot_map.proofs.Blocks.{placed-in}
 use Rattle.slot_map.proofs.Reading.{points-are}
 
@@ -101,8 +102,8 @@ variables-more k (l ∷ locals) (suc n) =
     numbered variable_lines (suc k) (variables_over locals (replicate n Two)) ++ VariableLine m Two name ∷ []) e)
 
 -- the lines of the first variables and of the next one
-pub variable-put : (start old : List made.Line) (locals : List tree.Local) (n : ℕ) (name : Option (List ℕ)) → name
-    ≡ option_map (λ l. l.name) (slice_get locals n)
+pub variable-put : (start old : List made.Line) (locals : List tree.Local) (n : ℕ) (name : given.Named)
+    → named_of name ≡ named_by (option_map (λ l. l.name) (slice_get locals n))
     → map line_of old ≡ map line_of start ++ numbered variable_lines 0
     (variables_over (map local_of locals) (replicate n Two))
     → map line_of (old ++ Variable n Two name ∷ [])
@@ -112,13 +113,14 @@ variable-put start old locals n name is e =
     let front : List Line = numbered variable_lines 0 (variables_over ls (replicate n Two)) in
     let long : n ≡ 0 + n = omega arith in
     let more : suc n ≡ n + 1 = omega arith in
-    let same : name ≡ option_map (λ (l : Local). l.name) (slice_get ls n) = is ∙ names-kept (slice_get locals n)
-    ∙ ap (option_map (λ (l : Local). l.name)) (sym (slice_get-map local_of locals n)) in
+    let same : named_of name ≡ named_by (option_map (λ (l : Local). l.name) (slice_get ls n)) =
+    is ∙ ap named_by (names-kept (slice_get locals n)
+    ∙ ap (option_map (λ (l : Local). l.name)) (sym (slice_get-map local_of locals n))) in
     map-append line_of old (Variable n Two name ∷ [])
-    ∙ ap (λ (ys : List Line). ys ++ VariableLine n Two (named_by name) ∷ []) e
-    ∙ append_assoc (map line_of start) front (VariableLine n Two (named_by name) ∷ [])
-    ∙ ap (λ (m : ℕ). map line_of start ++ (front ++ VariableLine m Two (named_by name) ∷ [])) long
-    ∙ ap (λ (o : Option (List ℕ)). map line_of start ++ (front ++ VariableLine (0 + n) Two (named_by o) ∷ [])) same
+    ∙ ap (λ (ys : List Line). ys ++ VariableLine n Two (named_of name) ∷ []) e
+    ∙ append_assoc (map line_of start) front (VariableLine n Two (named_of name) ∷ [])
+    ∙ ap (λ (m : ℕ). map line_of start ++ (front ++ VariableLine m Two (named_of name) ∷ [])) long
+    ∙ ap (λ (x : Named). map line_of start ++ (front ++ VariableLine (0 + n) Two x ∷ [])) same
     ∙ ap (λ (ys : List Line). map line_of start ++ ys) (sym (variables-more 0 ls n))
     ∙ ap (λ (m : ℕ). map line_of start ++ numbered variable_lines 0 (variables_over ls (replicate m Two))) more
   where

@@ -1,6 +1,6 @@
 -- The map of a function whose variables stand in slots: its variables, and each marked statement with the slots of the
 -- locals that are declared before it.
-use Rattle.std.specs.Prelude.{ℕ, suc, List, [], ◌∷◌, ◌++◌, flat_map, take, slice_get, Option, Some}
+use Rattle.std.specs.Prelude.{ℕ, suc, List, [], ◌∷◌, ◌++◌, flat_map, take, slice_get, Option, Some, None}
 use Rattle.pcc_base.specs.declared.run.Width.{Width}
 use Rattle.c_tree.specs.Program.{Declare, Scalar, Statement, Local, Function}
 use Rattle.flow_graph.specs.declared.op.Op.{Op}
@@ -9,12 +9,17 @@ use Rattle.flow_graph.specs.Graphs.{Flow}
 use Rattle.c_lower.specs.Shown.{declared_before}
 use Rattle.ia32_rows.specs.Rows.{frame_of}
 use Rattle.ia32_places.specs.Places.{InSlot}
-use Rattle.pcc_listing.specs.Maps.{Map, MapFunction, MapVariable, MapPoint, Standing, NamesScalar, Temporary}
+use Rattle.pcc_listing.specs.Maps.{Map, MapFunction, MapVariable, MapPoint, Named, Standing, NamesScalar, Temporary}
 
 -- how many locals that are no arrays a statement of a body declares
 abbrev pub declared_by : Statement → ℕ
 declared_by (Declare (Scalar n v value)) = 1
 declared_by s = 0
+
+-- a variable without a name is a temporary
+abbrev pub named_by : Option (List ℕ) → Named
+named_by None = Temporary
+named_by (Some name) = NamesScalar name
 
 -- the variables of widths: those of the locals by their names, and behind them the temporaries
 abbrev pub variables_over : List Local → List Width → List MapVariable

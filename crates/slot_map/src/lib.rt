@@ -2,7 +2,7 @@
 //!
 //! In: the function, its graph, the slots, and the addresses of its points. Out: the lines of the map
 //! (`specs/SlotMap.antt`): the variables, and each marked statement with the slots of the locals that are
-//! declared before it. `specs/Belongs.antt` says when a map is that of a program.
+//! declared before it. `IsMapOf` of `program_map` says when a map is that of a program.
 #![tactic(auto)]
 
 mod laws;

@@ -26,11 +26,12 @@ ghost use Rattle.c_lower.specs.Shown.{declared_before};
 ghost use Rattle.ia32_rows.specs.Rows.{HasSlots};
 ghost use Rattle.ia32_select.specs.Offsets.{AreBelow, slots_of};
 ghost use Rattle.pcc_listing.specs.Lines.{lines_of, numbered, point_lines, variable_lines};
-ghost use Rattle.pcc_listing.specs.Views.{line_of, standing_of};
+ghost use Rattle.pcc_listing.specs.Views.{line_of, named_of, standing_of};
 ghost use Rattle.slot_map.specs.SlotMap as slot_specs;
 ghost use Rattle.slot_map.specs.SlotMap.{
   all_points,
   marked_point,
+  named_by,
   points_over,
   slot_map,
   standings_from,
@@ -40,7 +41,7 @@ ghost use Rattle.slot_map.specs.SlotMap.{
 use c_tree::{Function, Item, Local, Statement};
 use flow_graph::{Graph, Op};
 use pcc_base::{Name, NoMemory, Width};
-use pcc_listing::{Line, Standing};
+use pcc_listing::{Line, Named, Standing};
 use std::alloc::Global;
 
 /// Where the slots of the first variables are, by their offsets from EBP.
@@ -125,13 +126,14 @@ fn copied(alloc: Global, name: &Name) -> Result<Name, NoMemory>
     Ok(Name::new(name.as_bytes().to_vec(alloc)?))
 }
 
-/// The name of a variable, if it is a local's.
-fn name_of(alloc: Global, locals: &[Local], variable: u32) -> Result<Option<Name>, NoMemory>
-    ensures { IfOk result (λ name. name ≡ option_map (λ l. l.name) (slice_get locals.now variable)) }
+/// What a variable is: the local of its number, or a temporary.
+fn name_of(alloc: Global, locals: &[Local], variable: u32) -> Result<Named, NoMemory>
+    ensures { IfOk result (λ name.
+        named_of name ≡ named_by (option_map (λ l. l.name) (slice_get locals.now variable))) }
 {
     match locals.get(variable as usize) {
-        Some(local) => Ok(Some(copied(alloc, &local.name)?)),
-        None => Ok(None),
+        Some(local) => Ok(Named::Scalar(copied(alloc, &local.name)?)),
+        None => Ok(Named::Temporary),
     }
 }
 

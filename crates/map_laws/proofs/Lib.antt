@@ -1,0 +1,10 @@
+pub mod Blocks
+pub mod Points
+pub mod Standings
+pub mod Variables
+pub mod Owners
+pub mod Functions
+pub mod Marking
+pub mod Belonging
+pub mod Rules
+pub mod Listing
