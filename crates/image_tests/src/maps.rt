@@ -122,7 +122,13 @@ fn each_kind(rt: HostRuntime) -> Result<(), Fail> {
             statement: 1
         },
         Line::Before(standings),
-        call(4, 0x0804_8020, Some(3), 1, Words::new(vec![in alloc; 0, 2]?)),
+        call(
+            4,
+            0x0804_8020,
+            Some(3),
+            1,
+            Words::new(vec![in alloc; 0, 2]?)
+        ),
         Line::Before(Vec::new(alloc)),
         call(5, 0x0804_8030, None, 0, Words::new(Vec::new(alloc))),
         Line::Before(Vec::new(alloc)),

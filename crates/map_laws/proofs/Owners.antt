@@ -29,10 +29,10 @@ pub owner : (fs : List Function) (n : ℕ) → n < sum_by (λ (f : Function). nu
 owner [] n below = absurd (omega (arith, below))
 owner (f ∷ fs) n below = elim (cases_lt n (numbers f)) [
   | inl here ↦ (
-      0,
-      f,
-      record { is = refl; low = omega arith; high = omega (arith, here) },
-    )
+    0,
+    f,
+    record { is = refl; low = omega arith; high = omega (arith, here) },
+  )
   | inr later ↦ (
       let whole = sum_by-cons numbers f fs in
       let (k, g, owns) = owner fs (n - numbers f) (omega (arith, below, later, whole)) in
@@ -45,7 +45,7 @@ owner (f ∷ fs) n below = elim (cases_lt n (numbers f)) [
           high = omega (arith, owns.high, first, later);
         },
       )
-    )
+      )
 ]
 
 chosen-first : (b : Bool) (xs ys : List Local) → b ≡ true → (if b then xs else ys) ≡ xs

@@ -233,12 +233,7 @@ fn push_variable(
 }
 
 /// Puts what the line of a point begins with at the end, up to its op.
-fn push_point(
-    alloc: Global,
-    out: &mut Vec<u8>,
-    point: u32,
-    address: u32,
-) -> Result<(), NoMemory>
+fn push_point(alloc: Global, out: &mut Vec<u8>, point: u32, address: u32) -> Result<(), NoMemory>
     ensures { OnOk result (
         out.new.items
         ≡ out.old.items ++ codes "point " ++ decimal point ++ codes " " ++ address_text address ++ codes " ") }
