@@ -1,34 +1,27 @@
 -- The machine follows each step of a program.
-use Rattle.std.proofs.Common.{◌≡◌, ℕ, false, List, Option, Some, refl, sym, ap, subst, ◌∙◌, arith}
-use Rattle.std.specs.Prelude.{slice_index_or}
-use Rattle.std.proofs.lemmas.Option.{get_or_from_slice_get}
-use Rattle.ia32_insn.specs.declared.item.Item.{Item}
+use Rattle.std.proofs.Common.{◌≡◌, ℕ, false, List, Option, Some, refl, sym, ap, subst, ◌∙◌}
 use Rattle.ia32_insn.specs.State as machine
 use Rattle.flow_graph.specs.declared.op.Comparison.{Comparison}
 use Rattle.flow_graph.specs.declared.op.Op.{Op}
 use Rattle.flow_graph.specs.declared.op.Op.TheVariants as op
-use Rattle.flow_graph.specs.Graphs.{Flow}
 use Rattle.flow_graph.specs.Meaning.{Moved, Moves, Halts, Stuck, act, given, step}
 use Rattle.flow_graph.specs.States as graph
 use Rattle.flow_graph.specs.States.{flow_at, op_at}
 use Rattle.flow_graph.specs.WellFormed.{IsState}
 use Rattle.graph_states.proofs.Calls.{back-kept}
 use Rattle.graph_states.proofs.Keeping.{step_keeps_state}
-use Rattle.graph_states.proofs.Lists.{at-within}
 use Rattle.graph_states.proofs.Values.{op-at}
 use Rattle.ia32_shows.specs.Follows.{ComesTo, Follows, is_nop}
-use Rattle.ia32_shows.specs.Placements.{Code, Placement, placement_of}
+use Rattle.ia32_shows.specs.Placements.{Code}
 use Rattle.ia32_shows.specs.Shows.{Shows}
 use Rattle.ia32_shows.proofs.Steps.{comes-then}
-use Rattle.ia32_rows.specs.Rows.{clear_row, loop_label, row, size_of}
-use Rattle.ia32_keeps.specs.Ops.{RowAt}
 use Rattle.ia32_keeps.proofs.Ops.{op-is}
 use Rattle.ia32_comparisons.proofs.Comparing.{branch-follows, same-follows, set-follows}
 use Rattle.ia32_standing.specs.Laws.{IsSelected}
 use Rattle.ia32_standing.proofs.Follows.{steps-follow}
 use Rattle.ia32_standing.proofs.Points.{labels-stand, rows-stand}
 use Rattle.ia32_standing.proofs.Returns.{calls-return, calls-stand}
-use Rattle.ia32_clears.proofs.Following.{clear-follows}
+use Rattle.ia32_clears.proofs.Following.{row-follows}
 use Rattle.ia32_entries.specs.Called.{Called}
 use Rattle.ia32_entries.specs.Calls.{ComesCalled}
 use Rattle.ia32_entries.proofs.Calling.{call-comes}
@@ -88,23 +81,7 @@ clear-done : (code : Code) (input : List ℕ) (g : graph.State) (s : machine.Sta
     → IsState code.program g → Shows code input g s → op_at code.program g ≡ Some (op.Clear k)
     → IsDone code input g s (op.Clear k)
 clear-done code input g s k h state shown has =
-    let f : ℕ = g.current.function in
-    let flow : Flow = flow_at code.program f in
-    let placement : Placement = placement_of code f in
-    let label : ℕ = loop_label flow g.point in
-    let lt = (op-is code g (op.Clear k) h.supported state has).fits.0 in
-    let many = ((h.supported).supports f (state.active.0).function).arrays.as_many in
-    let (array, declared) = at-within flow.arrays k lt in
-    let (distance, placed) = at-within placement.arrays k (omega (arith, many, lt)) in
-    let there : slice_index_or placement.arrays k 0 ≡ distance =
-    get_or_from_slice_get placement.arrays k distance 0 placed in
-    let own : slice_index_or flow.arrays k (0, 0) ≡ array =
-    get_or_from_slice_get flow.arrays k array (0, 0) declared in
-    let is : row flow placement g.point (op.Clear k) ≡ clear_row label distance (size_of array) =
-    ap (λ (d : ℕ). clear_row label d (size_of (slice_index_or flow.arrays k (0, 0)))) there
-    ∙ ap (λ (a : ℕ × ℕ). clear_row label distance (size_of a)) own in
-    clear-follows k label distance array code input g s h.supported state shown has declared placed
-    (subst (λ (items : List Item). RowAt code g items s) is (rows-stand code g s (op.Clear k) h state has shown.eip))
+    row-follows k code input g s h.supported state shown has (rows-stand code g s (op.Clear k) h state has shown.eip)
 
 -- ---- comparisons
 
