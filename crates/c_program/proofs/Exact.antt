@@ -1,16 +1,21 @@
 -- Texts have one answer: a typed program, a fault, or a limit.
-use Rattle.std.proofs.Common.{◌≡◌, ℕ, List, subst, inl, inr, arith}
+use Rattle.std.proofs.Common.{◌≡◌, refl, sym, ap, subst, ◌∙◌, ℕ, List, [], inl, inr, arith}
+use Rattle.std.specs.Prelude.{◌⊎◌, Option, Some, None, slice_get}
 use Rattle.pcc_base.specs.declared.fault.Fault.{Fault}
 use Rattle.pcc_base.specs.declared.refusal.Limit.{Limit}
+use Rattle.pcc_base.specs.declared.refusal.Limit.TheVariants as limits
 use Rattle.c_lexer.specs.declared.token.Token.{Token}
 use Rattle.c_grammar.specs.Statements.{ExternalTree}
-use Rattle.c_tree.specs.Program.{Program}
+use Rattle.c_tree.specs.Program.{Function, Program}
 use Rattle.c_typing.specs.Typed.{IsAbove, IsAccepted, IsLeastFault}
+use Rattle.c_typing.proofs.OneProgram.{one_typed_program}
 use Rattle.c_types.proofs.OneAnswer.{one_answer}
 use Rattle.c_front.specs.Accepted.{HaveTrees}
-use Rattle.c_front.specs.Refusals.{FirstFaulty, HaveLexicalFault, HaveManyTokens, WithTokens}
+use Rattle.c_front.specs.Refusals.{FirstFaulty, HaveLexicalFault, HaveManyTokens, WithTokens, first_place}
 use Rattle.c_front.proofs.Exact.{lexical_or_limit, no_lexical, stand_fewer, tokens_once, trees_once, trees_or_fault}
-use Rattle.c_program.specs.Answers.{AreAbove, HaveFault, HaveTypedProgram, HaveUnits, WithUnits, end_of}
+use Rattle.c_program.specs.Answers.{Exceed, Excess, ManyTokens, LargeArrays, LargeFrame, HaveFault, HaveLargeFrame}
+use Rattle.c_program.specs.Answers.{HaveTypedProgram, end_of}
+use Rattle.c_units.specs.Units.{HaveUnits, WithUnits}
 
 -- texts have one raw tree each
 units_once : (texts : List (List ℕ)) (a b : List (List ExternalTree)) → HaveUnits texts a → HaveUnits texts b → a ≡ b
@@ -47,41 +52,102 @@ typing_fault texts units fault have (inr (inl h)) = absurd (no_syntax_fault text
 typing_fault texts units fault have (inr (inr h)) =
     here (λ (us : List (List ExternalTree)). IsLeastFault us (end_of texts) fault) texts units have h
 
--- the answers
+-- ---- limits
+
+-- the name of a function, where it is there
+abbrev name_in : Option Function → List ℕ
+name_in None = []
+name_in (Some f) = f.name
+
+-- what is told of a limit that a program with these functions is above
+abbrev told_of : List Function → Limit → Excess
+told_of fs (limits.Tokens n) = ManyTokens
+told_of fs (limits.Arrays n) = LargeArrays n
+told_of fs (limits.Frame k n) = LargeFrame (name_in (slice_get fs k)) n
+told_of fs (limits.Files n) = ManyTokens
+told_of fs (limits.FileBytes n) = ManyTokens
+
+-- raw trees have a typed program that is above a limit, of which this is told
+record AreTold (units : List (List ExternalTree)) (excess : Excess) : Type 0 where
+  limit : Limit
+  above : IsAbove units limit
+  told : told_of above.program.functions limit ≡ excess
+
+told_arrays : (units : List (List ExternalTree)) (bytes : ℕ) → IsAbove units (limits.Arrays bytes)
+    → AreTold units (LargeArrays bytes)
+told_arrays units bytes h = record { limit = limits.Arrays bytes; above = h; told = refl }
+
+told_frame : (units : List (List ExternalTree)) (name : List ℕ) (bytes : ℕ) → HaveLargeFrame units name bytes
+    → AreTold units (LargeFrame name bytes)
+told_frame units name bytes h = record {
+  limit = limits.Frame h.number bytes;
+  above = record { program = h.program; typed = h.typed; above = h.above };
+  told = ap (λ (o : Option Function). LargeFrame (name_in o) bytes) h.there
+      ∙ ap (λ (n : List ℕ). LargeFrame n bytes) h.named;
+}
+
+-- one thing is told of them
+told_once : (units : List (List ExternalTree)) (a b : Excess) → AreTold units a → AreTold units b → a ≡ b
+told_once units a b h g =
+    let limit : h.limit ≡ g.limit =
+    (one_answer units first_place).0.limit h.limit g.limit h.above g.above in
+    let program : h.above.program ≡ g.above.program =
+    one_typed_program units h.above.program g.above.program h.above.typed g.above.typed in
+    sym h.told ∙ ap (λ (p : Program). told_of p.functions h.limit) program
+    ∙ ap (λ (l : Limit). told_of g.above.program.functions l) limit ∙ g.told
+
+-- texts are above a limit of typing, or have too many tokens
+above_or_many : (texts : List (List ℕ)) (excess : Excess) → Exceed texts excess
+    → WithUnits texts (λ units. AreTold units excess) ⊎ (HaveManyTokens texts × (excess ≡ ManyTokens))
+above_or_many texts ManyTokens h = inr (h, refl)
+above_or_many texts (LargeArrays bytes) (units, have, h) = inl (units, have, told_arrays units bytes h)
+above_or_many texts (LargeFrame name bytes) (units, have, h) = inl (units, have, told_frame units name bytes h)
+
+-- ---- the answers
+
 pub one_program : (texts : List (List ℕ)) (p q : Program) → HaveTypedProgram texts p → HaveTypedProgram texts q → p ≡ q
 one_program texts p q (units, have, is) other =
     (one_answer units (end_of texts)).0.program p q is
     (here (λ (us : List (List ExternalTree)). IsAccepted us q) texts units have other)
 
-pub one_limit : (texts : List (List ℕ)) (l m : Limit) → AreAbove texts l → AreAbove texts m → l ≡ m
-one_limit texts l m (units, have, is) other =
-    (one_answer units (end_of texts)).0.limit l m is
-    (here (λ (us : List (List ExternalTree)). IsAbove us m) texts units have other)
+both_limits : (texts : List (List ℕ)) (a b : Excess)
+    → (WithUnits texts (λ units. AreTold units a) ⊎ (HaveManyTokens texts × (a ≡ ManyTokens)))
+    → (WithUnits texts (λ units. AreTold units b) ⊎ (HaveManyTokens texts × (b ≡ ManyTokens))) → a ≡ b
+both_limits texts a b (inl (units, have, h)) (inl other) =
+    told_once units a b h (here (λ (us : List (List ExternalTree)). AreTold us b) texts units have other)
+both_limits texts a b (inl (units, have, h)) (inr (many, e)) = absurd (not_many texts units have many)
+both_limits texts a b (inr (many, e)) (inl (units, have, h)) = absurd (not_many texts units have many)
+both_limits texts a b (inr (many, e)) (inr (again, f)) = e ∙ sym f
+
+pub one_limit : (texts : List (List ℕ)) (a b : Excess) → Exceed texts a → Exceed texts b → a ≡ b
+one_limit texts a b h g = both_limits texts a b (above_or_many texts a h) (above_or_many texts b g)
 
 pub no_fault : (texts : List (List ℕ)) (p : Program) (fault : Fault) → HaveTypedProgram texts p
     → HaveFault texts fault → ⊥
 no_fault texts p fault (units, have, is) faulty =
     (one_answer units (end_of texts)).1.fault p fault is (typing_fault texts units fault have faulty)
 
-pub few : (texts : List (List ℕ)) (p : Program) → HaveTypedProgram texts p → HaveManyTokens texts → ⊥
-few texts p (units, have, is) many = not_many texts units have many
+pub within : (texts : List (List ℕ)) (p : Program) (excess : Excess) → HaveTypedProgram texts p
+    → Exceed texts excess → ⊥
+within texts p excess (units, have, is) h = not_above (above_or_many texts excess h)
+  where
+    not_above : (WithUnits texts (λ us. AreTold us excess) ⊎ (HaveManyTokens texts × (excess ≡ ManyTokens))) → ⊥
+    not_above (inl told) =
+        let there : AreTold units excess = here (λ (us : List (List ExternalTree)). AreTold us excess) texts units have told in
+        (one_answer units (end_of texts)).1.limit p there.limit is there.above
+    not_above (inr (many, e)) = not_many texts units have many
 
-pub within : (texts : List (List ℕ)) (p : Program) (limit : Limit) → HaveTypedProgram texts p
-    → AreAbove texts limit → ⊥
-within texts p limit (units, have, is) above =
-    (one_answer units (end_of texts)).1.limit p limit is
-    (here (λ (us : List (List ExternalTree)). IsAbove us limit) texts units have above)
-
-pub fault_or_limit : (texts : List (List ℕ)) (fault : Fault) (limit : Limit) → HaveFault texts fault
-    → AreAbove texts limit → ⊥
-fault_or_limit texts fault limit faulty (units, have, above) =
-    (one_answer units (end_of texts)).1.both fault limit (typing_fault texts units fault have faulty) above
-
-pub limit_or_many : (texts : List (List ℕ)) (limit : Limit) → AreAbove texts limit → HaveManyTokens texts → ⊥
-limit_or_many texts limit (units, have, above) many = not_many texts units have many
-
-pub either : (texts : List (List ℕ)) (fault : Fault) → HaveFault texts fault → HaveManyTokens texts → ⊥
-either texts fault (inl h) many = lexical_or_limit texts fault h many
-either texts fault (inr (inl (files, lexed, most, h))) many =
+many_or_fault : (texts : List (List ℕ)) (fault : Fault) → HaveFault texts fault → HaveManyTokens texts → ⊥
+many_or_fault texts fault (inl h) many = lexical_or_limit texts fault h many
+many_or_fault texts fault (inr (inl (files, lexed, most, h))) many =
     omega (arith, stand_fewer 0 texts 65537 files many lexed, most)
-either texts fault (inr (inr (units, have, h))) many = not_many texts units have many
+many_or_fault texts fault (inr (inr (units, have, h))) many = not_many texts units have many
+
+pub fault_or_limit : (texts : List (List ℕ)) (fault : Fault) (excess : Excess) → HaveFault texts fault
+    → Exceed texts excess → ⊥
+fault_or_limit texts fault excess faulty h = neither (above_or_many texts excess h)
+  where
+    neither : (WithUnits texts (λ us. AreTold us excess) ⊎ (HaveManyTokens texts × (excess ≡ ManyTokens))) → ⊥
+    neither (inl (units, have, told)) =
+        (one_answer units (end_of texts)).1.both fault told.limit (typing_fault texts units fault have faulty) told.above
+    neither (inr (many, e)) = many_or_fault texts fault faulty many

@@ -1,2 +1,2 @@
 pub mod Exact
-pub mod Refused
+pub mod Reasons

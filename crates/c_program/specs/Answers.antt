@@ -1,31 +1,19 @@
 -- The typed program of texts, or why they have none.
-use Rattle.std.specs.Prelude.{◌≡◌, ◌≤◌, ◌⊎◌, ⊤, ℕ, ◌-◌, List, length, Option, Some, None, slice_get}
+use Rattle.std.specs.Prelude.{◌≡◌, ◌⊎◌, ⊤, ℕ, ◌-◌, List, length, Option, Some, None, slice_get}
 use Rattle.pcc_base.specs.declared.span.Span.{Span}
 use Rattle.pcc_base.specs.declared.fault.Fault.{Fault}
-use Rattle.pcc_base.specs.declared.refusal.Limit.{Limit}
-use Rattle.pcc_base.specs.declared.refusal.Limit.TheVariants.{Tokens}
-use Rattle.pcc_base.specs.declared.refusal.Refusal.{Refusal}
-use Rattle.pcc_base.specs.declared.refusal.Refusal.TheVariants as refusals
-use Rattle.c_lexer.specs.declared.token.Token.{Token}
+use Rattle.pcc_base.specs.declared.refusal.Limit.TheVariants.{Arrays, Frame}
 use Rattle.c_lexer.specs.Tokens.{place_after}
 use Rattle.c_grammar.specs.Statements.{ExternalTree}
-use Rattle.c_tree.specs.Program.{Program}
-use Rattle.c_front.specs.Accepted.{HaveTokens, HaveTrees, total}
+use Rattle.c_tree.specs.Program.{Function, Program}
+use Rattle.c_tree.specs.Sizes.{frame_bound}
 use Rattle.c_front.specs.Refusals.{FirstFaulty, HaveLexicalFault, HaveManyTokens, WithTokens, first_place}
-use Rattle.c_typing.specs.Typed.{IsAbove, IsAccepted, IsLeastFault}
+use Rattle.c_typing.specs.Typed.{IsAbove, IsAccepted, IsLeastFault, Typed, limit_of}
+use Rattle.c_units.specs.Units.{WithUnits}
+use Rattle.c_program.specs.declared.refused.Refused.{Refused}
+use Rattle.c_program.specs.declared.refused.Refused.TheVariants as refusals
 
 -- ---- programs
-
--- the texts have tokens, at most 65,536 together, and these raw trees, of height at most 256
-pub record HaveUnits (texts : List (List ℕ)) (units : List (List ExternalTree)) : Type 0 where
-  pub files : List (List Token)
-  pub tokens : HaveTokens 0 texts files
-  pub few : total files ≤ 65536
-  pub trees : HaveTrees files units
-
--- the texts have raw trees, and this holds of them
-abbrev pub WithUnits : List (List ℕ) → (List (List ExternalTree) → Type 0) → Type 0
-WithUnits texts P = (units : List (List ExternalTree)) × HaveUnits texts units × P units
 
 -- the texts have this typed program, which is within the limits
 abbrev pub HaveTypedProgram : List (List ℕ) → Program → Type 0
@@ -50,13 +38,37 @@ HaveFault texts fault =
     ⊎ (WithTokens texts (λ files. FirstFaulty 0 files fault.kind fault.at)
     ⊎ WithUnits texts (λ units. IsLeastFault units (end_of texts) fault))
 
--- the texts have a typed program that is above this limit
-abbrev pub AreAbove : List (List ℕ) → Limit → Type 0
-AreAbove texts limit = WithUnits texts (λ units. IsAbove units limit)
+-- The files have a typed program that is above the limit on frames: its first function whose frame is too large has
+-- this name, and its frame has so many bytes.
+pub record HaveLargeFrame (units : List (List ExternalTree)) (name : List ℕ) (bytes : ℕ) : Type 0 where
+  pub program : Program
+  pub typed : Typed units program
+  -- the number of the function, which the limit names
+  pub number : ℕ
+  pub above : limit_of program ≡ Some (Frame number bytes)
+  pub function : Function
+  pub there : slice_get program.functions number ≡ Some function
+  pub named : function.name ≡ name
+  pub large : frame_bound function ≡ bytes
 
--- why texts have no program
-abbrev pub AreRefused : List (List ℕ) → Refusal → Type 0
+-- a limit that texts are above, with what is told of it: so many bytes of static objects, or a function and the bytes
+-- of its frame (the limits are ours)
+pub data Excess : Type 0 where
+  ManyTokens : Excess
+  LargeArrays : (bytes : ℕ) → Excess
+  LargeFrame : (name : List ℕ) (bytes : ℕ) → Excess
+
+-- More than 65,536 tokens stand before any lexical fault; or the texts have a typed program that is above the limit on
+-- static objects, or else above that on frames.
+abbrev pub Exceed : List (List ℕ) → Excess → Type 0
+Exceed texts ManyTokens = HaveManyTokens texts
+Exceed texts (LargeArrays bytes) = WithUnits texts (λ units. IsAbove units (Arrays bytes))
+Exceed texts (LargeFrame name bytes) = WithUnits texts (λ units. HaveLargeFrame units name bytes)
+
+-- why texts have no program; no more than 65,537 tokens are counted
+abbrev pub AreRefused : List (List ℕ) → Refused → Type 0
 AreRefused texts (refusals.Fault fault) = HaveFault texts fault
-AreRefused texts (refusals.Limit (Tokens n)) = (n ≡ 65537) × HaveManyTokens texts
-AreRefused texts (refusals.Limit limit) = AreAbove texts limit
+AreRefused texts (refusals.Tokens n) = (n ≡ 65537) × Exceed texts ManyTokens
+AreRefused texts (refusals.Arrays bytes) = Exceed texts (LargeArrays bytes)
+AreRefused texts (refusals.Frame name bytes) = Exceed texts (LargeFrame name.items bytes)
 AreRefused texts refusals.NoMemory = ⊤

@@ -5,14 +5,18 @@ ghost use Rattle.std.specs.List.{All, AllByRecursion};
 ghost use Rattle.c_tree.specs.Erased.{program_of};
 ghost use Rattle.c_tree.specs.Sizes.{function_size};
 ghost use Rattle.c_tree.specs.WellTyped.{WellTyped};
+ghost use Rattle.c_grammar.specs.Statements.{unit_of};
+ghost use Rattle.c_units.specs.Units.{HaveUnits};
 ghost use Rattle.c_program.specs.Answers.{AreRefused, HaveTypedProgram, end_of};
 
+use crate::refused::{Refused, without_program, without_trees};
 use c_front::{lex_files, parse_files};
 use c_lexer::advance;
-use c_sources::texts_are_sources;
+use c_syntax::RawUnit;
 use c_tree::Program;
 use c_types::check;
-use pcc_base::{Refusal, Span};
+use c_units::units_are_sources;
+use pcc_base::Span;
 use std::alloc::Global;
 
 /// The place behind the last text, and the first place where there is none.
@@ -37,11 +41,27 @@ fn end_of(texts: &[Vec<u8>]) -> Span
     }
 }
 
+/// The raw trees of source files. A lexical fault is answered first, then one of the first file without a raw tree.
+fn units_of_texts(alloc: Global, texts: &[Vec<u8>]) -> Result<Vec<RawUnit>, Refused>
+    requires few { length texts.now ≤ 16 }
+    requires small { AllByRecursion (λ t. length t.items + 1 < 2 ^ 32) texts.now }
+    ensures units { IfOk result (λ units. HaveUnits (map (λ t. t.items) texts.now) (map unit_of units.items)) }
+    ensures refused { IfErr result (AreRefused (map (λ t. t.items) texts.now)) }
+{
+    match lex_files(alloc, texts) {
+        Ok(files) => match parse_files(alloc, files.as_slice()) {
+            Ok(units) => Ok(units),
+            Err(refusal) => Err(without_trees(refusal)),
+        },
+        Err(refusal) => Err(without_trees(refusal)),
+    }
+}
+
 /// The typed program of source files, in their order (C99 5.1.1.2, 6.2 to 6.9). The first fault is answered with its
 /// kind and its place: a lexical one of any file; then one of the first file that has no raw tree; then the least one
 /// of typing. The limit on tokens is answered where more than 65,536 stand before any lexical fault, and those on
-/// static objects and frames where the program is above them.
-pub fn typed_program(alloc: Global, texts: &[Vec<u8>]) -> Result<Program, Refusal>
+/// static objects and frames where the program is above them, that on frames with the name of the first such function.
+pub fn typed_program(alloc: Global, texts: &[Vec<u8>]) -> Result<Program, Refused>
     requires few { length texts.now ≤ 16 }
     requires small { AllByRecursion (λ t. length t.items + 1 < 2 ^ 32) texts.now }
     ensures accepted { IfOk result (λ p. HaveTypedProgram (map (λ t. t.items) texts.now) (program_of p)) }
@@ -49,8 +69,10 @@ pub fn typed_program(alloc: Global, texts: &[Vec<u8>]) -> Result<Program, Refusa
     ensures declared { IfOk result (λ p. All (λ f. length f.arrays ≤ function_size f) (program_of p).functions) }
     ensures refused { IfErr result (AreRefused (map (λ t. t.items) texts.now)) }
 {
-    texts_are_sources();
-    let files = lex_files(alloc, texts)?;
-    let units = parse_files(alloc, files.as_slice())?;
-    check(alloc, units.as_slice(), end_of(texts))
+    units_are_sources();
+    let units = units_of_texts(alloc, texts)?;
+    match check(alloc, units.as_slice(), end_of(texts)) {
+        Ok(program) => Ok(program),
+        Err(refusal) => Err(without_program(alloc, units.as_slice(), refusal)),
+    }
 }

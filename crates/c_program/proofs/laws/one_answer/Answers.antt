@@ -1,5 +1,5 @@
 -- Texts have one answer.
-use Rattle.c_program.proofs.Exact.{one_program, one_limit, no_fault, few, within, fault_or_limit, limit_or_many, either}
+use Rattle.c_program.proofs.Exact.{one_program, one_limit, no_fault, within, fault_or_limit}
 use Rattle.c_program.proofs.laws.one_answer.Goals as goal
 
 pub returns-clause-program : goal.returns-clause-program
@@ -11,17 +11,8 @@ returns-clause-limit c = one_limit
 pub returns-clause-no_fault : goal.returns-clause-no_fault
 returns-clause-no_fault c = no_fault
 
-pub returns-clause-few : goal.returns-clause-few
-returns-clause-few c = few
-
 pub returns-clause-within : goal.returns-clause-within
 returns-clause-within c = within
 
-pub returns-clause-either : goal.returns-clause-either
-returns-clause-either c = either
-
 pub returns-clause-fault_or_limit : goal.returns-clause-fault_or_limit
 returns-clause-fault_or_limit c = fault_or_limit
-
-pub returns-clause-one_limit : goal.returns-clause-one_limit
-returns-clause-one_limit c = limit_or_many
