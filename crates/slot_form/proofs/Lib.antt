@@ -1,0 +1,3 @@
+pub mod Deciding
+pub mod Tests
+pub mod Walking
