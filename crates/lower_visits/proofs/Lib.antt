@@ -1,0 +1,4 @@
+mod Values
+mod Knowing
+mod Trees
+mod Calls
