@@ -1,6 +1,7 @@
 -- The points of all blocks of a graph, one behind the other: each stands there once.
 use Rattle.std.specs.List.{AllByRecursion}
-use Rattle.std.proofs.Common.{◌≡◌, ◌≢◌, ℕ, zero, suc, ◌+◌, ◌≤◌, List, [], ◌∷◌, ◌++◌, Some, refl, sym, ap, ◌∙◌, subst}
+use Rattle.std.proofs.Common.{◌≡◌, ◌≢◌, ℕ, zero, suc, ◌+◌, ◌<◌, ◌≤◌, List, [], ◌∷◌, ◌++◌, length, get_or, Some, refl}
+use Rattle.std.proofs.Common.{sym, ap, ◌∙◌, subst}
 use Rattle.std.proofs.Common.{arith, inl, inr}
 use Rattle.std.specs.Prelude.{◌⊎◌, flat_map, slice_get, slice_index_or}
 use Rattle.std.proofs.lemmas.Option.{same_Some}
@@ -66,6 +67,17 @@ placed-in flow p within = one-block p flow.blocks within
 
 pub in-placed : (flow : Flow) (p b : ℕ) → Stands flow p b → IsIn p (all_points flow)
 in-placed flow p b stands = all-blocks p b flow.blocks stands
+
+-- so is each in a list of them
+pub placed-at : (flow : Flow) (points : List ℕ) (i d p : ℕ) → points ≡ all_points flow → i < length points
+    → get_or points i d ≡ p → IsPlaced flow p
+placed-at flow points i d p are h is = placed-in flow p
+    (subst (λ (ps : List ℕ). IsIn p ps) are (subst (λ (q : ℕ). IsIn q points) is (one-of points i d h)))
+  where
+    one-of : (xs : List ℕ) (i d : ℕ) → i < length xs → IsIn (get_or xs i d) xs
+    one-of [] i d h = absurd (omega (arith, h))
+    one-of (x ∷ xs) zero d h = inl refl
+    one-of (x ∷ xs) (suc i) d h = inr (one-of xs i d (omega (arith, h)))
 
 -- ---- each point stands once
 

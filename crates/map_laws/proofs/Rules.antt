@@ -284,7 +284,7 @@ arrays-held program homes code k f flow h own is at flows small j below a has th
     let inside = (is.slots k flow h at.graph at.home).arrays_in.inside j below (array_of a) mine there in
     let fits = array-all IsArray flow.arrays j (array_of a) flows.arrays_fit mine in
     let few = array-all (λ array. array.1 ≤ 4294967295) flow.arrays j (array_of a) flows.few_elements mine in
-    counted below (bytes_of a.element * a.count) (frame_bytes flow) a.count inside.low inside.high small fits.1 few
+    counted below (size_of (array_of a)) (frame_bytes flow) a.count inside.low inside.high small fits.1 few
   where
     counted : (below size frame count : ℕ) → 16 + size ≤ below → below + 4 ≤ frame → frame ≤ 16384 → 1 ≤ count
         → count ≤ 4294967295
