@@ -1,7 +1,6 @@
 -- The machine follows each step of a program.
 use Rattle.std.proofs.Common.{◌≡◌, ℕ, false, List, Option, Some, refl, sym, ap, subst, ◌∙◌}
 use Rattle.ia32_insn.specs.State as machine
-use Rattle.flow_graph.specs.declared.op.Comparison.{Comparison}
 use Rattle.flow_graph.specs.declared.op.Op.{Op}
 use Rattle.flow_graph.specs.declared.op.Op.TheVariants as op
 use Rattle.flow_graph.specs.Meaning.{Moved, Moves, Halts, Stuck, act, given, step}
@@ -15,13 +14,10 @@ use Rattle.ia32_shows.specs.Follows.{ComesTo, Follows, is_nop}
 use Rattle.ia32_shows.specs.Placements.{Code}
 use Rattle.ia32_shows.specs.Shows.{Shows}
 use Rattle.ia32_shows.proofs.Steps.{comes-then}
-use Rattle.ia32_keeps.proofs.Ops.{op-is}
-use Rattle.ia32_comparisons.proofs.Comparing.{branch-follows, same-follows, set-follows}
 use Rattle.ia32_standing.specs.Laws.{IsSelected}
 use Rattle.ia32_standing.proofs.Follows.{steps-follow}
-use Rattle.ia32_standing.proofs.Points.{labels-stand, rows-stand}
+use Rattle.ia32_standing.proofs.Points.{rows-stand}
 use Rattle.ia32_standing.proofs.Returns.{calls-return, calls-stand}
-use Rattle.ia32_clears.proofs.Following.{row-follows}
 use Rattle.ia32_entries.specs.Called.{Called}
 use Rattle.ia32_entries.specs.Calls.{ComesCalled}
 use Rattle.ia32_entries.proofs.Calling.{call-comes}
@@ -75,25 +71,6 @@ return-done code input g s a h state shown has =
     calls-return code w result g.current.function words address h ((back.0).active.0).function (back.1).placed calls
     returns)
 
--- ---- arrays made 0
-
-clear-done : (code : Code) (input : List ℕ) (g : graph.State) (s : machine.State) (k : ℕ) → IsSelected code
-    → IsState code.program g → Shows code input g s → op_at code.program g ≡ Some (op.Clear k)
-    → IsDone code input g s (op.Clear k)
-clear-done code input g s k h state shown has =
-    row-follows k code input g s h.supported state shown has (rows-stand code g s (op.Clear k) h state has shown.eip)
-
--- ---- comparisons
-
-branch-done : (code : Code) (input : List ℕ) (g : graph.State) (s : machine.State) (how : Comparison) (a b x y : ℕ)
-    → IsSelected code → IsState code.program g → Shows code input g s
-    → op_at code.program g ≡ Some (op.Branch how a b x y) → IsDone code input g s (op.Branch how a b x y)
-branch-done code input g s how a b x y h state shown has =
-    let is = op-is code g (op.Branch how a b x y) h.supported state has in
-    let r = rows-stand code g s (op.Branch how a b x y) h state has shown.eip in
-    branch-follows how a b x y code input g s r.rest h.supported state shown has
-    (labels-stand code g x h state is.fits.1.1.0) (labels-stand code g y h state is.fits.1.1.1.0) r.ready
-
 -- ---- all ops
 
 -- an op that is followed is so from the state's point
@@ -110,18 +87,6 @@ by-op code input g s (op.Call d f arguments) h state shown has =
     at-point code input g s (op.Call d f arguments) has (call-done code input g s d f arguments h state shown has)
 by-op code input g s (op.Return a) h state shown has =
     at-point code input g s (op.Return a) has (return-done code input g s a h state shown has)
-by-op code input g s (op.Clear k) h state shown has =
-    at-point code input g s (op.Clear k) has (clear-done code input g s k h state shown has)
-by-op code input g s (op.Set how d a b) h state shown has =
-    at-point code input g s (op.Set how d a b) has
-    (set-follows how d a b code input g s h.supported state shown has
-    (rows-stand code g s (op.Set how d a b) h state has shown.eip))
-by-op code input g s (op.Same a b) h state shown has =
-    at-point code input g s (op.Same a b) has
-    (same-follows a b code input g s h.supported state shown has
-    (rows-stand code g s (op.Same a b) h state has shown.eip))
-by-op code input g s (op.Branch how a b x y) h state shown has =
-    at-point code input g s (op.Branch how a b x y) has (branch-done code input g s how a b x y h state shown has)
 by-op code input g s o h state shown has = steps-follow code input g s o h state shown has tt
 
 pub programs-follow : ProgramsFollow

@@ -727,7 +727,8 @@ point-room flow placement p =
     let r = row-is flow placement p o in
     (r.1, items-room (row flow placement p o) r.0)
 
-points-room : (flow : Flow) (placement : Placement) (points : List ℕ) → PointsTakeRoom (point_rows flow placement points)
+points-room : (flow : Flow) (placement : Placement) (points : List ℕ)
+    → PointsTakeRoom (point_rows flow placement points)
 points-room flow placement [] = tt
 points-room flow placement (p ∷ ps) =
     room-join (point_row flow placement p) (point_rows flow placement ps) (point-room flow placement p)

@@ -213,15 +213,13 @@ first-row : (flow : Flow) (placement : Placement) (p : ℕ) (ps : List ℕ)
     → HasRow flow placement p (slice_get ps 0) (point_rows flow placement (p ∷ ps))
 first-row flow placement p [] = record { front = []; rest = []; is = refl; follows = λ q e. absurd (cc) }
 first-row flow placement p (x ∷ ps) =
+    let back : List Item =
+    row flow placement x (slice_index_or flow.ops x op.Turn) ++ point_rows flow placement ps in
     record {
       front = [];
       rest = point_rows flow placement (x ∷ ps);
       is = refl;
-      follows = λ q e. (
-        row flow placement x (slice_index_or flow.ops x op.Turn) ++ point_rows flow placement ps,
-        ap (λ (n : ℕ). item.Point n ∷ (row flow placement x (slice_index_or flow.ops x op.Turn) ++ point_rows flow placement ps))
-            (same_Some x q e),
-      );
+      follows = λ q e. (back, ap (λ (n : ℕ). item.Point n ∷ back) (same_Some x q e));
     }
 
 -- items before and behind
@@ -381,7 +379,8 @@ point-laid flow slots code p b o h stands has =
     }
 
 -- what is ready at a point, and behind it the next point of its block
-pub record RowReady (flow : Flow) (placement : Placement) (site : Site) (p : ℕ) (o : Op) (next : Option ℕ) (s : State) : Type 0
+pub record RowReady (flow : Flow) (placement : Placement) (site : Site) (p : ℕ) (o : Op) (next : Option ℕ)
+    (s : State) : Type 0
   where
     pub rest : List Item
     pub ready : ReadyAt site (row flow placement p o ++ rest) s

@@ -369,8 +369,8 @@ few-points flow homes f =
 -- ---- no label twice
 
 -- a number of a row's labels is its loop's
-row-label : (flow : Flow) (placement : Placement) (p n : ℕ) (o : Op) → IsIn n (numbers label_of (row flow placement p o))
-    → n ≡ loop_label flow p
+row-label : (flow : Flow) (placement : Placement) (p n : ℕ) (o : Op)
+    → IsIn n (numbers label_of (row flow placement p o)) → n ≡ loop_label flow p
 row-label flow placement p n o h =
     elim (row-labels flow placement p o) [
       | inl none ↦ absurd (subst (IsIn n) none h)

@@ -71,8 +71,8 @@ over_slots flow slots = in_slots (frame_of flow) [] slots
 
 -- ---- the items of an op
 
--- The items of an op, by the label of its loop, if it has one, the frame arrays and how far below EBP they stand, and the
--- places of variables before and after it.
+-- The items of an op, by the label of its loop, if it has one, the frame arrays and how far below EBP they stand, and
+-- the places of variables before and after it.
 abbrev pub items_between : ℕ → List (ℕ × ℕ) → List ℕ → (ℕ → Place) → (ℕ → Place) → Op → List Item
 items_between label arrays distances before after (op.Const d n) = number_row (after d) n
 items_between label arrays distances before after (op.Copy d s) = copy_row (before s) (after d)

@@ -83,7 +83,8 @@ number-spelled r z h = spelling-indexed (insn.MovImm (rm.Reg r) z) (tt, h) (tt, 
 row-spelled : (flow : Flow) (slots : List ℕ) (p : ℕ) (o : Op) → IsSlotOp o → AreSmall slots → NumbersFit o
     → AllByRecursion IsSpelled (slot_row flow slots p o)
 row-spelled flow slots p (op.Const d n) is small fits = (constant-spelled _ n (small d) fits, tt)
-row-spelled flow slots p (op.Copy d s) is small fits = (read-spelled Esi _ (small s), (write-spelled Esi _ (small d), tt))
+row-spelled flow slots p (op.Copy d s) is small fits =
+    (read-spelled Esi _ (small s), (write-spelled Esi _ (small d), tt))
 row-spelled flow slots p (op.Add d a b) is small fits =
     (read-spelled Esi _ (small a), (operation-spelled alu.Add Esi _ (small b), (write-spelled Esi _ (small d), tt)))
 row-spelled flow slots p (op.Sub d a b) is small fits =
@@ -210,8 +211,11 @@ points-labelled : (items : List Item) (flow : Flow) (placement : Placement) (poi
 points-labelled items flow placement [] h = tt
 points-labelled items flow placement (p ∷ ps) h =
     let mine : List Item = row flow placement p (slice_index_or flow.ops p op.Turn) in
-    every-join (HasLabel items) (point_row flow placement p) (point_rows flow placement ps)
-    (tt, insns-labelled items mine (slot-insns flow placement p (slice_index_or flow.ops p op.Turn) (slot-op flow.ops p h)))
+    every-join (HasLabel items) (point_row flow placement p) (point_rows flow placement ps) (
+      tt,
+      insns-labelled items mine
+          (slot-insns flow placement p (slice_index_or flow.ops p op.Turn) (slot-op flow.ops p h)),
+    )
     (points-labelled items flow placement ps h)
 
 blocks-labelled : (items : List Item) (flow : Flow) (placement : Placement) (k : ℕ) (blocks : List (List ℕ))
@@ -297,10 +301,12 @@ row-size flow slots p o is = absurd is
 abbrev AreSmallRows : Flow → Placement → Type 0
 AreSmallRows flow placement = (p : ℕ) → items_size (row flow placement p (slice_index_or flow.ops p op.Turn)) ≤ 64
 
-slots-small : (flow : Flow) (slots : List ℕ) → AllByRecursion IsSlotOp flow.ops → AreSmallRows flow (over_slots flow slots)
+slots-small : (flow : Flow) (slots : List ℕ) → AllByRecursion IsSlotOp flow.ops
+    → AreSmallRows flow (over_slots flow slots)
 slots-small flow slots h p =
     let o : Op = slice_index_or flow.ops p op.Turn in
-    subst (λ (items : List Item). items_size items ≤ 64) (sym (row-over flow slots p o)) (row-size flow slots p o (slot-op flow.ops p h))
+    subst (λ (items : List Item). items_size items ≤ 64) (sym (row-over flow slots p o))
+    (row-size flow slots p o (slot-op flow.ops p h))
 
 prologue-size : (frame label : ℕ) → items_size (prologue frame label) ≤ 64
 prologue-size frame label = let one = fields-size 4 frame in let two = fields-size 7 12 in omega arith

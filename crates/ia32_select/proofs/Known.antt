@@ -89,7 +89,8 @@ point-emitted old pushed new flow slots p o one ops has e =
     let mine : List Item = row flow (over_slots flow slots) p o in
     let own = without-loop flow slots p o (every-get IsSlotOp flow.ops p o ops has) in
     let is : o ≡ slice_index_or flow.ops p op.Turn = sym (get_or_from_slice_get flow.ops p o op.Turn has) in
-    e ∙ ap (λ (l : List Item). pushed ++ l) (own ∙ sym (row-over flow slots p o)) ∙ ap (λ (l : List Item). l ++ mine) one
+    e ∙ ap (λ (l : List Item). pushed ++ l) (own ∙ sym (row-over flow slots p o))
+    ∙ ap (λ (l : List Item). l ++ mine) one
     ∙ append_assoc old (item.Point p ∷ []) mine
     ∙ ap (λ (i : Op). old ++ item.Point p ∷ row flow (over_slots flow slots) p i) is
 

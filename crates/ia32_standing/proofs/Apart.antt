@@ -144,7 +144,8 @@ points-apart code f h block other p q selected below under one two e =
 
 nop-at : (code : Code) (f block p : ℕ) (o : Op) → IsSelected code → f < length code.program.functions
     → Stands (flow_at code.program f) p block → op_of code.program f p ≡ Some o
-    → row (flow_at code.program f) (placement_of code f) p o ≡ plain insn.Nop ∷ [] → IsAt code.text (point_address code f p) (144 ∷ [])
+    → row (flow_at code.program f) (placement_of code f) p o ≡ plain insn.Nop ∷ []
+    → IsAt code.text (point_address code f p) (144 ∷ [])
 nop-at code f block p o h below stands has e =
     let site : Site = site_of code f in
     let address : ℕ = point_address code f p in
@@ -198,5 +199,6 @@ clear-there site (x ∷ items) rest address some h =
 pub others-are-clear : OthersAreClear
 others-are-clear code f block p o h below stands has nop =
     let r = points-stand code f block p o h below stands has in
-    clear-there (site_of code f) (row (flow_at code.program f) (placement_of code f) p o) r.rest (point_address code f p)
+    clear-there (site_of code f) (row (flow_at code.program f) (placement_of code f) p o) r.rest
+    (point_address code f p)
     (other-begins (flow_at code.program f) (placement_of code f) p o nop) r.stands

@@ -1,4 +1,4 @@
--- The machine follows the program's step at each point of a program, for the ops of which that is known.
+-- The machine follows the program's step at each point of a program, but for calls and returns.
 use Rattle.std.proofs.Common.{◌≡◌, ℕ, List, Option, Some, sym, subst}
 use Rattle.ia32_insn.specs.State as machine
 use Rattle.flow_graph.specs.declared.op.Op.{Op}
@@ -18,19 +18,19 @@ use Rattle.ia32_keeps.proofs.Marks.{mark-follows, turn-follows}
 use Rattle.ia32_keeps.proofs.Ops.{and-follows, difference-follows, number-follows, op-is, or-follows, product-follows}
 use Rattle.ia32_keeps.proofs.Ops.{sum-follows, xor-follows}
 use Rattle.ia32_cores.proofs.Changing.{half-follows, low-follows}
-use Rattle.ia32_cores.proofs.Choosing.{jump-follows, numbers-branch-follow}
+use Rattle.ia32_cores.proofs.Choosing.{jump-follows}
 use Rattle.ia32_cores.proofs.Counting.{left-shift-follows, right-shift-follows}
-use Rattle.ia32_cores.proofs.Setting.{numbers-set-follow}
 use Rattle.ia32_cores.proofs.Stopping.{quotient-follows, remainder-follows}
 use Rattle.ia32_routines.proofs.Params.{param-follows}
 use Rattle.ia32_routines.proofs.Passed.{exit-follows}
 use Rattle.ia32_routines.proofs.Putchar.{putchar-follows}
 use Rattle.ia32_routines.proofs.Reading.{getchar-follows}
-use Rattle.ia32_routines.proofs.Same.{numbers-same-follow}
 use Rattle.ia32_accesses.proofs.Addresses.{frame-follows, static-follows}
 use Rattle.ia32_accesses.proofs.Elements.{put-follows}
 use Rattle.ia32_accesses.proofs.Loading.{get-follows}
 use Rattle.ia32_accesses.proofs.Reaching.{load-follows, store-follows}
+use Rattle.ia32_clears.proofs.Following.{row-follows as clear-follows}
+use Rattle.ia32_comparisons.proofs.Comparing.{branch-follows, same-follows, set-follows}
 use Rattle.ia32_standing.specs.Laws.{IsFollowed, IsSelected, StepsFollow}
 use Rattle.ia32_standing.proofs.Points.{labels-stand, rows-stand}
 
@@ -39,7 +39,7 @@ abbrev IsDone : Code → List ℕ → graph.State → machine.State → Op → T
 IsDone code input g s o = Follows code input s g (is_nop (Some o)) (act code.program g o)
 
 follow : (code : Code) (input : List ℕ) (g : graph.State) (s : machine.State) (o : Op) → IsSelected code
-    → IsState code.program g → Shows code input g s → op_at code.program g ≡ Some o → IsFollowed g o
+    → IsState code.program g → Shows code input g s → op_at code.program g ≡ Some o → IsFollowed o
     → RowAt code g
     (row (flow_at code.program g.current.function) (placement_of code g.current.function) g.point o) s
     → IsDone code input g s o
@@ -100,17 +100,19 @@ follow code input g s (op.Exit a) h state shown has known r =
 follow code input g s (op.Mark n) h state shown has known r =
     mark-follows n code input g s h.supported state shown has r
 follow code input g s op.Turn h state shown has known r = turn-follows code input g s h.supported state shown has r
-follow code input g s (op.Set how d a b) h state shown has ((x, one), (y, two)) r =
-    numbers-set-follow how d a b code input g s x y h.supported state shown has one two r
-follow code input g s (op.Same a b) h state shown has ((x, one), (y, two)) r =
-    numbers-same-follow a b code input g s x y h.supported state shown has one two r
+follow code input g s (op.Clear k) h state shown has known r =
+    clear-follows k code input g s h.supported state shown has r
+follow code input g s (op.Set how d a b) h state shown has known r =
+    set-follows how d a b code input g s h.supported state shown has r
+follow code input g s (op.Same a b) h state shown has known r =
+    same-follows a b code input g s h.supported state shown has r
 follow code input g s (op.Jump block) h state shown has known r =
     let is = op-is code g (op.Jump block) h.supported state has in
     jump-follows block code input g s r.rest h.supported state shown has
     (labels-stand code g block h state is.fits.0) r.ready
-follow code input g s (op.Branch how a b first second) h state shown has ((x, one), (y, two)) r =
+follow code input g s (op.Branch how a b first second) h state shown has known r =
     let is = op-is code g (op.Branch how a b first second) h.supported state has in
-    numbers-branch-follow how a b first second code input g s x y r.rest h.supported state shown has one two
+    branch-follows how a b first second code input g s r.rest h.supported state shown has
     (labels-stand code g first h state is.fits.1.1.0) (labels-stand code g second h state is.fits.1.1.1.0) r.ready
 follow code input g s o h state shown has known r = absurd known
 

@@ -64,8 +64,8 @@ pub record PointThere (code : Code) (f p : ℕ) (o : Op) (next : Option ℕ) : T
   pub rest : List Item
   pub is : selected (flow_at code.program f) (placement_of code f)
       ≡ front ++ (item.Point p ∷ row (flow_at code.program f) (placement_of code f) p o ++ rest)
-  pub stands : StandsFrom (site_of code f) (item.Point p ∷ row (flow_at code.program f) (placement_of code f) p o ++ rest)
-      (point_address code f p)
+  pub stands : StandsFrom (site_of code f)
+      (item.Point p ∷ row (flow_at code.program f) (placement_of code f) p o ++ rest) (point_address code f p)
   pub follows : (q : ℕ) → next ≡ Some q → (more : List Item) × (rest ≡ item.Point q ∷ more)
 
 pub point-is-there : (code : Code) (f block p : ℕ) (o : Op) → IsSelected code → f < length code.program.functions
@@ -80,7 +80,8 @@ point-is-there code f block p o h below stands has =
     let same : slice_index_or flow.ops p op.Turn ≡ o = get_or_from_slice_get flow.ops p o op.Turn has in
     let mine : List Item = item.Point p ∷ row flow placement p o ++ r.rest in
     let is : selected flow placement ≡ r.front ++ mine =
-    subst (λ (i : Op). selected flow placement ≡ r.front ++ (item.Point p ∷ row flow placement p i ++ r.rest)) same r.is in
+    subst (λ (i : Op). selected flow placement ≡ r.front ++ (item.Point p ∷ row flow placement p i ++ r.rest)) same
+    r.is in
     let behind = stands-back site r.front mine l.address
     (subst (λ (items : List Item). StandsFrom site items l.address) is l.stands) in
     let own : site.places.points p ≡ l.address + behind.0 =

@@ -1,6 +1,6 @@
 -- Where the items of a program stand in its text, for any number of functions over any placements.
 use Rattle.std.specs.Prelude.{◌≡◌, ◌<◌, ℕ, List, [], ◌∷◌, ◌++◌, length, map, option_map, slice_get, Option, Some}
-use Rattle.std.specs.Prelude.{⊤, ℤ, true, false}
+use Rattle.std.specs.Prelude.{⊤, true, false}
 use Rattle.std.specs.List.{AllByRecursion}
 use Rattle.ia32_places.specs.Places.{Place}
 use Rattle.ia32_insn.specs.declared.item.Item.{Item}
@@ -12,7 +12,7 @@ use Rattle.flow_graph.specs.declared.op.Op.TheVariants as op
 use Rattle.flow_graph.specs.Graphs.{Flow, Stands}
 use Rattle.flow_graph.specs.States as graph
 use Rattle.flow_graph.specs.Meaning.{step}
-use Rattle.flow_graph.specs.States.{Waiting, entry_of, flow_at, number_at, op_at, op_of, point_after}
+use Rattle.flow_graph.specs.States.{Waiting, entry_of, flow_at, op_at, op_of, point_after}
 use Rattle.flow_graph.specs.WellFormed.{IsState}
 use Rattle.ia32_shows.specs.Follows.{Follows, is_nop}
 use Rattle.ia32_shows.specs.Paths.{IsAt, IsClear}
@@ -83,7 +83,8 @@ StartsStand = (code : Code) (f : ℕ) → IsCode code → StartAt code f
 -- At the address of a point the row of its op stands, and behind it the next point of the block, if there is one.
 pub record PointAt (code : Code) (f block point : ℕ) (o : Op) : Type 0 where
   pub rest : List Item
-  pub stands : StandsFrom (site_of code f) (row (flow_at code.program f) (placement_of code f) point o ++ rest) (point_address code f point)
+  pub stands : StandsFrom (site_of code f) (row (flow_at code.program f) (placement_of code f) point o ++ rest)
+      (point_address code f point)
   pub follows : (q : ℕ) → point_after code.program f block point ≡ Some q
       → (more : List Item) × (rest ≡ item.Point q ∷ more)
 
@@ -192,52 +193,48 @@ CallsReturn =
 
 -- ---- steps
 
--- two variables hold numbers
-abbrev pub AreNumbers : graph.State → ℕ → ℕ → Type 0
-AreNumbers g a b = ((x : ℤ) × (number_at g a ≡ Some x)) × ((y : ℤ) × (number_at g b ≡ Some y))
-
--- The ops that the machine is known to follow so far: all but calls, returns, comparisons of arrays, and `clear`.
-abbrev pub IsFollowed : graph.State → Op → Type 0
-IsFollowed g (op.Const d n) = ⊤
-IsFollowed g (op.Copy d s) = ⊤
-IsFollowed g (op.Wide d s) = ⊤
-IsFollowed g (op.Low d s) = ⊤
-IsFollowed g (op.Low16 d s) = ⊤
-IsFollowed g (op.Neg d a) = ⊤
-IsFollowed g (op.Not d a) = ⊤
-IsFollowed g (op.Add d a b) = ⊤
-IsFollowed g (op.Sub d a b) = ⊤
-IsFollowed g (op.Mul d a b) = ⊤
-IsFollowed g (op.And d a b) = ⊤
-IsFollowed g (op.Or d a b) = ⊤
-IsFollowed g (op.Xor d a b) = ⊤
-IsFollowed g (op.Shl d a c) = ⊤
-IsFollowed g (op.Sar d a c) = ⊤
-IsFollowed g (op.Div d a b) = ⊤
-IsFollowed g (op.Rem d a b) = ⊤
-IsFollowed g (op.Set how d a b) = AreNumbers g a b
-IsFollowed g (op.Frame d k) = ⊤
-IsFollowed g (op.Static d k) = ⊤
-IsFollowed g (op.Load bits d p i) = ⊤
-IsFollowed g (op.Store bits p i s) = ⊤
-IsFollowed g (op.Get bits d k) = ⊤
-IsFollowed g (op.Put bits k s) = ⊤
-IsFollowed g (op.Clear k) = ⊥
-IsFollowed g (op.Param d k) = ⊤
-IsFollowed g (op.Call d f arguments) = ⊥
-IsFollowed g (op.Putchar d s) = ⊤
-IsFollowed g (op.Getchar d) = ⊤
-IsFollowed g (op.Exit s) = ⊤
-IsFollowed g (op.Same a b) = AreNumbers g a b
-IsFollowed g (op.Mark s) = ⊤
-IsFollowed g op.Turn = ⊤
-IsFollowed g (op.Jump x) = ⊤
-IsFollowed g (op.Branch how a b x y) = AreNumbers g a b
-IsFollowed g (op.Return a) = ⊥
+-- all ops but calls and returns
+abbrev pub IsFollowed : Op → Type 0
+IsFollowed (op.Const d n) = ⊤
+IsFollowed (op.Copy d s) = ⊤
+IsFollowed (op.Wide d s) = ⊤
+IsFollowed (op.Low d s) = ⊤
+IsFollowed (op.Low16 d s) = ⊤
+IsFollowed (op.Neg d a) = ⊤
+IsFollowed (op.Not d a) = ⊤
+IsFollowed (op.Add d a b) = ⊤
+IsFollowed (op.Sub d a b) = ⊤
+IsFollowed (op.Mul d a b) = ⊤
+IsFollowed (op.And d a b) = ⊤
+IsFollowed (op.Or d a b) = ⊤
+IsFollowed (op.Xor d a b) = ⊤
+IsFollowed (op.Shl d a c) = ⊤
+IsFollowed (op.Sar d a c) = ⊤
+IsFollowed (op.Div d a b) = ⊤
+IsFollowed (op.Rem d a b) = ⊤
+IsFollowed (op.Set how d a b) = ⊤
+IsFollowed (op.Frame d k) = ⊤
+IsFollowed (op.Static d k) = ⊤
+IsFollowed (op.Load bits d p i) = ⊤
+IsFollowed (op.Store bits p i s) = ⊤
+IsFollowed (op.Get bits d k) = ⊤
+IsFollowed (op.Put bits k s) = ⊤
+IsFollowed (op.Clear k) = ⊤
+IsFollowed (op.Param d k) = ⊤
+IsFollowed (op.Call d f arguments) = ⊥
+IsFollowed (op.Putchar d s) = ⊤
+IsFollowed (op.Getchar d) = ⊤
+IsFollowed (op.Exit s) = ⊤
+IsFollowed (op.Same a b) = ⊤
+IsFollowed (op.Mark s) = ⊤
+IsFollowed op.Turn = ⊤
+IsFollowed (op.Jump x) = ⊤
+IsFollowed (op.Branch how a b x y) = ⊤
+IsFollowed (op.Return a) = ⊥
 
 -- From every state that shows one of the program at such an op the machine follows the program's step.
 abbrev pub StepsFollow : Type 0
 StepsFollow =
     (code : Code) (input : List ℕ) (g : graph.State) (s : machine.State) (o : Op) → IsSelected code
-    → IsState code.program g → Shows code input g s → op_at code.program g ≡ Some o → IsFollowed g o
+    → IsState code.program g → Shows code input g s → op_at code.program g ≡ Some o → IsFollowed o
     → Follows code input s g (is_nop (op_at code.program g)) (step code.program g)

@@ -9,8 +9,8 @@ pub fn slot_code_is_selected()
     ensures { SlotCodeIsSelected }
 {}
 
-/// The items of each function stand in the text from its address on; there its prologue stands, behind it the numbers of
-/// its arrays' elements are set, and then comes the first point of its first block. The start stands where the text
+/// The items of each function stand in the text from its address on; there its prologue stands, behind it the numbers
+/// of its arrays' elements are set, and then comes the first point of its first block. The start stands where the text
 /// begins, and its call returns to its ending.
 pub fn functions_stand()
     ensures functions { FunctionsStand }
@@ -42,8 +42,7 @@ pub fn calls_lead_back()
     ensures marks { MarksSayWhere }
 {}
 
-/// From every state that shows one of the program the machine follows the program's step, but for calls, returns,
-/// comparisons of arrays, and ops on arrays and static objects.
+/// From every state that shows one of the program the machine follows the program's step, but for calls and returns.
 pub fn steps_are_followed()
     ensures { StepsFollow }
 {}
