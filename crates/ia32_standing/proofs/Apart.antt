@@ -86,7 +86,7 @@ point-within code f block p address bytes h below stands at =
     )
 
 -- points of two functions, of which one stands before the other
-ordered : (code : Code) (i j f h block other p q : ℕ) → IsSelected code → f < length code.program.functions
+pub ordered : (code : Code) (i j f h block other p q : ℕ) → IsSelected code → f < length code.program.functions
     → h < length code.program.functions → i < j → slice_get code.order i ≡ Some f → slice_get code.order j ≡ Some h
     → Stands (flow_at code.program f) p block → Stands (flow_at code.program h) q other
     → point_address code f p < point_address code h q
