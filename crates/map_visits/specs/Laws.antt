@@ -1,28 +1,33 @@
 -- What a map finds in a state of the machine that shows one of its program: frames and their functions, arrays, and the
 -- values that a visit shows.
-use Rattle.std.specs.Prelude.{◌≡◌, ◌<◌, ◌≤◌, ◌⊎◌, ℕ, length, Some}
+use Rattle.std.specs.Prelude.{◌≡◌, ◌<◌, ◌≤◌, ◌⊎◌, ℕ, List, [], ◌∷◌, length, Some}
+use Rattle.pcc_base.specs.Outcome.{ArrayName}
 use Rattle.c_tree.specs.Program.{Program}
+use Rattle.ia32_insn.specs.State as machine
 use Rattle.flow_graph.specs.Graphs.{Stands}
-use Rattle.flow_graph.specs.States.{Activation, Waiting, flow_at}
-use Rattle.flow_graph.specs.WellFormed.{IsWaiting}
+use Rattle.flow_graph.specs.States as graph
+use Rattle.flow_graph.specs.States.{Activation, Waiting, active_of, flow_at}
+use Rattle.flow_graph.specs.WellFormed.{IsState, IsWaiting}
 use Rattle.lower_lines.specs.Lowering.{HasObjects, HaveShapes}
+use Rattle.lower_lines.specs.Shown.{ListsLocals, variables_shown}
+use Rattle.ia32_shows.specs.Follows.{ShowsVisits}
 use Rattle.ia32_shows.specs.Placements.{Code, point_address}
-use Rattle.ia32_shows.specs.Shows.{ReturnsTo}
+use Rattle.ia32_shows.specs.Shows.{IsArrayAt, ReturnsTo, Shows}
 use Rattle.ia32_standing.specs.Laws.{IsSelected}
 use Rattle.pcc_listing.specs.Maps.{Map}
-use Rattle.pcc_listing.specs.Marks.{caller_of}
+use Rattle.pcc_listing.specs.Marks.{Frame, MarkAt, array_named, caller_of, frames_of, listed, visits_of}
 use Rattle.program_map.specs.Belongs.{IsMapOf}
 
--- The map of a program, and of the code of its graphs over placements that support them.
+-- A map of a program and of the code of its graphs, over placements that support them.
 pub record HasMap (program : Program) (code : Code) (m : Map) : Type 0 where
-  pub selected : IsSelected code
+  pub is_selected : IsSelected code
   pub shapes : HaveShapes program code.program
   pub objects : HasObjects program code.program
   pub belongs : IsMapOf program code m
 
--- ---- calls
+-- ---- frames
 
--- A call's point stands before its return address, and none of the program's points between.
+-- A call's point stands before its return address, and no point of the program between.
 abbrev pub NoneBetween : Type 0
 NoneBetween =
     (code : Code) (w : Waiting) (younger : Activation) (address h block q : ℕ) → IsSelected code
@@ -33,10 +38,46 @@ NoneBetween =
     × ((point_address code h q ≤ point_address code w.activation.function w.point)
     ⊎ (address ≤ point_address code h q))
 
--- So the function of an older frame, which the map finds by the return address, is that of the call that waits.
+-- So the function that a map finds by a return address is that of the call that waits.
 abbrev pub FunctionsFound : Type 0
 FunctionsFound =
     (program : Program) (code : Code) (m : Map) (w : Waiting) (younger : Activation) (address : ℕ)
     → HasMap program code m → w.activation.function < length code.program.functions
     → IsWaiting code.program w younger → ReturnsTo code w younger.function address
     → caller_of m (Some address) ≡ Some w.activation.function
+
+-- the active calls at their frames, the youngest first; the oldest has depth 1
+abbrev pub frames_at : List Activation → List ℕ → List Frame
+frames_at [] addresses = []
+frames_at (a ∷ older) [] = []
+frames_at (a ∷ older) (address ∷ addresses) =
+    record { address = address; function = Some a.function; depth = length (a ∷ older) } ∷ frames_at older addresses
+
+-- the frames that a map finds at a mark of the current call's function are those of the active calls
+abbrev pub FramesFound : Type 0
+FramesFound =
+    (program : Program) (code : Code) (m : Map) (mark : MarkAt) (input : List ℕ) (g : graph.State) (s : machine.State)
+    → HasMap program code m → IsState code.program g → (shown : Shows code input g s)
+    → mark.function ≡ g.current.function → frames_of m mark s ≡ frames_at (active_of g) shown.frames
+
+-- ---- arrays
+
+-- the array that a map finds by its address is that array
+abbrev pub ArraysFound : Type 0
+ArraysFound =
+    (program : Program) (code : Code) (m : Map) (input : List ℕ) (g : graph.State) (s : machine.State)
+    (array : ArrayName) (word : ℕ) → HasMap program code m → IsState code.program g → (shown : Shows code input g s)
+    → IsArrayAt code (active_of g) shown.frames array word
+    → array_named m (frames_at (active_of g) shown.frames) word ≡ array
+
+-- ---- visits
+
+-- what a map lists are locals of the statement's function
+abbrev pub MapListsLocals : Type 0
+MapListsLocals = (program : Program) (code : Code) (m : Map) → HasMap program code m → ListsLocals program (listed m)
+
+-- At a mark a map shows the statement and the values of the locals that are declared before it, and nothing elsewhere.
+abbrev pub MapShowsVisits : Type 0
+MapShowsVisits =
+    (program : Program) (code : Code) (m : Map) → HasMap program code m
+    → ShowsVisits code (variables_shown program (listed m)) (visits_of m)

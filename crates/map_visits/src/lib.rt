@@ -4,4 +4,4 @@
 
 mod laws;
 
-pub use laws::calls_stand_alone;
+pub use laws::functions_are_found;
