@@ -1,3 +1,5 @@
 pub mod Among
 pub mod Between
 pub mod Found
+pub mod Memory
+pub mod Frames

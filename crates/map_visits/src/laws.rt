@@ -1,8 +1,10 @@
-ghost use Rattle.map_visits.specs.Laws.{NoneBetween, FunctionsFound};
+ghost use Rattle.map_visits.specs.Laws.{NoneBetween, FunctionsFound, FramesFound};
 
 /// Between a call's point and its return address no point of the program stands, so the function of the point with the
-/// greatest address below the return address is the one that calls.
-pub fn functions_are_found()
+/// greatest address below the return address is the one that calls. The frames at a mark are those of the active calls,
+/// each with its function.
+pub fn frames_are_found()
     ensures between { NoneBetween }
     ensures functions { FunctionsFound }
+    ensures frames { FramesFound }
 {}

@@ -4,4 +4,4 @@
 
 mod laws;
 
-pub use laws::functions_are_found;
+pub use laws::frames_are_found;
