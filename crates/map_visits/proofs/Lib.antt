@@ -3,3 +3,4 @@ pub mod Between
 pub mod Found
 pub mod Memory
 pub mod Frames
+pub mod Arrays

@@ -1,4 +1,4 @@
-ghost use Rattle.map_visits.specs.Laws.{NoneBetween, FunctionsFound, FramesFound};
+ghost use Rattle.map_visits.specs.Laws.{NoneBetween, FunctionsFound, FramesFound, ArraysFound};
 
 /// Between a call's point and its return address no point of the program stands, so the function of the point with the
 /// greatest address below the return address is the one that calls. The frames at a mark are those of the active calls,
@@ -7,4 +7,9 @@ pub fn frames_are_found()
     ensures between { NoneBetween }
     ensures functions { FunctionsFound }
     ensures frames { FramesFound }
+{}
+
+/// The array that is found by its address is that array: a static object, or a frame array of an active call.
+pub fn arrays_are_found()
+    ensures { ArraysFound }
 {}

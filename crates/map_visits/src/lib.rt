@@ -4,4 +4,4 @@
 
 mod laws;
 
-pub use laws::frames_are_found;
+pub use laws::{arrays_are_found, frames_are_found};
