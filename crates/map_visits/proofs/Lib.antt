@@ -4,3 +4,4 @@ pub mod Found
 pub mod Memory
 pub mod Frames
 pub mod Arrays
+pub mod Variables
