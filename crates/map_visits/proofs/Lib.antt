@@ -5,3 +5,4 @@ pub mod Memory
 pub mod Frames
 pub mod Arrays
 pub mod Variables
+pub mod Values
