@@ -6,3 +6,4 @@ pub mod Frames
 pub mod Arrays
 pub mod Variables
 pub mod Values
+pub mod Marks

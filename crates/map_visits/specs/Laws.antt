@@ -3,6 +3,7 @@
 use Rattle.std.specs.Prelude.{◌≡◌, ◌<◌, ◌≤◌, ◌⊎◌, ℕ, List, [], ◌∷◌, length, Some}
 use Rattle.pcc_base.specs.Outcome.{ArrayName}
 use Rattle.c_tree.specs.Program.{Program}
+use Rattle.c_tree.specs.WellTyped.{WellTyped}
 use Rattle.ia32_insn.specs.State as machine
 use Rattle.flow_graph.specs.Graphs.{Stands}
 use Rattle.flow_graph.specs.States as graph
@@ -18,8 +19,9 @@ use Rattle.pcc_listing.specs.Maps.{Map}
 use Rattle.pcc_listing.specs.Marks.{Frame, MarkAt, array_named, caller_of, frames_of, listed, visits_of}
 use Rattle.program_map.specs.Belongs.{IsMapOf}
 
--- A map of a program and of the code of its graphs, over placements that support them.
+-- A map of a typed program and of the code of its graphs, over placements that support them.
 pub record HasMap (program : Program) (code : Code) (m : Map) : Type 0 where
+  pub well_typed : WellTyped program
   pub is_selected : IsSelected code
   pub shapes : HaveShapes program code.program
   pub objects : HasObjects program code.program
