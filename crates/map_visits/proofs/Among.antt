@@ -34,7 +34,7 @@ either-part x [] ys among = inr among
 either-part x (y ∷ xs) ys (inl e) = inl (inl e)
 either-part x (y ∷ xs) ys (inr among) = elim (either-part x xs ys among) [ inl a ↦ inl (inr a) | inr b ↦ inr b ]
 
-among-map : {X Y : Type 0} (f : X → Y) (x : X) (xs : List X) → IsAmong x xs → IsAmong (f x) (map f xs)
+pub among-map : {X Y : Type 0} (f : X → Y) (x : X) (xs : List X) → IsAmong x xs → IsAmong (f x) (map f xs)
 among-map f x [] among = absurd among
 among-map f x (y ∷ xs) (inl e) = inl (ap f e)
 among-map f x (y ∷ xs) (inr among) = inr (among-map f x xs among)
@@ -73,7 +73,7 @@ past-option : {Y : Type 0} (y : Y) (o : Option Y) (ys : List Y) → IsAmong y ys
 past-option y None ys among = among
 past-option y (Some z) ys among = inr among
 
-to-filter : {X Y : Type 0} (f : X → Option Y) (x : X) (y : Y) (xs : List X) → IsAmong x xs → f x ≡ Some y
+pub to-filter : {X Y : Type 0} (f : X → Option Y) (x : X) (y : Y) (xs : List X) → IsAmong x xs → f x ≡ Some y
     → IsAmong y (filter_map f xs)
 to-filter f x y [] among e = absurd among
 to-filter f x y (z ∷ xs) (inl same) e = to-option y (f z) (filter_map f xs) (ap f same ∙ e)

@@ -7,3 +7,4 @@ pub mod Arrays
 pub mod Variables
 pub mod Values
 pub mod Marks
+pub mod Visits

@@ -159,7 +159,7 @@ pub record IsMarkIn (program : Program) (code : Code) (m : Map) (k : ℕ) (mark 
   pub standings_are : mark.standings ≡ point.before
 
 -- the statement of a mark
-marks-one : (o : Op) (n l : ℕ) → o ≡ op.Mark n → o ≡ op.Mark l → n ≡ l
+pub marks-one : (o : Op) (n l : ℕ) → o ≡ op.Mark n → o ≡ op.Mark l → n ≡ l
 marks-one o n l e f = same_Some n l (ap marked (sym e ∙ f))
 
 pub mark-in : (program : Program) (code : Code) (m : Map) (mark : MarkAt) → HasMap program code m

@@ -1,4 +1,5 @@
-ghost use Rattle.map_visits.specs.Laws.{NoneBetween, FunctionsFound, FramesFound, ArraysFound};
+ghost use Rattle.map_visits.specs.Laws.{NoneBetween, FunctionsFound, FramesFound};
+ghost use Rattle.map_visits.specs.Laws.{ArraysFound, MapListsLocals, MapShowsVisits};
 
 /// Between a call's point and its return address no point of the program stands, so the function of the point with the
 /// greatest address below the return address is the one that calls. The frames at a mark are those of the active calls,
@@ -12,4 +13,11 @@ pub fn frames_are_found()
 /// The array that is found by its address is that array: a static object, or a frame array of an active call.
 pub fn arrays_are_found()
     ensures { ArraysFound }
+{}
+
+/// What a map of a typed program lists are locals of each statement's function. At a mark it shows the statement and the
+/// values of the locals that are declared before it, and nothing elsewhere.
+pub fn visits_are_shown()
+    ensures lists { MapListsLocals }
+    ensures visits { MapShowsVisits }
 {}

@@ -4,4 +4,4 @@
 
 mod laws;
 
-pub use laws::{arrays_are_found, frames_are_found};
+pub use laws::{arrays_are_found, frames_are_found, visits_are_shown};
