@@ -105,7 +105,7 @@ last-is-end ops p q o (last, has, ends) same at =
     subst (λ (i : Op). is_end i ≡ true) alike ends
 
 -- A point of a block that is ended, whose op is no end, has one behind it.
-behind-is : (ops : List Op) (p : ℕ) (o : Op) (points : List ℕ) → LastIsEnd ops points → IsIn p points
+pub behind-is : (ops : List Op) (p : ℕ) (o : Op) (points : List ℕ) → LastIsEnd ops points → IsIn p points
     → slice_get ops p ≡ Some o → is_end o ≡ false → (q : ℕ) × (following p points ≡ Some q) × IsIn q points
 behind-is ops p o [] ended within at plain = absurd within
 behind-is ops p o (q ∷ []) ended (inl same) at plain =
