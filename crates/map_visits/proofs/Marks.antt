@@ -80,25 +80,6 @@ lists-parts m mark (first ∷ marks) among only =
     behind (inl same) away = absurd (away (ap (λ (x : MarkAt). x.statement) same))
     behind (inr more) away = more
 
--- what holds of the parts of each mark of a statement holds of those that the statement lists
-pub all-listed : (P : Part → Type 0) (m : Map) (statement : ℕ) (marks : List MarkAt)
-    → ((mark : MarkAt) → IsAmong mark marks → mark.statement ≡ statement
-    → AllByRecursion P (filter_map (part_of (variables_in m mark.function)) mark.standings))
-    → AllByRecursion P (listed_by m marks statement)
-all-listed P m statement [] each = tt
-all-listed P m statement (first ∷ marks) each =
-    elim (eqb_tells first.statement statement) [
-      | inl here ↦
-          subst (λ (b : Bool). AllByRecursion P
-          (if b then filter_map (part_of (variables_in m first.function)) first.standings
-          else listed_by m marks statement)) (sym here.0) (each first (inl refl) here.1)
-      | inr other ↦
-          subst (λ (b : Bool). AllByRecursion P
-          (if b then filter_map (part_of (variables_in m first.function)) first.standings
-          else listed_by m marks statement)) (sym other.0)
-          (all-listed P m statement marks (λ mark more. each mark (inr more)))
-    ]
-
 -- ---- each statement is marked once
 
 not-among : (n : ℕ) (mark : MarkAt) (marks : List MarkAt)

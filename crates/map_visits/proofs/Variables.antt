@@ -12,7 +12,7 @@ use Rattle.c_tree.specs.declared.types.ValueType.{ValueType}
 use Rattle.c_tree.specs.declared.types.ValueType.TheVariants.{Void, Integer, Pointer}
 use Rattle.c_tree.specs.Program.{Local}
 use Rattle.c_tree.specs.WellTyped.{IsScalar}
-use Rattle.lower_lines.specs.Shown.{IsInteger, IsPartOf, IsPointer, first_variable, type_widths, variable_part}
+use Rattle.lower_lines.specs.Shown.{first_variable, type_widths, variable_part}
 use Rattle.pcc_listing.specs.Maps.{MapVariable, Named, NamesScalar, NamesArray, NamesIndex, Standing, Temporary}
 use Rattle.pcc_listing.specs.Marks.{begins_local, locals_before, name_in, part_named, part_of}
 use Rattle.program_map.specs.Belongs.{local_variables, temporary, typed_variables}
@@ -24,11 +24,6 @@ pub data Role : Type 0 where
   OfNumber : Role
   OfArray : Role
   OfIndex : Role
-
-abbrev pub role_type : Role → ValueType → Type 0
-role_type OfNumber of = IsInteger of
-role_type OfArray of = IsPointer of
-role_type OfIndex of = IsPointer of
 
 abbrev pub role_name : Role → List ℕ → Named
 role_name OfNumber name = NamesScalar name
@@ -79,7 +74,6 @@ pub record IsOfLocal (locals : List Local) (variables : List MapVariable) (v : �
   pub variable : MapVariable
   pub at : slice_get variables v ≡ Some variable
   pub role : Role
-  pub is_type : role_type role local.of
   pub is_named : variable.named ≡ role_name role local.name
   pub is_wide : HasRoleWidth role variable.width
   pub is_variable : v ≡ role_variable role (first_variable locals number)
@@ -136,7 +130,6 @@ moved l ls front tail u v long one at (inl h) =
       variable = h.variable;
       at = ap (slice_get (front ++ tail)) at ∙ get-behind front tail u ∙ h.at;
       role = h.role;
-      is_type = h.is_type;
       is_named = h.is_named;
       is_wide = h.is_wide;
       is_variable = at ∙ ap (λ (n : ℕ). length front + n) is_variable
@@ -158,11 +151,11 @@ moved l ls front tail u v long one at (inr (inr none)) =
     ∙ ap (option_map (λ x. x.named)) (get-behind front tail u) ∙ none))
 
 -- the variables of one local, and those behind them
-with-number : (name : List ℕ) (of : ValueType) (width : Width) (ls : List Local) (tail : List MapVariable) → IsInteger of
+with-number : (name : List ℕ) (of : ValueType) (width : Width) (ls : List Local) (tail : List MapVariable)
     → length (type_widths of) ≡ 1 → ((u : ℕ) → IsKnownVariable ls tail u) → (v : ℕ)
     → IsKnownVariable ((let l : Local = record { name = name; of = of } in l) ∷ ls)
     ((let x : MapVariable = record { width = width; named = NamesScalar name } in x) ∷ tail) v
-with-number name of width ls tail is one rest zero =
+with-number name of width ls tail one rest zero =
     inl (record {
       number = 0;
       local = record { name = name; of = of };
@@ -170,24 +163,23 @@ with-number name of width ls tail is one rest zero =
       variable = record { width = width; named = NamesScalar name };
       at = refl;
       role = OfNumber;
-      is_type = is;
       is_named = refl;
       is_wide = tt;
       is_variable = refl;
       is_before = refl;
     })
-with-number name of width ls tail is one rest (suc u) =
+with-number name of width ls tail one rest (suc u) =
     let x : MapVariable = record { width = width; named = NamesScalar name } in
     let l : Local = record { name = name; of = of } in
     let next : suc u ≡ 1 + u = omega arith in
     moved l ls (x ∷ []) tail u (suc u) (sym one) refl next (rest u)
 
-with-pointer : (name : List ℕ) (of : ValueType) (ls : List Local) (tail : List MapVariable) → IsPointer of
+with-pointer : (name : List ℕ) (of : ValueType) (ls : List Local) (tail : List MapVariable)
     → length (type_widths of) ≡ 2 → ((u : ℕ) → IsKnownVariable ls tail u) → (v : ℕ)
     → IsKnownVariable ((let l : Local = record { name = name; of = of } in l) ∷ ls)
     ((let x : MapVariable = record { width = Two; named = NamesArray name } in x)
     ∷ (let y : MapVariable = record { width = Two; named = NamesIndex name } in y) ∷ tail) v
-with-pointer name of ls tail is two rest zero =
+with-pointer name of ls tail two rest zero =
     inl (record {
       number = 0;
       local = record { name = name; of = of };
@@ -195,13 +187,12 @@ with-pointer name of ls tail is two rest zero =
       variable = record { width = Two; named = NamesArray name };
       at = refl;
       role = OfArray;
-      is_type = is;
       is_named = refl;
       is_wide = refl;
       is_variable = refl;
       is_before = refl;
     })
-with-pointer name of ls tail is two rest (suc zero) =
+with-pointer name of ls tail two rest (suc zero) =
     inl (record {
       number = 0;
       local = record { name = name; of = of };
@@ -209,13 +200,12 @@ with-pointer name of ls tail is two rest (suc zero) =
       variable = record { width = Two; named = NamesIndex name };
       at = refl;
       role = OfIndex;
-      is_type = is;
       is_named = refl;
       is_wide = tt;
       is_variable = refl;
       is_before = refl;
     })
-with-pointer name of ls tail is two rest (suc (suc u)) =
+with-pointer name of ls tail two rest (suc (suc u)) =
     let x : MapVariable = record { width = Two; named = NamesArray name } in
     let y : MapVariable = record { width = Two; named = NamesIndex name } in
     let l : Local = record { name = name; of = of } in
@@ -226,10 +216,10 @@ one-local : (name : List ℕ) (of : ValueType) (ls : List Local) (tail : List Ma
     → ((u : ℕ) → IsKnownVariable ls tail u) → (v : ℕ)
     → IsKnownVariable ((let l : Local = record { name = name; of = of } in l) ∷ ls) (typed_variables name of ++ tail) v
 one-local name Void ls tail is rest v = absurd is
-one-local name (Integer Char) ls tail is rest v = with-number name (Integer Char) One ls tail tt refl rest v
-one-local name (Integer Short) ls tail is rest v = with-number name (Integer Short) Two ls tail tt refl rest v
-one-local name (Integer Int) ls tail is rest v = with-number name (Integer Int) Two ls tail tt refl rest v
-one-local name (Pointer t) ls tail is rest v = with-pointer name (Pointer t) ls tail tt refl rest v
+one-local name (Integer Char) ls tail is rest v = with-number name (Integer Char) One ls tail refl rest v
+one-local name (Integer Short) ls tail is rest v = with-number name (Integer Short) Two ls tail refl rest v
+one-local name (Integer Int) ls tail is rest v = with-number name (Integer Int) Two ls tail refl rest v
+one-local name (Pointer t) ls tail is rest v = with-pointer name (Pointer t) ls tail refl rest v
 
 -- a temporary, or none
 temporaries-known : (widths : List Width) (v : ℕ) → IsOfNone (map temporary widths) v
@@ -264,12 +254,6 @@ part-in-graph OfNumber locals number v e = ap Scalar (sym e)
 part-in-graph OfArray locals number v e = ap ArrayOf (sym e)
 part-in-graph OfIndex locals number v e = ap IndexOf (sym e)
 
-part-is-of : (role : Role) (locals : List Local) (number : ℕ) (l : Local) → slice_get locals number ≡ Some l
-    → role_type role l.of → IsPartOf locals (role_part role number)
-part-is-of OfNumber locals number l has is = (l, has, is)
-part-is-of OfArray locals number l has is = (l, has, is)
-part-is-of OfIndex locals number l has is = (l, has, is)
-
 -- the part that a map says of a variable of a local
 pub part-is : (locals : List Local) (variables : List MapVariable) (standing : Standing)
     → (h : IsOfLocal locals variables standing.variable)
@@ -280,15 +264,10 @@ part-is locals variables standing h =
     ap (λ (n : ℕ). part_named n (name_in variables standing.variable)) h.is_before
     ∙ ap (part_named (role_before h.role h.number)) name ∙ part-named-by h.role h.number h.local.name
 
--- in the graph it is the variable's,
+-- in the graph it is the variable's
 pub part-shown : (locals : List Local) (variables : List MapVariable) (v : ℕ) → (h : IsOfLocal locals variables v)
     → variable_part locals (role_part h.role h.number) ≡ role_part h.role v
 part-shown locals variables v h = part-in-graph h.role locals h.number v h.is_variable
-
--- and of the source one of the local
-pub part-of-local : (locals : List Local) (variables : List MapVariable) (v : ℕ) → (h : IsOfLocal locals variables v)
-    → IsPartOf locals (role_part h.role h.number)
-part-of-local locals variables v h = part-is-of h.role locals h.number h.local h.has h.is_type
 
 -- of another variable it says none
 pub part-none : (variables : List MapVariable) (standing : Standing) → IsOfNone variables standing.variable

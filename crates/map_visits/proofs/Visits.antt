@@ -35,58 +35,36 @@ use Rattle.ia32_keeps.proofs.Zones.{bounds}
 use Rattle.pcc_listing.specs.Maps.{Map, MapVariable, Named, Standing, Temporary}
 use Rattle.pcc_listing.specs.Marks.{Frame, MarkAt, frames_of, listed, marks_of, name_in, part_of, value_named, value_of}
 use Rattle.pcc_listing.specs.Marks.{values_of, variables_in, variables_of, visit_at, visits_of}
-use Rattle.map_visits.specs.Laws.{HasMap, MapListsLocals, MapShowsVisits, frames_at}
+use Rattle.map_laws.proofs.Owners.{owner-locals}
+use Rattle.map_visits.specs.Laws.{HasMap, MapShowsVisits, frames_at}
 use Rattle.map_visits.proofs.Among.{IsAmong, all-among, among-map, to-filter}
 use Rattle.map_visits.proofs.Arrays.{arrays-found}
 use Rattle.map_visits.proofs.Frames.{frames-found}
-use Rattle.map_visits.proofs.Marks.{IsMarkIn, all-listed, at-point, lists-parts, mark-in, marked-at, marks-one}
+use Rattle.map_visits.proofs.Marks.{IsMarkIn, at-point, lists-parts, mark-in, marked-at, marks-one}
 use Rattle.map_visits.proofs.Marks.{not-visited, one-mark, visited}
 use Rattle.map_visits.proofs.Memory.{sound-readable}
 use Rattle.map_visits.proofs.Values.{IsReadAt, role-shown}
-use Rattle.map_visits.proofs.Variables.{IsKnownVariable, IsOfLocal, IsOfNone, part-is, part-none, part-of-local}
+use Rattle.map_visits.proofs.Variables.{IsKnownVariable, IsOfLocal, IsOfNone, part-is, part-none}
 use Rattle.map_visits.proofs.Variables.{part-shown, role_name, role_part, variable-known}
 
--- ---- the locals of a statement
+-- ---- the function of a mark
 
--- the statements of function k are those from its first on
-locals-of : (fs : List Function) (k : ℕ) (f : Function) (statement : ℕ) → slice_get fs k ≡ Some f
-    → first_statement fs k ≤ statement → statement < first_statement fs k + numbers_of f.body
-    → locals_at fs statement ≡ f.locals
-locals-of [] k f statement at low high = absurd (none-some f at)
-locals-of (g ∷ []) zero f statement at low high = ap (λ (x : Function). x.locals) (same_Some g f at)
-locals-of (g ∷ []) (suc k) f statement at low high = absurd (none-some f at)
-locals-of (g ∷ h ∷ fs) zero f statement at low high =
-    let same = same_Some g f at in
-    let none : first_statement (g ∷ h ∷ fs) 0 ≡ 0 = refl in
-    let many : numbers_of g.body ≡ numbers_of f.body = ap (λ (x : Function). numbers_of x.body) same in
-    let less : statement < numbers_of g.body = omega (arith, high, none, many) in
-    ap (λ (b : Bool). if b then g.locals else locals_at (h ∷ fs) (statement - numbers_of g.body))
-    (lt-ltb statement (numbers_of g.body) less)
-    ∙ ap (λ (x : Function). x.locals) same
-locals-of (g ∷ h ∷ fs) (suc k) f statement at low high =
-    let more : first_statement (g ∷ h ∷ fs) (suc k) ≡ numbers_of g.body + first_statement (h ∷ fs) k =
-    sum_by-cons (λ (x : Function). numbers_of x.body) g (take k (h ∷ fs)) in
-    let enough : numbers_of g.body ≤ statement = omega (arith, low, more) in
-    ap (λ (b : Bool). if b then g.locals else locals_at (h ∷ fs) (statement - numbers_of g.body))
-    (le-ltb statement (numbers_of g.body) enough)
-    ∙ locals-of (h ∷ fs) k f (statement - numbers_of g.body) at (omega (arith, low, more))
-    (omega (arith, high, more, enough))
-
+-- its locals are those at the statement
 mark-locals : (program : Program) (code : Code) (m : Map) (k : ℕ) (mark : MarkAt)
     → (r : IsMarkIn program code m k mark) → locals_at program.functions mark.statement ≡ r.own.function.locals
 mark-locals program code m k mark r =
     let own = r.is.own in
     let same = r.statement_is in
-    locals-of program.functions k r.own.function mark.statement r.own.declared (omega (arith, own.0, same))
+    owner-locals program.functions mark.statement k r.own.function r.own.declared (omega (arith, own.0, same))
     (omega (arith, own.1, same))
 
--- ---- the variables of a mark's function
-
+-- its variables
 mark-variables : (program : Program) (code : Code) (m : Map) (k : ℕ) (mark : MarkAt)
     → (r : IsMarkIn program code m k mark) → variables_in m mark.function ≡ r.listed_function.variables
 mark-variables program code m k mark r =
     ap (variables_in m) r.function_is ∙ ap variables_of r.has
 
+-- each is one of a local, or of none
 known-in : (program : Program) (code : Code) (m : Map) (k : ℕ) (mark : MarkAt) → HasMap program code m
     → (r : IsMarkIn program code m k mark) → (v : ℕ)
     → IsKnownVariable r.own.function.locals (variables_in m mark.function) v
@@ -97,35 +75,6 @@ known-in program code m k mark h r v =
     (sym (mark-variables program code m k mark r ∙ r.own.is.variables))
     (variable-known r.own.function.locals r.own.is.temporaries v
     (recursion_from_All (λ (l : Local). IsScalar l.of) r.own.function.locals typed.locals))
-
--- ---- listings
-
-parts-are-of : (locals : List Local) (variables : List MapVariable) (standings : List Standing)
-    → ((v : ℕ) → IsKnownVariable locals variables v)
-    → AllByRecursion (IsPartOf locals) (filter_map (part_of variables) standings)
-parts-are-of locals variables [] known = tt
-parts-are-of locals variables (standing ∷ standings) known =
-    let others : List Part = filter_map (part_of variables) standings in
-    let rest = parts-are-of locals variables standings known in
-    elim (known standing.variable) [
-      | inl h ↦
-          subst (λ (o : Option Part). AllByRecursion (IsPartOf locals) (cons_option o others))
-          (sym (part-is locals variables standing h)) (part-of-local locals variables standing.variable h, rest)
-      | inr none ↦
-          subst (λ (o : Option Part). AllByRecursion (IsPartOf locals) (cons_option o others))
-          (sym (part-none variables standing none)) rest
-    ]
-
-pub map-lists-locals : MapListsLocals
-map-lists-locals program code m h statement =
-    all-listed (IsPartOf (locals_at program.functions statement)) m statement (marks_of m)
-    (λ mark among same.
-    let r = mark-in program code m mark h among in
-    subst (λ (locals : List Local). AllByRecursion (IsPartOf locals)
-    (filter_map (part_of (variables_in m mark.function)) mark.standings))
-    (sym (mark-locals program code m r.0 mark r.1) ∙ ap (locals_at program.functions) same)
-    (parts-are-of r.1.own.function.locals (variables_in m mark.function) mark.standings
-    (known-in program code m r.0 mark h r.1)))
 
 -- ---- values
 

@@ -10,7 +10,7 @@ use Rattle.flow_graph.specs.States as graph
 use Rattle.flow_graph.specs.States.{Activation, Waiting, active_of, flow_at}
 use Rattle.flow_graph.specs.WellFormed.{IsState, IsWaiting}
 use Rattle.lower_lines.specs.Lowering.{HasObjects, HaveShapes}
-use Rattle.lower_lines.specs.Shown.{ListsLocals, variables_shown}
+use Rattle.lower_lines.specs.Shown.{variables_shown}
 use Rattle.ia32_shows.specs.Follows.{ShowsVisits}
 use Rattle.ia32_shows.specs.Placements.{Code, point_address}
 use Rattle.ia32_shows.specs.Shows.{IsArrayAt, ReturnsTo, Shows}
@@ -74,11 +74,7 @@ ArraysFound =
 
 -- ---- visits
 
--- what a map lists are locals of the statement's function
-abbrev pub MapListsLocals : Type 0
-MapListsLocals = (program : Program) (code : Code) (m : Map) → HasMap program code m → ListsLocals program (listed m)
-
--- At a mark a map shows the statement and the values of the locals that are declared before it, and nothing elsewhere.
+-- At a mark a map shows the statement and the values of the parts of locals that it lists, and nothing elsewhere.
 abbrev pub MapShowsVisits : Type 0
 MapShowsVisits =
     (program : Program) (code : Code) (m : Map) → HasMap program code m

@@ -1,5 +1,5 @@
 ghost use Rattle.map_visits.specs.Laws.{NoneBetween, FunctionsFound, FramesFound};
-ghost use Rattle.map_visits.specs.Laws.{ArraysFound, MapListsLocals, MapShowsVisits};
+ghost use Rattle.map_visits.specs.Laws.{ArraysFound, MapShowsVisits};
 
 /// Between a call's point and its return address no point of the program stands, so the function of the point with the
 /// greatest address below the return address is the one that calls. The frames at a mark are those of the active calls,
@@ -15,9 +15,8 @@ pub fn arrays_are_found()
     ensures { ArraysFound }
 {}
 
-/// What a map of a typed program lists are locals of each statement's function. At a mark it shows the statement and the
-/// values of the locals that are declared before it, and nothing elsewhere.
+/// At a mark a map of a typed program shows the statement and the values of the parts of locals that it lists, and nothing
+/// elsewhere.
 pub fn visits_are_shown()
-    ensures lists { MapListsLocals }
-    ensures visits { MapShowsVisits }
+    ensures { MapShowsVisits }
 {}
