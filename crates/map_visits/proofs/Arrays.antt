@@ -1,5 +1,5 @@
 -- The array that a map finds by its address is that array.
-use Rattle.std.proofs.Common.{◌≡◌, ◌≢◌, ℕ, zero, suc, ◌+◌, ◌-◌, ◌*◌, ◌<◌, ◌≤◌, Bool, List, [], ◌∷◌, length, map, Option}
+use Rattle.std.proofs.Common.{◌≡◌, ◌≢◌, ℕ, zero, suc, ◌+◌, ◌-◌, ◌*◌, ◌<◌, ◌≤◌, Bool, List, [], ◌∷◌, length, map}
 use Rattle.std.proofs.Common.{Some, None, inl, inr, refl, sym, ap, subst, ◌∙◌, ◌⊎◌, arith}
 use Rattle.std.specs.Prelude.{if◌then◌else◌, slice_get}
 use Rattle.std.proofs.lemmas.Bool.Decides.{eqb_tells}
@@ -24,7 +24,7 @@ use Rattle.ia32_keeps.specs.Laws.{data_end}
 use Rattle.ia32_keeps.proofs.Objects.{object-in, objects-apart}
 use Rattle.ia32_keeps.proofs.Regions.{IsArrayOf, array-above}
 use Rattle.ia32_keeps.proofs.Zones.{activation-at, calls-above, frame_size}
-use Rattle.pcc_listing.specs.Maps.{Map, MapArray, MapFunction, MapObject}
+use Rattle.pcc_listing.specs.Maps.{Map, MapArray, MapObject}
 use Rattle.pcc_listing.specs.Marks.{Frame, array_in, array_named, arrays_below, arrays_of, in_frame, named_in_frames}
 use Rattle.pcc_listing.specs.Marks.{objects_of, place_of, static_or}
 use Rattle.program_map.specs.Belongs.{arrays_at, objects_at}
@@ -164,8 +164,8 @@ objects-differ start objects j k one two lt at there =
     let many = length-addresses (start + 4) objects in
     let o = at-within objects j (omega (arith, slice_get_within (object_addresses (start + 4) objects) j one at, many))
     in
-    let p = at-within objects k (omega (arith, slice_get_within (object_addresses (start + 4) objects) k two there, many))
-    in
+    let p = at-within objects k
+    (omega (arith, slice_get_within (object_addresses (start + 4) objects) k two there, many)) in
     let different : j ≢ k = omega (arith, lt) in
     apart (o.0.width * length o.0.elements) (p.0.width * length p.0.elements)
     (objects-apart start objects j k one two o.0 p.0 different o.1 at p.1 there)
@@ -296,8 +296,8 @@ frame-found program code m input g s k depth word has state shown h =
     let a = h.activation in
     let f : ℕ = a.function in
     let c : ℕ = length (active_of g) - depth in
-    let lt : f < length code.program.functions = (activation-at code (active_of g) c a state.active h.of_depth).1.function
-    in
+    let lt : f < length code.program.functions =
+    (activation-at code (active_of g) c a state.active h.of_depth).1.function in
     let mine = array-of code g shown.frames k depth word state h in
     let above = array-above code input g s c k word mine.0 h.elements supported state shown mine.1 in
     let inside = (supported.supports f lt).arrays.inside k h.below mine.1.array mine.1.declared h.placed in

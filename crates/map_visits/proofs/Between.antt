@@ -17,7 +17,7 @@ use Rattle.flow_graph.specs.States.{Activation, Waiting, flow_at, point_after}
 use Rattle.flow_graph.specs.WellFormed.{IsWaiting}
 use Rattle.graph_states.proofs.Values.{graph-of}
 use Rattle.ia32_shows.specs.Placements.{Code, Placement, address_in, placement_of, point_address}
-use Rattle.ia32_shows.specs.Shows.{IsInside, ReturnsTo, up_to_call}
+use Rattle.ia32_shows.specs.Shows.{IsInside, ReturnsTo}
 use Rattle.ia32_rows.specs.Rows.{behind_call, selected}
 use Rattle.ia32_rows.proofs.ItemKinds.{item-room, later, point-address}
 use Rattle.ia32_rows.proofs.Laid.{at-place, point-among}
@@ -152,7 +152,7 @@ returns-within code w younger address q is_selected below waits returns next =
     let behind : List Item = behind_call (place_behind code f w.point waits.result) (length waits.words) in
     let more = b.follows q next in
     let stand : ItemsAt (site_of code f).symbols (site_of code f).places address (behind ++ (item.Point q ∷ more.0))
-        b.stands.bytes =
+    b.stands.bytes =
     subst (λ (rest : List Item). ItemsAt (site_of code f).symbols (site_of code f).places address (behind ++ rest)
     b.stands.bytes) more.1 b.stands.stand in
     subst (λ (n : ℕ). address ≤ n) (sym (address-at code.places f q))
@@ -184,11 +184,11 @@ own-point code w younger address block q is_selected below waits (
     let own : (n : ℕ) → places.points n ≡ point_address code f n =
     λ n. sym (ap (λ (o : Option Places). address_in o n) placed) in
     let call-items : ItemsAt code.symbols places start
-        (front ++ (item.Point w.point ∷ (middle ++ (item.CallFunction callee ∷ [])))) before =
+    (front ++ (item.Point w.point ∷ (middle ++ (item.CallFunction callee ∷ [])))) before =
     subst (λ (l : List Item). ItemsAt code.symbols places start l before)
     (regrouped front middle (item.Point w.point) (item.CallFunction callee)) upto in
     let parts : selected flow placement
-        ≡ front ++ (item.Point w.point ∷ (middle ++ (item.CallFunction callee ∷ back))) =
+    ≡ front ++ (item.Point w.point ∷ (middle ++ (item.CallFunction callee ∷ back))) =
     same_Some (selected flow placement) items (sym (is_selected.items f below) ∙ of-f) ∙ is
     ∙ grouped front middle back (item.Point w.point) (item.CallFunction callee) in
     let j = point-among flow placement q block stands in

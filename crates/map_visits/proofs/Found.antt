@@ -1,5 +1,5 @@
 -- The function that a map finds by a return address is that of the call that waits.
-use Rattle.std.proofs.Common.{◌≡◌, ◌⊎◌, ℕ, zero, suc, ◌+◌, ◌<◌, ◌≤◌, Bool, true, false, List, [], ◌∷◌, length, map}
+use Rattle.std.proofs.Common.{◌≡◌, ◌⊎◌, ℕ, ◌+◌, ◌<◌, ◌≤◌, Bool, true, false, List, [], ◌∷◌, length}
 use Rattle.std.proofs.Common.{Option, Some, None, inl, inr, refl, sym, ap, subst, ◌∙◌, arith}
 use Rattle.std.specs.Prelude.{◌&&◌, if◌then◌else◌, nat_le, nat_lt, option_map, slice_get}
 use Rattle.std.proofs.lemmas.Bool.Decides.{nat_tests}
@@ -64,9 +64,9 @@ one-more address sought best p points false below near low own there go e =
     go best low own (elim there [
       | inl same ↦ inl same
       | inr among ↦ elim among [
-          | inl is ↦ absurd (not-both p.0 address best.0 sought.0 e (ap (λ (x : ℕ × ℕ). x.0) is) below low)
-          | inr more ↦ inr more
-        ]
+        | inl is ↦ absurd (not-both p.0 address best.0 sought.0 e (ap (λ (x : ℕ × ℕ). x.0) is) below low)
+        | inr more ↦ inr more
+      ]
     ])
 
 found-after : (address : ℕ) (sought best : ℕ × ℕ) (points : List (ℕ × ℕ)) → sought.0 < address

@@ -9,12 +9,12 @@ use Rattle.ia32_insn.specs.Meaning.{load, word_of}
 use Rattle.ia32_insn.specs.Items.{data_start, stack_end}
 use Rattle.flow_graph.specs.States as graph
 use Rattle.flow_graph.specs.States.{Activation, Waiting, active_of}
-use Rattle.flow_graph.specs.WellFormed.{AreActivations, IsState}
+use Rattle.flow_graph.specs.WellFormed.{AreActivations}
 use Rattle.ia32_shows.specs.Placements.{Code, objects_of}
-use Rattle.ia32_shows.specs.Shows.{Shows, WaitFrom}
+use Rattle.ia32_shows.specs.Shows.{WaitFrom}
 use Rattle.ia32_keeps.proofs.Zones.{bounds}
 use Rattle.pcc_listing.specs.Maps.{Map}
-use Rattle.pcc_listing.specs.Marks.{Frame, MarkAt, caller_of, depth_of, frames_from, frames_of, word_at}
+use Rattle.pcc_listing.specs.Marks.{Frame, caller_of, depth_of, frames_from, word_at}
 use Rattle.map_visits.specs.Laws.{FramesFound, HasMap, frames_at}
 use Rattle.map_visits.proofs.Found.{functions-found}
 use Rattle.map_visits.proofs.Memory.{AreReadable, depth-read, load-number, sound-readable}
@@ -60,6 +60,6 @@ frames-found program code m mark input g s h state shown same =
     let ebp : Option ℕ = Some (register Ebp s.registers) in
     ap (λ (n : ℕ). frames_from m s.memory n ebp (Some mark.function)) depth
     ∙ ap (λ (f : ℕ). frames_from m s.memory (suc (length g.waiting)) ebp (Some f)) same
-    ∙ chain-frames program code m (active_of g) shown.frames s g.current (word_of Ebp s) g.waiting shown.older h readable
-    state.active shown.chain
+    ∙ chain-frames program code m (active_of g) shown.frames s g.current (word_of Ebp s) g.waiting shown.older h
+    readable state.active shown.chain
     ∙ ap (frames_at (active_of g)) (sym shown.youngest)

@@ -1,11 +1,11 @@
 -- The marks of a map, by their points, and what is visited where.
-use Rattle.std.specs.List.{All, AllByRecursion}
-use Rattle.std.proofs.Common.{◌≡◌, ◌≢◌, ◌⊎◌, ℕ, zero, suc, ◌+◌, ◌<◌, Bool, List, [], ◌∷◌, length, map, Option, Some, None}
+use Rattle.std.specs.List.{AllByRecursion}
+use Rattle.std.proofs.Common.{◌≡◌, ◌≢◌, ℕ, zero, suc, ◌+◌, ◌<◌, Bool, List, [], ◌∷◌, length, map, Some}
 use Rattle.std.proofs.Common.{inl, inr, refl, sym, ap, subst, ◌∙◌, arith}
 use Rattle.std.specs.Prelude.{filter_map, if◌then◌else◌, option_map, slice_get, slice_index_or}
 use Rattle.std.proofs.lemmas.Bool.Decides.{eqb_tells}
 use Rattle.std.proofs.lemmas.Option.{none-some, same_Some}
-use Rattle.pcc_base.specs.Outcome.{Part, Visit}
+use Rattle.pcc_base.specs.Outcome.{Part}
 use Rattle.c_tree.specs.Program.{Program}
 use Rattle.ia32_insn.specs.State as machine
 use Rattle.flow_graph.specs.declared.op.Op.{Op}
@@ -17,7 +17,7 @@ use Rattle.lower_lines.specs.Lowering.{first_statement}
 use Rattle.ia32_shows.specs.Placements.{Code, placement_of, point_address}
 use Rattle.ia32_shows.specs.Shows.{Shows}
 use Rattle.ia32_standing.proofs.Apart.{points-apart}
-use Rattle.pcc_listing.specs.Maps.{Map, MapFunction, MapPoint, Standing, points_of}
+use Rattle.pcc_listing.specs.Maps.{Map, MapFunction, MapPoint, points_of}
 use Rattle.pcc_listing.specs.Marks.{MarkAt, listed_by, mark_at, marked, marks_of, part_of, variables_in, visit_at}
 use Rattle.pcc_listing.specs.Marks.{visits_by}
 use Rattle.program_map.specs.Belongs.{IsMarkOf, IsPointOf}

@@ -1,40 +1,36 @@
 -- A map shows at its marks what its graphs show there, and nothing elsewhere.
-use Rattle.std.specs.List.{All, AllByRecursion, cons_option}
-use Rattle.std.proofs.Common.{◌≡◌, ◌⊎◌, ℕ, zero, suc, ◌+◌, ◌-◌, ◌<◌, ◌≤◌, ◌^◌, Bool, List, [], ◌∷◌, ◌++◌, length, map}
+use Rattle.std.specs.List.{All, cons_option}
+use Rattle.std.proofs.Common.{◌≡◌, ◌⊎◌, ℕ, ◌+◌, ◌<◌, ◌≤◌, ◌^◌, List, [], ◌∷◌, map}
 use Rattle.std.proofs.Common.{Option, Some, None, inl, inr, refl, sym, ap, subst, ◌∙◌, arith}
-use Rattle.std.specs.Prelude.{filter_map, flat_map, if◌then◌else◌, option_map, slice_get, take}
-use Rattle.std.proofs.lemmas.Bool.{le-ltb, lt-ltb}
+use Rattle.std.specs.Prelude.{filter_map, option_map, slice_get}
 use Rattle.std.proofs.lemmas.List.Elements.{All-head, recursion_from_All}
-use Rattle.std.proofs.lemmas.List.Sums.{sum_by-cons}
 use Rattle.std.proofs.lemmas.Option.{none-some, same_Some, slice_get-map}
 use Rattle.std.proofs.lemmas.Simd.{map-map}
 use Rattle.pcc_base.specs.declared.run.Width.{Width}
 use Rattle.pcc_base.specs.Outcome.{AreKnown, IsKnown, Part, Value, Visit}
-use Rattle.c_tree.specs.Program.{Function, Local, Program}
+use Rattle.c_tree.specs.Program.{Local, Program}
 use Rattle.c_tree.specs.WellTyped.{IsScalar, IsTypedFunction}
 use Rattle.ia32_regs.specs.declared.names.Reg32.TheVariants.{Esp, Ebp}
 use Rattle.ia32_places.specs.Places.{Place}
 use Rattle.ia32_insn.specs.State as machine
 use Rattle.ia32_insn.specs.Items.{data_start, stack_end}
 use Rattle.ia32_insn.specs.Meaning.{word_of}
-use Rattle.flow_graph.specs.declared.op.Op.{Op}
 use Rattle.flow_graph.specs.declared.op.Op.TheVariants as op
-use Rattle.flow_graph.specs.Running.{GraphAt, part_value, visits_at}
+use Rattle.flow_graph.specs.Running.{part_value, visits_at}
 use Rattle.flow_graph.specs.States as graph
 use Rattle.flow_graph.specs.States.{active_of, flow_at, op_at}
 use Rattle.flow_graph.specs.WellFormed.{IsState}
 use Rattle.graph_states.proofs.Keeping.{states_are_states}
 use Rattle.graph_states.proofs.Lists.{all-at}
-use Rattle.lower_lines.specs.Lowering.{first_statement}
-use Rattle.lower_lines.specs.Shown.{IsPartOf, locals_at, numbers_of, variable_part, variables_shown}
+use Rattle.lower_lines.specs.Shown.{locals_at, variable_part, variables_shown}
 use Rattle.ia32_shows.specs.Paths.{IsAt, IsClear}
 use Rattle.ia32_shows.specs.Placements.{Code, objects_of, placement_of}
 use Rattle.ia32_shows.specs.Shows.{Shows, StandsIn}
 use Rattle.ia32_keeps.specs.Supports.{HoldsWidth}
 use Rattle.ia32_keeps.proofs.Zones.{bounds}
-use Rattle.pcc_listing.specs.Maps.{Map, MapVariable, Named, Standing, Temporary}
-use Rattle.pcc_listing.specs.Marks.{Frame, MarkAt, frames_of, listed, marks_of, name_in, part_of, value_named, value_of}
-use Rattle.pcc_listing.specs.Marks.{values_of, variables_in, variables_of, visit_at, visits_of}
+use Rattle.pcc_listing.specs.Maps.{Map, MapVariable, Standing, Temporary}
+use Rattle.pcc_listing.specs.Marks.{Frame, MarkAt, frames_of, listed, marks_of, part_of, value_named, value_of}
+use Rattle.pcc_listing.specs.Marks.{values_of, variables_in, variables_of, visits_of}
 use Rattle.map_laws.proofs.Owners.{owner-locals}
 use Rattle.map_visits.specs.Laws.{HasMap, MapShowsVisits, frames_at}
 use Rattle.map_visits.proofs.Among.{IsAmong, all-among, among-map, to-filter}
@@ -44,7 +40,7 @@ use Rattle.map_visits.proofs.Marks.{IsMarkIn, at-point, lists-parts, mark-in, ma
 use Rattle.map_visits.proofs.Marks.{not-visited, one-mark, visited}
 use Rattle.map_visits.proofs.Memory.{sound-readable}
 use Rattle.map_visits.proofs.Values.{IsReadAt, role-shown}
-use Rattle.map_visits.proofs.Variables.{IsKnownVariable, IsOfLocal, IsOfNone, part-is, part-none}
+use Rattle.map_visits.proofs.Variables.{IsKnownVariable, part-is, part-none}
 use Rattle.map_visits.proofs.Variables.{part-shown, role_name, role_part, variable-known}
 
 -- ---- the function of a mark
@@ -140,8 +136,8 @@ read-at program code m mark input g s standing variable h state shown r here has
       inside = for_place.inside;
       holds = subst (λ (w : Option Width). HoldsWidth w standing.place) width for_place.holds;
       stands = λ value e.
-          subst (λ (w : Option Width). StandsIn code (active_of g) shown.frames s (word_of Ebp s) w value standing.place)
-          width (shown.variables v value standing.place e placed);
+          subst (λ (w : Option Width).
+          StandsIn code (active_of g) shown.frames s (word_of Ebp s) w value standing.place) width (shown.variables v value standing.place e placed);
     }
   where
     lower : (e t : ℕ) → e + 8 ≤ t → t < 4294967296 → e < 2 ^ 32
@@ -259,7 +255,8 @@ mark-shown program code m mark input g s h state shown has among at (r, here) kn
     let values = values-shown program code m mark input g s h state shown r here has
     (λ part inside. all-among IsKnown (part_value g (variable_part r.own.function.locals part))
     (map (part_value g) (map (variable_part r.own.function.locals) parts)) are-known
-    (among-map (part_value g) (variable_part r.own.function.locals part) (map (variable_part r.own.function.locals) parts)
+    (among-map (part_value g) (variable_part r.own.function.locals part)
+    (map (variable_part r.own.function.locals) parts)
     (among-map (variable_part r.own.function.locals) part parts inside))) in
     visited m s mark (marks_of m) among at
     (λ other more e. mark-is program code m input g s mark.statement h shown has other mark more among e at)

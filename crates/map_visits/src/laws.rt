@@ -15,8 +15,8 @@ pub fn arrays_are_found()
     ensures { ArraysFound }
 {}
 
-/// At a mark a map of a typed program shows the statement and the values of the parts of locals that it lists, and nothing
-/// elsewhere.
+/// At a mark a map of a typed program shows the statement and the values of the parts of locals that it lists, and
+/// nothing elsewhere.
 pub fn visits_are_shown()
     ensures { MapShowsVisits }
 {}
