@@ -1,0 +1,3 @@
+mod Data
+mod Framed
+mod Frames
