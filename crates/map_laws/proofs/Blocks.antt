@@ -31,7 +31,8 @@ pub every-from : (P : ℕ → Type 0) (xs : List ℕ) → ((p : ℕ) → IsIn p 
 every-from P [] all = tt
 every-from P (x ∷ xs) all = (all x (inl refl), every-from P xs (λ p within. all p (inr within)))
 
-pub every-both : (P : ℕ → Type 0) (xs ys : List ℕ) → AllByRecursion P xs → AllByRecursion P ys → AllByRecursion P (xs ++ ys)
+pub every-both : (P : ℕ → Type 0) (xs ys : List ℕ) → AllByRecursion P xs → AllByRecursion P ys
+    → AllByRecursion P (xs ++ ys)
 every-both P [] ys all more = more
 every-both P (x ∷ xs) ys all more = (all.0, every-both P xs ys all.1 more)
 

@@ -27,7 +27,8 @@ use Rattle.flow_graph.specs.WellFormed.{IsGraph, NamesWithin}
 use Rattle.flow_graph.proofs.Points.{every-in}
 use Rattle.lower_lines.specs.Lowering.{array_of}
 use Rattle.lower_lines.specs.Shown.{declared_before, local_widths}
-use Rattle.ia32_insn.specs.Items.{data_bytes, data_memory, data_start, object_addresses, round_up, stack_end, text_start}
+use Rattle.ia32_insn.specs.Items.{data_bytes, data_memory, data_start, object_addresses, round_up, stack_end}
+use Rattle.ia32_insn.specs.Items.{text_start}
 use Rattle.ia32_insn.specs.Items as items
 use Rattle.ia32_shows.specs.Paths.{IsAt}
 use Rattle.ia32_shows.specs.Placements.{Code, Placement, objects_of, point_address}
@@ -36,7 +37,8 @@ use Rattle.ia32_keeps.specs.Supports.{AreArraysIn, IsArrayIn, size_of}
 use Rattle.ia32_keeps.proofs.Objects.{object-in}
 use Rattle.ia32_standing.specs.Laws.{PointsStand}
 use Rattle.pcc_listing.specs.Maps.{AreElements, IsMap, IsMapArray, IsMapFunction, IsMapObject, IsMapOp, IsMapPoint}
-use Rattle.pcc_listing.specs.Maps.{IsMapVariable, IsStanding, Map, MapArray, MapFunction, MapObject, MapPoint, MapVariable}
+use Rattle.pcc_listing.specs.Maps.{IsMapVariable, IsStanding, Map, MapArray, MapFunction, MapObject, MapPoint}
+use Rattle.pcc_listing.specs.Maps.{MapVariable}
 use Rattle.pcc_listing.specs.Maps.{flow_of, points_of}
 use Rattle.program_map.specs.Belongs.{arrays_at, local_variables, objects_at, temporary, typed_variables}
 use Rattle.program_map.specs.ProgramMap.{Homes, all_points, frame_bytes, function_over, functions_over, points_over}
@@ -224,7 +226,8 @@ points-ruled stand program homes code k f flow h is at =
     let (b, stands) = placed-in flow p within in
     let there = stand code k b p o is.selected below (subst (λ (w : Flow). Stands w p b) (sym whole) stands)
     (ap (λ (w : Flow). slice_get w.ops p) whole ∙ has) in
-    text-small code.text (address p) there.stands.bytes end there.stands.here (omega arith) is.selected.supported.fits in
+    text-small code.text (address p) there.stands.bytes end there.stands.here (omega arith)
+    is.selected.supported.fits in
     let number : (p : ℕ) (o : Op) → slice_get flow.ops p ≡ Some o → p < 2 ^ 32 =
     λ p o has. omega (arith, slice_get_within flow.ops p o has, flows.few_points) in
     each-point (IsMapPoint m g) f h.slots address flow.ops (all_points flow)
@@ -255,7 +258,8 @@ points-ruled stand program homes code k f flow h is at =
     let fs = program.functions in
     let inside : NamesWithin (length code.program.functions) (length code.program.objects) o =
     op-all (NamesWithin (length code.program.functions) (length code.program.objects)) flow.ops p o
-    (recursion_from_All (NamesWithin (length code.program.functions) (length code.program.objects)) flow.ops graph.names)
+    (recursion_from_All (NamesWithin (length code.program.functions) (length code.program.objects)) flow.ops
+    graph.names)
     has in
     let as_many = functions-many 0 fs code.program.functions homes (point_address code) is.shapes.as_many is.as_many in
     record {
