@@ -1,6 +1,6 @@
 //! Tests of the public calls of the crates `ia32_..`: what registers, memory and arithmetic do (`registers`,
 //! `memory`, `arithmetic`), the bytes of instructions there and back (`spellings`, `decoding`), the sections of items
-//! (`items`), the items of graphs (`selection`), and runs of images (`machine`).
+//! (`items`), the items of graphs (`selection`) and of a function (`functions`), and runs of images (`machine`).
 //!
 //! They stand in a crate of their own since a crate with tests is proved a second time; this one needs only
 //! what those crates promise.
@@ -18,6 +18,8 @@ macro_rules! spellings {
 mod arithmetic;
 #[cfg(test)]
 mod decoding;
+#[cfg(test)]
+mod functions;
 #[cfg(test)]
 mod items;
 #[cfg(test)]
