@@ -1,7 +1,8 @@
-//! The law of visits, as the contract of a function that does nothing.
+//! The laws of visits: each function's contract is one, and the function does nothing.
 
-ghost use Rattle.lower_visits.specs.Laws.{VisitsAreKnown};
+ghost use Rattle.lower_visits.specs.Laws.{GraphVisitsAreKnown, VisitsAreKnown};
 
+use flow_graph::one_outcome;
 use lower_calls::statements_are_own;
 
 /// Every value that a visit of a typed program shows is a number or a known array.
@@ -9,4 +10,12 @@ pub fn visits_are_known()
     ensures { VisitsAreKnown }
 {
     statements_are_own();
+}
+
+/// So is every value that graphs show at their marks which keep the program's outcome.
+pub fn graph_visits_are_known()
+    ensures { GraphVisitsAreKnown }
+{
+    one_outcome();
+    visits_are_known();
 }

@@ -3,4 +3,4 @@
 
 mod laws;
 
-pub use laws::visits_are_known;
+pub use laws::{graph_visits_are_known, visits_are_known};
