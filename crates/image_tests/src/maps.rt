@@ -1,5 +1,6 @@
 //! Texts of maps and of their parts, by hand.
 
+use flow_graph::Words;
 use pcc_base::{Name, Width};
 use pcc_listing::{Line, Named, Standing, print_lines, push_address, push_number};
 use std::test::Fail;
