@@ -1,0 +1,6 @@
+//! Laws on what is live in the graphs of typed programs. No code; `specs/Laws.antt` has the laws.
+#![tactic(auto)]
+
+mod laws;
+
+pub use laws::{functions_settle, liveness_holds};
