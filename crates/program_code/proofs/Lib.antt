@@ -1,3 +1,3 @@
-mod Data
-mod Framed
+pub mod Data
+pub mod Framed
 mod Frames

@@ -1,0 +1,8 @@
+mod Does
+mod Linking
+mod Loops
+mod Mapped
+mod Numbered
+mod Passed
+mod Placed
+mod Shows

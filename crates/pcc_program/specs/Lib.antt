@@ -1,0 +1,3 @@
+pub mod Laws
+pub mod Passes
+pub mod Programs
