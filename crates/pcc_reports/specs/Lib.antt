@@ -1,0 +1,4 @@
+pub mod Causes
+pub mod Ends
+pub mod Outside
+pub mod Reports
