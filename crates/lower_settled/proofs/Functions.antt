@@ -69,7 +69,7 @@ parameters-flow c B D (l ∷ ls) local word =
 
 -- ---- sets by the numbers of blocks
 
-abbrev set_of : List (List ℕ) → ℕ → List ℕ
+abbrev pub set_of : List (List ℕ) → ℕ → List ℕ
 set_of [] block = []
 set_of (set ∷ sets) zero = set
 set_of (set ∷ sets) (suc block) = set_of sets block
@@ -85,7 +85,7 @@ agrees-from B block (set ∷ sets) h =
           subst (λ (k : ℕ). B k ≡ set_of sets i) e (h (suc i))),
     )
 
-own-agrees : (set : List ℕ) (sets : List (List ℕ)) → Agrees (λ block. set_of (set ∷ sets) block) 1 sets
+pub own-agrees : (set : List ℕ) (sets : List (List ℕ)) → Agrees (λ block. set_of (set ∷ sets) block) 1 sets
 own-agrees set sets = agrees-from (λ block. set_of (set ∷ sets) block) 1 sets
     (λ i. let e : suc i ≡ 1 + i = omega arith in
     subst (λ (k : ℕ). set_of (set ∷ sets) k ≡ set_of sets i) e refl)

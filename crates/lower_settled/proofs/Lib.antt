@@ -6,3 +6,6 @@ pub mod Items
 pub mod Switches
 pub mod Statements
 pub mod Functions
+pub mod Known
+pub mod Declared
+pub mod First

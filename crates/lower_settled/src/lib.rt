@@ -3,4 +3,4 @@
 
 mod laws;
 
-pub use laws::{functions_settle, liveness_holds};
+pub use laws::{first_points_hold, functions_settle, liveness_holds};
