@@ -1,5 +1,5 @@
-//! Tests of `c_types`: small programs with their least fault and its place, programs that are typed, and programs that
-//! are above a limit.
+//! Tests of `c_types`: small programs with their least fault and its place, programs that are typed, programs that are
+//! above a limit, and what sums are.
 //!
 //! A row is a program, each line of it a file, with an `@` before the token at which the fault stands.
 #![tactic(auto)]
@@ -16,3 +16,5 @@ mod rows;
 mod statements;
 #[cfg(test)]
 mod typed;
+#[cfg(test)]
+mod values;

@@ -3,6 +3,7 @@
 use c_lexer::{advance, lex};
 use c_parser::parse;
 use c_syntax::RawUnit;
+use c_tree::Program;
 use c_types::check;
 use pcc_base::{Refusal, Span};
 use std::alloc::{AllocError, Global};
@@ -80,13 +81,13 @@ fn parsed_files(alloc: Global, files: &[Vec<u8>]) -> Result<(Vec<RawUnit>, Span)
     Ok((units, end))
 }
 
+/// The typed program of the files.
+pub fn typed(alloc: Global, files: &[Vec<u8>]) -> Result<Program, Refusal> {
+    let (units, end) = parsed_files(alloc, files)?;
+    check(alloc, units.as_slice(), end)
+}
+
 /// Why the files are refused, if they are.
 pub fn answer(alloc: Global, files: &[Vec<u8>]) -> Option<Refusal> {
-    match parsed_files(alloc, files) {
-        Err(refusal) => Some(refusal),
-        Ok((units, end)) => match check(alloc, units.as_slice(), end) {
-            Ok(_) => None,
-            Err(refusal) => Some(refusal),
-        },
-    }
+    typed(alloc, files).err()
 }
