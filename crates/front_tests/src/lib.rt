@@ -1,12 +1,9 @@
-//! Tests of the public calls of `c_lexer` (`tokens`), `c_parser` (`trees`), `c_locals` (`programs`) and
-//! `c_tree` (`types`).
+//! Tests of the public calls of `c_lexer` (`tokens`), `c_parser` (`trees`) and `c_tree` (`types`).
 //!
 //! They stand in a crate of their own since a crate with tests is proved a second time; this one needs only
 //! what those crates promise.
 #![tactic(auto)]
 
-#[cfg(test)]
-mod programs;
 #[cfg(test)]
 mod tokens;
 #[cfg(test)]
