@@ -70,6 +70,11 @@ fn compiles_and_runs(rt: HostRuntime) -> Result<(), Fail> {
         ("int main(void){return 0;}\n", "", "exit 0\n"),
         ("int main(void){return 2147483647;}", "", "exit 255\n"),
         ("int main(void){return 07;}", "", "exit 7\n"),
+        (
+            "int main(void){char c=200; return c<0?c+100:1;}",
+            "",
+            "exit 44\n",
+        ),
         ("int main(void)<%return 7;%>\n\n", "", "exit 7\n"),
         (markers, "", "exit 7\n"),
         (
@@ -96,8 +101,7 @@ fn compiles_and_runs(rt: HostRuntime) -> Result<(), Fail> {
     Ok(())
 }
 
-/// A source that is no program, or is of a form that isn't compiled yet, is refused with its fault and its place, and
-/// nothing is written.
+/// A source that is no program is refused with its fault and its place, and nothing is written.
 #[test]
 fn refuses_sources(rt: HostRuntime) -> Result<(), Fail> {
     let alloc = rt.alloc();
@@ -105,7 +109,6 @@ fn refuses_sources(rt: HostRuntime) -> Result<(), Fail> {
     for _ in 0..65_537 {
         semicolons.push(';')?;
     }
-    let not_yet = "a.c:1:1: 26 NotYet\n";
     for (source, status, line) in [
         ("int main(void){return @;}", 1, "a.c:1:23: 1 BadByte\n"),
         ("int main(void){return 08;}", 1, "a.c:1:23: 2 BadNumber\n"),
@@ -131,9 +134,8 @@ fn refuses_sources(rt: HostRuntime) -> Result<(), Fail> {
             1,
             "a.c:1:16: 6 Unsupported goto\n",
         ),
-        ("int main(void){int x=1; return x*2;}", 1, not_yet),
-        ("int main(void){return x;}", 1, not_yet),
-        ("", 1, not_yet),
+        ("int main(void){return x;}", 1, "a.c:1:23: 9 Undeclared\n"),
+        ("", 1, "a.c:1:1: 18 NoMain\n"),
         (semicolons.as_str(), 3, "limit 20 Tokens 65537\n"),
     ] {
         let mut files = files_with(alloc, source, 0)?;
@@ -230,7 +232,7 @@ fn tells_usage(rt: HostRuntime) -> Result<(), Fail> {
     Ok(())
 }
 
-/// Sources are read in their order, then lexed in it, and then parsed in it; more than one isn't compiled yet.
+/// Sources are read in their order, then lexed in it, and then parsed in it.
 #[test]
 fn refuses_several_sources(rt: HostRuntime) -> Result<(), Fail> {
     let alloc = rt.alloc();
@@ -246,9 +248,7 @@ fn refuses_several_sources(rt: HostRuntime) -> Result<(), Fail> {
         }
     }
     for (sources, status, err) in [
-        ("a.c b.c", 1, "a.c:1:1: 26 NotYet\n"),
-        ("b.c a.c", 1, "b.c:1:1: 26 NotYet\n"),
-        ("a.c a.c", 1, "a.c:1:1: 26 NotYet\n"),
+        ("a.c a.c", 1, "a.c:1:5: 8 Redeclared\n"),
         ("a.c x.c byte.c", 6, "no file x.c\n"),
         ("x.c y.c", 6, "no file x.c\n"),
         ("a.c byte.c", 1, "byte.c:2:9: 1 BadByte\n"),

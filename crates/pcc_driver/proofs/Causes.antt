@@ -1,47 +1,20 @@
 -- Where the statuses come from that the outside or the limit on tokens causes.
-use Rattle.std.proofs.Common.{◌≡◌, ℕ, Result, Ok, Err, sym, ap, ◌∙◌, inl, inr, refl, arith}
+use Rattle.std.proofs.Common.{◌≡◌, ℕ, Vec, Global, sym, ◌∙◌, inl, inr, refl, arith}
 use Rattle.std.specs.Prelude.{◌⊎◌}
 use Rattle.pcc_base.specs.Counts.{Rose}
-use Rattle.pcc_outside.specs.Streams.{SinkCounts, CountsPut}
-use Rattle.pcc_outside.specs.declared.sink.WriteRefusal.{WriteRefusal}
-use Rattle.pcc_outside.specs.declared.sink.WriteRefusal.TheVariants as put
-use Rattle.pcc_driver.specs.Answers.{HasCause, CommandTold, Ends, NothingDone, IsUnlessMemory, status_after}
+use Rattle.c_program.specs.Answers.{ManyTokens, LargeArrays, LargeFrame}
+use Rattle.pcc_reports.specs.Causes.{HasCause}
+use Rattle.pcc_reports.specs.Ends.{Ends}
+use Rattle.pcc_reports.specs.Outside.{Outside, Work}
+use Rattle.pcc_reports.specs.Reports.{status_of}
+use Rattle.pcc_reports.specs.declared.report.Report.{Report}
+use Rattle.pcc_reports.specs.declared.report.Report.TheVariants as reports
+use Rattle.pcc_reports.proofs.Ends.{ended_status, shown_status}
+use Rattle.pcc_sources.specs.Sources.{HoldAll}
+use Rattle.pcc_driver.specs.Answers.{CommandTold, NothingDone}
 use Rattle.pcc_words.specs.Asked as commands
 use Rattle.pcc_words.specs.Asked.{Command}
-use Rattle.pcc_driver.specs.Outside.{Outside, Output, Work}
 use Rattle.pcc_driver.specs.Promises.{LimitCause, HasCauses}
-use Rattle.pcc_driver.specs.Reports.{status_of}
-use Rattle.pcc_driver.specs.declared.report.Report.{Report}
-use Rattle.pcc_driver.specs.declared.report.Report.TheVariants as reports
-
--- the status after a put: that of want of memory, that of a fault that came, or the line's own
-put_status : (status : ℕ) (answer : Result Unit WriteRefusal) (counts counts' : SinkCounts)
-    → CountsPut counts counts' answer → (status_after status answer ≡ 11)
-    ⊎ (((status_after status answer ≡ 5) × Rose counts.faults counts'.faults) ⊎ (status_after status answer ≡ status))
-put_status status (Ok done) counts counts' counted = inr (inr refl)
-put_status status (Err put.Failed) counts counts' counted = inr (inl (refl, counted.0))
-put_status status (Err put.NoMemory) counts counts' counted = inl refl
-
--- the status of the line that is shown is the report's, or that of want of memory
-shown_status : (report shown : Report) (status : ℕ) → IsUnlessMemory report shown → status ≡ status_of shown → (status ≡ 11)
-    ⊎ (status ≡ status_of report)
-shown_status report shown status (inl same) e = inr (e ∙ ap status_of same)
-shown_status report shown status (inr none) e = inl (e ∙ ap status_of none)
-
--- a status that is neither 5 nor 11 is the report's
-pub ended_status : (command : Command) (report : Report) (old new : Output) (result : ℕ)
-    → Ends command report old new result → (result ≡ 11)
-    ⊎ (((result ≡ 5) × Rose old.counts.faults new.counts.faults) ⊎ (result ≡ status_of report))
-ended_status command report old new result ends =
-    let put = ends.4 in
-    elim (put_status (status_of ends.0) put.0 old.counts new.counts put.1) [
-      | inl e ↦ inl (put.3 ∙ e)
-      | inr (inl (e, rose)) ↦ inr (inl (put.3 ∙ e, rose))
-      | inr (inr e) ↦ elim (shown_status report ends.0 result ends.1 (put.3 ∙ e)) [
-        | inl none ↦ inl none
-        | inr same ↦ inr (inr same)
-      ]
-    ]
 
 -- nothing but its own report, or want of memory, is told of words that ask for nothing
 pub own_status : (own report : Report) (old new : Work) → NothingDone own old new report → (status_of report ≡ 11)
@@ -55,34 +28,62 @@ no_limit report old new told e = elim (own_status reports.Usage report old new t
   | inr usage ↦ omega (arith, usage, e)
 ]
 
--- too many tokens are told of sources that are compiled
+-- too many tokens are told of sources that are above the limit on them
 many_told : (command : Command) (old new : Work) (tokens : ℕ)
     → CommandTold command old new (reports.TooManyTokens tokens) → LimitCause command old.files
-many_told (commands.Compile name sources) old new tokens told = λ f. (told.0 f).1
+many_told (commands.Compile name sources) old new tokens told = λ f.
+    let (texts, are, above) = (told.0 f).0.1 in (texts, are, (ManyTokens, above))
 many_told (commands.Run steps image) old new tokens told = absurd told.0
 many_told (commands.Solve file) old new tokens told = absurd told.0
-many_told (commands.Eval turns sources) old new tokens told =
-    absurd (no_limit (reports.TooManyTokens tokens) old new told refl)
+many_told (commands.Eval turns sources) old new tokens told = λ f.
+    let (texts, are, above) = (told.1 f).1 in (texts, are, (ManyTokens, above))
 many_told (commands.ManyFiles count) old new tokens told = tt
 many_told commands.Usage old new tokens told = absurd (no_limit (reports.TooManyTokens tokens) old new told refl)
+
+-- too large static objects are told of such sources
+arrays_told : (command : Command) (old new : Work) (bytes : ℕ)
+    → CommandTold command old new (reports.LargeArrays bytes) → LimitCause command old.files
+arrays_told (commands.Compile name sources) old new bytes told = λ f.
+    let (texts, are, above) = (told.0 f).0 in (texts, are, (LargeArrays bytes, above))
+arrays_told (commands.Run steps image) old new bytes told = absurd told.0
+arrays_told (commands.Solve file) old new bytes told = absurd told.0
+arrays_told (commands.Eval turns sources) old new bytes told = λ f.
+    let (texts, are, above) = told.1 f in (texts, are, (LargeArrays bytes, above))
+arrays_told (commands.ManyFiles count) old new bytes told = tt
+arrays_told commands.Usage old new bytes told = absurd (no_limit (reports.LargeArrays bytes) old new told refl)
+
+-- and so is a too large frame
+frame_told : (command : Command) (old new : Work) (name : Vec ℕ Global) (bytes : ℕ)
+    → CommandTold command old new (reports.LargeFrame name bytes) → LimitCause command old.files
+frame_told (commands.Compile name sources) old new function bytes told = λ f.
+    let (texts, are, above) = (told.0 f).0 in (texts, are, (LargeFrame function.items bytes, above))
+frame_told (commands.Run steps image) old new function bytes told = absurd told.0
+frame_told (commands.Solve file) old new function bytes told = absurd told.0
+frame_told (commands.Eval turns sources) old new function bytes told = λ f.
+    let (texts, are, above) = told.1 f in (texts, are, (LargeFrame function.items bytes, above))
+frame_told (commands.ManyFiles count) old new function bytes told = tt
+frame_told commands.Usage old new function bytes told =
+    absurd (no_limit (reports.LargeFrame function bytes) old new told refl)
 
 -- too many sources are told of words that have them
 files_told : (command : Command) (old new : Work) (count : ℕ)
     → CommandTold command old new (reports.TooManyFiles count) → LimitCause command old.files
-files_told (commands.Compile name sources) old new count told = λ f. absurd (told.0 f)
+files_told (commands.Compile name sources) old new count told = λ f. absurd (told.0 f).0
 files_told (commands.Run steps image) old new count told = absurd told.0
 files_told (commands.Solve file) old new count told = absurd told.0
-files_told (commands.Eval turns sources) old new count told =
-    absurd (no_limit (reports.TooManyFiles count) old new told refl)
+files_told (commands.Eval turns sources) old new count told = λ f. absurd (told.1 f)
 files_told (commands.ManyFiles number) old new count told = tt
 files_told commands.Usage old new count told = absurd (no_limit (reports.TooManyFiles count) old new told refl)
 
--- a report of status 3 is of a file that is too long, or of too many tokens or sources
+-- a report of status 3 is of a file that is too long, of sources that are above a limit, or of too many sources
 limit_report : (report : Report) (command : Command) (old new : Work) → HasCause report old new
     → CommandTold command old new report → status_of report ≡ 3
     → Rose old.files.counts.too_long new.files.counts.too_long ⊎ LimitCause command old.files
 limit_report (reports.TooLong file) command old new cause told e = inl cause.files.0
 limit_report (reports.TooManyTokens tokens) command old new cause told e = inr (many_told command old new tokens told)
+limit_report (reports.LargeArrays bytes) command old new cause told e = inr (arrays_told command old new bytes told)
+limit_report (reports.LargeFrame name bytes) command old new cause told e =
+    inr (frame_told command old new name bytes told)
 limit_report (reports.TooManyFiles count) command old new cause told e = inr (files_told command old new count told)
 limit_report report command old new cause told e = absurd (omega (arith, e))
 

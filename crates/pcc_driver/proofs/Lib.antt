@@ -1,9 +1,9 @@
 pub mod Causes
 pub mod Exact
 pub mod Files
-pub mod Formed
-pub mod Reading
+pub mod Ready
 pub mod Running
 pub mod Solving
+pub mod Told
 pub mod Wanting
 pub mod Written

@@ -9,13 +9,13 @@ use Rattle.ia32_machine.specs.Runs as runs
 use Rattle.ia32_machine.specs.Runs.{Gives, GivesSoFar, GivesPart, WritesNext}
 use Rattle.ia32_machine.specs.declared.ends.MachineEnd.{MachineEnd}
 use Rattle.ia32_machine.specs.declared.ends.MachineEnd.TheVariants as machine
-use Rattle.pcc_driver.specs.declared.report.Named.TheVariants.{Source, Map, Image, Board}
-use Rattle.pcc_driver.specs.Answers.{SameStreams, ImageTold, RunTold, RunGives, RunGivesSoFar, RunGivesPart, Holds}
+use Rattle.pcc_reports.specs.declared.report.Named.TheVariants.{Source, Map, Image, Board}
+use Rattle.pcc_driver.specs.Answers.{ImageTold, RunTold, RunGives, RunGivesSoFar, RunGivesPart}
 use Rattle.pcc_driver.specs.Answers.{GivesNoMachine, IsNoImage, report_of_end}
-use Rattle.pcc_driver.specs.Headline.{file_limit}
-use Rattle.pcc_driver.specs.Outside.{Work}
-use Rattle.pcc_driver.specs.declared.report.Report.{Report}
-use Rattle.pcc_driver.specs.declared.report.Report.TheVariants as reports
+use Rattle.pcc_reports.specs.Outside.{SameStreams, Work}
+use Rattle.pcc_sources.specs.Sources.{Holds, file_limit}
+use Rattle.pcc_reports.specs.declared.report.Report.{Report}
+use Rattle.pcc_reports.specs.declared.report.Report.TheVariants as reports
 
 -- bytes that load nothing have no first state
 pub no_image : (image input : List ℕ) → ((segments : Segments) → Loads image segments → ⊥) → IsNoImage input image
@@ -34,6 +34,8 @@ no_machine_told steps (reports.SourceFault fault) content image old new same rea
 no_machine_told steps reports.Usage content image old new same read small none = absurd none
 no_machine_told steps (reports.TooLong file) content image old new same read small none = absurd none
 no_machine_told steps (reports.TooManyTokens tokens) content image old new same read small none = absurd none
+no_machine_told steps (reports.LargeArrays bytes) content image old new same read small none = absurd none
+no_machine_told steps (reports.LargeFrame name bytes) content image old new same read small none = absurd none
 no_machine_told steps (reports.TooManyFiles count) content image old new same read small none = absurd none
 no_machine_told steps (reports.ReadFault file) content image old new same read small none = absurd none
 no_machine_told steps reports.InputFault content image old new same read small none = absurd none

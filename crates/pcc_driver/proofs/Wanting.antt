@@ -4,11 +4,13 @@ use Rattle.std.specs.Prelude.{◌⊎◌}
 use Rattle.pcc_base.specs.Counts.{Rose}
 use Rattle.pcc_words.specs.Asked as commands
 use Rattle.pcc_words.specs.Asked.{Command}
-use Rattle.pcc_driver.specs.Answers.{HasCause, CommandTold, Ends}
-use Rattle.pcc_driver.specs.Outside.{Outside, Output, Work}
+use Rattle.pcc_reports.specs.Causes.{HasCause}
+use Rattle.pcc_reports.specs.Ends.{Ends}
+use Rattle.pcc_reports.specs.Outside.{Outside, Output, Work}
+use Rattle.pcc_driver.specs.Answers.{CommandTold}
 use Rattle.pcc_driver.specs.Promises.{IsFaultStatus, NoticesFaults}
-use Rattle.pcc_driver.specs.declared.report.Report.TheVariants as reports
-use Rattle.pcc_driver.proofs.Causes.{ended_status}
+use Rattle.pcc_reports.specs.declared.report.Report.TheVariants as reports
+use Rattle.pcc_reports.proofs.Ends.{ended_status}
 
 -- nothing is done
 pub wanting_caused : (work : Work) → HasCause reports.NoMemory work work
@@ -17,7 +19,7 @@ wanting_caused work = record { files = refl; streams = (refl, refl) }
 pub wanting_told : (command : Command) (work : Work) → CommandTold command work work reports.NoMemory
 wanting_told (commands.Compile name sources) work = (λ f. inl (λ other. refl), (refl, refl))
 wanting_told (commands.Run steps image) work = (tt, λ f other. refl, λ f. tt, λ f i o. inl (refl, refl))
-wanting_told (commands.Eval turns sources) work = (inr refl, λ f other. refl, (refl, refl))
+wanting_told (commands.Eval turns sources) work = (λ f other. refl, λ f. tt, λ f i o. inl (refl, refl))
 wanting_told (commands.Solve file) work = (tt, λ f other. refl, refl, λ f o. refl)
 wanting_told (commands.ManyFiles count) work = (inr refl, λ f other. refl, (refl, refl))
 wanting_told commands.Usage work = (inr refl, λ f other. refl, (refl, refl))

@@ -2,11 +2,13 @@
 use Rattle.std.proofs.Common.{◌≡◌, ◌≢◌, ℕ, List, Some, ap, ◌∙◌, inl, inr}
 use Rattle.pcc_driver.specs.Answers.{CompileTold, WritesTold, MapStands}
 use Rattle.pcc_words.specs.Asked.{map_name}
-use Rattle.pcc_driver.specs.Headline.{Files, AreRead}
+use Rattle.pcc_reports.specs.Outside.{Files, SameFiles}
+use Rattle.pcc_sources.specs.Programs.{HaveNoProgram}
+use Rattle.pcc_sources.specs.Sources.{AreRead}
 use Rattle.pcc_driver.specs.Products.{AreProducts}
-use Rattle.pcc_driver.specs.declared.report.Named.TheVariants.{Source, Map, Image, Board}
-use Rattle.pcc_driver.specs.declared.report.Report.{Report}
-use Rattle.pcc_driver.specs.declared.report.Report.TheVariants as reports
+use Rattle.pcc_reports.specs.declared.report.Named.TheVariants.{Source, Map, Image, Board}
+use Rattle.pcc_reports.specs.declared.report.Report.{Report}
+use Rattle.pcc_reports.specs.declared.report.Report.TheVariants as reports
 
 -- the map's text stands, and what else changed is the image
 map_stands : (name : List ℕ) (sources texts : List (List ℕ)) (map_bytes image : List ℕ) (old mid new : Files)
@@ -56,6 +58,10 @@ written_told (reports.Exited status) name sources texts map_bytes image old mid 
     absurd told
 written_told (reports.SourceFault fault) name sources texts map_bytes image old mid new kept read products told =
     absurd told
+written_told (reports.LargeArrays bytes) name sources texts map_bytes image old mid new kept read products told =
+    absurd told
+written_told (reports.LargeFrame function bytes) name sources texts map_bytes image old mid new kept read products told =
+    absurd told
 written_told (reports.TooManyFiles count) name sources texts map_bytes image old mid new kept read products told =
     absurd told
 written_told reports.Usage name sources texts map_bytes image old mid new kept read products told = absurd told
@@ -79,3 +85,28 @@ written_told (reports.BudgetSpent steps) name sources texts map_bytes image old 
     absurd told
 written_told reports.Solved name sources texts map_bytes image old mid new kept read products told = absurd told
 written_told reports.BadBoard name sources texts map_bytes image old mid new kept read products told = absurd told
+
+-- the report of sources without a typed program
+pub refused_told : (report : Report) (name : List ℕ) (sources : List (List ℕ)) (old new : Files)
+    → HaveNoProgram old sources report → SameFiles old new → CompileTold name sources old new report
+refused_told reports.Compiled name sources old new none same = absurd none
+refused_told (reports.WriteFault file) name sources old new none same = absurd none
+refused_told reports.NoMemory name sources old new none same = inl same
+refused_told (reports.NoFile file) name sources old new none same = (none, same)
+refused_told (reports.TooLong file) name sources old new none same = (none, same)
+refused_told (reports.SourceFault fault) name sources old new none same = (none, same)
+refused_told (reports.TooManyTokens tokens) name sources old new none same = (none, same)
+refused_told (reports.LargeArrays bytes) name sources old new none same = (none, same)
+refused_told (reports.LargeFrame function bytes) name sources old new none same = (none, same)
+refused_told (reports.ReadFault file) name sources old new none same = (none, same)
+refused_told (reports.TooManyFiles count) name sources old new none same = (none, same)
+refused_told (reports.Exited status) name sources old new none same = (none, same)
+refused_told reports.Usage name sources old new none same = (none, same)
+refused_told reports.InputFault name sources old new none same = (none, same)
+refused_told reports.OutputFault name sources old new none same = (none, same)
+refused_told reports.NotImage name sources old new none same = (none, same)
+refused_told (reports.Trapped trap) name sources old new none same = (none, same)
+refused_told (reports.Stopped at address) name sources old new none same = (none, same)
+refused_told (reports.BudgetSpent steps) name sources old new none same = (none, same)
+refused_told reports.Solved name sources old new none same = (none, same)
+refused_told reports.BadBoard name sources old new none same = (none, same)

@@ -1,15 +1,9 @@
 -- What a command leaves behind and why, by cases over its report: impossible reports are refused.
-use Rattle.std.specs.Prelude.{◌≡◌, ◌≢◌, ◌<◌, ◌≤◌, ◌⊎◌, ℕ, zero, suc, ◌+◌, List, [], ◌∷◌, ◌++◌, length, take, drop, Option, Some, None}
-use Rattle.std.specs.Prelude.{Result, Ok, Err, ⊤}
-use Rattle.pcc_base.specs.Counts.{Rose}
+use Rattle.std.specs.Prelude.{◌≡◌, ◌≢◌, ◌<◌, ◌⊎◌, ℕ, suc, ◌+◌, List, ◌++◌, length, take, drop, Option, Some, None, ⊤}
 use Rattle.pcc_base.specs.Outcome as outcome
 use Rattle.pcc_base.specs.Outcome.{Outcome}
-use Rattle.pcc_outside.specs.Files.{StoreCounts, OnlyMissing, OnlyTooLong, OnlyReadFaults, OnlyWriteFaults}
-use Rattle.pcc_outside.specs.Streams.{SinkCounts, CountsPut, PutTold}
 use Rattle.pcc_outside.specs.declared.sink.WriteRefusal.{WriteRefusal}
 use Rattle.pcc_outside.specs.declared.sink.WriteRefusal.TheVariants as put
-use Rattle.pcc_outside.specs.declared.file_store.ReadRefusal.{ReadRefusal}
-use Rattle.pcc_outside.specs.declared.file_store.ReadRefusal.TheVariants as read
 use Rattle.ia32_insn.specs.State.{State}
 use Rattle.ia32_insn.specs.Runs.{Runs, no_visits}
 use Rattle.elf_image.specs.Segments.{Segments, Loads}
@@ -20,50 +14,25 @@ use Rattle.ia32_machine.specs.declared.ends.MachineEnd.TheVariants as machine
 use Rattle.pcc_listing.specs.Lines.{map_text}
 use Rattle.pcc_listing.specs.Maps as maps
 use Rattle.c_tree.specs.Program.{Program}
-use Rattle.c_front.specs.Accepted.{IsProgram}
-use Rattle.c_front.specs.Refusals.{HaveManyTokens, IsSourceFault}
-use Rattle.pcc_compile.specs.Products.{IsImageOf}
+use Rattle.c_program.specs.Answers.{HaveTypedProgram}
+use Rattle.pcc_headline.specs.Products.{IsImageOf}
 use Rattle.puzzle_texts.specs.Reading.{IsNoBoard}
 use Rattle.pcc_words.specs.Asked.{Command, Compile, Run, Eval, Solve, ManyFiles, Usage, map_name}
-use Rattle.pcc_driver.specs.Headline.{Files, file_limit, AreRead, IsCompiled}
-use Rattle.pcc_driver.specs.Outside.{Output, Work}
-use Rattle.pcc_driver.specs.Reports.{status_of, IsShownAs}
+use Rattle.pcc_sources.specs.Programs.{HaveNoProgram}
+use Rattle.pcc_sources.specs.Sources.{AreRead, Holds, IsTooLong}
+use Rattle.pcc_reports.specs.Ends.{IsUnlessMemory}
+use Rattle.pcc_reports.specs.Outside.{Files, Output, SameFiles, SameStreams, Work}
+use Rattle.pcc_reports.specs.declared.report.Named.{Named}
+use Rattle.pcc_reports.specs.declared.report.Named.TheVariants.{Map, Image, Board}
+use Rattle.pcc_reports.specs.declared.report.Report.{Report}
+use Rattle.pcc_reports.specs.declared.report.Report.TheVariants as reports
+use Rattle.pcc_eval.specs.Evaluations.{EvalTold, SourcesTold}
+use Rattle.pcc_driver.specs.Headline.{IsCompiled}
 use Rattle.pcc_driver.specs.Solutions.{IsSolution}
-use Rattle.pcc_driver.specs.declared.report.Named.{Named}
-use Rattle.pcc_driver.specs.declared.report.Named.TheVariants.{Source, Map, Image, Board}
-use Rattle.pcc_driver.specs.declared.report.Report.{Report}
-use Rattle.pcc_driver.specs.declared.report.Report.TheVariants as reports
-
--- ---- counts
-
--- the count of the files that the report names rose, and no other
-abbrev pub FilesCause : Report → StoreCounts → StoreCounts → Type 0
-FilesCause (reports.TooLong file) old new = Rose old.too_long new.too_long × OnlyTooLong old new
-FilesCause (reports.ReadFault file) old new = Rose old.read_faults new.read_faults × OnlyReadFaults old new
-FilesCause (reports.WriteFault file) old new = Rose old.write_faults new.write_faults × OnlyWriteFaults old new
-FilesCause (reports.NoFile file) old new = Rose old.missing new.missing × OnlyMissing old new
-FilesCause _ old new = new ≡ old
-
--- the count of the input or the output that the report names rose, and no other
-abbrev pub StreamsCause : Report → ℕ → ℕ → SinkCounts → SinkCounts → Type 0
-StreamsCause reports.InputFault input input' out out' = Rose input input' × (out' ≡ out)
-StreamsCause reports.OutputFault input input' out out' = (input' ≡ input) × Rose out.faults out'.faults
-    × (out'.wants ≡ out.wants)
-StreamsCause reports.NoMemory input input' out out' = (input' ≡ input) × (out'.faults ≡ out.faults)
-StreamsCause _ input input' out out' = (input' ≡ input) × (out' ≡ out)
-
--- The count that the report has, if it has one, rose, and no other; in want of memory that of the output's
--- wants is left open.
-pub record HasCause (report : Report) (old new : Work) : Type 0 where
-  pub files : FilesCause report old.files.counts new.files.counts
-  pub streams : StreamsCause report old.input.faults new.input.faults old.out.counts new.out.counts
 
 -- ---- compile
 
--- no file has changed, or none but these
-abbrev pub SameFiles : Files → Files → Type 0
-SameFiles old new = (other : List ℕ) → new other ≡ old other
-
+-- no file has changed but this one
 abbrev pub OnlyFile : List ℕ → Files → Files → Type 0
 OnlyFile name old new = (other : List ℕ) → other ≢ name → new other ≡ old other
 
@@ -72,73 +41,24 @@ OnlyFile name old new = (other : List ℕ) → other ≢ name → new other ≡ 
 abbrev pub MapStands : List ℕ → List (List ℕ) → Files → Files → Type 0
 MapStands name sources old new =
     ((texts : List (List ℕ)) × (program : Program) × (map : maps.Map) × (image : List ℕ) × AreRead old sources texts
-    × IsProgram texts program × IsImageOf program map image × (new (map_name name) ≡ Some (map_text map)))
+    × HaveTypedProgram texts program × IsImageOf program map image × (new (map_name name) ≡ Some (map_text map)))
     × ((other : List ℕ) → other ≢ name → other ≢ map_name name → new other ≡ old other)
-
--- the file holds a text that may be read, and of which this holds
-abbrev pub Holds : Option (List ℕ) → (List ℕ → Type 0) → Type 0
-Holds content P = (text : List ℕ) × (content ≡ Some text) × (length text ≤ file_limit) × P text
-
-abbrev pub IsTooLong : Option (List ℕ) → Type 0
-IsTooLong content = (text : List ℕ) × (content ≡ Some text) × (file_limit < length text)
-
--- the names hold texts that may be read, and of which this holds
-abbrev pub HoldAll : Files → List (List ℕ) → (List (List ℕ) → Type 0) → Type 0
-HoldAll files sources P = (texts : List (List ℕ)) × AreRead files sources texts × P texts
-
--- why a file of this content isn't read, where that says anything of it
-abbrev pub IsUnreadable : ReadRefusal → Option (List ℕ) → Type 0
-IsUnreadable read.Missing content = content ≡ None
-IsUnreadable read.TooLong content = IsTooLong content
-IsUnreadable read.Failed content = ⊤
-IsUnreadable read.NoMemory content = ⊤
-
--- so many sources, from the first one on, hold texts that may be read, and the next one isn't read for this reason
-abbrev pub StopsAt : Files → ReadRefusal → List (List ℕ) → ℕ → Type 0
-StopsAt files refusal [] i = ⊥
-StopsAt files refusal (source ∷ sources) zero = IsUnreadable refusal (files source)
-StopsAt files refusal (source ∷ sources) (suc i) = Holds (files source) (λ text. ⊤) × StopsAt files refusal sources i
 
 -- the report of `compile` on files that are told
 abbrev pub CompileTold : List ℕ → List (List ℕ) → Files → Files → Report → Type 0
 CompileTold name sources old new reports.Compiled = IsCompiled old new name sources
-CompileTold name sources old new (reports.SourceFault fault) =
-    HoldAll old sources (λ texts. IsSourceFault texts fault) × SameFiles old new
-CompileTold name sources old new (reports.TooManyTokens tokens) =
-    (tokens ≡ 65537) × HoldAll old sources HaveManyTokens × SameFiles old new
-CompileTold name sources old new (reports.TooLong (Source i)) = StopsAt old read.TooLong sources i × SameFiles old new
-CompileTold name sources old new (reports.ReadFault (Source i)) = StopsAt old read.Failed sources i × SameFiles old new
-CompileTold name sources old new (reports.NoFile (Source i)) = StopsAt old read.Missing sources i × SameFiles old new
 CompileTold name sources old new (reports.WriteFault Map) = OnlyFile (map_name name) old new
 CompileTold name sources old new (reports.WriteFault Image) = MapStands name sources old new
 CompileTold name sources old new reports.NoMemory = SameFiles old new
     ⊎ (MapStands name sources old new × (new name ≡ old name))
-CompileTold name sources old new _ = ⊥
+CompileTold name sources old new report = HaveNoProgram old sources report × SameFiles old new
 
 -- ---- the steps of a command
-
--- the report of a refused read
-abbrev pub report_of_read : ReadRefusal → Named → Report
-report_of_read read.Missing file = reports.NoFile file
-report_of_read read.TooLong file = reports.TooLong file
-report_of_read read.Failed file = reports.ReadFault file
-report_of_read read.NoMemory file = reports.NoMemory
 
 -- the report of a refused write
 abbrev pub report_of_write : WriteRefusal → Named → Report
 report_of_write put.Failed file = reports.WriteFault file
 report_of_write put.NoMemory file = reports.NoMemory
-
--- the source at a position, of this content, isn't read, and this is the report
-abbrev pub IsUnreadFile : Option (List ℕ) → ℕ → Report → Type 0
-IsUnreadFile content i report =
-    (refusal : ReadRefusal) × (report ≡ report_of_read refusal (Source i)) × IsUnreadable refusal content
-
--- some source isn't read, or there is no memory to keep it, and this is the report
-abbrev pub AreUnread : Files → List (List ℕ) → Report → Type 0
-AreUnread files sources report =
-    ((refusal : ReadRefusal) × (i : ℕ) × (report ≡ report_of_read refusal (Source i)) × StopsAt files refusal sources i)
-    ⊎ (report ≡ reports.NoMemory)
 
 -- the report of a run of the machine for so many steps
 abbrev pub report_of_end : ℕ → MachineEnd → Report
@@ -172,10 +92,6 @@ WritesTold map_name name map_bytes image old new _ = ⊥
 
 -- ---- run
 
--- nothing was taken of the input or put on the output
-abbrev pub SameStreams : Work → Work → Type 0
-SameStreams old new = (new.input.left ≡ old.input.left) × (new.out.taken ≡ old.out.taken)
-
 -- so many steps of the image with these bytes have this end
 abbrev pub RunGives : ℕ → Work → Work → outcome.End → List ℕ → Type 0
 RunGives steps old new end image =
@@ -201,9 +117,11 @@ RunGivesPart steps old new image =
 abbrev pub IsNoImage : List ℕ → List ℕ → Type 0
 IsNoImage input image = (s : State) → First image input s → ⊥
 
--- neither an image nor a board has tokens or sources that may be too many
+-- neither an image nor a board has tokens, static objects, frames or sources that may be too many or too large
 abbrev pub HasNoTokens : Report → Type 0
 HasNoTokens (reports.TooManyTokens tokens) = ⊥
+HasNoTokens (reports.LargeArrays bytes) = ⊥
+HasNoTokens (reports.LargeFrame name bytes) = ⊥
 HasNoTokens (reports.TooManyFiles count) = ⊥
 HasNoTokens _ = ⊤
 
@@ -262,37 +180,14 @@ SolveTold content old new (reports.NoFile Board) = (content ≡ None) × (new.ta
 SolveTold content old new reports.NoMemory = old.tells → new.taken ≡ old.taken
 SolveTold content old new _ = ⊥
 
--- ---- the line, and the status
-
--- the status after the line was put on standard error, or refused there
-abbrev pub status_after : ℕ → Result Unit WriteRefusal → ℕ
-status_after status (Ok done) = status
-status_after status (Err put.Failed) = 5
-status_after status (Err put.NoMemory) = 11
-
--- this report, or that of want of memory
-abbrev pub IsUnlessMemory : Report → Report → Type 0
-IsUnlessMemory report other = (other ≡ report) ⊎ (other ≡ reports.NoMemory)
-
--- The line was put on standard error, which is this before and after, and the status is that of the report, or 5 or 11
--- where standard error refused.
-abbrev pub IsPut : List ℕ → ℕ → Output → Output → ℕ → Type 0
-IsPut line status old new result =
-    (answer : Result Unit WriteRefusal) × CountsPut old.counts new.counts answer
-    × (old.tells → PutTold old.taken new.taken line answer) × (result ≡ status_after status answer)
-
--- a command's report ends in its status; it is shown, or want of memory is where there was none for its line
-abbrev pub Ends : Command → Report → Output → Output → ℕ → Type 0
-Ends command report old new result =
-    (shown : Report) × IsUnlessMemory report shown × (line : List ℕ) × IsShownAs command shown line
-    × IsPut line (status_of shown) old new result
+-- ---- every command
 
 -- words that ask for nothing have this report, and nothing is done
 abbrev pub NothingDone : Report → Work → Work → Report → Type 0
 NothingDone own old new report =
     IsUnlessMemory own report × (old.files.tells → SameFiles old.files.content new.files.content) × SameStreams old new
 
--- the report of a command on what is told; `eval` isn't built yet
+-- the report of a command on what is told
 abbrev pub CommandTold : Command → Work → Work → Report → Type 0
 CommandTold (Compile name sources) old new report =
     (old.files.tells → CompileTold name sources old.files.content new.files.content report) × SameStreams old new
@@ -300,7 +195,10 @@ CommandTold (Run steps image) old new report =
     HasNoTokens report × (old.files.tells → SameFiles old.files.content new.files.content)
     × (old.files.tells → ImageTold (old.files.content image) report)
     × (old.files.tells → old.input.tells → old.out.tells → RunTold steps (old.files.content image) old new report)
-CommandTold (Eval turns sources) old new report = NothingDone reports.Usage old new report
+CommandTold (Eval turns sources) old new report =
+    (old.files.tells → SameFiles old.files.content new.files.content)
+    × (old.files.tells → SourcesTold old.files.content sources report)
+    × (old.files.tells → old.input.tells → old.out.tells → EvalTold turns sources old new report)
 CommandTold (Solve file) old new report =
     HasNoTokens report × (old.files.tells → SameFiles old.files.content new.files.content)
     × (new.input.left ≡ old.input.left)

@@ -1,10 +1,10 @@
 -- What is made of accepted sources.
 use Rattle.std.specs.Prelude.{ℕ, List}
 use Rattle.c_tree.specs.Program.{Program}
-use Rattle.c_front.specs.Accepted.{IsProgram}
-use Rattle.pcc_compile.specs.Products as compiled
+use Rattle.c_program.specs.Answers.{HaveTypedProgram}
+use Rattle.pcc_headline.specs.Products as compiled
 
 -- the texts of a map and an image for sources
 abbrev pub AreProducts : List (List ℕ) → List ℕ → List ℕ → Type 0
-AreProducts texts map_bytes image_bytes = (program : Program) × IsProgram texts program
+AreProducts texts map_bytes image_bytes = (program : Program) × HaveTypedProgram texts program
     × compiled.AreProducts program map_bytes image_bytes

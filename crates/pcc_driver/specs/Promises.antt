@@ -1,19 +1,19 @@
 -- The promises of the top call on its statuses.
-use Rattle.pcc_outside.specs.declared.file_store.ReadRefusal.TheVariants.{Missing, TooLong}
 use Rattle.std.specs.Prelude.{◌≡◌, ◌<◌, ◌≤◌, ◌⊎◌, ⊤, ℕ, List, length, Option, Some, None}
 use Rattle.pcc_base.specs.Counts.{Rose}
-use Rattle.pcc_base.specs.Outcome.{Outcome, End, Ended, Trapped, Stopped, Goes}
-use Rattle.c_tree.specs.Program.{Program}
+use Rattle.pcc_base.specs.Outcome.{Outcome}
 use Rattle.ia32_insn.specs.State.{State}
 use Rattle.ia32_insn.specs.Runs.{Runs, no_visits}
 use Rattle.ia32_machine.specs.First.{First}
-use Rattle.c_front.specs.Accepted.{IsProgram}
-use Rattle.c_front.specs.Refusals.{HaveManyTokens}
-use Rattle.pcc_driver.specs.Answers.{HoldAll, IsNoImage, StopsAt}
+use Rattle.c_program.specs.Answers.{Excess, Exceed}
+use Rattle.pcc_eval.specs.Evaluations.{EvalStatus}
+use Rattle.pcc_driver.specs.Answers.{IsNoImage}
 use Rattle.puzzle_texts.specs.Reading.{IsNoBoard}
 use Rattle.pcc_words.specs.Asked.{Command, Compile, Run, Eval, Solve, ManyFiles, Usage}
-use Rattle.pcc_driver.specs.Headline.{AreRead, Files, file_limit}
-use Rattle.pcc_driver.specs.Outside.{Outside, Store, Work}
+use Rattle.pcc_reports.specs.Outside.{Files, Outside, Store, Work}
+use Rattle.pcc_reports.specs.Reports.{end_status}
+use Rattle.pcc_sources.specs.Programs.{SourcesStatus}
+use Rattle.pcc_sources.specs.Sources.{HoldAll, file_limit}
 use Rattle.pcc_driver.specs.Solutions.{IsSomeBoard}
 
 -- no count of faults rose
@@ -24,23 +24,9 @@ pub record IsQuiet (old new : Outside) : Type 0 where
   pub output : Rose old.work.out.counts.faults new.work.out.counts.faults → ⊥
   pub errors : Rose old.err.counts.faults new.err.counts.faults → ⊥
 
--- The status of `compile` for what the files hold: the first source that can't be read decides; where all can, their
--- texts do.
-pub record CompileStatus (files : Files) (sources : List (List ℕ)) (status : ℕ) : Type 0 where
-  pub missing : (i : ℕ) → StopsAt files Missing sources i → status ≡ 6
-  pub too_long : (i : ℕ) → StopsAt files TooLong sources i → status ≡ 3
-  pub accepted : (texts : List (List ℕ)) (program : Program) → AreRead files sources texts → IsProgram texts program
-      → status ≡ 0
-  pub tokens : (texts : List (List ℕ)) → AreRead files sources texts → HaveManyTokens texts → status ≡ 3
-  pub refused : (texts : List (List ℕ)) → AreRead files sources texts
-      → ((program : Program) → IsProgram texts program → ⊥) → (HaveManyTokens texts → ⊥) → status ≡ 1
-
--- the status of `run` for the end of its steps
-abbrev pub end_status : End → ℕ
-end_status (Ended status) = 0
-end_status (Trapped trap) = 8
-end_status (Stopped cause address) = 9
-end_status Goes = 10
+-- the status of `compile` for what the files hold: every typed program within the limits is compiled
+abbrev pub CompileStatus : Files → List (List ℕ) → ℕ → Type 0
+CompileStatus files sources status = SourcesStatus files sources (λ p. status ≡ 0) status
 
 -- the status of `run` for so many steps and what the image's file holds
 abbrev pub RunStatus : ℕ → List ℕ → Option (List ℕ) → ℕ → Type 0
@@ -63,22 +49,26 @@ SolveStatus (Some text) status =
 abbrev pub HasStatus : Command → Work → ℕ → Type 0
 HasStatus (Compile name sources) old status = CompileStatus old.files.content sources status
 HasStatus (Run steps image) old status = RunStatus steps old.input.left (old.files.content image) status
-HasStatus (Eval turns sources) old status = status ≡ 2
+HasStatus (Eval turns sources) old status = EvalStatus turns old.input.left old.files.content sources status
 HasStatus (Solve file) old status = SolveStatus (old.files.content file) status
 HasStatus (ManyFiles count) old status = status ≡ 3
 HasStatus Usage old status = status ≡ 2
 
--- the command has too many sources, or compiles some that have more than 65,536 tokens where the files tell
+-- the texts are above a limit
+abbrev pub AreAboveLimit : List (List ℕ) → Type 0
+AreAboveLimit texts = (excess : Excess) × Exceed texts excess
+
+-- the command has too many sources, or sources that are above a limit, where the files tell
 abbrev pub LimitCause : Command → Store → Type 0
-LimitCause (Compile name sources) files = files.tells → HoldAll files.content sources HaveManyTokens
+LimitCause (Compile name sources) files = files.tells → HoldAll files.content sources AreAboveLimit
 LimitCause (Run steps image) files = ⊥
-LimitCause (Eval turns sources) files = ⊥
+LimitCause (Eval turns sources) files = files.tells → HoldAll files.content sources AreAboveLimit
 LimitCause (Solve file) files = ⊥
 LimitCause (ManyFiles count) files = ⊤
 LimitCause Usage files = ⊥
 
 -- Which count rose where a status comes that the outside causes. Status 3 comes besides where there are too many
--- sources or tokens.
+-- sources, or where these are above a limit.
 pub record HasCauses (command : Command) (old new : Outside) (status : ℕ) : Type 0 where
   pub limit : status ≡ 3 → Rose old.work.files.counts.too_long new.work.files.counts.too_long
       ⊎ LimitCause command old.work.files

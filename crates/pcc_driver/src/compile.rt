@@ -1,19 +1,20 @@
-ghost use Rattle.std.specs.Prelude.{◌≡◌, ◌≢◌, ◌≤◌, ℕ, length, map};
+ghost use Rattle.std.specs.Prelude.{◌≡◌, ◌≢◌, ◌≤◌, ℕ, List, length, map};
+ghost use Rattle.c_tree.specs.Erased.{program_of};
+ghost use Rattle.c_program.specs.Answers.{HaveTypedProgram};
 ghost use Rattle.pcc_outside.specs.Streams.{SinkCounts};
-ghost use Rattle.pcc_driver.specs.Answers.{
-  FilesCause,
-  StreamsCause,
-  CompileTold,
-  WritesTold,
-  report_of_write,
-};
+ghost use Rattle.pcc_reports.specs.Causes.{FilesCause, StreamsCause};
+ghost use Rattle.pcc_reports.specs.Outside.{Files, SameFiles};
+ghost use Rattle.pcc_sources.specs.Programs.{IsTyped};
+ghost use Rattle.pcc_sources.specs.Sources.{AreRead};
+ghost use Rattle.pcc_driver.specs.Answers.{CompileTold, WritesTold, report_of_write};
 
-use crate::products::products_of;
-use crate::report::{Named, Report};
-use crate::sources::read_sources;
-use pcc_base::{Limit, Refusal};
-use pcc_compile::Products;
+use c_accepted::programs_are_ready;
+use c_tree::Program;
+use pcc_base::NoMemory;
 use pcc_outside::{FileStore, WriteRefusal};
+use pcc_program::{Products, compile_program};
+use pcc_reports::{Named, Report};
+use pcc_sources::program_of_sources;
 use std::alloc::Global;
 
 /// The report of a refused write.
@@ -50,6 +51,33 @@ fn write_products<F: FileStore>(
     Report::Compiled
 }
 
+/// Compiles a typed program, and writes NAME.map, and then NAME.
+fn write_program<F: FileStore>(
+    alloc: Global,
+    name: &str,
+    program: &Program,
+    files: &mut F,
+) -> Report
+    requires { IsTyped (program_of program.now) }
+    ensures cause { FilesCause result (F.counts files.old) (F.counts files.new) }
+    ensures streams { (input : ℕ) (out : SinkCounts) → StreamsCause result input input out out }
+    ensures telling { F.tells files.old → F.tells files.new }
+    ensures told { F.tells files.old → (before : Files) (sources texts : List (List ℕ))
+        → SameFiles before (F.content files.old) → AreRead before sources texts
+        → HaveTypedProgram texts (program_of program.now)
+        → CompileTold name.now sources before (F.content files.new) result }
+{
+    programs_are_ready();
+    let products = match compile_program(alloc, program) {
+        Ok(products) => products,
+        Err(NoMemory) => return Report::NoMemory,
+    };
+    match format!(in alloc; "{name}.map") {
+        Ok(map_name) => write_products(map_name.as_str(), name, &products, files),
+        Err(_) => Report::NoMemory,
+    }
+}
+
 /// Reads the sources and writes their map and their image. Nothing is written where an earlier step refuses.
 pub fn compile<F: FileStore>(alloc: Global, name: &str, sources: &[&str], files: &mut F) -> Report
     requires few { length sources.now ≤ 16 }
@@ -60,19 +88,8 @@ pub fn compile<F: FileStore>(alloc: Global, name: &str, sources: &[&str], files:
     ensures told { F.tells files.old →
         CompileTold name.now (map (λ s. s.now) sources.now) (F.content files.old) (F.content files.new) result }
 {
-    let texts = match read_sources(alloc, sources, files) {
-        Ok(texts) => texts,
-        Err(report) => return report,
-    };
-    let products = match products_of(alloc, texts.as_slice()) {
-        Ok(products) => products,
-        Err(Refusal::Fault(fault)) => return Report::SourceFault(fault),
-        Err(Refusal::Limit(Limit::Tokens(tokens))) => return Report::TooManyTokens(tokens),
-        // No other limit is met.
-        Err(Refusal::Limit(_) | Refusal::NoMemory) => return Report::NoMemory,
-    };
-    match format!(in alloc; "{name}.map") {
-        Ok(map_name) => write_products(map_name.as_str(), name, &products, files),
-        Err(_) => Report::NoMemory,
+    match program_of_sources(alloc, sources, files) {
+        Ok(program) => write_program(alloc, name, &program, files),
+        Err(report) => report,
     }
 }

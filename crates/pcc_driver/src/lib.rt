@@ -7,13 +7,8 @@
 #![tactic(auto)]
 
 mod compile;
-mod finish;
-mod products;
-mod report;
 mod run;
 mod solve;
-mod sources;
 mod top;
 
-pub use report::{Named, Report};
 pub use top::pcc;

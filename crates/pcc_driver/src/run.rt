@@ -1,11 +1,9 @@
 ghost use Rattle.std.specs.Prelude.{◌≡◌, [], MatchResult};
 ghost use Rattle.elf_image.specs.Segments.{Segments, Loads};
 ghost use Rattle.ia32_machine.specs.First.{first_state};
-ghost use Rattle.pcc_driver.specs.Outside.{work_of};
+ghost use Rattle.pcc_reports.specs.Causes.{FilesCause, StreamsCause};
+ghost use Rattle.pcc_reports.specs.Outside.{SameFiles, work_of};
 ghost use Rattle.pcc_driver.specs.Answers.{
-  FilesCause,
-  StreamsCause,
-  SameFiles,
   ImageTold,
   HasNoTokens,
   RunTold,
@@ -13,11 +11,11 @@ ghost use Rattle.pcc_driver.specs.Answers.{
   report_of_end,
 };
 
-use crate::report::{Named, Report};
-use crate::sources::{FILE_LIMIT, read_report};
 use elf_image::{ImageRefusal, read_image};
 use ia32_machine::{Machine, MachineEnd};
 use pcc_outside::{FileStore, Sink, Source};
+use pcc_reports::{Named, Report};
+use pcc_sources::{FILE_LIMIT, read_report};
 use std::alloc::Global;
 
 /// The machine that the bytes of an image load.

@@ -3,20 +3,18 @@ ghost use Rattle.pcc_outside.specs.Files.{StoreCounts};
 ghost use Rattle.puzzle_texts.specs.Reading.{fresh_board};
 ghost use Rattle.pcc_driver.specs.Answers.{
   AnswerPut,
-  FilesCause,
   GivesNoAnswer,
   HasNoTokens,
-  SameFiles,
   SolveTold,
-  StreamsCause,
 };
-ghost use Rattle.pcc_driver.specs.Outside.{output_of};
+ghost use Rattle.pcc_reports.specs.Causes.{FilesCause, StreamsCause};
+ghost use Rattle.pcc_reports.specs.Outside.{SameFiles, output_of};
 ghost use Rattle.pcc_driver.specs.Solutions.{IsAnswer, IsSolution};
 
-use crate::report::{Named, Report};
-use crate::sources::{FILE_LIMIT, read_report};
 use pcc_base::{NoMemory, Steps};
 use pcc_outside::{FileStore, Sink, WriteRefusal};
+use pcc_reports::{Named, Report};
+use pcc_sources::{FILE_LIMIT, read_report};
 use puzzle_board::Board;
 use puzzle_texts::{BoardRefusal, print_placement, read_board};
 use std::alloc::Global;

@@ -1,19 +1,21 @@
 ghost use Rattle.std.specs.Prelude.{◌≡◌, ◌≤◌, ◌⊎◌, ℕ, List, map, string_bytes};
-ghost use Rattle.pcc_driver.specs.Answers.{HasCause, CommandTold, Ends};
+ghost use Rattle.pcc_reports.specs.Ends.{Ends};
+ghost use Rattle.pcc_reports.specs.Causes.{HasCause};
+ghost use Rattle.pcc_driver.specs.Answers.{CommandTold};
 ghost use Rattle.pcc_words.specs.Asked.{command_of, Compile, HasFewSources};
 ghost use Rattle.pcc_driver.specs.Headline.{IsCompiled};
-ghost use Rattle.pcc_driver.specs.Outside.{work_of, outside_of};
+ghost use Rattle.pcc_reports.specs.Outside.{work_of, outside_of};
 ghost use Rattle.pcc_driver.specs.Promises.{IsQuiet, HasStatus, HasCauses, NoticesFaults};
 ghost use Rattle.pcc_words.specs.Words.{meaning};
-ghost use Rattle.pcc_driver.specs.declared.report.Report.{Report};
+ghost use Rattle.pcc_reports.specs.declared.report.Report.{Report};
 
 use crate::compile::compile;
-use crate::finish::{finish, finish_wanting};
-use crate::report::Report;
 use crate::run::run;
 use crate::solve::solve;
 use pcc_base::NoMemory;
+use pcc_eval::eval;
 use pcc_outside::{FileStore, Sink, Source};
+use pcc_reports::{Report, finish, finish_wanting};
 use pcc_words::{Command, command_of};
 use std::alloc::Global;
 
@@ -38,9 +40,11 @@ fn carry_out<F: FileStore, I: Source, O: Sink>(
         Command::Compile { name, sources } => compile(alloc, name, sources.as_slice(), files),
         Command::Run { steps, image } => run(alloc, *steps, image, files, input, out),
         Command::Solve { file } => solve(alloc, file, files, out),
+        Command::Eval { turns, sources } => {
+            eval(alloc, *turns, sources.as_slice(), files, input, out)
+        }
         Command::ManyFiles(count) => Report::TooManyFiles(*count as u64),
-        // `eval` isn't built yet.
-        Command::Eval { .. } | Command::Usage(_) => Report::Usage,
+        Command::Usage(_) => Report::Usage,
     }
 }
 
@@ -52,14 +56,14 @@ fn carry_out<F: FileStore, I: Source, O: Sink>(
 /// | 0 | the command did its work |
 /// | 1 | the sources aren't accepted, or the file is no board |
 /// | 2 | the words mean no command |
-/// | 3 | a file has too many bytes, there are too many sources, or they have too many tokens |
+/// | 3 | a file has too many bytes, there are too many sources, or they are above another limit |
 /// | 4 | reading a file or the input failed |
 /// | 5 | writing a file, the output or standard error failed |
 /// | 6 | a file isn't there |
 /// | 7 | the file is no image |
 /// | 8 | the program trapped |
 /// | 9 | the machine stopped |
-/// | 10 | the program still runs after the steps that the words have |
+/// | 10 | the program still runs after the steps or turns that the words have |
 /// | 11 | there was no memory |
 pub fn pcc<F: FileStore, I: Source, O: Sink, E: Sink>(
     alloc: Global,
@@ -85,7 +89,8 @@ pub fn pcc<F: FileStore, I: Source, O: Sink, E: Sink>(
         old.work.files.tells → old.work.input.tells → old.work.out.tells → IsQuiet old new →
         (result ≡ 11) ⊎ HasStatus (command_of (map string_bytes words.now.items)) old.work result }
 
-    // Which count rose where the outside is the cause, and that there are too many sources or tokens else.
+    // Which count rose where the outside is the cause, and that there are too many sources, or that these are above a
+    // limit, else.
     ensures causes { let old = outside_of F.FileStore I.Source O.Sink E.Sink files.old input.old out.old err.old in
         let new = outside_of F.FileStore I.Source O.Sink E.Sink files.new input.new out.new err.new in
         HasCauses (command_of (map string_bytes words.now.items)) old new result }
@@ -106,7 +111,7 @@ pub fn pcc<F: FileStore, I: Source, O: Sink, E: Sink>(
     match command_of(alloc, words.as_slice()) {
         Ok(command) => {
             let report = carry_out(alloc, &command, files, input, out);
-            finish(alloc, &command, report, err)
+            finish(alloc, &command, &report, err)
         }
         Err(NoMemory) => finish_wanting(err),
     }

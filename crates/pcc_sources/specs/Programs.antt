@@ -33,6 +33,10 @@ report_of_refused (refused.Arrays bytes) = reports.LargeArrays bytes
 report_of_refused (refused.Frame name bytes) = reports.LargeFrame name bytes
 report_of_refused refused.NoMemory = reports.NoMemory
 
+-- some texts have this typed program within the limits
+abbrev pub IsTyped : Program → Type 0
+IsTyped p = (texts : List (List ℕ)) × HaveTypedProgram texts p
+
 -- why sources have no typed program within the limits: the first that isn't read, the fault of their texts, or the limit
 -- that these are above
 abbrev pub HaveNoProgram : Files → List (List ℕ) → Report → Type 0

@@ -1,6 +1,6 @@
 //! The typed program of the sources that a command names.
 
-ghost use Rattle.std.specs.Prelude.{◌≡◌, ◌≤◌, ℕ, length, map, IfErr, MatchResult};
+ghost use Rattle.std.specs.Prelude.{◌≡◌, ◌≤◌, ℕ, length, map, IfErr, IfOk, MatchResult};
 ghost use Rattle.c_tree.specs.Erased.{program_of};
 ghost use Rattle.c_program.specs.Answers.{HaveTypedProgram};
 ghost use Rattle.pcc_outside.specs.Streams.{SinkCounts};
@@ -8,6 +8,7 @@ ghost use Rattle.pcc_reports.specs.Causes.{FilesCause, StreamsCause};
 ghost use Rattle.pcc_reports.specs.Outside.{SameFiles};
 ghost use Rattle.pcc_sources.specs.Programs.{
   HaveNoProgram,
+  IsTyped,
   report_of_read,
   report_of_refused,
   report_of_unread,
@@ -60,6 +61,7 @@ pub fn program_of_sources<F: FileStore>(
     files: &mut F,
 ) -> Result<Program, Report>
     requires few { length sources.now ≤ 16 }
+    ensures typed { IfOk result (λ program. IsTyped (program_of program)) }
     ensures counts { MatchResult result (λ _. F.counts files.new ≡ F.counts files.old)
         (λ report. FilesCause report (F.counts files.old) (F.counts files.new)) }
     // It speaks of no input and no output.

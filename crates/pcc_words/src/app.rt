@@ -64,7 +64,7 @@ fn eval<'a>(alloc: Global) -> Result<Command<'a>, AllocError>
         .required(true)
         .help("The C files, 16 at most");
     Command::new(alloc, "eval")
-        .about("Evaluates C files (not built yet)")
+        .about("Evaluates C files")
         .arg(turns)?
         .arg(sources)
 }

@@ -69,7 +69,7 @@ const COMMANDS: &str = "\
 Commands:
   pcc compile -o NAME SRC..   compiles C files to the image NAME and its map NAME.map
   pcc run [--steps N] IMAGE   runs an image in the machine
-  pcc eval [--turns N] SRC..  evaluates C files (not built yet)
+  pcc eval [--turns N] SRC..  evaluates C files
   pcc solve FILE              prints a legal placement of a board's pieces, or `none`
 ";
 
