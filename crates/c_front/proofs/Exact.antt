@@ -1,4 +1,4 @@
--- Texts have one answer: a program, a fault or too many tokens.
+-- Texts have one list of tokens and one raw tree each, or a fault, or too many tokens.
 use Rattle.std.proofs.Common.{◌≡◌, ◌≤◌, ℕ, zero, suc, false, List, [], ◌∷◌, ◌++◌, length, length-append, ap, ap₂, sym}
 use Rattle.std.proofs.Common.{◌∙◌, subst, refl, inl, inr, arith}
 use Rattle.std.proofs.lemmas.Bool.{false≢true}
@@ -6,8 +6,7 @@ use Rattle.pcc_base.specs.declared.span.Span.{Span}
 use Rattle.pcc_base.specs.declared.keyword.Keyword.{Keyword}
 use Rattle.pcc_base.specs.declared.fault.Fault.{Fault}
 use Rattle.pcc_base.specs.declared.fault.FaultKind.{FaultKind}
-use Rattle.pcc_base.specs.declared.fault.FaultKind.TheVariants.{BadByte, BadNumber, Unclosed, BadEscape, Syntax}
-use Rattle.pcc_base.specs.declared.fault.FaultKind.TheVariants.{Unsupported, TooDeep, NotYet}
+use Rattle.pcc_base.specs.declared.fault.FaultKind.TheVariants.{Syntax, Unsupported, TooDeep}
 use Rattle.c_lexer.specs.declared.token.Token.{Token}
 use Rattle.c_lexer.specs.Pieces.{Piece, NoneBegins}
 use Rattle.c_lexer.specs.Tokens.{HasTokens, HasFault, BeginsWith, Reached, Leads, behind, tokens_of, start_of}
@@ -17,12 +16,9 @@ use Rattle.c_grammar.specs.Marks.{word}
 use Rattle.c_grammar.specs.Statements.{ExternalTree}
 use Rattle.c_grammar.specs.Grammar.{Tree}
 use Rattle.c_grammar.proofs.StatementComplete.{one_tree}
-use Rattle.c_tree.specs.Program.{Program}
-use Rattle.c_locals.proofs.Exact.{one_read}
 use Rattle.c_parser.specs.Refusals.{is_outside, NoneUnsupported}
-use Rattle.c_front.specs.Accepted.{HaveProgram, HaveSlotProgram, HasTree, HaveTokens, HaveTrees, IsProgram, total}
-use Rattle.c_front.specs.Refusals.{FaultBehind, FirstFaulty, HaveLexicalFault, HaveManyTokens, IsFaultOfKind}
-use Rattle.c_front.specs.Refusals.{IsFaultyIn, IsSourceFault, IsTreeFault, StandBefore, WithTokens}
+use Rattle.c_front.specs.Accepted.{HasTree, HaveTokens, HaveTrees, total}
+use Rattle.c_front.specs.Refusals.{FaultBehind, FirstFaulty, HaveLexicalFault, HaveManyTokens, IsFaultyIn, StandBefore}
 use Rattle.c_front.proofs.Inside.{unit_inside}
 
 -- ---- what stands before any fault
@@ -170,81 +166,9 @@ trees_once (tokens ∷ files) (x ∷ a) (y ∷ b) p q =
     ap₂ (λ (t : List ExternalTree) (ts : List (List ExternalTree)). t ∷ ts) (tree_once tokens x y p.0 q.0)
     (trees_once files a b p.1 q.1)
 
--- trees have one program
-form_once : (units : List (List ExternalTree)) (p q : Program) → HaveSlotProgram units p → HaveSlotProgram units q
-    → p ≡ q
-form_once [] p q a b = absurd a
-form_once (unit ∷ []) p q a b = one_read unit p q a b
-form_once (unit ∷ (other ∷ units)) p q a b = absurd a
-
--- tokens with a program have no fault
-tokens_fault : (files : List (List Token)) (p : Program) (kind : FaultKind) (at : Span) → HaveProgram files p
-    → IsTreeFault files kind at → ⊥
-tokens_fault files p Syntax at has fault = trees_or_fault 0 files has.units Syntax at has.trees fault
-tokens_fault files p TooDeep at has fault = trees_or_fault 0 files has.units TooDeep at has.trees fault
-tokens_fault files p (Unsupported keyword) at has fault =
-    trees_or_fault 0 files has.units (Unsupported keyword) at has.trees fault
-tokens_fault files p NotYet at has (place, (units, trees, inl many)) = let few = has.few in omega (arith, few, many)
-tokens_fault files p NotYet at has (place, (units, trees, inr none)) =
-    none p (subst (λ (us : List (List ExternalTree)). HaveSlotProgram us p)
-    (trees_once files has.units units has.trees trees) has.form)
-tokens_fault files p kind at has fault = absurd fault
-
 -- ---- texts
-
--- texts have one program
-pub one_program_text : (texts : List (List ℕ)) (p q : Program) → IsProgram texts p → IsProgram texts q → p ≡ q
-one_program_text texts p q (a, lexed, has) (b, again, other) =
-    let same : HaveProgram a q = subst (λ (files : List (List Token)). HaveProgram files q)
-    (sym (tokens_once 0 texts a b lexed again)) other in
-    let units : has.units ≡ same.units = trees_once a has.units same.units has.trees same.trees in
-    form_once same.units p q (subst (λ (us : List (List ExternalTree)). HaveSlotProgram us p) units has.form) same.form
-
--- a program's texts have none of these faults
-with_tokens : (texts : List (List ℕ)) (p : Program) (kind : FaultKind) (at : Span) → IsProgram texts p
-    → WithTokens texts (λ files. IsTreeFault files kind at) → ⊥
-with_tokens texts p kind at (a, lexed, has) (b, again, few, fault) =
-    tokens_fault a p kind at has (subst (λ (files : List (List Token)). IsTreeFault files kind at)
-    (sym (tokens_once 0 texts a b lexed again)) fault)
-
--- a program's texts have no lexical fault
-lexical : (texts : List (List ℕ)) (p : Program) (fault : Fault) → IsProgram texts p → HaveLexicalFault texts fault → ⊥
-lexical texts p fault (a, lexed, has) (n, behind, few) = no_lexical 0 texts n fault a behind lexed
-
--- a program's texts have no fault of any kind
-fault_of_kind : (texts : List (List ℕ)) (p : Program) (fault : Fault) (kind : FaultKind) → IsProgram texts p
-    → IsFaultOfKind texts fault kind → ⊥
-fault_of_kind texts p fault BadByte is h = lexical texts p fault is h
-fault_of_kind texts p fault BadNumber is h = lexical texts p fault is h
-fault_of_kind texts p fault Unclosed is h = lexical texts p fault is h
-fault_of_kind texts p fault BadEscape is h = lexical texts p fault is h
-fault_of_kind texts p fault kind is h = with_tokens texts p kind fault.at is h
-
--- a program's texts have no fault
-pub no_fault : (texts : List (List ℕ)) (p : Program) (fault : Fault) → IsProgram texts p → IsSourceFault texts fault → ⊥
-no_fault texts p fault = fault_of_kind texts p fault fault.kind
-
--- a program's texts haven't too many tokens
-pub no_limit : (texts : List (List ℕ)) (p : Program) → IsProgram texts p → HaveManyTokens texts → ⊥
-no_limit texts p (a, lexed, has) many =
-    let few = has.few in
-    omega (arith, stand_fewer 0 texts 65537 a many lexed, few)
 
 -- texts with a lexical fault have at most 65,536 tokens before it
 pub lexical_or_limit : (texts : List (List ℕ)) (fault : Fault) → HaveLexicalFault texts fault → HaveManyTokens texts → ⊥
 lexical_or_limit texts fault (n, behind, few) many =
     omega (arith, stand_fewer_fault 0 texts 65537 n fault many behind, few)
-
--- so it is with a fault of any kind
-fault_or_limit : (texts : List (List ℕ)) (fault : Fault) (kind : FaultKind) → IsFaultOfKind texts fault kind
-    → HaveManyTokens texts → ⊥
-fault_or_limit texts fault BadByte h many = lexical_or_limit texts fault h many
-fault_or_limit texts fault BadNumber h many = lexical_or_limit texts fault h many
-fault_or_limit texts fault Unclosed h many = lexical_or_limit texts fault h many
-fault_or_limit texts fault BadEscape h many = lexical_or_limit texts fault h many
-fault_or_limit texts fault kind (files, lexed, few, h) many =
-    omega (arith, stand_fewer 0 texts 65537 files many lexed, few)
-
--- texts with a fault haven't too many tokens
-pub either : (texts : List (List ℕ)) (fault : Fault) → IsSourceFault texts fault → HaveManyTokens texts → ⊥
-either texts fault = fault_or_limit texts fault fault.kind

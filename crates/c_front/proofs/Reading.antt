@@ -8,8 +8,7 @@ use Rattle.pcc_base.specs.declared.refusal.Refusal.TheVariants as refusals
 use Rattle.c_lexer.specs.declared.token.Token.{Token}
 use Rattle.c_lexer.specs.Tokens.{HasTokens}
 use Rattle.c_grammar.specs.Statements.{ExternalTree}
-use Rattle.c_tree.specs.Program.{Program}
-use Rattle.c_front.specs.Accepted.{HaveSlotProgram, HaveTokens, HasTree, HaveTrees, total}
+use Rattle.c_front.specs.Accepted.{HaveTokens, HasTree, HaveTrees, total}
 use Rattle.c_front.specs.Refusals.{AreUnread, FaultBehind, StandBefore}
 use Rattle.c_front.specs.SoFar.{LexedSoFar, ParsedSoFar, AreUnparsed, IsUnread, IsUnparsed}
 use Rattle.c_front.proofs.Totals.{total_more}
@@ -115,12 +114,6 @@ trees_same [] [] have = refl
 trees_same [] (unit ∷ units) have = absurd have
 trees_same (tokens ∷ files) [] have = absurd have
 trees_same (tokens ∷ files) (unit ∷ units) have = omega (arith, trees_same files units have.1)
-
--- a slot program is one file
-pub no_form : (units : List (List ExternalTree)) (p : Program) → (length units ≡ 1 → ⊥) → HaveSlotProgram units p → ⊥
-no_form [] p many form = form
-no_form (unit ∷ []) p many form = many refl
-no_form (unit ∷ (other ∷ units)) p many form = form
 
 -- nothing is parsed at first
 pub parsed_none : (files : List (List Token)) → ParsedSoFar files [] 0 files

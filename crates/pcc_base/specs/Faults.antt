@@ -5,7 +5,6 @@ use Rattle.pcc_base.specs.declared.fault.FaultKind.TheVariants.{BadByte, BadNumb
 use Rattle.pcc_base.specs.declared.fault.FaultKind.TheVariants.{Unsupported, TooDeep, Redeclared, Undeclared, TypeRule}
 use Rattle.pcc_base.specs.declared.fault.FaultKind.TheVariants.{NotAssignable, ArgumentCount, ArraySize, Initialiser}
 use Rattle.pcc_base.specs.declared.fault.FaultKind.TheVariants.{Jump, CaseLabel, PointerUse, NoMain, NoBody, BadBoard}
-use Rattle.pcc_base.specs.declared.fault.FaultKind.TheVariants.{NotYet}
 
 abbrev pub number_of : FaultKind → ℕ
 number_of BadByte = 1
@@ -28,7 +27,6 @@ number_of PointerUse = 17
 number_of NoMain = 18
 number_of NoBody = 19
 number_of BadBoard = 25
-number_of NotYet = 26
 
 abbrev pub name_of : FaultKind → List ℕ
 name_of BadByte = codes "BadByte"
@@ -51,4 +49,3 @@ name_of PointerUse = codes "PointerUse"
 name_of NoMain = codes "NoMain"
 name_of NoBody = codes "NoBody"
 name_of BadBoard = codes "BadBoard"
-name_of NotYet = codes "NotYet"

@@ -48,8 +48,6 @@ pub enum FaultKind {
     NoBody,
     /// A file is the text of no board.
     BadBoard,
-    /// The input is of a form that isn't built yet.
-    NotYet,
 }
 
 impl FaultKind {
@@ -78,7 +76,6 @@ impl FaultKind {
             FaultKind::NoMain => 18,
             FaultKind::NoBody => 19,
             FaultKind::BadBoard => 25,
-            FaultKind::NotYet => 26,
         }
     }
 
@@ -107,7 +104,6 @@ impl FaultKind {
             FaultKind::NoMain => "NoMain",
             FaultKind::NoBody => "NoBody",
             FaultKind::BadBoard => "BadBoard",
-            FaultKind::NotYet => "NotYet",
         }
     }
 }
@@ -131,7 +127,6 @@ mod tests {
             (FaultKind::TypeRule, 10, "Type"),
             (FaultKind::NoBody, 19, "NoBody"),
             (FaultKind::BadBoard, 25, "BadBoard"),
-            (FaultKind::NotYet, 26, "NotYet"),
         ];
         for (kind, number, name) in rows {
             assert_eq!(rt; kind.number(), number, "the number of {name}");

@@ -1,4 +1,0 @@
-pub mod Form
-pub mod Shapes
-pub mod Views
-pub mod Reading

@@ -1,3 +1,0 @@
-pub mod Compiled
-pub mod Products
-pub mod Slots
