@@ -1,11 +1,9 @@
 pub mod Erased
 pub mod Evaluation
-pub mod Laws
 pub mod Objects
 pub mod Operators
 pub mod Program
 pub mod Sizes
-pub mod SlotForm
 pub mod Store
 pub mod WellTyped
 pub mod Worked

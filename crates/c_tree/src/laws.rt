@@ -3,7 +3,6 @@
 ghost use Rattle.std.specs.Prelude.{◌≡◌, [], ◌∷◌, pos, negsuc};
 ghost use Rattle.pcc_base.specs.Outcome.{Ended, Goes};
 ghost use Rattle.c_tree.specs.Evaluation.{source_outcome};
-ghost use Rattle.c_tree.specs.Laws.{SlotProgramsAreTyped};
 ghost use Rattle.c_tree.specs.Sizes.{function_size};
 ghost use Rattle.c_tree.specs.Worked.{
   breaks_nothing,
@@ -52,11 +51,6 @@ pub fn worked_example()
     ensures converts { source_outcome converts_200 nothing_listed [] 1
         ≡ record { visits = shown 0 [] ∷ shown 1 [] ∷ []; taken = 0; written = []; end = Ended 1 } }
     ensures parameters { function_size (takes_and_ignores 90) ≡ 91 }
-{}
-
-/// Slot programs (`specs/SlotForm.antt`) are well typed (`specs/WellTyped.antt`).
-pub fn slot_programs_are_typed()
-    ensures { SlotProgramsAreTyped }
 {}
 
 /// The definition of well typed programs takes one with a pointer, a null constant, a text, a loop and a switch, and

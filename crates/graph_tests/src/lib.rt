@@ -1,4 +1,4 @@
-//! Tests of the public calls of `flow_graph` (`graphs`), `liveness` (`live_points`) and `c_lower` (`lowering`).
+//! Tests of the public calls of `flow_graph` (`graphs`) and `liveness` (`live_points`).
 //!
 //! They stand in a crate of their own since a crate with tests is proved a second time; this one needs only
 //! what those crates promise.
@@ -8,5 +8,3 @@
 mod graphs;
 #[cfg(test)]
 mod live_points;
-#[cfg(test)]
-mod lowering;

@@ -1,6 +1,6 @@
 //! Tests of the public calls of the crates `ia32_..`: what registers, memory and arithmetic do (`registers`,
 //! `memory`, `arithmetic`), the bytes of instructions there and back (`spellings`, `decoding`), the sections of items
-//! (`items`), the items of graphs (`selection`) and of a function (`functions`), and runs of images (`machine`).
+//! (`items`), the items of a function (`functions`), and runs of images (`machine`).
 //!
 //! They stand in a crate of their own since a crate with tests is proved a second time; this one needs only
 //! what those crates promise.
@@ -28,7 +28,5 @@ mod machine;
 mod memory;
 #[cfg(test)]
 mod registers;
-#[cfg(test)]
-mod selection;
 #[cfg(test)]
 mod spellings;
