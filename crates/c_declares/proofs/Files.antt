@@ -151,12 +151,14 @@ definition_are said d body s =
     holds_if (RowFrom (many first) m) (Are (d.name.name ∷ []))
     (typed_statements (in_function g.result) (body_of body) first) (λ statements.
     defined said d.name s g (function_with d.name g first (after_statements (body_of body) first) statements))
-    (statements_from (in_function g.result) (body_of body) first) (λ sts h. record { few = (omega (arith, h, none), tt); named = refl }))
+    (statements_from (in_function g.result) (body_of body) first)
+    (λ sts h. record { few = (omega (arith, h, none), tt); named = refl }))
 
 -- ---- files
 
 said_are : (o : Option Specified) (at : Span) (specifiers : List Specifier) (d : DeclaratorTree) (body : Stmt)
-    (s : Scope) → IfFits (Are (d.name.name ∷ [])) (if_fits (or_fails o TypeRule at) (λ said. typed_definition said d body s))
+    (s : Scope) → IfFits (Are (d.name.name ∷ [])) (if_fits (or_fails o TypeRule at)
+    (λ said. typed_definition said d body s))
 said_are None at specifiers d body s = tt
 said_are (Some said) at specifiers d body s =
     holds_noted (Are (d.name.name ∷ [])) [] (typed_definition said d body s) (definition_are said d body s)
@@ -198,7 +200,8 @@ units_are : (us : List (List ExternalTree)) (s : Scope) → IfFits (Are (defined
 units_are [] s = are_none
 units_are (u ∷ us) s =
     let t = next_file (after_unit u s) in
-    both_are (filter_map defined_name u) (defined_names us) (typed_unit u s) (typed_units us t) (unit_are u s) (units_are us t)
+    both_are (filter_map defined_name u) (defined_names us) (typed_unit u s) (typed_units us t) (unit_are u s)
+    (units_are us t)
 
 none_is_some : (p : Program) → None ≡ Some p → ⊥
 none_is_some p e = grind arith

@@ -141,7 +141,8 @@ tree_or_fault file tokens unit (Unsupported keyword) at has (before, after, none
 tree_or_fault file tokens unit kind at has fault = absurd fault
 
 -- files with trees have none
-pub trees_or_fault : (file : ℕ) (files : List (List Token)) (units : List (List ExternalTree)) (kind : FaultKind) (at : Span)
+pub trees_or_fault : (file : ℕ) (files : List (List Token)) (units : List (List ExternalTree)) (kind : FaultKind)
+    (at : Span)
     → HaveTrees files units → FirstFaulty file files kind at → ⊥
 trees_or_fault file [] units kind at have fault = fault
 trees_or_fault file (tokens ∷ files) [] kind at have fault = have

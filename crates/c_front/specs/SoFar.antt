@@ -12,9 +12,10 @@ use Rattle.c_grammar.specs.Statements.{ExternalTree}
 use Rattle.c_front.specs.Accepted.{HaveTokens, HaveTrees, total}
 use Rattle.c_front.specs.Refusals.{StandBefore, FaultBehind, FirstFaulty, IsFaultyIn}
 
--- The files before the rest have these tokens, and so many more may come: what holds of the rest, of which the first file
--- has this number, holds of all.
-pub record LexedSoFar (texts : List (List ℕ)) (files : List (List Token)) (file left : ℕ) (rest : List (List ℕ)) : Type 0
+-- The files before the rest have these tokens, and so many more may come: what holds of the rest, of which the first
+-- file has this number, holds of all.
+pub record LexedSoFar (texts : List (List ℕ)) (files : List (List Token)) (file left : ℕ) (rest : List (List ℕ)) : Type
+    0
   where
     pub counted : file + length rest ≡ length texts
     pub left_is : total files + left ≡ 65536

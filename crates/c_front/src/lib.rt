@@ -1,7 +1,7 @@
 //! The tokens and the raw trees of source files, or why one has none, and where.
 //!
-//! `lex_files` gives the tokens of each file, `parse_files` its raw tree (`specs/Accepted.antt`); files are refused only
-//! for the reasons of `specs/Refusals.antt`, the first fault first.
+//! `lex_files` gives the tokens of each file, `parse_files` its raw tree (`specs/Accepted.antt`); files are refused
+//! only for the reasons of `specs/Refusals.antt`, the first fault first.
 #![tactic(auto)]
 
 mod lexed;

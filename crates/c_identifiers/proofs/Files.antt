@@ -17,7 +17,8 @@ use Rattle.c_typing.specs.Types.{Outside, Specified}
 use Rattle.c_typing.specs.Checked.{Checked, Fits, Fails, Note, fits, both, if_fits, value_in}
 use Rattle.c_typing.specs.Declarators.{parameters_meant}
 use Rattle.c_typing.specs.Expressions.{specifiers_at}
-use Rattle.c_typing.specs.Files.{after_external, after_function, after_unit, at_body, body_of, defined, function_signature}
+use Rattle.c_typing.specs.Files.{after_external, after_function, after_unit, at_body, body_of, defined}
+use Rattle.c_typing.specs.Files.{function_signature}
 use Rattle.c_typing.specs.Files.{function_with, in_function, parameters_in, typed_definition, typed_external}
 use Rattle.c_typing.specs.Files.{typed_outer_items, typed_unit, typed_units}
 use Rattle.c_typing.specs.Names.{Numbers, Scope, entered, first_scope, next_file}

@@ -18,7 +18,8 @@ use Rattle.c_tree.specs.Program.{Local, LocalArray}
 use Rattle.c_tree.specs.declared.types.ValueType.{ValueType}
 use Rattle.c_typing.specs.Checked.{value_in}
 use Rattle.c_typing.specs.Declarators.{ObjectType, IntegerObject, PointerObject, ArrayObject, object_type, with_named}
-use Rattle.c_typing.specs.Declarators.{parameters_meant, is_void_parameter, typed_parameter, with_parameter, with_parameters}
+use Rattle.c_typing.specs.Declarators.{parameters_meant, is_void_parameter, typed_parameter, with_parameter}
+use Rattle.c_typing.specs.Declarators.{with_parameters}
 use Rattle.c_typing.specs.Library.{Entity, At}
 use Rattle.c_typing.specs.Names.{Scope, entered, numbered}
 use Rattle.c_typing.specs.Statements.{after_declaration, after_item, after_items, after_specified, after_statement}

@@ -133,7 +133,8 @@ within texts p excess (units, have, is) h = not_above (above_or_many texts exces
   where
     not_above : (WithUnits texts (λ us. AreTold us excess) ⊎ (HaveManyTokens texts × (excess ≡ ManyTokens))) → ⊥
     not_above (inl told) =
-        let there : AreTold units excess = here (λ (us : List (List ExternalTree)). AreTold us excess) texts units have told in
+        let there : AreTold units excess = here (λ (us : List (List ExternalTree)). AreTold us excess) texts units have
+        told in
         (one_answer units (end_of texts)).1.limit p there.limit is there.above
     not_above (inr (many, e)) = not_many texts units have many
 
@@ -149,5 +150,6 @@ fault_or_limit texts fault excess faulty h = neither (above_or_many texts excess
   where
     neither : (WithUnits texts (λ us. AreTold us excess) ⊎ (HaveManyTokens texts × (excess ≡ ManyTokens))) → ⊥
     neither (inl (units, have, told)) =
-        (one_answer units (end_of texts)).1.both fault told.limit (typing_fault texts units fault have faulty) told.above
+        (one_answer units (end_of texts)).1.both fault told.limit (typing_fault texts units fault have faulty)
+        told.above
     neither (inr (many, e)) = many_or_fault texts fault faulty many

@@ -1,8 +1,8 @@
 //! The typed program of source files: their bytes in, their one typed program out, or why they have none.
 //!
-//! `typed_program` gives exactly the program of `specs/Answers.antt`, through tokens, raw trees and typing, or the fault
-//! that the texts have, or the limit that they are above, that on frames with the function's name; texts have one such
-//! answer (`one_answer`). The only other refusal is want of memory.
+//! `typed_program` gives exactly the program of `specs/Answers.antt`, through tokens, raw trees and typing, or the
+//! fault that the texts have, or the limit that they are above, that on frames with the function's name; texts have one
+//! such answer (`one_answer`). The only other refusal is want of memory.
 #![tactic(auto)]
 
 mod laws;

@@ -27,7 +27,8 @@ use Rattle.flow_graph.specs.Graphs.{HasWidth, IsIn, points_of}
 use Rattle.flow_graph.specs.Liveness.{IsBehind, LeadsTo, defined, uses}
 use Rattle.flow_graph.specs.Meaning.{Moved, Stuck, Halts, accessed, at_point, bytes_of, checked, given, of_width, sets}
 use Rattle.flow_graph.specs.States as graph
-use Rattle.flow_graph.specs.States.{Elements, active_of, array_at, array_from, depth_of, element_at, elements_of, flow_at}
+use Rattle.flow_graph.specs.States.{Elements, active_of, array_at, array_from, depth_of, element_at, elements_of}
+use Rattle.flow_graph.specs.States.{flow_at}
 use Rattle.flow_graph.specs.States.{op_at, point_after, value_at, with_value}
 use Rattle.flow_graph.specs.WellFormed.{AreElementsIn, AreElementsOf, IsState}
 use Rattle.graph_states.proofs.Lists.{all-at, zip-at}
@@ -341,6 +342,7 @@ element-bytes code input g s array word width elements supported state shown is 
         subst (λ (w : ℕ). FitsBytes w n) h.width_is (all-at (FitsBytes h.object.width) elements k n fit e)
     by (inr (call, j, h)) =
         let active = (activation-at code (active_of g) call h.activation state.active h.is.is_active).1 in
-        let fit = (zip-at AreElementsOf (flow_at code.program h.activation.function).arrays h.activation.arrays j h.array
+        let fit = (zip-at AreElementsOf (flow_at code.program h.activation.function).arrays h.activation.arrays j
+        h.array
         elements active.arrays h.declared h.has).fit in
         subst (λ (w : ℕ). FitsBytes w n) h.width_is (all-at (FitsBytes h.array.0) elements k n fit e)

@@ -1,5 +1,5 @@
--- What the checks before an access do to the machine: they end the run with the trap, or lead to what follows them, with the
--- array's word and the index in their registers.
+-- What the checks before an access do to the machine: they end the run with the trap, or lead to what follows them,
+-- with the array's word and the index in their registers.
 use Rattle.std.proofs.Common.{◌≡◌, ℕ, ◌+◌, ◌-◌, ◌%◌, ◌^◌, ◌<◌, ◌≤◌, Bool, true, false, List, [], ◌∷◌, ◌++◌}
 use Rattle.std.proofs.Common.{Option, Some, Ok, refl, sym, ap, subst, ◌∙◌, arith, append_assoc, eq-eqb}
 use Rattle.std.specs.Prelude.{◌==◌, Result, not, if◌then◌else◌}
@@ -82,7 +82,8 @@ came-traps : (site : Site) (frame : ℕ) (how : Cond) (ys : List Item) (s m : St
     → StandsFrom site check_items site.symbols.check → Came site frame (item.JumpTrap (Some how) ∷ ys) s m a
     → holds how m.flags ≡ Some true → (u : State) × FailsAccess site s u
 came-traps site frame how ys s m a stands c e =
-    let last = check-traps site how ys (at_address a m) (sound-at site.text site.low site.high a m c.framed.sound) stands
+    let last = check-traps site how ys (at_address a m) (sound-at site.text site.low site.high a m c.framed.sound)
+    stands
     c.ready e in (
       at_address last.0 m,
       record {
@@ -137,7 +138,8 @@ compare-makes site t r w i n s sound base index front held =
     let at : address_of (count_before t) s ≡ w - 4 =
     ap (λ (b : ℕ). (b + 0 + 4294967292) % 4294967296) base ∙ count-address w front (omega (arith, base, below)) in
     let loaded : load 4 (address_of (count_before t) s) s ≡ Ok n = ap (λ (a : ℕ). load 4 a s) at ∙ held in
-    subst (λ (v : ℕ). Makes site (insn.AluLoad alu.Cmp r (count_before t)) s (with_flags (Some (alu_flags alu.Cmp v n)) s))
+    subst (λ (v : ℕ). Makes site (insn.AluLoad alu.Cmp r (count_before t)) s
+    (with_flags (Some (alu_flags alu.Cmp v n)) s))
     index
     (record {
       straight = tt;
@@ -236,7 +238,8 @@ indexed site frame p q w i n ys s m a p_holds p_placed base front held holds pla
     let both : Goes OutsideScratch site frame (read r q ++ one) m u =
     goes-then OutsideScratch site frame (read r q) one m v u
     (goes-stricter (OutsideWord Edi) OutsideScratch site frame (read r q) m v (λ k h. h.1) first.1.goes)
-    (flags-goes OutsideScratch site frame (insn.AluLoad alu.Cmp r (count_before t)) flags v first.1.goes.framed makes) in
+    (flags-goes OutsideScratch site frame (insn.AluLoad alu.Cmp r (count_before t)) flags v first.1.goes.framed makes)
+    in
     let same : check_index p q ++ ys ≡ (read r q ++ one) ++ back =
     append_assoc (read r q) (plain (insn.AluLoad alu.Cmp r (count_before t)) ∷ item.JumpTrap (Some cond.Ae) ∷ []) ys
     ∙ sym (append_assoc (read r q) one back) in
@@ -264,7 +267,8 @@ index-past i n h = grind (arith, nat_tests)
 
 -- ---- both checks
 
-module _ (site : Site) (frame : ℕ) (p q : Place) (w i n : ℕ) (ys : List Item) (s : State) (a : ℕ) (p_holds : HoldsWord p)
+module _ (site : Site) (frame : ℕ) (p q : Place) (w i n : ℕ) (ys : List Item) (s : State) (a : ℕ)
+    (p_holds : HoldsWord p)
     (p_placed : IsPlaceIn frame p) (p_contains : Contains s Two p w) (w_fits : w < 2 ^ 32) (holds_q : HoldsWord q)
     (placed : IsPlaceIn frame q) (contains : Contains s Two q i) (fits : i < 2 ^ 32)
     (came : Came site frame (checking p q ++ ys) s s a)

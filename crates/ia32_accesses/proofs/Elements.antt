@@ -27,7 +27,8 @@ use Rattle.flow_graph.specs.declared.op.Op.{Op}
 use Rattle.flow_graph.specs.declared.op.Op.TheVariants as op
 use Rattle.flow_graph.specs.Graphs.{points_of}
 use Rattle.flow_graph.specs.Liveness.{IsBehind, LeadsTo, defined}
-use Rattle.flow_graph.specs.Meaning.{Moved, Moves, Stuck, at_point, bytes_of, given, of_width, onward, puts_scalar, stored}
+use Rattle.flow_graph.specs.Meaning.{Moved, Moves, Stuck, at_point, bytes_of, given, of_width, onward, puts_scalar}
+use Rattle.flow_graph.specs.Meaning.{stored}
 use Rattle.flow_graph.specs.States as graph
 use Rattle.flow_graph.specs.States.{Elements, active_of, depth_of, elements_of, flow_at, op_at, point_after, value_at}
 use Rattle.flow_graph.specs.States.{waiting_place, waiting_with, with_array, with_element, with_elements}
@@ -45,7 +46,8 @@ use Rattle.ia32_effects.specs.Effects.{Keeps, OutsideWord}
 use Rattle.ia32_effects.specs.Contains.{IsPlaceIn}
 use Rattle.ia32_effects.specs.Laws.{IsWorking}
 use Rattle.ia32_effects.proofs.Instructions.{number-makes}
-use Rattle.ia32_effects.proofs.Kept.{HasCells, PlaceHasCells, PlaceHasMemory, contains-kept, keeps-stricter, keeps-then, word-kept}
+use Rattle.ia32_effects.proofs.Kept.{HasCells, PlaceHasCells, PlaceHasMemory, contains-kept, keeps-stricter, keeps-then}
+use Rattle.ia32_effects.proofs.Kept.{word-kept}
 use Rattle.ia32_effects.proofs.Moves.{byte-below, general-below, gives-word}
 use Rattle.ia32_effects.proofs.Straight.{leads-join, straight-goes}
 use Rattle.ia32_keeps.specs.Supports.{IsSupported, site_of}
@@ -259,7 +261,8 @@ pub element-high : (code : Code) (f : ℕ) (s : machine.State) (width address i 
     → address + width * i + width ≤ (site_of code f).high
 element-high code f s width address i v sound low some held =
     let site : Site = site_of code f in
-    load-place site.text site.low site.high width (address + width * i) v s sound (more address (width * i) low) held some
+    load-place site.text site.low site.high width (address + width * i) v s sound (more address (width * i) low) held
+    some
   where
     more : (a m : ℕ) → data_start code.text ≤ a → data_start code.text ≤ a + m
     more a m h = omega (arith, h)
@@ -326,9 +329,11 @@ put-follows bits k a code input g s supported state shown has r =
         (number-makes site Edi z s framed.sound) in
         let m : machine.State = gives.0 in
         let holds = contains-kept (OutsideWord Edi) Anywhere s m Two one.place (cast_unsigned w32 x) gives.1.keeps
-        (λ j below. (ebp-outside j below).1) (edi-outside frame one.place one.inside) (all-memory (word_of Ebp s) one.place)
+        (λ j below. (ebp-outside j below).1) (edi-outside frame one.place one.inside)
+        (all-memory (word_of Ebp s) one.place)
         one.contains in
-        let puts = element-stores site frame bits one.place d (cast_unsigned w32 x) m gives.1.framed one.holds one.inside
+        let puts = element-stores site frame bits one.place d (cast_unsigned w32 x) m gives.1.framed one.holds
+        one.inside
         holds (word-fits x one.fits) gives.1.value above (subst (λ (b : ℕ). b + n ≤ site.high) first top) in
         let u : machine.State = puts.0 in
         let K : ℕ → ℕ → Type 0 = λ b l. AreDisjoint d n b l in
@@ -345,7 +350,8 @@ put-follows bits k a code input g s supported state shown has r =
         puts.1.leads) in
         let held : load n d u ≡ Ok (cast_unsigned w32 (stored bits x) % 2 ^ (8 * n)) =
         puts.1.value ∙ ap (λ (w : ℕ). let q : Result ℕ End = Ok w in q) (stored-low bits x one.fits) in
-        stored-follows code input g s u o (Static k) d n there.elements 0 (stored bits x) went.0 named.row.rest supported
+        stored-follows code input g s u o (Static k) d n there.elements 0 (stored bits x) went.0 named.row.rest
+        supported
         state shown has refl (λ next h. h)
         (static-elements code g s k there
         ∙ ap (λ (w : ℕ). let q : Option Elements = Some (w, there.elements) in q) wide) (lt, placed)

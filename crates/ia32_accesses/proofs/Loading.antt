@@ -153,7 +153,8 @@ loading-makes site frame ThirtyTwo t m v s framed held =
 
 loading-gives : (site : Site) (frame : ℕ) (bits : Bits) (t : Reg32) (m : Mem) (address v : ℕ) (s : State)
     → Framed site frame s → IsWorking t → address_of m s ≡ address → load (bytes_of bits) address s ≡ Ok v
-    → v < 2 ^ (8 * bytes_of bits) → (u : State) × Gives site frame (plain (loading bits t m) ∷ []) t (widened bits v) s u
+    → v < 2 ^ (8 * bytes_of bits) → (u : State) × Gives site frame (plain (loading bits t m) ∷ []) t (widened bits v) s
+    u
 loading-gives site frame bits t m address v s framed works at held small =
     gives-word site frame (loading bits t m) t (widened bits v) s framed works (widened-fits bits v small)
     (loading-makes site frame bits t m v s framed

@@ -50,10 +50,12 @@ use Rattle.ia32_cores.proofs.Setting.{value-is}
 use Rattle.ia32_routines.proofs.Routines.{check-stands}
 use Rattle.ia32_accesses.specs.Laws.{OutsideScratch, widened}
 use Rattle.ia32_accesses.specs.Ops.{LoadFollows, StoreFollows}
-use Rattle.ia32_accesses.proofs.Accessing.{HasArrayIn, IsThere, at-start, by-array, by-element, ends-there, has-array, is-there}
+use Rattle.ia32_accesses.proofs.Accessing.{HasArrayIn, IsThere, at-start, by-array, by-element, ends-there, has-array}
+use Rattle.ia32_accesses.proofs.Accessing.{is-there}
 use Rattle.ia32_accesses.proofs.Accessing.{element-bytes, reached-follows, some-bytes}
 use Rattle.ia32_accesses.proofs.Checking.{Came, checks-pass, null-fails, past-fails}
-use Rattle.ia32_accesses.proofs.Elements.{all-memory, ebp-outside, edi-outside, edi-works, element-high, scratch-outside}
+use Rattle.ia32_accesses.proofs.Elements.{all-memory, ebp-outside, edi-outside, edi-works, element-high}
+use Rattle.ia32_accesses.proofs.Elements.{scratch-outside}
 use Rattle.ia32_accesses.proofs.Elements.{stored-follows, stored-low}
 use Rattle.ia32_accesses.proofs.Loading.{element-small, element-word, given-any, load-puts, place-at}
 use Rattle.ia32_accesses.proofs.Storing.{element-stores}
@@ -143,9 +145,11 @@ load-follows bits d p i code input g s supported state shown has r =
             → IsThere code s one.word (bytes_of bits) elements
             → Follows code input s g false (checked (element_at elements z) (λ n. sets code.program g d (Number n)))
         inside elements is there =
-            by-element (Follows code input s g false) elements z (λ n. sets code.program g d (Number n)) two.fits there.few
+            by-element (Follows code input s g false) elements z (λ n. sets code.program g d (Number n)) two.fits
+            there.few
             (λ past. ends-there code input g s shown
-            (past-fails site frame one.place two.place one.word index (length elements) back s s.eip one.holds one.inside
+            (past-fails site frame one.place two.place one.word index (length elements) back s s.eip one.holds
+            one.inside
             one.contains one.small two.holds two.inside two.contains (word-fits z two.fits) came there.now.front
             there.now.stand.0 past (check-stands code g.current.function supported)))
             (λ k n e f has_n. found k n f has_n)
@@ -164,7 +168,8 @@ load-follows bits d p i code input g s supported state shown has r =
                 (some-bytes bits) held in
                 let high = framed.sound.below in
                 let pass = checks-pass site frame one.place two.place one.word index (length elements) back s s.eip
-                one.holds one.inside one.contains one.small two.holds two.inside two.contains (word-fits z two.fits) came
+                one.holds one.inside one.contains one.small two.holds two.inside two.contains (word-fits z two.fits)
+                came
                 there.now.front there.now.stand.0 (subst (λ (j : ℕ). j < length elements) (sym f) lt) in
                 let u : machine.State = pass.0 in
                 let at : address_of m u ≡ a =
@@ -177,7 +182,8 @@ load-follows bits d p i code input g s supported state shown has r =
                 let t : machine.State = puts.0 in
                 let went = straight-goes site (load_from bits place m) row.rest u t pass.1 pass.2.framed.sound
                 pass.2.ready puts.1.leads in
-                let fit : FitsBytes size n = element-bytes code input g s array one.word size elements supported state shown is one.is k n has_n
+                let fit : FitsBytes size n = element-bytes code input g s array one.word size elements supported state
+                shown is one.is k n has_n
                 in
                 let ebp : word_of Ebp u ≡ word_of Ebp s =
                 word-kept OutsideScratch Anywhere Ebp s u pass.2.keeps ebp-outside in
@@ -286,9 +292,11 @@ store-follows bits p i c code input g s supported state shown has r =
             (λ old. onward code.program (with_array array (with_element elements z (stored bits x)) g)))
         inside elements is there =
             by-element (Follows code input s g false) elements z
-            (λ old. onward code.program (with_array array (with_element elements z (stored bits x)) g)) two.fits there.few
+            (λ old. onward code.program (with_array array (with_element elements z (stored bits x)) g)) two.fits
+            there.few
             (λ past. ends-there code input g s shown
-            (past-fails site frame one.place two.place one.word index (length elements) back s s.eip one.holds one.inside
+            (past-fails site frame one.place two.place one.word index (length elements) back s s.eip one.holds
+            one.inside
             one.contains one.small two.holds two.inside two.contains (word-fits z two.fits) came there.now.front
             there.now.stand.0 past (check-stands code g.current.function supported)))
             (λ k old e f has_old.
@@ -309,12 +317,14 @@ store-follows bits p i c code input g s supported state shown has r =
                 let high = framed.sound.below in
                 let low = there.low in
                 let pass = checks-pass site frame one.place two.place one.word index (length elements) back s s.eip
-                one.holds one.inside one.contains one.small two.holds two.inside two.contains (word-fits z two.fits) came
+                one.holds one.inside one.contains one.small two.holds two.inside two.contains (word-fits z two.fits)
+                came
                 there.now.front there.now.stand.0 (subst (λ (j : ℕ). j < length elements) (sym f) lt) in
                 let u : machine.State = pass.0 in
                 let fits_a : a < 4294967296 = omega (arith, top, high) in
                 let at : address_of m u ≡ a =
-                element-address code g.current.function bits one.place two.place one.word k u pass.3 (pass.4 ∙ f) fits_a in
+                element-address code g.current.function bits one.place two.place one.word k u pass.3 (pass.4 ∙ f) fits_a
+                in
                 let lea = gives-word site frame (insn.Lea Edi m) Edi a u pass.2.framed edi-works fits_a
                 (lea-makes site frame m a u pass.2.framed at) in
                 let v : machine.State = lea.0 in
@@ -336,7 +346,8 @@ store-follows bits p i c code input g s supported state shown has r =
                 (keeps-then OutsideScratch K u v t
                 (keeps-stricter (OutsideWord Edi) OutsideScratch Anywhere K u v (λ j h. h.1) (λ b l h. tt) lea.1.keeps)
                 puts.1.keeps) in
-                stored-follows code input g s t o array one.word size elements k (stored bits x) went.0 row.rest supported
+                stored-follows code input g s t o array one.word size elements k (stored bits x) went.0 row.rest
+                supported
                 state shown has refl (λ next h. h) is one.is lt keeps
                 (puts.1.value ∙ ap (λ (w : ℕ). let q : Result ℕ End = Ok w in q) (stored-low bits x three.fits))
                 puts.1.framed.sound

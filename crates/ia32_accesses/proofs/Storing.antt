@@ -20,7 +20,8 @@ use Rattle.ia32_insn.specs.declared.insn.Insn.{Insn}
 use Rattle.ia32_insn.specs.declared.insn.Insn.TheVariants as insn
 use Rattle.ia32_insn.specs.State.{Area, State, at_address, stored, with_bytes}
 use Rattle.ia32_insn.specs.Keeps.{AreDisjoint, KeepsAllButMemory}
-use Rattle.ia32_insn.specs.Meaning.{address_of, and_then, byte_of, denied, effect, load, or_end, store, with_word, word_of}
+use Rattle.ia32_insn.specs.Meaning.{address_of, and_then, byte_of, denied, effect, load, or_end, store, with_word}
+use Rattle.ia32_insn.specs.Meaning.{word_of}
 use Rattle.ia32_insn.specs.Items.{near, plain, text_area}
 use Rattle.ia32_insn.proofs.Access.{load-elsewhere, load-stored, store-keeps_rest}
 use Rattle.ia32_insn.proofs.Splices.{length-replaced}
@@ -33,7 +34,8 @@ use Rattle.ia32_rows.specs.Rows.{low_byte, read, storing, target_of}
 use Rattle.ia32_effects.specs.Effects.{IsStraight, Keeps, Leads, Makes, OutsideWord}
 use Rattle.ia32_effects.specs.Contains.{Contains, HoldsWord, IsPlaceIn}
 use Rattle.ia32_effects.proofs.Instructions.{store-at}
-use Rattle.ia32_effects.proofs.Kept.{framed-kept, keeps-same, keeps-stricter, keeps-then, other-cells, result-keeps, word-kept}
+use Rattle.ia32_effects.proofs.Kept.{framed-kept, keeps-same, keeps-stricter, keeps-then, other-cells, result-keeps}
+use Rattle.ia32_effects.proofs.Kept.{word-kept}
 use Rattle.ia32_effects.proofs.Moves.{general-below, read-gives}
 use Rattle.ia32_effects.proofs.Straight.{leads-join}
 use Rattle.ia32_effects.proofs.Sums.{esi-works}
@@ -312,7 +314,8 @@ storing-stores : (site : Site) (frame : ℕ) (bits : Bits) (q : Place) (a x : �
     → a + bytes_of bits ≤ site.high
     → (u : State) × Stores site frame (storing bits q) a (bytes_of bits) (x % 2 ^ (8 * bytes_of bits)) s u
 storing-stores site frame ThirtyTwo q a x s framed holds placed is fits edi from to =
-    let put = put-stores site frame (insn.Mov (rm.Mem (near Edi 0)) (target_of q)) 4 a (word_of (target_of q) s) s framed
+    let put = put-stores site frame (insn.Mov (rm.Mem (near Edi 0)) (target_of q)) 4 a (word_of (target_of q) s) s
+    framed
     tt (omega arith) edi from to (omega (arith, is, fits)) (λ address. refl) in
     let same : word_of (target_of q) s ≡ x % 2 ^ 32 = omega (arith, is, fits) in
     (put.0, subst (λ (v : ℕ). Stores site frame (storing ThirtyTwo q) a 4 v s put.0) same put.1)
@@ -323,7 +326,8 @@ storing-stores site frame Sixteen q a x s framed holds placed is fits edi from t
 storing-stores site frame Eight (InWord r) a x s framed holds placed is fits edi from to =
     let byte : byte_of (low_byte r) s ≡ x % 256 =
     low-byte-is r s framed.sound.registers placed ∙ ap (λ (w : ℕ). w % 256) is in
-    let put = put-stores site frame (insn.Mov8 (rm8.Mem (near Edi 0)) (low_byte r)) 1 a (byte_of (low_byte r) s) s framed
+    let put = put-stores site frame (insn.Mov8 (rm8.Mem (near Edi 0)) (low_byte r)) 1 a (byte_of (low_byte r) s) s
+    framed
     tt (omega arith) edi from to (omega (arith, byte)) (λ address. refl) in
     (put.0, subst (λ (v : ℕ). Stores site frame (storing Eight (InWord r)) a 1 v s put.0) byte put.1)
 storing-stores site frame Eight (InByte r) a x s framed holds placed is fits edi from to = absurd holds
@@ -337,7 +341,8 @@ element-stores site frame bits q a x s framed holds placed contains fits edi fro
     let m : State = first.0 in
     let edi_m : word_of Edi m ≡ a =
     word-kept (OutsideWord Esi) Anywhere Edi s m first.1.goes.keeps (other-cells Edi Esi (λ e. omega arith)) ∙ edi in
-    let second = storing-stores site frame bits q a x m first.1.goes.framed holds placed first.1.value fits edi_m from to
+    let second = storing-stores site frame bits q a x m first.1.goes.framed holds placed first.1.value fits edi_m from
+    to
     in
     let u : State = second.0 in (
       u,

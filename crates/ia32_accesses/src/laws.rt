@@ -1,5 +1,6 @@
 ghost use Rattle.ia32_accesses.specs.Laws.{FramePuts, LoadPuts, ElementStores};
-ghost use Rattle.ia32_accesses.specs.Ops.{FrameFollows, StaticFollows, GetFollows, PutFollows, LoadFollows, StoreFollows};
+ghost use Rattle.ia32_accesses.specs.Ops.{FrameFollows, StaticFollows, GetFollows, PutFollows, LoadFollows};
+ghost use Rattle.ia32_accesses.specs.Ops.{StoreFollows};
 
 /// The address of a place of the frame comes to a place, and so does an element in memory, with its sign; the low
 /// bits of the word of a place go to an address.
@@ -9,8 +10,8 @@ pub fn rows_move_elements()
     ensures store { ElementStores }
 {}
 
-/// Where a state of the machine shows one of the program at an op that takes the address of a frame array or of a static
-/// object, the machine follows the op's step through its row, over any placement that supports the graph.
+/// Where a state of the machine shows one of the program at an op that takes the address of a frame array or of a
+/// static object, the machine follows the op's step through its row, over any placement that supports the graph.
 pub fn addresses_are_followed()
     ensures frame { FrameFollows }
     ensures static_object { StaticFollows }
@@ -22,8 +23,8 @@ pub fn objects_are_followed()
     ensures put { PutFollows }
 {}
 
-/// It follows loads and stores of elements of arrays of any depth and of static objects, and their traps: where there is
-/// no array, or no such element.
+/// It follows loads and stores of elements of arrays of any depth and of static objects, and their traps: where there
+/// is no array, or no such element.
 pub fn accesses_are_followed()
     ensures load { LoadFollows }
     ensures store { StoreFollows }

@@ -137,7 +137,8 @@ arrays-differ code input g s k depth l other m n h state shown one two distinct 
     let first = one.youngest in
     let second = two.youngest in
     apart m (a.width * length a.elements) n b.width same a.some b.wide
-    (other-array-apart code input g s (length (active_of g) - depth) k m a.width a.elements (a.width * length a.elements) n
+    (other-array-apart code input g s (length (active_of g) - depth) k m a.width a.elements
+    (a.width * length a.elements) n
     b.width h state shown a.is
     (region-of code input g s (length (active_of g) - depth) k m a.width a.elements h state shown a.is).all
     (record {

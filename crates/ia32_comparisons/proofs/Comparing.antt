@@ -228,7 +228,8 @@ branch-follows how a b first second code input g s rest h state shown has one_at
         StandsFrom site (to.front ++ (item.Label (if v then first else second) ∷ to.back)) to.start) (sym is)
         to.stands in
         let went = branch-goes site frame how one.place two.place first second one.word two.word s s.eip to.front
-        to.back rest to.start (shown-in-frame code input g s h state shown).framed one.holds one.inside two.holds two.inside
+        to.back rest to.start (shown-in-frame code input g s h state shown).framed one.holds one.inside two.holds
+        two.inside
         one.contains two.contains one.small two.small here stands in
         enters code input g s went.0 o (if c then first else second) went.3 to.back h state shown has refl
         (behind c) went.1 went.2

@@ -1,5 +1,6 @@
 -- What one turn of each loop adds.
-use Rattle.std.proofs.Common.{◌≡◌, ◌<◌, ◌≤◌, ◌+◌, ◌-◌, ◌*◌, ℕ, zero, suc, ℤ, pos, negsuc, ◌-ℤ◌, ◌*ℤ◌, List, [], ◌∷◌, ◌++◌}
+use Rattle.std.proofs.Common.{◌≡◌, ◌<◌, ◌≤◌, ◌+◌, ◌-◌, ◌*◌, ℕ, zero, suc, ℤ, pos, negsuc, ◌-ℤ◌, ◌*ℤ◌, List, [], ◌∷◌}
+use Rattle.std.proofs.Common.{◌++◌}
 use Rattle.std.proofs.Common.{Some, drop, map, sym, ap, ◌∙◌, arith, append_assoc, to_z, of_z}
 use Rattle.std.specs.Prelude.{slice_get, sum_by}
 use Rattle.std.specs.Int.{w32}
@@ -56,7 +57,8 @@ numbers-more a (suc n) =
     ap (λ (xs : List ℕ). a ∷ xs) (ap (λ (k : ℕ). range_with_len (a + 1) n ++ k ∷ []) e ∙ numbers-more (a + 1) n)
 
 -- one more variable has its offset
-pub variables-more : (n : ℕ) → map offset_of (slots_for n) ++ offset_of (slot_at n) ∷ [] ≡ map offset_of (slots_for (n + 1))
+pub variables-more : (n : ℕ) → map offset_of (slots_for n) ++ offset_of (slot_at n) ∷ []
+    ≡ map offset_of (slots_for (n + 1))
 variables-more n =
     let e : 0 + n ≡ n = omega arith in
     let s : suc n ≡ n + 1 = omega arith in
@@ -69,7 +71,8 @@ variables-more n =
 -- one more array has its offset
 pub arrays-more : (offsets : List ℤ) (header : ℕ) (arrays : List (ℕ × ℕ)) (k : ℕ) (array : ℕ × ℕ) (all : List ℤ)
     → slice_get arrays k ≡ Some array → offsets ++ map offset_of (arrays_from header (drop k arrays)) ≡ all
-    → (offsets ++ offset_of (header - 4) ∷ []) ++ map offset_of (arrays_from (header - array_bytes array) (drop (k + 1) arrays))
+    → (offsets ++ offset_of (header - 4) ∷ []) ++ map offset_of
+    (arrays_from (header - array_bytes array) (drop (k + 1) arrays))
     ≡ all
 arrays-more offsets header arrays k array all e so-far =
     append_assoc offsets (offset_of (header - 4) ∷ [])

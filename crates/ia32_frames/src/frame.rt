@@ -65,9 +65,9 @@ fn variable_offsets(alloc: Global, variables: u32) -> Result<Vec<i32>, NoMemory>
 }
 
 impl Frame {
-    /// The frame of a function with this graph: the four words of the caller's registers and of scratch below EBP, below
-    /// them a slot of four bytes for each variable, and below these the arrays, each directly above its header. The only
-    /// refusal is want of memory.
+    /// The frame of a function with this graph: the four words of the caller's registers and of scratch below EBP,
+    /// below them a slot of four bytes for each variable, and below these the arrays, each directly above its header.
+    /// The only refusal is want of memory.
     pub fn of(alloc: Global, graph: &Graph) -> Result<Frame, NoMemory>
         requires { frame_bytes graph.now ≤ 16384 }
         ensures bytes { IfOk result (λ frame. frame.bytes ≡ frame_bytes graph.now) }

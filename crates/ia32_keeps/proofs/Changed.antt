@@ -87,7 +87,8 @@ array-has-apart code input g s c k address width elements bytes supported state 
           part-apart code input g s c k address width elements bytes j a frame at n supported state shown h few other
           part);
       slots = λ v slot n place short.
-          part-apart code input g s c k address width elements bytes 0 g.current (word_of Ebp s) (word_of Ebp s - slot) n
+          part-apart code input g s c k address width elements bytes 0 g.current (word_of Ebp s) (word_of Ebp s - slot)
+          n
           supported state shown h few (current-at code input g s shown) (inr (v, slot, place, refl, short));
     }
   where
@@ -429,7 +430,8 @@ frame-shows code input g s t o c k address width elements new bytes block point 
 
 -- ---- the current call's, and a waiting one's
 
-pub current-shows : (code : Code) (input : List ℕ) (g : graph.State) (s t : machine.State) (o : Op) (k address width : ℕ)
+pub current-shows : (code : Code) (input : List ℕ) (g : graph.State) (s t : machine.State) (o : Op)
+    (k address width : ℕ)
     (elements new : List ℤ) (bytes block point : ℕ) (left : List ℕ) (taken : ℕ) (written : List ℕ) → IsSupported code
     → IsState code.program g → (shown : Shows code input g s) → op_at code.program g ≡ Some o → defined o ≡ None
     → (mine : IsArrayOf code g shown.frames 0 k address width elements) → bytes ≤ size_of mine.array

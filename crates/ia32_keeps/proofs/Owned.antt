@@ -15,7 +15,8 @@ use Rattle.ia32_keeps.proofs.Changed.{current-at, current-shows}
 use Rattle.ia32_keeps.proofs.Regions.{IsArrayOf}
 
 pub own-array-shows : OwnArrayShows
-own-array-shows code input g s t o k distance array elements new block point left taken written supported state shown has
+own-array-shows code input g s t o k distance array elements new block point left taken written supported state shown
+    has
     none there declared placed keeps stand arrives =
     subst (λ (test : Bool). Shows code input
     (if test then record m { current = with_elements k new m.current }

@@ -33,7 +33,8 @@ IsNamed code g frames address width elements =
     ((k : ℕ) × IsStatic code g k address width elements)
     ⊎ ((c : ℕ) × (k : ℕ) × IsArrayOf code g frames c k address width elements)
 
-pub named : (code : Code) (g : graph.State) (frames : List ℕ) (array : ArrayName) (address width : ℕ) (elements : List ℤ)
+pub named : (code : Code) (g : graph.State) (frames : List ℕ) (array : ArrayName) (address width : ℕ)
+    (elements : List ℤ)
     → elements_of code.program g array ≡ Some (width, elements) → IsArrayAt code (active_of g) frames array address
     → IsNamed code g frames address width elements
 named code g frames Null address width elements is at = absurd (none-some (width, elements) is)

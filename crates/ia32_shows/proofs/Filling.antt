@@ -224,7 +224,8 @@ filled-more site pointer first n value last address s u v h r =
 -- the loop, from its first instruction on, with n words to be filled behind the one that is filled first
 loop-goes : (site : Site) (pointer limit : Reg32) (Holds : State → Type 0) (filler : Insn)
     (label first value start n : ℕ) (back : List Item) (s : State) → Fills pointer Holds value filler
-    → number32 limit ≢ number32 pointer → StandsFrom site (item.Label label ∷ turn pointer filler limit label back) start
+    → number32 limit ≢ number32 pointer → StandsFrom site (item.Label label ∷ turn pointer filler limit label back)
+    start
     → SoundAt site s → ReadyAt site (turn pointer filler limit label back) s → site.low ≤ first
     → first + 4 * suc n ≤ site.high → word_of pointer s ≡ first + 4 * suc n → Holds s → word_of limit s ≡ first
     → (u : State) × Comes site.text s u × ReadyAt site back u × Filled site pointer first (suc n) value s u

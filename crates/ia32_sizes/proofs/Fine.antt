@@ -31,7 +31,8 @@ use Rattle.graph_states.proofs.Numbers.{signed-fits}
 use Rattle.ia32_encode.specs.Parts.{IsInRange, IsIndex, IsIndexed}
 use Rattle.ia32_shows.specs.Placements.{below}
 use Rattle.ia32_rows.specs.Rows.{scratch, read, write, operate, working, has_operand, target_of, number_row, copy_row}
-use Rattle.ia32_rows.specs.Rows.{operation, commuting, pass, multiply, multiplying, changing, low_byte, extend, widening}
+use Rattle.ia32_rows.specs.Rows.{operation, commuting, pass, multiply, multiplying, changing, low_byte, extend}
+use Rattle.ia32_rows.specs.Rows.{widening}
 use Rattle.ia32_rows.specs.Rows.{lowering, extend_half, halving, into_count, shifted_in, shifting, clear_divisor}
 use Rattle.ia32_rows.specs.Rows.{divisor_of, before_division, dividing, comparing, set_row, argument_word, leave}
 use Rattle.ia32_rows.specs.Rows.{return_row, loading, storing, store_to, index_register, element}
@@ -211,7 +212,8 @@ pub lowering-fine : (p q : Place) → IsNear p → IsNear q → AreFine 3 (lower
 lowering-fine (InWord r) q h k = wider 2 (copy_row q (InWord r)) (copy-fine q (InWord r) k h)
 lowering-fine (InByte r) (InWord q) h k =
     wider 2 (copy_row (InByte (low_byte q)) (InByte r)) (copy-fine (InByte (low_byte q)) (InByte r) tt tt)
-lowering-fine (InByte r) (InByte q) h k = wider 2 (copy_row (InByte q) (InByte r)) (copy-fine (InByte q) (InByte r) tt tt)
+lowering-fine (InByte r) (InByte q) h k = wider 2 (copy_row (InByte q) (InByte r))
+    (copy-fine (InByte q) (InByte r) tt tt)
 lowering-fine (InByte r) (InSlot b) h k =
     written 1 (read Esi (InSlot b)) (InByte r) Esi (read-fine Esi (InSlot b) k) tt
 lowering-fine (InSlot b) q h k = wider 2 (copy_row q (InSlot b)) (copy-fine q (InSlot b) k h)

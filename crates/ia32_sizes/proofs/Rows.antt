@@ -34,7 +34,8 @@ use Rattle.ia32_asm.proofs.Laying.{items_size-append}
 use Rattle.ia32_shows.specs.Filling.{fill}
 use Rattle.ia32_shows.specs.Placements.{below}
 use Rattle.ia32_rows.specs.Rows.{items_between, read, target_of, write, number_row, copy_row, operation, commuting}
-use Rattle.ia32_rows.specs.Rows.{multiplying, changing, widening, lowering, halving, shifting, dividing, comparing, cond_of}
+use Rattle.ia32_rows.specs.Rows.{multiplying, changing, widening, lowering, halving, shifting, dividing, comparing}
+use Rattle.ia32_rows.specs.Rows.{cond_of}
 use Rattle.ia32_rows.specs.Rows.{set_row, pass, pass_all, argument_word, deepen, undeepen, drop_words, write_any}
 use Rattle.ia32_rows.specs.Rows.{before_call, behind_call, call_row, leave, return_row, prologue, size_of}
 use Rattle.ia32_rows.specs.Rows.{clear_row, loading, load_from, store_to, index_register, count_before, element}
@@ -42,7 +43,8 @@ use Rattle.ia32_rows.specs.Rows.{check_array, check_index, checking, load_row, s
 use Rattle.ia32_rows.proofs.ItemKinds.{every-join}
 use Rattle.ia32_sizes.proofs.Fine.{AreFine, IsFine, IsNear, Within, argument-fits, changing-fine, commuting-fine}
 use Rattle.ia32_sizes.proofs.Fine.{comparing-fine, copy-fine, dividing-fine, element-index, fits-below, fits-near}
-use Rattle.ia32_sizes.proofs.Fine.{halving-fine, join, leaves, loading-fine, lowering-fine, multiplying-fine, number-fine}
+use Rattle.ia32_sizes.proofs.Fine.{halving-fine, join, leaves, loading-fine, lowering-fine, multiplying-fine}
+use Rattle.ia32_sizes.proofs.Fine.{number-fine}
 use Rattle.ia32_sizes.proofs.Fine.{operation-fine, pass-fine, read-fine, return-fine, set-fine, shifting-fine}
 use Rattle.ia32_sizes.proofs.Fine.{store_to-fine, widening-fine, write-fine}
 use Rattle.ia32_sizes.proofs.Short.{items-short, pass_all-short}
@@ -162,7 +164,8 @@ module _ (whole : List Item) (functions objects : ℕ) where
       record {
         good = every-join P (before_call arguments) (item.CallFunction f ∷ behind_call result words)
             (every-join P deepen (pass_all arguments) deepen-good.0 (pass_all-good arguments passed)) calls.0;
-        small = counted (items_size (call_row result f arguments)) (items_size (before_call arguments)) (items_size deepen)
+        small = counted (items_size (call_row result f arguments)) (items_size (before_call arguments))
+            (items_size deepen)
             (items_size (pass_all arguments)) (items_size (item.CallFunction f ∷ behind_call result words))
             (length (item.CallFunction f ∷ behind_call result words)) words
             (items_size-append (before_call arguments) (item.CallFunction f ∷ behind_call result words))
@@ -178,7 +181,8 @@ module _ (whole : List Item) (functions objects : ℕ) where
 
   check_array-good : (p : Place) → IsNear p → Good 3 (check_array p)
   check_array-good p h =
-      let test : List Item = plain (insn.Test (rm.Reg (target_of p)) (target_of p)) ∷ item.JumpTrap (Some cond.E) ∷ [] in
+      let test : List Item = plain (insn.Test (rm.Reg (target_of p)) (target_of p)) ∷ item.JumpTrap (Some cond.E) ∷ []
+      in
       both 1 2 (read (target_of p) p) test (good 1 (read (target_of p) p) (read-fine (target_of p) p h))
       (((tt, tt), (tt, tt)), omega arith)
 
@@ -211,7 +215,8 @@ module _ (whole : List Item) (functions objects : ℕ) where
       let m : Mem = element (bytes_of bits) (target_of p) (index_register q) in
       both 6 5 (checking p q) (plain (insn.Lea Edi m) ∷ store_to bits r) (checking-good p q h k)
       (first 4 (plain (insn.Lea Edi m)) (store_to bits r)
-      (fits-near 0 (omega arith), element-index bits (target_of p) q k) (good 4 (store_to bits r) (store_to-fine bits r l)))
+      (fits-near 0 (omega arith), element-index bits (target_of p) q k)
+      (good 4 (store_to bits r) (store_to-fine bits r l)))
 
   -- ---- loops
 
@@ -339,7 +344,8 @@ module _ (whole : List Item) (functions objects : ℕ) where
       (good 2 (write (after d) t) (write-fine (after d) t (a d))))
   row-fits label arrays distances before after (op.Call d f arguments) b a k numbers names labels few =
       let many : length (map before arguments) ≡ length arguments = length-map arguments before in
-      subst (λ (n : ℕ). IsFitRow whole functions objects n (call_row (option_map after d) f (map before arguments))) many
+      subst (λ (n : ℕ). IsFitRow whole functions objects n (call_row (option_map after d) f (map before arguments)))
+      many
       (call-fits (option_map after d) f (map before arguments) (any d) names (each arguments)
       (subst (λ (n : ℕ). n ≤ 4096) (sym many) few))
     where

@@ -147,7 +147,8 @@ pass-short : (p : Place) → items_size (pass p) ≤ 8
 pass-short (InWord r) = omega arith
 pass-short (InByte r) = omega arith
 pass-short (InSlot k) =
-    let four : length (displacement_for (Some Ebp) (neg_ℤ (pos k))) ≤ 4 = displacement-short (Some Ebp) (neg_ℤ (pos k)) in
+    let four : length (displacement_for (Some Ebp) (neg_ℤ (pos k))) ≤ 4 = displacement-short (Some Ebp) (neg_ℤ (pos k))
+    in
     omega arith
 
 pub pass_all-short : (places : List Place) → items_size (pass_all places) ≤ 8 * length places

@@ -25,7 +25,8 @@ below-limit m n l rest e = by (nat_lt m n) refl e
     by true t e = absurd (cc)
     by false t e = (grind (arith, nat_tests, t), e)
 
-pub frames-below : (k : ℕ) (fs : List Function) → large_frame k fs ≡ None → AllByRecursion (λ f. frame_bound f ≤ 16384) fs
+pub frames-below : (k : ℕ) (fs : List Function) → large_frame k fs ≡ None
+    → AllByRecursion (λ f. frame_bound f ≤ 16384) fs
 frames-below k [] e = tt
 frames-below k (f ∷ fs) e =
     let h = below-limit most_frame (frame_bound f) _ (large_frame (suc k) fs) e in

@@ -1,4 +1,5 @@
-//! A law of the limits on typed programs, and an example: each function's contract is one, and the function does nothing.
+//! A law of the limits on typed programs, and an example: each function's contract is one, and the function does
+//! nothing.
 
 ghost use Rattle.lower_lines.specs.Words.{IsInMemory};
 ghost use Rattle.lower_lines.specs.Worked.{walks};

@@ -77,7 +77,8 @@ IsOwn S n = locals_at S.program.functions n ≡ S.function.locals
 abbrev pub StatementsLower : Type 0
 StatementsLower = (S : Site) → IsSite S → WellTyped S.program → IsInMemory S.program → ExpressionsFollow S
     → (loops : ℕ) → S.bound ≤ loops → (breaks continues : Bool) (x : Statement)
-    → IsStatement S.program S.function breaks continues x → All (IsOwn S) (statement_numbers x) → LowersRun S breaks continues (run_of (context_of S) x)
+    → IsStatement S.program S.function breaks continues x → All (IsOwn S) (statement_numbers x)
+    → LowersRun S breaks continues (run_of (context_of S) x)
     (execute (within S.calls loops S.listing (type_at S.function) S.function.result) x)
 
 abbrev pub BodiesLower : Type 0

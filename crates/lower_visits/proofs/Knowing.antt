@@ -279,7 +279,8 @@ visit-known p listing locals older n s lists own k =
 -- ---- statements
 
 pub statement-knows : {calls : List (List Local)} (result : ValueType) {next : Runs} (left : Left)
-    → IsLeftSo result left → Knows calls (IsLeftSo result) next → Knows calls (IsLeftSo result) (after_statement next left)
+    → IsLeftSo result left → Knows calls (IsLeftSo result) next
+    → Knows calls (IsLeftSo result) (after_statement next left)
 statement-knows result Falls is h = h
 statement-knows result Breaks is h = gives-knows tt
 statement-knows result Continues is h = gives-knows tt

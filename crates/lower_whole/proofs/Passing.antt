@@ -291,5 +291,6 @@ passes-lower S ls parts run passes = record {
 
 pub arguments-pass : AllArgumentsPass
 arguments-pass S site ls arguments are =
-    passes-lower S ls (all_passed (context_of S) ls (parts_of (context_of S) arguments)) (evaluate_all S.calls arguments)
+    passes-lower S ls (all_passed (context_of S) ls (parts_of (context_of S) arguments))
+    (evaluate_all S.calls arguments)
     (pass-all S site ls arguments are)

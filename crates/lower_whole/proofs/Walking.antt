@@ -119,7 +119,8 @@ module _ (S : Site) (site : IsSite S) (whole : WellTyped S.program) (follow : Ca
   pointer-number Add a b t u of is is' gives da db =
       subst (λ (p : ValueType). Does S (Binary p Add a b)) (sym gives) (sums-lower S site Add tt a b t da is u db is')
   pointer-number Subtract a b t u of is is' gives da db =
-      subst (λ (p : ValueType). Does S (Binary p Subtract a b)) (sym gives) (sums-lower S site Subtract tt a b t da is u db is')
+      subst (λ (p : ValueType). Does S (Binary p Subtract a b)) (sym gives)
+      (sums-lower S site Subtract tt a b t da is u db is')
   pointer-number Equal a b t u of is is' gives da db =
       subst (λ (p : ValueType). Does S (Binary p Equal a b)) (sym gives)
       (nulls-compared S site Equal tt a b t u da is db is')

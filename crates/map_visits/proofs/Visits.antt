@@ -137,7 +137,8 @@ read-at program code m mark input g s standing variable h state shown r here has
       holds = subst (λ (w : Option Width). HoldsWidth w standing.place) width for_place.holds;
       stands = λ value e.
           subst (λ (w : Option Width).
-          StandsIn code (active_of g) shown.frames s (word_of Ebp s) w value standing.place) width (shown.variables v value standing.place e placed);
+          StandsIn code (active_of g) shown.frames s (word_of Ebp s) w value standing.place) width
+          (shown.variables v value standing.place e placed);
     }
   where
     lower : (e t : ℕ) → e + 8 ≤ t → t < 4294967296 → e < 2 ^ 32

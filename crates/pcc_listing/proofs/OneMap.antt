@@ -364,7 +364,8 @@ map-lines m is =
     All-from_recursion IsLine (lines_of m)
     (both-lines _ _ (numbered-lines IsMapObject object_lines object-line 0 m.objects (omega (arith, is.few_objects))
     (recursion_from_All IsMapObject m.objects is.objects))
-    (numbered-lines (IsMapFunction m) function_lines (function-line m is.few_functions) 0 m.functions (omega (arith, is.few_functions))
+    (numbered-lines (IsMapFunction m) function_lines (function-line m is.few_functions) 0 m.functions
+    (omega (arith, is.few_functions))
     (recursion_from_All (IsMapFunction m) m.functions is.functions)))
 
 -- maps with one text are the same

@@ -268,7 +268,8 @@ fn push_arguments(alloc: Global, out: &mut Vec<u8>, arguments: &[u32]) -> Result
     Ok(())
 }
 
-/// Puts the words of a call at the end: the variable of its result, the function, and the argument words; and a newline.
+/// Puts the words of a call at the end: the variable of its result, the function, and the argument words; and a
+/// newline.
 #[tactic(auto, using(crate::proofs::Calls::call_pushed))]
 fn push_call(
     alloc: Global,

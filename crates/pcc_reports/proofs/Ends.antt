@@ -20,7 +20,8 @@ put_status status (Err put.Failed) counts counts' counted = inr (inl (refl, coun
 put_status status (Err put.NoMemory) counts counts' counted = inl refl
 
 -- the status of the line that is shown is the report's, or that of want of memory
-pub shown_status : (report shown : Report) (status : ℕ) → IsUnlessMemory report shown → status ≡ status_of shown → (status ≡ 11)
+pub shown_status : (report shown : Report) (status : ℕ) → IsUnlessMemory report shown → status ≡ status_of shown
+    → (status ≡ 11)
     ⊎ (status ≡ status_of report)
 shown_status report shown status (inl same) e = inr (e ∙ ap status_of same)
 shown_status report shown status (inr none) e = inl (e ∙ ap status_of none)

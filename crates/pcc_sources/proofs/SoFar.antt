@@ -17,7 +17,11 @@ pub record ReadSoFar (files : Files) (sources texts rest : List (List ℕ)) (pos
 
 -- nothing is read at first
 pub read_none : (files : Files) (sources : List (List ℕ)) → ReadSoFar files sources [] sources 0
-read_none files sources = record { texts_are = λ others are. are; stops = λ refusal i stops. subst (λ (n : ℕ). StopsAt files refusal sources n) (omega arith) stops }
+read_none files sources = record {
+  texts_are = λ others are. are;
+  stops = λ refusal i stops. subst
+      (λ (n : ℕ). StopsAt files refusal sources n) (omega arith) stops;
+}
 
 -- one source more
 pub read_more : (files : Files) (sources texts : List (List ℕ)) (source : List ℕ) (rest : List (List ℕ)) (position : ℕ)

@@ -25,7 +25,8 @@ some-one : {A : Type 0} (o : Option A) (x y : A) → o ≡ Some x → o ≡ Some
 some-one o x y p q = cc
 
 -- names hold one text each
-pub read_once : (files : Files) (sources a b : List (List ℕ)) → AreRead files sources a → AreRead files sources b → a ≡ b
+pub read_once : (files : Files) (sources a b : List (List ℕ)) → AreRead files sources a → AreRead files sources b → a
+    ≡ b
 read_once files [] [] [] p q = refl
 read_once files [] [] (y ∷ b) p q = absurd q
 read_once files [] (x ∷ a) b p q = absurd p

@@ -37,8 +37,8 @@ report_of_refused refused.NoMemory = reports.NoMemory
 abbrev pub IsTyped : Program → Type 0
 IsTyped p = (texts : List (List ℕ)) × HaveTypedProgram texts p
 
--- why sources have no typed program within the limits: the first that isn't read, the fault of their texts, or the limit
--- that these are above
+-- why sources have no typed program within the limits: the first that isn't read, the fault of their texts, or the
+-- limit that these are above
 abbrev pub HaveNoProgram : Files → List (List ℕ) → Report → Type 0
 HaveNoProgram files sources (reports.NoFile (Source i)) = StopsAt files read.Missing sources i
 HaveNoProgram files sources (reports.TooLong (Source i)) = StopsAt files read.TooLong sources i
@@ -57,8 +57,8 @@ HaveNoProgram files sources _ = ⊥
 abbrev pub HoldProgram : Files → List (List ℕ) → (Program → Type 0) → Type 0
 HoldProgram files sources P = HoldAll files sources (λ texts. (p : Program) × HaveTypedProgram texts p × P p)
 
--- The status of a command on sources, by what the files hold: the first source that can't be read decides; where all can,
--- their texts do, and what is said of their typed program within the limits, where they have one.
+-- The status of a command on sources, by what the files hold: the first source that can't be read decides; where all
+-- can, their texts do, and what is said of their typed program within the limits, where they have one.
 pub record SourcesStatus (files : Files) (sources : List (List ℕ)) (OfProgram : Program → Type 0) (status : ℕ) : Type 0
   where
     pub missing : (i : ℕ) → StopsAt files read.Missing sources i → status ≡ 6

@@ -52,7 +52,8 @@ few_solve None = tt
 
 few_by : (command : Text) (rows : List Row) → HasFewSources (asked_by command rows)
 few_by command rows =
-    few_if (bytes_eq command (codes "compile")) _ _ (few_compile (first_of (codes "NAME") rows) (all_of (codes "SRC") rows))
+    few_if (bytes_eq command (codes "compile")) _ _ (few_compile (first_of (codes "NAME") rows)
+    (all_of (codes "SRC") rows))
     (few_if (bytes_eq command (codes "run")) _ _ (few_run (first_of (codes "N") rows) (first_of (codes "IMAGE") rows))
     (few_if (bytes_eq command (codes "eval")) _ _ (few_eval (first_of (codes "N") rows) (all_of (codes "SRC") rows))
     (few_if (bytes_eq command (codes "solve")) _ _ (few_solve (first_of (codes "FILE") rows)) tt)))

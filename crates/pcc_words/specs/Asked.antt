@@ -1,5 +1,6 @@
 -- What the words of the command line ask for: the matches of the command, and two rules on the names of files.
-use Rattle.std.specs.Prelude.{ℕ, ⊤, ◌≤◌, ◌||◌, List, [], ◌∷◌, ◌++◌, length, codes, bytes_eq, nat_lt, Bool, Option, Some, None}
+use Rattle.std.specs.Prelude.{ℕ, ⊤, ◌≤◌, ◌||◌, List, [], ◌∷◌, ◌++◌, length, codes, bytes_eq, nat_lt, Bool, Option, Some}
+use Rattle.std.specs.Prelude.{None}
 use Rattle.std.specs.Prelude.{if◌then◌else◌}
 use Rattle.std.specs.List.{list_any}
 use Rattle.std.specs.Str.Parse.{digits_value, without_leading_plus}

@@ -13,7 +13,8 @@ returns-in-Some-Local c = λ gs before typed count said.
     let m : Option Meaning = option_map (λ (m : Bor Shown). meaning_of m.now) c.args.meaning in
     let none : parameters_of m ≡ [] = search rules in
     let is : called c.args.scopes.now c.args.name.now gs m ≡ not_called c.local_called.result gs = search rules in
-    uncalled m c.local_called.result c.args.scopes.now c.args.name.now gs c.args.given.values c.no_function.result before
+    uncalled m c.local_called.result c.args.scopes.now c.args.name.now gs c.args.given.values c.no_function.result
+    before
     c.args.notes.now _ none is c.no_function.ensures said
 
 pub returns-in-Some-Object : goal.returns-in-Some-Object
@@ -21,7 +22,8 @@ returns-in-Some-Object c = λ gs before typed count said.
     let m : Option Meaning = option_map (λ (m : Bor Shown). meaning_of m.now) c.args.meaning in
     let none : parameters_of m ≡ [] = search rules in
     let is : called c.args.scopes.now c.args.name.now gs m ≡ not_called c.number_called.result gs = search rules in
-    uncalled m c.number_called.result c.args.scopes.now c.args.name.now gs c.args.given.values c.no_function-in-Some-Object.result before
+    uncalled m c.number_called.result c.args.scopes.now c.args.name.now gs c.args.given.values
+    c.no_function-in-Some-Object.result before
     c.args.notes.now _ none is c.no_function-in-Some-Object.ensures said
 
 pub returns-in-Some-LocalArray : goal.returns-in-Some-LocalArray
@@ -29,7 +31,8 @@ returns-in-Some-LocalArray c = λ gs before typed count said.
     let m : Option Meaning = option_map (λ (m : Bor Shown). meaning_of m.now) c.args.meaning in
     let none : parameters_of m ≡ [] = search rules in
     let is : called c.args.scopes.now c.args.name.now gs m ≡ not_called c.array_called.result gs = search rules in
-    uncalled m c.array_called.result c.args.scopes.now c.args.name.now gs c.args.given.values c.no_function-in-Some-LocalArray.result before
+    uncalled m c.array_called.result c.args.scopes.now c.args.name.now gs c.args.given.values
+    c.no_function-in-Some-LocalArray.result before
     c.args.notes.now _ none is c.no_function-in-Some-LocalArray.ensures said
 
 pub returns-in-None : goal.returns-in-None
@@ -37,5 +40,6 @@ returns-in-None c = λ gs before typed count said.
     let m : Option Meaning = option_map (λ (m : Bor Shown). meaning_of m.now) c.args.meaning in
     let none : parameters_of m ≡ [] = search rules in
     let is : called c.args.scopes.now c.args.name.now gs m ≡ not_called c.undeclared.result gs = search rules in
-    uncalled m c.undeclared.result c.args.scopes.now c.args.name.now gs c.args.given.values c.no_function-in-None.result before
+    uncalled m c.undeclared.result c.args.scopes.now c.args.name.now gs c.args.given.values c.no_function-in-None.result
+    before
     c.args.notes.now _ none is c.no_function-in-None.ensures said

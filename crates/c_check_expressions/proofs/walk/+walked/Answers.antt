@@ -1,5 +1,6 @@
 -- Each part is judged by the walk, and put together outside it.
-use Rattle.std.proofs.Common.{rules, ◌≡◌, ◌∙◌, sym, ap, subst, arith, List, map, length, suc, ◌+◌, IfOk, w32, FitsSigned}
+use Rattle.std.proofs.Common.{rules, ◌≡◌, ◌∙◌, sym, ap, subst, arith, List, map, length, suc, ◌+◌, IfOk, w32}
+use Rattle.std.proofs.Common.{FitsSigned}
 use Rattle.std.proofs.lemmas.Int.{to_z-of_z}
 use Rattle.std.proofs.lemmas.List.{length-map}
 use Rattle.std.proofs.lemmas.Result.{IfOk-weaker}
@@ -58,7 +59,8 @@ each_argument-arguments-preserved t c =
     (gathered_more c.args.parameters.now all i (given_of s e) c.arguments.so_far.values c.in_ok-so_far.so_far.values
     c.arguments.so_far.typed c.in_ok-so_far.so_far.typed c.args.notes.now c.arguments.notes c.and_argument.new.notes
     (next_given s c.args.values.now i e c.arguments-test.true c.index-values-index.is)
-    (λ front said. subst (λ p. IsSaid AreTrees (one_behind front (for_parameter p (given_of s e).at (given_of s e).value))
+    (λ front said. subst (λ p. IsSaid AreTrees (one_behind front
+    (for_parameter p (given_of s e).at (given_of s e).value))
     c.in_ok-so_far.so_far.values c.args.notes.now c.and_argument.new.notes) c.parameter_at-parameter.ensures
     (c.in_ok-so_far.ensures.said front c.args.notes.now said))
     c.in_ok-so_far.ensures.typed
@@ -128,7 +130,12 @@ walked-returns-in_ok-parts-in-Conditional t c =
     let z = typed_expression s (expr_of c.deref-in-Conditional-3.result.now) in
     let same : expr_of c.args.e.now ≡ trees.Conditional (expr_of c.deref-in-Conditional.result.now)
     c.in-Conditional.question (expr_of c.deref-in-Conditional-2.result.now) c.in-Conditional.colon
-    (expr_of c.deref-in-Conditional-3.result.now) = search (rules, the_lemmas, fold-roll-Expression, fold_out-Expression) in
+    (expr_of c.deref-in-Conditional-3.result.now) = search (
+      rules,
+      the_lemmas,
+      fold-roll-Expression,
+      fold_out-Expression,
+    ) in
     subst (λ e. IfOk c.conditional_of.result (λ j. IsSaid IsOperandOf (typed_expression s e) j c.args.notes.now
     c.and_third.new.notes)) (sym same)
     (IfOk-weaker c.conditional_of.result _ _ (λ j row. row (pair x (pair y z)) c.args.notes.now c.and_third.new.notes

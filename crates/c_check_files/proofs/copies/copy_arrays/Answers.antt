@@ -10,7 +10,8 @@ loop-array-init c = record {
 
 pub loop-array-preserved : goal.loop-array-preserved
 loop-array-preserved c = record {
-  copied = copied_more array_of c.loop-array.copies.items c.push.new.self.items c.args.arrays.now c.loop-array.array-index
+  copied = copied_more array_of c.loop-array.copies.items c.push.new.self.items c.args.arrays.now
+      c.loop-array.array-index
       c.array-item.result c.in_ok-copy.copy c.loop-array-test.true c.array-item.is c.in_ok-copy.ensures
       c.in_ok-push.ensures.items c.loop-array.invariant.copied;
 }

@@ -10,7 +10,8 @@ loop-local-init c = record {
 
 pub loop-local-preserved : goal.loop-local-preserved
 loop-local-preserved c = record {
-  copied = copied_more local_of c.loop-local.copies.items c.push.new.self.items c.args.locals.now c.loop-local.local-index
+  copied = copied_more local_of c.loop-local.copies.items c.push.new.self.items c.args.locals.now
+      c.loop-local.local-index
       c.local-item.result c.in_ok-copy.copy c.loop-local-test.true c.local-item.is c.in_ok-copy.ensures
       c.in_ok-push.ensures.items c.loop-local.invariant.copied;
 }

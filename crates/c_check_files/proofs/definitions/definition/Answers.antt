@@ -9,7 +9,8 @@ use Rattle.c_check_files.proofs.Bodies.{definition_fits_scope}
 use Rattle.c_check_files.proofs.definitions.definition.Goals as goal
 
 pub returns-in_ok-past_body-in-Fails-clause-said : goal.returns-in_ok-past_body-in-Fails-clause-said
-returns-in_ok-past_body-in-Fails-clause-said c = definition_fails (specified_of c.args.said) (declarator_of c.args.declarator.now)
+returns-in_ok-past_body-in-Fails-clause-said c = definition_fails (specified_of c.args.said)
+    (declarator_of c.args.declarator.now)
     (stmt_of c.args.inside.now) (map parameter_of c.parameters_in-list.result.now) c.args.scopes.now
     c.in_ok-fault.field-0 c.in-Fails.fault c.args.notes.now c.function_signature.new.notes
     c.function_signature.new.notes c.parameters_in-list.ensures c.in_ok-fault.ensures.said c.in-Fails.is

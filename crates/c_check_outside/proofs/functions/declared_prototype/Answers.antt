@@ -27,7 +27,8 @@ returns-in_ok-declare_function-in-Fits-clause-said c =
     c.function_signature.new.notes c.in_ok-fault.ensures.said c.in-Fits.is
 
 pub returns-in_ok-declare_function-in-Fits-clause-scope : goal.returns-in_ok-declare_function-in-Fits-clause-scope
-returns-in_ok-declare_function-in-Fits-clause-scope c = prototype_fits_scope c.args.scopes.now c.function_signature.new.scopes
+returns-in_ok-declare_function-in-Fits-clause-scope c = prototype_fits_scope c.args.scopes.now
+    c.function_signature.new.scopes
     c.declare_function.new.scopes (specified_of c.args.said) (declarator_of c.args.declarator.now)
     (map parameter_of c.args.parameters.now) c.in_ok-fault.field-0 c.in-Fits.signature c.args.notes.now
     c.function_signature.new.notes c.in_ok-fault.ensures.said c.in-Fits.is c.in_ok-fault.ensures.scope

@@ -16,7 +16,8 @@ returns-clause-said c =
     IfOk-weaker c.stored_object.result _ _ (λ j h.
     allowed_said (specified_of c.args.said) e (object_of c.args.of)
     (bound_object c.args.name.now e (object_of c.args.of) s) c.bind_object.new.scopes
-    (contents_of c.without_value-otherwise.result) (value_of c.args.value.now) j c.args.notes.now c.stored_object.new.notes
+    (contents_of c.without_value-otherwise.result) (value_of c.args.value.now) j c.args.notes.now
+    c.stored_object.new.notes
     (c.in_ok-bind_object.ensures ∙ ap (λ (x : Entity). bound_object c.args.name.now x (object_of c.args.of) s)
     c.in_ok-seen.ensures) c.without_value-otherwise.ensures h)
     c.stored_object.ensures

@@ -11,7 +11,8 @@ pub returns-in-Fits-clause-accepted : goal.returns-in-Fits-clause-accepted
 returns-in-Fits-clause-accepted c =
     both_ok c.within.result _ _ _ (λ p e small units h k.
     accepted_made units c.args.outline.now c.in-Fits.functions (program_of p) h
-    (subst (Stands AreFunctions (checked units)) c.in-Fits.is k) e small) c.within.ensures.program c.within.ensures.small
+    (subst (Stands AreFunctions (checked units)) c.in-Fits.is k) e small) c.within.ensures.program
+    c.within.ensures.small
 
 pub returns-in-Fits-clause-refused : goal.returns-in-Fits-clause-refused
 returns-in-Fits-clause-refused c =

@@ -28,7 +28,8 @@ texts-preserved c =
       so = lexed_on (bytes c.args.texts.now) (tokens c.texts.files.items) (tokens c.push.new.values.items) c.texts.file
           c.texts.left c.len-left.result (bytes c.texts.rest.now) c.in-Some.text.now.items c.as_slice.result.now
           (bytes c.in-Some.others.now) c.in_ok-lexed.lexed.tokens.items c.texts.invariant.so (ap bytes e)
-          c.as_slice.ensures.value c.in_ok-lexed.ensures.tokens (omega (arith, c.len-left.ensures)) c.in_ok-lexed.ensures.few
+          c.as_slice.ensures.value c.in_ok-lexed.ensures.tokens (omega (arith, c.len-left.ensures))
+          c.in_ok-lexed.ensures.few
           (ap tokens c.in_ok-push.ensures ∙ map-append (λ (f : Lexed). f.tokens.items) c.texts.files.items _);
       bound = omega (arith, ap length e, bound);
       small = behind _ c.texts.rest.now c.in-Some.text.now c.in-Some.others.now e c.texts.invariant.small;

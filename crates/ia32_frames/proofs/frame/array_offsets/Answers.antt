@@ -36,7 +36,8 @@ loop-array-preserved c =
       offsets =
           ap (λ xs. xs ++ map offset_of (arrays_from (header - c.array_bytes-header.result) (drop (k + 1) arrays)))
           (c.in_ok-push.ensures.items ∙ ap (λ (y : ℤ). c.loop-array.offsets.items ++ y ∷ []) z)
-          ∙ ap (λ n. (c.loop-array.offsets.items ++ offset_of (header - 4) ∷ []) ++ map offset_of (arrays_from (header - n) (drop (k + 1) arrays)))
+          ∙ ap (λ n. (c.loop-array.offsets.items ++ offset_of (header - 4) ∷ []) ++ map offset_of
+          (arrays_from (header - n) (drop (k + 1) arrays)))
           c.array_bytes-header.ensures
           ∙ arrays-more c.loop-array.offsets.items header arrays k c.array.result _ c.array.ensures
           c.loop-array.invariant.offsets;

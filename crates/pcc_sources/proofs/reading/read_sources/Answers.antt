@@ -1,6 +1,7 @@
 -- One source after the other.
 use Rattle.std.specs.List.{AllByRecursion}
-use Rattle.std.proofs.Common.{rules, ◌≡◌, ◌<◌, ◌+◌, ◌^◌, ◌++◌, ℕ, List, [], ◌∷◌, Vec, Global, length, length-append, map, ap}
+use Rattle.std.proofs.Common.{rules, ◌≡◌, ◌<◌, ◌+◌, ◌^◌, ◌++◌, ℕ, List, [], ◌∷◌, Vec, Global, length, length-append}
+use Rattle.std.proofs.Common.{map, ap}
 use Rattle.std.proofs.Common.{sym, subst, ◌∙◌, arith}
 use Rattle.std.specs.Borrow.{Bor}
 use Rattle.std.proofs.lemmas.List.{map-append}
@@ -27,7 +28,8 @@ loop-source-preserved g c =
       counts = c.in_ok-text.ensures.counts ∙ inv.counts;
       telling = λ f. c.read_source.ensures.telling (inv.telling f);
       kept = λ f other. c.read_source.ensures.kept (inv.telling f) other ∙ inv.kept f other;
-      so = λ f. read_on (g.F.FileStore.content c.args.files.now) (names c.args.sources.now) (bytes c.loop-source.texts.items)
+      so = λ f. read_on (g.F.FileStore.content c.args.files.now) (names c.args.sources.now)
+          (bytes c.loop-source.texts.items)
           (bytes c.push_text.new.texts.items) c.args.sources.now c.loop-source.source-index _ c.loop-source.position
           c.in_ok-text.text.items (inv.so f) c.loop-source-test.true
           (sym (inv.kept f _) ∙ c.in_ok-text.ensures.told (inv.telling f)) c.in_ok-text.ensures.size
