@@ -14,8 +14,8 @@ use Rattle.c_front.specs.Refusals.{StandBefore, FaultBehind, FirstFaulty, IsFaul
 
 -- The files before the rest have these tokens, and so many more may come: what holds of the rest, of which the first
 -- file has this number, holds of all.
-pub record LexedSoFar (texts : List (List ℕ)) (files : List (List Token)) (file left : ℕ) (rest : List (List ℕ)) : Type
-    0
+pub record LexedSoFar (texts : List (List ℕ)) (files : List (List Token)) (file left : ℕ)
+    (rest : List (List ℕ)) : Type 0
   where
     pub counted : file + length rest ≡ length texts
     pub left_is : total files + left ≡ 65536
