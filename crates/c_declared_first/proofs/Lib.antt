@@ -1,0 +1,4 @@
+pub mod Expressions
+pub mod Files
+pub mod Items
+pub mod Statements

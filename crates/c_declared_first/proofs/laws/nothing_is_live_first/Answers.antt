@@ -1,0 +1,5 @@
+use Rattle.c_declared_first.proofs.Files.{nothing_live_first}
+use Rattle.c_declared_first.proofs.laws.nothing_is_live_first.Goals as goal
+
+pub returns : goal.returns
+returns c = nothing_live_first

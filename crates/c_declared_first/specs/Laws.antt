@@ -1,0 +1,22 @@
+-- Each local of a typed program is declared before it is named, so that nothing is live at first in its graphs.
+use Rattle.std.specs.Prelude.{List}
+use Rattle.std.specs.List.{AllByRecursion}
+use Rattle.c_grammar.specs.Grammar.{IsExternal}
+use Rattle.c_grammar.specs.Statements.{ExternalTree}
+use Rattle.c_tree.specs.Program.{Program}
+use Rattle.c_typing.specs.Laws.{AreSources}
+use Rattle.c_typing.specs.Typed.{Typed}
+use Rattle.lower_lines.specs.Programs.{lowered}
+use Rattle.lower_settled.specs.Declared.{IsDeclaredFirst}
+use Rattle.lower_settled.specs.Laws.{NothingLiveFirst}
+
+-- The typed program of raw trees of the grammar is so. It need not be within the limits, nor need the trees be those of
+-- a text.
+abbrev pub LocalsAreDeclaredFirst : Type 0
+LocalsAreDeclaredFirst = (units : List (List ExternalTree)) (p : Program)
+    → AllByRecursion (AllByRecursion IsExternal) units → Typed units p → IsDeclaredFirst p
+
+-- no variable is live at the first point of a function of its graphs
+abbrev pub NothingIsLiveFirst : Type 0
+NothingIsLiveFirst = (units : List (List ExternalTree)) (p : Program) → AreSources units → Typed units p
+    → NothingLiveFirst p (lowered p)
