@@ -1,11 +1,12 @@
 -- Small graphs that the definitions are read on. In the first 5 and 6 are added, the sum is written, and 5 is returned.
-use Rattle.std.specs.Prelude.{pos, [], ◌∷◌, Some}
+use Rattle.std.specs.Prelude.{pos, List, [], ◌∷◌, Some}
 use Rattle.pcc_base.specs.declared.run.Width.TheVariants.{Two}
 use Rattle.pcc_base.specs.Outcome.{Ended, Outcome}
 use Rattle.flow_graph.specs.declared.op.Op.TheVariants.{Add, Call, Const, Putchar, Return}
 use Rattle.flow_graph.specs.Graphs.{Flow}
 use Rattle.flow_graph.specs.Lives.{Lives}
 use Rattle.elementary_form.specs.Forms.{FormProgram}
+use Rattle.elementary_form.specs.Names.{Move}
 
 abbrev pub sum_graph : Flow
 sum_graph = record {
@@ -20,6 +21,10 @@ sum_lives = record {
   before = [] ∷ (0 ∷ []) ∷ (0 ∷ 1 ∷ []) ∷ (0 ∷ 2 ∷ []) ∷ (0 ∷ []) ∷ [];
   after = (0 ∷ []) ∷ (0 ∷ 1 ∷ []) ∷ (0 ∷ 2 ∷ []) ∷ (0 ∷ []) ∷ [] ∷ [];
 }
+
+-- a copy by which two names change their values over
+abbrev pub changed_over : List Move
+changed_over = record { to = 0; from = 1 } ∷ record { to = 1; from = 0 } ∷ []
 
 -- in another program `main` calls a function with 5 in a variable, writes 5, and returns what the call returned: 7
 abbrev pub calling_graph : Flow

@@ -5,10 +5,10 @@ ghost use Rattle.pcc_base.specs.Outcome.{nothing_listed};
 ghost use Rattle.elementary_form.specs.FormLaws.{BeforeIsNotAfter, FirstFits, FormKeepsOutcome, OneAfter, OneBefore};
 ghost use Rattle.elementary_form.specs.FormLaws.{StepFits};
 ghost use Rattle.elementary_form.specs.FormRuns.{FormOutcome};
-ghost use Rattle.elementary_form.specs.Names.{edge_copy, name_after, name_before};
+ghost use Rattle.elementary_form.specs.Names.{Names, copied, edge_copy, name_after, name_before};
 ghost use Rattle.elementary_form.specs.PointBoards.{areas_of, callee_saved, count_taken, ends_taken, point_pieces};
 ghost use Rattle.elementary_form.specs.PointMaps.{IsLegalMap, IsLegalPoint};
-ghost use Rattle.elementary_form.specs.Worked.{calling_outcome, calling_program, sum_graph, sum_lives};
+ghost use Rattle.elementary_form.specs.Worked.{calling_outcome, calling_program, changed_over, sum_graph, sum_lives};
 ghost use Rattle.elementary_form.specs.WorkedBoards.{addition, addition_lives, call_lives, division, division_lives};
 ghost use Rattle.elementary_form.specs.WorkedBoards.{five_in_eax, five_returned};
 ghost use Rattle.elementary_form.specs.WorkedBoards.{in_registers, in_slot, moved_over_op, one_call, one_op};
@@ -33,13 +33,15 @@ pub fn names_are_fresh()
 {}
 
 /// The definitions say of small graphs (`specs/Worked.antt`) what a reader expects: the names of variables, the copy on
-/// an edge, and the outcome where a variable is live over a call.
+/// an edge, all of whose moves are made at once, and the outcome where a variable is live over a call.
 pub fn worked_example()
     ensures before { name_before sum_graph sum_lives 2 1 ≡ Some 17179869186 }
     ensures defined { name_after sum_graph sum_lives 2 2 ≡ Some 17179869189 }
     ensures dead { name_after sum_graph sum_lives 2 1 ≡ None }
     ensures copy { edge_copy sum_graph sum_lives 1 2
         ≡ record { to = 17179869184; from = 8589934593 } ∷ record { to = 17179869186; from = 8589934595 } ∷ [] }
+    ensures at_once { (names : Names)
+        → (copied changed_over names 0 ≡ names 1) × (copied changed_over names 1 ≡ names 0) }
     ensures outcome { FormOutcome calling_program nothing_listed [] 0 calling_outcome }
 {}
 
