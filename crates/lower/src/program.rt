@@ -16,6 +16,8 @@ ghost use Rattle.lower_lines.specs.Lowering.{
 };
 ghost use Rattle.lower_lines.specs.Programs.{lowered};
 ghost use Rattle.lower_lines.specs.Words.{IsInMemory};
+ghost use Rattle.lower_settled.specs.Declared.{IsDeclaredFirst};
+ghost use Rattle.lower_settled.specs.Laws.{HaveLiveness, NothingLiveFirst};
 
 use crate::graphs::Graphs;
 use crate::objects::objects_of;
@@ -25,6 +27,7 @@ use lower_bounds::{graphs_are_small, marks_hold, objects_hold, shapes_hold};
 use lower_fits::graphs_are_there;
 use lower_graphs::graph;
 use lower_programs::all_programs_lower;
+use lower_settled::{first_points_hold, liveness_holds};
 use pcc_base::NoMemory;
 use std::alloc::Global;
 
@@ -71,6 +74,14 @@ pub fn lower(alloc: Global, program: &Program) -> Result<Graphs, NoMemory>
 
     // The graphs grow no faster than the program.
     ensures small { IfOk result (λ graphs. AreSmall (program_of program.now) (graphs_of graphs)) }
+
+    // No temporary is live at a mark, and the dividend of a division and the count of a shift die at their op and are no
+    // other operand of it.
+    ensures liveness { IfOk result (λ graphs. HaveLiveness (program_of program.now) (graphs_of graphs)) }
+
+    // No variable is live at a function's first point, where each local is declared before it is named.
+    ensures first_points { IfOk result (λ graphs. IsDeclaredFirst (program_of program.now)
+        → NothingLiveFirst (program_of program.now) (graphs_of graphs)) }
 {
     let functions = functions_of(alloc, program)?;
     let objects = objects_of(alloc, program.objects.as_slice())?;
@@ -81,6 +92,8 @@ pub fn lower(alloc: Global, program: &Program) -> Result<Graphs, NoMemory>
     objects_hold();
     marks_hold();
     graphs_are_small();
+    liveness_holds();
+    first_points_hold();
     Ok(Graphs {
         functions,
         objects,

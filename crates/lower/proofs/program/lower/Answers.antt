@@ -8,6 +8,8 @@ use Rattle.lower.specs.Graphs.{graphs_of}
 use Rattle.lower_lines.specs.Lowering.{AreSmall, HasObjects, HaveMarks, HaveShapes, KeepsOutcome, MarksOnce}
 use Rattle.lower_lines.specs.Programs.{lowered}
 use Rattle.lower_lines.specs.Shown.{variables_shown}
+use Rattle.lower_settled.specs.Declared.{IsDeclaredFirst}
+use Rattle.lower_settled.specs.Laws.{HaveLiveness, NothingLiveFirst}
 use Rattle.lower.proofs.program.lower.Goals as goal
 
 pub returns-clause-outcome : goal.returns-clause-outcome
@@ -95,3 +97,24 @@ returns-clause-small c =
     } ≡ lowered (program_of c.args.program.now) = search rules in
     subst (λ (g : GraphProgram). AreSmall (program_of c.args.program.now) g) (sym e)
     (c.graphs_are_small.ensures (program_of c.args.program.now) c.requires.typed c.requires.memory)
+
+pub returns-clause-liveness : goal.returns-clause-liveness
+returns-clause-liveness c =
+    let e : graphs_of record {
+      functions = c.in_ok-functions.functions;
+      objects = c.in_ok-objects.objects;
+      main = c.args.program.now.main;
+    } ≡ lowered (program_of c.args.program.now) = search rules in
+    subst (λ (g : GraphProgram). HaveLiveness (program_of c.args.program.now) g) (sym e)
+    (c.liveness_holds.ensures (program_of c.args.program.now) c.requires.typed)
+
+pub returns-clause-first_points : goal.returns-clause-first_points
+returns-clause-first_points c =
+    let e : graphs_of record {
+      functions = c.in_ok-functions.functions;
+      objects = c.in_ok-objects.objects;
+      main = c.args.program.now.main;
+    } ≡ lowered (program_of c.args.program.now) = search rules in
+    subst (λ (g : GraphProgram). IsDeclaredFirst (program_of c.args.program.now)
+    → NothingLiveFirst (program_of c.args.program.now) g) (sym e)
+    (c.first_points_hold.ensures (program_of c.args.program.now) c.requires.typed)
