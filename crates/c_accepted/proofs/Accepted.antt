@@ -1,4 +1,5 @@
 -- The accepted program of texts is ready.
+use Rattle.c_declared_first.proofs.Files.{locals_declared_first}
 use Rattle.c_sound.proofs.Sound.{typed_is_well_typed}
 use Rattle.c_typing.specs.Typed.{arrays_bytes, large_frame, most_arrays}
 use Rattle.c_identifiers.proofs.Files.{programs_have_names}
@@ -14,6 +15,7 @@ programs_are_ready texts p (units, have, accepted) =
     let within = below-limit most_arrays (arrays_bytes p) _ (large_frame 0 p.functions) accepted.small in
     record {
       typed = typed_is_well_typed units p sources accepted.typed;
+      declared = locals_declared_first units p sources.trees accepted.typed;
       memory = memory;
       names = programs_have_names units p sources.trees (units_have_names texts units have) accepted.typed;
       frames = frames-below 0 p.functions within.1;

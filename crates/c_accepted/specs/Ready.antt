@@ -8,6 +8,7 @@ use Rattle.c_typing.specs.Typed.{IsAccepted, arrays_bytes}
 use Rattle.c_identifiers.specs.Named.{IsNamed}
 use Rattle.c_units.specs.Units.{WithUnits}
 use Rattle.lower_lines.specs.Words.{IsInMemory}
+use Rattle.lower_settled.specs.Declared.{IsDeclaredFirst}
 
 -- a frame is within its limit
 abbrev pub IsSmallFrame : Function → Type 0
@@ -15,6 +16,8 @@ IsSmallFrame f = frame_bound f ≤ 16384
 
 pub record IsReady (p : Program) : Type 0 where
   pub typed : WellTyped p
+  -- each local is declared before it is named
+  pub declared : IsDeclaredFirst p
   -- as lowering asks for it: constants are of 32 bits, and an item of its own declares each array
   pub memory : IsInMemory p
   -- the names of functions, locals and arrays are identifiers

@@ -2,8 +2,8 @@
 
 ghost use Rattle.c_accepted.specs.Ready.{ProgramsAreReady};
 
-/// The typed program of texts that is within the limits is well typed, in memory as lowering asks for, and small, and
-/// its names are identifiers.
+/// The typed program of texts that is within the limits is well typed, in memory as lowering asks for, and small, its
+/// names are identifiers, and each local is declared before it is named.
 pub fn programs_are_ready()
     ensures { ProgramsAreReady }
 {}

@@ -1,4 +1,4 @@
--- The functions of files declare their locals first, and nothing is live at first in their graphs.
+-- The functions of files declare their locals first.
 use Rattle.std.proofs.Common.{arith, ◌≡◌, refl, sym, ap, subst, ◌∙◌, inl, inr, ℕ, zero, suc, ◌+◌, ◌<◌, ◌≤◌, true, false}
 use Rattle.std.proofs.Common.{List, [], ◌∷◌, ◌++◌, length, length-append, take, Bool}
 use Rattle.std.specs.Prelude.{Option, Some, None, is_some, unwrap_or}
@@ -38,12 +38,10 @@ use Rattle.c_typing.proofs.CountUp.{Always, IfFits, always, holds_both, holds_if
 use Rattle.c_sound.proofs.FilesSound.{each_of_body}
 use Rattle.c_sound.proofs.Growing.{grows_statements}
 use Rattle.c_sound.proofs.Setting.{all_on}
-use Rattle.c_sound.proofs.Sound.{typed_is_well_typed}
 use Rattle.c_declares.proofs.Files.{outer_items_none}
 use Rattle.flow_graph.specs.Graphs.{IsIn}
 use Rattle.lower_settled.specs.Declared.{DeclareFirst}
-use Rattle.lower_settled.proofs.First.{first-points-hold}
-use Rattle.c_declared_first.specs.Laws.{LocalsAreDeclaredFirst, NothingIsLiveFirst}
+use Rattle.c_declared_first.specs.Laws.{LocalsAreDeclaredFirst}
 use Rattle.c_declared_first.proofs.Expressions.{Knows, Sees, sees_on}
 use Rattle.c_declared_first.proofs.Statements.{IsRow, statements_are}
 
@@ -245,7 +243,3 @@ locals_declared_first units p trees t =
     All-from_recursion IsFirst p.functions
     (first_in (checked units) (numbers_in units) (notes_of units) p
     (units_first units trees (first_scope (numbers_in units)) (tt, (tt, (tt, tt)))) t.is)
-
-pub nothing_live_first : NothingIsLiveFirst
-nothing_live_first units p sources t =
-    first-points-hold p (typed_is_well_typed units p sources t) (locals_declared_first units p sources.trees t)
