@@ -1,0 +1,160 @@
+#!/bin/sh
+# Measures `pcc compile` at about 6,000 and 60,000 tokens, beside `gcc -m32 -O0 -S` and `gcc -fsyntax-only` on the same
+# text: the processor's time, the shortest of several runs, the greatest memory, and the time for a token. Then come the
+# times up to the tokens, the tree and the types, from texts whose only fault stands at their end, and how the samples
+# that perf takes of the processor's clock fall to the storeys of crates.txt and to their crates.
+#
+# usage: bench/compile.sh [RUNS]     so many runs each, else 5
+#
+# It wants python3, gcc that makes code for i386, GNU time and perf.
+. "$(dirname "$(readlink -f "$0")")/start.sh"
+build_pcc
+
+PYTHONPATH=$top/bench python3 -B - "$top" "$room" "${1:-5}" <<'PYTHON'
+import collections
+import os
+import re
+import subprocess
+import sys
+
+TOP, ROOM, RUNS = sys.argv[1], sys.argv[2], int(sys.argv[3])
+PROGRAM = f"{TOP}/crates/pcc/out/pcc"
+# Functions like those of a person
+BODY = """static int function_%d(int first, const char *second)
+{
+    int total = 0x%x + 017, index;
+    for (index = 0; index < first && second[index] != '\\n'; index++) {
+        total += second[index] * 31 << 2;
+        if (total >= 1000000) total -= (int)second[index - 1];
+        else switch (total & 3) { case 0: case 1: total++; break; default: continue; }
+    }
+    return function_%d(total, "a string") ? total : -total;
+}
+
+"""
+MAIN = 'int main(void)\n{\n    return function_0(3, "a\\nb");\n}\n'
+TOKEN = re.compile(r'[A-Za-z_]\w*|\d\w*|"[^"]*"|\'[^\']*\'|<<|\+\+|\+=|-=|>=|!=|&&|\S')
+FUNCTIONS = [54, 540]
+# What is put behind a text, and how far pcc then comes
+FAULTS = {"tokens": "@", "trees": "}", "types": "int last(void) { return missing; }", "the image and the map": ""}
+
+
+def made(name, text):
+    """The path of a source with this text."""
+    path = f"{ROOM}/{name}"
+    with open(path, "w", encoding="ascii") as file:
+        file.write(text)
+    return path
+
+
+def seconds(words, is_refused=False):
+    """The shortest of the processor's times that a command takes; a refusal of a text has status 1."""
+    times = []
+    for _ in range(RUNS):
+        quiet = [(os.POSIX_SPAWN_OPEN, 2, os.devnull, os.O_WRONLY, 0)]
+        _, status, used = os.wait4(os.posix_spawnp(words[0], words, os.environ, file_actions=quiet), 0)
+        if os.waitstatus_to_exitcode(status) != is_refused:
+            sys.exit(f"compile: {' '.join(words)} ended with {status}")
+        times.append(used.ru_utime + used.ru_stime)
+    return min(times)
+
+
+def megabytes(words):
+    """The most memory that a command and those that it calls have at once."""
+    told = f"{ROOM}/memory"
+    subprocess.run(["time", "-f", "%M", "-o", told, *words], check=True)
+    with open(told, encoding="ascii") as file:
+        return int(file.read()) / 1024
+
+
+def compiled(path):
+    return [PROGRAM, "compile", "-o", f"{ROOM}/image", path]
+
+
+WAYS = {
+    "`pcc compile`": compiled,
+    "`gcc -m32 -O0 -S`": lambda path: ["gcc", "-m32", "-O0", "-w", "-S", "-o", f"{ROOM}/out.s", path],
+    "`gcc -m32 -fsyntax-only`": lambda path: ["gcc", "-m32", "-w", "-fsyntax-only", path],
+}
+
+
+def beside_gcc(sources):
+    """The rows of pcc and gcc on each source."""
+    print("| command | tokens | time | time for a token | memory at most | pcc's time beside it |")
+    print("|---|---|---|---|---|---|")
+    own = {}
+    for way, words in WAYS.items():
+        for tokens, path in sources.items():
+            time = seconds(words(path))
+            own.setdefault(tokens, time)
+            row = f"{time * 1e3:.1f} ms | {time / tokens * 1e6:.2f} µs | {megabytes(words(path)):.1f} MB"
+            print(f"| {way} | {tokens:,} | {row} | {own[tokens] / time:.2f} |", flush=True)
+
+
+def by_pass(texts):
+    """The time that each part of a compilation takes, and how much more a token of the larger text takes."""
+    print("| pcc compile, up to | " + " | ".join(f"{tokens:,} tokens" for tokens in texts) + " | more for a token |")
+    print("|---|---|---|---|")
+    before = [0.0, 0.0]
+    for what, fault in FAULTS.items():
+        times = [seconds(compiled(made("fault.c", text + fault)), bool(fault)) for text in texts.values()]
+        parts = [time - earlier for time, earlier in zip(times, before)]
+        small, large = (part / tokens for part, tokens in zip(parts, texts))
+        row = " | ".join(f"{time * 1e3:.1f} ms, of these {part * 1e3:.1f} ms" for time, part in zip(times, parts))
+        print(f"| {what} | {row} | {large / small:.2f} |", flush=True)
+        before = times
+
+
+def storeys():
+    """The storey of each crate of crates.txt, which a line of comment begins."""
+    found, storey = {}, ""
+    with open(f"{TOP}/crates.txt", encoding="utf-8") as file:
+        for line in file:
+            if line.startswith("#"):
+                storey = line[1:].split(":")[0].strip()
+            elif ":" in line:
+                found[line.split()[0].rstrip(":")] = storey
+    return found
+
+
+def samples(path):
+    """How many samples of some compilations fall to each crate, or to what else they run."""
+    data, known, found = f"{ROOM}/perf.data", storeys(), collections.Counter()
+    for _ in range(RUNS):
+        record = ["perf", "record", "-q", "-e", "cpu-clock", "-F", "5000", "-o", data, *compiled(path)]
+        subprocess.run(record, check=True, stderr=subprocess.DEVNULL)
+        script = subprocess.run(["perf", "script", "-i", data, "-F", "ip,sym,dso"], capture_output=True, text=True)
+        for line in script.stdout.splitlines():
+            words = line.split()
+            if words:
+                crate = words[1].split("::")[0]
+                is_own = words[-1].endswith("/pcc)")
+                kernel = "the kernel" if "kernel" in words[-1] else "the C library"
+                found[crate if crate in known else "libraries of the kit" if is_own else kernel] += 1
+    return found
+
+
+def by_storey(tokens, path):
+    found, known, of = samples(path), storeys(), collections.defaultdict(collections.Counter)
+    for crate, count in found.items():
+        of[known.get(crate, crate)][crate] = count
+    print(f"{tokens:,} tokens, {found.total():,} samples:")
+    for storey, crates in sorted(of.items(), key=lambda it: -it[1].total()):
+        most = ", ".join(f"{crate} {count / found.total():.1%}" for crate, count in crates.most_common(6))
+        print(f"    {crates.total() / found.total():.1%} {storey}" + (f": {most}" if storey not in crates else ""))
+
+
+def main():
+    texts = {}
+    for functions in FUNCTIONS:
+        text = "".join(BODY % (number, number, number) for number in range(functions)) + MAIN
+        texts[len(TOKEN.findall(text))] = text
+    sources = {tokens: made(f"{tokens}.c", text) for tokens, text in texts.items()}
+    beside_gcc(sources)
+    by_pass(texts)
+    for tokens, path in sources.items():
+        by_storey(tokens, path)
+
+
+main()
+PYTHON
