@@ -154,7 +154,7 @@ body_knows ps s k =
 -- ---- definitions
 
 -- the locals of the function are declared first
-abbrev IsFirst : tree.Function → Type 0
+abbrev pub IsFirst : tree.Function → Type 0
 IsFirst f = DeclareFirst (range_with_len 0 (length (parameters_of f))) f.body
 
 abbrev AreFirst : List tree.Function → Type 0

@@ -16,6 +16,10 @@ abbrev pub LocalsAreDeclaredFirst : Type 0
 LocalsAreDeclaredFirst = (units : List (List ExternalTree)) (p : Program)
     → AllByRecursion (AllByRecursion IsExternal) units → Typed units p → IsDeclaredFirst p
 
+-- Not so of every raw tree: one that the grammar doesn't make has a typed program that isn't.
+abbrev pub GrammarIsNeeded : Type 0
+GrammarIsNeeded = (units : List (List ExternalTree)) × (p : Program) × Typed units p × (IsDeclaredFirst p → ⊥)
+
 -- no variable is live at the first point of a function of its graphs
 abbrev pub NothingIsLiveFirst : Type 0
 NothingIsLiveFirst = (units : List (List ExternalTree)) (p : Program) → AreSources units → Typed units p

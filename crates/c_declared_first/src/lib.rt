@@ -4,4 +4,4 @@
 
 mod laws;
 
-pub use laws::{locals_are_declared_first, nothing_is_live_first};
+pub use laws::{grammar_is_needed, locals_are_declared_first, nothing_is_live_first};
