@@ -1,4 +1,4 @@
-#!/usr/bin/env python3
+#!/usr/bin/env -S python3 -B
 """Draws programs of the language that pcc compiles, each from its kind and a number.
 
 usage: bench/random_programs.py KIND NUMBER FOLDER
