@@ -1,4 +1,4 @@
-ghost use Rattle.std.specs.Prelude.{◌≡◌, ◌<◌, length, IfSome, IfNone, Some, [], ℕ, is_some};
+ghost use Rattle.std.specs.Prelude.{◌≡◌, ◌<◌, length, IfSome, IfNone, Some, None, [], ℕ, is_some};
 ghost use Rattle.std.specs.Bool.{OnTrue, OnFalse};
 ghost use Rattle.pcc_base.specs.declared.refusal.Refusal.TheVariants.{Fault as Faulty};
 ghost use Rattle.c_grammar.specs.Taking.{take_mark, take_word, take_unary, take_step, take_assign, take_binary};
@@ -9,7 +9,8 @@ ghost use Rattle.c_cursor.specs.Rows.{BeginsWithSpecifier};
 ghost use Rattle.c_cursor.specs.Places.{next_place, kind_without_height};
 
 use crate::tables::{
-    assign_of, begins_expression, binary_of, is_mark, is_word, specifier_of, step_of, unary_of,
+    NO_LEVEL, assign_of, begins_expression, binary_of, is_mark, is_word, level_of, specifier_of,
+    step_of, unary_of,
 };
 use c_lexer::{Punct, Token};
 use c_syntax::{AssignOp, BinaryOp, StepOp, UnaryOp};
@@ -138,6 +139,17 @@ impl Cursor<'_> {
         let op = binary_of(&first.kind, level)?;
         self.rest = others;
         Some((op, first.at))
+    }
+
+    /// The level of the operator between operands that comes next, or one that is above all where none does: no
+    /// operator of a tighter level comes.
+    pub fn next_level(&self) -> usize
+        ensures { (k : ℕ) → k < result → take_binary k self.now.rest.now ≡ None }
+    {
+        match self.rest.first() {
+            Some(token) => level_of(&token.kind),
+            None => NO_LEVEL,
+        }
     }
 
     /// The refusal at the next token, or at the end where there is none.

@@ -1,6 +1,6 @@
 //! Which operator or specifier a token is.
 
-ghost use Rattle.std.specs.Prelude.{◌≡◌};
+ghost use Rattle.std.specs.Prelude.{◌≡◌, ◌<◌, ℕ, None};
 ghost use Rattle.c_grammar.specs.ExpressionTokens.{binary_level};
 ghost use Rattle.c_grammar.specs.Taking.{is_mark, is_word, of_mark, unary_of_mark, step_of_mark, assign_of_mark};
 ghost use Rattle.c_grammar.specs.Taking.{binary_of_mark, specifier_of, at_level};
@@ -9,6 +9,9 @@ ghost use Rattle.c_grammar.specs.Heads.{begins};
 use c_lexer::{Punct, TokenKind};
 use c_syntax::{AssignOp, BinaryOp, SpecifierWord, StepOp, UnaryOp};
 use pcc_base::Keyword;
+
+/// A level above those of all operators.
+pub(crate) const NO_LEVEL: usize = 14;
 
 /// Whether a token is this mark.
 pub fn is_mark(kind: &TokenKind, mark: Punct) -> bool
@@ -166,6 +169,24 @@ pub(crate) fn binary_of(kind: &TokenKind, level: usize) -> Option<BinaryOp>
         Some(op)
     } else {
         None
+    }
+}
+
+/// The operator between operands that a token is.
+fn operator_of(kind: &TokenKind) -> Option<BinaryOp>
+    ensures { result ≡ of_mark binary_of_mark kind.now }
+{
+    binary_of_mark(mark_of(kind)?)
+}
+
+/// The level of the operator between operands that a token is, or one that is above all where it is none: it is no
+/// operator of a tighter level.
+pub(crate) fn level_of(kind: &TokenKind) -> usize
+    ensures { (k : ℕ) → k < result → at_level k (of_mark binary_of_mark kind.now) ≡ None }
+{
+    match operator_of(kind) {
+        Some(op) => binary_level(op),
+        None => NO_LEVEL,
     }
 }
 

@@ -5,7 +5,8 @@ ghost use Rattle.c_grammar.specs.Expressions.{expr_of};
 ghost use Rattle.c_grammar.specs.ExpressionTokens.{expr_height, looseness};
 ghost use Rattle.c_grammar.specs.Reading.{read_expression, read_assignment, read_conditional, read_binary, read_cast};
 ghost use Rattle.c_grammar.specs.Reading.{read_unary, infix_step, readers};
-ghost use Rattle.c_parse_expressions.specs.Readings.{IsReading, IsTurn, IsRule, below, reader_of};
+ghost use Rattle.c_grammar.specs.Chains.{chained};
+ghost use Rattle.c_parse_expressions.specs.Readings.{IsReading, IsPartReading, IsTurn, IsRule, below, reader_of};
 
 use crate::build::{
     assignment_node, binary_node, cast_node, conditional_node, prefix_node, unary_node,
@@ -160,17 +161,48 @@ pub fn conditional(cursor: &mut Cursor<'_>, height: Height) -> Result<Found, Ref
     Ok(conditional_node(cursor.alloc, condition, question, first, colon, second)?)
 }
 
-/// `binary`, from the level with this number on, which counts from the tightest; level 0 is `cast`
+/// `binary`, from the level with this number on, which counts from the tightest; level 0 is `cast`. The levels that have
+/// no operator here are passed over.
 #[cycle(expression)]
 fn binary(cursor: &mut Cursor<'_>, level: usize, height: Height) -> Result<Found, Refusal>
     requires level { level ≤ 10 }
     ensures { IsReading height.levels (read_binary height.levels (below height.levels) level) cursor.old.rest.now
         cursor.new.rest.now result }
 {
-    if level == 0 {
-        return cast(cursor, height);
+    let mut left = cast(cursor, height)?;
+    let mut reached = 0;
+    'levels: while reached < level {
+        let next = cursor.next_level();
+        if next > level {
+            return Ok(left);
+        }
+        if next > reached {
+            reached = next;
+        } else {
+            reached += 1;
+        }
+        left = operators(cursor, left, reached, height)?;
     }
-    let mut left = binary(cursor, level - 1, height)?;
+    Ok(left)
+}
+
+/// The operators of a level, with their right operands, behind an operand
+#[cycle(expression)]
+fn operators(
+    cursor: &mut Cursor<'_>,
+    operand: Found,
+    level: usize,
+    height: Height,
+) -> Result<Found, Refusal>
+    requires bottom { 0 < level }
+    requires top { level ≤ 10 }
+    requires operand { operand.height ≡ expr_height (expr_of operand.tree.value) }
+    requires within { (0 < operand.height) × (operand.height ≤ height.levels) }
+    ensures { IsPartReading height.levels (λ ts. chained (infix_step level height.levels
+        ((below height.levels).binary (level - 1))) (expr_of operand.tree.value) ts)
+        cursor.old.rest.now cursor.new.rest.now result }
+{
+    let mut left = operand;
     'operators: loop {
         match operator(cursor, left, level, height)? {
             Turn::More(more) => left = more,

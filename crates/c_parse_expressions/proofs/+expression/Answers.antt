@@ -1,5 +1,5 @@
 -- The loops add one turn to what is read in all; a rule below a node is read by the readers for one less.
-use Rattle.std.proofs.Common.{◌<◌, ap, sym, ◌∙◌, arith, length}
+use Rattle.std.proofs.Common.{◌<◌, ◌≤◌, ◌-◌, ℕ, ap, sym, ◌∙◌, arith, length}
 use Rattle.std.proofs.lemmas.Result.{err_from_is_err_and}
 use Rattle.c_grammar.specs.Expressions.{exprs_of}
 use Rattle.c_grammar.specs.ExpressionTokens.{expr_height, exprs_height}
@@ -7,12 +7,15 @@ use Rattle.c_grammar.specs.Reading as reading
 use Rattle.c_grammar.specs.Reading.{readers, read_expression, read_assignment, read_conditional, read_binary}
 use Rattle.c_grammar.specs.Reading.{read_cast, read_unary}
 use Rattle.c_grammar.proofs.Chains.{continues_goes}
-use Rattle.c_grammar.proofs.Reading.{read_binary_above, expression_above, assignment_above, conditional_above}
+use Rattle.c_grammar.proofs.Reading.{expression_above, assignment_above, conditional_above}
 use Rattle.c_grammar.proofs.Reading.{binary_above, cast_above, unary_above}
-use Rattle.c_cursor.proofs.Refused.{refused_turn, last_turn, refused_then, refused_fault}
+use Rattle.c_cursor.proofs.Refused.{refused_turn, last_turn, refused_fault}
 use Rattle.c_parse_expressions.specs.Readings.{reader_of, below}
 use Rattle.c_parse_expressions.proofs.Turns.{same_reading, none_below, no_arguments, no_cast_below}
+use Rattle.c_parse_expressions.proofs.Levels.{levels_passed, level_reads, levels_refused, refused_so}
 use Rattle.c_parse_expressions.proofs.+expression.Goals as goal
+use Rattle.c_parse_expressions.proofs.+expression.Goals.{expression::binary-then-next-reached}
+use Rattle.c_parse_expressions.proofs.+expression.Goals.{expression::binary-else-next-reached}
 
 pub expression::tree_below-returns-in_err-lower : goal.expression::tree_below-returns-in_err-lower
 expression::tree_below-returns-in_err-lower t c =
@@ -69,16 +72,8 @@ expression::cast-returns-in_err-below t c =
     c.in_err-below.ensures.err.0 c.in-Some.ensures.some.0 c.in-Some.ensures.some.1)
     c.in_err-below.ensures.err.1)
 
-pub expression::binary-returns-in_err-left : goal.expression::binary-returns-in_err-left
-expression::binary-returns-in_err-left t c =
-    let p = err_from_is_err_and c.from_residual.result c.from_residual.ensures.1 in
-    let pos : 0 < c.args.level = omega (arith, c.if-level-eq0.false) in
-    rw (p.1, p.2) (rw (read_binary_above c.args.height.levels (below c.args.height.levels) c.args.level
-    c.args.cursor.now.rest.now pos)
-    (refused_then _ _ _ c.in_err-left.ensures))
-
-pub expression::binary-operators-preserved : goal.expression::binary-operators-preserved
-expression::binary-operators-preserved t c =
+pub expression::operators-operators-preserved : goal.expression::operators-operators-preserved
+expression::operators-operators-preserved t c =
     let m = rw c.in-More.is at c.in_ok-more.ensures in
     record {
       reads = continues_goes _ _ _ _ _ _ c.operators.invariant.reads m.0 m.4;
@@ -87,13 +82,13 @@ expression::binary-operators-preserved t c =
       shorter = omega (arith, m.4, c.operators.invariant.shorter);
     }
 
-pub expression::binary-returns-in_err-more : goal.expression::binary-returns-in_err-more
-expression::binary-returns-in_err-more t c =
-    let p = err_from_is_err_and c.from_residual-in_err-more.result c.from_residual-in_err-more.ensures.1 in
+pub expression::operators-returns-in_err-more : goal.expression::operators-returns-in_err-more
+expression::operators-returns-in_err-more t c =
+    let p = err_from_is_err_and c.from_residual.result c.from_residual.ensures.1 in
     rw (p.1, p.2) (refused_turn _ _ _ _ _ c.operators.invariant.reads c.in_err-more.ensures)
 
-pub expression::binary-returns-in-Last : goal.expression::binary-returns-in-Last
-expression::binary-returns-in-Last t c =
+pub expression::operators-returns-in-Last : goal.expression::operators-returns-in-Last
+expression::operators-returns-in-Last t c =
     let m = rw c.in-Last.is at c.in_ok-more.ensures in
     let before = c.operators.invariant in (
       last_turn _ _ _ _ _ _ before.reads m.0 m.1 m.3,
@@ -104,6 +99,77 @@ expression::binary-returns-in-Last t c =
         omega (arith, m.2, before.height, before.within.1),
       ),
     )
+
+pub expression::binary-returns-in_err-left : goal.expression::binary-returns-in_err-left
+expression::binary-returns-in_err-left t c =
+    let p = err_from_is_err_and c.from_residual.result c.from_residual.ensures.1 in
+    rw (p.1, p.2) (levels_refused c.args.height.levels (below c.args.height.levels) c.args.level 0 c.args.level
+    c.args.cursor.now.rest.now _ (omega arith) c.in_err-left.ensures)
+
+pub expression::binary-returns-then-next-level : goal.expression::binary-returns-then-next-level
+expression::binary-returns-then-next-level t c =
+    let before = c.levels.invariant in (
+      levels_passed c.args.height.levels (below c.args.height.levels) (c.args.level - c.levels.reached)
+          c.levels.reached c.args.level c.args.cursor.now.rest.now c.levels.cursor.rest.now _
+          (omega (arith, before.reached)) before.reads
+          (λ k low high. c.next_level-next.ensures k (omega (arith, c.if-next-level.true))),
+      before.shorter,
+      (before.height, before.within.0, before.within.1),
+    )
+
+pub expression::binary-returns-in_err-left-2 : goal.expression::binary-returns-in_err-left-2
+expression::binary-returns-in_err-left-2 t c =
+    let p = err_from_is_err_and c.from_residual-in_err-left-2.result c.from_residual-in_err-left-2.ensures.1 in
+    let before = c.levels.invariant in
+    let above : (c.levels.reached < c.if-next-reached.reached) × (c.if-next-reached.reached ≤ c.args.level)
+    × ((j : ℕ) → c.levels.reached < j → j < c.if-next-reached.reached → j < c.next_level-next.result) =
+    elim c.if-next-reached.branch [
+      | expression::binary-then-next-reached w ↦ (
+        omega (arith, w.if-next-reached, w.reached-is),
+        omega (arith, w.reached-is, c.if-next-level.false),
+        λ j low high. omega (arith, w.reached-is),
+      )
+      | expression::binary-else-next-reached w ↦ (
+        omega (arith, w.reached-is),
+        omega (arith, w.reached-is, c.levels-test.true),
+        λ j low high. absurd (omega (arith, w.reached-is)),
+      )
+    ] in
+    rw (p.1, p.2) (levels_refused c.args.height.levels (below c.args.height.levels)
+    (c.args.level - c.if-next-reached.reached) c.if-next-reached.reached c.args.level c.args.cursor.now.rest.now _
+    (omega (arith, above.1))
+    (refused_so _ _ _
+    (level_reads c.args.height.levels (below c.args.height.levels) c.levels.reached c.if-next-reached.reached
+    c.args.cursor.now.rest.now c.levels.cursor.rest.now _ above.0 before.reads
+    (λ j low high. c.next_level-next.ensures j (above.2 j low high)))
+    c.in_err-left-2.ensures))
+
+pub expression::binary-levels-preserved : goal.expression::binary-levels-preserved
+expression::binary-levels-preserved t c =
+    let before = c.levels.invariant in
+    let above : (c.levels.reached < c.if-next-reached.reached) × (c.if-next-reached.reached ≤ c.args.level)
+    × ((j : ℕ) → c.levels.reached < j → j < c.if-next-reached.reached → j < c.next_level-next.result) =
+    elim c.if-next-reached.branch [
+      | expression::binary-then-next-reached w ↦ (
+        omega (arith, w.if-next-reached, w.reached-is),
+        omega (arith, w.reached-is, c.if-next-level.false),
+        λ j low high. omega (arith, w.reached-is),
+      )
+      | expression::binary-else-next-reached w ↦ (
+        omega (arith, w.reached-is),
+        omega (arith, w.reached-is, c.levels-test.true),
+        λ j low high. absurd (omega (arith, w.reached-is)),
+      )
+    ] in
+    record {
+      reads = level_reads c.args.height.levels (below c.args.height.levels) c.levels.reached c.if-next-reached.reached
+          c.args.cursor.now.rest.now c.levels.cursor.rest.now _ above.0 before.reads
+          (λ j low high. c.next_level-next.ensures j (above.2 j low high)) ∙ c.in_ok-left-2.ensures.0;
+      height = c.in_ok-left-2.ensures.2.0;
+      within = (c.in_ok-left-2.ensures.2.1, c.in_ok-left-2.ensures.2.2);
+      shorter = omega (arith, c.in_ok-left-2.ensures.1, before.shorter);
+      reached = above.1;
+    }
 
 pub expression::expression-operators-preserved : goal.expression::expression-operators-preserved
 expression::expression-operators-preserved t c =

@@ -1,7 +1,8 @@
 -- Each call is for a lower height, or for the same height and a tighter rule.
-use Rattle.std.proofs.Common.{◌≡◌, ◌<◌, ◌≤◌, length, ◌-◌, ◌+◌, ◌*◌}
+use Rattle.std.proofs.Common.{◌≡◌, ◌<◌, ◌≤◌, Some, length, ◌-◌, ◌+◌, ◌*◌}
 use Rattle.c_grammar.specs.Expressions.{expr_of}
 use Rattle.c_grammar.specs.ExpressionTokens.{expr_height}
+use Rattle.c_grammar.specs.Chains.{chained}
 use Rattle.c_grammar.proofs.Chains.{Continues}
 use Rattle.c_grammar.specs.Reading.{read_expression, read_binary, read_postfix, read_arguments, infix_step}
 use Rattle.c_grammar.specs.Reading.{suffix_step, value_step}
@@ -24,7 +25,10 @@ abbrev pub decreases-expression::conditional : goal.decreases-expression::condit
 decreases-expression::conditional l = 32 * l.height.levels + 21
 
 abbrev pub decreases-expression::binary : goal.decreases-expression::binary
-decreases-expression::binary l = 32 * l.height.levels + 10 + l.level
+decreases-expression::binary l = 32 * l.height.levels + 11
+
+abbrev pub decreases-expression::operators : goal.decreases-expression::operators
+decreases-expression::operators l = 32 * l.height.levels + 10
 
 abbrev pub decreases-expression::comma : goal.decreases-expression::comma
 decreases-expression::comma l = 32 * l.height.levels + 9
@@ -74,18 +78,32 @@ invariant-expression::expression-operators l = record {
 abbrev pub decreases-expression::expression-operators : goal.decreases-expression::expression-operators
 decreases-expression::expression-operators l = length l.cursor.rest.now
 
-abbrev pub invariant-expression::binary-operators : goal.invariant-expression::binary-operators
-invariant-expression::binary-operators l = record {
-  reads : Continues (infix_step l.level l.height.levels ((below l.height.levels).binary (l.level - 1)))
-      (expr_of l.left.tree.value) l.cursor.rest.now
-      (read_binary l.height.levels (below l.height.levels) l.level l.fn.cursor.rest.now);
+abbrev pub invariant-expression::binary-levels : goal.invariant-expression::binary-levels
+invariant-expression::binary-levels l = record {
+  reads : read_binary l.height.levels (below l.height.levels) l.reached l.fn.cursor.rest.now
+      ≡ Some (expr_of l.left.tree.value, l.cursor.rest.now);
   height : l.left.height ≡ expr_height (expr_of l.left.tree.value);
   within : (0 < l.left.height) × (l.left.height ≤ l.height.levels);
   shorter : length l.cursor.rest.now < length l.fn.cursor.rest.now;
+  reached : l.reached ≤ l.level;
 }
 
-abbrev pub decreases-expression::binary-operators : goal.decreases-expression::binary-operators
-decreases-expression::binary-operators l = length l.cursor.rest.now
+abbrev pub decreases-expression::binary-levels : goal.decreases-expression::binary-levels
+decreases-expression::binary-levels l = l.level - l.reached
+
+abbrev pub invariant-expression::operators-operators : goal.invariant-expression::operators-operators
+invariant-expression::operators-operators l = record {
+  reads : Continues (infix_step l.level l.height.levels ((below l.height.levels).binary (l.level - 1)))
+      (expr_of l.left.tree.value) l.cursor.rest.now
+      (chained (infix_step l.level l.height.levels ((below l.height.levels).binary (l.level - 1)))
+      (expr_of l.fn.operand.tree.value) l.fn.cursor.rest.now);
+  height : l.left.height ≡ expr_height (expr_of l.left.tree.value);
+  within : (0 < l.left.height) × (l.left.height ≤ l.height.levels);
+  shorter : length l.cursor.rest.now ≤ length l.fn.cursor.rest.now;
+}
+
+abbrev pub decreases-expression::operators-operators : goal.decreases-expression::operators-operators
+decreases-expression::operators-operators l = length l.cursor.rest.now
 
 abbrev pub invariant-primary::postfix-suffixes : goal.invariant-primary::postfix-suffixes
 invariant-primary::postfix-suffixes l = record {
