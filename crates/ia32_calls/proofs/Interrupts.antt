@@ -1,9 +1,8 @@
 -- The system calls of `putchar` and of the end.
 use Rattle.std.proofs.Common.{◌≡◌, ℕ, ◌+◌, ◌%◌, ◌≤◌, ◌<◌, List, [], ◌∷◌, ◌++◌, length, Ok, Err, refl, ap, subst, ◌∙◌}
 use Rattle.std.proofs.Common.{arith}
-use Rattle.std.specs.Prelude.{Result, ◌&&◌, ◌==◌, if◌then◌else◌}
-use Rattle.pcc_base.specs.Outcome.{End, Ended, Stopped}
-use Rattle.pcc_base.specs.declared.run.Stop.TheVariants.{Call as NoCall}
+use Rattle.std.specs.Prelude.{Result}
+use Rattle.pcc_base.specs.Outcome.{End, Ended}
 use Rattle.ia32_regs.specs.declared.names.Reg32.TheVariants.{Eax, Ecx, Edx, Ebx}
 use Rattle.ia32_insn.specs.declared.insn.Insn.TheVariants as insn
 use Rattle.ia32_insn.specs.declared.item.Item.{Item}

@@ -1,9 +1,6 @@
 pub mod Pushes
 pub mod Interrupts
 pub mod Putchar
-pub mod Return
 pub mod Ending
 pub mod Prologue
 pub mod First
-pub mod Start
-pub mod Beginning

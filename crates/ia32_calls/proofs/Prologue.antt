@@ -210,9 +210,6 @@ frame-some f h = omega arith
 frame-within : (low e f b : ℕ) → low + f + 64 ≤ e → b + 4 ≡ e → f ≤ b
 frame-within low e f b h p = omega arith
 
-frame-room : (low e f b : ℕ) → low + f + 64 ≤ e → b + 4 ≡ e → low + f ≤ b
-frame-room low e f b h p = omega arith
-
 frame-high : (e b h : ℕ) → e + 4 ≤ h → b + 4 ≡ e → b ≤ h
 frame-high e b h k p = omega arith
 

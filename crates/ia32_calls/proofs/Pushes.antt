@@ -8,14 +8,13 @@ use Rattle.pcc_base.specs.Outcome.{End}
 use Rattle.ia32_regs.specs.declared.names.Reg32.{Reg32}
 use Rattle.ia32_regs.specs.declared.names.Reg32.TheVariants.{Esp, Ebp}
 use Rattle.ia32_regs.specs.Registers.{number32, register}
-use Rattle.ia32_insn.specs.declared.operand.Mem.{Mem}
 use Rattle.ia32_insn.specs.declared.operand.Rm32.TheVariants as rm
 use Rattle.ia32_insn.specs.declared.insn.Insn.TheVariants as insn
 use Rattle.ia32_insn.specs.declared.item.Item.{Item}
 use Rattle.ia32_insn.specs.declared.item.Item.TheVariants as item
 use Rattle.ia32_insn.specs.State.{State, at_address}
 use Rattle.ia32_insn.specs.Arithmetic.{sum, difference}
-use Rattle.ia32_insn.specs.Meaning.{and_then, address_of, load, store, push, pop, word_of, with_word, effect}
+use Rattle.ia32_insn.specs.Meaning.{and_then, load, store, push, pop, word_of, with_word, effect}
 use Rattle.ia32_insn.specs.Keeps.{AreDisjoint}
 use Rattle.ia32_insn.specs.Items.{ItemsAt, LeadsTo}
 use Rattle.ia32_shows.proofs.Sound.{store-in, load-same, sound-with_word, sound-at, word-same}
@@ -99,18 +98,6 @@ push-goes site items q s sound ready room top =
     let went = plain-goes site.symbols site.places site.text site.low site.high (insn.Push (rm.Reg q)) items s made.0
     sound ready tt (λ after. made.1) (λ after. refl) in
     (at_address went.0 made.0, went.1, went.2, pushed-at site went.0 (word_of q s) s made.0 made.2)
-
--- PUSH of a word in memory
-pub push-load-goes : (site : Site) (items : List Item) (m : Mem) (v : ℕ) (s : State) → SoundAt site s
-    → ReadyAt site (item.Plain (insn.Push (rm.Mem m)) ∷ items) s → load 4 (address_of m s) s ≡ Ok v → v < 2 ^ 32
-    → site.low + 4 ≤ word_of Esp s → word_of Esp s ≤ site.high
-    → (u : State) × Comes site.text s u × ReadyAt site items u × Pushed site v s u
-push-load-goes site items m v s sound ready held fits room top =
-    let made = push-makes site v s sound room top fits in
-    let went = plain-goes site.symbols site.places site.text site.low site.high (insn.Push (rm.Mem m)) items s made.0
-    sound ready tt (λ after. ap (λ (x : Result ℕ End). and_then x (λ value. push value s)) held ∙ made.1)
-    (λ after. refl) in
-    (at_address went.0 made.0, went.1, went.2, pushed-at site went.0 v s made.0 made.2)
 
 -- CALL: the address of what follows goes onto the stack
 pub call-goes : (site : Site) (back : List Item) (address : ℕ) (first rest : List ℕ) (s : State) → SoundAt site s

@@ -1,10 +1,9 @@
--- A call of `putchar` over slots: the routine, and the row that calls it.
+-- The routine `putchar`, and what stands behind a call of it.
 use Rattle.std.proofs.Common.{◌≡◌, ℕ, ◌+◌, ◌-◌, ◌%◌, ◌^◌, ◌<◌, ◌≤◌, List, [], ◌∷◌, ◌++◌, length, pos, Ok, refl, sym, ap}
 use Rattle.std.proofs.Common.{subst, ◌∙◌, inl, arith}
 use Rattle.std.specs.Prelude.{Result}
 use Rattle.pcc_base.specs.Outcome.{End}
-use Rattle.ia32_regs.specs.declared.names.Reg32.TheVariants.{Eax, Ecx, Edx, Ebx, Esp, Ebp, Edi}
-use Rattle.ia32_places.specs.Places.{InSlot}
+use Rattle.ia32_regs.specs.declared.names.Reg32.TheVariants.{Eax, Ecx, Edx, Ebx, Esp, Ebp}
 use Rattle.ia32_insn.specs.declared.operand.Rm32.TheVariants as rm
 use Rattle.ia32_insn.specs.declared.operand.Rm8.TheVariants as rm8
 use Rattle.ia32_insn.specs.declared.insn.Insn.TheVariants as insn
@@ -18,14 +17,11 @@ use Rattle.ia32_insn.specs.Items.{near, plain, putchar_items}
 use Rattle.ia32_shows.specs.Placements.{below}
 use Rattle.ia32_shows.proofs.Sound.{load-same, word-below}
 use Rattle.ia32_shows.proofs.Steps.{IsAt, Comes, comes-then}
-use Rattle.ia32_shows.proofs.Frames.{went-then, went-stricter, below-address, store-went}
-use Rattle.ia32_rows.specs.Rows.{putchar_row}
-use Rattle.ia32_calls.specs.Laws.{putchar_between, OutsideCall, WroteByCall, PutcharRow}
 use Rattle.ia32_shows.proofs.Sets.{ready-from, disjoint-part, unlike, Sets, set-goes}
 use Rattle.ia32_calls.proofs.Pushes.{one_fits, Pushed, push-goes}
-use Rattle.ia32_calls.proofs.Pushes.{push-load-goes, call-goes, pop-goes, ret-goes}
+use Rattle.ia32_calls.proofs.Pushes.{call-goes, pop-goes, ret-goes}
 use Rattle.ia32_calls.proofs.Interrupts.{write-goes}
-use Rattle.ia32_shows.specs.Sites.{Site, SoundAt, ReadyAt, StandsFrom, Framed, Went, IsInFrame}
+use Rattle.ia32_shows.specs.Sites.{Site, SoundAt, ReadyAt, StandsFrom}
 
 -- ---- numbers
 
@@ -382,9 +378,6 @@ third-word e a c n b h p q k = disjoint-part (e - 12) 12 (c - 4) 4 b n (omega ar
 twelve : (low e : ℕ) → low + 12 ≤ e → 12 ≤ e
 twelve low e h = omega arith
 
-room-one : (low e : ℕ) → low + 12 ≤ e → low + 4 ≤ e
-room-one low e h = omega arith
-
 room-two : (low e a : ℕ) → low + 12 ≤ e → a + 4 ≡ e → low + 4 ≤ a
 room-two low e a h p = omega arith
 
@@ -464,112 +457,3 @@ calls-behind site back x s top room routine (a, p, ready, q) =
     let r = call-goes site back site.symbols.putchar first rest a q.sound whole ready.stand.3 ready.stand.4
     (room-two site.low e (word_of Esp a) room q.esp) (top-two e (word_of Esp a) site.high q.esp top) in
     called-by site back x (a.eip + length first) s a r.0 top room routine p q r.1 r.2 r.3 r.4 r.5
-
--- a word of the frame is passed to the routine
-calls : (site : Site) (frame : ℕ) (back : List Item) (a x : ℕ) (s : State) → Framed site frame s
-    → site.low + 12 ≤ word_of Esp s → StandsFrom site putchar_items site.symbols.putchar
-    → ReadyAt site (plain (insn.Push (rm.Mem (below a))) ∷ item.CallStub stub.Putchar ∷ back) s → IsInFrame frame a
-    → load 4 (word_of Ebp s - a) s ≡ Ok x → x < 2 ^ 32 → (u : State) × Called site back x s u
-calls site frame back a x s framed room routine ready from held fits =
-    let top : word_of Esp s ≤ site.high = frame-top (word_of Esp s) frame (word_of Ebp s) site.high framed.esp
-    framed.top in
-    let at = below-address a s (some-distance a from.low)
-    (in-frame a frame (word_of Esp s) (word_of Ebp s) from.high framed.esp)
-    (word-below site.text site.low site.high Ebp s framed.sound) in
-    let loaded : load 4 (address_of (below a) s) s ≡ Ok x = ap (λ (k : ℕ). load 4 k s) at ∙ held in
-    calls-behind site back x s top room routine
-    (push-load-goes site (item.CallStub stub.Putchar ∷ back) (below a) x s framed.sound ready loaded fits
-    (room-one site.low (word_of Esp s) room) top)
-  where
-    some-distance : (d : ℕ) → 20 ≤ d → 0 < d
-    some-distance d h = omega arith
-
-    in-frame : (d frame esp ebp : ℕ) → d ≤ frame → esp + frame ≡ ebp → d ≤ ebp
-    in-frame d frame esp ebp h e = omega arith
-
-    frame-top : (e f b h : ℕ) → e + f ≡ b → b + 8 ≤ h → e ≤ h
-    frame-top e f b h p q = omega arith
-
--- places apart from the twelve bytes below an address
-abbrev Below : ℕ → ℕ → ℕ → Type 0
-Below esp b n = AreDisjoint (esp - 12) 12 b n
-
-pop-top : (u e f b h : ℕ) → u + 4 ≡ e → e + f ≡ b → b + 8 ≤ h → u + 4 ≤ h
-pop-top u e f b h p q r = omega arith
-
--- the argument comes off the stack again
-call-went : (site : Site) (frame : ℕ) (items : List Item) (x : ℕ) (s : State) → Framed site frame s → x < 2 ^ 32
-    → ((t : State) × Called site (plain (insn.Pop Edi) ∷ items) x s t)
-    → (u : State) × Went site frame items (Below (word_of Esp s)) (s.written ++ (x % 256) ∷ []) s u
-    × (word_of Eax u ≡ x % 256)
-call-went site frame items x s framed fits (t, p) =
-    let w = pop-goes site items Edi x t p.sound p.ready (unlike 4 7 refl) p.argument fits
-    (pop-top (word_of Esp t) (word_of Esp s) frame (word_of Ebp s) site.high p.esp framed.esp framed.top) in
-    let u : State = w.0 in
-    let esp : word_of Esp u ≡ word_of Esp s = w.3.esp ∙ p.esp in
-    let ebp : word_of Ebp u ≡ word_of Ebp s = w.3.others Ebp (unlike 5 7 refl) (unlike 5 4 refl) ∙ p.ebp in (
-      u,
-      record {
-        comes = comes-then site.text s t u p.comes w.1;
-        ready = w.2;
-        framed = record {
-          sound = w.3.sound;
-          esp = ap (λ (k : ℕ). k + frame) esp ∙ framed.esp ∙ sym ebp;
-          room =
-              subst (λ (k : ℕ). site.low + 4 ≤ k) (sym esp) framed.room;
-          top =
-              subst (λ (k : ℕ). k + 8 ≤ site.high) (sym ebp) framed.top;
-        };
-        ebp = ebp;
-        esp = esp;
-        left = w.3.left ∙ p.left;
-        taken = w.3.taken ∙ p.taken;
-        written = w.3.written ∙ p.written;
-        kept = λ n b z k h. load-same n b z t u w.3.memory (p.kept n b z k h);
-      },
-      w.3.others Eax (unlike 0 7 refl) (unlike 0 4 refl) ∙ p.eax,
-    )
-
-abbrev storing : ℕ → List Item → List Item
-storing d back = plain (insn.Mov (rm.Mem (below d)) Eax) ∷ back
-
-some-room : (d : ℕ) → 20 ≤ d → 4 ≤ d
-some-room d h = omega arith
-
--- the result goes to its slot
-row-ends : (site : Site) (frame : ℕ) (back : List Item) (d y e : ℕ) (out : List ℕ) (s t : State) → IsInFrame frame d
-    → Went site frame (storing d back) (Below e) out s t → word_of Eax t ≡ y
-    → (u : State) × Went site frame back (OutsideCall (word_of Ebp s - d) e) out s u
-    × (load 4 (word_of Ebp s - d) u ≡ Ok y)
-row-ends site frame back d y e out s t inside went value =
-    let slot : ℕ = word_of Ebp s - d in
-    let K : ℕ → ℕ → Type 0 = OutsideCall slot e in
-    let same : word_of Ebp t - d ≡ slot = ap (λ (k : ℕ). k - d) went.ebp in
-    let stored = store-went site frame back K Eax d y t went.framed went.ready (some-room d inside.low) inside.high
-    value (λ n b k. subst (λ (a : ℕ). AreDisjoint a 4 b n) (sym same) k.0) in
-    let first = went-stricter site frame (storing d back) (Below e) K out s t (λ b n k. k.1) went in
-    let second = subst (λ (o : List ℕ). Went site frame back K o t stored.0) went.written stored.1 in (
-      stored.0,
-      went-then site frame (storing d back) back K out out s t stored.0 first second,
-      subst (λ (a : ℕ). load 4 a stored.0 ≡ Ok y) same stored.2,
-    )
-
-row-called : (site : Site) (frame : ℕ) (back : List Item) (d y : ℕ) (s : State) → IsInFrame frame d
-    → ((c : State) × Went site frame (storing d back) (Below (word_of Esp s)) (s.written ++ y ∷ []) s c
-    × (word_of Eax c ≡ y)) → (u : State) × WroteByCall site frame back (word_of Ebp s - d) y (s.written ++ y ∷ []) s
-    u
-row-called site frame back d y s inside (c, went, eax) =
-    let ends = row-ends site frame back d y (word_of Esp s) (s.written ++ y ∷ []) s c inside went eax in
-    (ends.0, record { went = ends.1; same = ends.2 })
-
--- the row that selection writes
-pub putchar_row-between : (d a : ℕ) (back : List Item) → putchar_row (InSlot d) (InSlot a) ++ back
-    ≡ putchar_between d a back
-putchar_row-between d a back = refl
-
--- the low byte of the word in the one slot is written, and becomes the word in the other
-pub putchar-row : PutcharRow
-putchar-row site frame back d a x s framed room routine ready from to held fits =
-    row-called site frame back d (x % 256) s to
-    (call-went site frame (storing d back) x s framed fits
-    (calls site frame (plain (insn.Pop Edi) ∷ storing d back) a x s framed room routine ready from held fits))

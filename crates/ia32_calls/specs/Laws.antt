@@ -1,54 +1,19 @@
 -- What calls and leaves do to the machine. Each law leads from a state to a later one, and passes no NOP on the way.
-use Rattle.std.specs.Prelude.{◌≡◌, ℕ, ◌+◌, ◌-◌, ◌%◌, ◌^◌, ◌<◌, ◌≤◌, List, [], ◌∷◌, ◌++◌, length, take, drop, slice_get}
-use Rattle.std.specs.Prelude.{Some, Ok}
+use Rattle.std.specs.Prelude.{◌≡◌, ℕ, ◌+◌, ◌-◌, ◌%◌, ◌^◌, ◌<◌, ◌≤◌, List, ◌++◌, length, take, drop}
+use Rattle.std.specs.Prelude.{Ok}
 use Rattle.pcc_base.specs.Outcome.{Ended}
 use Rattle.ia32_regs.specs.declared.names.Reg32.{Reg32}
 use Rattle.ia32_regs.specs.declared.names.Reg32.TheVariants.{Eax, Ebx, Esp, Ebp, Esi, Edi}
-use Rattle.ia32_insn.specs.declared.operand.Rm32.TheVariants as rm
-use Rattle.ia32_insn.specs.declared.insn.Insn.TheVariants as insn
 use Rattle.ia32_insn.specs.declared.item.Item.{Item}
-use Rattle.ia32_insn.specs.declared.item.Item.TheVariants as item
-use Rattle.ia32_insn.specs.declared.item.Stub.TheVariants as stub
 use Rattle.ia32_insn.specs.State.{State}
 use Rattle.ia32_insn.specs.Meaning.{Halts, load, word_of}
 use Rattle.ia32_insn.specs.Keeps.{AreDisjoint}
 use Rattle.ia32_insn.specs.Runs.{Steps}
-use Rattle.ia32_insn.specs.Items.{Object, Symbols, Places, ItemsAt, IsText, plain, text_start, text_state, data_start}
-use Rattle.ia32_insn.specs.Items.{stack_end, start_items, putchar_items}
+use Rattle.ia32_insn.specs.Items.{Object, Symbols, Places, ItemsAt, text_start}
+use Rattle.ia32_insn.specs.Items.{stack_end, start_items}
 use Rattle.ia32_shows.specs.Paths.{IsClear, Comes}
-use Rattle.ia32_shows.specs.Placements.{below}
 use Rattle.ia32_rows.specs.Rows.{prologue}
-use Rattle.ia32_shows.specs.Sites.{IsSound, Site, SoundAt, ReadyAt, StandsFrom, Framed, Went, IsInFrame, ApartFrom}
-
--- ---- a call of `putchar`
-
--- the items of `putchar` over slots so far below EBP, where `selected` writes them, and what follows them
-abbrev pub putchar_between : ℕ → ℕ → List Item → List Item
-putchar_between d a back =
-    plain (insn.Push (rm.Mem (below a)))
-    ∷ item.CallStub stub.Putchar
-    ∷ plain (insn.Pop Edi)
-    ∷ plain (insn.Mov (rm.Mem (below d)) Eax)
-    ∷ back
-
--- places apart from a slot, and from the twelve bytes below ESP
-abbrev pub OutsideCall : ℕ → ℕ → ℕ → ℕ → Type 0
-OutsideCall slot esp b n = ApartFrom slot b n × AreDisjoint (esp - 12) 12 b n
-
--- a row that called a routine and wrote a word to a slot
-pub record WroteByCall (site : Site) (frame : ℕ) (items : List Item) (slot word : ℕ) (out : List ℕ) (s u : State) : Type
-    0 where
-  pub went : Went site frame items (OutsideCall slot (word_of Esp s)) out s u
-  pub same : load 4 slot u ≡ Ok word
-
--- the low byte of the word in the one slot is written, and becomes the word in the other
-abbrev pub PutcharRow : Type 0
-PutcharRow =
-    (site : Site) (frame : ℕ) (back : List Item) (d a x : ℕ) (s : State) → Framed site frame s
-    → site.low + 12 ≤ word_of Esp s → StandsFrom site putchar_items site.symbols.putchar
-    → ReadyAt site (putchar_between d a back) s → IsInFrame frame a → IsInFrame frame d → load 4 (word_of Ebp s - a) s
-    ≡ Ok x → x < 2 ^ 32
-    → (u : State) × WroteByCall site frame back (word_of Ebp s - d) (x % 256) (s.written ++ (x % 256) ∷ []) s u
+use Rattle.ia32_shows.specs.Sites.{IsSound, Site, SoundAt, ReadyAt, Framed}
 
 -- ---- the start
 
@@ -61,29 +26,6 @@ ReturnsToStart symbols text objects main address =
     (drop 3 (start_items (stack_end text objects) symbols.depth main)) after
     × ((done rest : List ℕ) × (text ≡ done ++ ((before ++ after) ++ rest)) × (text_start ≡ text_start + length done))
     × (address ≡ text_start + length before)
-
--- the state in which `main` begins
-pub record Started (symbols : Symbols) (text : List ℕ) (main address : ℕ) (input : List ℕ) (t : State) : Type 0 where
-  pub comes : Comes text (text_state text [] input) t
-  pub eip : t.eip ≡ address
-  pub sound : IsSound text (data_start text) (stack_end text []) t
-  pub esp : word_of Esp t + 4 ≡ stack_end text []
-  pub return_address : ℕ
-  pub returns : load 4 (word_of Esp t) t ≡ Ok return_address
-  pub returns_to : ReturnsToStart symbols text [] main return_address
-  pub depth : load 4 symbols.depth t ≡ Ok 1
-  pub left : t.left ≡ input
-  pub taken : t.taken ≡ 0
-  pub written : t.written ≡ []
-
--- the start comes to the first function's address, with one call active
-abbrev pub StartGoes : Type 0
-StartGoes =
-    (functions : List (List Item)) (order : List ℕ) (main : ℕ) (places : List Places) (symbols : Symbols)
-    (text : List ℕ) (address : ℕ) (input : List ℕ)
-    → IsText functions order [] main places symbols text → length text < 2 ^ 30 + 1024
-    → slice_get symbols.functions main ≡ Some address
-    → (t : State) × Started symbols text main address input t
 
 -- ---- a function's first items
 
@@ -115,17 +57,6 @@ PrologueGoes =
 
 -- ---- a return
 
--- the items of a return of the word in a slot, and what follows them
-abbrev pub return_before : ℕ → List Item → List Item
-return_before a back =
-    plain (insn.MovLoad Eax (below a))
-    ∷ plain (insn.MovLoad Ebx (below 4))
-    ∷ plain (insn.MovLoad Esi (below 8))
-    ∷ plain (insn.MovLoad Edi (below 12))
-    ∷ plain insn.Leave
-    ∷ plain insn.Ret
-    ∷ back
-
 -- a register has the word that stood at an address
 abbrev pub HasWordFrom : Reg32 → ℕ → State → State → Type 0
 HasWordFrom r address s u = (w : ℕ) → load 4 address s ≡ Ok w → w < 2 ^ 32 → word_of r u ≡ w
@@ -146,13 +77,6 @@ pub record Returned (site : Site) (word address : ℕ) (s u : State) : Type 0 wh
   pub left : u.left ≡ s.left
   pub taken : u.taken ≡ s.taken
   pub written : u.written ≡ s.written
-
-abbrev pub ReturnGoes : Type 0
-ReturnGoes =
-    (site : Site) (frame : ℕ) (back : List Item) (a x address : ℕ) (s : State) → Framed site frame s
-    → ReadyAt site (return_before a back) s → IsInFrame frame a
-    → load 4 (word_of Ebp s - a) s ≡ Ok x → x < 2 ^ 32 → load 4 (word_of Ebp s + 4) s ≡ Ok address → address < 2 ^ 32
-    → (u : State) × Returned site x address s u
 
 -- ---- the end
 

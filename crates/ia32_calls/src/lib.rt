@@ -1,7 +1,7 @@
-//! What calls and leaves do to the machine: the start, a function's first items, a call of `putchar`, a return, and
-//! the end, each as one law about states of the machine (`specs/Laws.antt`).
+//! What a function's first items and the end of the run do to the machine, each as one law about states of the machine
+//! (`specs/Laws.antt`).
 #![tactic(auto)]
 
 mod laws;
 
-pub use laws::{calls_putchar, enters_and_leaves, starts_and_ends};
+pub use laws::{endings_halt, functions_are_entered};

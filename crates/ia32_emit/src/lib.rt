@@ -1,25 +1,17 @@
-//! The items of each op of a graph, by where its operands and its result stand, as the definitions name them
+//! What all rows of a graph's ops are made of, by where their operands and their result stand: items as they are, the
+//! word of a place to a register and back, and the rows of moves and of single operations, as the definitions name them
 //! (`ia32_rows`, `specs/Rows.antt`).
 #![tactic(auto)]
 
-mod accesses;
-mod calls;
-mod comparisons;
-mod computing;
 mod instructions;
 mod locations;
 mod moves;
-mod passing;
 
-pub use accesses::{emit_frame_array, emit_get, emit_load, emit_put, emit_static, emit_store};
-pub use calls::emit_call;
-pub use comparisons::{emit_branch, emit_jump, emit_same, emit_set, emit_shift};
-pub use computing::{
-    emit_complement, emit_division, emit_half, emit_low, emit_negation, emit_product, emit_wide,
+pub use instructions::{emit, emit_all, emit_three, emit_two};
+pub use locations::{
+    Location, at_offset, at_register, is_same, low_byte, number_of_byte, target_of, working,
 };
-pub use instructions::{emit, emit_three, emit_two};
-pub use locations::{Location, at_offset, at_register};
-pub use moves::{emit_commuting, emit_copy, emit_number, emit_operation};
-pub use passing::{
-    emit_exit, emit_getchar, emit_leave, emit_param, emit_prologue, emit_putchar, emit_return,
+pub use moves::{
+    emit_commuting, emit_copy, emit_copy_byte, emit_number, emit_operate, emit_operation,
+    emit_pass, emit_read, emit_write,
 };

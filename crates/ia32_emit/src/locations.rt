@@ -4,7 +4,7 @@ ghost use Rattle.std.specs.Prelude.{◌≡◌, ◌==◌, ◌&&◌, ◌%◌};
 ghost use Rattle.ia32_insn.specs.Items.{near};
 ghost use Rattle.ia32_regs.specs.Registers.{number32, number8};
 ghost use Rattle.ia32_shows.specs.Placements.{below};
-ghost use Rattle.ia32_rows.specs.Rows.{is_in, working, target_of, has_operand};
+ghost use Rattle.ia32_rows.specs.Rows.{is_in, working, target_of, has_operand, low_byte};
 ghost use Rattle.ia32_emit.specs.Locations.{distance, place_of};
 
 use ia32_insn::Mem;
@@ -12,7 +12,7 @@ use ia32_regs::{Reg8, Reg32};
 
 /// Where a variable stands: in a register, in a byte of one, or in a slot at an offset from EBP, in bytes. An offset
 /// that isn't below EBP counts as 0.
-#[derive(Clone, Copy, Debug)]
+#[derive(Clone, Copy)]
 pub enum Location {
     Word(Reg32),
     Byte(Reg8),
@@ -107,5 +107,17 @@ pub fn has_operand(result_location: Location, operand: Location) -> bool
     match result_location {
         Location::Word(r) => is_in(r, operand),
         Location::Byte(_) | Location::Slot(_) => false,
+    }
+}
+
+/// The lowest byte of a register for variables; of another, AL.
+pub fn low_byte(register: Reg32) -> Reg8
+    ensures { result ≡ low_byte register }
+{
+    match register {
+        Reg32::Ecx => Reg8::Cl,
+        Reg32::Edx => Reg8::Dl,
+        Reg32::Ebx => Reg8::Bl,
+        Reg32::Eax | Reg32::Esp | Reg32::Ebp | Reg32::Esi | Reg32::Edi => Reg8::Al,
     }
 }

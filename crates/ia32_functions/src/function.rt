@@ -15,7 +15,7 @@ use crate::arrays::emit_headers;
 use crate::blocks::emit_blocks;
 use crate::site::Site;
 use flow_graph::Graph;
-use ia32_emit::emit_prologue;
+use ia32_emit_calls::emit_prologue;
 use ia32_insn::Item;
 use ia32_keeps::slots_support;
 use ia32_sizes::selected_is_code;

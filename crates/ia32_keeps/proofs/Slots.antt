@@ -1,6 +1,5 @@
 -- Slots for all variables, apart from each other and from the frame arrays, support every graph.
 use Rattle.std.proofs.Common.{◌≡◌, ◌≢◌, ℕ, zero, suc, ◌<◌, List, [], ◌∷◌, length, Option, Some, None, inl, inr, refl}
-use Rattle.std.proofs.Common.{◌+◌, ◌*◌, ◌%◌}
 use Rattle.std.proofs.Common.{sym, ap, subst, arith}
 use Rattle.std.specs.Prelude.{option_map, slice_get}
 use Rattle.std.proofs.lemmas.Option.{none-some, same_Some}
@@ -12,12 +11,12 @@ use Rattle.flow_graph.specs.declared.op.Op.TheVariants as op
 use Rattle.flow_graph.specs.Graphs.{Flow, FitsOp, HasWidth, IsFlow, IsPlaced}
 use Rattle.flow_graph.specs.Liveness.{defined}
 use Rattle.ia32_shows.specs.Placements.{in_slots}
-use Rattle.ia32_rows.specs.Rows.{AllApart, AreApart, IsSlot, frame_of}
+use Rattle.ia32_rows.specs.Rows.{AllApart, AreApart, IsSlot}
 use Rattle.liveness.proofs.Placed.{op-fits}
 use Rattle.liveness.proofs.SameWay.{used-within}
 use Rattle.graph_states.proofs.Lists.{every-at}
 use Rattle.ia32_effects.specs.Laws.{ArePlacesApart}
-use Rattle.ia32_keeps.specs.Supports.{AreSlots, HoldsWidth, IsPlaceFor, IsSpared, OverSlotsSupport, SlotsSupport}
+use Rattle.ia32_keeps.specs.Supports.{AreSlots, HoldsWidth, IsPlaceFor, IsSpared, SlotsSupport}
 use Rattle.ia32_keeps.specs.Supports.{SupportsPoint}
 
 -- ---- variables
@@ -193,23 +192,3 @@ slots-support flow homes frame arrays slots is h =
       begins = λ point v place first e. let found = slot-of slots v place e in (found.0, sym found.2);
       along = λ point next v place leads e. e;
     }
-
--- the slots of graphs without arrays
-pub over-slots-support : OverSlotsSupport
-over-slots-support flow homes slots is h =
-    slots-support flow homes (frame_of flow) [] slots is (record {
-      four_words = omega arith;
-      words = whole (length flow.widths);
-      arrays_in = record {
-        as_many = ap length (sym h.no_arrays);
-        inside = λ k below array e f. absurd (none-some below f);
-        apart = λ k l below other one two distinct e f g i. absurd (none-some below f);
-      };
-      as_many = h.as_many;
-      within = h.within;
-      apart = h.apart;
-      clear = λ v slot k below array e f g. absurd (none-some below g);
-    })
-  where
-    whole : (n : ℕ) → (16 + 4 * n) % 4 ≡ 0
-    whole n = omega arith

@@ -15,7 +15,7 @@ use Rattle.flow_graph.specs.declared.op.Op.{Op}
 use Rattle.flow_graph.specs.declared.op.Op.TheVariants as op
 use Rattle.flow_graph.specs.Sizes.{most_words, words_of}
 use Rattle.flow_graph.specs.States as graph
-use Rattle.flow_graph.specs.States.{Activation, Waiting, active_of, depth_of, flow_at}
+use Rattle.flow_graph.specs.States.{Activation, Waiting, active_of, flow_at}
 use Rattle.flow_graph.specs.WellFormed.{AreActivations, AreWaiting, IsActivation, IsState}
 use Rattle.flow_graph.specs.WellFormed.{IsWaiting}
 use Rattle.ia32_shows.specs.Placements.{Code, objects_of, placement_of}
@@ -168,11 +168,6 @@ activation-at code (b ∷ active) (suc i) a h e = activation-at code active i a 
 -- the bytes of a call's frame
 abbrev pub frame_size : Code → Activation → ℕ
 frame_size code a = (placement_of code a.function).frame
-
--- the bytes are among those that the call has on the stack, where its frame is this
-pub record InZone (code : Code) (activation : Activation) (frame a n : ℕ) : Type 0 where
-  pub low : frame ≤ a + frame_size code activation
-  pub high : a + n ≤ frame + 8 + 4 * length activation.arguments
 
 -- a call that waits is above the one for which it waits
 zone-above : (code : Code) (active : List Activation) (frames : List ℕ) (s : machine.State) (younger : Activation)

@@ -18,7 +18,7 @@ use Rattle.flow_graph.specs.States.{flow_at}
 use Rattle.flow_graph.specs.WellFormed.{IsGraphProgram}
 use Rattle.ia32_shows.specs.Placements.{Code, IsCode, Placement, in_slots, objects_of, placement_of}
 use Rattle.ia32_shows.specs.Sites.{Site}
-use Rattle.ia32_rows.specs.Rows.{AllApart, HasSlots, IsSlot, over_slots}
+use Rattle.ia32_rows.specs.Rows.{AllApart, IsSlot}
 pub use Rattle.ia32_rows.specs.Rows.{size_of}
 use Rattle.ia32_effects.specs.Contains.{IsPlaceIn}
 use Rattle.ia32_effects.specs.Laws.{ArePlacesApart}
@@ -174,12 +174,6 @@ abbrev pub SlotsSupport : Type 0
 SlotsSupport =
     (flow : Flow) (homes : List ℕ) (frame : ℕ) (arrays slots : List ℕ) → IsFlow flow homes
     → AreSlots flow frame arrays slots → Supports flow (in_slots frame arrays slots)
-
--- so the slots that graphs have code over so far support theirs
-abbrev pub OverSlotsSupport : Type 0
-OverSlotsSupport =
-    (flow : Flow) (homes slots : List ℕ) → IsFlow flow homes → HasSlots flow slots
-    → Supports flow (over_slots flow slots)
 
 -- ---- a program
 

@@ -1,4 +1,4 @@
-ghost use Rattle.ia32_keeps.specs.Supports.{SlotsSupport, OverSlotsSupport};
+ghost use Rattle.ia32_keeps.specs.Supports.{SlotsSupport};
 ghost use Rattle.ia32_keeps.specs.Laws.{ShownInFrame, ProtectedIsApart, PushedIsApart, MovedShows, SetShows};
 ghost use Rattle.ia32_keeps.specs.Laws.{ArrayShows, OwnArrayShows, ElementShows};
 ghost use Rattle.ia32_keeps.specs.Ops.{ExtensionFollows};
@@ -7,11 +7,9 @@ ghost use Rattle.ia32_keeps.specs.Ops.{OrFollows};
 ghost use Rattle.ia32_keeps.specs.Ops.{XorFollows, ProductFollows, NegationFollows, ComplementFollows, MarkFollows};
 ghost use Rattle.ia32_keeps.specs.Ops.{TurnFollows};
 
-/// Slots for all variables, apart from each other and from the frame arrays, support every graph; so do those of
-/// the graphs that have code so far.
+/// Slots for all variables, apart from each other and from the frame arrays, support every graph.
 pub fn slots_support()
     ensures slots { SlotsSupport }
-    ensures over_slots { OverSlotsSupport }
 {}
 
 /// A state of the machine that shows one of the program is in the frame of the current call, with the stack far above

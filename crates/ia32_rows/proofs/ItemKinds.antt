@@ -45,7 +45,7 @@ use Rattle.ia32_rows.specs.Passing.{argument_word, param_row, pass_all, deepen, 
 use Rattle.ia32_rows.specs.Passing.{before_call, behind_call, call_row, leave, return_row, prologue}
 use Rattle.ia32_rows.specs.Accesses.{loading, load_from, storing, store_to, index_register, count_before, element}
 use Rattle.ia32_rows.specs.Accesses.{check_array, check_index, checking, load_row, store_row}
-use Rattle.ia32_rows.specs.Rows.{IsSlotOp, entry_label, row, place_before, place_after, point_row, point_rows}
+use Rattle.ia32_rows.specs.Rows.{entry_label, row, place_before, place_after, point_row, point_rows}
 use Rattle.ia32_rows.specs.Rows.{block_rows, headers, selected}
 
 -- what holds of each of two lists holds of each of both
@@ -53,11 +53,6 @@ pub every-join : {X : Type 0} (P : X → Type 0) (xs ys : List X) → AllByRecur
     → AllByRecursion P (xs ++ ys)
 every-join P [] ys a b = b
 every-join P (x ∷ xs) ys a b = (a.0, every-join P xs ys a.1 b)
-
--- and of each of the second
-pub every-back : {X : Type 0} (P : X → Type 0) (xs ys : List X) → AllByRecursion P (xs ++ ys) → AllByRecursion P ys
-every-back P [] ys h = h
-every-back P (x ∷ xs) ys h = every-back P xs ys h.1
 
 -- what holds of each holds of the one at a place
 pub every-get : {X : Type 0} (P : X → Type 0) (xs : List X) (i : ℕ) (x : X) → AllByRecursion P xs → slice_get xs i
@@ -551,122 +546,6 @@ other-begins flow placement p op.Turn none = absurd (let e : true ≡ false = no
 other-begins flow placement p (op.Clear k) none = tt
 other-begins flow placement p o none =
     other-first (row flow placement p o) (other-is flow placement p o refl refl)
-
--- ---- over slots
-
--- an instruction of the rows of those graphs that have code over slots so far, over any placement
-abbrev pub IsSlotInsn : Item → Type 0
-IsSlotInsn (item.Plain i) = ⊤
-IsSlotInsn (item.Label l) = ⊥
-IsSlotInsn (item.Point p) = ⊥
-IsSlotInsn (item.JumpTo l) = ⊥
-IsSlotInsn (item.JumpIf c l) = ⊥
-IsSlotInsn (item.CallFunction f) = ⊥
-IsSlotInsn (item.CallStub stub.Putchar) = ⊤
-IsSlotInsn (item.CallStub stub.Getchar) = ⊥
-IsSlotInsn (item.CallStub stub.Exit) = ⊥
-IsSlotInsn (item.JumpTrap c) = ⊥
-IsSlotInsn (item.AddressOf r k) = ⊥
-
--- an item of such a graph's code: also a label, a point, and a jump to a label
-abbrev pub IsSlotItem : Item → Type 0
-IsSlotItem (item.Plain i) = ⊤
-IsSlotItem (item.Label l) = ⊤
-IsSlotItem (item.Point p) = ⊤
-IsSlotItem (item.JumpTo l) = ⊤
-IsSlotItem (item.JumpIf c l) = ⊤
-IsSlotItem (item.CallFunction f) = ⊥
-IsSlotItem (item.CallStub stub.Putchar) = ⊤
-IsSlotItem (item.CallStub stub.Getchar) = ⊥
-IsSlotItem (item.CallStub stub.Exit) = ⊥
-IsSlotItem (item.JumpTrap c) = ⊥
-IsSlotItem (item.AddressOf r k) = ⊥
-
-plain-slot : (i : Item) → IsPlain i → IsSlotInsn i
-plain-slot (item.Plain i) h = tt
-plain-slot i h = absurd h
-
-plain-slots : (items : List Item) → ArePlain items → AllByRecursion IsSlotInsn items
-plain-slots items h = every-map IsPlain IsSlotInsn plain-slot items h
-
--- the row of such an op
-pub slot-insns : (flow : Flow) (placement : Placement) (p : ℕ) (o : Op) → IsSlotOp o
-    → AllByRecursion IsSlotInsn (row flow placement p o)
-slot-insns flow placement p (op.Const d n) h =
-    plain-slots (row flow placement p (op.Const d n))
-    (number-row (place_after placement p d) n).0
-slot-insns flow placement p (op.Copy d s) h =
-    plain-slots (row flow placement p (op.Copy d s))
-    (copy-row (place_before placement p s) (place_after placement p d)).0
-slot-insns flow placement p (op.Add d a b) h =
-    plain-slots (row flow placement p (op.Add d a b))
-    (commuting-row alu.Add (place_after placement p d) (place_before placement p a) (place_before placement p b)).0
-slot-insns flow placement p (op.Sub d a b) h =
-    plain-slots (row flow placement p (op.Sub d a b))
-    (operation-row alu.Sub (place_after placement p d) (place_before placement p a) (place_before placement p b)).0
-slot-insns flow placement p (op.Putchar d s) h =
-    let place : Place = place_after placement p d in
-    every-join IsSlotInsn (pass (place_before placement p s))
-    (item.CallStub stub.Putchar ∷ plain (insn.Pop Edi) ∷ write place Eax)
-    (plain-slots (pass (place_before placement p s)) (pass-row (place_before placement p s)).0)
-    (tt, (tt, plain-slots (write place Eax) (write-insns place Eax)))
-slot-insns flow placement p (op.Mark s) h = (tt, tt)
-slot-insns flow placement p op.Turn h = (tt, tt)
-slot-insns flow placement p (op.Return (Some a)) h =
-    plain-slots (return_row (place_before placement p a)) (return-row (place_before placement p a)).0
-slot-insns flow placement p o h = absurd h
-
--- where all ops are such, each point has one
-pub slot-op : (ops : List Op) (p : ℕ) → AllByRecursion IsSlotOp ops → IsSlotOp (slice_index_or ops p op.Turn)
-slot-op [] zero h = tt
-slot-op [] (suc p) h = tt
-slot-op (o ∷ ops) zero h = h.0
-slot-op (o ∷ ops) (suc p) h = slot-op ops p h.1
-
-slot-item : (i : Item) → IsSlotInsn i → IsSlotItem i
-slot-item (item.Plain i) h = tt
-slot-item (item.CallStub stub.Putchar) h = tt
-slot-item i h = absurd h
-
-row-items : (flow : Flow) (placement : Placement) (p : ℕ) → AllByRecursion IsSlotOp flow.ops
-    → AllByRecursion IsSlotItem (row flow placement p (slice_index_or flow.ops p op.Turn))
-row-items flow placement p h =
-    let o : Op = slice_index_or flow.ops p op.Turn in
-    every-map IsSlotInsn IsSlotItem slot-item (row flow placement p o)
-    (slot-insns flow placement p o (slot-op flow.ops p h))
-
-prologue-items : (frame label : ℕ) → AllByRecursion IsSlotItem (prologue frame label)
-prologue-items frame label = (tt, (tt, (tt, (tt, (tt, (tt, (tt, (tt, (tt, (tt, (tt, (tt, (tt, tt)))))))))))))
-
-headers-items : (arrays : List (ℕ × ℕ)) (belows : List ℕ) → AllByRecursion IsSlotItem (headers arrays belows)
-headers-items arrays [] = tt
-headers-items [] (d ∷ belows) = tt
-headers-items (array ∷ arrays) (d ∷ belows) = (tt, headers-items arrays belows)
-
-point_rows-items : (flow : Flow) (placement : Placement) (points : List ℕ) → AllByRecursion IsSlotOp flow.ops
-    → AllByRecursion IsSlotItem (point_rows flow placement points)
-point_rows-items flow placement [] h = tt
-point_rows-items flow placement (p ∷ ps) h =
-    every-join IsSlotItem (point_row flow placement p) (point_rows flow placement ps)
-    (tt, row-items flow placement p h) (point_rows-items flow placement ps h)
-
-block_rows-items : (flow : Flow) (placement : Placement) (k : ℕ) (blocks : List (List ℕ))
-    → AllByRecursion IsSlotOp flow.ops → AllByRecursion IsSlotItem (block_rows flow placement k blocks)
-block_rows-items flow placement k [] h = tt
-block_rows-items flow placement k (points ∷ blocks) h =
-    every-join IsSlotItem (item.Label k ∷ point_rows flow placement points) (block_rows flow placement (suc k) blocks)
-    (tt, point_rows-items flow placement points h) (block_rows-items flow placement (suc k) blocks h)
-
--- every item of such a graph's code is of these kinds, over any placement
-pub selected-items : (flow : Flow) (placement : Placement) → AllByRecursion IsSlotOp flow.ops
-    → AllByRecursion IsSlotItem (selected flow placement)
-selected-items flow placement h =
-    let numbers : List Item = headers flow.arrays placement.arrays in
-    let blocks : List Item = block_rows flow placement 0 flow.blocks in
-    every-join IsSlotItem (prologue placement.frame (entry_label flow)) (numbers ++ blocks)
-    (prologue-items placement.frame (entry_label flow))
-    (every-join IsSlotItem numbers blocks (headers-items flow.arrays placement.arrays)
-    (block_rows-items flow placement 0 flow.blocks h))
 
 -- ---- points are followed by instructions
 

@@ -1,4 +1,3 @@
 pub mod ItemKinds
 pub mod Laid
 pub mod Numbered
-pub mod OverSlots

@@ -5,5 +5,4 @@ pub mod Accesses
 pub mod Clearing
 pub mod Rows
 pub mod Once
-pub mod Right
 pub mod Worked

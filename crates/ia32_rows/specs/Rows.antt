@@ -1,9 +1,8 @@
 -- The items of a graph's points, by where its variables stand before and after each of them. A row works in one
 -- register, and takes its second operand where it stands.
-use Rattle.std.specs.Prelude.{◌≡◌, ◌<◌, ◌≤◌, ◌⊎◌, ◌+◌, ◌*◌, ⊤, ℕ, suc, List, [], ◌∷◌, ◌++◌, length, map}
+use Rattle.std.specs.Prelude.{◌≤◌, ◌⊎◌, ◌+◌, ⊤, ℕ, suc, List, [], ◌∷◌, ◌++◌, length, map}
 use Rattle.std.specs.Prelude.{slice_index_or, Some, None, option_map, unwrap_or}
 use Rattle.std.specs.List.{AllByRecursion}
-use Rattle.pcc_base.specs.declared.run.Width.TheVariants.{Two}
 use Rattle.ia32_regs.specs.declared.names.Reg32.TheVariants.{Eax, Edx}
 use Rattle.ia32_places.specs.Places.{Place, InSlot}
 use Rattle.ia32_insn.specs.declared.insn.AluOp.TheVariants as alu
@@ -14,10 +13,8 @@ use Rattle.ia32_insn.specs.declared.item.Item.TheVariants as item
 use Rattle.ia32_insn.specs.Items.{plain}
 use Rattle.flow_graph.specs.declared.op.Op.{Op}
 use Rattle.flow_graph.specs.declared.op.Op.TheVariants as op
-pub use Rattle.flow_graph.specs.SlotGraphs.{IsSlotOp}
-use Rattle.flow_graph.specs.Graphs.{Flow, IsEnded}
-use Rattle.flow_graph.specs.Sizes.{most_words}
-use Rattle.ia32_shows.specs.Placements.{Placement, in_slots}
+use Rattle.flow_graph.specs.Graphs.{Flow}
+use Rattle.ia32_shows.specs.Placements.{Placement}
 pub use Rattle.ia32_rows.specs.Moves.{scratch, is_in, read, write, operate, working, has_operand, target_of}
 pub use Rattle.ia32_rows.specs.Moves.{number_row, copy_row, operation, commuting, pass}
 pub use Rattle.ia32_rows.specs.Computing.{multiply, multiplying, changing, low_byte, extend, widening, lowering}
@@ -32,11 +29,7 @@ pub use Rattle.ia32_rows.specs.Accesses.{index_register, count_before, element, 
 pub use Rattle.ia32_rows.specs.Accesses.{load_row, store_row}
 pub use Rattle.ia32_rows.specs.Clearing.{clear_row, size_of}
 
--- ---- the graphs that have code so far
-
--- the bytes of the frame: the four words of the caller's registers and of scratch, and a slot for each variable
-abbrev pub frame_of : Flow → ℕ
-frame_of flow = 16 + 4 * length flow.widths
+-- ---- slots
 
 -- a slot of four bytes stands so far below EBP, under the four words and in the frame
 pub record IsSlot (frame slot : ℕ) : Type 0 where
@@ -51,23 +44,6 @@ AreApart first second = (first + 4 ≤ second) ⊎ (second + 4 ≤ first)
 abbrev pub AllApart : List ℕ → Type 0
 AllApart [] = ⊤
 AllApart (slot ∷ slots) = AllByRecursion (AreApart slot) slots × AllApart slots
-
--- A graph of such ops over variables of width Two without frame arrays, with a first block and a slot for each
--- variable. A call of it takes at most 16,384 bytes of the stack, with the argument words that it passes.
-pub record HasSlots (flow : Flow) (slots : List ℕ) : Type 0 where
-  pub widths : AllByRecursion (λ width. width ≡ Two) flow.widths
-  pub no_arrays : flow.arrays ≡ []
-  pub ops : AllByRecursion IsSlotOp flow.ops
-  pub begins : 0 < length flow.blocks
-  pub ended : (block : ℕ) → block < length flow.blocks → IsEnded flow block
-  pub as_many : length slots ≡ length flow.widths
-  pub within : AllByRecursion (IsSlot (frame_of flow)) slots
-  pub apart : AllApart slots
-  pub small : 8 + frame_of flow + 4 * most_words flow.ops ≤ 16384
-
--- the placement of these slots
-abbrev pub over_slots : Flow → List ℕ → Placement
-over_slots flow slots = in_slots (frame_of flow) [] slots
 
 -- ---- the items of an op
 
@@ -121,10 +97,6 @@ place_before placement point v = unwrap_or (placement.before point v) (InSlot 0)
 
 abbrev pub place_after : Placement → ℕ → ℕ → Place
 place_after placement point v = unwrap_or (placement.after point v) (InSlot 0)
-
--- over these slots a variable stands in its slot, at every point
-abbrev pub slot_place : List ℕ → ℕ → Place
-slot_place slots v = InSlot (slice_index_or slots v 0)
 
 -- ---- labels
 

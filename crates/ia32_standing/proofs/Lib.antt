@@ -3,4 +3,3 @@ pub mod Points
 pub mod Apart
 pub mod Returns
 pub mod Follows
-pub mod Slots

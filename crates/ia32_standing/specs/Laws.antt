@@ -9,7 +9,7 @@ use Rattle.ia32_insn.specs.State as machine
 use Rattle.ia32_insn.specs.Items.{text_start}
 use Rattle.flow_graph.specs.declared.op.Op.{Op}
 use Rattle.flow_graph.specs.declared.op.Op.TheVariants as op
-use Rattle.flow_graph.specs.Graphs.{Flow, Stands}
+use Rattle.flow_graph.specs.Graphs.{Stands}
 use Rattle.flow_graph.specs.States as graph
 use Rattle.flow_graph.specs.Meaning.{step}
 use Rattle.flow_graph.specs.States.{Waiting, entry_of, flow_at, op_at, op_of, point_after}
@@ -19,8 +19,7 @@ use Rattle.ia32_shows.specs.Paths.{IsAt, IsClear}
 use Rattle.ia32_shows.specs.Placements.{Code, IsCode, placement_of, point_address}
 use Rattle.ia32_shows.specs.Shows.{IsInside, ReturnsTo, Shows, StartReturns, start_of}
 use Rattle.ia32_shows.specs.Sites.{ReadyAt, Site, StandsFrom}
-use Rattle.ia32_rows.specs.Right.{IsSlotCode}
-use Rattle.ia32_rows.specs.Rows.{before_call, behind_call, entry_label, headers, over_slots, place_after, place_before}
+use Rattle.ia32_rows.specs.Rows.{before_call, behind_call, entry_label, headers, place_after, place_before}
 use Rattle.ia32_rows.specs.Rows.{prologue, row, selected}
 use Rattle.ia32_keeps.specs.Supports.{IsSupported, site_of}
 use Rattle.ia32_keeps.specs.Ops.{RowAt}
@@ -32,12 +31,6 @@ pub record IsSelected (code : Code) : Type 0 where
   pub supported : IsSupported code
   pub items : (f : ℕ) → f < length code.program.functions
       → slice_get code.items f ≡ Some (selected (flow_at code.program f) (placement_of code f))
-
--- such is the code of a graph over slots
-abbrev pub SlotCodeIsSelected : Type 0
-SlotCodeIsSelected =
-    (flow : Flow) (slots : List ℕ) (code : Code) → IsSlotCode flow slots (selected flow (over_slots flow slots)) code
-    → IsSelected code
 
 -- ---- functions
 

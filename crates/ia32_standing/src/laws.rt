@@ -1,13 +1,8 @@
-ghost use Rattle.ia32_standing.specs.Laws.{SlotCodeIsSelected, FunctionsStand, EntriesStand, StartsStand};
+ghost use Rattle.ia32_standing.specs.Laws.{FunctionsStand, EntriesStand, StartsStand};
 ghost use Rattle.ia32_standing.specs.Laws.{PointsStand, RowsStand, LabelsStand};
 ghost use Rattle.ia32_standing.specs.Laws.{PointsApart, MarksAreNops, OthersAreClear};
 ghost use Rattle.ia32_standing.specs.Laws.{CallsStand, CallsReturn, MarkedStand, MarksSayWhere};
 ghost use Rattle.ia32_standing.specs.Laws.{StepsFollow};
-
-/// The code of a graph over slots is that of a program over placements that support its graphs.
-pub fn slot_code_is_selected()
-    ensures { SlotCodeIsSelected }
-{}
 
 /// The items of each function stand in the text from its address on; there its prologue stands, behind it the numbers
 /// of its arrays' elements are set, and then comes the first point of its first block. The start stands where the text

@@ -5,6 +5,5 @@
 mod laws;
 
 pub use laws::{
-    calls_lead_back, functions_stand, points_are_apart, points_stand, slot_code_is_selected,
-    steps_are_followed,
+    calls_lead_back, functions_stand, points_are_apart, points_stand, steps_are_followed,
 };

@@ -63,7 +63,6 @@ pub record StartedOver (symbols : Symbols) (text : List ℕ) (objects : List Obj
   pub written : t.written ≡ []
 
 -- The start comes to the address of the function that it calls, over any static objects whose image ends below 2 ^ 32.
--- `StartGoes` of `ia32_calls` is the case without any.
 abbrev pub StartGoesOver : Type 0
 StartGoesOver =
     (functions : List (List Item)) (order : List ℕ) (objects : List Object) (main : ℕ) (places : List Places)

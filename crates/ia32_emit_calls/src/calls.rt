@@ -1,0 +1,82 @@
+//! The row of a call.
+
+ghost use Rattle.std.specs.Prelude.{◌≡◌, ◌<◌, ◌^◌, ◌∷◌, [], ◌++◌, OnOk, length, map, option_map};
+ghost use Rattle.ia32_insn.specs.declared.item.Item.TheVariants as item;
+ghost use Rattle.ia32_rows.specs.Rows.{pass_all, undeepen, drop_words, write_any, before_call, behind_call, call_row};
+ghost use Rattle.ia32_emit.specs.Locations.{place_of};
+
+use crate::passing::{emit_deepen, emit_undeepen, emit_write_any};
+use ia32_emit::{Location, emit, emit_all, emit_pass};
+use ia32_insn::{Insn, Item, Mem};
+use ia32_regs::Reg32;
+use pcc_base::NoMemory;
+
+/// The words of places onto the stack, the last one first.
+fn emit_pass_all(out: &mut Vec<Item>, arguments: &[Location]) -> Result<(), NoMemory>
+    ensures { OnOk result (out.new.items ≡ out.old.items ++ pass_all (map place_of arguments.now)) }
+{
+    for done in 0..arguments.len() {
+        emit_pass(out, arguments[arguments.len() - 1 - done])?;
+    }
+    Ok(())
+}
+
+/// Some argument words off the stack.
+fn emit_drop_some(out: &mut Vec<Item>, words: usize) -> Result<(), NoMemory>
+    requires some { 0 < words }
+    requires few { words < 2 ^ 29 }
+    ensures { OnOk result (out.new.items ≡ out.old.items ++ drop_words words) }
+{
+    let top = Mem {
+        base: Some(Reg32::Esp),
+        index: None,
+        disp: 4 * words as i32,
+    };
+    emit(out, Insn::Lea(Reg32::Esp, top))
+}
+
+/// So many argument words off the stack.
+fn emit_drop_words(out: &mut Vec<Item>, words: usize) -> Result<(), NoMemory>
+    requires { words < 2 ^ 29 }
+    ensures { OnOk result (out.new.items ≡ out.old.items ++ drop_words words) }
+{
+    if words == 0 {
+        Ok(())
+    } else {
+        emit_drop_some(out, words)
+    }
+}
+
+/// What stands before a call.
+fn emit_before_call(out: &mut Vec<Item>, arguments: &[Location]) -> Result<(), NoMemory>
+    ensures { OnOk result (out.new.items ≡ out.old.items ++ before_call (map place_of arguments.now)) }
+{
+    emit_deepen(out)?;
+    emit_pass_all(out, arguments)
+}
+
+/// What stands behind a call.
+fn emit_behind_call(out: &mut Vec<Item>, to: Option<Location>, words: usize) -> Result<(), NoMemory>
+    requires { words < 2 ^ 29 }
+    ensures { OnOk result (out.new.items ≡ out.old.items ++ behind_call (option_map place_of to) words) }
+{
+    emit_drop_words(out, words)?;
+    emit_undeepen(out)?;
+    emit_write_any(out, to)
+}
+
+/// Calls a function with the words of places.
+pub fn emit_call(
+    out: &mut Vec<Item>,
+    to: Option<Location>,
+    function: u32,
+    arguments: &[Location],
+) -> Result<(), NoMemory>
+    requires { length arguments.now < 2 ^ 29 }
+    ensures { OnOk result (out.new.items
+        ≡ out.old.items ++ call_row (option_map place_of to) function (map place_of arguments.now)) }
+{
+    emit_before_call(out, arguments)?;
+    emit_all(out, &[Item::CallFunction(function)])?;
+    emit_behind_call(out, to, arguments.len())
+}
