@@ -16,7 +16,7 @@ map_stands : (name : List ℕ) (sources texts : List (List ℕ)) (map_bytes imag
     → AreProducts texts map_bytes image → new (map_name name) ≡ Some map_bytes
     → ((other : List ℕ) → other ≢ name → other ≢ map_name name → new other ≡ mid other) → MapStands name sources old new
 map_stands name sources texts map_bytes image old mid new kept read products written others = (
-  (texts, products.0, products.2.0, image, read, products.1, products.2.2, written ∙ ap Some products.2.1),
+  (texts, products.0, products.2.0, image, read, products.1.0, products.2.2, written ∙ ap Some products.2.1),
   λ other n m. others other n m ∙ kept other,
 )
 
@@ -32,11 +32,12 @@ written_told reports.Compiled name sources texts map_bytes image old mid new kep
       map = products.2.0;
       image = image;
       sources_read = read;
-      accepted = products.1;
+      accepted = products.1.0;
       map_written = told.0 ∙ ap Some products.2.1;
       image_written = told.1;
       others = λ other n m. told.2 other n m ∙ kept other;
       correct = products.2.2;
+      nothing_first = products.2.2.belongs.lowered.first_points products.1.1;
     }
 written_told (reports.WriteFault Map) name sources texts map_bytes image old mid new kept read products told =
     λ other n. told other n ∙ kept other

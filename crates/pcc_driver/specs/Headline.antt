@@ -2,6 +2,7 @@
 use Rattle.std.specs.Prelude.{◌≡◌, ◌≢◌, ℕ, List, Some}
 use Rattle.c_tree.specs.Program.{Program}
 use Rattle.c_program.specs.Answers.{HaveTypedProgram}
+use Rattle.lower_settled.specs.Laws.{NothingLiveFirst}
 use Rattle.pcc_headline.specs.Products.{IsImageOf}
 use Rattle.pcc_listing.specs.Lines.{map_text}
 use Rattle.pcc_listing.specs.Maps.{Map}
@@ -11,7 +12,7 @@ use Rattle.pcc_sources.specs.Sources.{AreRead}
 
 -- What a compilation leaves: the sources have a typed program, NAME.map holds the text of the map of the image (and a text is
 -- the text of one map at most), NAME holds an image that does what the program does by that map, and no other file has
--- changed.
+-- changed. In the graphs that the map and the image are of, no variable is live at a function's first point.
 pub record IsCompiled (old new : Files) (name : List ℕ) (sources : List (List ℕ)) : Type 0 where
   pub texts : List (List ℕ)
   pub program : Program
@@ -23,3 +24,4 @@ pub record IsCompiled (old new : Files) (name : List ℕ) (sources : List (List 
   pub image_written : new name ≡ Some image
   pub others : (other : List ℕ) → other ≢ name → other ≢ map_name name → new other ≡ old other
   pub correct : IsImageOf program map image
+  pub nothing_first : NothingLiveFirst program correct.belongs.code.program

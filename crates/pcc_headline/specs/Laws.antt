@@ -5,8 +5,8 @@ use Rattle.c_tree.specs.Program.{Program}
 use Rattle.c_tree.specs.Evaluation.{source_outcome}
 use Rattle.elf_image.specs.Layout.{Fits}
 use Rattle.image_start.specs.Begins.{parts_of_text}
-use Rattle.lower_lines.specs.Lowering.{HasObjects, HaveMarks, HaveShapes, KeepsOutcome}
 use Rattle.lower_lines.specs.Shown.{ListsLocals, variables_shown}
+use Rattle.lower_settled.specs.Lowered.{AreLowered}
 use Rattle.ia32_shows.specs.Follows.{IsRightCode, ShowsVisits}
 use Rattle.ia32_shows.specs.Placements.{Code, IsCode, objects_of}
 use Rattle.pcc_listing.specs.Maps.{Map, IsMap}
@@ -14,13 +14,10 @@ use Rattle.pcc_listing.specs.Marks.{listed, visits_of}
 use Rattle.program_map.specs.Belongs.{IsMapOf}
 use Rattle.pcc_headline.specs.Products.{IsImageOf, image_of}
 
--- What the passes make of a program: its graphs, which have its outcomes; their code, which does what they do, in a
+-- What the passes make of a program: the graphs that it is lowered to; their code, which does what they do, in a
 -- text that an image has room for; and a map of the code that lists locals and shows what is visited, which is known.
 pub record IsCompiled (program : Program) (code : Code) (map : Map) : Type 0 where
-  pub keeps : KeepsOutcome program code.program
-  pub shapes : HaveShapes program code.program
-  pub marks : HaveMarks program code.program
-  pub objects : HasObjects program code.program
+  pub lowered : AreLowered program code.program
   pub laid : IsCode code
   pub right : IsRightCode code
   pub room : Fits (parts_of_text code.text (objects_of code.program))

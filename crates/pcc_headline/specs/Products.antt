@@ -5,7 +5,7 @@ use Rattle.pcc_base.specs.Bytes.{AreBytes}
 use Rattle.pcc_base.specs.Outcome.{Outcome}
 use Rattle.c_tree.specs.Program.{Program}
 use Rattle.c_tree.specs.Evaluation.{source_outcome}
-use Rattle.lower_lines.specs.Lowering.{HasObjects, HaveMarks, HaveShapes, KeepsOutcome}
+use Rattle.lower_settled.specs.Lowered.{AreLowered}
 use Rattle.elf_image.specs.Layout.{image_bytes}
 use Rattle.image_start.specs.Begins.{parts_of_text}
 use Rattle.ia32_insn.specs.State.{State}
@@ -32,15 +32,12 @@ DoesAs image map program =
 abbrev pub image_of : Code → List ℕ
 image_of code = image_bytes (parts_of_text code.text (objects_of code.program))
 
--- The image and the map belong to the program: there are graphs of its functions, with its locals, arrays, statements
--- and static objects, which have its outcomes; their code stands in the text that is the image's; and the map is that
--- of this code.
+-- The image and the map belong to the program: there are graphs that are all that lowering promises of the program, with
+-- its locals, arrays, statements and static objects and its outcomes, and no temporary live at a mark; their code stands
+-- in the text that is the image's; and the map is that of this code.
 pub record BelongsTo (program : Program) (image : List ℕ) (map : Map) : Type 0 where
   pub code : Code
-  pub shapes : HaveShapes program code.program
-  pub marks : HaveMarks program code.program
-  pub objects : HasObjects program code.program
-  pub keeps : KeepsOutcome program code.program
+  pub lowered : AreLowered program code.program
   pub laid : IsCode code
   pub image_is : image ≡ image_of code
   pub is_map : IsMapOf program code map

@@ -85,15 +85,15 @@ module _ (laws : Laws) (program : Program) (graphs : GraphProgram) (frames : Lis
   the_map = map_in program homes code
 
   pub have-frames : HaveFrames graphs
-  have-frames = laws.have_frames program graphs h.compilable.memory h.graphs_of.shapes h.graphs_of.small h.graphs_of.are
+  have-frames = laws.have_frames program graphs h.compilable.memory h.lowered.shapes h.lowered.small h.lowered.well_formed
 
   is-framed : IsFramedCode code
   is-framed =
       framed graphs (order_of sections) linked h.linked_is h.small
-      (objects-small program graphs h.graphs_of.objects h.compilable.objects)
+      (objects-small program graphs h.lowered.objects h.compilable.objects)
 
   is-selected : IsSelected code
-  is-selected = laws.selects code h.graphs_of.are have-frames is-framed
+  is-selected = laws.selects code h.lowered.well_formed have-frames is-framed
 
   pub frame-of : (k : ℕ) (flow : Flow) → slice_get graphs.functions k ≡ Some flow
       → HasFrame (length graphs.functions) (length graphs.objects) flow
@@ -122,14 +122,14 @@ module _ (laws : Laws) (program : Program) (graphs : GraphProgram) (frames : Lis
   over-slots =
       record {
         selected = is-selected;
-        shapes = h.graphs_of.shapes;
-        objects = h.graphs_of.objects;
-        marks = h.graphs_of.marks;
-        once = h.graphs_of.once;
-        few_functions = omega (arith, have-frames.few, h.graphs_of.shapes.as_many);
+        shapes = h.lowered.shapes;
+        objects = h.lowered.objects;
+        marks = h.lowered.marks;
+        once = h.lowered.once;
+        few_functions = omega (arith, have-frames.few, h.lowered.shapes.as_many);
         few_objects = omega (arith, h.compilable.memory.few_objects);
         as_many = length-mapped homes_of frames ∙ AllZip-long _ graphs.functions frames h.frames_of
-            ∙ h.graphs_of.shapes.as_many;
+            ∙ h.lowered.shapes.as_many;
         placed = placed;
         slots = slots;
       }
@@ -185,12 +185,9 @@ module _ (laws : Laws) (program : Program) (graphs : GraphProgram) (frames : Lis
   compiled : IsCompiled program code the_map
   compiled =
       let is-map = laws.belongs program homes code over-slots in
-      let lists = laws.lists program code the_map h.compilable.typed h.graphs_of.shapes is-map in
+      let lists = laws.lists program code the_map h.compilable.typed h.lowered.shapes is-map in
       record {
-        keeps = h.graphs_of.keeps;
-        shapes = h.graphs_of.shapes;
-        marks = h.graphs_of.marks;
-        objects = h.graphs_of.objects;
+        lowered = h.lowered;
         laid = is-framed.laid;
         right = laws.right code is-selected;
         room = room;
@@ -200,8 +197,8 @@ module _ (laws : Laws) (program : Program) (graphs : GraphProgram) (frames : Lis
         shows = laws.shows program code the_map (record {
           well_typed = h.compilable.typed;
           is_selected = is-selected;
-          shapes = h.graphs_of.shapes;
-          objects = h.graphs_of.objects;
+          shapes = h.lowered.shapes;
+          objects = h.lowered.objects;
           belongs = is-map;
         });
         known = laws.known program (listed the_map) h.compilable.typed lists;

@@ -16,13 +16,14 @@ use Rattle.ia32_frames.specs.Frames.{frame_bytes, frame_placement}
 use Rattle.ia32_frames.specs.Laws.{FramesSupport}
 use Rattle.ia32_insn.specs.declared.item.Item.{Item}
 use Rattle.ia32_sizes.specs.Sizes.{SelectedIsCode}
+use Rattle.lower_settled.specs.Lowered.{AreLowered}
 use Rattle.map_lines.specs.Shown.{CanShowAll, address_in, homes_of}
 use Rattle.program_map.specs.ProgramMap.{program_map}
 use Rattle.program_code.specs.Code.{HasFrame, HaveFrames, framed_items}
 use Rattle.program_code.proofs.Data.{length-data}
 use Rattle.pcc_program.specs.Laws.{AreLinked}
 use Rattle.pcc_program.specs.Passes.{AreSectionsFrom, IsFrameOf}
-use Rattle.pcc_program.specs.Programs.{AreGraphsOf, IsCompilable}
+use Rattle.pcc_program.specs.Programs.{IsCompilable}
 use Rattle.pcc_program.proofs.Linking.{are-sections, can-link, sections-small}
 use Rattle.pcc_program.proofs.Placed.{can-hold, objects-small}
 
@@ -37,7 +38,7 @@ small-frames functions objects (flow ∷ flows) all =
 
 -- the sections can be linked
 pub links : (program : Program) (graphs : GraphProgram) (sections : List Section) → FramesSupport → SelectedIsCode
-    → IsCompilable program → AreGraphsOf program graphs → HaveFrames graphs
+    → IsCompilable program → AreLowered program graphs → HaveFrames graphs
     → AreSectionsFrom 0 graphs.functions sections → CanLink sections graphs.objects graphs.main
 links program graphs sections support code compilable of frames h =
     can-link graphs.functions sections graphs.objects graphs.main h
@@ -46,12 +47,12 @@ links program graphs sections support code compilable of frames h =
     in
     (code (length graphs.functions) (length graphs.objects) flow (frame_placement flow) has.graph
     (support flow has.graph.keeps.0 has.graph.keeps.1) has.small).names)
-    of.are.main frames.code
-    (can-hold graphs.objects of.are.objects (objects-small program graphs of.objects compilable.objects))
+    of.well_formed.main frames.code
+    (can-hold graphs.objects of.well_formed.objects (objects-small program graphs of.objects compilable.objects))
 
 -- what was linked
 pub linked-are : (program : Program) (graphs : GraphProgram) (frames : List Frame) (sections : List Section)
-    (linked : Linked) → IsCompilable program → AreGraphsOf program graphs → HaveFrames graphs
+    (linked : Linked) → IsCompilable program → AreLowered program graphs → HaveFrames graphs
     → AllZip IsFrameOf graphs.functions frames → AreSectionsFrom 0 graphs.functions sections
     → ((functions : List (List Item)) → AreSections functions sections
     → IsLinked functions (order_of sections) graphs.objects graphs.main linked)
@@ -61,7 +62,7 @@ pub linked-are : (program : Program) (graphs : GraphProgram) (frames : List Fram
 linked-are program graphs frames sections linked compilable of have frames-of sections-of is long text data-bytes =
     record {
       compilable = compilable;
-      graphs_of = of;
+      lowered = of;
       frames_of = frames-of;
       sections_of = sections-of;
       linked_is = is (map framed_items graphs.functions) (are-sections graphs.functions sections sections-of);
@@ -88,7 +89,7 @@ image-fits program graphs frames sections linked h =
       linked.image.data_bytes.ok.0,
       ap length h.linked_is.data_is,
       length-data graphs.objects,
-      objects-small program graphs h.graphs_of.objects h.compilable.objects,
+      objects-small program graphs h.lowered.objects h.compilable.objects,
     )
 
 -- the same of lists that are equal

@@ -88,13 +88,13 @@ module _ (laws : Laws) (program : Program) (graphs : GraphProgram) (frames : Lis
       → slice_get frames k ≡ Some frame → slice_get (map (λ v. v.items) linked.points.items) k ≡ Some points
       → CanShow (first_statement program.functions k) f flow frame points
   can-show k f flow frame points e e' e'' there =
-      let shape = h.graphs_of.shapes.each k f flow e e' in
+      let shape = h.lowered.shapes.each k f flow e e' in
       let is = frame-there graphs.functions frames k flow frame h.frames_of e' e'' in
       let slots = laws.have_slots flow in
       record {
         numbered = numbered program.functions k f h.compilable.typed.numbered e;
         shape = shape;
-        marks = h.graphs_of.marks k f flow e e';
+        marks = h.lowered.marks k f flow e e';
         bytes = is.bytes;
         as_many_arrays = ap length is.arrays ∙ length-mapped offset_of (frame_arrays flow) ∙ slots.arrays_in.as_many
             ∙ ap length shape.arrays ∙ length-mapped array_of f.arrays;
@@ -112,14 +112,14 @@ module _ (laws : Laws) (program : Program) (graphs : GraphProgram) (frames : Lis
       record {
         as_many_objects = ap length h.linked_is.objects_are ∙ ap length h.linked_is.text.objects_are
             ∙ addresses-many (data_start linked.image.text.items + 4) graphs.objects
-            ∙ ap length h.graphs_of.objects ∙ length-mapped data_object program.objects;
+            ∙ ap length h.lowered.objects ∙ length-mapped data_object program.objects;
         few_objects = omega (arith, h.compilable.memory.few_objects);
         few_elements = few-elements program.objects h.compilable.memory.few_elements;
-        as_many_graphs = h.graphs_of.shapes.as_many;
-        as_many_frames = AllZip-long _ graphs.functions frames h.frames_of ∙ h.graphs_of.shapes.as_many;
+        as_many_graphs = h.lowered.shapes.as_many;
+        as_many_frames = AllZip-long _ graphs.functions frames h.frames_of ∙ h.lowered.shapes.as_many;
         as_many_points = length-mapped (λ v. v.items) linked.points.items ∙ h.linked_is.points_are
-            ∙ length-mapped _ graphs.functions ∙ h.graphs_of.shapes.as_many;
-        few_functions = omega (arith, few, h.graphs_of.shapes.as_many);
+            ∙ length-mapped _ graphs.functions ∙ h.lowered.shapes.as_many;
+        few_functions = omega (arith, few, h.lowered.shapes.as_many);
         few_statements = omega (arith, few-statements program.functions, h.compilable.memory.small);
         each = can-show;
       }

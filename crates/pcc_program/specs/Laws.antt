@@ -10,20 +10,21 @@ use Rattle.elf_link.specs.Linking.{IsLinked, order_of}
 use Rattle.flow_graph.specs.States.{GraphProgram}
 use Rattle.ia32_asm.specs.declared.section.Section.{Section}
 use Rattle.ia32_frames.specs.declared.frame.Frame.{Frame}
+use Rattle.lower_settled.specs.Lowered.{AreLowered}
 use Rattle.map_lines.specs.Shown.{CanShowAll, address_in, homes_of}
 use Rattle.pcc_headline.specs.Products.{IsImageOf}
 use Rattle.pcc_listing.specs.Maps.{Map}
 use Rattle.program_code.specs.Code.{framed_items}
 use Rattle.program_map.specs.ProgramMap.{program_map}
 use Rattle.pcc_program.specs.Passes.{AreSectionsFrom, IsFrameOf}
-use Rattle.pcc_program.specs.Programs.{AreGraphsOf, IsCompilable}
+use Rattle.pcc_program.specs.Programs.{IsCompilable}
 
 -- What was linked of a program's graphs, frames and sections: the text of the graphs' items, of bytes, with the start
 -- and the routines.
 pub record AreLinked (program : Program) (graphs : GraphProgram) (frames : List Frame) (sections : List Section)
     (linked : Linked) : Type 0 where
   pub compilable : IsCompilable program
-  pub graphs_of : AreGraphsOf program graphs
+  pub lowered : AreLowered program graphs
   pub frames_of : AllZip IsFrameOf graphs.functions frames
   pub sections_of : AreSectionsFrom 0 graphs.functions sections
   pub linked_is : IsLinked (map framed_items graphs.functions) (order_of sections) graphs.objects graphs.main linked

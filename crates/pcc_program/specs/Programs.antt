@@ -1,12 +1,9 @@
--- The programs that are compiled, and their graphs.
+-- The programs that are compiled.
 use Rattle.std.specs.Prelude.{◌≤◌}
 use Rattle.std.specs.List.{All}
 use Rattle.c_tree.specs.Program.{Program}
 use Rattle.c_tree.specs.WellTyped.{WellTyped}
 use Rattle.c_typing.specs.Typed.{arrays_bytes, most_arrays}
-use Rattle.flow_graph.specs.States.{GraphProgram}
-use Rattle.flow_graph.specs.WellFormed.{IsGraphProgram}
-use Rattle.lower_lines.specs.Lowering.{AreSmall, HasObjects, HaveMarks, HaveShapes, KeepsOutcome, MarksOnce}
 use Rattle.lower_lines.specs.Words.{IsInMemory}
 use Rattle.map_laws.specs.Laws.{IsNamedFunction}
 
@@ -17,13 +14,3 @@ pub record IsCompilable (program : Program) : Type 0 where
   pub memory : IsInMemory program
   pub names : All IsNamedFunction program.functions
   pub objects : arrays_bytes program ≤ most_arrays
-
--- the graphs that lowering makes of a program
-pub record AreGraphsOf (program : Program) (graphs : GraphProgram) : Type 0 where
-  pub keeps : KeepsOutcome program graphs
-  pub are : IsGraphProgram graphs
-  pub shapes : HaveShapes program graphs
-  pub objects : HasObjects program graphs
-  pub once : MarksOnce graphs
-  pub marks : HaveMarks program graphs
-  pub small : AreSmall program graphs

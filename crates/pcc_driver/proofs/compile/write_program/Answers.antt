@@ -12,8 +12,11 @@ returns-in-Ok-format-clause-told g c = λ f before sources texts same read typed
     let named : c.as_str.result.now ≡ map_name c.args.name.now = c.as_str.ensures.value ∙ c.in-Ok-format.ensures.ok in
     written_told c.write_products.result c.args.name.now sources texts c.in-Ok.products.map.items
     c.in-Ok.products.image.items before (g.F.FileStore.content c.args.files.now)
-    (g.F.FileStore.content c.write_products.new.files) same read
-    (program_of c.args.program.now, typed, c.in-Ok.ensures)
+    (g.F.FileStore.content c.write_products.new.files) same read (
+      program_of c.args.program.now,
+      (typed, (c.programs_are_ready.ensures texts (program_of c.args.program.now) typed).declared),
+      c.in-Ok.ensures,
+    )
     (subst (λ (n : List ℕ). WritesTold n c.args.name.now c.in-Ok.products.map.items c.in-Ok.products.image.items
     (g.F.FileStore.content c.args.files.now) (g.F.FileStore.content c.write_products.new.files)
     c.write_products.result) named (c.write_products.ensures.told f))

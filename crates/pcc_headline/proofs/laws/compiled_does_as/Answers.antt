@@ -20,7 +20,7 @@ image-does program code map begins is input n bytes =
     let outcome = source_outcome program (listed map) input n in
     let first = text_state code.text (objects_of code.program) input in
     let (m, no_fewer, run) = is.right.runs (variables_shown program (listed map)) (visits_of map) is.shows input n
-    outcome bytes (is.known input n) (is.keeps (listed map) is.lists input n) in
+    outcome bytes (is.known input n) (is.lowered.keeps (listed map) is.lists input n) in
     (m, no_fewer, (first, begins code.text (objects_of code.program) input is.room, run))
 
 pub returns : goal.returns
@@ -29,10 +29,7 @@ returns c = λ program code map is.
       rules = is.rules;
       belongs = record {
         code = code;
-        shapes = is.shapes;
-        marks = is.marks;
-        objects = is.objects;
-        keeps = is.keeps;
+        lowered = is.lowered;
         laid = is.laid;
         image_is = refl;
         is_map = is.is_map;

@@ -8,12 +8,12 @@ use Rattle.flow_graph.specs.Graphs.{Flow}
 use Rattle.ia32_frames.specs.Frames.{frame_bytes}
 use Rattle.ia32_sizes.specs.Sizes.{most_bytes}
 use Rattle.lower.specs.Graphs.{graphs_of}
+use Rattle.lower_settled.specs.Lowered.{AreLowered}
 use Rattle.pcc_headline.specs.Products.{IsImageOf}
 use Rattle.pcc_listing.specs.Lines.{lines_of, lines_text}
 use Rattle.program_code.specs.Code.{HasFrame}
 use Rattle.pcc_program.specs.Laws.{linked_map}
 use Rattle.pcc_program.specs.Passes.{AreSectionsFrom, IsFrameOf}
-use Rattle.pcc_program.specs.Programs.{AreGraphsOf}
 use Rattle.pcc_program.proofs.Passed.{image-fits, linked-are, links, map-same, shows-same, small-frames}
 use Rattle.pcc_program.proofs.program.compile_program.Goals as goal
 
@@ -58,15 +58,18 @@ link-requires c =
     let g = c.in_ok-graphs.ensures in
     let graphs = graphs_of c.in_ok-graphs.graphs in
     let have = c.graphs_have_frames.ensures p graphs c.requires.memory g.shapes g.small g.well_formed in
-    let of : AreGraphsOf p graphs =
+    let of : AreLowered p graphs =
     record {
       keeps = g.outcome;
-      are = g.well_formed;
+      never_stuck = g.never_stuck;
+      well_formed = g.well_formed;
       shapes = g.shapes;
       objects = g.has_objects;
       once = g.marks;
       marks = g.statements;
       small = g.small;
+      liveness = g.liveness;
+      first_points = g.first_points;
     }
     in
     links p graphs c.in_ok-sections.sections.items c.frames_support.ensures.supports c.selected_is_code.ensures
@@ -83,15 +86,18 @@ map_lines-requires c =
     let sections = c.in_ok-sections.sections.items in
     let linked = c.in_ok-linked.linked in
     let have = c.graphs_have_frames.ensures p graphs c.requires.memory g.shapes g.small g.well_formed in
-    let of : AreGraphsOf p graphs =
+    let of : AreLowered p graphs =
     record {
       keeps = g.outcome;
-      are = g.well_formed;
+      never_stuck = g.never_stuck;
+      well_formed = g.well_formed;
       shapes = g.shapes;
       objects = g.has_objects;
       once = g.marks;
       marks = g.statements;
       small = g.small;
+      liveness = g.liveness;
+      first_points = g.first_points;
     }
     in
     let are = linked-are p graphs frames sections linked c.requires of have
@@ -115,15 +121,18 @@ write_image-requires c =
     let sections = c.in_ok-sections.sections.items in
     let linked = c.in_ok-linked.linked in
     let have = c.graphs_have_frames.ensures p graphs c.requires.memory g.shapes g.small g.well_formed in
-    let of : AreGraphsOf p graphs =
+    let of : AreLowered p graphs =
     record {
       keeps = g.outcome;
-      are = g.well_formed;
+      never_stuck = g.never_stuck;
+      well_formed = g.well_formed;
       shapes = g.shapes;
       objects = g.has_objects;
       once = g.marks;
       marks = g.statements;
       small = g.small;
+      liveness = g.liveness;
+      first_points = g.first_points;
     }
     in
     image-fits p graphs frames sections linked (linked-are p graphs frames sections linked c.requires of have
@@ -142,15 +151,18 @@ returns c =
     let sections = c.in_ok-sections.sections.items in
     let linked = c.in_ok-linked.linked in
     let have = c.graphs_have_frames.ensures p graphs c.requires.memory g.shapes g.small g.well_formed in
-    let of : AreGraphsOf p graphs =
+    let of : AreLowered p graphs =
     record {
       keeps = g.outcome;
-      are = g.well_formed;
+      never_stuck = g.never_stuck;
+      well_formed = g.well_formed;
       shapes = g.shapes;
       objects = g.has_objects;
       once = g.marks;
       marks = g.statements;
       small = g.small;
+      liveness = g.liveness;
+      first_points = g.first_points;
     }
     in
     let are = linked-are p graphs frames sections linked c.requires of have
