@@ -5,6 +5,14 @@
 ghost use Rattle.std.specs.Prelude.{◌≡◌, ◌⊎◌, IfErr};
 
 #[cfg(test)]
+mod evaluations;
+#[cfg(test)]
+mod maps;
+#[cfg(test)]
+mod programs;
+#[cfg(test)]
+mod refusals;
+#[cfg(test)]
 mod tests;
 
 use pcc_driver::pcc;

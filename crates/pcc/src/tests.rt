@@ -17,7 +17,7 @@ fn words_of(alloc: Global, line: &str) -> Result<Vec<String>, Fail> {
 }
 
 /// A list of the numbers of failing calls: this one, or none where it is 0.
-fn failing(alloc: Global, number: u64) -> Result<Vec<u64>, Fail> {
+pub fn failing(alloc: Global, number: u64) -> Result<Vec<u64>, Fail> {
     let mut numbers = Vec::new(alloc);
     if number > 0 {
         numbers.push(number)?;
@@ -27,30 +27,41 @@ fn failing(alloc: Global, number: u64) -> Result<Vec<u64>, Fail> {
 
 /// What a command answers, and what it puts on standard output and standard error.
 #[derive(Drop)]
-struct Answer {
-    status: u8,
-    out: MemSink,
-    err: MemSink,
+pub struct Answer {
+    pub status: u8,
+    pub out: MemSink,
+    pub err: MemSink,
 }
 
-/// Runs a command over these files with an empty input. Of standard error the call with this number
-/// fails.
-fn run_line<F: FileStore>(
+/// Runs a command over these files and this input. Of standard error the call with this number fails.
+pub fn run_over<F: FileStore>(
     alloc: Global,
     line: &str,
     files: &mut F,
+    mut input: MemSource,
     failing_put: u64,
 ) -> Result<Answer, Fail> {
     let words = words_of(alloc, line)?;
-    let mut input = MemSource::new(Vec::new(alloc), Vec::new(alloc));
     let mut out = MemSink::new(alloc, Vec::new(alloc));
     let mut err = MemSink::new(alloc, failing(alloc, failing_put)?);
     let status = pcc(alloc, &words, files, &mut input, &mut out, &mut err);
     Ok(Answer { status, out, err })
 }
 
+/// Runs a command over these files with an empty input. Of standard error the call with this number
+/// fails.
+pub fn run_line<F: FileStore>(
+    alloc: Global,
+    line: &str,
+    files: &mut F,
+    failing_put: u64,
+) -> Result<Answer, Fail> {
+    let input = MemSource::new(Vec::new(alloc), Vec::new(alloc));
+    run_over(alloc, line, files, input, failing_put)
+}
+
 /// Files in memory with one source, whose call with this number fails.
-fn files_with(alloc: Global, source: &str, failing_call: u64) -> Result<MemFiles, Fail> {
+pub fn files_with(alloc: Global, source: &str, failing_call: u64) -> Result<MemFiles, Fail> {
     let mut files = MemFiles::new(alloc, failing(alloc, failing_call)?);
     match files.place("a.c", source.as_bytes()) {
         Ok(()) => Ok(files),
@@ -97,59 +108,6 @@ fn compiles_and_runs(rt: HostRuntime) -> Result<(), Fail> {
         assert_eq!(rt; second.status, 0, "{source}");
         assert_eq!(rt; second.out.taken(), out.as_bytes(), "{source}");
         assert!(rt; first.out.taken().is_empty());
-    }
-    Ok(())
-}
-
-/// A source that is no program is refused with its fault and its place, and nothing is written.
-#[test]
-fn refuses_sources(rt: HostRuntime) -> Result<(), Fail> {
-    let alloc = rt.alloc();
-    let mut semicolons = String::new(alloc);
-    for _ in 0..65_537 {
-        semicolons.push(';')?;
-    }
-    for (source, status, line) in [
-        ("int main(void){return @;}", 1, "a.c:1:23: 1 BadByte\n"),
-        ("int main(void){return 08;}", 1, "a.c:1:23: 2 BadNumber\n"),
-        (
-            "int main(void){return 2147483648;}",
-            1,
-            "a.c:1:23: 2 BadNumber\n",
-        ),
-        (
-            "int main(void){return 1;} /* x",
-            1,
-            "a.c:1:27: 3 Unclosed\n",
-        ),
-        (
-            "int main(void){return '\\q';}",
-            1,
-            "a.c:1:23: 4 BadEscape\n",
-        ),
-        ("int main(void){return 1}", 1, "a.c:1:24: 5 Syntax\n"),
-        ("int main(void){\n", 1, "a.c:2:1: 5 Syntax\n"),
-        (
-            "int main(void){goto x;}",
-            1,
-            "a.c:1:16: 6 Unsupported goto\n",
-        ),
-        ("int main(void){return x;}", 1, "a.c:1:23: 9 Undeclared\n"),
-        ("", 1, "a.c:1:1: 18 NoMain\n"),
-        (semicolons.as_str(), 3, "limit 20 Tokens 65537\n"),
-    ] {
-        let mut files = files_with(alloc, source, 0)?;
-        let first = run_line(alloc, "compile -o a a.c", &mut files, 0)?;
-        assert_eq!(rt; first.err.taken(), line.as_bytes());
-        assert_eq!(rt; first.status, status, "{line}");
-        assert!(rt; first.out.taken().is_empty(), "{line}");
-        assert!(rt;
-            files.content("a").is_none() && files.content("a.map").is_none(),
-            "{line}"
-        );
-        let second = run_line(alloc, "run a", &mut files, 0)?;
-        assert_eq!(rt; second.err.taken(), b"no file a\n".as_slice(), "{line}");
-        assert_eq!(rt; second.status, 6, "{line}");
     }
     Ok(())
 }

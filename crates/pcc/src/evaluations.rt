@@ -1,0 +1,188 @@
+//! Programs that are evaluated, and programs that are compiled and run: what they write, and how they end.
+
+use crate::programs::{
+    ARITHMETIC, ARRAYS, CALLS, OPERATORS, POINTERS, Row, STATEMENTS, WORD_COUNTER, WORDS,
+};
+use crate::tests::{Answer, failing, files_with, run_line, run_over};
+use pcc_outside::{MemFiles, MemSource};
+use std::alloc::Global;
+use std::process::Abort;
+use std::test::Fail;
+
+/// An input with these bytes. The call with this number fails, and none where it is 0.
+fn input_of(alloc: Global, text: &str, failing_call: u64) -> Result<MemSource, Fail> {
+    let bytes = Vec::from_slice(alloc, text.as_bytes())?;
+    Ok(MemSource::new(bytes, failing(alloc, failing_call)?))
+}
+
+/// A command is answered by these bytes on the output, this status and this line.
+fn expect_answer(rt: &impl Abort, answer: &Answer, out: &str, status: u8, line: &str, of: &str) {
+    assert_eq!(rt; answer.err.taken(), line.as_bytes(), "{of}");
+    assert_eq!(rt; answer.out.taken(), out.as_bytes(), "{of}");
+    assert_eq!(rt; answer.status, status, "{of}");
+}
+
+/// The program of each row is evaluated.
+fn expect_evaluations(rt: &impl Abort, alloc: Global, rows: &[Row]) -> Result<(), Fail> {
+    for (source, input, out, status, line) in rows {
+        let mut files = files_with(alloc, source, 0)?;
+        let input = input_of(alloc, input, 0)?;
+        let answer = run_over(alloc, "eval a.c", &mut files, input, 0)?;
+        expect_answer(rt, &answer, out, *status, line, source);
+    }
+    Ok(())
+}
+
+/// The program of each row is compiled, and its image is run.
+fn expect_runs(rt: &impl Abort, alloc: Global, rows: &[Row]) -> Result<(), Fail> {
+    for (source, input, out, status, line) in rows {
+        let mut files = files_with(alloc, source, 0)?;
+        let compiled = run_line(alloc, "compile -o a a.c", &mut files, 0)?;
+        expect_answer(rt, &compiled, "", 0, "", source);
+        let input = input_of(alloc, input, 0)?;
+        let ran = run_over(alloc, "run a", &mut files, input, 0)?;
+        expect_answer(rt, &ran, out, *status, line, source);
+    }
+    Ok(())
+}
+
+/// Commands over files with an empty input: the words, the output, the status and the line.
+fn expect_commands(
+    rt: &impl Abort,
+    alloc: Global,
+    files: &mut MemFiles,
+    rows: &[(&str, &str, u8, &str)],
+) -> Result<(), Fail> {
+    for (words, out, status, line) in rows {
+        let answer = run_line(alloc, words, files, 0)?;
+        expect_answer(rt, &answer, out, *status, line, words);
+    }
+    Ok(())
+}
+
+#[test]
+fn evaluates(rt: HostRuntime) -> Result<(), Fail> {
+    let alloc = rt.alloc();
+    expect_evaluations(&rt, alloc, &ARITHMETIC)?;
+    expect_evaluations(&rt, alloc, &OPERATORS)?;
+    expect_evaluations(&rt, alloc, &STATEMENTS)?;
+    expect_evaluations(&rt, alloc, &CALLS)
+}
+
+#[test]
+fn evaluates_arrays(rt: HostRuntime) -> Result<(), Fail> {
+    let alloc = rt.alloc();
+    expect_evaluations(&rt, alloc, &POINTERS)?;
+    expect_evaluations(&rt, alloc, &ARRAYS)?;
+    expect_evaluations(&rt, alloc, &WORDS)
+}
+
+#[test]
+fn runs_arithmetic(rt: HostRuntime) -> Result<(), Fail> {
+    expect_runs(&rt, rt.alloc(), &ARITHMETIC)
+}
+
+#[test]
+fn runs_operators(rt: HostRuntime) -> Result<(), Fail> {
+    expect_runs(&rt, rt.alloc(), &OPERATORS)
+}
+
+#[test]
+fn runs_statements(rt: HostRuntime) -> Result<(), Fail> {
+    expect_runs(&rt, rt.alloc(), &STATEMENTS)
+}
+
+#[test]
+fn runs_calls(rt: HostRuntime) -> Result<(), Fail> {
+    expect_runs(&rt, rt.alloc(), &CALLS)
+}
+
+#[test]
+fn runs_pointers(rt: HostRuntime) -> Result<(), Fail> {
+    expect_runs(&rt, rt.alloc(), &POINTERS)
+}
+
+#[test]
+fn runs_arrays(rt: HostRuntime) -> Result<(), Fail> {
+    expect_runs(&rt, rt.alloc(), &ARRAYS)
+}
+
+#[test]
+fn runs_the_word_counter(rt: HostRuntime) -> Result<(), Fail> {
+    expect_runs(&rt, rt.alloc(), &WORDS)
+}
+
+/// A frame of exactly the limit, and static objects of exactly theirs.
+const LARGEST: [Row; 2] = [
+    (
+        "int main(void){char a[16220]; return 0;}",
+        "",
+        "",
+        0,
+        "exit 0\n",
+    ),
+    (
+        "char g[16777212]; int main(void){return 0;}",
+        "",
+        "",
+        0,
+        "exit 0\n",
+    ),
+];
+
+#[test]
+fn runs_the_largest(rt: HostRuntime) -> Result<(), Fail> {
+    expect_runs(&rt, rt.alloc(), &LARGEST)
+}
+
+/// An endless loop is evaluated for so many turns, and its image is run for so many steps.
+const BUDGETS: [(&str, &str, u8, &str); 4] = [
+    ("eval --turns 4 a.c", "xxx", 10, "budget 4\n"),
+    ("eval --turns 0 a.c", "", 10, "budget 0\n"),
+    ("compile -o a a.c", "", 0, ""),
+    ("run --steps 0 a", "", 10, "budget 0\n"),
+];
+
+#[test]
+fn stops_at_budgets(rt: HostRuntime) -> Result<(), Fail> {
+    let alloc = rt.alloc();
+    let mut files = files_with(alloc, "int main(void){for(;;)putchar('x');}", 0)?;
+    expect_commands(&rt, alloc, &mut files, &BUDGETS)
+}
+
+/// A function that another file defines.
+const TWO_FILES: [(&str, &str, u8, &str); 7] = [
+    ("eval a.c b.c", "", 0, "exit 41\n"),
+    ("eval b.c a.c", "", 0, "exit 41\n"),
+    ("eval a.c", "", 1, "a.c:1:37: 19 NoBody\n"),
+    ("eval b.c", "", 1, "b.c:1:28: 18 NoMain\n"),
+    ("compile -o p a.c", "", 1, "a.c:1:37: 19 NoBody\n"),
+    ("compile -o p a.c b.c", "", 0, ""),
+    ("run p", "", 0, "exit 41\n"),
+];
+
+#[test]
+fn links_files(rt: HostRuntime) -> Result<(), Fail> {
+    let alloc = rt.alloc();
+    let first = "int f(int n); int main(void){return f(20);}";
+    let mut files = files_with(alloc, first, 0)?;
+    if files.place("b.c", b"int f(int n){return n*2+1;}").is_err() {
+        return Err(Fail::new("no memory"));
+    }
+    expect_commands(&rt, alloc, &mut files, &TWO_FILES)
+}
+
+/// An input whose second call fails is told, by `eval` as by `run`.
+#[test]
+fn names_input_faults(rt: HostRuntime) -> Result<(), Fail> {
+    let alloc = rt.alloc();
+    let mut files = files_with(alloc, WORD_COUNTER, 0)?;
+    let compiled = run_line(alloc, "compile -o a a.c", &mut files, 0)?;
+    expect_answer(&rt, &compiled, "", 0, "", "compile");
+    for words in ["eval a.c", "run a"] {
+        let input = input_of(alloc, "one two\nthree\n", 2)?;
+        let answer = run_over(alloc, words, &mut files, input, 0)?;
+        expect_answer(&rt, &answer, "", 4, "read fault input\n", words);
+    }
+    Ok(())
+}
