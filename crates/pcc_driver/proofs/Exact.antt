@@ -55,25 +55,32 @@ compile_status name sources old new (reports.WriteFault Map) cause told quiet = 
 compile_status name sources old new (reports.WriteFault Image) cause told quiet = absurd (quiet.writes cause.files.0)
 compile_status name sources old new reports.NoMemory cause told quiet = inl refl
 compile_status name sources old new (reports.NoFile file) cause told quiet =
-    refused_status old.work.files.content sources (λ p. status_of (reports.NoFile file) ≡ 0) (reports.NoFile file) old.work.files.counts
+    refused_status old.work.files.content sources (λ p. status_of (reports.NoFile file) ≡ 0) (reports.NoFile file)
+    old.work.files.counts
     new.work.files.counts cause.files quiet.reads told.0
 compile_status name sources old new (reports.TooLong file) cause told quiet =
-    refused_status old.work.files.content sources (λ p. status_of (reports.TooLong file) ≡ 0) (reports.TooLong file) old.work.files.counts
+    refused_status old.work.files.content sources (λ p. status_of (reports.TooLong file) ≡ 0) (reports.TooLong file)
+    old.work.files.counts
     new.work.files.counts cause.files quiet.reads told.0
 compile_status name sources old new (reports.SourceFault fault) cause told quiet =
-    refused_status old.work.files.content sources (λ p. status_of (reports.SourceFault fault) ≡ 0) (reports.SourceFault fault) old.work.files.counts
+    refused_status old.work.files.content sources (λ p. status_of (reports.SourceFault fault) ≡ 0)
+    (reports.SourceFault fault) old.work.files.counts
     new.work.files.counts cause.files quiet.reads told.0
 compile_status name sources old new (reports.TooManyTokens tokens) cause told quiet =
-    refused_status old.work.files.content sources (λ p. status_of (reports.TooManyTokens tokens) ≡ 0) (reports.TooManyTokens tokens) old.work.files.counts
+    refused_status old.work.files.content sources (λ p. status_of (reports.TooManyTokens tokens) ≡ 0)
+    (reports.TooManyTokens tokens) old.work.files.counts
     new.work.files.counts cause.files quiet.reads told.0
 compile_status name sources old new (reports.LargeArrays bytes) cause told quiet =
-    refused_status old.work.files.content sources (λ p. status_of (reports.LargeArrays bytes) ≡ 0) (reports.LargeArrays bytes) old.work.files.counts
+    refused_status old.work.files.content sources (λ p. status_of (reports.LargeArrays bytes) ≡ 0)
+    (reports.LargeArrays bytes) old.work.files.counts
     new.work.files.counts cause.files quiet.reads told.0
 compile_status name sources old new (reports.LargeFrame function bytes) cause told quiet =
-    refused_status old.work.files.content sources (λ p. status_of (reports.LargeFrame function bytes) ≡ 0) (reports.LargeFrame function bytes) old.work.files.counts
+    refused_status old.work.files.content sources (λ p. status_of (reports.LargeFrame function bytes) ≡ 0)
+    (reports.LargeFrame function bytes) old.work.files.counts
     new.work.files.counts cause.files quiet.reads told.0
 compile_status name sources old new (reports.ReadFault file) cause told quiet =
-    refused_status old.work.files.content sources (λ p. status_of (reports.ReadFault file) ≡ 0) (reports.ReadFault file) old.work.files.counts
+    refused_status old.work.files.content sources (λ p. status_of (reports.ReadFault file) ≡ 0) (reports.ReadFault file)
+    old.work.files.counts
     new.work.files.counts cause.files quiet.reads told.0
 compile_status name sources old new (reports.WriteFault (Source i)) cause told quiet = absurd told.0
 compile_status name sources old new (reports.WriteFault Board) cause told quiet = absurd told.0

@@ -61,7 +61,8 @@ written_told (reports.SourceFault fault) name sources texts map_bytes image old 
     absurd told
 written_told (reports.LargeArrays bytes) name sources texts map_bytes image old mid new kept read products told =
     absurd told
-written_told (reports.LargeFrame function bytes) name sources texts map_bytes image old mid new kept read products told =
+written_told (reports.LargeFrame function bytes) name sources texts map_bytes image old mid new kept read products told
+    =
     absurd told
 written_told (reports.TooManyFiles count) name sources texts map_bytes image old mid new kept read products told =
     absurd told

@@ -147,7 +147,8 @@ RunTold steps content old new (reports.ReadFault Image) = SameStreams old new
 RunTold steps content old new (reports.NoFile Image) = (content ≡ None) × SameStreams old new
 RunTold steps content old new reports.InputFault = Holds content (RunGivesSoFar steps (λ t. ⊤) old new)
 RunTold steps content old new reports.OutputFault = Holds content (RunGivesPart steps old new)
-RunTold steps content old new reports.NoMemory = SameStreams old new ⊎ Holds content (RunGivesSoFar steps WritesNext old new)
+RunTold steps content old new reports.NoMemory = SameStreams old new
+    ⊎ Holds content (RunGivesSoFar steps WritesNext old new)
 RunTold steps content old new _ = ⊥
 
 -- ---- solve

@@ -10,9 +10,9 @@ use Rattle.pcc_words.specs.Asked.{map_name}
 use Rattle.pcc_reports.specs.Outside.{Files}
 use Rattle.pcc_sources.specs.Sources.{AreRead}
 
--- What a compilation leaves: the sources have a typed program, NAME.map holds the text of the map of the image (and a text is
--- the text of one map at most), NAME holds an image that does what the program does by that map, and no other file has
--- changed. In the graphs that the map and the image are of, no variable is live at a function's first point.
+-- What a compilation leaves: the sources have a typed program, NAME.map holds the text of the map of the image (and a
+-- text is the text of one map at most), NAME holds an image that does what the program does by that map, and no other
+-- file has changed. In the graphs that the map and the image are of, no variable is live at a function's first point.
 pub record IsCompiled (old new : Files) (name : List ℕ) (sources : List (List ℕ)) : Type 0 where
   pub texts : List (List ℕ)
   pub program : Program

@@ -1,5 +1,5 @@
 ghost use Rattle.std.specs.Prelude.{◌≡◌, [], MatchResult};
-ghost use Rattle.elf_image.specs.Segments.{Segments, Loads};
+ghost use Rattle.elf_image.specs.Segments.{Segments, IsLoadable, Loads, segments_of};
 ghost use Rattle.ia32_machine.specs.First.{first_state};
 ghost use Rattle.pcc_reports.specs.Causes.{FilesCause, StreamsCause};
 ghost use Rattle.pcc_reports.specs.Outside.{SameFiles, work_of};
@@ -11,26 +11,37 @@ ghost use Rattle.pcc_driver.specs.Answers.{
   report_of_end,
 };
 
-use elf_image::{ImageRefusal, read_image};
+use elf_image::{ImageRefusal, Loaded, read_image};
 use ia32_machine::{Machine, MachineEnd};
 use pcc_outside::{FileStore, Sink, Source};
 use pcc_reports::{Named, Report};
 use pcc_sources::{FILE_LIMIT, read_report};
 use std::alloc::Global;
 
-/// The machine that the bytes of an image load.
-fn machine_of(alloc: Global, image: &[u8]) -> Result<Machine, Report>
+/// The segments that the bytes of an image load.
+fn loaded_of(alloc: Global, image: &[u8]) -> Result<Loaded, Report>
     ensures { MatchResult result
-        (λ machine. (segments : Segments) × Loads image.now segments × (machine ≡ first_state segments []))
+        (λ loaded. Loads image.now (segments_of loaded) × IsLoadable (segments_of loaded))
         (GivesNoMachine image.now) }
 {
     match read_image(alloc, image) {
-        Ok(loaded) => match Machine::load(alloc, &loaded) {
-            Ok(machine) => Ok(machine),
-            Err(_) => Err(Report::NoMemory),
-        },
+        Ok(loaded) => Ok(loaded),
         Err(ImageRefusal::NotImage) => Err(Report::NotImage),
         Err(ImageRefusal::NoMemory) => Err(Report::NoMemory),
+    }
+}
+
+/// The machine that the bytes of an image load. They are let go before the machine takes its memory.
+fn machine_of(alloc: Global, image: Vec<u8>) -> Result<Machine, Report>
+    ensures { MatchResult result
+        (λ machine. (segments : Segments) × Loads image.items segments × (machine ≡ first_state segments []))
+        (GivesNoMachine image.items) }
+{
+    let loaded = loaded_of(alloc, image.as_slice())?;
+    drop(image);
+    match Machine::load(alloc, &loaded) {
+        Ok(machine) => Ok(machine),
+        Err(_) => Err(Report::NoMemory),
     }
 }
 
@@ -77,7 +88,7 @@ pub fn run<F: FileStore, I: Source, O: Sink>(
         Ok(bytes) => bytes,
         Err(refusal) => return read_report(refusal, Named::Image),
     };
-    match machine_of(alloc, bytes.as_slice()) {
+    match machine_of(alloc, bytes) {
         Ok(mut machine) => end_report(steps, machine.run(input, out, steps)),
         Err(report) => report,
     }
