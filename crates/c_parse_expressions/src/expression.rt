@@ -161,8 +161,8 @@ pub fn conditional(cursor: &mut Cursor<'_>, height: Height) -> Result<Found, Ref
     Ok(conditional_node(cursor.alloc, condition, question, first, colon, second)?)
 }
 
-/// `binary`, from the level with this number on, which counts from the tightest; level 0 is `cast`. The levels that have
-/// no operator here are passed over.
+/// `binary`, from the level with this number on, which counts from the tightest; level 0 is `cast`. The levels that
+/// have no operator here are passed over.
 #[cycle(expression)]
 fn binary(cursor: &mut Cursor<'_>, level: usize, height: Height) -> Result<Found, Refusal>
     requires level { level ≤ 10 }

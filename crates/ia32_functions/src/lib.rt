@@ -1,5 +1,5 @@
-//! The items of a whole function, over slots: in go its graph and how far from EBP its variables and frame arrays stand,
-//! out come the items that the definitions name (`ia32_rows`, `specs/Rows.antt`).
+//! The items of a whole function, over slots: in go its graph and how far from EBP its variables and frame arrays
+//! stand, out come the items that the definitions name (`ia32_rows`, `specs/Rows.antt`).
 #![tactic(auto)]
 
 mod arrays;

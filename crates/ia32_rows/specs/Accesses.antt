@@ -44,8 +44,8 @@ loading ThirtyTwo t m = insn.MovLoad t m
 abbrev pub load_from : Bits → Place → Mem → List Item
 load_from bits result m = plain (loading bits (target_of result) m) ∷ write result (target_of result)
 
--- The low bits of the value's register to the address in EDI. ESI has no byte register, so its word goes to EAX and back
--- for a byte, by XCHG.
+-- The low bits of the value's register to the address in EDI. ESI has no byte register, so its word goes to EAX and
+-- back for a byte, by XCHG.
 abbrev pub storing : Bits → Place → List Item
 storing ThirtyTwo value = plain (insn.Mov (rm.Mem (near Edi 0)) (target_of value)) ∷ []
 storing Sixteen value = plain (insn.Mov16 (rm.Mem (near Edi 0)) (target_of value)) ∷ []

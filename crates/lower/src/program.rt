@@ -63,8 +63,8 @@ pub fn lower(alloc: Global, program: &Program) -> Result<Graphs, NoMemory>
     // object is one.
     ensures well_formed { IfOk result (λ graphs. IsGraphProgram (graphs_of graphs)) }
 
-    // The first variables are the locals, frame arrays are the functions', blocks are ended, and frames are within their
-    // bound.
+    // The first variables are the locals, frame arrays are the functions', blocks are ended, and frames are within
+    // their bound.
     ensures shapes { IfOk result (λ graphs. HaveShapes (program_of program.now) (graphs_of graphs)) }
     ensures has_objects { IfOk result (λ graphs. HasObjects (program_of program.now) (graphs_of graphs)) }
 
@@ -75,8 +75,8 @@ pub fn lower(alloc: Global, program: &Program) -> Result<Graphs, NoMemory>
     // The graphs grow no faster than the program.
     ensures small { IfOk result (λ graphs. AreSmall (program_of program.now) (graphs_of graphs)) }
 
-    // No temporary is live at a mark, and the dividend of a division and the count of a shift die at their op and are no
-    // other operand of it.
+    // No temporary is live at a mark, and the dividend of a division and the count of a shift die at their op and are
+    // no other operand of it.
     ensures liveness { IfOk result (λ graphs. HaveLiveness (program_of program.now) (graphs_of graphs)) }
 
     // No variable is live at a function's first point, where each local is declared before it is named.

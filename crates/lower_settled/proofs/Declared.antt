@@ -10,10 +10,10 @@ use Rattle.c_tree.specs.declared.types.IntegerType.TheVariants.{Char, Short, Int
 use Rattle.c_tree.specs.declared.types.ValueType.{ValueType}
 use Rattle.c_tree.specs.declared.types.ValueType.TheVariants.{Void, Integer, Pointer}
 use Rattle.c_tree.specs.Evaluation.{type_at, type_of}
-use Rattle.c_tree.specs.Program.{Expression, Initialiser, Elements, Text, Item, Scalar, Array, First, Nothing, Evaluated}
-use Rattle.c_tree.specs.Program.{Declared, Statement, Declare, Empty, Evaluate, Block, If, While, Do, For, Switch, Break}
-use Rattle.c_tree.specs.Program.{Continue, Return, Statements, Done, Next, Local, LocalArray, Function, Program}
-use Rattle.c_tree.specs.Program.{value_type}
+use Rattle.c_tree.specs.Program.{Expression, Initialiser, Elements, Text, Item, Scalar, Array, First, Nothing}
+use Rattle.c_tree.specs.Program.{Evaluated, Declared, Statement, Declare, Empty, Evaluate, Block, If, While, Do, For}
+use Rattle.c_tree.specs.Program.{Switch, Break, Continue, Return, Statements, Done, Next, Local, LocalArray, Function}
+use Rattle.c_tree.specs.Program.{Program, value_type}
 use Rattle.c_tree.specs.WellTyped.{AreStatements, CanAssign, CanInitialise, CanReturn, IsAssigned, IsCondition, IsFirst}
 use Rattle.c_tree.specs.WellTyped.{IsItem, IsResult, IsStatement, IsTyped, IsTypedFunction, count_of}
 use Rattle.flow_graph.specs.declared.op.Op.TheVariants as op
@@ -323,12 +323,14 @@ module _ (p : Program) (f : Function) (functions : AllByRecursion (IsTypedFuncti
         block-live c (runs_of c body) (V known) (V (known_end known body)) w chain
     run-known breaks continues known are (If n e a b) h k =
         if-live c (V known) (low known are) n (part_of c e) (run_of c a) (run_of c b) (expr known are e h.0.0 k.0)
-        (inner known a (run-known breaks continues known are a h.1 k.1)) (inner known b (run-known breaks continues known are b h.2 k.2))
+        (inner known a (run-known breaks continues known are a h.1 k.1))
+        (inner known b (run-known breaks continues known are b h.2 k.2))
     run-known breaks continues known are (While n e s) h k =
         while-live c (V known) (low known are) n e (run_of c s) (expr known are e h.0.0 k.0)
         (inner known s (run-known true true known are s h.1 k.1))
     run-known breaks continues known are (Do n s e) h k =
-        do-live c (V known) (low known are) n (run_of c s) (part_of c e) (inner known s (run-known true true known are s h.0 k.0))
+        do-live c (V known) (low known are) n (run_of c s) (part_of c e)
+        (inner known s (run-known true true known are s h.0 k.0))
         (expr known are e h.1.0 k.1)
     run-known breaks continues known are (For n first test after s) h k =
         let next = known_first known first in

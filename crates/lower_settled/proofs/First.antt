@@ -1,6 +1,6 @@
 -- No variable is live at a function's first point, where each local is declared before it is named.
-use Rattle.std.proofs.Common.{◌≡◌, false, ℕ, zero, suc, ◌+◌, List, [], ◌∷◌, ◌++◌, Some, inl, inr, refl, sym, ap}
-use Rattle.std.proofs.Common.{subst, arith, length, take}
+use Rattle.std.proofs.Common.{◌≡◌, false, ℕ, zero, suc, ◌+◌, List, [], ◌∷◌, ◌++◌, Some, inl, inr, refl, sym, ap, subst}
+use Rattle.std.proofs.Common.{arith, length, take}
 use Rattle.std.specs.Prelude.{slice_get}
 use Rattle.std.specs.List.{range_with_len}
 use Rattle.std.proofs.lemmas.List.Elements.{recursion_from_All}
@@ -87,7 +87,8 @@ pub first-points-hold : FirstPointsHold
 first-points-hold p well declared k f flow at at' point v begins live =
     let functions = recursion_from_All (IsTypedFunction p) p.functions well.functions in
     let typed = all-at (IsTypedFunction p) p.functions k f functions at in
-    let first = all-at (λ (g : Function). DeclareFirst (range_with_len 0 (length (parameters_of g))) g.body) p.functions k
+    let first = all-at (λ (g : Function). DeclareFirst (range_with_len 0 (length (parameters_of g))) g.body) p.functions
+    k
     f (recursion_from_All (λ (g : Function). DeclareFirst (range_with_len 0 (length (parameters_of g))) g.body)
     p.functions declared) at in
     let c = context_in p f in
@@ -106,7 +107,8 @@ first-points-hold p well declared k f flow at at' point v begins live =
     let lines : F c B [] (parameters ++ body) [] =
     flows-then c B [] parameters body (D ++ []) [] (parameters-known p f B ls 0 0 [] stand)
     (last-less c B (D ++ []) body D [] (λ u is. absurd is)
-    (wider c B D (D ++ []) body D (front-in D []) (s.flows B (own-agrees [] s.sets) ((λ u is. absurd is), (λ u is. absurd is)) tt))) in
+    (wider c B D (D ++ []) body D (front-in D []) (s.flows B (own-agrees [] s.sets)
+    ((λ u is. absurd is), (λ u is. absurd is)) tt))) in
     let all = flows-suffice p f B (all-lines-close p well k f at).0.closed
     (keeps c B op.Turn [] [] (parameters ++ body) (refl, refl, refl) (λ u is. absurd is) lines) in
     let same = get-map (graph_of_function p) p.functions k f flow at at' in

@@ -1,5 +1,6 @@
 -- Sets of the lines of every typed expression that names only known locals: it uses the variables of these alone.
-use Rattle.std.proofs.Common.{◌≡◌, ◌<◌, ◌⊎◌, ℕ, List, [], ◌∷◌, ◌++◌, Option, Some, inl, inr, refl, sym, ap, ◌∙◌, subst, take}
+use Rattle.std.proofs.Common.{◌≡◌, ◌<◌, ◌⊎◌, ℕ, List, [], ◌∷◌, ◌++◌, Option, Some, inl, inr, refl, sym, ap, ◌∙◌, subst}
+use Rattle.std.proofs.Common.{take}
 use Rattle.std.specs.Prelude.{IsSomeAnd, slice_get}
 use Rattle.std.specs.List.{AllByRecursion}
 use Rattle.c_tree.specs.declared.expression.BinaryOp.{BinaryOp}
@@ -14,8 +15,8 @@ use Rattle.c_tree.specs.Program.{value_type, Expression, Constant, Start as Star
 use Rattle.c_tree.specs.Program.{Or, Conditional, Cast, Assign, Update, Step, Comma, Call, Putchar, Getchar, Exit}
 use Rattle.c_tree.specs.Program.{Place, LocalPlace, StaticPlace, Target, Element, Arguments, NoMore, Argument, Local}
 use Rattle.c_tree.specs.Program.{Function, Program}
-use Rattle.c_tree.specs.WellTyped.{AreArguments, BinaryGives, CanAssign, CanUpdate}
-use Rattle.c_tree.specs.WellTyped.{IsElement, IsInteger, IsPlace, IsResult, IsTyped, IsTypedFunction, UnaryGives}
+use Rattle.c_tree.specs.WellTyped.{AreArguments, BinaryGives, CanAssign, CanUpdate, IsElement, IsInteger, IsPlace}
+use Rattle.c_tree.specs.WellTyped.{IsResult, IsTyped, IsTypedFunction, UnaryGives}
 use Rattle.flow_graph.specs.declared.op.Op.TheVariants as op
 use Rattle.flow_graph.specs.Graphs.{IsIn}
 use Rattle.lower_lines.specs.Expressions.{address_part, all_passed, call_part, element_of, part_of, parameters_of}

@@ -12,8 +12,8 @@ use Rattle.lower_lines.specs.Statements.{onward, sequence_blocks, sequence_lines
 use Rattle.lower_lines.specs.Variables.{Context, own}
 use Rattle.lower_live.specs.Flows.{Within}
 use Rattle.lower_live.specs.Settled.{Agrees, Settled}
-use Rattle.lower_live.proofs.Sets.{F, agrees-at, agrees-back, agrees-front, block-is, ends, flows-then, last-less, one-in}
-use Rattle.lower_live.proofs.Sets.{starts, way, wider, writes}
+use Rattle.lower_live.proofs.Sets.{F, agrees-at, agrees-back, agrees-front, block-is, ends, flows-then, last-less}
+use Rattle.lower_live.proofs.Sets.{one-in, starts, way, wider, writes}
 
 -- sets of blocks, and of those behind them
 pub agrees-split : (B : ℕ → List ℕ) (block n : ℕ) (xs ys : List (List ℕ)) → length xs ≡ n

@@ -1,6 +1,6 @@
 -- Sets of the lines of every typed item and statement: at each statement every local may be used.
-use Rattle.std.proofs.Common.{◌≡◌, ◌<◌, ℕ, suc, ◌+◌, true, Bool, List, [], ◌∷◌, ◌++◌, Option, Some, None, refl, sym}
-use Rattle.std.proofs.Common.{ap, ◌∙◌, subst, length}
+use Rattle.std.proofs.Common.{◌≡◌, ◌<◌, ℕ, suc, ◌+◌, true, Bool, List, [], ◌∷◌, ◌++◌, Option, Some, None, refl, sym, ap}
+use Rattle.std.proofs.Common.{◌∙◌, subst, length}
 use Rattle.std.specs.Prelude.{IfSome, IsSomeAnd, slice_get}
 use Rattle.std.specs.List.{AllByRecursion, range_with_len}
 use Rattle.std.proofs.lemmas.List.Elements.{recursion_from_All}
@@ -10,20 +10,20 @@ use Rattle.c_tree.specs.declared.types.IntegerType.TheVariants.{Char, Short, Int
 use Rattle.c_tree.specs.declared.types.ValueType.{ValueType}
 use Rattle.c_tree.specs.declared.types.ValueType.TheVariants.{Void, Integer, Pointer}
 use Rattle.c_tree.specs.Evaluation.{type_at, type_of}
-use Rattle.c_tree.specs.Program.{Expression, Initialiser, Elements, Text, Item, Scalar, Array, First, Nothing, Evaluated}
-use Rattle.c_tree.specs.Program.{Declared, Statement, Declare, Empty, Evaluate, Block, If, While, Do, For, Switch, Break}
-use Rattle.c_tree.specs.Program.{Continue, Return, Statements, Done, Next, LocalPlace, Local, LocalArray, Function}
-use Rattle.c_tree.specs.Program.{Program, value_type}
+use Rattle.c_tree.specs.Program.{Expression, Initialiser, Elements, Text, Item, Scalar, Array, First, Nothing}
+use Rattle.c_tree.specs.Program.{Evaluated, Declared, Statement, Declare, Empty, Evaluate, Block, If, While, Do, For}
+use Rattle.c_tree.specs.Program.{Switch, Break, Continue, Return, Statements, Done, Next, LocalPlace, Local, LocalArray}
+use Rattle.c_tree.specs.Program.{Function, Program, value_type}
 use Rattle.c_tree.specs.WellTyped.{AreStatements, CanAssign, CanInitialise, CanReturn, IsAssigned, IsCondition, IsFirst}
 use Rattle.c_tree.specs.WellTyped.{IsItem, IsResult, IsStatement, IsTyped, IsTypedFunction, count_of}
 use Rattle.flow_graph.specs.declared.op.Op.TheVariants as op
 use Rattle.lower_lines.specs.Expressions.{part_of, words_of}
 use Rattle.lower_lines.specs.Lines.{Line, Emit}
 use Rattle.lower_lines.specs.Parts.{Dropped, Part, in_type, operand}
-use Rattle.lower_lines.specs.Statements.{Exits, Run, array_blocks, array_lines, dropped_blocks, dropped_lines, first_blocks}
-use Rattle.lower_lines.specs.Statements.{first_lines, item_blocks, item_levels, item_lines, items_blocks, items_lines}
-use Rattle.lower_lines.specs.Statements.{levels_if_any, local_lines, none_labelled, returned_blocks, returned_lines}
-use Rattle.lower_lines.specs.Statements.{run_of, runs_of, text_count}
+use Rattle.lower_lines.specs.Statements.{Exits, Run, array_blocks, array_lines, dropped_blocks, dropped_lines}
+use Rattle.lower_lines.specs.Statements.{first_blocks, first_lines, item_blocks, item_levels, item_lines, items_blocks}
+use Rattle.lower_lines.specs.Statements.{items_lines, levels_if_any, local_lines, none_labelled, returned_blocks}
+use Rattle.lower_lines.specs.Statements.{returned_lines, run_of, runs_of, text_count}
 use Rattle.lower_lines.specs.Variables.{Context, local_spot, local_variables}
 use Rattle.lower_bounds.proofs.Types.{part-type, some-and}
 use Rattle.lower_fits.proofs.Compound.{Becomes, assign-becomes}

@@ -13,9 +13,9 @@ use Rattle.flow_graph.specs.declared.op.Op.TheVariants as op
 use Rattle.flow_graph.specs.Graphs.{IsIn}
 use Rattle.lower_lines.specs.Lines.{Start, Emit}
 use Rattle.lower_lines.specs.Parts.{Part, operand}
-use Rattle.lower_lines.specs.Statements.{After, To, Case, Exits, Labelled, Run, block_or, body_blocks, body_lines, case_of}
-use Rattle.lower_lines.specs.Statements.{cases_of, comparing, comparing_blocks, default_block, exit_blocks, exit_lines}
-use Rattle.lower_lines.specs.Statements.{exit_of, has_label, labelled_before, labelled_from, opening_blocks}
+use Rattle.lower_lines.specs.Statements.{After, To, Case, Exits, Labelled, Run, block_or, body_blocks, body_lines}
+use Rattle.lower_lines.specs.Statements.{case_of, cases_of, comparing, comparing_blocks, default_block, exit_blocks}
+use Rattle.lower_lines.specs.Statements.{exit_lines, exit_of, has_label, labelled_before, labelled_from, opening_blocks}
 use Rattle.lower_lines.specs.Statements.{sequence_blocks, sequence_lines, switch_run, towards}
 use Rattle.lower_lines.specs.Variables.{Context, ForScratch, local_variables, temporary}
 use Rattle.lower_live.specs.Flows.{Within}

@@ -2,10 +2,11 @@
 use Rattle.std.specs.Prelude.{ℕ, List, [], ◌∷◌, IfSome, length}
 use Rattle.std.specs.List.{All, AllByRecursion, range_with_len}
 use Rattle.c_tree.specs.Program.{Expression, Constant, Start, Read, Address, Unary, Binary, And, Or, Conditional, Cast}
-use Rattle.c_tree.specs.Program.{Assign, Update, Step, Comma, Call, Putchar, Getchar, Exit, Place, LocalPlace, StaticPlace}
-use Rattle.c_tree.specs.Program.{Target, Element, Arguments, NoMore, Argument, Initialiser, Elements, Text, Item, Scalar}
-use Rattle.c_tree.specs.Program.{Array, First, Nothing, Evaluated, Declared, Statement, Declare, Empty, Evaluate, Block, If}
-use Rattle.c_tree.specs.Program.{While, Do, For, Switch, Break, Continue, Return, Statements, Done, Next, Function, Program}
+use Rattle.c_tree.specs.Program.{Assign, Update, Step, Comma, Call, Putchar, Getchar, Exit, Place, LocalPlace}
+use Rattle.c_tree.specs.Program.{StaticPlace, Target, Element, Arguments, NoMore, Argument, Initialiser, Elements, Text}
+use Rattle.c_tree.specs.Program.{Item, Scalar, Array, First, Nothing, Evaluated, Declared, Statement, Declare, Empty}
+use Rattle.c_tree.specs.Program.{Evaluate, Block, If, While, Do, For, Switch, Break, Continue, Return, Statements, Done}
+use Rattle.c_tree.specs.Program.{Next, Function, Program}
 use Rattle.c_tree.specs.WellTyped.{parameters_of}
 use Rattle.flow_graph.specs.Graphs.{IsIn}
 
@@ -86,7 +87,8 @@ DeclareNothing Done = Unit {0}
 DeclareNothing (Next (Declare item) others) = ⊥
 DeclareNothing (Next s others) = DeclareNothing others
 
--- Every expression of a statement names only locals that are declared before it in the text, in a block that isn't left.
+-- Every expression of a statement names only locals that are declared before it in the text, in a block that isn't
+-- left.
 abbrev mutual
   pub DeclaresFirst : List ℕ → Statement → Type 0
   DeclaresFirst known (Declare item) = ItemNamesOnly known item

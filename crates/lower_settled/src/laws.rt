@@ -8,8 +8,8 @@ pub fn functions_settle()
     ensures { FunctionsSettle }
 {}
 
-/// In the graphs of a typed program no temporary is live at a mark, and fixed operands die at their ops and are no other
-/// operand of them.
+/// In the graphs of a typed program no temporary is live at a mark, and fixed operands die at their ops and are no
+/// other operand of them.
 pub fn liveness_holds()
     ensures { LivenessHolds }
 {}

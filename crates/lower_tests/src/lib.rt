@@ -1,4 +1,5 @@
-//! Tests of `lower`: small programs, whose outcome by the source's meaning is that of their graphs and the expected one.
+//! Tests of `lower`: small programs, whose outcome by the source's meaning is that of their graphs and the expected
+//! one.
 //!
 //! A plain interpreter of graphs stands here (`machine`, `ops`, `calls`, `arrays`), written from the meaning of ops in
 //! `flow_graph`. It shares no code with `lower`.

@@ -20,7 +20,8 @@ gives_status : (turns : ℕ) (sources : List (List ℕ)) (old new : Work) (end :
     → EvalStatus turns old.input.left old.files.content sources (end_status end)
 gives_status turns sources old new end (texts, are, (p, is, gives)) =
     typed_status old.files.content sources texts
-    (λ (q : Program). end_status end ≡ end_status (evaluations.outcome_in q turns old.input.left).end) p (end_status end)
+    (λ (q : Program). end_status end ≡ end_status (evaluations.outcome_in q turns old.input.left).end) p
+    (end_status end)
     are is (sym (ap end_status gives.0))
 
 -- the report of `eval` has the status of the files and the input, where nothing failed

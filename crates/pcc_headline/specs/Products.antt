@@ -32,9 +32,9 @@ DoesAs image map program =
 abbrev pub image_of : Code → List ℕ
 image_of code = image_bytes (parts_of_text code.text (objects_of code.program))
 
--- The image and the map belong to the program: there are graphs that are all that lowering promises of the program, with
--- its locals, arrays, statements and static objects and its outcomes, and no temporary live at a mark; their code stands
--- in the text that is the image's; and the map is that of this code.
+-- The image and the map belong to the program: there are graphs that are all that lowering promises of the program,
+-- with its locals, arrays, statements and static objects and its outcomes, and no temporary live at a mark; their code
+-- stands in the text that is the image's; and the map is that of this code.
 pub record BelongsTo (program : Program) (image : List ℕ) (map : Map) : Type 0 where
   pub code : Code
   pub lowered : AreLowered program code.program

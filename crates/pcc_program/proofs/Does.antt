@@ -1,6 +1,6 @@
 -- What was linked of a program does what the program does.
-use Rattle.std.proofs.Common.{◌≡◌, ◌<◌, ℕ, List, [], ◌∷◌, length, map, Some}
-use Rattle.std.proofs.Common.{option_map, refl, sym, ap, ◌∙◌, subst, arith}
+use Rattle.std.proofs.Common.{◌≡◌, ◌<◌, ℕ, List, [], ◌∷◌, length, map, Some, option_map, refl, sym, ap, ◌∙◌, subst}
+use Rattle.std.proofs.Common.{arith}
 use Rattle.std.specs.Prelude.{slice_get, slice_index}
 use Rattle.std.proofs.lemmas.Option.{get_or_from_slice_get, slice_get-map, slice_get_within}
 use Rattle.std.proofs.lemmas.Slice.Zip.{AllZip-long}
@@ -20,8 +20,7 @@ use Rattle.ia32_frames.specs.Laws.{FramesHaveSlots, FramesSupport, OffsetsAreBel
 use Rattle.ia32_insn.specs.Items.{data_bytes}
 use Rattle.ia32_keeps.specs.Supports.{AreSlots}
 use Rattle.ia32_programs.specs.Right.{ProgramsAreRight}
-use Rattle.ia32_shows.specs.Placements.{Code, in_slots, no_placement, objects_of, placement_of}
-use Rattle.ia32_shows.specs.Placements.{point_address}
+use Rattle.ia32_shows.specs.Placements.{Code, in_slots, no_placement, objects_of, placement_of, point_address}
 use Rattle.ia32_sizes.specs.Sizes.{SelectedIsCode}
 use Rattle.ia32_standing.specs.Laws.{IsSelected}
 use Rattle.image_start.specs.Begins.{parts_of_text}
@@ -85,7 +84,8 @@ module _ (laws : Laws) (program : Program) (graphs : GraphProgram) (frames : Lis
   the_map = map_in program homes code
 
   pub have-frames : HaveFrames graphs
-  have-frames = laws.have_frames program graphs h.compilable.memory h.lowered.shapes h.lowered.small h.lowered.well_formed
+  have-frames = laws.have_frames program graphs h.compilable.memory h.lowered.shapes h.lowered.small
+      h.lowered.well_formed
 
   is-framed : IsFramedCode code
   is-framed =

@@ -17,7 +17,8 @@ returns-in-Ok-clause-told g c = λ f i o.
     let old : Work = work_of g.F.FileStore g.I.Source g.O.Sink c.args.files.now c.args.input.now c.args.out.now in
     let new : Work = work_of g.F.FileStore g.I.Source g.O.Sink c.program_of_sources.new.files c.eval-end.new.input
     c.eval-end.new.out in
-    rw c.evaluation_report.ensures (end_told c.args.turns c.eval-end.result (map (λ s. s.now) c.args.sources.now) old new
+    rw c.evaluation_report.ensures (end_told c.args.turns c.eval-end.result (map (λ s. s.now) c.args.sources.now) old
+    new
     (program_of c.in-Ok.program) (c.in-Ok.ensures.told f) (c.eval-end.ensures.told i o))
 
 pub returns-in-Err-clause-sources : goal.returns-in-Err-clause-sources
