@@ -1,12 +1,13 @@
 #!/bin/sh
-# Measures `pcc compile` at about 6,000 and 60,000 tokens, beside `gcc -m32 -O0 -S` and `gcc -fsyntax-only` on the same
-# text: the processor's time, the shortest of several runs, the greatest memory, and the time for a token. Then come the
-# times up to the tokens, the tree and the types, from texts whose only fault stands at their end, and how the samples
-# that perf takes of the processor's clock fall to the storeys of crates.txt and to their crates.
+# Measures `pcc compile` at about 6,000 and 60,000 tokens, beside `gcc -m32 -O0 -S`, `gcc -fsyntax-only` and, where it
+# is installed, `i386-tcc -c` on the same text: the processor's time, the shortest of several runs, the greatest memory,
+# and the time for a token. Then come the times up to the tokens, the tree and the types, from texts whose only fault
+# stands at their end, and how the samples that perf takes of the processor's clock fall to the storeys of crates.txt
+# and to their crates.
 #
 # usage: bench/compile.sh [RUNS]     so many runs each, else 5
 #
-# It wants python3, gcc that makes code for i386, GNU time and perf.
+# It wants python3, gcc that makes code for i386, GNU time and perf; without i386-tcc its rows are left out.
 . "$(dirname "$(readlink -f "$0")")/start.sh"
 build_pcc
 
@@ -14,6 +15,7 @@ PYTHONPATH=$top/bench python3 -B - "$top" "$room" "${1:-5}" <<'PYTHON'
 import collections
 import os
 import re
+import shutil
 import subprocess
 import sys
 
@@ -76,10 +78,14 @@ WAYS = {
     "`gcc -m32 -O0 -S`": lambda path: ["gcc", "-m32", "-O0", "-w", "-S", "-o", f"{ROOM}/out.s", path],
     "`gcc -m32 -fsyntax-only`": lambda path: ["gcc", "-m32", "-w", "-fsyntax-only", path],
 }
+if shutil.which("i386-tcc"):
+    WAYS["`i386-tcc -c`"] = lambda path: ["i386-tcc", "-w", "-c", "-o", f"{ROOM}/out.o", path]
+else:
+    print("i386-tcc isn't installed: its rows are left out")
 
 
-def beside_gcc(sources):
-    """The rows of pcc and gcc on each source."""
+def beside_others(sources):
+    """The rows of pcc and of the other compilers on each source."""
     print("| command | tokens | time | time for a token | memory at most | pcc's time beside it |")
     print("|---|---|---|---|---|---|")
     own = {}
@@ -150,7 +156,7 @@ def main():
         text = "".join(BODY % (number, number, number) for number in range(functions)) + MAIN
         texts[len(TOKEN.findall(text))] = text
     sources = {tokens: made(f"{tokens}.c", text) for tokens, text in texts.items()}
-    beside_gcc(sources)
+    beside_others(sources)
     by_pass(texts)
     for tokens, path in sources.items():
         by_storey(tokens, path)

@@ -1,9 +1,10 @@
 #!/bin/sh
 # Measures the front: the time a token of the lexer, the parser and typing, and the memory that each needs at its
-# peak, over a source of about 6,000 tokens and one of about 60,000, beside gcc on the same text; and the stack that
-# the deepest nests take to be read. A small program that calls `lex`, `parse` and `check` is made, proved and built
-# in a temporary folder, which is removed at the end. What earlier checks kept of the crates is copied with them: call
-# `rt all check` first. With the word `reading` typing is left out, and its crates aren't needed.
+# peak, over a source of about 6,000 tokens and one of about 60,000, beside gcc and tcc on the same text; and the
+# stack that the deepest nests take to be read. A small program that calls `lex`, `parse` and `check` is made, proved
+# and built in a temporary folder, which is removed at the end. What earlier checks kept of the crates is copied with
+# them: call `rt all check` first. With the word `reading` typing is left out, and its crates aren't needed. It wants
+# python3, gcc for i386 and GNU time; without i386-tcc the rows of tcc are left out.
 . "$(dirname "$(readlink -f "$0")")/start.sh"
 
 case "$*" in
@@ -126,6 +127,7 @@ program=$room/crates/reading/out/reading
 python3 -B - "$program" "$calls" <<'PYTHON'
 import os
 import resource
+import shutil
 import subprocess
 import sys
 
@@ -196,13 +198,28 @@ def front(text):
 
 
 GCC = ["gcc", "-std=c99", "-w", "-m32"]
+# what else takes the same text, by the name of its rows
+BESIDE = {
+    "gcc -fsyntax-only": [*GCC, "-fsyntax-only", "text.c"],
+    "gcc -O0 -S": [*GCC, "-O0", "-S", "-o", "text.s", "text.c"],
+}
+if shutil.which("i386-tcc"):
+    BESIDE["i386-tcc -c"] = ["i386-tcc", "-w", "-c", "-o", "text.o", "text.c"]
+else:
+    print("i386-tcc isn't installed: its rows are left out")
+
+
+def most_of(words):
+    """The most memory that a command has at once, in bytes."""
+    subprocess.run(["time", "-f", "%M", "-o", "most", *words], check=True)
+    return int(open("most").read()) * 1024
+
+
 nothing = "int main(void) { return 0; }\n"
 _, _, at_start = front(nothing)
 write(nothing, 2)
 whole_start = best([PROGRAM])
-gcc_start = {}
-for words in (["-fsyntax-only"], ["-O0", "-S", "-o", "text.s"]):
-    gcc_start[words[0]] = best(GCC + words + ["text.c"])
+start_of = {name: (best(words), most_of(words)) for name, words in BESIDE.items()}
 
 rates = []
 for functions in (54, 540):
@@ -216,10 +233,12 @@ for functions in (54, 540):
     whole = best([PROGRAM])
     rest = (whole - whole_start) / tokens
     print(f"  lex and parse, the whole call: {whole / tokens * 1e9:.0f} ns a token, {rest * 1e9:.0f} without its start")
-    for words in (["-fsyntax-only"], ["-O0", "-S", "-o", "text.s"]):
-        taken = best(GCC + words + ["text.c"])
-        rest = (taken - gcc_start[words[0]]) / tokens
-        print(f"  gcc {words[0]}: {taken / tokens * 1e9:.0f} ns a token, {rest * 1e9:.0f} without its start")
+    for name, words in BESIDE.items():
+        taken, most = best(words), most_of(words)
+        start_time, start_most = start_of[name]
+        rest, room = (taken - start_time) / tokens, (most - start_most) / tokens
+        print(f"  {name}: {taken / tokens * 1e9:.0f} ns a token, {rest * 1e9:.0f} without its start; peak of memory"
+              f" {room:.0f} bytes a token; lex and parse take {whole / taken:.2f} of its time")
 print(f"lex and parse of a token of the large text take {rates[1] / rates[0]:.2f} times as long as of the small one")
 
 # The least stack with which each nest of height 256 is read, by halving.

@@ -1,42 +1,21 @@
 -- The longest punctuator is a piece.
-use Rattle.std.proofs.Common.{◌≡◌, ◌≢◌, ◌<◌, ◌≤◌, inl, inr, ℕ, zero, suc, Bool, true, false, List, [], ◌∷◌, ◌++◌, take}
-use Rattle.std.proofs.Common.{drop, length, sym, ◌∙◌, ap, subst, rules, arith, IsFalse}
-use Rattle.std.specs.List.{AllByRecursion, Contains}
-use Rattle.std.proofs.lemmas.List.{take-append-drop, length-take-le}
+use Rattle.std.proofs.Common.{◌≡◌, ◌≢◌, ◌<◌, ◌≤◌, inl, inr, ℕ, zero, suc, Bool, true, false, List, [], ◌∷◌, take}
+use Rattle.std.proofs.Common.{length, get_or, refl, sym, ◌∙◌, ap, subst, arith, IsFalse}
+use Rattle.std.proofs.lemmas.List.{length-take-le}
 use Rattle.c_lexer.specs.declared.token.TokenKind.TheVariants as kinds
 use Rattle.c_lexer.specs.declared.token.Punct.{Punct}
 use Rattle.c_lexer.specs.declared.token.Punct.TheVariants as marks
-use Rattle.c_lexer.specs.declared.marks.TheConstants.{THREES, TWOS, ONES}
 use Rattle.c_lexer.specs.Bytes.{is_letter, is_space}
 use Rattle.c_lexer.specs.Spellings.{mark_text, IsMark, IsDigraph}
 use Rattle.c_lexer.specs.Literals.{StartsNumber}
 use Rattle.c_lexer.specs.Pieces.{Piece, Spelled, IsPiece, IsBarred, Begins, NoneBegins}
-use Rattle.c_lexer.proofs.Fronts.{front_of}
-use Rattle.c_lexer.proofs.Rows.{all_map, all_contains}
 use Rattle.c_lexer.proofs.FirstBytes.{Kind, Spaced, Slashed, Hashed, Worded, Numbered, Quoted, DoubleQuoted, Marked}
 use Rattle.c_lexer.proofs.FirstBytes.{kind_of}
 
--- what holds of each mark of the tables holds of each mark
-every_mark : (P : Punct → Type 0) → AllByRecursion P THREES → AllByRecursion P TWOS → AllByRecursion P ONES
-    → (mark : Punct) → P mark
-every_mark P threes twos ones marks.Dot = search rules
-every_mark P threes twos ones _ = search rules
-
--- the mark is spelled by n bytes
-abbrev HasLength : ℕ → Punct → Type 0
-HasLength n mark = length (mark_text mark) ≡ n
-
--- the table of three bytes is what it says
-threes_length : AllByRecursion (HasLength 3) THREES
-threes_length = search rules
-
--- the table of two bytes is what it says
-twos_length : AllByRecursion (HasLength 2) TWOS
-twos_length = search rules
-
--- the table of one byte is what it says
-ones_length : AllByRecursion (HasLength 1) ONES
-ones_length = search rules
+-- no spelling of a mark is empty or longer than three bytes
+text_length : (mark : Punct) → (0 < length (mark_text mark)) × (length (mark_text mark) ≤ 3)
+text_length marks.Dot = (omega arith, omega arith)
+text_length _ = (omega arith, omega arith)
 
 -- a digraph is two bytes long
 digraph_length : (mark : Punct) (bytes : List ℕ) → IsDigraph mark bytes → length bytes ≡ 2
@@ -46,136 +25,118 @@ digraph_length marks.LeftBrace bytes h = ap length h
 digraph_length marks.RightBrace bytes h = ap length h
 digraph_length _ bytes h = absurd h
 
--- the mark's spelling doesn't begin the rest
-abbrev pub NotAt : List ℕ → Punct → Type 0
-NotAt rest mark = (others : List ℕ) → rest ≢ mark_text mark ++ others
+-- so a mark has one to three bytes
+mark_length : (mark : Punct) (bytes : List ℕ) → IsMark mark bytes → (0 < length bytes) × (length bytes ≤ 3)
+mark_length mark bytes (inl e) = subst (λ b. (0 < length b) × (length b ≤ 3)) (sym e) (text_length mark)
+mark_length mark bytes (inr d) =
+    let two : length bytes ≡ 2 = digraph_length mark bytes d in (omega arith, omega arith)
 
--- nor does it, if it is longer than this
-abbrev NotAtBeyond : ℕ → List ℕ → Punct → Type 0
-NotAtBeyond low rest mark = low < length (mark_text mark) → NotAt rest mark
-
--- no digraph begins the rest
-abbrev pub NoDigraphAt : List ℕ → Type 0
-NoDigraphAt rest = (mark : Punct) (bytes others : List ℕ) → IsDigraph mark bytes → rest ≢ bytes ++ others
+-- no mark is spelled by the first n bytes
+abbrev pub NoneOf : ℕ → List ℕ → Type 0
+NoneOf n rest = n ≤ length rest → (mark : Punct) → IsMark mark (take n rest) → ⊥
 
 -- no mark that is longer than this begins the rest
 abbrev pub NoneBeyond : ℕ → List ℕ → Type 0
 NoneBeyond low rest = (mark : Punct) (n : ℕ) → low < n → n ≤ length rest → IsMark mark (take n rest) → ⊥
 
--- no spelling and no digraph that is longer: so no mark is
-none_beyond : (low : ℕ) (rest : List ℕ) → ((mark : Punct) → NotAtBeyond low rest mark) → (low < 2 → NoDigraphAt rest)
-    → NoneBeyond low rest
-none_beyond low rest texts digraphs mark n below within (inl e) =
-    let size : length (take n rest) ≡ n = length-take-le n rest within in
-    let size_too : length (take n rest) ≡ length (mark_text mark) = ap length e in
-    texts mark (omega arith) (drop n rest) (sym (take-append-drop n rest) ∙ ap (λ x. x ++ drop n rest) e)
-none_beyond low rest texts digraphs mark n below within (inr d) =
-    let size : length (take n rest) ≡ n = length-take-le n rest within in
-    let two : length (take n rest) ≡ 2 = digraph_length mark (take n rest) d in
-    digraphs (omega arith) mark (take n rest) (drop n rest) d (sym (take-append-drop n rest))
+-- no longer mark of one, two or three bytes: so no longer mark
+pub none_beyond : (low : ℕ) (rest : List ℕ) → (low < 3 → NoneOf 3 rest) → (low < 2 → NoneOf 2 rest)
+    → (low < 1 → NoneOf 1 rest) → NoneBeyond low rest
+none_beyond low rest threes twos ones mark zero below within h = omega arith
+none_beyond low rest threes twos ones mark (suc zero) below within h = ones (omega arith) within mark h
+none_beyond low rest threes twos ones mark (suc (suc zero)) below within h = twos (omega arith) within mark h
+none_beyond low rest threes twos ones mark (suc (suc (suc zero))) below within h = threes (omega arith) within mark h
+none_beyond low rest threes twos ones mark (suc (suc (suc (suc n)))) below within h =
+    let size = length-take-le (suc (suc (suc (suc n)))) rest within in
+    let most = mark_length mark _ h in
+    omega (arith, size, most.1)
 
--- marks that are short enough aren't longer
-short : (low n : ℕ) (rest : List ℕ) → n ≤ low → (table : List Punct) → AllByRecursion (HasLength n) table
-    → AllByRecursion (NotAtBeyond low rest) table
-short low n rest h table all =
-    all_map (HasLength n) (NotAtBeyond low rest) (λ mark size below. absurd (omega arith)) table all
+-- where too few bytes are left, these spell no mark
+pub none_of_few : (n : ℕ) (rest : List ℕ) → length rest < n → NoneOf n rest
+none_of_few n rest few within = absurd (omega arith)
 
--- a table whose spellings all fail has no longer one
-tried : (low : ℕ) (rest : List ℕ) (table : List Punct) → AllByRecursion (NotAt rest) table
-    → AllByRecursion (NotAtBeyond low rest) table
-tried low rest table all = all_map (NotAt rest) (NotAtBeyond low rest) (λ mark h below. h) table all
+-- the first byte
+front_one : (rest : List ℕ) → 0 < length rest → take 1 rest ≡ get_or rest 0 0 ∷ []
+front_one [] h = absurd (omega arith)
+front_one (a ∷ rest) h = refl
 
--- no mark has more than three bytes
-pub none_beyond_three : (rest : List ℕ) → NoneBeyond 3 rest
-none_beyond_three rest =
-    none_beyond 3 rest
-    (every_mark (NotAtBeyond 3 rest) (short 3 3 rest (omega arith) THREES threes_length)
-    (short 3 2 rest (omega arith) TWOS twos_length) (short 3 1 rest (omega arith) ONES ones_length))
-    (λ h. absurd (omega arith))
+-- the first two bytes
+front_two : (rest : List ℕ) → 1 < length rest → take 2 rest ≡ get_or rest 0 0 ∷ get_or rest 1 0 ∷ []
+front_two [] h = absurd (omega arith)
+front_two (a ∷ []) h = absurd (omega arith)
+front_two (a ∷ b ∷ rest) h = refl
 
--- where the table of three fails, no mark has more than two
-pub none_beyond_two : (rest : List ℕ) → AllByRecursion (NotAt rest) THREES → NoneBeyond 2 rest
-none_beyond_two rest threes =
-    none_beyond 2 rest
-    (every_mark (NotAtBeyond 2 rest) (tried 2 rest THREES threes) (short 2 2 rest (omega arith) TWOS twos_length)
-    (short 2 1 rest (omega arith) ONES ones_length))
-    (λ h. absurd (omega arith))
+-- the first three bytes
+front_three : (rest : List ℕ) → 2 < length rest
+    → take 3 rest ≡ get_or rest 0 0 ∷ get_or rest 1 0 ∷ get_or rest 2 0 ∷ []
+front_three [] h = absurd (omega arith)
+front_three (a ∷ []) h = absurd (omega arith)
+front_three (a ∷ b ∷ []) h = absurd (omega arith)
+front_three (a ∷ b ∷ c ∷ rest) h = refl
 
--- where those of two fail as well, no mark has more than one
-pub none_beyond_one : (rest : List ℕ) → AllByRecursion (NotAt rest) THREES → NoDigraphAt rest
-    → AllByRecursion (NotAt rest) TWOS → NoneBeyond 1 rest
-none_beyond_one rest threes digraphs twos =
-    none_beyond 1 rest
-    (every_mark (NotAtBeyond 1 rest) (tried 1 rest THREES threes) (tried 1 rest TWOS twos)
-    (short 1 1 rest (omega arith) ONES ones_length))
-    (λ h. digraphs)
+-- bytes at the front that spell no mark
+none_of : (n : ℕ) (rest bytes : List ℕ) → take n rest ≡ bytes → ((mark : Punct) → IsMark mark bytes → ⊥) → NoneOf n rest
+none_of n rest bytes e none within mark h = none mark (subst (IsMark mark) e h)
 
--- where all the tables fail, no mark has a byte
-pub none_beyond_zero : (rest : List ℕ) → AllByRecursion (NotAt rest) THREES → NoDigraphAt rest
-    → AllByRecursion (NotAt rest) TWOS → AllByRecursion (NotAt rest) ONES → NoneBeyond 0 rest
-none_beyond_zero rest threes digraphs twos ones =
-    none_beyond 0 rest
-    (every_mark (NotAtBeyond 0 rest) (tried 0 rest THREES threes) (tried 0 rest TWOS twos) (tried 0 rest ONES ones))
-    (λ h. digraphs)
+-- the first byte spells no mark
+pub none_of_one : (rest : List ℕ) → 0 < length rest
+    → ((mark : Punct) → IsMark mark (get_or rest 0 0 ∷ []) → ⊥) → NoneOf 1 rest
+none_of_one rest h none = none_of 1 rest _ (front_one rest h) none
+
+-- the first two bytes spell no mark
+pub none_of_two : (rest : List ℕ) → 1 < length rest
+    → ((mark : Punct) → IsMark mark (get_or rest 0 0 ∷ get_or rest 1 0 ∷ []) → ⊥) → NoneOf 2 rest
+none_of_two rest h none = none_of 2 rest _ (front_two rest h) none
+
+-- the first three bytes spell no mark
+pub none_of_three : (rest : List ℕ) → 2 < length rest
+    → ((mark : Punct)
+    → IsMark mark (get_or rest 0 0 ∷ get_or rest 1 0 ∷ get_or rest 2 0 ∷ []) → ⊥)
+    → NoneOf 3 rest
+none_of_three rest h none = none_of 3 rest _ (front_three rest h) none
 
 -- what is said of the longest mark at the front
 abbrev pub IsLongest : List ℕ → ℕ → Punct → Type 0
 IsLongest rest n mark = (0 < n) × (n ≤ length rest) × IsMark mark (take n rest) × NoneBeyond n rest
 
--- a spelling at the front is the longest mark if no longer one is there
-longest : (rest : List ℕ) (n : ℕ) (mark : Punct) → 0 < n → NoneBeyond n rest → HasLength n mark
-    → ((others : List ℕ) × (rest ≡ mark_text mark ++ others)) → IsLongest rest n mark
-longest rest n mark positive beyond size at =
-    let f = front_of rest (mark_text mark) at.0 n at.1 size in (positive, f.0, inl f.1, beyond)
+-- a mark of one byte is the longest, where none of two and three is there
+pub longest_one : (rest : List ℕ) (mark : Punct) → 0 < length rest → NoneOf 3 rest → NoneOf 2 rest
+    → IsMark mark (get_or rest 0 0 ∷ []) → IsLongest rest 1 mark
+longest_one rest mark h threes twos is = (
+  omega arith,
+  omega arith,
+  subst (IsMark mark) (sym (front_one rest h)) is,
+  none_beyond 1 rest (λ _. threes) (λ _. twos) (λ l. absurd (omega arith)),
+)
 
--- the mark's spelling begins the rest
-abbrev pub IsAt : List ℕ → Punct → Type 0
-IsAt rest mark = (others : List ℕ) × (rest ≡ mark_text mark ++ others)
+-- one of two, where none of three is there
+pub longest_two : (rest : List ℕ) (mark : Punct) → 1 < length rest → NoneOf 3 rest
+    → IsMark mark (get_or rest 0 0 ∷ get_or rest 1 0 ∷ []) → IsLongest rest 2 mark
+longest_two rest mark h threes is = (
+  omega arith,
+  omega arith,
+  subst (IsMark mark) (sym (front_two rest h)) is,
+  none_beyond 2 rest (λ _. threes) (λ l. absurd (omega arith)) (λ l. absurd (omega arith)),
+)
 
--- a mark of the table of three is the longest
-pub longest_three : (rest : List ℕ) (mark : Punct) → Contains THREES mark → IsAt rest mark → IsLongest rest 3 mark
-longest_three rest mark h at =
-    longest rest 3 mark (omega arith) (none_beyond_three rest) (all_contains (HasLength 3) THREES mark threes_length h)
-    at
+-- one of three
+pub longest_three : (rest : List ℕ) (mark : Punct) → 2 < length rest
+    → IsMark mark (get_or rest 0 0 ∷ get_or rest 1 0 ∷ get_or rest 2 0 ∷ [])
+    → IsLongest rest 3 mark
+longest_three rest mark h is = (
+  omega arith,
+  omega arith,
+  subst (IsMark mark) (sym (front_three rest h)) is,
+  none_beyond 3 rest (λ l. absurd (omega arith)) (λ l. absurd (omega arith)) (λ l. absurd (omega arith)),
+)
 
--- a digraph is the longest where the table of three fails
-pub longest_digraph : (rest : List ℕ) (mark : Punct) → AllByRecursion (NotAt rest) THREES
-    → ((bytes others : List ℕ) × IsDigraph mark bytes × (rest ≡ bytes ++ others)) → IsLongest rest 2 mark
-longest_digraph rest mark threes at =
-    let f = front_of rest at.0 at.1 2 at.3 (digraph_length mark at.0 at.2) in
-    (omega arith, f.0, inr (subst (IsDigraph mark) (sym f.1) at.2), none_beyond_two rest threes)
-
--- and so is a mark of the table of two
-pub longest_two : (rest : List ℕ) (mark : Punct) → AllByRecursion (NotAt rest) THREES → Contains TWOS mark
-    → IsAt rest mark → IsLongest rest 2 mark
-longest_two rest mark threes h at =
-    longest rest 2 mark (omega arith) (none_beyond_two rest threes) (all_contains (HasLength 2) TWOS mark twos_length h)
-    at
-
--- and a mark of one byte, where those of two fail as well
-pub longest_one : (rest : List ℕ) (mark : Punct) → AllByRecursion (NotAt rest) THREES → NoDigraphAt rest
-    → AllByRecursion (NotAt rest) TWOS → Contains ONES mark → IsAt rest mark → IsLongest rest 1 mark
-longest_one rest mark threes digraphs twos h at =
-    longest rest 1 mark (omega arith) (none_beyond_one rest threes digraphs twos)
-    (all_contains (HasLength 1) ONES mark ones_length h) at
-
--- no spelling is empty
-no_empty_text : (mark : Punct) → [] ≢ mark_text mark
-no_empty_text marks.Dot e = cc
-no_empty_text _ e = cc
-
--- no mark is empty
-no_empty_mark : (mark : Punct) → IsMark mark [] → ⊥
-no_empty_mark mark (inl e) = no_empty_text mark e
-no_empty_mark mark (inr d) = let two : length {A = ℕ} [] ≡ 2 = digraph_length mark [] d in cc
-
--- where all the tests fail no mark begins the rest
-pub none_at_all : (rest : List ℕ) → AllByRecursion (NotAt rest) THREES → NoDigraphAt rest
-    → AllByRecursion (NotAt rest) TWOS → AllByRecursion (NotAt rest) ONES → (mark : Punct) (n : ℕ) → n ≤ length rest
-    → IsMark mark (take n rest) → ⊥
-none_at_all rest threes digraphs twos ones mark zero within h = no_empty_mark mark h
-none_at_all rest threes digraphs twos ones mark (suc n) within h =
-    none_beyond_zero rest threes digraphs twos ones mark (suc n) (omega arith) within h
+-- where all of them fail no mark begins the rest
+pub none_at_all : (rest : List ℕ) → NoneOf 3 rest → NoneOf 2 rest → NoneOf 1 rest → (mark : Punct) (n : ℕ)
+    → n ≤ length rest → IsMark mark (take n rest) → ⊥
+none_at_all rest threes twos ones mark zero within h =
+    let few = mark_length mark _ h in omega (arith, few.0)
+none_at_all rest threes twos ones mark (suc n) within h =
+    none_beyond 0 rest (λ _. threes) (λ _. twos) (λ _. ones) mark (suc n) (omega arith) within h
 
 -- the first byte is one with which only marks begin
 abbrev pub IsMarkByte : ℕ → Type 0

@@ -15,12 +15,6 @@ pub more : {X : Type 0} (P : X → Type 0) (xs : List X) (i : ℕ) (d : X) → i
     → P (get_or xs i d) → AllByRecursion P (take (i + 1) xs)
 more P xs i d h all here = subst (λ n. AllByRecursion P (take n xs)) (sym (add-one i)) (more_suc P xs i d h all here)
 
--- what follows for each element from what holds of each
-pub all_map : {X : Type 0} (P Q : X → Type 0) → ((x : X) → P x → Q x) → (xs : List X) → AllByRecursion P xs
-    → AllByRecursion Q xs
-all_map P Q f [] all = tt
-all_map P Q f (x ∷ xs) all = (f x all.0, all_map P Q f xs all.1)
-
 -- what holds of each element holds of the one at a place
 all_at : {X : Type 0} (P : X → Type 0) (xs : List X) (k : ℕ) (x : X) → k < length xs → get_or xs k x ≡ x
     → AllByRecursion P xs → P x

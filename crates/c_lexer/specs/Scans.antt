@@ -7,6 +7,8 @@ use Rattle.pcc_base.specs.declared.refusal.Refusal.TheVariants as refusals
 use Rattle.c_lexer.specs.declared.token.Token.{Token}
 use Rattle.c_lexer.specs.declared.scanner.Scanned.{Scanned}
 use Rattle.c_lexer.specs.declared.scanner.Scanned.TheVariants as scanned
+use Rattle.c_lexer.specs.declared.token.Punct.{Punct}
+use Rattle.c_lexer.specs.Spellings.{IsMark}
 use Rattle.c_lexer.specs.Pieces.{Piece, Space, Comment, Skipped, Spelled, Begins, NoneBegins}
 use Rattle.c_lexer.specs.Tokens.{HasFault, BeginsWith}
 
@@ -33,3 +35,8 @@ IsRefused file text most (refusals.Limit (Tokens n)) =
     (n ≡ most + 1) × ((before : List Token) × BeginsWith file text before × (length before ≡ most + 1))
 IsRefused file text most refusals.NoMemory = ⊤
 IsRefused file text most _ = ⊥
+
+-- the punctuator that the bytes spell, or that they spell none
+abbrev pub IsMarkOf : List ℕ → Option Punct → Type 0
+IsMarkOf bytes None = (mark : Punct) → IsMark mark bytes → ⊥
+IsMarkOf bytes (Some mark) = IsMark mark bytes

@@ -1,157 +1,87 @@
-ghost use Rattle.std.specs.Prelude.{◌≡◌, ◌≢◌, ◌<◌, ◌≤◌, ◌∷◌, ◌++◌, ℕ, List, Bool, IsFalse, MatchOption, Contains};
-ghost use Rattle.std.specs.Prelude.{length, take};
-ghost use Rattle.std.specs.List.{AllByRecursion};
+ghost use Rattle.std.specs.Prelude.{◌≡◌, ◌≢◌, ◌<◌, ◌≤◌, [], ◌∷◌, ℕ, List, Bool, IsFalse, MatchOption, length, take};
 ghost use Rattle.pcc_base.specs.Ascii.{apostrophe, double_quote, hash, slash};
 ghost use Rattle.c_lexer.specs.Bytes.{is_letter, is_space};
 ghost use Rattle.c_lexer.specs.Literals.{StartsNumber};
-ghost use Rattle.c_lexer.specs.Scans.{IsFound};
-ghost use Rattle.c_lexer.specs.Spellings.{mark_text, IsMark, IsDigraph};
+ghost use Rattle.c_lexer.specs.Scans.{IsFound, IsMarkOf};
+ghost use Rattle.c_lexer.specs.Spellings.{IsMark};
 
 use crate::scanner::Scanned;
 use crate::token::{Punct, TokenKind};
 
-/// The punctuators of three bytes (C99 6.4.6).
-const THREES: [Punct; 3] = [
-    Punct::Ellipsis,
-    Punct::ShiftLeftEqual,
-    Punct::ShiftRightEqual,
-];
-
-/// The punctuators of two bytes, without the digraphs.
-const TWOS: [Punct; 19] = [
-    Punct::Arrow,
-    Punct::PlusPlus,
-    Punct::MinusMinus,
-    Punct::ShiftLeft,
-    Punct::ShiftRight,
-    Punct::LessEqual,
-    Punct::GreaterEqual,
-    Punct::EqualEqual,
-    Punct::BangEqual,
-    Punct::AndAnd,
-    Punct::OrOr,
-    Punct::StarEqual,
-    Punct::SlashEqual,
-    Punct::PercentEqual,
-    Punct::PlusEqual,
-    Punct::MinusEqual,
-    Punct::AndEqual,
-    Punct::CaretEqual,
-    Punct::OrEqual,
-];
-
-/// The punctuators of one byte.
-const ONES: [Punct; 24] = [
-    Punct::LeftBracket,
-    Punct::RightBracket,
-    Punct::LeftParen,
-    Punct::RightParen,
-    Punct::LeftBrace,
-    Punct::RightBrace,
-    Punct::Dot,
-    Punct::And,
-    Punct::Star,
-    Punct::Plus,
-    Punct::Minus,
-    Punct::Tilde,
-    Punct::Bang,
-    Punct::Slash,
-    Punct::Percent,
-    Punct::Less,
-    Punct::Greater,
-    Punct::Caret,
-    Punct::Or,
-    Punct::Question,
-    Punct::Colon,
-    Punct::Semicolon,
-    Punct::Equal,
-    Punct::Comma,
-];
-
-/// The spelling of a punctuator that is no digraph.
-fn spelling(mark: Punct) -> &'static [u8]
-    ensures { result.now ≡ mark_text mark }
+/// The punctuator of three bytes (C99 6.4.6).
+fn mark_of_three(first: u8, second: u8, third: u8) -> Option<Punct>
+    ensures { IsMarkOf (first ∷ second ∷ third ∷ []) result }
 {
-    match mark {
-        Punct::LeftBracket => b"[",
-        Punct::RightBracket => b"]",
-        Punct::LeftParen => b"(",
-        Punct::RightParen => b")",
-        Punct::LeftBrace => b"{",
-        Punct::RightBrace => b"}",
-        Punct::Dot => b".",
-        Punct::Arrow => b"->",
-        Punct::PlusPlus => b"++",
-        Punct::MinusMinus => b"--",
-        Punct::And => b"&",
-        Punct::Star => b"*",
-        Punct::Plus => b"+",
-        Punct::Minus => b"-",
-        Punct::Tilde => b"~",
-        Punct::Bang => b"!",
-        Punct::Slash => b"/",
-        Punct::Percent => b"%",
-        Punct::ShiftLeft => b"<<",
-        Punct::ShiftRight => b">>",
-        Punct::Less => b"<",
-        Punct::Greater => b">",
-        Punct::LessEqual => b"<=",
-        Punct::GreaterEqual => b">=",
-        Punct::EqualEqual => b"==",
-        Punct::BangEqual => b"!=",
-        Punct::Caret => b"^",
-        Punct::Or => b"|",
-        Punct::AndAnd => b"&&",
-        Punct::OrOr => b"||",
-        Punct::Question => b"?",
-        Punct::Colon => b":",
-        Punct::Semicolon => b";",
-        Punct::Ellipsis => b"...",
-        Punct::Equal => b"=",
-        Punct::StarEqual => b"*=",
-        Punct::SlashEqual => b"/=",
-        Punct::PercentEqual => b"%=",
-        Punct::PlusEqual => b"+=",
-        Punct::MinusEqual => b"-=",
-        Punct::ShiftLeftEqual => b"<<=",
-        Punct::ShiftRightEqual => b">>=",
-        Punct::AndEqual => b"&=",
-        Punct::CaretEqual => b"^=",
-        Punct::OrEqual => b"|=",
-        Punct::Comma => b",",
+    match (first, second, third) {
+        (b'.', b'.', b'.') => Some(Punct::Ellipsis),
+        (b'<', b'<', b'=') => Some(Punct::ShiftLeftEqual),
+        (b'>', b'>', b'=') => Some(Punct::ShiftRightEqual),
+        _ => None,
     }
 }
 
-/// The first mark of the table whose spelling begins the rest, and None where none does.
-fn spelled_at(table: &[Punct], rest: &[u8]) -> Option<Punct>
-    ensures { MatchOption result
-        (AllByRecursion (λ mark. (others : List ℕ) → rest.now ≢ mark_text mark ++ others) table.now)
-        (λ mark. Contains table.now mark × ((others : List ℕ) × (rest.now ≡ mark_text mark ++ others))) }
+/// The punctuator of two bytes, or the mark that a digraph spells (C99 6.4.6).
+fn mark_of_two(first: u8, second: u8) -> Option<Punct>
+    ensures { IsMarkOf (first ∷ second ∷ []) result }
 {
-    for mark in table {
-        if rest.starts_with(spelling(*mark)) {
-            return Some(*mark);
-        }
+    match (first, second) {
+        (b'-', b'>') => Some(Punct::Arrow),
+        (b'-', b'-') => Some(Punct::MinusMinus),
+        (b'-', b'=') => Some(Punct::MinusEqual),
+        (b'+', b'+') => Some(Punct::PlusPlus),
+        (b'+', b'=') => Some(Punct::PlusEqual),
+        (b'<', b'<') => Some(Punct::ShiftLeft),
+        (b'<', b'=') => Some(Punct::LessEqual),
+        (b'<', b':') => Some(Punct::LeftBracket),
+        (b'<', b'%') => Some(Punct::LeftBrace),
+        (b'>', b'>') => Some(Punct::ShiftRight),
+        (b'>', b'=') => Some(Punct::GreaterEqual),
+        (b'&', b'&') => Some(Punct::AndAnd),
+        (b'&', b'=') => Some(Punct::AndEqual),
+        (b'|', b'|') => Some(Punct::OrOr),
+        (b'|', b'=') => Some(Punct::OrEqual),
+        (b'=', b'=') => Some(Punct::EqualEqual),
+        (b'!', b'=') => Some(Punct::BangEqual),
+        (b'*', b'=') => Some(Punct::StarEqual),
+        (b'/', b'=') => Some(Punct::SlashEqual),
+        (b'%', b'=') => Some(Punct::PercentEqual),
+        (b'%', b'>') => Some(Punct::RightBrace),
+        (b'^', b'=') => Some(Punct::CaretEqual),
+        (b':', b'>') => Some(Punct::RightBracket),
+        _ => None,
     }
-    None
 }
 
-/// The mark whose digraph begins the rest (C99 6.4.6), and None where none does.
-fn digraph_at(rest: &[u8]) -> Option<Punct>
-    ensures { MatchOption result
-        ((mark : Punct) (bytes others : List ℕ) → IsDigraph mark bytes → rest.now ≢ bytes ++ others)
-        (λ mark. (bytes others : List ℕ) × IsDigraph mark bytes × (rest.now ≡ bytes ++ others)) }
+/// The punctuator of one byte (C99 6.4.6).
+fn mark_of_one(first: u8) -> Option<Punct>
+    ensures { IsMarkOf (first ∷ []) result }
 {
-    if rest.starts_with(b"<:") {
-        Some(Punct::LeftBracket)
-    } else if rest.starts_with(b":>") {
-        Some(Punct::RightBracket)
-    } else if rest.starts_with(b"<%") {
-        Some(Punct::LeftBrace)
-    } else if rest.starts_with(b"%>") {
-        Some(Punct::RightBrace)
-    } else {
-        None
+    match first {
+        b'[' => Some(Punct::LeftBracket),
+        b']' => Some(Punct::RightBracket),
+        b'(' => Some(Punct::LeftParen),
+        b')' => Some(Punct::RightParen),
+        b'{' => Some(Punct::LeftBrace),
+        b'}' => Some(Punct::RightBrace),
+        b'.' => Some(Punct::Dot),
+        b'&' => Some(Punct::And),
+        b'*' => Some(Punct::Star),
+        b'+' => Some(Punct::Plus),
+        b'-' => Some(Punct::Minus),
+        b'~' => Some(Punct::Tilde),
+        b'!' => Some(Punct::Bang),
+        b'/' => Some(Punct::Slash),
+        b'%' => Some(Punct::Percent),
+        b'<' => Some(Punct::Less),
+        b'>' => Some(Punct::Greater),
+        b'^' => Some(Punct::Caret),
+        b'|' => Some(Punct::Or),
+        b'?' => Some(Punct::Question),
+        b':' => Some(Punct::Colon),
+        b';' => Some(Punct::Semicolon),
+        b'=' => Some(Punct::Equal),
+        b',' => Some(Punct::Comma),
+        _ => None,
     }
 }
 
@@ -162,16 +92,20 @@ fn longest_at(rest: &[u8]) -> Option<(usize, Punct)>
         (λ found. (0 < found.0) × (found.0 ≤ length rest.now) × IsMark found.1 (take found.0 rest.now)
         × ((mark : Punct) (n : ℕ) → found.0 < n → n ≤ length rest.now → IsMark mark (take n rest.now) → ⊥)) }
 {
-    if let Some(mark) = spelled_at(&THREES, rest) {
-        return Some((3, mark));
+    if rest.is_empty() {
+        return None;
     }
-    if let Some(mark) = digraph_at(rest) {
-        return Some((2, mark));
+    if rest.len() > 2 {
+        if let Some(mark) = mark_of_three(rest[0], rest[1], rest[2]) {
+            return Some((3, mark));
+        }
     }
-    if let Some(mark) = spelled_at(&TWOS, rest) {
-        return Some((2, mark));
+    if rest.len() > 1 {
+        if let Some(mark) = mark_of_two(rest[0], rest[1]) {
+            return Some((2, mark));
+        }
     }
-    let mark = spelled_at(&ONES, rest)?;
+    let mark = mark_of_one(rest[0])?;
     Some((1, mark))
 }
 

@@ -1,4 +1,4 @@
-ghost use Rattle.std.specs.Prelude.{◌≡◌, ◌≤◌, ◌∷◌, ℕ, List, Bool, IsTrue, length, take, drop, MatchOption};
+ghost use Rattle.std.specs.Prelude.{◌≡◌, ◌≤◌, ◌∷◌, ℕ, List, Bool, IsTrue, length, take, drop, MatchOption, Contains};
 ghost use Rattle.c_lexer.specs.Bytes.{is_letter, is_word_byte};
 ghost use Rattle.c_lexer.specs.Literals.{AllPass, StartsNot};
 ghost use Rattle.c_lexer.specs.Pieces.{IsNoKeyword};
@@ -9,47 +9,6 @@ use crate::scanner::Scanned;
 use crate::token::TokenKind;
 use pcc_base::{Keyword, Name, NoMemory};
 use std::alloc::Global;
-
-/// The keywords of C99 (6.4.1).
-const KEYWORDS: [Keyword; 37] = [
-    Keyword::Auto,
-    Keyword::Break,
-    Keyword::Case,
-    Keyword::Char,
-    Keyword::Const,
-    Keyword::Continue,
-    Keyword::Default,
-    Keyword::Do,
-    Keyword::Double,
-    Keyword::Else,
-    Keyword::Enum,
-    Keyword::Extern,
-    Keyword::Float,
-    Keyword::For,
-    Keyword::Goto,
-    Keyword::If,
-    Keyword::Inline,
-    Keyword::Int,
-    Keyword::Long,
-    Keyword::Register,
-    Keyword::Restrict,
-    Keyword::Return,
-    Keyword::Short,
-    Keyword::Signed,
-    Keyword::Sizeof,
-    Keyword::Static,
-    Keyword::Struct,
-    Keyword::Switch,
-    Keyword::Typedef,
-    Keyword::Union,
-    Keyword::Unsigned,
-    Keyword::Void,
-    Keyword::Volatile,
-    Keyword::While,
-    Keyword::Bool,
-    Keyword::Complex,
-    Keyword::Imaginary,
-];
 
 /// The spelling of a keyword.
 pub fn spelling(word: Keyword) -> &'static [u8]
@@ -96,13 +55,54 @@ pub fn spelling(word: Keyword) -> &'static [u8]
     }
 }
 
+/// The keywords that begin with this byte (C99 6.4.1).
+fn keywords_from(first: u8) -> &'static [Keyword]
+    ensures { (word : Keyword) (others : List ℕ) → keyword_text word ≡ first ∷ others → Contains result.now word }
+{
+    match first {
+        b'a' => &[Keyword::Auto],
+        b'b' => &[Keyword::Break],
+        b'c' => &[
+            Keyword::Case,
+            Keyword::Char,
+            Keyword::Const,
+            Keyword::Continue,
+        ],
+        b'd' => &[Keyword::Default, Keyword::Do, Keyword::Double],
+        b'e' => &[Keyword::Else, Keyword::Enum, Keyword::Extern],
+        b'f' => &[Keyword::Float, Keyword::For],
+        b'g' => &[Keyword::Goto],
+        b'i' => &[Keyword::If, Keyword::Inline, Keyword::Int],
+        b'l' => &[Keyword::Long],
+        b'r' => &[Keyword::Register, Keyword::Restrict, Keyword::Return],
+        b's' => &[
+            Keyword::Short,
+            Keyword::Signed,
+            Keyword::Sizeof,
+            Keyword::Static,
+            Keyword::Struct,
+            Keyword::Switch,
+        ],
+        b't' => &[Keyword::Typedef],
+        b'u' => &[Keyword::Union, Keyword::Unsigned],
+        b'v' => &[Keyword::Void, Keyword::Volatile],
+        b'w' => &[Keyword::While],
+        b'_' => &[Keyword::Bool, Keyword::Complex, Keyword::Imaginary],
+        _ => &[],
+    }
+}
+
 /// The keyword with this spelling, and None where no keyword has it.
 fn keyword_of(word: &[u8]) -> Option<Keyword>
     ensures { MatchOption result (IsNoKeyword word.now) (λ k. keyword_text k ≡ word.now) }
 {
-    for keyword in KEYWORDS {
-        if spelling(keyword) == word {
-            return Some(keyword);
+    if word.is_empty() {
+        return None;
+    }
+    let row = keywords_from(word[0]);
+    for keyword in row {
+        if spelling(*keyword) == word {
+            return Some(*keyword);
         }
     }
     None
