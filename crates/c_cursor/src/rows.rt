@@ -12,11 +12,13 @@ use c_syntax::{Pointer, Specifier, TextPiece};
 use pcc_base::{Keyword, Name, NoMemory, Span};
 use std::alloc::Global;
 
-/// Appends a value. The room grows from one value on and doubles, since most rows are short.
+/// Appends a value. The room grows from one value on, and by half, since most rows are short.
 pub fn push<T: Drop>(values: &mut Vec<T>, value: T) -> Result<(), NoMemory>
     ensures { OnOk result (values.new.items ≡ values.old.items ++ value ∷ []) }
 {
-    if values.len() == values.capacity() && values.reserve_exact(values.len().max(1)).is_err() {
+    if values.len() == values.capacity()
+        && values.reserve_exact((values.len() / 2).max(1)).is_err()
+    {
         return Err(NoMemory);
     }
     Ok(values.push(value)?)
