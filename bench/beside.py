@@ -1,4 +1,4 @@
-"""What a program does by gcc, by the evaluator of pcc, in its machine and on the kernel, for the scripts here."""
+"""What a program does by gcc or tcc, by the evaluator of pcc, in its machine and on the kernel, for the scripts here."""
 import os
 import signal
 import subprocess
@@ -12,7 +12,9 @@ SECONDS = 600
 # library but the three functions of start_i386.s.
 GCC = "gcc -m32 -std=c99 -w -O0 -fwrapv -fsigned-char -ftrivial-auto-var-init=zero -ffreestanding -fno-builtin".split()
 LINKED = "-nostdlib -static -no-pie -fno-pic -fno-stack-protector -fcf-protection=none".split()
-LINKED.append("-fno-asynchronous-unwind-tables")
+LINKED += "-fno-asynchronous-unwind-tables -Wl,-z,noexecstack".split()
+# Its sums wrap and its char is signed as they are; what no initialiser sets it leaves as it is.
+TCC = "i386-tcc -w -c".split()
 
 # How pcc tells the end of a program that a signal of the kernel ends
 SIGNALS = {signal.SIGFPE: "trap divide", signal.SIGILL: "trap check"}
@@ -54,10 +56,18 @@ def on_kernel(path, entered):
 
 
 def compile_by_gcc(sources, made):
-    """Makes an executable of these sources with gcc, for i386 as pcc does."""
+    """Makes an executable of these sources, or of objects, with gcc, for i386 as pcc does."""
     start = f"{made}.start.o"
     subprocess.run(["as", "--32", "-o", start, f"{BENCH}/start_i386.s"], check=True)
     subprocess.run([*GCC, *LINKED, "-o", made, *sources, start], check=True)
+
+
+def compile_by_tcc(sources, made):
+    """Makes an executable of these sources with tcc, whose objects are linked as those of gcc are."""
+    objects = [f"{made}.{number}.o" for number in range(len(sources))]
+    for source, object_file in zip(sources, objects):
+        subprocess.run([*TCC, "-o", object_file, source], check=True)
+    compile_by_gcc(objects, made)
 
 
 def compile_by_pcc(program, sources, made):

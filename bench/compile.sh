@@ -1,13 +1,14 @@
 #!/bin/sh
-# Measures `pcc compile` at about 6,000 and 60,000 tokens, beside `gcc -m32 -O0 -S`, `gcc -fsyntax-only` and, where it
-# is installed, `i386-tcc -c` on the same text: the processor's time, the shortest of several runs, the greatest memory,
-# and the time for a token. Then come the times up to the tokens, the tree and the types, from texts whose only fault
-# stands at their end, and how the samples that perf takes of the processor's clock fall to the storeys of crates.txt
-# and to their crates.
+# Measures `pcc compile` at about 6,000 and 60,000 tokens, beside `i386-tcc -c`, `gcc -m32 -O0 -S` and
+# `gcc -fsyntax-only` on the same text: the processor's time, the shortest of several runs, the greatest memory, and the
+# time for a token; and the same at 10,000 tokens, with 10 names in all and with as many names as functions of a person
+# have, beside tcc. Then come the times up to the tokens, the tree and the types, from texts whose only fault stands at
+# their end, and how the samples that perf takes of the processor's clock fall to the storeys of crates.txt and to their
+# crates.
 #
 # usage: bench/compile.sh [RUNS]     so many runs each, else 5
 #
-# It wants python3, gcc that makes code for i386, GNU time and perf; without i386-tcc its rows are left out.
+# It wants python3, tcc and gcc that make code for i386, GNU time and perf.
 . "$(dirname "$(readlink -f "$0")")/start.sh"
 build_pcc
 
@@ -15,7 +16,6 @@ PYTHONPATH=$top/bench python3 -B - "$top" "$room" "${1:-5}" <<'PYTHON'
 import collections
 import os
 import re
-import shutil
 import subprocess
 import sys
 
@@ -37,6 +37,18 @@ BODY = """static int function_%d(int first, const char *second)
 MAIN = 'int main(void)\n{\n    return function_0(3, "a\\nb");\n}\n'
 TOKEN = re.compile(r'[A-Za-z_]\w*|\d\w*|"[^"]*"|\'[^\']*\'|<<|\+\+|\+=|-=|>=|!=|&&|\S')
 FUNCTIONS = [54, 540]
+# What may stand between other statements of a function: its nine names are those of eight numbers, and of an array
+STATEMENTS = """    if (a < b && b != 7)
+        c = a * 3 + (b ^ d);
+    else
+        t[(a + e) & 63] += f >> 2;
+    for (e = g; e < d; e++)
+        h = h * 31 + t[e & 63];
+"""
+NUMBERS = "    int a = 1, b = 2, c = 3, d = 4, e = 5, f = 6, g = 7, h = 8;\n"
+NAME = re.compile(r"\b[a-ht]\b")
+MANY_MAIN = "int main(void)\n{\n    return function_0();\n}\n"
+WORDS = set("static int void if else for return".split())
 # What is put behind a text, and how far pcc then comes
 FAULTS = {"tokens": "@", "trees": "}", "types": "int last(void) { return missing; }", "the image and the map": ""}
 
@@ -73,19 +85,20 @@ def compiled(path):
     return [PROGRAM, "compile", "-o", f"{ROOM}/image", path]
 
 
+def by_tcc(path):
+    return ["i386-tcc", "-w", "-c", "-o", f"{ROOM}/out.o", path]
+
+
 WAYS = {
     "`pcc compile`": compiled,
+    "`i386-tcc -c`": by_tcc,
     "`gcc -m32 -O0 -S`": lambda path: ["gcc", "-m32", "-O0", "-w", "-S", "-o", f"{ROOM}/out.s", path],
     "`gcc -m32 -fsyntax-only`": lambda path: ["gcc", "-m32", "-w", "-fsyntax-only", path],
 }
-if shutil.which("i386-tcc"):
-    WAYS["`i386-tcc -c`"] = lambda path: ["i386-tcc", "-w", "-c", "-o", f"{ROOM}/out.o", path]
-else:
-    print("i386-tcc isn't installed: its rows are left out")
 
 
 def beside_others(sources):
-    """The rows of pcc and of the other compilers on each source."""
+    """The rows of pcc, tcc and gcc on each source."""
     print("| command | tokens | time | time for a token | memory at most | pcc's time beside it |")
     print("|---|---|---|---|---|---|")
     own = {}
@@ -95,6 +108,33 @@ def beside_others(sources):
             own.setdefault(tokens, time)
             row = f"{time * 1e3:.1f} ms | {time / tokens * 1e6:.2f} µs | {megabytes(words(path)):.1f} MB"
             print(f"| {way} | {tokens:,} | {row} | {own[tokens] / time:.2f} |", flush=True)
+
+
+def few_names(tokens):
+    """A text of one function, with ten names in all."""
+    head, end = "static int t[64];\nint main(void)\n{\n" + NUMBERS, "    return h;\n}\n"
+    left = tokens - len(TOKEN.findall(head + end))
+    return head + STATEMENTS * (left // len(TOKEN.findall(STATEMENTS))) + end
+
+
+def many_names(tokens):
+    """A text of functions, each of which has ten names of its own."""
+    one = "static int t[64];\nstatic int function(void)\n{\n" + NUMBERS + STATEMENTS + "    return h;\n}\n"
+    functions = range(tokens // len(TOKEN.findall(one)))
+    return "".join(re.sub("function", r"\g<0>_%d" % n, NAME.sub(r"\g<0>%d" % n, one)) for n in functions) + MANY_MAIN
+
+
+def by_names(tokens):
+    """The times of pcc and tcc on about so many tokens, with few names and with many."""
+    print("| text | tokens | names | `pcc compile` | `i386-tcc -c` | pcc's time beside it |")
+    print("|---|---|---|---|---|---|")
+    for what, text_of in (("one function", few_names), ("functions with ten names each", many_names)):
+        text = text_of(tokens)
+        path, found = made("names.c", text), TOKEN.findall(text)
+        names = {name for name in found if re.match(r"[A-Za-z_]", name)} - WORDS
+        own, other = seconds(compiled(path)), seconds(by_tcc(path))
+        times = f"{own * 1e3:.1f} ms | {other * 1e3:.1f} ms | {own / other:.2f}"
+        print(f"| {what} | {len(found):,} | {len(names):,} | {times} |", flush=True)
 
 
 def by_pass(texts):
@@ -157,6 +197,7 @@ def main():
         texts[len(TOKEN.findall(text))] = text
     sources = {tokens: made(f"{tokens}.c", text) for tokens, text in texts.items()}
     beside_others(sources)
+    by_names(10000)
     by_pass(texts)
     for tokens, path in sources.items():
         by_storey(tokens, path)

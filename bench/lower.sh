@@ -3,7 +3,8 @@
 # the word that is given) and of ten times as many. A small program is made in a temporary folder, which is removed at
 # the end, and tried by `rt try`: that proves nothing, and checks each access to memory, so its times are for comparison
 # with one another. It prints the tokens of each text, the points of its graphs, their instructions without the NOP of
-# each mark, and the time that `lower` takes. Beside them stand the instructions that `gcc -O0` makes of the same text.
+# each mark, and the time that `lower` takes. Beside them stand the instructions that `gcc -O0` and `i386-tcc` make of the
+# same text.
 . "$(dirname "$(readlink -f "$0")")/start.sh"
 
 mkdir -p "$room/crates/lowering/src" && cd "$room" && git init -q . || exit 1
@@ -199,4 +200,6 @@ rt try --seconds 600 -- *.c 2>lowering.log || { tail -5 lowering.log >&2; echo "
 for source in *.c; do
     gcc -m32 -O0 -w -fwrapv -fno-pie -fno-stack-protector -fno-asynchronous-unwind-tables -S -o made.s "$source" &&
         echo "$source: $(grep -c '^	[a-z]' made.s) instructions of gcc -O0"
+    i386-tcc -w -c -o made.o "$source" &&
+        echo "$source: $(objdump -d --no-show-raw-insn made.o | grep -c '^ .*:	') instructions of tcc"
 done
