@@ -1,14 +1,11 @@
--- Each local of a typed program is declared before it is named, so that nothing is live at first in its graphs.
+-- Each local of a typed program is declared before it is named.
 use Rattle.std.specs.Prelude.{List}
 use Rattle.std.specs.List.{AllByRecursion}
 use Rattle.c_grammar.specs.Grammar.{IsExternal}
 use Rattle.c_grammar.specs.Statements.{ExternalTree}
 use Rattle.c_tree.specs.Program.{Program}
-use Rattle.c_typing.specs.Laws.{AreSources}
 use Rattle.c_typing.specs.Typed.{Typed}
-use Rattle.lower_lines.specs.Programs.{lowered}
 use Rattle.lower_settled.specs.Declared.{IsDeclaredFirst}
-use Rattle.lower_settled.specs.Laws.{NothingLiveFirst}
 
 -- The typed program of raw trees of the grammar is so. It need not be within the limits, nor need the trees be those of
 -- a text.
@@ -19,8 +16,3 @@ LocalsAreDeclaredFirst = (units : List (List ExternalTree)) (p : Program)
 -- Not so of every raw tree: one that the grammar doesn't make has a typed program that isn't.
 abbrev pub GrammarIsNeeded : Type 0
 GrammarIsNeeded = (units : List (List ExternalTree)) × (p : Program) × Typed units p × (IsDeclaredFirst p → ⊥)
-
--- no variable is live at the first point of a function of its graphs
-abbrev pub NothingIsLiveFirst : Type 0
-NothingIsLiveFirst = (units : List (List ExternalTree)) (p : Program) → AreSources units → Typed units p
-    → NothingLiveFirst p (lowered p)

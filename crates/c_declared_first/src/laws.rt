@@ -1,6 +1,6 @@
 //! Laws of typed programs: each function's contract is a law, and the function does nothing.
 
-ghost use Rattle.c_declared_first.specs.Laws.{GrammarIsNeeded, LocalsAreDeclaredFirst, NothingIsLiveFirst};
+ghost use Rattle.c_declared_first.specs.Laws.{GrammarIsNeeded, LocalsAreDeclaredFirst};
 
 /// In the typed program of files each local but a parameter is declared before an expression names it, and no
 /// declaration stands directly in the block of a `switch` (C99 6.2.1p4 and p7, and 6.8.4.2 narrowed).
@@ -12,9 +12,4 @@ pub fn locals_are_declared_first()
 /// statement behind it names its local, has a typed program too.
 pub fn grammar_is_needed()
     ensures { GrammarIsNeeded }
-{}
-
-/// No variable is live at the first point of a function of the graphs that the lines of a typed program are.
-pub fn nothing_is_live_first()
-    ensures { NothingIsLiveFirst }
 {}

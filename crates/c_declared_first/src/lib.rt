@@ -1,7 +1,6 @@
-//! The laws that each local of a typed program is declared before it is named, and that nothing is live at first in its
-//! graphs. No code; `specs/Laws.antt` has the laws.
+//! The law that each local of a typed program is declared before it is named. No code; `specs/Laws.antt` has it.
 #![tactic(auto)]
 
 mod laws;
 
-pub use laws::{grammar_is_needed, locals_are_declared_first, nothing_is_live_first};
+pub use laws::{grammar_is_needed, locals_are_declared_first};
