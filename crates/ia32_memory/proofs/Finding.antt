@@ -1,18 +1,16 @@
 -- What an access finds, by where the first area stands that allows it.
 use Rattle.std.specs.Prelude.{◌≡◌, ℕ, suc, ◌+◌, ◌-◌, ◌<◌, ◌≤◌, Bool, true, false, List, [], ◌∷◌, length, take, drop}
-use Rattle.std.specs.Prelude.{map, get_or, Option, Some, None, is_some, option_map, position, if◌then◌else◌, refl}
-use Rattle.std.proofs.Common.{sym, ◌∙◌, ap, subst, inl, inr, arith, length-drop, length-append, length-take-le}
+use Rattle.std.specs.Prelude.{get_or, Option, Some, None, is_some, option_map, position, if◌then◌else◌, refl}
+use Rattle.std.proofs.Common.{sym, ◌∙◌, ap, subst, inl, inr, arith}
 use Rattle.std.proofs.lemmas.Bool.{cases_Bool, and_parts, leb-true}
 use Rattle.std.proofs.lemmas.Bool.Decides.{nat_tests}
-use Rattle.std.proofs.lemmas.List.{take_all, map-set}
 use Rattle.std.proofs.lemmas.List.Quantifiers.{position-Some}
 use Rattle.std.proofs.Math.ListN.{set}
-use Rattle.ia32_insn.specs.State as state
-use Rattle.ia32_insn.specs.State.{has_bytes, code_at, bytes_at, may_store, with_bytes, stored}
-use Rattle.ia32_memory.specs.declared.area.Area.{Area}
+use Rattle.ia32_insn.specs.State.{Area, has_bytes, code_at, bytes_at, may_store, with_bytes, stored}
 use Rattle.ia32_memory.specs.declared.area.Access.{Access}
 use Rattle.ia32_memory.specs.declared.area.Access.TheVariants.{Read, Write, Run}
-use Rattle.ia32_memory.specs.Areas.{allows, area_seen, IsArea}
+use Rattle.ia32_memory.specs.Areas.{allows, permits}
+use Rattle.ia32_memory.specs.Loans.{IsFound}
 
 -- ---- the first item that passes a test
 
@@ -74,165 +72,139 @@ is_some-picked p g (x ∷ xs) =
 -- ---- areas
 
 -- an area that allows an access has its bytes
-pub has-allowed : (access : Access) (address n : ℕ) (area : state.Area) → allows access address n area ≡ true
+pub has-allowed : (access : Access) (address n : ℕ) (area : Area) → allows access address n area ≡ true
     → has_bytes area address n ≡ true
 has-allowed Read address n area e = (and_parts _ _ e).1
 has-allowed Write address n area e = (and_parts _ _ e).1
 has-allowed Run address n area e = (and_parts _ _ e).1
 
-pub within-has : (address n : ℕ) (area : state.Area) → has_bytes area address n ≡ true → (area.address ≤ address)
-    × (address + n ≤ area.address + length area.bytes)
-within-has address n area e = (leb-true _ _ (and_parts _ _ e).0, leb-true _ _ (and_parts _ _ e).1)
+-- what a search over a slice of these areas answers
+pub told-of : (access : Access) (address n : ℕ) (areas slice : List Area) (o found : Option ℕ) → slice ≡ areas
+    → o ≡ position (λ area. allows access address n area) slice → o ≡ found
+    → position (λ area. allows access address n area) areas ≡ found
+told-of access address n areas slice o found same told is =
+    sym (ap (λ (l : List Area). position (λ area. allows access address n area) l) same) ∙ sym told ∙ is
 
--- the area at the place has the bytes
-pub within-place : (access : Access) (address n i : ℕ) (areas : List Area) (d : Area)
-    → position (λ area. allows access address n (area_seen area)) areas ≡ Some i
-    → (i < length areas) × ((get_or areas i d).address ≤ address)
-    × (address + n ≤ (get_or areas i d).address + length (get_or areas i d).bytes.items)
-within-place access address n i areas d e =
-    let at = position-Some (λ area. allows access address n (area_seen area)) areas i d e in
-    let found = within-has address n (area_seen (get_or areas i d))
-    (has-allowed access address n (area_seen (get_or areas i d)) at.1) in
-    (at.0, found.0, found.1)
-
--- the search goes over a slice of these areas, and finds a place
-pub place-found : (access : Access) (address n i : ℕ) (areas slice : List Area) (o : Option ℕ)
-    → slice ≡ areas → o ≡ position (λ area. allows access address n (area_seen area)) slice → o ≡ Some i
-    → position (λ area. allows access address n (area_seen area)) areas ≡ Some i
-place-found access address n i areas slice o same told found =
-    sym (ap (λ (l : List Area). position (λ area. allows access address n (area_seen area)) l) same) ∙ sym told ∙ found
-
--- or none
-pub none-found : (access : Access) (address n : ℕ) (areas slice : List Area) (o : Option ℕ)
-    → slice ≡ areas → o ≡ position (λ area. allows access address n (area_seen area)) slice → o ≡ None
-    → position (λ area. allows access address n (area_seen area)) areas ≡ None
-none-found access address n areas slice o same told found =
-    sym (ap (λ (l : List Area). position (λ area. allows access address n (area_seen area)) l) same) ∙ sym told ∙ found
-
--- the area that stands there has the bytes
-pub within-area : (access : Access) (address n i : ℕ) (areas : List Area) (area : Area)
-    → position (λ area. allows access address n (area_seen area)) areas ≡ Some i → area ≡ get_or areas i area
-    → (area.address ≤ address) × (address + n ≤ area.address + length area.bytes.items)
-within-area access address n i areas area e at =
-    let found = within-place access address n i areas area e in
-    (rw at found.1, subst (λ (a : Area). address + n ≤ a.address + length a.bytes.items) (sym at) found.2)
+-- the area at the place that was found
+allowed-there : (access : Access) (address n i : ℕ) (areas : List Area) (area : Area)
+    → position (λ area. allows access address n area) areas ≡ Some i → area ≡ get_or areas i area
+    → (i < length areas) × (allows access address n area ≡ true)
+allowed-there access address n i areas area place here =
+    let at = position-Some (λ area. allows access address n area) areas i area place in
+    (at.0, subst (λ (a : Area). allows access address n a ≡ true) (sym here) at.1)
 
 -- ---- loads
 
 bytes_at-picked : (n address : ℕ) (areas : List Area)
-    → bytes_at n address (map area_seen areas)
-    ≡ picked (λ area. allows Read address n (area_seen area))
-    (λ area. take n (drop (address - area.address) area.bytes.items)) areas
+    → bytes_at n address areas
+    ≡ picked (λ area. allows Read address n area) (λ area. take n (drop (address - area.address) area.bytes)) areas
 bytes_at-picked n address [] = refl
 bytes_at-picked n address (area ∷ areas) =
-    ap (λ (o : Option (List ℕ)). if allows Read address n (area_seen area) then Some
-    (take n (drop (address - area.address) area.bytes.items)) else o) (bytes_at-picked n address areas)
+    ap (λ (o : Option (List ℕ)). if allows Read address n area then Some
+    (take n (drop (address - area.address) area.bytes)) else o) (bytes_at-picked n address areas)
 
-pub bytes_at-Some : (n address i : ℕ) (areas : List Area) (d : Area)
-    → position (λ area. allows Read address n (area_seen area)) areas ≡ Some i
-    → bytes_at n address (map area_seen areas)
-    ≡ Some (take n (drop (address - (get_or areas i d).address) (get_or areas i d).bytes.items))
-bytes_at-Some n address i areas d e = bytes_at-picked n address areas
-    ∙ picked-Some _ (λ (area : Area). take n (drop (address - area.address) area.bytes.items)) areas i d e
+-- what the first area that may be read says
+pub bytes_at-Some : (n address i : ℕ) (areas memory : List Area) (area : Area)
+    → position (λ area. allows Read address n area) areas ≡ Some i → area ≡ get_or areas i area → areas ≡ memory
+    → IsFound address n area memory
+bytes_at-Some n address i areas memory area place here same =
+    let at = allowed-there Read address n i areas area place here in (
+      has-allowed Read address n area at.1,
+      ap (λ (l : List Area). bytes_at n address l) (sym same) ∙ bytes_at-picked n address areas
+          ∙ picked-Some _ (λ (area : Area). take n (drop (address - area.address) area.bytes)) areas i area place
+          ∙ ap (λ (a : Area). Some (take n (drop (address - a.address) a.bytes))) (sym here),
+    )
 
-pub bytes_at-None : (n address : ℕ) (areas : List Area)
-    → position (λ area. allows Read address n (area_seen area)) areas ≡ None → bytes_at n address (map area_seen areas)
-    ≡ None
-bytes_at-None n address areas e = bytes_at-picked n address areas ∙ picked-None _ _ areas e
+pub bytes_at-None : (n address : ℕ) (areas memory : List Area)
+    → position (λ area. allows Read address n area) areas ≡ None → areas ≡ memory → bytes_at n address memory ≡ None
+bytes_at-None n address areas memory none same = ap (λ (l : List Area). bytes_at n address l) (sym same)
+    ∙ bytes_at-picked n address areas ∙ picked-None _ _ areas none
 
 -- ---- fetches
 
 code_at-picked : (address : ℕ) (areas : List Area)
-    → code_at address (map area_seen areas) ≡ picked (λ area. allows Run address 1 (area_seen area))
-    (λ area. drop (address - area.address) area.bytes.items) areas
+    → code_at address areas ≡ picked (λ area. allows Run address 1 area)
+    (λ area. drop (address - area.address) area.bytes) areas
 code_at-picked address [] = refl
 code_at-picked address (area ∷ areas) =
-    ap (λ (o : Option (List ℕ)). if allows Run address 1 (area_seen area) then Some
-    (drop (address - area.address) area.bytes.items) else o) (code_at-picked address areas)
+    ap (λ (o : Option (List ℕ)). if allows Run address 1 area then Some
+    (drop (address - area.address) area.bytes) else o) (code_at-picked address areas)
 
--- all that is left behind a place
-pub take_rest : (k : ℕ) (xs : List ℕ) → take (length xs - k) (drop k xs) ≡ drop k xs
-take_rest k xs = take_all _ _ (omega (arith, length-drop k xs))
+-- what the first area that may be run says
+pub code_at-Some : (address i : ℕ) (areas memory : List Area) (area : Area)
+    → position (λ area. allows Run address 1 area) areas ≡ Some i → area ≡ get_or areas i area → areas ≡ memory
+    → (area.runnable ≡ true) × (has_bytes area address 1 ≡ true)
+    × (code_at address memory ≡ Some (drop (address - area.address) area.bytes))
+code_at-Some address i areas memory area place here same =
+    let at = allowed-there Run address 1 i areas area place here in (
+      (and_parts _ _ at.1).0,
+      has-allowed Run address 1 area at.1,
+      ap (λ (l : List Area). code_at address l) (sym same) ∙ code_at-picked address areas
+          ∙ picked-Some _ (λ (area : Area). drop (address - area.address) area.bytes) areas i area place
+          ∙ ap (λ (a : Area). Some (drop (address - a.address) a.bytes)) (sym here),
+    )
 
-pub code_at-Some : (address i : ℕ) (areas : List Area) (d : Area)
-    → position (λ area. allows Run address 1 (area_seen area)) areas ≡ Some i
-    → code_at address (map area_seen areas) ≡ Some
-    (drop (address - (get_or areas i d).address) (get_or areas i d).bytes.items)
-code_at-Some address i areas d e = code_at-picked address areas
-    ∙ picked-Some _ (λ (area : Area). drop (address - area.address) area.bytes.items) areas i d e
-
-pub code_at-None : (address : ℕ) (areas : List Area) → position (λ area. allows Run address 1 (area_seen area)) areas
-    ≡ None → code_at address (map area_seen areas) ≡ None
-code_at-None address areas e = code_at-picked address areas ∙ picked-None _ _ areas e
+pub code_at-None : (address : ℕ) (areas memory : List Area) → position (λ area. allows Run address 1 area) areas ≡ None
+    → areas ≡ memory → code_at address memory ≡ None
+code_at-None address areas memory none same = ap (λ (l : List Area). code_at address l) (sym same)
+    ∙ code_at-picked address areas ∙ picked-None _ _ areas none
 
 -- ---- stores
 
 may_store-picked : (n address : ℕ) (areas : List Area)
-    → may_store n address (map area_seen areas)
-    ≡ is_some (picked (λ area. allows Write address n (area_seen area)) (λ area. area) areas)
+    → may_store n address areas ≡ is_some (picked (λ area. allows Write address n area) (λ area. area) areas)
 may_store-picked n address [] = refl
 may_store-picked n address (area ∷ areas) =
-    elim (cases_Bool (allows Write address n (area_seen area)))
+    elim (cases_Bool (allows Write address n area))
     [ inl t ↦ rw t refl | inr f ↦ rw f (may_store-picked n address areas) ]
 
-pub may_store-found : (n address : ℕ) (areas : List Area) → may_store n address (map area_seen areas)
-    ≡ is_some (position (λ area. allows Write address n (area_seen area)) areas)
+pub may_store-found : (n address : ℕ) (areas : List Area) → may_store n address areas
+    ≡ is_some (position (λ area. allows Write address n area) areas)
 may_store-found n address areas = may_store-picked n address areas ∙ is_some-picked _ _ areas
 
 -- no area allows the store
-pub stored-None : (address : ℕ) (bytes : List ℕ) (areas : List Area)
-    → position (λ area. allows Write address (length bytes) (area_seen area)) areas ≡ None
-    → stored address bytes (map area_seen areas) ≡ None
-stored-None address bytes [] e = refl
-stored-None address bytes (area ∷ areas) e =
-    let test : Area → Bool = λ a. allows Write address (length bytes) (area_seen a) in
+stored-no_place : (address : ℕ) (bytes : List ℕ) (areas : List Area)
+    → position (λ area. allows Write address (length bytes) area) areas ≡ None → stored address bytes areas ≡ None
+stored-no_place address bytes [] e = refl
+stored-no_place address bytes (area ∷ areas) e =
+    let test : Area → Bool = λ a. allows Write address (length bytes) a in
     elim (cases_Bool (test area)) [
       | inl t ↦ absurd (let f = position-true test area areas t in cc)
-      | inr f ↦ rw (f, stored-None address bytes areas (none-map _ (sym (position-false test area areas f) ∙ e))) refl
+      | inr f ↦ rw (f, stored-no_place address bytes areas (none-map _ (sym (position-false test area areas f) ∙ e)))
+          refl
     ]
 
+pub stored-None : (address : ℕ) (bytes : List ℕ) (areas memory : List Area)
+    → position (λ area. allows Write address (length bytes) area) areas ≡ None → areas ≡ memory
+    → stored address bytes memory ≡ None
+stored-None address bytes areas memory none same = ap (λ (l : List Area). stored address bytes l) (sym same)
+    ∙ stored-no_place address bytes areas none
+
 -- the area at the place has other bytes
-pub stored-Some : (address : ℕ) (bytes : List ℕ) (i : ℕ) (areas : List Area) (d : Area)
-    → position (λ area. allows Write address (length bytes) (area_seen area)) areas ≡ Some i
-    → stored address bytes (map area_seen areas)
-    ≡ Some (set (map area_seen areas) i (with_bytes address bytes (area_seen (get_or areas i d))))
-stored-Some address bytes i [] d e = absurd (cc)
-stored-Some address bytes i (area ∷ areas) d e =
-    let test : Area → Bool = λ a. allows Write address (length bytes) (area_seen a) in
+stored-place : (address : ℕ) (bytes : List ℕ) (i : ℕ) (areas : List Area) (d : Area)
+    → position (λ area. allows Write address (length bytes) area) areas ≡ Some i
+    → stored address bytes areas ≡ Some (set areas i (with_bytes address bytes (get_or areas i d)))
+stored-place address bytes i [] d e = absurd (cc)
+stored-place address bytes i (area ∷ areas) d e =
+    let test : Area → Bool = λ a. allows Write address (length bytes) a in
     elim (cases_Bool (test area)) [
       | inl t ↦ (let first : i ≡ 0 = (let f = position-true test area areas t in cc) in rw (t, first) refl)
       | inr f ↦ (let later = some-map _ i (sym (position-false test area areas f) ∙ e) in
-          rw (f, later.1, stored-Some address bytes later.0 areas d later.2) refl)
+          rw (f, later.1, stored-place address bytes later.0 areas d later.2) refl)
     ]
 
--- an area with other bytes has as many
-pub length-with_bytes : (address : ℕ) (bytes : List ℕ) (area : state.Area) → (area.address ≤ address)
-    × (address + length bytes ≤ area.address + length area.bytes)
-    → length (with_bytes address bytes area).bytes ≡ length area.bytes
-length-with_bytes address bytes area h =
-    let offset = address - area.address in
-    let front : length (take offset area.bytes) ≡ offset = length-take-le offset area.bytes (omega (arith, h)) in
-    let rest = length-drop (offset + length bytes) area.bytes in
-    simp length-append (omega (arith, h, front, rest))
+-- the area that may be written, and the memory after the store
+pub stored-Some : (address i : ℕ) (bytes : List ℕ) (areas memory : List Area) (area new : Area)
+    → position (λ area. allows Write address (length bytes) area) areas ≡ Some i → area ≡ get_or areas i area
+    → areas ≡ memory → new ≡ with_bytes address bytes area → stored address bytes memory ≡ Some (set areas i new)
+stored-Some address i bytes areas memory area new place here same is =
+    ap (λ (l : List Area). stored address bytes l) (sym same) ∙ stored-place address bytes i areas area place
+    ∙ ap (λ (a : Area). Some (set areas i (with_bytes address bytes a))) (sym here)
+    ∙ ap (λ (a : Area). Some (set areas i a)) (sym is)
 
--- the area after a store ends where it did
-pub IsArea-stored : (address : ℕ) (bytes : List ℕ) (old new : Area) → (old.address ≤ address)
-    × (address + length bytes ≤ old.address + length old.bytes.items)
-    → area_seen new ≡ with_bytes address bytes (area_seen old) → IsArea old → IsArea new
-IsArea-stored address bytes old new within e h =
-    let count = length-with_bytes address bytes (area_seen old) within in
-    let place : new.address ≡ old.address = ap (λ (a : state.Area). a.address) e in
-    let size : length new.bytes.items ≡ length (with_bytes address bytes (area_seen old)).bytes =
-    ap (λ (a : state.Area). length a.bytes) e in
-    omega (arith, count, place, size, h)
-
--- the memory after a store to the area at the place
-pub stored-found : (address i : ℕ) (bytes : List ℕ) (areas : List Area) (old new : Area)
-    → position (λ area. allows Write address (length bytes) (area_seen area)) areas ≡ Some i → old ≡ get_or areas i old
-    → area_seen new ≡ with_bytes address bytes (area_seen old)
-    → stored address bytes (map area_seen areas) ≡ Some (map area_seen (set areas i new))
-stored-found address i bytes areas old new at here e =
-    stored-Some address bytes i areas old at
-    ∙ ap (λ (a : Area). Some (set (map area_seen areas) i (with_bytes address bytes (area_seen a)))) (sym here)
-    ∙ ap (λ (a : state.Area). Some (set (map area_seen areas) i a)) (sym e)
-    ∙ ap (λ (l : List state.Area). Some l) (sym (map-set area_seen areas i new))
+-- the area at the place has the bytes
+pub has-place : (access : Access) (address n i : ℕ) (areas : List Area) (area : Area)
+    → position (λ area. allows access address n area) areas ≡ Some i → area ≡ get_or areas i area
+    → has_bytes area address n ≡ true
+has-place access address n i areas area place here =
+    has-allowed access address n area (allowed-there access address n i areas area place here).1

@@ -1,3 +1,4 @@
 pub mod First
 pub mod Finding
 pub mod Storing
+pub mod Keeping

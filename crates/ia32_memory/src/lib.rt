@@ -6,6 +6,7 @@
 #![tactic(auto)]
 
 mod area;
+mod cells;
 mod memory;
 
 pub use memory::Memory;

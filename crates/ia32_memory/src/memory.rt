@@ -2,11 +2,12 @@ ghost use Rattle.std.specs.Prelude.{◌≡◌, ◌<◌, ◌≤◌, ◌^◌, Some
 ghost use Rattle.byteorder.specs.Endian.{little_number, little_bytes};
 ghost use Rattle.elf_image.specs.Segments.{IsPiece, piece_of};
 ghost use Rattle.ia32_insn.specs.State as state;
+ghost use Rattle.std.specs.Borrow.{sem};
 ghost use Rattle.ia32_memory.specs.First.{area_of};
 ghost use Rattle.ia32_memory.specs.Writes.{Stores};
+ghost use Rattle.ia32_memory.specs.Loans.{MemoryRests, IsFound};
 
 use crate::area::{Access, Area, area_from, find};
-use byteorder::{ByteOrder, LittleEndian};
 use elf_image::Segment;
 use pcc_base::NoMemory;
 use std::alloc::Global;
@@ -20,15 +21,12 @@ pub struct Memory {
 }
 
 impl Model for Memory {
-    ghost use Rattle.std.specs.Prelude.{List, map};
+    ghost use Rattle.std.specs.Prelude.{List};
     ghost use Rattle.ia32_insn.specs.State as state;
-    ghost use Rattle.ia32_memory.specs.Areas.{area_seen, AreAreas};
 
     ghost Value = { List state.Area };
 
-    ghost view = { λ m. map area_seen m.areas.items };
-
-    ghost invariant = { λ m. AreAreas m.areas.items };
+    ghost view = { λ m. m.areas.items };
 }
 
 impl Memory {
@@ -51,43 +49,52 @@ impl Memory {
         ensures none { IfNone result (state.code_at address self.now ≡ None) }
     {
         let area = &self.areas[find(&self.areas, Access::Run, address, 1)?];
-        let offset = (address - area.address) as usize;
-        Some(&area.bytes[offset..])
+        Some(area.code(address))
     }
 
-    /// So many bytes from the address on, where one area has them all and they may be read.
-    pub fn bytes_at(&self, address: u32, count: u32) -> Option<&[u8]>
-        ensures found { IfSome result (λ bytes. state.bytes_at count address self.now ≡ Some bytes.now) }
-        ensures none { IfNone result (state.bytes_at count address self.now ≡ None) }
+    /// So many bytes from the address on, where one area has them all and they may be read. The memory
+    /// stays as it is, but for how it keeps bytes that are 0.
+    pub fn bytes_at(&mut self, address: u32, count: u32) -> Option<&[u8]>
+        ensures* rests { sem 𝓛 (MemoryRests self.entry) }
+        ensures found { IfSome result (λ bytes. state.bytes_at count address self.old ≡ Some bytes.now) }
+        ensures none { IfNone result (state.bytes_at count address self.old ≡ None) }
         ensures count { IfSome result (λ bytes. length bytes.now ≡ count) }
     {
-        let area = &self.areas[find(&self.areas, Access::Read, address, count)?];
-        let offset = (address - area.address) as usize;
-        Some(&area.bytes[offset..offset + count as usize])
+        let index = find(&self.areas, Access::Read, address, count)?;
+        Some(self.areas[index].bytes(address, count))
+    }
+
+    /// The area that has all of so many bytes from the address on, where they may be read.
+    #[inline]
+    fn readable(&self, address: u32, count: u32) -> Option<&Area>
+        ensures found { IfSome result (λ area. IsFound address count area.now self.now) }
+        ensures none { IfNone result (state.bytes_at count address self.now ≡ None) }
+    {
+        Some(&self.areas[find(&self.areas, Access::Read, address, count)?])
     }
 
     /// The byte at the address, where it may be read.
     pub fn load8(&self, address: u32) -> Option<u8>
         ensures { result ≡ option_map (little_number 1) (state.bytes_at 1 address self.now) }
     {
-        let bytes = self.bytes_at(address, 1)?;
-        Some(bytes[0])
+        let area = self.readable(address, 1)?;
+        Some(area.byte(address))
     }
 
     /// The two bytes from the address on as a number, the lowest first, where they may be read.
     pub fn load16(&self, address: u32) -> Option<u16>
         ensures { result ≡ option_map (little_number 2) (state.bytes_at 2 address self.now) }
     {
-        let bytes = self.bytes_at(address, 2)?;
-        Some(LittleEndian::read_u16(bytes))
+        let area = self.readable(address, 2)?;
+        Some(area.half(address))
     }
 
     /// The four bytes from the address on as a number, the lowest first, where they may be read.
     pub fn load32(&self, address: u32) -> Option<u32>
         ensures { result ≡ option_map (little_number 4) (state.bytes_at 4 address self.now) }
     {
-        let bytes = self.bytes_at(address, 4)?;
-        Some(LittleEndian::read_u32(bytes))
+        let area = self.readable(address, 4)?;
+        Some(area.word(address))
     }
 
     /// One area has all of so many bytes from the address on, and they may be written.

@@ -1,0 +1,9 @@
+use Rattle.std.proofs.Common.{ap}
+use Rattle.ia32_insn.specs.State as state
+use Rattle.ia32_memory.proofs.Keeping.{room-there}
+use Rattle.ia32_memory.proofs.area.Area.word.Goals as goal
+
+pub word-requires-clause-there : goal.word-requires-clause-there
+word-requires-clause-there c =
+    room-there c.args.self.now c.self.inside.cells c.self.inside.address c.args.address 4 c.self.invariant.0
+    (ap (λ (a : state.Area). a.address) c.self.view_is) (ap (λ (a : state.Area). a.bytes) c.self.view_is) c.requires
