@@ -1,9 +1,11 @@
 ghost use Rattle.std.specs.Prelude.{◌≡◌, [], None, Some, IfSome, IfNone, length};
 ghost use Rattle.std.specs.List.{AllByRecursion};
+ghost use Rattle.std.specs.Borrow.{sem};
 ghost use Rattle.ia32_regs.specs.Registers.{zero_registers};
 ghost use Rattle.ia32_insn.specs.State as state;
 ghost use Rattle.ia32_insn.specs.Meaning.{word_of, with_word, byte_of, with_byte, with_flags, load, store};
 ghost use Rattle.ia32_processor.specs.Answers.{answer_of, bare as bare_of, Leaves};
+ghost use Rattle.ia32_processor.specs.Loans.{ProcessorRests};
 
 use crate::halt::{Halt, denied};
 use ia32_insn::Flags;
@@ -125,10 +127,11 @@ impl Processor {
         self.registers.set8(r, value);
     }
 
-    /// The bytes from an address on, where one area has them all and may be read.
-    pub fn bytes_at(&self, address: u32, count: u32) -> Option<&[u8]>
-        ensures found { IfSome result (λ bytes. state.bytes_at count address self.now.memory ≡ Some bytes.now) }
-        ensures none { IfNone result (state.bytes_at count address self.now.memory ≡ None) }
+    /// The bytes from an address on, where one area has them all and may be read. Nothing changes.
+    pub fn bytes_at(&mut self, address: u32, count: u32) -> Option<&[u8]>
+        ensures* rests { sem 𝓛 (ProcessorRests self.entry) }
+        ensures found { IfSome result (λ bytes. state.bytes_at count address self.old.memory ≡ Some bytes.now) }
+        ensures none { IfNone result (state.bytes_at count address self.old.memory ≡ None) }
         ensures count { IfSome result (λ bytes. length bytes.now ≡ count) }
     {
         self.memory.bytes_at(address, count)

@@ -36,7 +36,7 @@ fn two_segments(alloc: Global) -> Result<Memory, NoMemory> {
 
 #[test]
 fn loads(rt: HostRuntime) -> Result<(), Fail> {
-    let memory = two_segments(rt.alloc())?;
+    let mut memory = two_segments(rt.alloc())?;
     let rows = [
         (TEXT, Some(0x78u8), Some(0x5678u16), Some(0x9234_5678u32)),
         (TEXT + 3, Some(0x92), Some(0x9092), Some(0x9092)),
@@ -99,5 +99,47 @@ fn stores(rt: HostRuntime) -> Result<(), Fail> {
         let stored = memory.store32(address, 0x6677_8899);
         expect_word(&rt, &memory, stored, word);
     }
+    Ok(())
+}
+
+/// The size of data of which two bytes are given, so that most of it stays untouched when it is loaded.
+const WIDE: u32 = 1 << 20;
+
+/// Places in the wide data, from the first one on: at its end, near its beginning, in its middle, and at both sides of
+/// where its last quarter begins.
+const PLACES: [u32; 5] = [
+    WIDE - 4,
+    6,
+    WIDE / 2,
+    WIDE / 4 * 3 - 2,
+    WIDE / 4 * 3 - 64,
+];
+
+#[test]
+fn untouched_bytes(rt: HostRuntime) -> Result<(), Fail> {
+    let data = Segment {
+        addr: DATA,
+        bytes: [1, 2].to_vec(rt.alloc())?,
+        size: WIDE,
+        read: true,
+        write: true,
+        exec: false,
+    };
+    let mut memory = Memory::load(rt.alloc(), &[data])?;
+    assert_eq!(rt; memory.load32(DATA + 1), Some(2));
+    for place in PLACES {
+        assert_eq!(rt; memory.load8(DATA + place), Some(0), "{place:#x}");
+        assert_eq!(rt; memory.load16(DATA + place), Some(0), "{place:#x}");
+        assert_eq!(rt; memory.load32(DATA + place), Some(0), "{place:#x}");
+    }
+    for place in PLACES {
+        assert!(rt; memory.store32(DATA + place, 0x0a0b_0c0d), "{place:#x}");
+    }
+    for place in PLACES {
+        assert_eq!(rt; memory.load32(DATA + place), Some(0x0a0b_0c0d), "{place:#x}");
+        assert_eq!(rt; memory.load16(DATA + place + 1), Some(0x0b0c), "{place:#x}");
+    }
+    assert!(rt; memory.bytes_at(DATA, 8) == Some(&[1, 2, 0, 0, 0, 0, 0x0d, 0x0c]));
+    assert!(rt; memory.bytes_at(DATA + WIDE - 5, 5) == Some(&[0, 0x0d, 0x0c, 0x0b, 0x0a]));
     Ok(())
 }

@@ -24,7 +24,7 @@ returns-in_default-clause-told g c = λ _ left.
     let some = not_is (word_of Edx old) 0 (λ e. c.if-count-eq0.false (c.word-count.ensures ∙ e)) in
     let none = bytes_so old c.word-count.result c.word-address.result None c.word-count.ensures c.word-address.ensures
     c.in_default.ensures.none in
-    rw (c.word-address.ensures, c.eip.ensures.value)
+    rw (c.word-address.ensures, c.eip.ensures.value, c.bytes_at.follows.holds-at-none)
     (write_denied old left (g.O.Sink.taken c.args.out.now) c.requires some none)
 
 pub returns-in_default-clause-counted : goal.returns-in_default-clause-counted
@@ -39,7 +39,7 @@ returns-in-Ok-clause-told g c = λ o left.
     let some = not_is (word_of Edx old) 0 (λ e. c.if-count-eq0.false (c.word-count.ensures ∙ e)) in
     let there = bytes_so old c.word-count.result c.word-address.result (Some c.in-Some.bytes.now) c.word-count.ensures
     c.word-address.ensures c.in-Some.ensures.found in
-    rw (c.set_word-in-Ok.ensures, c.word-count.ensures)
+    rw (c.set_word-in-Ok.ensures, c.bytes_at.follows.holds-at-none, c.word-count.ensures)
     (write_done old c.in-Some.bytes.now left (g.O.Sink.taken c.args.out.now) (g.O.Sink.taken c.put_all.new.self)
     c.requires some there (c.in-Ok.ensures.told o))
 
@@ -56,8 +56,9 @@ returns-in-Err-Failed-clause-told g c = λ o left.
     let there = bytes_so old c.word-count.result c.word-address.result (Some c.in-Some.bytes.now) c.word-count.ensures
     c.word-address.ensures c.in-Some.ensures.found in
     let told = rw c.in-Err-Failed.field-0-is at (c.in-Err-Failed.ensures.told o) in
-    write_failed old c.in-Some.bytes.now left (g.O.Sink.taken c.args.out.now) (g.O.Sink.taken c.put_all.new.self) told.0
-    c.requires some there told.1
+    rw c.bytes_at.follows.holds-at-none
+    (write_failed old c.in-Some.bytes.now left (g.O.Sink.taken c.args.out.now) (g.O.Sink.taken c.put_all.new.self) told.0
+    c.requires some there told.1)
 
 pub returns-in-Err-Failed-clause-counted : goal.returns-in-Err-Failed-clause-counted
 returns-in-Err-Failed-clause-counted g c = λ _. let counted =
@@ -74,8 +75,9 @@ returns-in-Err-NoMemory-clause-told g c = λ o left.
     c.word-address.ensures c.in-Some.ensures.found in
     let told = rw c.in-Err-NoMemory.field-0-is at (c.in-Err-NoMemory.ensures.told o) in
     let filled = some_bytes c.word-count.result c.in-Some.bytes.now c.in-Some.ensures.count c.if-count-eq0.false in
-    write_wanted old c.in-Some.bytes.now left (g.O.Sink.taken c.args.out.now) (g.O.Sink.taken c.put_all.new.self)
-    c.requires some there filled told
+    rw c.bytes_at.follows.holds-at-none
+    (write_wanted old c.in-Some.bytes.now left (g.O.Sink.taken c.args.out.now) (g.O.Sink.taken c.put_all.new.self)
+    c.requires some there filled told)
 
 pub returns-in-Err-NoMemory-clause-counted : goal.returns-in-Err-NoMemory-clause-counted
 returns-in-Err-NoMemory-clause-counted g c = λ _. let counted =
