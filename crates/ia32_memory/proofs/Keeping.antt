@@ -80,10 +80,10 @@ laid-grown size k front back grown e fits =
     let left = size - (length grown + length back) in
     let more : k + left ≡ size - (length front + length back) = omega (arith, long, fits) in
     ap (λ (l : List ℕ). l ++ back) (
-      ap (λ (l : List ℕ). l ++ replicate left 0) e
-          ∙ append_assoc front (replicate k 0) (replicate left 0)
-          ∙ ap (λ (l : List ℕ). front ++ l)
-          (replicate-append-replicate k left 0 ∙ ap (λ (n : ℕ). replicate n 0) more)
+    ap (λ (l : List ℕ). l ++ replicate left 0) e
+    ∙ append_assoc front (replicate k 0) (replicate left 0)
+    ∙ ap (λ (l : List ℕ). front ++ l)
+    (replicate-append-replicate k left 0 ∙ ap (λ (n : ℕ). replicate n 0) more)
     )
 
 -- with the last ones among the first
@@ -202,9 +202,9 @@ four-bytes offset a b c d bytes first second third fourth =
     let two = ap (λ (n : ℕ). drop n bytes) {x = offset + 1 + 1} {y = offset + 2} (omega arith) in
     let three = ap (λ (n : ℕ). drop n bytes) {x = offset + 2 + 1} {y = offset + 3} (omega arith) in
     byte-then 3 offset a bytes first ∙ ap (λ (l : List ℕ). a ∷ l) (
-      byte-then 2 (offset + 1) b bytes second ∙ ap (λ (l : List ℕ). b ∷ l) (
-        ap (take 2) two ∙ byte-then 1 (offset + 2) c bytes third ∙ ap (λ (l : List ℕ). c ∷ l) (ap (take 1) three ∙ fourth)
-      )
+    byte-then 2 (offset + 1) b bytes second ∙ ap (λ (l : List ℕ). b ∷ l) (
+    ap (take 2) two ∙ byte-then 1 (offset + 2) c bytes third ∙ ap (λ (l : List ℕ). c ∷ l) (ap (take 1) three ∙ fourth)
+    )
     )
 
 -- ---- writing
@@ -226,11 +226,11 @@ laid-over_front size offset front back bytes new within e long =
     drop-append-le end (front ++ z) back (omega (arith, wide, within))
     ∙ ap (λ (l : List ℕ). l ++ back) (drop-append-le end front z within) in
     let told : new ++ zeros (size - (length new + length back)) ++ back
-        ≡ take offset front ++ bytes ++ drop end front ++ z ++ back =
+    ≡ take offset front ++ bytes ++ drop end front ++ z ++ back =
     ap (λ (n : ℕ). new ++ zeros (size - (n + length back)) ++ back) long
     ∙ ap (λ (l : List ℕ). l ++ z ++ back) e in
     let apart : take offset front ++ bytes ++ drop end front ++ z ++ back
-        ≡ take offset front ++ bytes ++ (drop end front ++ z ++ back) =
+    ≡ take offset front ++ bytes ++ (drop end front ++ z ++ back) =
     ap (λ (l : List ℕ). l ++ back) (append_assoc (take offset front ++ bytes) (drop end front) z)
     ∙ append_assoc (take offset front ++ bytes) (drop end front ++ z) back in
     told ∙ apart
