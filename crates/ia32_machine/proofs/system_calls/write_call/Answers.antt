@@ -18,6 +18,9 @@ returns-then-count-eq0-clause-counted g c = λ _. (refl, refl)
 pub returns-then-count-eq0-clause-out_tells : goal.returns-then-count-eq0-clause-out_tells
 returns-then-count-eq0-clause-out_tells g c = λ t. t
 
+pub part_none-processor : goal.part_none-processor
+part_none-processor g c = (refl, refl)
+
 pub returns-in_default-clause-told : goal.returns-in_default-clause-told
 returns-in_default-clause-told g c = λ _ left.
     let old : State = c.args.processor.now in
