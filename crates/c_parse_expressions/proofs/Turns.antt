@@ -1,6 +1,6 @@
 -- What is read where no height is left, and one reader in place of another.
-use Rattle.std.proofs.Common.{◌≡◌, ℕ, ◌-◌, List, ◌∷◌, true, false, Option, Some, None, Ok, Err, Result}
-use Rattle.std.proofs.Common.{is_some, refl, sym, ◌∙◌, subst, arith}
+use Rattle.std.proofs.Common.{◌≡◌, ℕ, ◌-◌, List, true, false, Option, Some, None, Ok, Err, Result}
+use Rattle.std.proofs.Common.{is_some, refl, sym, ◌∙◌, ◌<◌, length, subst, arith}
 use Rattle.pcc_base.specs.declared.span.Span.{Span}
 use Rattle.pcc_base.specs.declared.refusal.Refusal.{Refusal}
 use Rattle.c_lexer.specs.declared.token.Token.{Token}
@@ -8,7 +8,7 @@ use Rattle.c_lexer.specs.declared.token.Punct.TheVariants as marks
 use Rattle.c_syntax.specs.declared.expression.Specifier.{Specifier}
 use Rattle.c_grammar.specs.Expressions.{Star, Expr}
 use Rattle.c_grammar.specs.Chains.{Reads}
-use Rattle.c_grammar.specs.Taking.{take_mark, take_pointer}
+use Rattle.c_grammar.specs.Taking.{take_mark, take_pointer, take_specifiers}
 use Rattle.c_grammar.specs.Reading.{Readers, readers, read_cast, cast_behind}
 use Rattle.c_grammar.proofs.Reading.{readers-none, cast_reads}
 use Rattle.c_grammar.specs.Reading.{read_arguments, arguments_from}
@@ -54,10 +54,22 @@ behind_close : (below : Readers) (o : Span) (ss : List Specifier) (pointer : Opt
 behind_close below o ss pointer None e n = rw e refl
 behind_close below o ss pointer (Some close) e n = rw (e, n close.1) refl
 
--- no cast is read where no height is left for its operand
-pub no_cast_below : (height : ℕ) (ts us : List Token) (o : Span) → height ≡ 1
-    → take_mark marks.LeftParen ts ≡ Some (o, us) → BeginsWithSpecifier us → read_cast height (below height) ts ≡ None
-no_cast_below height ts us o e f b =
-    cast_reads height (below height) ts us b.2 o b.0 b.1 f b.3
-    ∙ behind_close (below height) o (b.0 ∷ b.1) (take_pointer b.2)
-    (take_mark marks.RightParen (take_pointer b.2).1) refl (λ (vs : List Token). none_below rules_of.Cast height vs e)
+-- behind the `(` of a cast nothing is read where no height is left for its operand
+pub no_cast_behind : (height : ℕ) (o : Span) (ss : List Specifier) (pointer : Option Star × List Token) → height ≡ 1
+    → cast_behind (below height) o ss pointer ≡ None
+no_cast_behind height o ss pointer e =
+    behind_close (below height) o ss pointer (take_mark marks.RightParen pointer.1) refl
+    (λ (vs : List Token). none_below rules_of.Cast height vs e)
+
+-- a cast, behind its `(`
+pub cast_is : (height : ℕ) (b : Readers) (ts us : List Token) (o : Span) → take_mark marks.LeftParen ts ≡ Some (o, us)
+    → BeginsWithSpecifier us
+    → read_cast height b ts ≡ cast_behind b o (take_specifiers us).0 (take_pointer (take_specifiers us).1)
+cast_is height b ts us o f s = cast_reads height b ts us s.2 o s.0 s.1 f s.3 ∙ (rw s.3 refl)
+
+-- what is read behind a first token
+pub reading_behind : (height : ℕ) (r s : List Token → Reads Expr) (old mid new : List Token)
+    (result : Result Found Refusal) → r old ≡ s mid → length mid < length old → IsReading height s mid new result
+    → IsReading height r old new result
+reading_behind height r s old mid new (Ok f) e l p = (e ∙ p.0, omega (arith, l, p.1), p.2)
+reading_behind height r s old mid new (Err x) e l p = subst (λ (y : Reads Expr). Refused y x) (sym e) p

@@ -1,5 +1,7 @@
 //! Nodes of expressions: each puts parts that were read into one tree, and adds one to the greatest of
 //! their heights.
+//!
+//! None is inlined: a tree is as large as its largest node, and the functions that read a nest keep room for none.
 
 ghost use Rattle.std.specs.Prelude.{◌≡◌, ◌≤◌, ◌∷◌, ◌++◌, [], max, map, suc, IfOk};
 ghost use Rattle.c_grammar.specs.Expressions as trees;
@@ -9,11 +11,14 @@ ghost use Rattle.c_parse_expressions.specs.Readings.{values_of, height_of_values
 
 use crate::found::{Found, Values};
 use c_cursor::push;
-use c_syntax::{AssignOp, BinaryOp, Expression, Identifier, Pointer, Specifier, StepOp, UnaryOp};
+use c_syntax::{
+    AssignOp, BinaryOp, Expression, Identifier, Pointer, Specifier, StepOp, TextPiece, UnaryOp,
+};
 use pcc_base::{NoMemory, Span};
 use std::alloc::Global;
 
 /// A tree in a box, with its height.
+#[inline(always)]
 pub(crate) fn found_of(alloc: Global, tree: Expression, height: u32) -> Result<Found, NoMemory>
     ensures tree { IfOk result (λ f. f.tree.value ≡ tree) }
     ensures height { IfOk result (λ f. f.height ≡ height) }
@@ -22,6 +27,31 @@ pub(crate) fn found_of(alloc: Global, tree: Expression, height: u32) -> Result<F
     Ok(Found { tree, height })
 }
 
+#[inline(never)]
+pub(crate) fn identifier_node(alloc: Global, name: Identifier) -> Result<Found, NoMemory>
+    ensures tree { IfOk result (λ f. expr_of f.tree.value ≡ trees.Identifier name) }
+    ensures height { IfOk result (λ f. f.height ≡ 1) }
+{
+    found_of(alloc, Expression::Identifier(name), 1)
+}
+
+#[inline(never)]
+pub(crate) fn number_node(alloc: Global, value: i32, at: Span) -> Result<Found, NoMemory>
+    ensures tree { IfOk result (λ f. expr_of f.tree.value ≡ trees.Number value at) }
+    ensures height { IfOk result (λ f. f.height ≡ 1) }
+{
+    found_of(alloc, Expression::Number(value, at), 1)
+}
+
+#[inline(never)]
+pub(crate) fn text_node(alloc: Global, pieces: Vec<TextPiece>) -> Result<Found, NoMemory>
+    ensures tree { IfOk result (λ f. expr_of f.tree.value ≡ trees.Text pieces.items) }
+    ensures height { IfOk result (λ f. f.height ≡ 1) }
+{
+    found_of(alloc, Expression::Text(pieces), 1)
+}
+
+#[inline(never)]
 pub(crate) fn parenthesised_node(
     alloc: Global,
     opening: Span,
@@ -41,6 +71,7 @@ pub(crate) fn parenthesised_node(
     )
 }
 
+#[inline(never)]
 pub(crate) fn index_node(
     alloc: Global,
     base: Found,
@@ -62,6 +93,7 @@ pub(crate) fn index_node(
     )
 }
 
+#[inline(never)]
 pub(crate) fn postfix_node(
     alloc: Global,
     base: Found,
@@ -76,6 +108,7 @@ pub(crate) fn postfix_node(
     found_of(alloc, Expression::Postfix(base.tree, op, at), height)
 }
 
+#[inline(never)]
 pub(crate) fn prefix_node(
     alloc: Global,
     op: StepOp,
@@ -90,6 +123,7 @@ pub(crate) fn prefix_node(
     found_of(alloc, Expression::Prefix(op, at, operand.tree), height)
 }
 
+#[inline(never)]
 pub(crate) fn unary_node(
     alloc: Global,
     op: UnaryOp,
@@ -104,6 +138,7 @@ pub(crate) fn unary_node(
     found_of(alloc, Expression::Unary(op, at, operand.tree), height)
 }
 
+#[inline(never)]
 pub(crate) fn cast_node(
     alloc: Global,
     opening: Span,
@@ -129,6 +164,7 @@ pub(crate) fn cast_node(
     found_of(alloc, tree, height)
 }
 
+#[inline(never)]
 pub(crate) fn binary_node(
     alloc: Global,
     op: BinaryOp,
@@ -150,6 +186,7 @@ pub(crate) fn binary_node(
     )
 }
 
+#[inline(never)]
 pub(crate) fn assignment_node(
     alloc: Global,
     op: AssignOp,
@@ -171,6 +208,7 @@ pub(crate) fn assignment_node(
     )
 }
 
+#[inline(never)]
 pub(crate) fn conditional_node(
     alloc: Global,
     condition: Found,
@@ -198,6 +236,7 @@ pub(crate) fn conditional_node(
     found_of(alloc, tree, height)
 }
 
+#[inline(never)]
 pub(crate) fn call_node(
     alloc: Global,
     function: Identifier,
@@ -222,6 +261,7 @@ pub(crate) fn call_node(
 }
 
 /// One value.
+#[inline(never)]
 pub fn one_value(alloc: Global, first: Found) -> Result<Values, NoMemory>
     requires { first.height ≡ expr_height (expr_of first.tree.value) }
     ensures values { IfOk result (λ v. values_of v ≡ (expr_of first.tree.value ∷ [], [])) }
@@ -238,6 +278,7 @@ pub fn one_value(alloc: Global, first: Found) -> Result<Values, NoMemory>
 }
 
 /// Values with one more behind a comma.
+#[inline(never)]
 pub fn one_more(before: Values, comma: Span, next: Found) -> Result<Values, NoMemory>
     requires before { before.height ≡ height_of_values before }
     requires next { next.height ≡ expr_height (expr_of next.tree.value) }

@@ -1,10 +1,12 @@
 //! The rules from `expression` down to `unary`.
 
-ghost use Rattle.std.specs.Prelude.{◌≡◌, ◌<◌, ◌≤◌, ◌-◌, nat_le};
+ghost use Rattle.std.specs.Prelude.{◌≡◌, ◌<◌, ◌≤◌, ◌-◌, nat_le, Some};
 ghost use Rattle.c_grammar.specs.Expressions.{expr_of};
 ghost use Rattle.c_grammar.specs.ExpressionTokens.{expr_height, looseness};
 ghost use Rattle.c_grammar.specs.Reading.{read_expression, read_assignment, read_conditional, read_binary, read_cast};
-ghost use Rattle.c_grammar.specs.Reading.{read_unary, infix_step, readers};
+ghost use Rattle.c_grammar.specs.Reading.{read_unary, infix_step, infix_from, assignment_from, conditional_from};
+ghost use Rattle.c_grammar.specs.Reading.{cast_behind, prefix_from, unary_from, readers};
+ghost use Rattle.c_grammar.specs.Taking.{take_specifiers, take_pointer};
 ghost use Rattle.c_grammar.specs.Chains.{chained};
 ghost use Rattle.c_parse_expressions.specs.Readings.{IsReading, IsPartReading, IsTurn, IsRule, below, reader_of};
 
@@ -15,7 +17,7 @@ use crate::found::{Found, Turn};
 use crate::primary::postfix;
 use c_cursor::{Cursor, Height, fault_at};
 use c_lexer::Punct;
-use c_syntax::Expression;
+use c_syntax::{AssignOp, BinaryOp, Expression, StepOp, UnaryOp};
 use pcc_base::{FaultKind, Refusal, Span};
 
 /// The level of the loosest operators of `binary`.
@@ -106,6 +108,33 @@ pub fn expression(cursor: &mut Cursor<'_>, height: Height) -> Result<Found, Refu
     }
 }
 
+/// The right operand of an operator, a tree of this rule, behind the left one and the operator
+#[inline(never)]
+#[cycle(expression)]
+fn infix_behind(
+    cursor: &mut Cursor<'_>,
+    left: Found,
+    op: BinaryOp,
+    at: Span,
+    rule: Rule,
+    height: Height,
+) -> Result<Turn, Refusal>
+    requires rule { IsRule rule }
+    requires left { left.height ≡ expr_height (expr_of left.tree.value) }
+    requires within { (0 < left.height) × (left.height ≤ height.levels) }
+    ensures { IsTurn height.levels (infix_from height.levels (reader_of rule (below height.levels))
+        (expr_of left.tree.value) (Some ((op, at), cursor.old.rest.now)))
+        (expr_of left.tree.value) cursor.old.rest.now cursor.new.rest.now result }
+{
+    if let Err(refusal) = height.above(left.height, at) {
+        return Err(left.refused(refusal));
+    }
+    match tree_below(cursor, rule, height, at) {
+        Ok(right) => Ok(Turn::More(binary_node(cursor.alloc, op, left, at, right)?)),
+        Err(refusal) => Err(left.refused(refusal)),
+    }
+}
+
 /// `',' assignment`
 #[cycle(expression)]
 fn comma(cursor: &mut Cursor<'_>, left: Found, height: Height) -> Result<Turn, Refusal>
@@ -118,10 +147,7 @@ fn comma(cursor: &mut Cursor<'_>, left: Found, height: Height) -> Result<Turn, R
     let Some((op, at)) = cursor.take_binary(COMMA) else {
         return Ok(Turn::Last(left));
     };
-    height.above(left.height, at)?;
-    let right = tree_below(cursor, Rule::Assignment, height, at)?;
-    let more = binary_node(cursor.alloc, op, left, at, right)?;
-    Ok(Turn::More(more))
+    infix_behind(cursor, left, op, at, Rule::Assignment, height)
 }
 
 /// `assignment : conditional | unary assign-op assignment`
@@ -134,12 +160,34 @@ pub fn assignment(cursor: &mut Cursor<'_>, height: Height) -> Result<Found, Refu
     let Some((op, at)) = cursor.take_assign() else {
         return Ok(left);
     };
+    assignment_behind(cursor, left, op, at, height)
+}
+
+/// `assignment`, behind an expression and an assignment operator
+#[inline(never)]
+#[cycle(expression)]
+fn assignment_behind(
+    cursor: &mut Cursor<'_>,
+    left: Found,
+    op: AssignOp,
+    at: Span,
+    height: Height,
+) -> Result<Found, Refusal>
+    requires left { left.height ≡ expr_height (expr_of left.tree.value) }
+    requires within { (0 < left.height) × (left.height ≤ height.levels) }
+    ensures { IsReading height.levels (λ ts. assignment_from height.levels (below height.levels)
+        (expr_of left.tree.value) (Some ((op, at), ts)) ts) cursor.old.rest.now cursor.new.rest.now result }
+{
     if !is_unary(&left.tree) {
-        return Err(fault_at(FaultKind::Syntax, at));
+        return Err(left.refused(fault_at(FaultKind::Syntax, at)));
     }
-    height.above(left.height, at)?;
-    let right = tree_below(cursor, Rule::Assignment, height, at)?;
-    Ok(assignment_node(cursor.alloc, op, left, at, right)?)
+    if let Err(refusal) = height.above(left.height, at) {
+        return Err(left.refused(refusal));
+    }
+    match tree_below(cursor, Rule::Assignment, height, at) {
+        Ok(right) => Ok(assignment_node(cursor.alloc, op, left, at, right)?),
+        Err(refusal) => Err(left.refused(refusal)),
+    }
 }
 
 /// `conditional : binary ('?' expression ':' conditional)?`
@@ -152,13 +200,48 @@ pub fn conditional(cursor: &mut Cursor<'_>, height: Height) -> Result<Found, Ref
     let Some(question) = cursor.take_mark(Punct::Question) else {
         return Ok(condition);
     };
-    height.above(condition.height, question)?;
-    let first = tree_below(cursor, Rule::Expression, height, question)?;
-    let Some(colon) = cursor.take_mark(Punct::Colon) else {
-        return Err(cursor.refusal(FaultKind::Syntax));
+    conditional_behind(cursor, condition, question, height)
+}
+
+/// `expression ':' conditional`, behind a condition and the `?`
+#[inline(never)]
+#[cycle(expression)]
+fn conditional_behind(
+    cursor: &mut Cursor<'_>,
+    condition: Found,
+    question: Span,
+    height: Height,
+) -> Result<Found, Refusal>
+    requires condition { condition.height ≡ expr_height (expr_of condition.tree.value) }
+    requires within { (0 < condition.height) × (condition.height ≤ height.levels) }
+    ensures { IsReading height.levels (λ ts. conditional_from height.levels (below height.levels)
+        (expr_of condition.tree.value) (Some (question, ts)) ts) cursor.old.rest.now cursor.new.rest.now result }
+{
+    if let Err(refusal) = height.above(condition.height, question) {
+        return Err(condition.refused(refusal));
+    }
+    let first = match tree_below(cursor, Rule::Expression, height, question) {
+        Ok(first) => first,
+        Err(refusal) => return Err(condition.refused(refusal)),
     };
-    let second = tree_below(cursor, Rule::Conditional, height, colon)?;
-    Ok(conditional_node(cursor.alloc, condition, question, first, colon, second)?)
+    let Some(colon) = cursor.take_mark(Punct::Colon) else {
+        drop(first);
+        return Err(condition.refused(cursor.refusal(FaultKind::Syntax)));
+    };
+    match tree_below(cursor, Rule::Conditional, height, colon) {
+        Ok(second) => Ok(conditional_node(
+            cursor.alloc,
+            condition,
+            question,
+            first,
+            colon,
+            second,
+        )?),
+        Err(refusal) => {
+            drop(first);
+            Err(condition.refused(refusal))
+        }
+    }
 }
 
 /// `binary`, from the level with this number on, which counts from the tightest; level 0 is `cast`. The levels that
@@ -230,10 +313,7 @@ fn operator(
     let Some((op, at)) = cursor.take_binary(level) else {
         return Ok(Turn::Last(left));
     };
-    height.above(left.height, at)?;
-    let right = tree_below(cursor, Rule::Binary(level - 1), height, at)?;
-    let more = binary_node(cursor.alloc, op, left, at, right)?;
-    Ok(Turn::More(more))
+    infix_behind(cursor, left, op, at, Rule::Binary(level - 1), height)
 }
 
 /// `cast : unary | '(' specifiers pointer? ')' cast`
@@ -245,6 +325,16 @@ fn cast(cursor: &mut Cursor<'_>, height: Height) -> Result<Found, Refusal>
     let Some(opening) = cursor.take_cast() else {
         return unary(cursor, height);
     };
+    cast_behind(cursor, opening, height)
+}
+
+/// `specifiers pointer? ')' cast`, behind the `(`
+#[inline(never)]
+#[cycle(expression)]
+fn cast_behind(cursor: &mut Cursor<'_>, opening: Span, height: Height) -> Result<Found, Refusal>
+    ensures { IsReading height.levels (λ ts. cast_behind (below height.levels) opening (take_specifiers ts).0
+        (take_pointer (take_specifiers ts).1)) cursor.old.rest.now cursor.new.rest.now result }
+{
     height.below(opening)?;
     let specifiers = cursor.take_specifiers()?;
     let pointer = cursor.take_pointer()?;
@@ -262,12 +352,42 @@ fn unary(cursor: &mut Cursor<'_>, height: Height) -> Result<Found, Refusal>
         cursor.new.rest.now result }
 {
     if let Some((op, at)) = cursor.take_step() {
-        let operand = tree_below(cursor, Rule::Unary, height, at)?;
-        return Ok(prefix_node(cursor.alloc, op, at, operand)?);
+        return prefix_behind(cursor, op, at, height);
     }
     if let Some((op, at)) = cursor.take_unary() {
-        let operand = tree_below(cursor, Rule::Cast, height, at)?;
-        return Ok(unary_node(cursor.alloc, op, at, operand)?);
+        return unary_behind(cursor, op, at, height);
     }
     postfix(cursor, height)
+}
+
+/// `unary`, behind `++` or `--`
+#[inline(never)]
+#[cycle(expression)]
+fn prefix_behind(
+    cursor: &mut Cursor<'_>,
+    op: StepOp,
+    at: Span,
+    height: Height,
+) -> Result<Found, Refusal>
+    ensures { IsReading height.levels (λ ts. prefix_from height.levels (below height.levels) (Some ((op, at), ts)) ts)
+        cursor.old.rest.now cursor.new.rest.now result }
+{
+    let operand = tree_below(cursor, Rule::Unary, height, at)?;
+    Ok(prefix_node(cursor.alloc, op, at, operand)?)
+}
+
+/// `cast`, behind an operator before an operand
+#[inline(never)]
+#[cycle(expression)]
+fn unary_behind(
+    cursor: &mut Cursor<'_>,
+    op: UnaryOp,
+    at: Span,
+    height: Height,
+) -> Result<Found, Refusal>
+    ensures { IsReading height.levels (λ ts. unary_from height.levels (below height.levels) (Some ((op, at), ts)) ts)
+        cursor.old.rest.now cursor.new.rest.now result }
+{
+    let operand = tree_below(cursor, Rule::Cast, height, at)?;
+    Ok(unary_node(cursor.alloc, op, at, operand)?)
 }

@@ -1,5 +1,7 @@
+ghost use Rattle.std.specs.Prelude.{◌≡◌};
+
 use c_syntax::Expression;
-use pcc_base::Span;
+use pcc_base::{Refusal, Span};
 
 /// An expression that was read, and its height.
 #[derive(Debug, Drop)]
@@ -8,12 +10,35 @@ pub struct Found {
     pub height: u32,
 }
 
+impl Found {
+    /// Lets the tree go, since a part behind it is refused. A drop in place would take its room in the frame of
+    /// whoever reads the nest.
+    #[inline(never)]
+    pub(crate) fn refused(self, refusal: Refusal) -> Refusal
+        ensures { result ≡ refusal }
+    {
+        drop(self);
+        refusal
+    }
+}
+
 /// Values, the commas between them, and the greatest of their heights.
 #[derive(Debug, Drop)]
 pub struct Values {
     pub values: Vec<Expression>,
     pub commas: Vec<Span>,
     pub height: u32,
+}
+
+impl Values {
+    /// Lets the values go, since a part behind them is refused.
+    #[inline(never)]
+    pub(crate) fn refused(self, refusal: Refusal) -> Refusal
+        ensures { result ≡ refusal }
+    {
+        drop(self);
+        refusal
+    }
 }
 
 /// One turn of a loop over an expression: one part more, or the end.

@@ -1,23 +1,27 @@
 //! The rules `postfix` and `primary`.
 
-ghost use Rattle.std.specs.Prelude.{◌≡◌, ◌<◌, ◌≤◌};
-ghost use Rattle.c_grammar.specs.Expressions.{expr_of};
+ghost use Rattle.std.specs.Prelude.{◌≡◌, ◌<◌, ◌≤◌, Some, length, suc, IfOk};
+ghost use Rattle.c_grammar.specs.Chains.{then_read};
+ghost use Rattle.c_grammar.specs.Expressions.{expr_of, exprs_of, Call};
 ghost use Rattle.c_grammar.specs.ExpressionTokens.{expr_height};
 ghost use Rattle.c_grammar.specs.Reading.{read_postfix, read_primary, read_arguments, suffix_step, value_step};
-ghost use Rattle.c_grammar.specs.Reading.{call_from, parenthesised_from};
-ghost use Rattle.c_grammar.specs.Taking.{take_mark};
+ghost use Rattle.c_grammar.specs.Reading.{call_from, index_from, parenthesised_from, text_from};
+ghost use Rattle.c_grammar.specs.Taking.{take_mark, take_texts};
 ghost use Rattle.c_parse_expressions.specs.Readings.{IsReading, IsPartReading, IsTurn, AreValues, IsValuesTurn};
 ghost use Rattle.c_parse_expressions.specs.Readings.{values_of, height_of_values, below};
+ghost use Rattle.c_parse_expressions.specs.declared.found.Found.{Found as Tree};
+ghost use Rattle.c_cursor.specs.Readings.{IsRead};
 
 use crate::build::{
-    call_node, found_of, index_node, one_more, one_value, parenthesised_node, postfix_node,
+    call_node, identifier_node, index_node, number_node, one_more, one_value, parenthesised_node,
+    postfix_node, text_node,
 };
 use crate::expression::{Rule, tree_below, tree_of};
 use crate::found::{Found, Turn, Values, ValuesTurn};
 use c_cursor::{Cursor, Height, copy_of};
 use c_lexer::{Punct, TokenKind};
-use c_syntax::{Expression, Identifier, TextPiece};
-use pcc_base::{FaultKind, Refusal, Span};
+use c_syntax::{Identifier, TextPiece};
+use pcc_base::{FaultKind, Name, NoMemory, Refusal, Span};
 
 /// `postfix : primary ('[' expression ']' | '++' | '--')*`
 #[cycle(expression)]
@@ -35,6 +39,7 @@ pub(crate) fn postfix(cursor: &mut Cursor<'_>, height: Height) -> Result<Found, 
 }
 
 /// `'[' expression ']'`, `'++'` or `'--'`
+#[inline(never)]
 #[cycle(expression)]
 fn suffix(cursor: &mut Cursor<'_>, base: Found, height: Height) -> Result<Turn, Refusal>
     requires base { base.height ≡ expr_height (expr_of base.tree.value) }
@@ -44,23 +49,50 @@ fn suffix(cursor: &mut Cursor<'_>, base: Found, height: Height) -> Result<Turn, 
         (expr_of base.tree.value) cursor.old.rest.now cursor.new.rest.now result }
 {
     if let Some(opening) = cursor.take_mark(Punct::LeftBracket) {
-        height.above(base.height, opening)?;
-        let index = tree_below(cursor, Rule::Expression, height, opening)?;
-        let Some(close) = cursor.take_mark(Punct::RightBracket) else {
-            return Err(cursor.refusal(FaultKind::Syntax));
-        };
-        let more = index_node(cursor.alloc, base, opening, index, close)?;
-        return Ok(Turn::More(more));
+        return index_behind(cursor, base, opening, height);
     }
     let Some((op, at)) = cursor.take_step() else {
         return Ok(Turn::Last(base));
     };
-    height.above(base.height, at)?;
+    if let Err(refusal) = height.above(base.height, at) {
+        return Err(base.refused(refusal));
+    }
     let more = postfix_node(cursor.alloc, base, op, at)?;
     Ok(Turn::More(more))
 }
 
+/// `expression ']'`, behind an expression and the `[`
+#[inline(never)]
+#[cycle(expression)]
+fn index_behind(
+    cursor: &mut Cursor<'_>,
+    base: Found,
+    opening: Span,
+    height: Height,
+) -> Result<Turn, Refusal>
+    requires base { base.height ≡ expr_height (expr_of base.tree.value) }
+    requires within { (0 < base.height) × (base.height ≤ height.levels) }
+    ensures { IsTurn height.levels (index_from height.levels (below height.levels) (expr_of base.tree.value) opening
+        cursor.old.rest.now)
+        (expr_of base.tree.value) cursor.old.rest.now cursor.new.rest.now result }
+{
+    if let Err(refusal) = height.above(base.height, opening) {
+        return Err(base.refused(refusal));
+    }
+    let index = match tree_below(cursor, Rule::Expression, height, opening) {
+        Ok(index) => index,
+        Err(refusal) => return Err(base.refused(refusal)),
+    };
+    let Some(close) = cursor.take_mark(Punct::RightBracket) else {
+        drop(index);
+        return Err(base.refused(cursor.refusal(FaultKind::Syntax)));
+    };
+    let more = index_node(cursor.alloc, base, opening, index, close)?;
+    Ok(Turn::More(more))
+}
+
 /// `primary : ident | number | text+ | '(' expression ')' | ident '(' (assignment (',' assignment)*)? ')'`
+#[inline(never)]
 #[cycle(expression)]
 fn primary(cursor: &mut Cursor<'_>, height: Height) -> Result<Found, Refusal>
     ensures { IsReading height.levels (read_primary (below height.levels)) cursor.old.rest.now
@@ -74,18 +106,15 @@ fn primary(cursor: &mut Cursor<'_>, height: Height) -> Result<Found, Refusal>
     match &first.kind {
         TokenKind::Ident(name) => {
             cursor.rest = others;
-            let name = copy_of(cursor.alloc, name)?;
-            named(cursor, Identifier { name, at }, height)
+            named(cursor, name, at, height)
         }
         TokenKind::Number(value) => {
             cursor.rest = others;
-            Ok(found_of(cursor.alloc, Expression::Number(*value, at), 1)?)
+            Ok(number_node(cursor.alloc, *value, at)?)
         }
         TokenKind::Text(bytes) => {
             cursor.rest = others;
-            let bytes = copy_of(cursor.alloc, bytes)?;
-            let pieces = cursor.take_texts(TextPiece { bytes, at })?;
-            Ok(found_of(cursor.alloc, Expression::Text(pieces), 1)?)
+            Ok(texts(cursor, bytes, at)?)
         }
         TokenKind::Mark(mark) => {
             if Punct::LeftParen == *mark {
@@ -99,6 +128,7 @@ fn primary(cursor: &mut Cursor<'_>, height: Height) -> Result<Found, Refusal>
 }
 
 /// `'(' expression ')'`, behind the mark
+#[inline(never)]
 #[cycle(expression)]
 fn parenthesised(cursor: &mut Cursor<'_>, opening: Span, height: Height) -> Result<Found, Refusal>
     ensures { IsReading height.levels (parenthesised_from (below height.levels) opening) cursor.old.rest.now
@@ -106,28 +136,80 @@ fn parenthesised(cursor: &mut Cursor<'_>, opening: Span, height: Height) -> Resu
 {
     let inner = tree_below(cursor, Rule::Expression, height, opening)?;
     let Some(close) = cursor.take_mark(Punct::RightParen) else {
-        return Err(cursor.refusal(FaultKind::Syntax));
+        return Err(inner.refused(cursor.refusal(FaultKind::Syntax)));
     };
     Ok(parenthesised_node(cursor.alloc, opening, inner, close)?)
 }
 
+/// `text+`, whose first is taken already
+#[inline(never)]
+fn texts(cursor: &mut Cursor<'_>, first: &Name, at: Span) -> Result<Found, NoMemory>
+    ensures read { IfOk result (λ f. text_from (record { bytes = first.now; at = at }) (take_texts cursor.old.rest.now)
+        ≡ Some (expr_of f.tree.value, cursor.new.rest.now)) }
+    ensures fewer { IfOk result (λ _. length cursor.new.rest.now ≤ length cursor.old.rest.now) }
+    ensures height { IfOk result (λ f. (f.height ≡ 1) × (f.height ≡ expr_height (expr_of f.tree.value))) }
+{
+    let bytes = copy_of(cursor.alloc, first)?;
+    let pieces = cursor.take_texts(TextPiece { bytes, at })?;
+    text_node(cursor.alloc, pieces)
+}
+
 /// `ident` or `ident '(' (assignment (',' assignment)*)? ')'`, behind the identifier
+#[inline(never)]
 #[cycle(expression)]
-fn named(cursor: &mut Cursor<'_>, name: Identifier, height: Height) -> Result<Found, Refusal>
-    ensures { IsPartReading height.levels (λ ts. call_from (below height.levels) name (take_mark Punct.LeftParen ts) ts)
+fn named(cursor: &mut Cursor<'_>, name: &Name, at: Span, height: Height) -> Result<Found, Refusal>
+    ensures { IsPartReading height.levels (λ ts. call_from (below height.levels) (record { name = name.now; at = at })
+        (take_mark Punct.LeftParen ts) ts) cursor.old.rest.now cursor.new.rest.now result }
+{
+    let name = copy_of(cursor.alloc, name)?;
+    let name = Identifier { name, at };
+    let Some(opening) = cursor.take_mark(Punct::LeftParen) else {
+        return Ok(identifier_node(cursor.alloc, name)?);
+    };
+    call_behind(cursor, name, opening, height)
+}
+
+/// `(assignment (',' assignment)*)? ')'`, behind the identifier and the `(`
+#[inline(never)]
+#[cycle(expression)]
+fn call_behind(
+    cursor: &mut Cursor<'_>,
+    name: Identifier,
+    opening: Span,
+    height: Height,
+) -> Result<Found, Refusal>
+    ensures { IsReading height.levels (λ ts. call_from (below height.levels) name (Some (opening, ts)) ts)
         cursor.old.rest.now cursor.new.rest.now result }
 {
-    let Some(opening) = cursor.take_mark(Punct::LeftParen) else {
-        return Ok(found_of(cursor.alloc, Expression::Identifier(name), 1)?);
-    };
     let arguments = arguments(cursor, height)?;
+    let call = call_closed(cursor, name, opening, arguments)?;
+    Ok(call)
+}
+
+/// `')'`, behind the arguments of a call
+#[inline(never)]
+fn call_closed(
+    cursor: &mut Cursor<'_>,
+    name: Identifier,
+    opening: Span,
+    arguments: Values,
+) -> Result<Found, Refusal>
+    requires arguments { arguments.height ≡ height_of_values arguments }
+    requires within { arguments.height ≤ 256 }
+    ensures read { IsRead (λ (f : Tree). expr_of f.tree.value) (λ ts. then_read (take_mark Punct.RightParen ts)
+        (λ close us. Some (Call name opening (exprs_of (values_of arguments).0) (values_of arguments).1 close, us)))
+        cursor.old.rest.now cursor.new.rest.now result }
+    ensures height { IfOk result (λ f. (f.height ≡ expr_height (expr_of f.tree.value))
+        × (f.height ≡ suc arguments.height)) }
+{
     let Some(close) = cursor.take_mark(Punct::RightParen) else {
-        return Err(cursor.refusal(FaultKind::Syntax));
+        return Err(arguments.refused(cursor.refusal(FaultKind::Syntax)));
     };
     Ok(call_node(cursor.alloc, name, opening, arguments, close)?)
 }
 
 /// `(assignment (',' assignment)*)?`, before a `)`
+#[inline(never)]
 #[cycle(expression)]
 fn arguments(cursor: &mut Cursor<'_>, height: Height) -> Result<Values, Refusal>
     ensures { AreValues height.levels (read_arguments (below height.levels)) cursor.old.rest.now
@@ -154,6 +236,7 @@ fn arguments(cursor: &mut Cursor<'_>, height: Height) -> Result<Values, Refusal>
 }
 
 /// `',' assignment`, behind values
+#[inline(never)]
 #[cycle(expression)]
 fn value(cursor: &mut Cursor<'_>, values: Values, height: Height) -> Result<ValuesTurn, Refusal>
     requires values { values.height ≡ height_of_values values }
@@ -164,7 +247,8 @@ fn value(cursor: &mut Cursor<'_>, values: Values, height: Height) -> Result<Valu
     let Some(comma) = cursor.take_mark(Punct::Comma) else {
         return Ok(ValuesTurn::LastValues(values));
     };
-    let next = tree_below(cursor, Rule::Assignment, height, comma)?;
-    let more = one_more(values, comma, next)?;
-    Ok(ValuesTurn::MoreValues(more))
+    match tree_below(cursor, Rule::Assignment, height, comma) {
+        Ok(next) => Ok(ValuesTurn::MoreValues(one_more(values, comma, next)?)),
+        Err(refusal) => Err(values.refused(refusal)),
+    }
 }

@@ -4,9 +4,9 @@ ghost use Rattle.c_grammar.specs.Statements.{stmt_of};
 ghost use Rattle.c_grammar.specs.Taking.{take_word};
 ghost use Rattle.c_grammar.specs.StatementReading.{or_break, break_behind, continue_behind, return_behind, read_simple};
 ghost use Rattle.c_cursor.specs.Readings.{IsRead};
-ghost use Rattle.c_parse_statements.specs.Parts.{below_node};
+ghost use Rattle.c_parse_statements.specs.Parts.{below_node, boxed_of};
 
-use crate::nodes::{return_node, simple_node};
+use crate::nodes::{boxed, return_node, simple_node};
 use crate::parts::take_clause;
 use c_cursor::{Cursor, Height};
 use c_lexer::Punct;
@@ -51,7 +51,7 @@ fn simple(cursor: &mut Cursor<'_>, height: Height) -> Result<Statement, Refusal>
 }
 
 /// `'break' ';' | 'continue' ';' | 'return' expression? ';' | expression? ';'`
-pub(crate) fn jump_or_simple(cursor: &mut Cursor<'_>, height: Height) -> Result<Statement, Refusal>
+fn jump_or_simple(cursor: &mut Cursor<'_>, height: Height) -> Result<Statement, Refusal>
     ensures { IsRead stmt_of
         (λ ts. or_break (below_node height.levels) (take_word Keyword.Break ts) ts)
         cursor.old.rest.now cursor.new.rest.now result }
@@ -66,4 +66,18 @@ pub(crate) fn jump_or_simple(cursor: &mut Cursor<'_>, height: Height) -> Result<
         return return_behind(cursor, at, height);
     }
     simple(cursor, height)
+}
+
+/// The same in a box
+#[inline(never)]
+pub(crate) fn boxed_simple(
+    cursor: &mut Cursor<'_>,
+    height: Height,
+) -> Result<Box<Statement>, Refusal>
+    ensures { IsRead boxed_of
+        (λ ts. or_break (below_node height.levels) (take_word Keyword.Break ts) ts)
+        cursor.old.rest.now cursor.new.rest.now result }
+{
+    let statement = jump_or_simple(cursor, height)?;
+    Ok(boxed(cursor.alloc, statement)?)
 }

@@ -33,6 +33,7 @@ fn take_label(cursor: &mut Cursor<'_>, lower: Height) -> Result<Option<Label>, R
 }
 
 /// `label*`, of at most this height
+#[inline(never)]
 pub(crate) fn take_labels(cursor: &mut Cursor<'_>, lower: Height) -> Result<LabelList, Refusal>
     ensures { IsPartRead labels_of (read_labels (readers lower.levels).conditional) cursor.old.rest.now
         cursor.new.rest.now result }

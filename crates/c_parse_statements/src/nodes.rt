@@ -1,7 +1,9 @@
-//! Nodes of statements: each puts parts that were read into one tree. The statements in a node are boxed
-//! where they are read, so that no node can fail.
+//! Nodes of statements: each puts parts that were read into one tree, in a box.
+//!
+//! None is inlined: a statement is as large as its largest node, and the functions that read a nest keep room for
+//! none.
 
-ghost use Rattle.std.specs.Prelude.{◌≡◌, IfOk};
+ghost use Rattle.std.specs.Prelude.{◌≡◌, ◌∷◌, ◌++◌, [], IfOk, OnOk};
 ghost use Rattle.c_grammar.specs.Expressions.{expr_of};
 ghost use Rattle.c_grammar.specs.Declarations.{declaration_of, maybe_expr_of};
 ghost use Rattle.c_grammar.specs.Statements as trees;
@@ -11,59 +13,99 @@ ghost use Rattle.c_parse_statements.specs.Parts.{for_of, labels_of, start_of, st
 use crate::parts::{
     Clause, Condition, DoTail, ForHead, ForStart, ForTests, LabelList, StatementList, SwitchHead,
 };
+use c_cursor::push;
 use c_syntax::{Declaration, Statement};
 use pcc_base::{NoMemory, Span};
 use std::alloc::Global;
 
 /// A value in a box.
+#[inline(always)]
 pub(crate) fn boxed<T: Drop>(alloc: Global, value: T) -> Result<Box<T>, NoMemory>
     ensures { IfOk result (λ b. b.value ≡ value) }
 {
     Ok(Box::new(alloc, value)?)
 }
 
-pub(crate) fn declared_node(declaration: Declaration) -> Statement
-    ensures { stmt_of result ≡ trees.Declared (declaration_of declaration) }
+/// Appends a statement that was read in a box.
+#[inline(never)]
+pub(crate) fn push_item(
+    statements: &mut Vec<Statement>,
+    item: Box<Statement>,
+) -> Result<(), NoMemory>
+    ensures { OnOk result (statements.new.items ≡ statements.old.items ++ item.value ∷ []) }
 {
-    Statement::Declaration(declaration)
+    push(statements, Box::into_inner(item))
 }
 
-pub(crate) fn labelled_node(list: LabelList, statement: Box<Statement>) -> Statement
-    ensures { stmt_of result ≡ trees.Labelled (labels_of list) (stmt_of statement.value) }
+#[inline(never)]
+pub(crate) fn declared_node(
+    alloc: Global,
+    declaration: Declaration,
+) -> Result<Box<Statement>, NoMemory>
+    ensures { IfOk result (λ b. stmt_of b.value ≡ trees.Declared (declaration_of declaration)) }
 {
-    Statement::Labelled(list.labels, statement)
+    let statement = Statement::Declaration(declaration);
+    boxed(alloc, statement)
 }
 
-pub(crate) fn block_node(opening: Span, items: StatementList) -> Statement
-    ensures { stmt_of result ≡ trees.Block opening (stmts_of (statements_of items)) items.close }
+#[inline(never)]
+pub(crate) fn labelled_node(
+    alloc: Global,
+    list: LabelList,
+    statement: Box<Statement>,
+) -> Result<Box<Statement>, NoMemory>
+    ensures { IfOk result (λ b. stmt_of b.value ≡ trees.Labelled (labels_of list) (stmt_of statement.value)) }
 {
-    Statement::Block(opening, items.statements, items.close)
+    let statement = Statement::Labelled(list.labels, statement);
+    boxed(alloc, statement)
 }
 
-pub(crate) fn if_node(at: Span, condition: Condition, then: Box<Statement>) -> Statement
-    ensures { stmt_of result ≡ trees.If at condition.opening (expr_of condition.value.value) condition.close
-        (stmt_of then.value) }
+#[inline(never)]
+pub(crate) fn block_node(
+    alloc: Global,
+    opening: Span,
+    items: StatementList,
+) -> Result<Box<Statement>, NoMemory>
+    ensures { IfOk result (λ b. stmt_of b.value ≡ trees.Block opening (stmts_of (statements_of items)) items.close) }
 {
-    Statement::If {
+    let statement = Statement::Block(opening, items.statements, items.close);
+    boxed(alloc, statement)
+}
+
+#[inline(never)]
+pub(crate) fn if_node(
+    alloc: Global,
+    at: Span,
+    condition: Condition,
+    then: Box<Statement>,
+) -> Result<Box<Statement>, NoMemory>
+    ensures { IfOk result (λ b. stmt_of b.value
+        ≡ trees.If at condition.opening (expr_of condition.value.value) condition.close (stmt_of then.value)) }
+{
+    let statement = Statement::If {
         at,
         opening: condition.opening,
         condition: Box::into_inner(condition.value),
         close: condition.close,
         then,
-    }
+    };
+    boxed(alloc, statement)
 }
 
+#[inline(never)]
 pub(crate) fn if_else_node(
+    alloc: Global,
     at: Span,
     condition: Condition,
     then: Box<Statement>,
     otherwise: Span,
     other: Box<Statement>,
-) -> Statement
-    ensures { stmt_of result ≡ trees.IfElse at condition.opening (expr_of condition.value.value) condition.close
-        (stmt_of then.value) otherwise (stmt_of other.value) }
+) -> Result<Box<Statement>, NoMemory>
+    ensures { IfOk result (λ b. stmt_of b.value
+        ≡ trees.IfElse at condition.opening (expr_of condition.value.value) condition.close (stmt_of then.value)
+        otherwise (stmt_of other.value)) }
 {
-    Statement::IfElse {
+    let statement = Statement::IfElse {
         at,
         opening: condition.opening,
         condition: Box::into_inner(condition.value),
@@ -71,27 +113,41 @@ pub(crate) fn if_else_node(
         then,
         otherwise,
         other,
-    }
+    };
+    boxed(alloc, statement)
 }
 
-pub(crate) fn while_node(at: Span, condition: Condition, body: Box<Statement>) -> Statement
-    ensures { stmt_of result ≡ trees.While at condition.opening (expr_of condition.value.value) condition.close
-        (stmt_of body.value) }
+#[inline(never)]
+pub(crate) fn while_node(
+    alloc: Global,
+    at: Span,
+    condition: Condition,
+    body: Box<Statement>,
+) -> Result<Box<Statement>, NoMemory>
+    ensures { IfOk result (λ b. stmt_of b.value
+        ≡ trees.While at condition.opening (expr_of condition.value.value) condition.close (stmt_of body.value)) }
 {
-    Statement::While {
+    let statement = Statement::While {
         at,
         opening: condition.opening,
         condition: Box::into_inner(condition.value),
         close: condition.close,
         body,
-    }
+    };
+    boxed(alloc, statement)
 }
 
-pub(crate) fn do_node(at: Span, body: Box<Statement>, tail: DoTail) -> Statement
-    ensures { stmt_of result ≡ trees.Do at (stmt_of body.value) tail.until tail.condition.opening
-        (expr_of tail.condition.value.value) tail.condition.close tail.semicolon }
+#[inline(never)]
+pub(crate) fn do_node(
+    alloc: Global,
+    at: Span,
+    body: Box<Statement>,
+    tail: DoTail,
+) -> Result<Box<Statement>, NoMemory>
+    ensures { IfOk result (λ b. stmt_of b.value ≡ trees.Do at (stmt_of body.value) tail.until tail.condition.opening
+        (expr_of tail.condition.value.value) tail.condition.close tail.semicolon) }
 {
-    Statement::Do {
+    let statement = Statement::Do {
         at,
         body,
         until: tail.until,
@@ -99,19 +155,28 @@ pub(crate) fn do_node(at: Span, body: Box<Statement>, tail: DoTail) -> Statement
         condition: Box::into_inner(tail.condition.value),
         close: tail.condition.close,
         semicolon: tail.semicolon,
-    }
+    };
+    boxed(alloc, statement)
 }
 
-pub(crate) fn for_node(at: Span, head: ForHead, body: Box<Statement>) -> Statement
-    ensures { stmt_of result ≡ for_of at head.opening (start_of head.start) (tests_of head.tests) (stmt_of body.value) }
+#[inline(never)]
+pub(crate) fn for_node(
+    alloc: Global,
+    at: Span,
+    head: Box<ForHead>,
+    body: Box<Statement>,
+) -> Result<Box<Statement>, NoMemory>
+    ensures { IfOk result (λ b. stmt_of b.value
+        ≡ for_of at head.value.opening (start_of head.value.start) (tests_of head.value.tests)
+        (stmt_of body.value)) }
 {
     let ForHead {
         opening,
         start,
         tests,
-    } = head;
+    } = Box::into_inner(head);
     let ForTests { condition, step } = tests;
-    match start {
+    let statement = match start {
         ForStart::Expressed(start) => Statement::For {
             at,
             opening,
@@ -133,14 +198,22 @@ pub(crate) fn for_node(at: Span, head: ForHead, body: Box<Statement>) -> Stateme
             close: step.mark,
             body,
         },
-    }
+    };
+    boxed(alloc, statement)
 }
 
-pub(crate) fn switch_node(at: Span, head: SwitchHead, items: StatementList) -> Statement
-    ensures { stmt_of result ≡ trees.Switch at head.value.opening (expr_of head.value.value.value) head.value.close
-        head.begin (stmts_of (statements_of items)) items.close }
+#[inline(never)]
+pub(crate) fn switch_node(
+    alloc: Global,
+    at: Span,
+    head: SwitchHead,
+    items: StatementList,
+) -> Result<Box<Statement>, NoMemory>
+    ensures { IfOk result (λ b. stmt_of b.value
+        ≡ trees.Switch at head.value.opening (expr_of head.value.value.value) head.value.close head.begin
+        (stmts_of (statements_of items)) items.close) }
 {
-    Statement::Switch {
+    let statement = Statement::Switch {
         at,
         opening: head.value.opening,
         value: Box::into_inner(head.value.value),
@@ -148,7 +221,8 @@ pub(crate) fn switch_node(at: Span, head: SwitchHead, items: StatementList) -> S
         begin: head.begin,
         items: items.statements,
         end: items.close,
-    }
+    };
+    boxed(alloc, statement)
 }
 
 pub(crate) fn return_node(at: Span, clause: Clause) -> Statement

@@ -9,11 +9,13 @@ ghost use Rattle.pcc_base.specs.declared.refusal.Refusal.TheVariants.{Fault as F
 ghost use Rattle.c_grammar.specs.Declarations.{declaration_of};
 ghost use Rattle.c_grammar.specs.StatementReading.{read_condition};
 ghost use Rattle.c_cursor.specs.Readings.{IsRead};
-ghost use Rattle.c_parse_statements.specs.Parts.{below_node, clause_of, condition_of, fields_of, for_head_of};
+ghost use Rattle.c_parse_statements.specs.Parts.{below_node, boxed_head_of, clause_of, condition_of, fields_of};
+ghost use Rattle.c_parse_statements.specs.Parts.{for_head_of};
 ghost use Rattle.c_parse_statements.specs.Parts.{read_clause, read_do_tail, read_for_head, read_for_start};
 ghost use Rattle.c_parse_statements.specs.Parts.{read_for_tests, read_switch_head, start_of, switch_head_of, tail_of};
 ghost use Rattle.c_parse_statements.specs.Parts.{tests_of};
 
+use crate::nodes::boxed;
 use c_cursor::{Cursor, Height, begins_expression, fault_at};
 use c_lexer::{Punct, TokenKind};
 use c_parse_declarations::{declaration, maybe};
@@ -87,6 +89,7 @@ pub(crate) struct StatementList {
 }
 
 /// `'(' expression ')'`, of an expression of at most this height
+#[inline(never)]
 pub(crate) fn parenthesised(cursor: &mut Cursor<'_>, lower: Height) -> Result<Condition, Refusal>
     ensures { IsRead condition_of (read_condition (fields_of lower.levels)) cursor.old.rest.now
         cursor.new.rest.now result }
@@ -106,6 +109,7 @@ pub(crate) fn parenthesised(cursor: &mut Cursor<'_>, lower: Height) -> Result<Co
 }
 
 /// `expression?` and this mark
+#[inline(never)]
 pub(crate) fn take_clause(
     cursor: &mut Cursor<'_>,
     mark: Punct,
@@ -122,6 +126,7 @@ pub(crate) fn take_clause(
 }
 
 /// `'while' '(' expression ')' ';'`, behind the body of a `do`, of an expression of at most this height
+#[inline(never)]
 pub(crate) fn do_tail(cursor: &mut Cursor<'_>, lower: Height) -> Result<DoTail, Refusal>
     ensures { IsRead tail_of (read_do_tail (fields_of lower.levels)) cursor.old.rest.now
         cursor.new.rest.now result }
@@ -141,6 +146,7 @@ pub(crate) fn do_tail(cursor: &mut Cursor<'_>, lower: Height) -> Result<DoTail, 
 }
 
 /// `expression? ';' | declaration`, in a `for`
+#[inline(never)]
 fn for_start(cursor: &mut Cursor<'_>, height: Height) -> Result<ForStart, Refusal>
     ensures { IsRead start_of (read_for_start (below_node height.levels)) cursor.old.rest.now
         cursor.new.rest.now result }
@@ -154,6 +160,7 @@ fn for_start(cursor: &mut Cursor<'_>, height: Height) -> Result<ForStart, Refusa
 }
 
 /// `expression? ';' expression? ')'`, in a `for`
+#[inline(never)]
 fn for_tests(cursor: &mut Cursor<'_>, height: Height) -> Result<ForTests, Refusal>
     ensures { IsRead tests_of (read_for_tests (below_node height.levels)) cursor.old.rest.now
         cursor.new.rest.now result }
@@ -169,7 +176,8 @@ fn for_tests(cursor: &mut Cursor<'_>, height: Height) -> Result<ForTests, Refusa
 }
 
 /// `'(' (expression? ';' | declaration) expression? ';' expression? ')'`, in a `for`
-pub(crate) fn for_head(cursor: &mut Cursor<'_>, height: Height) -> Result<ForHead, Refusal>
+#[inline(never)]
+fn for_head(cursor: &mut Cursor<'_>, height: Height) -> Result<ForHead, Refusal>
     ensures { IsRead for_head_of (read_for_head (below_node height.levels)) cursor.old.rest.now
         cursor.new.rest.now result }
 {
@@ -190,7 +198,18 @@ pub(crate) fn for_head(cursor: &mut Cursor<'_>, height: Height) -> Result<ForHea
     }
 }
 
+/// The same in a box, since it stays while the body is read.
+#[inline(never)]
+pub(crate) fn boxed_head(cursor: &mut Cursor<'_>, height: Height) -> Result<Box<ForHead>, Refusal>
+    ensures { IsRead boxed_head_of (read_for_head (below_node height.levels)) cursor.old.rest.now
+        cursor.new.rest.now result }
+{
+    let head = for_head(cursor, height)?;
+    Ok(boxed(cursor.alloc, head)?)
+}
+
 /// `'(' expression ')' '{'`, in a `switch`, of an expression of at most this height
+#[inline(never)]
 pub(crate) fn switch_head(cursor: &mut Cursor<'_>, lower: Height) -> Result<SwitchHead, Refusal>
     ensures { IsRead switch_head_of (read_switch_head (fields_of lower.levels)) cursor.old.rest.now
         cursor.new.rest.now result }

@@ -5,13 +5,15 @@ use Rattle.c_grammar.specs.Expressions.{exprs_of}
 use Rattle.c_grammar.specs.ExpressionTokens.{expr_height, exprs_height}
 use Rattle.c_grammar.specs.Reading as reading
 use Rattle.c_grammar.specs.Reading.{readers, read_expression, read_assignment, read_conditional, read_binary}
-use Rattle.c_grammar.specs.Reading.{read_cast, read_unary}
+use Rattle.c_grammar.specs.Reading.{read_cast, read_unary, cast_behind}
+use Rattle.c_grammar.specs.Taking.{take_specifiers, take_pointer}
 use Rattle.c_grammar.proofs.Chains.{continues_goes}
 use Rattle.c_grammar.proofs.Reading.{expression_above, assignment_above, conditional_above}
 use Rattle.c_grammar.proofs.Reading.{binary_above, cast_above, unary_above}
 use Rattle.c_cursor.proofs.Refused.{refused_turn, last_turn, refused_fault}
 use Rattle.c_parse_expressions.specs.Readings.{reader_of, below}
-use Rattle.c_parse_expressions.proofs.Turns.{same_reading, none_below, no_arguments, no_cast_below}
+use Rattle.c_parse_expressions.proofs.Turns.{same_reading, none_below, no_arguments, no_cast_behind, cast_is}
+use Rattle.c_parse_expressions.proofs.Turns.{reading_behind}
 use Rattle.c_parse_expressions.proofs.Levels.{levels_passed, level_reads, levels_refused, refused_so}
 use Rattle.c_parse_expressions.proofs.+expression.Goals as goal
 use Rattle.c_parse_expressions.proofs.+expression.Goals.{expression::binary-then-next-reached}
@@ -65,12 +67,21 @@ expression::tree_of-returns-in-Unary t c =
     same_reading n (reader_of c.args.rule (readers n)) (read_unary n (below n)) ts _ _
     (rw c.in-Unary.is (unary_above n ts c.args.height.low)) c.unary.ensures
 
-pub expression::cast-returns-in_err-below : goal.expression::cast-returns-in_err-below
-expression::cast-returns-in_err-below t c =
+pub expression::cast_behind-returns-in_err-below : goal.expression::cast_behind-returns-in_err-below
+expression::cast_behind-returns-in_err-below t c =
     let p = err_from_is_err_and c.from_residual.result c.from_residual.ensures.1 in
-    rw (p.1, p.2) (refused_fault _ _ _ (no_cast_below c.args.height.levels c.args.cursor.now.rest.now _ _
-    c.in_err-below.ensures.err.0 c.in-Some.ensures.some.0 c.in-Some.ensures.some.1)
-    c.in_err-below.ensures.err.1)
+    let ts = c.args.cursor.now.rest.now in
+    rw (p.1, p.2) (refused_fault _ _ _ (no_cast_behind c.args.height.levels c.args.opening (take_specifiers ts).0
+    (take_pointer (take_specifiers ts).1) c.in_err-below.ensures.err.0) c.in_err-below.ensures.err.1)
+
+pub expression::cast-returns : goal.expression::cast-returns
+expression::cast-returns t c =
+    let n = c.args.height.levels in
+    let ts = c.args.cursor.now.rest.now in
+    reading_behind n (read_cast n (below n))
+    (λ us. cast_behind (below n) c.in-Some.opening (take_specifiers us).0 (take_pointer (take_specifiers us).1))
+    ts _ _ _ (cast_is n (below n) ts _ _ c.in-Some.ensures.some.0 c.in-Some.ensures.some.1)
+    c.in-Some.ensures.shorter c.cast_behind.ensures
 
 pub expression::operators-operators-preserved : goal.expression::operators-operators-preserved
 expression::operators-operators-preserved t c =

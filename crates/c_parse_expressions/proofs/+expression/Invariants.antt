@@ -49,19 +49,43 @@ abbrev pub decreases-primary::suffix : goal.decreases-primary::suffix
 decreases-primary::suffix l = 32 * l.height.levels + 5
 
 abbrev pub decreases-primary::primary : goal.decreases-primary::primary
-decreases-primary::primary l = 32 * l.height.levels + 4
+decreases-primary::primary l = 32 * l.height.levels + 5
 
 abbrev pub decreases-primary::parenthesised : goal.decreases-primary::parenthesised
 decreases-primary::parenthesised l = 32 * l.height.levels + 3
 
 abbrev pub decreases-primary::named : goal.decreases-primary::named
-decreases-primary::named l = 32 * l.height.levels + 3
+decreases-primary::named l = 32 * l.height.levels + 4
 
 abbrev pub decreases-primary::arguments : goal.decreases-primary::arguments
 decreases-primary::arguments l = 32 * l.height.levels + 2
 
 abbrev pub decreases-primary::value : goal.decreases-primary::value
 decreases-primary::value l = 32 * l.height.levels + 1
+
+abbrev pub decreases-primary::call_behind : goal.decreases-primary::call_behind
+decreases-primary::call_behind l = 32 * l.height.levels + 3
+
+abbrev pub decreases-primary::index_behind : goal.decreases-primary::index_behind
+decreases-primary::index_behind l = 32 * l.height.levels + 1
+
+abbrev pub decreases-expression::infix_behind : goal.decreases-expression::infix_behind
+decreases-expression::infix_behind l = 32 * l.height.levels + 1
+
+abbrev pub decreases-expression::assignment_behind : goal.decreases-expression::assignment_behind
+decreases-expression::assignment_behind l = 32 * l.height.levels + 1
+
+abbrev pub decreases-expression::conditional_behind : goal.decreases-expression::conditional_behind
+decreases-expression::conditional_behind l = 32 * l.height.levels + 1
+
+abbrev pub decreases-expression::cast_behind : goal.decreases-expression::cast_behind
+decreases-expression::cast_behind l = 32 * l.height.levels + 1
+
+abbrev pub decreases-expression::prefix_behind : goal.decreases-expression::prefix_behind
+decreases-expression::prefix_behind l = 32 * l.height.levels + 1
+
+abbrev pub decreases-expression::unary_behind : goal.decreases-expression::unary_behind
+decreases-expression::unary_behind l = 32 * l.height.levels + 1
 
 -- what is read in all is what the turns from here read
 

@@ -6,8 +6,8 @@ use Rattle.c_grammar.specs.StatementReading.{until_step, read_until}
 use Rattle.c_parse_statements.specs.Parts.{below_node, fields_of}
 use Rattle.c_parse_statements.proofs.statements.+statement.Given as goal
 
-abbrev pub decreases-statement : goal.decreases-statement
-decreases-statement l = 16 * l.height.levels + 9
+abbrev pub decreases-any_statement : goal.decreases-any_statement
+decreases-any_statement l = 16 * l.height.levels + 9
 
 abbrev pub decreases-block_behind : goal.decreases-block_behind
 decreases-block_behind l = 16 * l.height.levels + 8
