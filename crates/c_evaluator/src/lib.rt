@@ -4,6 +4,7 @@
 //! the bytes that it writes on the output. The answer is that of the source meaning, `specs/Runs.antt`.
 #![tactic(auto)]
 
+mod at_once;
 mod evaluate;
 mod next;
 mod run;

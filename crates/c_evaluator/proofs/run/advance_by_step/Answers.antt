@@ -6,7 +6,7 @@ use Rattle.c_tree.specs.Erased.{program_of}
 use Rattle.c_evaluator.specs.Standing.{standing, streams_of}
 use Rattle.c_evaluator.proofs.Advancing.{byte_steps, byte_stops, room_steps, room_stops}
 use Rattle.c_evaluator.proofs.Stepping.{steps_done, stops_done}
-use Rattle.c_evaluator.proofs.run.advance_ahead.Goals as goal
+use Rattle.c_evaluator.proofs.run.advance_by_step.Goals as goal
 
 pub returns-in_err-perform : goal.returns-in_err-perform
 returns-in_err-perform g c =
