@@ -107,13 +107,7 @@ const WIDE: u32 = 1 << 20;
 
 /// Places in the wide data, from the first one on: at its end, near its beginning, in its middle, and at both sides of
 /// where its last quarter begins.
-const PLACES: [u32; 5] = [
-    WIDE - 4,
-    6,
-    WIDE / 2,
-    WIDE / 4 * 3 - 2,
-    WIDE / 4 * 3 - 64,
-];
+const PLACES: [u32; 5] = [WIDE - 4, 6, WIDE / 2, WIDE / 4 * 3 - 2, WIDE / 4 * 3 - 64];
 
 #[test]
 fn untouched_bytes(rt: HostRuntime) -> Result<(), Fail> {
@@ -136,7 +130,11 @@ fn untouched_bytes(rt: HostRuntime) -> Result<(), Fail> {
         assert!(rt; memory.store32(DATA + place, 0x0a0b_0c0d), "{place:#x}");
     }
     for place in PLACES {
-        assert_eq!(rt; memory.load32(DATA + place), Some(0x0a0b_0c0d), "{place:#x}");
+        assert_eq!(rt;
+            memory.load32(DATA + place),
+            Some(0x0a0b_0c0d),
+            "{place:#x}"
+        );
         assert_eq!(rt; memory.load16(DATA + place + 1), Some(0x0b0c), "{place:#x}");
     }
     assert!(rt; memory.bytes_at(DATA, 8) == Some(&[1, 2, 0, 0, 0, 0, 0x0d, 0x0c]));
