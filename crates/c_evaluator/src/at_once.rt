@@ -70,7 +70,8 @@ pub fn shorten<'a>(
     e: &'a Expression,
 ) -> Result<Option<Task<'a>>, NoMemory>
     requires { (left_of left.old).way ≡ Ahead }
-    ensures { IfOk result (λ task. Shortened (expression_of e.now) store.now (left_of left.old) (left_of left.new) task) }
+    ensures { IfOk result (λ task. Shortened (expression_of e.now) store.now (left_of left.old) (left_of left.new)
+        task) }
 {
     match e {
         Expression::Assign(of, Place::Local(local), value) => match number(store, value, DEPTH) {

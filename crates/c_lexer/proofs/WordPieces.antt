@@ -1,6 +1,6 @@
 -- The longest run of word bytes behind a letter is a piece.
-use Rattle.std.proofs.Common.{◌≡◌, ◌≢◌, ◌⊎◌, ◌<◌, ◌≤◌, inl, inr, ℕ, zero, suc, Bool, true, false, List, [], ◌∷◌, eqb, take}
-use Rattle.std.proofs.Common.{drop, length, get_or, refl, sym, ◌∙◌, ap, subst, arith, IsTrue}
+use Rattle.std.proofs.Common.{◌≡◌, ◌≢◌, ◌⊎◌, ◌<◌, ◌≤◌, inl, inr, ℕ, zero, suc, Bool, true, false, List, [], ◌∷◌, eqb}
+use Rattle.std.proofs.Common.{take, drop, length, get_or, refl, sym, ◌∙◌, ap, subst, arith, IsTrue}
 use Rattle.c_lexer.specs.declared.token.TokenKind.TheVariants as kinds
 use Rattle.std.specs.List.{starts_with, AllByRecursion, Contains}
 use Rattle.pcc_base.specs.declared.keyword.Keyword.{Keyword}

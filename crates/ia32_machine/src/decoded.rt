@@ -10,8 +10,8 @@ use std::alloc::Global;
 /// How many entries the table has.
 const ROOM: usize = 4096;
 
-/// An instruction that was decoded: its address, and that behind its spelling, which wraps. An entry with both the same is
-/// empty.
+/// An instruction that was decoded: its address, and that behind its spelling, which wraps. An entry with both the same
+/// is empty.
 #[derive(Clone, Copy)]
 pub(crate) struct Decoded {
     pub(crate) address: u32,
@@ -19,8 +19,8 @@ pub(crate) struct Decoded {
     pub(crate) insn: Insn,
 }
 
-/// Instructions that were decoded, each where the low bits of its address say. One that comes takes the place of the one
-/// that was there.
+/// Instructions that were decoded, each where the low bits of its address say. One that comes takes the place of the
+/// one that was there.
 #[derive(Drop)]
 pub(crate) struct DecodedTable {
     entries: Vec<Decoded>,

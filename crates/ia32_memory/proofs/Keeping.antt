@@ -1,11 +1,11 @@
 -- How bytes are kept: the first ones, zeros, and the last ones.
-use Rattle.std.specs.Prelude.{◌≡◌, ℕ, suc, ◌+◌, ◌-◌, ◌<◌, ◌≤◌, Bool, true, false, List, [], ◌∷◌, ◌++◌, length, take, drop}
-use Rattle.std.specs.Prelude.{replicate, get_or, refl, Result, IsOk, is_ok, if◌then◌else◌, ◌||◌, nat_le}
+use Rattle.std.specs.Prelude.{◌≡◌, ℕ, suc, ◌+◌, ◌-◌, ◌<◌, ◌≤◌, Bool, true, false, List, [], ◌∷◌, ◌++◌, length, take}
+use Rattle.std.specs.Prelude.{drop, replicate, get_or, refl, Result, IsOk, is_ok, if◌then◌else◌, ◌||◌, nat_le}
 use Rattle.std.proofs.Common.{sym, ◌∙◌, ap, inl, inr, arith, length-append, length-drop, append-nil}
 use Rattle.std.proofs.lemmas.Bool.{and_parts, or_cases, or_parts, leb-true, leb-false}
 use Rattle.std.proofs.lemmas.List.{take_all, length-replicate, replicate-append-replicate, append_assoc, take-append-le}
-use Rattle.std.proofs.lemmas.List.{drop-append-le, drop-drop, drop_at, drop_more, get_or_append_left, get_or-append_right}
-use Rattle.std.proofs.lemmas.List.{get_or-replicate}
+use Rattle.std.proofs.lemmas.List.{drop-append-le, drop-drop, drop_at, drop_more, get_or_append_left}
+use Rattle.std.proofs.lemmas.List.{get_or-append_right, get_or-replicate}
 use Rattle.pcc_base.specs.Bytes.{zeros}
 use Rattle.ia32_insn.specs.State.{Area, has_bytes}
 use Rattle.ia32_memory.specs.declared.cells.Cells.{Cells}
@@ -165,12 +165,18 @@ laid-between size offset front back fits past before =
     let left = size - (length front + length back) in
     let z : List ℕ = replicate left 0 in
     let all = front ++ z ++ back in
-    let inner : offset < length (front ++ z) = omega (arith, length-append front z, length-replicate {A = ℕ} left 0, before) in
+    let inner : offset < length (front ++ z) = omega (
+      arith,
+      length-append front z,
+      length-replicate {A = ℕ} left 0,
+      before,
+    ) in
     let here : offset < length all = omega (arith, inner, length-append (front ++ z) back) in
     let place : offset - length front < left = omega (arith, past, before) in
     let zero : get_or all offset 0 ≡ 0 =
     get_or_append_left (front ++ z) back 0 offset inner
-    ∙ get_or-append_right front z (length front) offset 0 refl past ∙ get_or-replicate left (offset - length front) 0 0 place in
+    ∙ get_or-append_right front z (length front) offset 0 refl past ∙ get_or-replicate left (offset - length front) 0 0
+    place in
     ap (take 1) (drop_more all offset 0 here) ∙ take-first (get_or all offset 0) (drop (offset + 1) all)
     ∙ ap (λ (b : ℕ). b ∷ []) zero
 
@@ -182,7 +188,8 @@ byte-alone (b ∷ c ∷ rest) byte d one e = absurd (omega (arith, one))
 
 -- ---- a byte at a time
 
-first-then : (n byte : ℕ) (bytes : List ℕ) → take 1 bytes ≡ byte ∷ [] → take (suc n) bytes ≡ byte ∷ take n (drop 1 bytes)
+first-then : (n byte : ℕ) (bytes : List ℕ) → take 1 bytes ≡ byte ∷ [] → take (suc n) bytes ≡ byte ∷ take n
+    (drop 1 bytes)
 first-then n byte [] e = absurd (cc)
 first-then n byte (b ∷ bytes) e = let same : b ≡ byte = cc in ap (λ (x : ℕ). x ∷ take n bytes) same
 
@@ -240,7 +247,8 @@ laid-over_front size offset front back bytes new within e long =
 take-past : (n : ℕ) (before back : List ℕ) → take (length before + n) (before ++ back) ≡ before ++ take n back
 take-past n [] back = ap (λ (k : ℕ). take k back) {x = 0 + n} {y = n} (omega arith)
 take-past n (b ∷ before) back =
-    ap (λ (k : ℕ). take k (b ∷ (before ++ back))) {x = suc (length before) + n} {y = suc (length before + n)} (omega arith)
+    ap (λ (k : ℕ). take k (b ∷ (before ++ back))) {x = suc (length before) + n} {y = suc (length before + n)}
+    (omega arith)
     ∙ ap (λ (l : List ℕ). b ∷ l) (take-past n before back)
 
 -- over last bytes

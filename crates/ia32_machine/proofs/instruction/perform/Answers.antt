@@ -19,12 +19,15 @@ returns-in_err-system_call-clause-told g c = λ i o.
     let taken' : List ℕ = g.O.Sink.taken c.system_call.new.out in
     let end : MachineEnd = c.in_err-system_call.field-0.0 in
     let same : c.from_residual.result ≡ Err end = search rules in
-    let told : PartTold (call_moved (lent c.args.processor.now left)) (lent c.args.processor.now left) c.system_call.new.processor
+    let told : PartTold (call_moved (lent c.args.processor.now left)) (lent c.args.processor.now left)
+    c.system_call.new.processor
     left' taken taken' (Err end) =
     c.in_err-system_call.ensures.told i o in
-    subst (λ (r : Result Unit MachineEnd). PartTold (insn_moved c.args.insn.now c.args.after (lent c.args.processor.now left))
+    subst (λ (r : Result Unit MachineEnd). PartTold (insn_moved c.args.insn.now c.args.after
+    (lent c.args.processor.now left))
     (lent c.args.processor.now left) c.system_call.new.processor left' taken taken' r) (sym same)
-    (call_ends c.args.insn.now c.args.after (lent c.args.processor.now left) c.system_call.new.processor left' taken taken' end
+    (call_ends c.args.insn.now c.args.after (lent c.args.processor.now left) c.system_call.new.processor left' taken
+    taken' end
     (c.if-is_system_call.ensures.0 refl) told)
 
 pub returns-in_err-system_call-clause-counted : goal.returns-in_err-system_call-clause-counted
@@ -48,11 +51,13 @@ returns-then-is_system_call-clause-told g c = λ i o.
     let left' : List ℕ = g.I.Source.left c.system_call.new.input in
     let taken : List ℕ = g.O.Sink.taken c.args.out.now in
     let taken' : List ℕ = g.O.Sink.taken c.system_call.new.out in
-    let told : PartTold (call_moved (lent c.args.processor.now left)) (lent c.args.processor.now left) c.system_call.new.processor
+    let told : PartTold (call_moved (lent c.args.processor.now left)) (lent c.args.processor.now left)
+    c.system_call.new.processor
     left' taken taken' (Ok tt) =
     c.in_ok-system_call.ensures.told i o in
     rw c.set_eip.ensures
-    (call_goes c.args.insn.now c.args.after (lent c.args.processor.now left) c.system_call.new.processor left' taken taken'
+    (call_goes c.args.insn.now c.args.after (lent c.args.processor.now left) c.system_call.new.processor left' taken
+    taken'
     (c.if-is_system_call.ensures.0 refl) told)
 
 pub returns-then-is_system_call-clause-counted : goal.returns-then-is_system_call-clause-counted

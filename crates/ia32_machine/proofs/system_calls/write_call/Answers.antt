@@ -61,7 +61,8 @@ returns-in-Err-Failed-clause-told g c = λ o left.
     c.word-address.ensures c.in-Some.ensures.found in
     let told = rw c.in-Err-Failed.field-0-is at (c.in-Err-Failed.ensures.told o) in
     rw c.bytes_at.follows.holds-at-none
-    (write_failed old c.in-Some.bytes.now left (g.O.Sink.taken c.args.out.now) (g.O.Sink.taken c.put_all.new.self) told.0
+    (write_failed old c.in-Some.bytes.now left (g.O.Sink.taken c.args.out.now) (g.O.Sink.taken c.put_all.new.self)
+    told.0
     c.requires some there told.1)
 
 pub returns-in-Err-Failed-clause-counted : goal.returns-in-Err-Failed-clause-counted

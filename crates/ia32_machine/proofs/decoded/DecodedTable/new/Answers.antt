@@ -11,6 +11,7 @@ fill-preserved c =
     record {
       filled = omega (arith, c.in_ok-push.ensures.len, c.fill.invariant.filled);
       right = λ (memory : List Area).
-          rw c.in_ok-push.ensures.items (more-decoded memory c.fill.entries.items empty (empty-decoded memory empty refl)
+          rw c.in_ok-push.ensures.items (more-decoded memory c.fill.entries.items empty
+          (empty-decoded memory empty refl)
           (c.fill.invariant.right memory));
     }

@@ -18,7 +18,8 @@ returns-clause-kept c =
     ap length grown ∙ length-append front (replicate more 0)
     ∙ ap (λ (n : ℕ). length front + n) (length-replicate more 0) in
     record {
-      same = laid-grown old.size more front old.back.items new.items grown (omega (arith, c.requires.there, c.requires.more));
+      same = laid-grown old.size more front old.back.items new.items grown
+          (omega (arith, c.requires.there, c.requires.more));
       within = (
         omega (arith, long, c.requires.there, c.requires.more),
         omega (arith, c.requires.within.1, c.resize.ensures.capacity),
