@@ -11,7 +11,7 @@ import signal
 import subprocess
 import sys
 
-from image import PAGE, STACK, TEXT_ADDRESS, image
+from image import PAGE, READ_RUN, READ_WRITE_RUN, STACK, TEXT_ADDRESS, image
 
 PROGRAM, ROOM = sys.argv[1:]
 DATA = TEXT_ADDRESS + PAGE
@@ -102,6 +102,15 @@ for op in ("add", "or", "and", "sub", "xor", "cmp", "test"):
 for c in CONDITIONS:
     ROWS += [f"cmpl %eax, %edx\n j{c} 1f\n movl $0, %esi\n1:", f"cmpl %eax, %eax\n set{c} %cl\n j{c} 1f\n movl $0, %esi\n1:"]
 
+# Instructions that were executed and are then changed, in a text that may be written: a number, an operation, a distance
+# that is jumped, and what stands behind the instruction that changes it
+CHANGED = [
+    "movl $2, %ecx\n movl $0, %edi\n1: movl $3, %eax\n addl %eax, %edi\n movl $9, 1b+1\n subl $1, %ecx\n jne 1b",
+    "movl $2, %ecx\n movl $50, %edi\n movb $0x29, %dl\n1: addl %ecx, %edi\n movb %dl, 1b\n subl $1, %ecx\n jne 1b",
+    "movl $2, %ecx\n movb $0, %dl\n1: jmp 2f\n movl $8, %edi\n2: movb %dl, 1b+1\n subl $1, %ecx\n jne 1b",
+    "movl $3, %ecx\n1: movb %cl, 2f+1\n2: movl $0x55, %edi\n addl %edi, %esi\n subl $1, %ecx\n jne 1b",
+]
+
 
 def assembled(lines):
     """The text of these lines, at the place where the image has it."""
@@ -125,12 +134,13 @@ SIGNALS = {
 }
 INPUT = b"Q"
 different = 0
-for row in ROWS:
+IMAGES = [(row, READ_RUN) for row in ROWS] + [(row, READ_WRITE_RUN) for row in CHANGED]
+for row, text_flags in IMAGES:
     path = f"{ROOM}/image"
     if os.path.exists(path):
         os.remove(path)
     with open(path, "wb") as it:
-        it.write(image(assembled(row)))
+        it.write(image(assembled(row), text_flags=text_flags))
     os.chmod(path, 0o755)
     here = subprocess.run([PROGRAM, "run", path], input=INPUT, capture_output=True)
     there = subprocess.run([path], input=INPUT, capture_output=True)
@@ -143,6 +153,6 @@ for row in ROWS:
     if not same:
         different += 1
         print(f"kernel: {row!r}\n  machine: {said} {here.stdout.hex()}\n  kernel:  {there.returncode} {there.stdout.hex()}")
-print(f"{len(ROWS)} images, {different} of them different")
+print(f"{len(IMAGES)} images, {different} of them different")
 sys.exit(1 if different else 0)
 PYTHON

@@ -5,6 +5,7 @@ use ia32_insn::{AluOp, Flags};
 
 /// The result of an operation and the flags that it sets (Intel manual, volume 2: ADD, OR, AND, SUB, XOR,
 /// CMP). That of CMP is the difference, which the instruction drops.
+#[inline(always)]
 pub fn alu(op: AluOp, a: u32, b: u32) -> (u32, Flags)
     ensures value { result.0 ≡ alu_value op a b }
     ensures flags { result.1 ≡ alu_flags op a b }

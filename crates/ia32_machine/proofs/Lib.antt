@@ -3,3 +3,4 @@ pub mod Storing
 pub mod Calls
 pub mod Performs
 pub mod Runs
+pub mod Table

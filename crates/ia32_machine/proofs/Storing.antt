@@ -1,11 +1,16 @@
 -- Memory that may be stored to: a store of that many bytes is made, and so is one of fewer.
 use Rattle.std.specs.Prelude.{◌≡◌, ℕ, ◌%◌, ◌<◌, Bool, true, false, ◌&&◌, List, [], ◌∷◌, length, Option, Some, None}
 use Rattle.std.specs.Prelude.{option_map, Result, Ok, Err, if◌then◌else◌, refl}
-use Rattle.std.proofs.Common.{sym, ◌∙◌, ap, arith}
+use Rattle.std.proofs.Common.{sym, ◌∙◌, ap, subst, arith}
 use Rattle.std.proofs.lemmas.Bool.Decides.{nat_tests}
 use Rattle.byteorder.specs.Endian.{little_bytes}
 use Rattle.pcc_base.specs.Outcome.{End}
 use Rattle.ia32_insn.specs.Meaning.{and_then, or_end, denied, store, store_bytes}
+use Rattle.ia32_insn.specs.Meaning.{with_word}
+use Rattle.ia32_insn.proofs.Access.{and_then-ok, ok-once}
+use Rattle.ia32_regs.specs.declared.names.Reg32.TheVariants.{Eax}
+use Rattle.ia32_code.specs.Code.{KeepsCode}
+use Rattle.ia32_code.proofs.Kept.{store-keeps}
 use Rattle.ia32_processor.specs.Answers.{Leaves, end_of}
 use Rattle.ia32_processor.specs.declared.halt.Halt.{Halt}
 use Rattle.ia32_insn.specs.State.{State, Area, has_bytes, may_store, stored, with_bytes}
@@ -72,3 +77,11 @@ byte_stored f s t address byte (Err halt) below allows h =
     ap (λ (l : List ℕ). store_bytes address l s) (sym (byte_is byte below)) ∙ h.0 in
     absurd (stores address (byte ∷ []) s.memory allows
     (none_there (stored address (byte ∷ []) s.memory) (denied address s) (end_of halt s) s ended))
+
+-- a byte that is stored keeps the code that may not be written
+pub byte_keeps : (address byte : ℕ) (s t : State)
+    → and_then (store_bytes address (byte ∷ []) s) (λ u. Ok (with_word Eax 1 u)) ≡ Ok t → KeepsCode s.memory t.memory
+byte_keeps address byte s t e =
+    let done = and_then-ok (store_bytes address (byte ∷ []) s) (λ u. Ok (with_word Eax 1 u)) t e in
+    subst (λ (v : State). KeepsCode s.memory v.memory) (ok-once (with_word Eax 1 done.0) t done.2)
+    (store-keeps address (byte ∷ []) s done.0 done.1)

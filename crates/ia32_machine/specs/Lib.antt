@@ -1,3 +1,4 @@
 pub mod First
 pub mod Runs
+pub mod Table
 pub mod Performs

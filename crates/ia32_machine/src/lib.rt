@@ -5,7 +5,9 @@
 //! (`ia32_insn`, `specs/Runs.antt`), from the first state of the image (`specs/First.antt`).
 #![tactic(auto)]
 
+mod decoded;
 mod ends;
+mod instruction;
 mod laws;
 mod machine;
 mod system_calls;

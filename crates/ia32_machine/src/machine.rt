@@ -1,26 +1,27 @@
-ghost use Rattle.std.specs.Prelude.{◌≡◌, ◌≤◌, ◌↔◌, [], IfOk, IsTrue};
+ghost use Rattle.std.specs.Prelude.{◌≡◌, [], IfOk};
 ghost use Rattle.elf_image.specs.Segments.{IsLoadable, segments_of};
 ghost use Rattle.ia32_machine.specs.First.{first_state, lent};
-ghost use Rattle.ia32_machine.specs.Performs.{FetchTold, PartTold, PartCounts, AdvanceTold, insn_moved};
+ghost use Rattle.ia32_machine.specs.Performs.{PartCounts, AdvanceTold};
 ghost use Rattle.ia32_machine.specs.Runs.{StepTold, StepCounts, RunTold, RunCounts, alone};
 
-use crate::ends::{MachineEnd, StepEnd, end_at};
-use crate::system_calls::system_call;
+use crate::decoded::{Decoded, DecodedTable};
+use crate::ends::{MachineEnd, StepEnd};
+use crate::instruction::{fetch, perform};
 use elf_image::Loaded;
-use ia32_decode::decode;
-use ia32_insn::Insn;
 use ia32_memory::Memory;
 use ia32_processor::Processor;
-use pcc_base::{NoMemory, Stop};
+use pcc_base::NoMemory;
 use pcc_outside::{Sink, Source};
 use std::alloc::Global;
 use std::marker::Model;
 
 /// A machine: a processor with its memory, which `step` and `run` lend an input and an output. Contracts
-/// see it as a state with no input and no output.
+/// see it as a state with no input and no output. It keeps the instructions that it decoded where they may not be
+/// written, so that none of these is decoded at each step.
 #[derive(Drop)]
 pub struct Machine {
     processor: Processor,
+    decoded: DecodedTable,
 }
 
 impl Model for Machine {
@@ -28,14 +29,11 @@ impl Model for Machine {
 
     ghost Value = { State };
 
-    ghost view = { λ m. m.processor };
-}
+    ghost use Rattle.ia32_machine.specs.Table.{AreDecoded};
 
-/// The instruction is `int 0x80`.
-fn is_system_call(insn: Insn) -> bool
-    ensures { IsTrue result ↔ insn ≡ Insn.Int 0x80 }
-{
-    matches!(insn, Insn::Int(0x80))
+    ghost view = { λ m. m.processor };
+
+    ghost invariant = { λ m. AreDecoded m.processor.memory m.decoded.entries.items };
 }
 
 impl Machine {
@@ -45,9 +43,11 @@ impl Machine {
         requires { IsLoadable (segments_of loaded.now) }
         ensures { IfOk result (λ machine. machine ≡ first_state (segments_of loaded.now) []) }
     {
+        let decoded = DecodedTable::new(alloc)?;
         let memory = Memory::load(alloc, &loaded.segments)?;
         Ok(Machine {
             processor: Processor::new(loaded.entry, memory),
+            decoded,
         })
     }
 
@@ -59,51 +59,40 @@ impl Machine {
         self.processor.eip()
     }
 
-    /// The instruction at EIP and the length of its spelling, or why there is none.
-    fn fetch(&self) -> Result<(Insn, usize), Stop>
-        ensures told { FetchTold self.now result }
-        ensures short { IfOk result (λ found. found.1 ≤ 15) }
-    {
-        match self.processor.code() {
-            None => Err(Stop::Access(self.processor.eip())),
-            Some(code) => match decode(code) {
-                None => Err(Stop::Instruction),
-                Some(found) => Ok(found),
-            },
-        }
-    }
-
-    /// Performs an instruction, where the next one in memory is at the address `after`.
+    /// Fetches the instruction at EIP, keeps it in the table where it may not be written, and performs it.
+    #[cold]
+    #[inline(never)]
     #[tactic(none)]
-    fn perform<I: Source, O: Sink>(
+    fn decode_and_perform<I: Source, O: Sink>(
         &mut self,
-        insn: Insn,
-        after: u32,
         input: &mut I,
         out: &mut O,
     ) -> Result<(), MachineEnd>
-        requires { self.old ≡ alone self.old }
-        ensures told { I.tells input.old → O.tells out.old → let s = lent self.old (I.left input.old) in
-            PartTold (insn_moved insn after s) s self.new (I.left input.new)
+        ensures told { I.tells input.old → O.tells out.old →
+            AdvanceTold (lent self.old (I.left input.old)) self.new (I.left input.new)
             (O.taken out.old) (O.taken out.new) result }
         ensures counted { PartCounts (I.faults input.old) (I.faults input.new)
             (O.counts out.old) (O.counts out.new) result }
         ensures input_tells { I.tells input.old → I.tells input.new }
         ensures out_tells { O.tells out.old → O.tells out.new }
     {
-        if is_system_call(insn) {
-            system_call(&mut self.processor, input, out)?;
-            self.processor.set_eip(after);
-            return Ok(());
-        }
         let address = self.processor.eip();
-        match self.processor.perform(insn, after) {
-            Ok(()) => Ok(()),
-            Err(halt) => Err(end_at(address, halt)),
+        match fetch(&self.processor) {
+            Ok((insn, length)) => {
+                let after = address.wrapping_add(length as u32);
+                let entry = Decoded {
+                    address,
+                    after,
+                    insn,
+                };
+                self.decoded.keep(entry, &self.processor);
+                perform(&mut self.processor, &insn, after, input, out)
+            }
+            Err(cause) => Err(MachineEnd::Stopped(cause, address)),
         }
     }
 
-    /// Fetches an instruction and performs it.
+    /// Performs the instruction at EIP.
     #[tactic(none)]
     fn advance<I: Source, O: Sink>(&mut self, input: &mut I, out: &mut O) -> Result<(), MachineEnd>
         ensures told { I.tells input.old → O.tells out.old →
@@ -114,13 +103,10 @@ impl Machine {
         ensures input_tells { I.tells input.old → I.tells input.new }
         ensures out_tells { O.tells out.old → O.tells out.new }
     {
-        let address = self.eip();
-        match self.fetch() {
-            Ok((insn, length)) => {
-                let after = address.wrapping_add(length as u32);
-                self.perform(insn, after, input, out)
-            }
-            Err(cause) => Err(MachineEnd::Stopped(cause, address)),
+        let address = self.processor.eip();
+        match self.decoded.get(address) {
+            Some(entry) => perform(&mut self.processor, &entry.insn, entry.after, input, out),
+            None => self.decode_and_perform(input, out),
         }
     }
 

@@ -2,6 +2,7 @@ ghost use Rattle.std.specs.Prelude.{◌≡◌, ◌∷◌, [], ℕ, true, List, O
 ghost use Rattle.pcc_outside.specs.Streams.{SinkCounts};
 ghost use Rattle.ia32_insn.specs.State as state;
 ghost use Rattle.ia32_insn.specs.Meaning.{and_then, store_bytes, with_word};
+ghost use Rattle.ia32_code.specs.Code.{KeepsCode};
 ghost use Rattle.ia32_machine.specs.First.{lent};
 ghost use Rattle.ia32_machine.specs.Runs.{alone};
 ghost use Rattle.ia32_machine.specs.Performs.{PartTold, PartCounts, read_moved, write_moved, call_moved};
@@ -26,6 +27,7 @@ fn take_byte(processor: &mut Processor, address: u32, byte: u8)
 /// EAX. All EDX bytes are checked before one is taken.
 fn read_call<I: Source>(processor: &mut Processor, input: &mut I) -> Result<(), MachineEnd>
     requires { processor.old ≡ alone processor.old }
+    ensures code { KeepsCode processor.old.memory processor.new.memory }
     ensures told { I.tells input.old → (taken : List ℕ) → let s = lent processor.old (I.left input.old) in
         PartTold (read_moved s) s processor.new (I.left input.new) taken taken result }
     ensures counted { (out : SinkCounts) → PartCounts (I.faults input.old) (I.faults input.new) out out result }
@@ -58,6 +60,7 @@ fn read_call<I: Source>(processor: &mut Processor, input: &mut I) -> Result<(), 
 #[tactic(none)]
 fn write_call<O: Sink>(processor: &mut Processor, out: &mut O) -> Result<(), MachineEnd>
     requires { processor.old ≡ alone processor.old }
+    ensures code { KeepsCode processor.old.memory processor.new.memory }
     ensures told { O.tells out.old → (left : List ℕ) → let s = lent processor.old left in
         PartTold (write_moved s) s processor.new left (O.taken out.old) (O.taken out.new) result }
     ensures counted { (input : ℕ) → PartCounts input input (O.counts out.old) (O.counts out.new) result }
@@ -90,6 +93,7 @@ pub fn system_call<I: Source, O: Sink>(
     out: &mut O,
 ) -> Result<(), MachineEnd>
     requires { processor.old ≡ alone processor.old }
+    ensures code { KeepsCode processor.old.memory processor.new.memory }
     ensures told { I.tells input.old → O.tells out.old → let s = lent processor.old (I.left input.old) in
         PartTold (call_moved s) s processor.new (I.left input.new) (O.taken out.old) (O.taken out.new) result }
     ensures counted { PartCounts (I.faults input.old) (I.faults input.new)

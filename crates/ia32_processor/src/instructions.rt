@@ -26,26 +26,26 @@ use pcc_base::{Stop, Trap};
 // What single instructions do to all but EIP (Intel manual, volume 2, the operation of each instruction).
 impl Processor {
     /// MOV r32, m.
-    pub(crate) fn load(&mut self, r: Reg32, m: Mem) -> Result<(), Halt>
-        ensures { Leaves (does (Insn.MovLoad r m) self.old) self.old self.new result }
+    pub(crate) fn load(&mut self, r: Reg32, m: &Mem) -> Result<(), Halt>
+        ensures { Leaves (does (Insn.MovLoad r m.now) self.old) self.old self.new result }
     {
-        let value = self.read32(Rm32::Mem(m))?;
+        let value = self.load32(self.address_of(m))?;
         self.set_word(r, value);
         Ok(())
     }
 
     /// MOV r8, m.
-    pub(crate) fn load_byte(&mut self, r: Reg8, m: Mem) -> Result<(), Halt>
-        ensures { Leaves (does (Insn.Mov8Load r m) self.old) self.old self.new result }
+    pub(crate) fn load_byte(&mut self, r: Reg8, m: &Mem) -> Result<(), Halt>
+        ensures { Leaves (does (Insn.Mov8Load r m.now) self.old) self.old self.new result }
     {
-        let value = self.read8(Rm8::Mem(m))?;
+        let value = self.load8(self.address_of(m))?;
         self.set_byte(r, value);
         Ok(())
     }
 
     /// MOVZX r32, rm8.
-    pub(crate) fn zero_extend8(&mut self, r: Reg32, operand: Rm8) -> Result<(), Halt>
-        ensures { Leaves (does (Insn.MovZx8 r operand) self.old) self.old self.new result }
+    pub(crate) fn zero_extend8(&mut self, r: Reg32, operand: &Rm8) -> Result<(), Halt>
+        ensures { Leaves (does (Insn.MovZx8 r operand.now) self.old) self.old self.new result }
     {
         let value = self.read8(operand)?;
         self.set_word(r, u32::from(value));
@@ -53,8 +53,8 @@ impl Processor {
     }
 
     /// MOVZX r32, rm16.
-    pub(crate) fn zero_extend16(&mut self, r: Reg32, operand: Rm32) -> Result<(), Halt>
-        ensures { Leaves (does (Insn.MovZx16 r operand) self.old) self.old self.new result }
+    pub(crate) fn zero_extend16(&mut self, r: Reg32, operand: &Rm32) -> Result<(), Halt>
+        ensures { Leaves (does (Insn.MovZx16 r operand.now) self.old) self.old self.new result }
     {
         let value = self.read16(operand)?;
         self.set_word(r, u32::from(value));
@@ -62,8 +62,8 @@ impl Processor {
     }
 
     /// MOVSX r32, rm8.
-    pub(crate) fn sign_extend8(&mut self, r: Reg32, operand: Rm8) -> Result<(), Halt>
-        ensures { Leaves (does (Insn.MovSx8 r operand) self.old) self.old self.new result }
+    pub(crate) fn sign_extend8(&mut self, r: Reg32, operand: &Rm8) -> Result<(), Halt>
+        ensures { Leaves (does (Insn.MovSx8 r operand.now) self.old) self.old self.new result }
     {
         let value = self.read8(operand)?;
         self.set_word(r, sign_extend8(value));
@@ -71,8 +71,8 @@ impl Processor {
     }
 
     /// MOVSX r32, rm16.
-    pub(crate) fn sign_extend16(&mut self, r: Reg32, operand: Rm32) -> Result<(), Halt>
-        ensures { Leaves (does (Insn.MovSx16 r operand) self.old) self.old self.new result }
+    pub(crate) fn sign_extend16(&mut self, r: Reg32, operand: &Rm32) -> Result<(), Halt>
+        ensures { Leaves (does (Insn.MovSx16 r operand.now) self.old) self.old self.new result }
     {
         let value = self.read16(operand)?;
         self.set_word(r, sign_extend16(value));
@@ -80,8 +80,8 @@ impl Processor {
     }
 
     /// XCHG rm8, r8.
-    pub(crate) fn exchange8(&mut self, operand: Rm8, r: Reg8) -> Result<(), Halt>
-        ensures { Leaves (does (Insn.Xchg8 operand r) self.old) self.old self.new result }
+    pub(crate) fn exchange8(&mut self, operand: &Rm8, r: Reg8) -> Result<(), Halt>
+        ensures { Leaves (does (Insn.Xchg8 operand.now r) self.old) self.old self.new result }
     {
         let value = self.read8(operand)?;
         self.write8(operand, self.byte(r))?;
@@ -90,8 +90,8 @@ impl Processor {
     }
 
     /// XCHG rm32, r32.
-    pub(crate) fn exchange32(&mut self, operand: Rm32, r: Reg32) -> Result<(), Halt>
-        ensures { Leaves (does (Insn.Xchg operand r) self.old) self.old self.new result }
+    pub(crate) fn exchange32(&mut self, operand: &Rm32, r: Reg32) -> Result<(), Halt>
+        ensures { Leaves (does (Insn.Xchg operand.now r) self.old) self.old self.new result }
     {
         let value = self.read32(operand)?;
         self.write32(operand, self.word(r))?;
@@ -100,8 +100,9 @@ impl Processor {
     }
 
     /// Writes the result of an operation, but that of CMP.
-    fn write_result(&mut self, op: AluOp, operand: Rm32, value: u32) -> Result<(), Halt>
-        ensures { Leaves (result_written op operand value self.old) self.old self.new result }
+    #[inline(always)]
+    fn write_result(&mut self, op: AluOp, operand: &Rm32, value: u32) -> Result<(), Halt>
+        ensures { Leaves (result_written op operand.now value self.old) self.old self.new result }
     {
         match op {
             AluOp::Cmp => Ok(()),
@@ -112,8 +113,9 @@ impl Processor {
     }
 
     /// ADD, OR, AND, SUB, XOR and CMP, with a second operand that has this value.
-    pub(crate) fn operate(&mut self, op: AluOp, operand: Rm32, b: u32) -> Result<(), Halt>
-        ensures { Leaves (operated op operand b self.old) self.old self.new result }
+    #[inline(always)]
+    pub(crate) fn operate(&mut self, op: AluOp, operand: &Rm32, b: u32) -> Result<(), Halt>
+        ensures { Leaves (operated op operand.now b self.old) self.old self.new result }
     {
         let a = self.read32(operand)?;
         let (value, flags) = alu(op, a, b);
@@ -123,16 +125,16 @@ impl Processor {
     }
 
     /// ADD, OR, AND, SUB, XOR and CMP r32, m.
-    pub(crate) fn operate_load(&mut self, op: AluOp, r: Reg32, m: Mem) -> Result<(), Halt>
-        ensures { Leaves (does (Insn.AluLoad op r m) self.old) self.old self.new result }
+    pub(crate) fn operate_load(&mut self, op: AluOp, r: Reg32, m: &Mem) -> Result<(), Halt>
+        ensures { Leaves (does (Insn.AluLoad op r m.now) self.old) self.old self.new result }
     {
-        let value = self.read32(Rm32::Mem(m))?;
-        self.operate(op, Rm32::Reg(r), value)
+        let value = self.load32(self.address_of(m))?;
+        self.operate(op, &Rm32::Reg(r), value)
     }
 
     /// TEST rm32, r32.
-    pub(crate) fn test(&mut self, operand: Rm32, r: Reg32) -> Result<(), Halt>
-        ensures { Leaves (does (Insn.Test operand r) self.old) self.old self.new result }
+    pub(crate) fn test(&mut self, operand: &Rm32, r: Reg32) -> Result<(), Halt>
+        ensures { Leaves (does (Insn.Test operand.now r) self.old) self.old self.new result }
     {
         let value = self.read32(operand)?;
         let (_, flags) = alu(AluOp::And, value, self.word(r));
@@ -141,8 +143,8 @@ impl Processor {
     }
 
     /// IMUL r32, rm32.
-    pub(crate) fn multiply(&mut self, r: Reg32, operand: Rm32) -> Result<(), Halt>
-        ensures { Leaves (does (Insn.IMul r operand) self.old) self.old self.new result }
+    pub(crate) fn multiply(&mut self, r: Reg32, operand: &Rm32) -> Result<(), Halt>
+        ensures { Leaves (does (Insn.IMul r operand.now) self.old) self.old self.new result }
     {
         let value = self.read32(operand)?;
         self.set_word(r, product(self.word(r), value));
@@ -151,16 +153,16 @@ impl Processor {
     }
 
     /// NOT rm32.
-    pub(crate) fn complement(&mut self, operand: Rm32) -> Result<(), Halt>
-        ensures { Leaves (does (Insn.Not operand) self.old) self.old self.new result }
+    pub(crate) fn complement(&mut self, operand: &Rm32) -> Result<(), Halt>
+        ensures { Leaves (does (Insn.Not operand.now) self.old) self.old self.new result }
     {
         let value = self.read32(operand)?;
         self.write32(operand, complement(value))
     }
 
     /// Changes an operand, and the flags are unknown after it.
-    fn change(&mut self, operand: Rm32, value: u32) -> Result<(), Halt>
-        ensures { Leaves (and_then (written32 operand value self.old) (λ t. Ok (with_flags None t))) self.old self.new
+    fn change(&mut self, operand: &Rm32, value: u32) -> Result<(), Halt>
+        ensures { Leaves (and_then (written32 operand.now value self.old) (λ t. Ok (with_flags None t))) self.old self.new
             result }
     {
         self.write32(operand, value)?;
@@ -169,16 +171,16 @@ impl Processor {
     }
 
     /// NEG rm32.
-    pub(crate) fn negate(&mut self, operand: Rm32) -> Result<(), Halt>
-        ensures { Leaves (does (Insn.Neg operand) self.old) self.old self.new result }
+    pub(crate) fn negate(&mut self, operand: &Rm32) -> Result<(), Halt>
+        ensures { Leaves (does (Insn.Neg operand.now) self.old) self.old self.new result }
     {
         let value = self.read32(operand)?;
         self.change(operand, negation(value))
     }
 
     /// SHL, SHR and SAR rm32 by a count.
-    pub(crate) fn shift(&mut self, op: ShiftOp, operand: Rm32, count: u8) -> Result<(), Halt>
-        ensures { Leaves (does (Insn.ShiftImm op operand count) self.old) self.old self.new result }
+    pub(crate) fn shift(&mut self, op: ShiftOp, operand: &Rm32, count: u8) -> Result<(), Halt>
+        ensures { Leaves (does (Insn.ShiftImm op operand.now count) self.old) self.old self.new result }
     {
         let value = self.read32(operand)?;
         self.change(operand, shift(op, value, count))
@@ -203,16 +205,16 @@ impl Processor {
     }
 
     /// DIV rm32.
-    pub(crate) fn divide(&mut self, operand: Rm32) -> Result<(), Halt>
-        ensures { Leaves (does (Insn.Div operand) self.old) self.old self.new result }
+    pub(crate) fn divide(&mut self, operand: &Rm32) -> Result<(), Halt>
+        ensures { Leaves (does (Insn.Div operand.now) self.old) self.old self.new result }
     {
         let divisor = self.read32(operand)?;
         self.take_quotient(divide(self.dividend(), divisor))
     }
 
     /// IDIV rm32.
-    pub(crate) fn divide_signed(&mut self, operand: Rm32) -> Result<(), Halt>
-        ensures { Leaves (does (Insn.IDiv operand) self.old) self.old self.new result }
+    pub(crate) fn divide_signed(&mut self, operand: &Rm32) -> Result<(), Halt>
+        ensures { Leaves (does (Insn.IDiv operand.now) self.old) self.old self.new result }
     {
         let divisor = self.read32(operand)?;
         self.take_quotient(divide_signed(self.dividend(), divisor))
@@ -246,8 +248,8 @@ impl Processor {
     }
 
     /// PUSH rm32, whose operand is taken before ESP changes.
-    pub(crate) fn push_operand(&mut self, operand: Rm32) -> Result<(), Halt>
-        ensures { Leaves (does (Insn.Push operand) self.old) self.old self.new result }
+    pub(crate) fn push_operand(&mut self, operand: &Rm32) -> Result<(), Halt>
+        ensures { Leaves (does (Insn.Push operand.now) self.old) self.old self.new result }
     {
         let value = self.read32(operand)?;
         self.push(value)
@@ -297,8 +299,8 @@ impl Processor {
     }
 
     /// SETcc rm8.
-    pub(crate) fn set_condition(&mut self, cond: Cond, operand: Rm8) -> Result<(), Halt>
-        ensures { Leaves (does (Insn.SetCc cond operand) self.old) self.old self.new result }
+    pub(crate) fn set_condition(&mut self, cond: Cond, operand: &Rm8) -> Result<(), Halt>
+        ensures { Leaves (does (Insn.SetCc cond operand.now) self.old) self.old self.new result }
     {
         let known = self.decided(cond)?;
         self.write8(operand, u8::from(known))

@@ -37,8 +37,9 @@ impl Processor {
     }
 
     /// The address of a memory operand (Intel manual, volume 1, section 3.7.5).
-    pub(crate) fn address_of(&self, m: Mem) -> u32
-        ensures { result ≡ meaning.address_of m self.now }
+    #[inline(always)]
+    pub(crate) fn address_of(&self, m: &Mem) -> u32
+        ensures { result ≡ meaning.address_of m.now self.now }
     {
         let base = self.base_value(m.base);
         let index = self.index_value(m.index);
@@ -47,71 +48,73 @@ impl Processor {
     }
 
     /// The value of an operand of 32 bits.
-    pub(crate) fn read32(&self, operand: Rm32) -> Result<u32, Halt>
-        ensures { meaning.read32 operand self.now ≡ answer_of self.now result }
+    #[inline(always)]
+    pub(crate) fn read32(&self, operand: &Rm32) -> Result<u32, Halt>
+        ensures { meaning.read32 operand.now self.now ≡ answer_of self.now result }
     {
-        match operand {
+        match *operand {
             Rm32::Reg(r) => Ok(self.word(r)),
-            Rm32::Mem(m) => self.load32(self.address_of(m)),
+            Rm32::Mem(ref m) => self.load32(self.address_of(m)),
         }
     }
 
     /// Changes an operand of 32 bits.
-    pub(crate) fn write32(&mut self, operand: Rm32, value: u32) -> Result<(), Halt>
-        ensures { Leaves (meaning.write32 operand value self.old) self.old self.new result }
+    #[inline(always)]
+    pub(crate) fn write32(&mut self, operand: &Rm32, value: u32) -> Result<(), Halt>
+        ensures { Leaves (meaning.write32 operand.now value self.old) self.old self.new result }
     {
-        match operand {
+        match *operand {
             Rm32::Reg(r) => {
                 self.set_word(r, value);
                 Ok(())
             }
-            Rm32::Mem(m) => self.store32(self.address_of(m), value),
+            Rm32::Mem(ref m) => self.store32(self.address_of(m), value),
         }
     }
 
     /// The value of an operand of 16 bits.
-    pub(crate) fn read16(&self, operand: Rm32) -> Result<u16, Halt>
-        ensures { meaning.read16 operand self.now ≡ answer_of self.now result }
+    pub(crate) fn read16(&self, operand: &Rm32) -> Result<u16, Halt>
+        ensures { meaning.read16 operand.now self.now ≡ answer_of self.now result }
     {
-        match operand {
+        match *operand {
             Rm32::Reg(r) => Ok(low16(self.word(r))),
-            Rm32::Mem(m) => self.load16(self.address_of(m)),
+            Rm32::Mem(ref m) => self.load16(self.address_of(m)),
         }
     }
 
     /// Changes an operand of 16 bits.
-    pub(crate) fn write16(&mut self, operand: Rm32, value: u16) -> Result<(), Halt>
-        ensures { Leaves (meaning.write16 operand value self.old) self.old self.new result }
+    pub(crate) fn write16(&mut self, operand: &Rm32, value: u16) -> Result<(), Halt>
+        ensures { Leaves (meaning.write16 operand.now value self.old) self.old self.new result }
     {
-        match operand {
+        match *operand {
             Rm32::Reg(r) => {
                 self.set_word(r, with_low16(value, self.word(r)));
                 Ok(())
             }
-            Rm32::Mem(m) => self.store16(self.address_of(m), value),
+            Rm32::Mem(ref m) => self.store16(self.address_of(m), value),
         }
     }
 
     /// The value of an operand of 8 bits.
-    pub(crate) fn read8(&self, operand: Rm8) -> Result<u8, Halt>
-        ensures { meaning.read8 operand self.now ≡ answer_of self.now result }
+    pub(crate) fn read8(&self, operand: &Rm8) -> Result<u8, Halt>
+        ensures { meaning.read8 operand.now self.now ≡ answer_of self.now result }
     {
-        match operand {
+        match *operand {
             Rm8::Reg(r) => Ok(self.byte(r)),
-            Rm8::Mem(m) => self.load8(self.address_of(m)),
+            Rm8::Mem(ref m) => self.load8(self.address_of(m)),
         }
     }
 
     /// Changes an operand of 8 bits.
-    pub(crate) fn write8(&mut self, operand: Rm8, value: u8) -> Result<(), Halt>
-        ensures { Leaves (meaning.write8 operand value self.old) self.old self.new result }
+    pub(crate) fn write8(&mut self, operand: &Rm8, value: u8) -> Result<(), Halt>
+        ensures { Leaves (meaning.write8 operand.now value self.old) self.old self.new result }
     {
-        match operand {
+        match *operand {
             Rm8::Reg(r) => {
                 self.set_byte(r, value);
                 Ok(())
             }
-            Rm8::Mem(m) => self.store8(self.address_of(m), value),
+            Rm8::Mem(ref m) => self.store8(self.address_of(m), value),
         }
     }
 }

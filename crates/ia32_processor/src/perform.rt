@@ -20,47 +20,51 @@ fn distant(address: u32, distance: i32) -> u32
 impl Processor {
     /// What an instruction does to all but EIP, where the next one in memory is at the address `after`. An
     /// interrupt stops: `int 0x80` is the machine's.
-    fn effect(&mut self, insn: Insn, after: u32) -> Result<(), Halt>
-        requires { insn ≢ Insn.Int 0x80 }
-        ensures { Leaves (effect_of insn after self.old) self.old self.new result }
+    fn effect(&mut self, insn: &Insn, after: u32) -> Result<(), Halt>
+        requires { insn.now ≢ Insn.Int 0x80 }
+        ensures { Leaves (effect_of insn.now after self.old) self.old self.new result }
     {
-        match insn {
-            Insn::Mov(operand, r) => self.write32(operand, self.word(r)),
-            Insn::MovLoad(r, m) => self.load(r, m),
-            Insn::MovImm(operand, value) => self.write32(operand, value.cast_unsigned()),
-            Insn::Mov8(operand, r) => self.write8(operand, self.byte(r)),
-            Insn::Mov8Load(r, m) => self.load_byte(r, m),
+        match *insn {
+            Insn::Mov(ref operand, r) => self.write32(operand, self.word(r)),
+            Insn::MovLoad(r, ref m) => self.load(r, m),
+            Insn::MovImm(ref operand, value) => self.write32(operand, value.cast_unsigned()),
+            Insn::Mov8(ref operand, r) => self.write8(operand, self.byte(r)),
+            Insn::Mov8Load(r, ref m) => self.load_byte(r, m),
             Insn::Mov8Imm(r, value) => {
                 self.set_byte(r, value);
                 Ok(())
             }
-            Insn::Mov16(operand, r) => self.write16(operand, low16(self.word(r))),
-            Insn::MovZx8(r, operand) => self.zero_extend8(r, operand),
-            Insn::MovZx16(r, operand) => self.zero_extend16(r, operand),
-            Insn::MovSx8(r, operand) => self.sign_extend8(r, operand),
-            Insn::MovSx16(r, operand) => self.sign_extend16(r, operand),
-            Insn::Xchg8(operand, r) => self.exchange8(operand, r),
-            Insn::Xchg(operand, r) => self.exchange32(operand, r),
-            Insn::Lea(r, m) => {
+            Insn::Mov16(ref operand, r) => self.write16(operand, low16(self.word(r))),
+            Insn::MovZx8(r, ref operand) => self.zero_extend8(r, operand),
+            Insn::MovZx16(r, ref operand) => self.zero_extend16(r, operand),
+            Insn::MovSx8(r, ref operand) => self.sign_extend8(r, operand),
+            Insn::MovSx16(r, ref operand) => self.sign_extend16(r, operand),
+            Insn::Xchg8(ref operand, r) => self.exchange8(operand, r),
+            Insn::Xchg(ref operand, r) => self.exchange32(operand, r),
+            Insn::Lea(r, ref m) => {
                 self.set_word(r, self.address_of(m));
                 Ok(())
             }
-            Insn::Alu(op, operand, r) => self.operate(op, operand, self.word(r)),
-            Insn::AluLoad(op, r, m) => self.operate_load(op, r, m),
-            Insn::AluImm(op, operand, value) => self.operate(op, operand, value.cast_unsigned()),
-            Insn::Test(operand, r) => self.test(operand, r),
-            Insn::IMul(r, operand) => self.multiply(r, operand),
-            Insn::Not(operand) => self.complement(operand),
-            Insn::Neg(operand) => self.negate(operand),
-            Insn::Div(operand) => self.divide(operand),
-            Insn::IDiv(operand) => self.divide_signed(operand),
+            Insn::Alu(op, ref operand, r) => self.operate(op, operand, self.word(r)),
+            Insn::AluLoad(op, r, ref m) => self.operate_load(op, r, m),
+            Insn::AluImm(op, ref operand, value) => self.operate(
+                op,
+                operand,
+                value.cast_unsigned(),
+            ),
+            Insn::Test(ref operand, r) => self.test(operand, r),
+            Insn::IMul(r, ref operand) => self.multiply(r, operand),
+            Insn::Not(ref operand) => self.complement(operand),
+            Insn::Neg(ref operand) => self.negate(operand),
+            Insn::Div(ref operand) => self.divide(operand),
+            Insn::IDiv(ref operand) => self.divide_signed(operand),
             Insn::Cdq => {
                 self.extend_sign();
                 Ok(())
             }
-            Insn::ShiftCl(op, operand) => self.shift(op, operand, self.byte(Reg8::Cl)),
-            Insn::ShiftImm(op, operand, count) => self.shift(op, operand, count),
-            Insn::Push(operand) => self.push_operand(operand),
+            Insn::ShiftCl(op, ref operand) => self.shift(op, operand, self.byte(Reg8::Cl)),
+            Insn::ShiftImm(op, ref operand, count) => self.shift(op, operand, count),
+            Insn::Push(ref operand) => self.push_operand(operand),
             Insn::PushImm(value) => self.push(value.cast_unsigned()),
             Insn::Pop(r) => self.pop_to(r),
             Insn::Call(_) => self.push(after),
@@ -68,7 +72,7 @@ impl Processor {
             Insn::Leave => self.leave(),
             Insn::Jmp(_) => Ok(()),
             Insn::Jcc(cond, distance) => self.check_condition(cond, distance),
-            Insn::SetCc(cond, operand) => self.set_condition(cond, operand),
+            Insn::SetCc(cond, ref operand) => self.set_condition(cond, operand),
             Insn::Int(_) => Err(Halt::Stopped(Stop::Call)),
             Insn::Ud2 => Err(Halt::Trapped(Trap::Check)),
             Insn::Nop => Ok(()),
@@ -76,11 +80,11 @@ impl Processor {
     }
 
     /// The address of the instruction that comes next.
-    fn target(&self, insn: Insn, after: u32) -> Result<u32, Halt>
-        ensures { and_then (target_of insn after self.now) (λ address. Ok (address % 2 ^ 32))
+    fn target(&self, insn: &Insn, after: u32) -> Result<u32, Halt>
+        ensures { and_then (target_of insn.now after self.now) (λ address. Ok (address % 2 ^ 32))
             ≡ answer_of self.now result }
     {
-        match insn {
+        match *insn {
             Insn::Call(distance) => Ok(distant(after, distance)),
             Insn::Ret => self.load32(self.word(Reg32::Esp)),
             Insn::Jmp(distance) => Ok(distant(after, distance)),
@@ -136,9 +140,9 @@ impl Processor {
 
     /// Performs an instruction, where the next one in memory is at the address `after`. An instruction that
     /// traps or stops changes nothing. `int 0x80` is the machine's, and every other interrupt stops.
-    pub fn perform(&mut self, insn: Insn, after: u32) -> Result<(), Halt>
-        requires { insn ≢ Insn.Int 0x80 }
-        ensures { Performs (performed insn after self.old) self.old self.new result }
+    pub fn perform(&mut self, insn: &Insn, after: u32) -> Result<(), Halt>
+        requires { insn.now ≢ Insn.Int 0x80 }
+        ensures { Performs (performed insn.now after self.old) self.old self.new result }
     {
         let next = self.target(insn, after)?;
         self.effect(insn, after)?;

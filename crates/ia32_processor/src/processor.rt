@@ -188,6 +188,7 @@ impl Processor {
     }
 
     /// Changes four bytes, the lowest first.
+    #[inline(always)]
     pub(crate) fn store32(&mut self, address: u32, value: u32) -> Result<(), Halt>
         ensures { Leaves (store 4 address value self.old) self.old self.new result }
     {

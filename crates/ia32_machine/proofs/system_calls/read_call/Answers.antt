@@ -2,7 +2,8 @@ use Rattle.std.proofs.Common.{◌≡◌, ◌<◌, true, false, ◌∷◌, sym, �
 use Rattle.ia32_regs.specs.declared.names.Reg32.TheVariants.{Edx}
 use Rattle.ia32_insn.specs.State.{State}
 use Rattle.ia32_insn.specs.Meaning.{word_of}
-use Rattle.ia32_machine.proofs.Storing.{one_byte}
+use Rattle.ia32_code.proofs.Kept.{keeps-same}
+use Rattle.ia32_machine.proofs.Storing.{one_byte, byte_keeps}
 use Rattle.ia32_machine.proofs.Calls.{not_is, may_so, read_none, read_denied, read_end, read_byte, read_fault}
 use Rattle.ia32_machine.proofs.system_calls.read_call.Goals as goal
 
@@ -53,3 +54,20 @@ pub returns-in-Err-clause-told : goal.returns-in-Err-clause-told
 returns-in-Err-clause-told g c = λ i taken.
     read_fault c.args.processor.now (g.I.Source.left c.args.input.now) (g.I.Source.left c.next_byte.new.self) taken
     c.requires (c.in-Err.ensures.told i)
+
+pub returns-then-count-eq0-clause-code : goal.returns-then-count-eq0-clause-code
+returns-then-count-eq0-clause-code g c = rw c.set_word.ensures (keeps-same c.args.processor.now.memory)
+
+pub returns-then-not-may_store-clause-code : goal.returns-then-not-may_store-clause-code
+returns-then-not-may_store-clause-code g c = keeps-same c.args.processor.now.memory
+
+pub returns-in-Ok-Some-clause-code : goal.returns-in-Ok-Some-clause-code
+returns-in-Ok-Some-clause-code g c =
+    byte_keeps c.word-address.result c.in-Ok-Some.byte c.args.processor.now c.take_byte.new.processor
+    c.take_byte.ensures
+
+pub returns-in-Ok-None-clause-code : goal.returns-in-Ok-None-clause-code
+returns-in-Ok-None-clause-code g c = rw c.set_word-in-Ok-None.ensures (keeps-same c.args.processor.now.memory)
+
+pub returns-in-Err-clause-code : goal.returns-in-Err-clause-code
+returns-in-Err-clause-code g c = keeps-same c.args.processor.now.memory

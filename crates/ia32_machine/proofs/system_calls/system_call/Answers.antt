@@ -2,6 +2,7 @@ use Rattle.std.proofs.Common.{◌≡◌, ◌≢◌, List, ℕ, refl, sym, ◌∙
 use Rattle.ia32_regs.specs.declared.names.Reg32.TheVariants.{Eax, Ebx}
 use Rattle.ia32_insn.specs.State.{State}
 use Rattle.ia32_insn.specs.Meaning.{Moved, word_of}
+use Rattle.ia32_code.proofs.Kept.{keeps-same}
 use Rattle.ia32_machine.specs.First.{lent}
 use Rattle.ia32_machine.specs.Performs.{PartTold}
 use Rattle.ia32_machine.proofs.Calls.{call_exit, call_read, call_write, call_none}
@@ -94,3 +95,15 @@ returns-clause-input_tells g c = λ t. t
 
 pub returns-clause-out_tells : goal.returns-clause-out_tells
 returns-clause-out_tells g c = λ t. t
+
+pub returns-then-call-eq1-clause-code : goal.returns-then-call-eq1-clause-code
+returns-then-call-eq1-clause-code g c = keeps-same c.args.processor.now.memory
+
+pub returns-then-first-eq0-clause-code : goal.returns-then-first-eq0-clause-code
+returns-then-first-eq0-clause-code g c = c.read_call.ensures.code
+
+pub returns-then-first-eq1-clause-code : goal.returns-then-first-eq1-clause-code
+returns-then-first-eq1-clause-code g c = c.write_call.ensures.code
+
+pub returns-clause-code : goal.returns-clause-code
+returns-clause-code g c = keeps-same c.args.processor.now.memory

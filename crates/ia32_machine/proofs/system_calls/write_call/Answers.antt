@@ -2,6 +2,7 @@ use Rattle.std.proofs.Common.{Some, None, refl, sym, ◌∙◌}
 use Rattle.ia32_regs.specs.declared.names.Reg32.TheVariants.{Edx}
 use Rattle.ia32_insn.specs.State.{State}
 use Rattle.ia32_insn.specs.Meaning.{word_of}
+use Rattle.ia32_code.proofs.Kept.{keeps-same}
 use Rattle.ia32_machine.proofs.Calls.{not_is, bytes_so, write_none, write_denied, write_done, write_failed}
 use Rattle.ia32_machine.proofs.Calls.{write_wanted, some_bytes}
 use Rattle.ia32_machine.proofs.system_calls.write_call.Goals as goal
@@ -60,7 +61,8 @@ returns-in-Err-Failed-clause-told g c = λ o left.
     c.word-address.ensures c.in-Some.ensures.found in
     let told = rw c.in-Err-Failed.field-0-is at (c.in-Err-Failed.ensures.told o) in
     rw c.bytes_at.follows.holds-at-none
-    (write_failed old c.in-Some.bytes.now left (g.O.Sink.taken c.args.out.now) (g.O.Sink.taken c.put_all.new.self) told.0
+    (write_failed old c.in-Some.bytes.now left (g.O.Sink.taken c.args.out.now) (g.O.Sink.taken c.put_all.new.self)
+    told.0
     c.requires some there told.1)
 
 pub returns-in-Err-Failed-clause-counted : goal.returns-in-Err-Failed-clause-counted
@@ -88,3 +90,22 @@ returns-in-Err-NoMemory-clause-counted g c = λ _. let counted =
 
 pub returns-in-Err-NoMemory-clause-out_tells : goal.returns-in-Err-NoMemory-clause-out_tells
 returns-in-Err-NoMemory-clause-out_tells g c = c.put_all.ensures.telling
+
+pub returns-then-count-eq0-clause-code : goal.returns-then-count-eq0-clause-code
+returns-then-count-eq0-clause-code g c = rw c.set_word.ensures (keeps-same c.args.processor.now.memory)
+
+pub returns-in_default-clause-code : goal.returns-in_default-clause-code
+returns-in_default-clause-code g c =
+    rw c.bytes_at.follows.holds-at-none (keeps-same c.args.processor.now.memory)
+
+pub returns-in-Ok-clause-code : goal.returns-in-Ok-clause-code
+returns-in-Ok-clause-code g c =
+    rw (c.set_word-in-Ok.ensures, c.bytes_at.follows.holds-at-none) (keeps-same c.args.processor.now.memory)
+
+pub returns-in-Err-Failed-clause-code : goal.returns-in-Err-Failed-clause-code
+returns-in-Err-Failed-clause-code g c =
+    rw c.bytes_at.follows.holds-at-none (keeps-same c.args.processor.now.memory)
+
+pub returns-in-Err-NoMemory-clause-code : goal.returns-in-Err-NoMemory-clause-code
+returns-in-Err-NoMemory-clause-code g c =
+    rw c.bytes_at.follows.holds-at-none (keeps-same c.args.processor.now.memory)

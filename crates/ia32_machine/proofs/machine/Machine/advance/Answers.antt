@@ -1,45 +1,52 @@
-use Rattle.std.proofs.Common.{◌≡◌, ◌≤◌, ◌+◌, ◌%◌, List, ℕ, refl, ap, arith}
+use Rattle.std.proofs.Common.{◌≡◌, List, ℕ, refl, subst}
 use Rattle.ia32_insn.specs.State.{State}
-use Rattle.ia32_machine.proofs.Performs.{fetched, unfetched}
+use Rattle.ia32_machine.specs.First.{lent}
+use Rattle.ia32_machine.specs.Performs.{AdvanceTold}
+use Rattle.ia32_machine.proofs.Performs.{fetched}
+use Rattle.ia32_machine.proofs.Table.{decoded-kept, found-fetched, found-after}
 use Rattle.ia32_machine.proofs.machine.Machine.advance.Goals as goal
-
-pub overflow_cast-after : goal.overflow_cast-after
-overflow_cast-after g c = let short : c.in-Ok.length ≤ 15 = c.in-Ok.ensures.short in omega arith
 
 pub perform-requires : goal.perform-requires
 perform-requires g c = c.eip-address.ensures.bare
 
-pub returns-in-Ok-clause-told : goal.returns-in-Ok-clause-told
-returns-in-Ok-clause-told g c = λ i o.
-    let s : State = c.args.self.now in
+pub same-self : goal.same-self
+same-self g c = refl
+
+pub invariant_of-self : goal.invariant_of-self
+invariant_of-self g c =
+    decoded-kept c.self.inside.processor.memory c.perform.new.processor.memory c.self.inside.decoded.entries.items
+    c.perform.ensures.code c.self.invariant
+
+pub returns-in-Some-clause-told : goal.returns-in-Some-clause-told
+returns-in-Some-clause-told g c = λ i o.
+    let p : State = c.self.inside.processor in
     let left : List ℕ = g.I.Source.left c.args.input.now in
-    let after : ℕ = (c.eip-address.result + c.in-Ok.length) % 0x1_0000_0000 in
-    let same : after ≡ (s.eip + c.in-Ok.length) % 0x1_0000_0000 =
-    ap (λ (n : ℕ). (n + c.in-Ok.length) % 0x1_0000_0000) c.eip-address.ensures.value in
-    fetched s c.perform.new.self left (g.I.Source.left c.perform.new.input) (g.O.Sink.taken c.args.out.now)
-    (g.O.Sink.taken c.perform.new.out) c.in-Ok.insn c.in-Ok.length after c.perform.result
-    c.in-Ok.ensures.told same (c.perform.ensures.told i o)
+    let at : c.eip-address.result ≡ p.eip = c.eip-address.ensures.value in
+    let found = c.in-Some.ensures p.memory c.self.invariant in
+    subst (λ (s : State). AdvanceTold (lent s left) c.perform.new.processor (g.I.Source.left c.perform.new.input)
+    (g.O.Sink.taken c.args.out.now) (g.O.Sink.taken c.perform.new.out) c.perform.result) c.self.view_is
+    (fetched p c.perform.new.processor left (g.I.Source.left c.perform.new.input) (g.O.Sink.taken c.args.out.now)
+    (g.O.Sink.taken c.perform.new.out) c.in-Some.entry.now.insn found.1.1.1 c.in-Some.entry.now.after c.perform.result
+    (found-fetched p c.eip-address.result c.in-Some.entry.now at found)
+    (found-after p c.eip-address.result c.in-Some.entry.now at found) (c.perform.ensures.told i o))
 
-pub returns-in-Ok-clause-counted : goal.returns-in-Ok-clause-counted
-returns-in-Ok-clause-counted g c = c.perform.ensures.counted
+pub returns-in-Some-clause-counted : goal.returns-in-Some-clause-counted
+returns-in-Some-clause-counted g c = c.perform.ensures.counted
 
-pub returns-in-Ok-clause-input_tells : goal.returns-in-Ok-clause-input_tells
-returns-in-Ok-clause-input_tells g c = c.perform.ensures.input_tells
+pub returns-in-Some-clause-input_tells : goal.returns-in-Some-clause-input_tells
+returns-in-Some-clause-input_tells g c = c.perform.ensures.input_tells
 
-pub returns-in-Ok-clause-out_tells : goal.returns-in-Ok-clause-out_tells
-returns-in-Ok-clause-out_tells g c = c.perform.ensures.out_tells
+pub returns-in-Some-clause-out_tells : goal.returns-in-Some-clause-out_tells
+returns-in-Some-clause-out_tells g c = c.perform.ensures.out_tells
 
-pub returns-in-Err-clause-told : goal.returns-in-Err-clause-told
-returns-in-Err-clause-told g c = λ _ _.
-    rw c.eip-address.ensures.value
-    (unfetched c.args.self.now (g.I.Source.left c.args.input.now) (g.O.Sink.taken c.args.out.now) c.in-Err.cause
-    c.eip-address.ensures.bare c.in-Err.ensures.told)
+pub returns-in-None-clause-told : goal.returns-in-None-clause-told
+returns-in-None-clause-told g c = c.decode_and_perform.ensures.told
 
-pub returns-in-Err-clause-counted : goal.returns-in-Err-clause-counted
-returns-in-Err-clause-counted g c = (refl, refl)
+pub returns-in-None-clause-counted : goal.returns-in-None-clause-counted
+returns-in-None-clause-counted g c = c.decode_and_perform.ensures.counted
 
-pub returns-in-Err-clause-input_tells : goal.returns-in-Err-clause-input_tells
-returns-in-Err-clause-input_tells g c = λ t. t
+pub returns-in-None-clause-input_tells : goal.returns-in-None-clause-input_tells
+returns-in-None-clause-input_tells g c = c.decode_and_perform.ensures.input_tells
 
-pub returns-in-Err-clause-out_tells : goal.returns-in-Err-clause-out_tells
-returns-in-Err-clause-out_tells g c = λ t. t
+pub returns-in-None-clause-out_tells : goal.returns-in-None-clause-out_tells
+returns-in-None-clause-out_tells g c = c.decode_and_perform.ensures.out_tells

@@ -1,0 +1,66 @@
+use Rattle.std.proofs.Common.{◌≡◌, ◌≤◌, ◌+◌, ◌%◌, List, ℕ, Err, refl, ap, subst, arith}
+use Rattle.ia32_insn.specs.State.{State}
+use Rattle.ia32_machine.specs.First.{lent}
+use Rattle.ia32_machine.specs.Performs.{AdvanceTold}
+use Rattle.ia32_machine.specs.declared.ends.MachineEnd.TheVariants.{Stopped}
+use Rattle.ia32_machine.proofs.Performs.{fetched, unfetched}
+use Rattle.ia32_machine.proofs.Table.{decoded-kept, fetched-spelled}
+use Rattle.ia32_machine.proofs.machine.Machine.decode_and_perform.Goals as goal
+
+pub overflow_cast-after : goal.overflow_cast-after
+overflow_cast-after g c = let short : c.in-Ok.length ≤ 15 = c.in-Ok.ensures.short in omega arith
+
+pub perform-requires : goal.perform-requires
+perform-requires g c = c.eip-address.ensures.bare
+
+pub same-self : goal.same-self
+same-self g c = refl
+
+pub invariant_of-self : goal.invariant_of-self
+invariant_of-self g c =
+    let p : State = c.self.inside.processor in
+    let after : ℕ = (c.eip-address.result + c.in-Ok.length) % 0x1_0000_0000 in
+    decoded-kept p.memory c.perform.new.processor.memory c.keep.new.self.entries.items c.perform.ensures.code
+    (c.keep.ensures c.self.invariant
+    (fetched-spelled p c.eip-address.result c.in-Ok.length after c.in-Ok.insn
+    c.eip-address.ensures.value c.in-Ok.ensures.told refl))
+
+pub returns-in-Ok-clause-told : goal.returns-in-Ok-clause-told
+returns-in-Ok-clause-told g c = λ i o.
+    let p : State = c.self.inside.processor in
+    let left : List ℕ = g.I.Source.left c.args.input.now in
+    let after : ℕ = (c.eip-address.result + c.in-Ok.length) % 0x1_0000_0000 in
+    let same : after ≡ (p.eip + c.in-Ok.length) % 0x1_0000_0000 =
+    ap (λ (n : ℕ). (n + c.in-Ok.length) % 0x1_0000_0000) c.eip-address.ensures.value in
+    subst (λ (s : State). AdvanceTold (lent s left) c.perform.new.processor (g.I.Source.left c.perform.new.input)
+    (g.O.Sink.taken c.args.out.now) (g.O.Sink.taken c.perform.new.out) c.perform.result) c.self.view_is
+    (fetched p c.perform.new.processor left (g.I.Source.left c.perform.new.input) (g.O.Sink.taken c.args.out.now)
+    (g.O.Sink.taken c.perform.new.out) c.in-Ok.insn c.in-Ok.length after c.perform.result
+    c.in-Ok.ensures.told same (c.perform.ensures.told i o))
+
+pub returns-in-Ok-clause-counted : goal.returns-in-Ok-clause-counted
+returns-in-Ok-clause-counted g c = c.perform.ensures.counted
+
+pub returns-in-Ok-clause-input_tells : goal.returns-in-Ok-clause-input_tells
+returns-in-Ok-clause-input_tells g c = c.perform.ensures.input_tells
+
+pub returns-in-Ok-clause-out_tells : goal.returns-in-Ok-clause-out_tells
+returns-in-Ok-clause-out_tells g c = c.perform.ensures.out_tells
+
+pub returns-in-Err-clause-told : goal.returns-in-Err-clause-told
+returns-in-Err-clause-told g c = λ _ _.
+    let left : List ℕ = g.I.Source.left c.args.input.now in
+    let taken : List ℕ = g.O.Sink.taken c.args.out.now in
+    subst (λ (s : State). AdvanceTold (lent s left) s left taken taken (Err (Stopped c.in-Err.cause
+    c.eip-address.result))) c.self.view_is
+    (rw c.eip-address.ensures.value (unfetched c.self.inside.processor left taken c.in-Err.cause
+    c.eip-address.ensures.bare c.in-Err.ensures.told))
+
+pub returns-in-Err-clause-counted : goal.returns-in-Err-clause-counted
+returns-in-Err-clause-counted g c = (refl, refl)
+
+pub returns-in-Err-clause-input_tells : goal.returns-in-Err-clause-input_tells
+returns-in-Err-clause-input_tells g c = λ t. t
+
+pub returns-in-Err-clause-out_tells : goal.returns-in-Err-clause-out_tells
+returns-in-Err-clause-out_tells g c = λ t. t
