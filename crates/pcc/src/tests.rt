@@ -311,14 +311,51 @@ fn small_image(alloc: Global) -> Result<Vec<u8>, Fail> {
     Ok(write_image(alloc, &image)?)
 }
 
-/// The image with the byte at an offset of the file changed.
-fn with_byte(alloc: Global, image: &[u8], at: usize, byte: u8) -> Result<Vec<u8>, Fail> {
+/// The image with these bytes from an offset of the file on.
+fn with_bytes(alloc: Global, image: &[u8], at: usize, bytes: &[u8]) -> Result<Vec<u8>, Fail> {
     let mut changed = Vec::from_slice(alloc, image)?;
-    if let Some(place) = changed.get_mut(at) {
-        *place = byte;
+    for (offset, byte) in bytes.iter().enumerate() {
+        if let Some(place) = changed.get_mut(at.saturating_add(offset)) {
+            *place = *byte;
+        }
     }
     Ok(changed)
 }
+
+/// Bytes of the file of an image, from an offset on, and how a run of it ends.
+const CHANGED_BYTES: [(usize, &[u8], u8, &str); 20] = [
+    (4096, &[0xBC], 0, "exit 44\n"),
+    (4096, &[0xF4], 9, "stopped instruction 0x08048000\n"),
+    (4096 + 5, &[0x0F], 9, "stopped instruction 0x08048005\n"),
+    (4096 + 5, &[0x72], 9, "stopped flags 0x08048005\n"),
+    (4096 + 5, &[0x58], 9, "stopped access 0x0c04a004\n"),
+    (4096 + 17, &[0x81], 9, "stopped call 0x08048010\n"),
+    (4096 + 12, &[4], 9, "stopped call 0x08048010\n"),
+    (4096 + 7, &[45], 0, "exit 45\n"),
+    (4095, &[1], 0, "exit 44\n"),
+    // The entry.
+    (24, &[0; 4], 9, "stopped access 0x00000000\n"),
+    (27, &[9], 9, "stopped access 0x09048000\n"),
+    // The system, and all up to where section headers begin.
+    (7, &[3], 0, "exit 44\n"),
+    (
+        7,
+        b"\x03\0\0\0\0\0\0\0\0\x02\0\x03\0\x01\0\0\0\0\x80\x04\x08\x34\0\0\0\xFF\xFF\xFF\xFF",
+        0,
+        "exit 44\n",
+    ),
+    // The leave to run the text.
+    (76, &[4], 9, "stopped access 0x08048000\n"),
+    (0, &[0], 7, "not an image\n"),
+    // How many program headers there are.
+    (44, &[0, 0], 7, "not an image\n"),
+    (44, &[0xFF, 0xFF], 7, "not an image\n"),
+    // The address of the text, which is that of the data.
+    (60, &[0x00, 0x90, 0x04, 0x08], 7, "not an image\n"),
+    // The sizes in memory of the text and of the data.
+    (72, &[0; 4], 7, "not an image\n"),
+    (104, &[0xFF; 4], 7, "not an image\n"),
+];
 
 /// A changed image is refused, or stops where it no longer has a step.
 #[test]
@@ -326,24 +363,8 @@ fn runs_changed_images(rt: HostRuntime) -> Result<(), Fail> {
     let alloc = rt.alloc();
     let mut files = MemFiles::new(alloc, failing(alloc, 0)?);
     let image = small_image(alloc)?;
-    for (at, byte, status, err) in [
-        (4096, 0xBC, 0, "exit 44\n"),
-        (4096, 0xF4, 9, "stopped instruction 0x08048000\n"),
-        (4096 + 5, 0x0F, 9, "stopped instruction 0x08048005\n"),
-        (4096 + 5, 0x72, 9, "stopped flags 0x08048005\n"),
-        (4096 + 5, 0x58, 9, "stopped access 0x0c04a004\n"),
-        (4096 + 17, 0x81, 9, "stopped call 0x08048010\n"),
-        (4096 + 12, 4, 9, "stopped call 0x08048010\n"),
-        (27, 9, 9, "stopped access 0x09048000\n"),
-        (4096 + 7, 45, 0, "exit 45\n"),
-        (7, 3, 0, "exit 44\n"),
-        (4095, 1, 0, "exit 44\n"),
-        (76, 4, 9, "stopped access 0x08048000\n"),
-        (0, 0, 7, "not an image\n"),
-        (44, 0, 7, "not an image\n"),
-        (72, 0, 7, "not an image\n"),
-    ] {
-        let changed = with_byte(alloc, image.as_slice(), at, byte)?;
+    for &(at, bytes, status, err) in &CHANGED_BYTES {
+        let changed = with_bytes(alloc, image.as_slice(), at, bytes)?;
         if files.place("b", changed.as_slice()).is_err() {
             return Err(Fail::new("no memory"));
         }
@@ -351,12 +372,23 @@ fn runs_changed_images(rt: HostRuntime) -> Result<(), Fail> {
         assert_eq!(rt; answer.err.taken(), err.as_bytes(), "{at}");
         assert_eq!(rt; answer.status, status, "{at}");
     }
-    if files.place("c", image.get(..51).unwrap_or(b"")).is_err() {
-        return Err(Fail::new("no memory"));
+    Ok(())
+}
+
+/// An image without its last byte is refused, and so is a header without its last one.
+#[test]
+fn refuses_images_that_end_too_early(rt: HostRuntime) -> Result<(), Fail> {
+    let alloc = rt.alloc();
+    let mut files = MemFiles::new(alloc, failing(alloc, 0)?);
+    let image = small_image(alloc)?;
+    for count in [51, image.len().saturating_sub(1)] {
+        if files.place("b", image.get(..count).unwrap_or(b"")).is_err() {
+            return Err(Fail::new("no memory"));
+        }
+        let answer = run_line(alloc, "run b", &mut files, 0)?;
+        assert_eq!(rt; answer.err.taken(), b"not an image\n".as_slice(), "{count}");
+        assert_eq!(rt; answer.status, 7, "{count}");
     }
-    let short = run_line(alloc, "run c", &mut files, 0)?;
-    assert_eq!(rt; short.err.taken(), b"not an image\n".as_slice());
-    assert_eq!(rt; short.status, 7);
     Ok(())
 }
 
