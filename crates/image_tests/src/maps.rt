@@ -20,7 +20,7 @@ fn digits(rt: HostRuntime) -> Result<(), Fail> {
     let alloc = rt.alloc();
     for (number, text) in NUMBERS {
         let mut out = Vec::new(alloc);
-        push_number(alloc, &mut out, number)?;
+        push_number(&mut out, number)?;
         assert_eq!(rt; out.as_slice(), text.as_bytes());
     }
     for (address, text) in ADDRESSES {

@@ -92,23 +92,23 @@ pub enum Line {
 }
 
 /// Puts where a variable stands at the end.
-fn push_standing(alloc: Global, out: &mut Vec<u8>, standing: Standing) -> Result<(), NoMemory>
+fn push_standing(out: &mut Vec<u8>, standing: Standing) -> Result<(), NoMemory>
     ensures { OnOk result (out.new.items ≡ out.old.items ++ standing_text (standing_of standing)) }
 {
     out.extend_from_slice(b" ")?;
-    push_number(alloc, out, u64::from(standing.variable))?;
+    push_number(out, u64::from(standing.variable))?;
     out.extend_from_slice(b"=[ebp-")?;
-    push_number(alloc, out, u64::from(standing.below))?;
+    push_number(out, u64::from(standing.below))?;
     out.extend_from_slice(b"]")?;
     Ok(())
 }
 
 /// Puts where variables stand at the end, in order.
-fn push_standings(alloc: Global, out: &mut Vec<u8>, standings: &[Standing]) -> Result<(), NoMemory>
+fn push_standings(out: &mut Vec<u8>, standings: &[Standing]) -> Result<(), NoMemory>
     ensures { OnOk result (out.new.items ≡ out.old.items ++ flat_map standing_text (map standing_of standings.now)) }
 {
     for standing in standings {
-        push_standing(alloc, out, *standing)?;
+        push_standing(out, *standing)?;
     }
     Ok(())
 }
@@ -145,7 +145,6 @@ fn push_width(out: &mut Vec<u8>, width: Width) -> Result<(), NoMemory>
 
 /// Puts the line of a static object at the end: its address, its elements, and the bytes of one.
 fn push_object(
-    alloc: Global,
     out: &mut Vec<u8>,
     number: u32,
     address: u32,
@@ -156,40 +155,33 @@ fn push_object(
         out.new.items ≡ out.old.items ++ line_text (ObjectLine number address count bytes)) }
 {
     out.extend_from_slice(b"object ")?;
-    push_number(alloc, out, u64::from(number))?;
+    push_number(out, u64::from(number))?;
     out.extend_from_slice(b" ")?;
     push_address(out, address)?;
     out.extend_from_slice(b" ")?;
-    push_number(alloc, out, u64::from(count))?;
+    push_number(out, u64::from(count))?;
     out.extend_from_slice(b" ")?;
-    push_number(alloc, out, u64::from(bytes))?;
+    push_number(out, u64::from(bytes))?;
     out.extend_from_slice(b"\n")?;
     Ok(())
 }
 
 /// Puts the line of a function at the end: its name, and the bytes of its frame.
-fn push_function(
-    alloc: Global,
-    out: &mut Vec<u8>,
-    number: u32,
-    name: &Name,
-    frame: u32,
-) -> Result<(), NoMemory>
+fn push_function(out: &mut Vec<u8>, number: u32, name: &Name, frame: u32) -> Result<(), NoMemory>
     ensures { OnOk result (out.new.items ≡ out.old.items ++ line_text (FunctionLine number name.now frame)) }
 {
     out.extend_from_slice(b"function ")?;
-    push_number(alloc, out, u64::from(number))?;
+    push_number(out, u64::from(number))?;
     out.extend_from_slice(b" ")?;
     out.extend_from_slice(name.as_bytes())?;
     out.extend_from_slice(b" frame ")?;
-    push_number(alloc, out, u64::from(frame))?;
+    push_number(out, u64::from(frame))?;
     out.extend_from_slice(b"\n")?;
     Ok(())
 }
 
 /// Puts the line of a frame array at the end: how far below EBP it is, its elements, and the bytes of one.
 fn push_array(
-    alloc: Global,
     out: &mut Vec<u8>,
     number: u32,
     below: u32,
@@ -200,30 +192,24 @@ fn push_array(
         out.new.items ≡ out.old.items ++ line_text (ArrayLine number below count bytes)) }
 {
     out.extend_from_slice(b"array ")?;
-    push_number(alloc, out, u64::from(number))?;
+    push_number(out, u64::from(number))?;
     out.extend_from_slice(b" -")?;
-    push_number(alloc, out, u64::from(below))?;
+    push_number(out, u64::from(below))?;
     out.extend_from_slice(b" ")?;
-    push_number(alloc, out, u64::from(count))?;
+    push_number(out, u64::from(count))?;
     out.extend_from_slice(b" ")?;
-    push_number(alloc, out, u64::from(bytes))?;
+    push_number(out, u64::from(bytes))?;
     out.extend_from_slice(b"\n")?;
     Ok(())
 }
 
 /// Puts the line of a variable at the end.
-fn push_variable(
-    alloc: Global,
-    out: &mut Vec<u8>,
-    number: u32,
-    width: Width,
-    name: &Named,
-) -> Result<(), NoMemory>
+fn push_variable(out: &mut Vec<u8>, number: u32, width: Width, name: &Named) -> Result<(), NoMemory>
     ensures { OnOk result (
         out.new.items ≡ out.old.items ++ line_text (VariableLine number width (named_of name.now))) }
 {
     out.extend_from_slice(b"var ")?;
-    push_number(alloc, out, u64::from(number))?;
+    push_number(out, u64::from(number))?;
     out.extend_from_slice(b" ")?;
     push_width(out, width)?;
     out.extend_from_slice(b" ")?;
@@ -233,13 +219,13 @@ fn push_variable(
 }
 
 /// Puts what the line of a point begins with at the end, up to its op.
-fn push_point(alloc: Global, out: &mut Vec<u8>, point: u32, address: u32) -> Result<(), NoMemory>
+fn push_point(out: &mut Vec<u8>, point: u32, address: u32) -> Result<(), NoMemory>
     ensures { OnOk result (
         out.new.items
         ≡ out.old.items ++ codes "point " ++ decimal point ++ codes " " ++ address_text address ++ codes " ") }
 {
     out.extend_from_slice(b"point ")?;
-    push_number(alloc, out, u64::from(point))?;
+    push_number(out, u64::from(point))?;
     out.extend_from_slice(b" ")?;
     push_address(out, address)?;
     out.extend_from_slice(b" ")?;
@@ -247,23 +233,23 @@ fn push_point(alloc: Global, out: &mut Vec<u8>, point: u32, address: u32) -> Res
 }
 
 /// Puts a variable at the end, or `-` where there is none.
-fn push_if_any(alloc: Global, out: &mut Vec<u8>, variable: Option<u32>) -> Result<(), NoMemory>
+fn push_if_any(out: &mut Vec<u8>, variable: Option<u32>) -> Result<(), NoMemory>
     ensures { OnOk result (out.new.items ≡ out.old.items ++ if_any_text variable) }
 {
     match variable {
-        Some(variable) => push_number(alloc, out, u64::from(variable))?,
+        Some(variable) => push_number(out, u64::from(variable))?,
         None => out.extend_from_slice(b"-")?,
     }
     Ok(())
 }
 
 /// Puts the argument words of a call at the end, a space before each.
-fn push_arguments(alloc: Global, out: &mut Vec<u8>, arguments: &[u32]) -> Result<(), NoMemory>
+fn push_arguments(out: &mut Vec<u8>, arguments: &[u32]) -> Result<(), NoMemory>
     ensures { OnOk result (out.new.items ≡ out.old.items ++ flat_map argument_text arguments.now) }
 {
     for argument in arguments {
         out.extend_from_slice(b" ")?;
-        push_number(alloc, out, u64::from(*argument))?;
+        push_number(out, u64::from(*argument))?;
     }
     Ok(())
 }
@@ -272,7 +258,6 @@ fn push_arguments(alloc: Global, out: &mut Vec<u8>, arguments: &[u32]) -> Result
 /// newline.
 #[tactic(auto, using(crate::proofs::Calls::call_pushed))]
 fn push_call(
-    alloc: Global,
     out: &mut Vec<u8>,
     to: Option<u32>,
     function: u32,
@@ -282,48 +267,42 @@ fn push_call(
         out.new.items ≡ out.old.items ++ op_text (op.Call to function arguments.now) ++ newline ∷ []) }
 {
     out.extend_from_slice(b"call ")?;
-    push_if_any(alloc, out, to)?;
+    push_if_any(out, to)?;
     out.extend_from_slice(b" ")?;
-    push_number(alloc, out, u64::from(function))?;
-    push_arguments(alloc, out, arguments.as_slice())?;
+    push_number(out, u64::from(function))?;
+    push_arguments(out, arguments.as_slice())?;
     out.extend_from_slice(b"\n")?;
     Ok(())
 }
 
 /// Puts the line of a point at which a statement is marked at the end.
-fn push_mark(
-    alloc: Global,
-    out: &mut Vec<u8>,
-    point: u32,
-    address: u32,
-    statement: u32,
-) -> Result<(), NoMemory>
+fn push_mark(out: &mut Vec<u8>, point: u32, address: u32, statement: u32) -> Result<(), NoMemory>
     ensures { OnOk result (
         out.new.items ≡ out.old.items ++ line_text (PointLine point address (op.Mark statement))) }
 {
     out.extend_from_slice(b"point ")?;
-    push_number(alloc, out, u64::from(point))?;
+    push_number(out, u64::from(point))?;
     out.extend_from_slice(b" ")?;
     push_address(out, address)?;
     out.extend_from_slice(b" mark ")?;
-    push_number(alloc, out, u64::from(statement))?;
+    push_number(out, u64::from(statement))?;
     out.extend_from_slice(b"\n")?;
     Ok(())
 }
 
 /// Puts where variables stand at the end, with the line's word before them.
-fn push_before(alloc: Global, out: &mut Vec<u8>, standings: &[Standing]) -> Result<(), NoMemory>
+fn push_before(out: &mut Vec<u8>, standings: &[Standing]) -> Result<(), NoMemory>
     ensures { OnOk result (
         out.new.items ≡ out.old.items ++ line_text (BeforeLine (map standing_of standings.now))) }
 {
     out.extend_from_slice(b"before")?;
-    push_standings(alloc, out, standings)?;
+    push_standings(out, standings)?;
     out.extend_from_slice(b"\n")?;
     Ok(())
 }
 
 /// Puts a line at the end.
-fn push_line(alloc: Global, out: &mut Vec<u8>, line: &Line) -> Result<(), NoMemory>
+fn push_line(out: &mut Vec<u8>, line: &Line) -> Result<(), NoMemory>
     ensures { OnOk result (out.new.items ≡ out.old.items ++ line_text (line_of line.now)) }
 {
     match line {
@@ -332,28 +311,28 @@ fn push_line(alloc: Global, out: &mut Vec<u8>, line: &Line) -> Result<(), NoMemo
             address,
             count,
             bytes,
-        } => push_object(alloc, out, *number, *address, *count, *bytes)?,
+        } => push_object(out, *number, *address, *count, *bytes)?,
         Line::Function {
             number,
             name,
             frame,
-        } => push_function(alloc, out, *number, name, *frame)?,
+        } => push_function(out, *number, name, *frame)?,
         Line::Array {
             number,
             below,
             count,
             bytes,
-        } => push_array(alloc, out, *number, *below, *count, *bytes)?,
+        } => push_array(out, *number, *below, *count, *bytes)?,
         Line::Variable {
             number,
             width,
             name,
-        } => push_variable(alloc, out, *number, *width, name)?,
+        } => push_variable(out, *number, *width, name)?,
         Line::Mark {
             point,
             address,
             statement,
-        } => push_mark(alloc, out, *point, *address, *statement)?,
+        } => push_mark(out, *point, *address, *statement)?,
         Line::Call {
             point,
             address,
@@ -361,10 +340,10 @@ fn push_line(alloc: Global, out: &mut Vec<u8>, line: &Line) -> Result<(), NoMemo
             function,
             arguments,
         } => {
-            push_point(alloc, out, *point, *address)?;
-            push_call(alloc, out, *to, *function, arguments)?;
+            push_point(out, *point, *address)?;
+            push_call(out, *to, *function, arguments)?;
         }
-        Line::Before(standings) => push_before(alloc, out, standings)?,
+        Line::Before(standings) => push_before(out, standings)?,
     }
     Ok(())
 }
@@ -376,7 +355,7 @@ pub fn print_lines(alloc: Global, lines: &Vec<Line>) -> Result<Vec<u8>, NoMemory
     let mut out = Vec::new(alloc);
     out.extend_from_slice(b"pcc map 1\n")?;
     for line in lines {
-        push_line(alloc, &mut out, line)?;
+        push_line(&mut out, line)?;
     }
     out.extend_from_slice(b"end\n")?;
     Ok(out)

@@ -97,25 +97,25 @@ fn push_word(out: &mut Vec<u8>, kind: FaultKind) -> Result<(), NoMemory>
 }
 
 /// Puts the number and the name of a kind of fault at the end. The only refusal is want of memory.
-fn push_kind(alloc: Global, out: &mut Vec<u8>, kind: FaultKind) -> Result<(), NoMemory>
+fn push_kind(out: &mut Vec<u8>, kind: FaultKind) -> Result<(), NoMemory>
     ensures { OnOk result (out.new.items ≡ out.old.items ++ kind_text kind) }
 {
-    push_number(alloc, out, u64::from(kind.number()))?;
+    push_number(out, u64::from(kind.number()))?;
     out.extend_from_slice(b" ")?;
     out.extend_from_slice(kind.name().as_bytes())?;
     push_word(out, kind)
 }
 
 /// Puts where and what a fault is at the end, behind the source's name. The only refusal is want of memory.
-fn push_fault(alloc: Global, out: &mut Vec<u8>, fault: Fault) -> Result<(), NoMemory>
+fn push_fault(out: &mut Vec<u8>, fault: Fault) -> Result<(), NoMemory>
     ensures { OnOk result (out.new.items ≡ out.old.items ++ fault_text fault) }
 {
     out.extend_from_slice(b":")?;
-    push_number(alloc, out, u64::from(fault.at.line))?;
+    push_number(out, u64::from(fault.at.line))?;
     out.extend_from_slice(b":")?;
-    push_number(alloc, out, u64::from(fault.at.col))?;
+    push_number(out, u64::from(fault.at.col))?;
     out.extend_from_slice(b": ")?;
-    push_kind(alloc, out, fault.kind)
+    push_kind(out, fault.kind)
 }
 
 /// Puts the kind of a trap at the end. The only refusal is want of memory.
@@ -151,11 +151,11 @@ fn push_stop(out: &mut Vec<u8>, cause: Stop, address: u32) -> Result<(), NoMemor
 }
 
 /// Puts words and a number at the end. The only refusal is want of memory.
-fn push_count(alloc: Global, out: &mut Vec<u8>, words: &[u8], number: u64) -> Result<(), NoMemory>
+fn push_count(out: &mut Vec<u8>, words: &[u8], number: u64) -> Result<(), NoMemory>
     ensures { OnOk result (out.new.items ≡ out.old.items ++ (words.now ++ decimal number)) }
 {
     out.extend_from_slice(words)?;
-    push_number(alloc, out, number)
+    push_number(out, number)
 }
 
 /// Puts words at the end. The only refusal is want of memory.
@@ -167,38 +167,33 @@ fn push_words(out: &mut Vec<u8>, words: &[u8]) -> Result<(), NoMemory>
 }
 
 /// Puts the name of a function and the bytes of its frame at the end. The only refusal is want of memory.
-fn push_frame(alloc: Global, out: &mut Vec<u8>, name: &[u8], bytes: u64) -> Result<(), NoMemory>
+fn push_frame(out: &mut Vec<u8>, name: &[u8], bytes: u64) -> Result<(), NoMemory>
     ensures { OnOk result (out.new.items ≡ out.old.items ++ frame_text name.now bytes) }
 {
     out.extend_from_slice(name)?;
-    push_count(alloc, out, b" ", bytes)
+    push_count(out, b" ", bytes)
 }
 
 /// Puts a report's text at the end, without a newline. The only refusal is want of memory.
-fn push_report(
-    alloc: Global,
-    out: &mut Vec<u8>,
-    command: &Command<'_>,
-    report: &Report,
-) -> Result<(), NoMemory>
+fn push_report(out: &mut Vec<u8>, command: &Command<'_>, report: &Report) -> Result<(), NoMemory>
     ensures { OnOk result (out.new.items ≡ out.old.items ++ report_text (meaning command.now) report.now) }
 {
     match report {
         Report::Compiled | Report::Solved => Ok(()),
-        Report::Exited(status) => push_count(alloc, out, b"exit ", u64::from(*status)),
+        Report::Exited(status) => push_count(out, b"exit ", u64::from(*status)),
         Report::SourceFault(fault) => {
             push_name(out, command, Named::Source(fault.at.file))?;
-            push_fault(alloc, out, *fault)
+            push_fault(out, *fault)
         }
         Report::Usage => push_words(out, b"usage"),
         Report::TooLong(file) => push_about(out, b"limit 24 FileBytes ", command, *file),
-        Report::TooManyTokens(tokens) => push_count(alloc, out, b"limit 20 Tokens ", *tokens),
-        Report::LargeArrays(bytes) => push_count(alloc, out, b"limit 21 Arrays ", *bytes),
+        Report::TooManyTokens(tokens) => push_count(out, b"limit 20 Tokens ", *tokens),
+        Report::LargeArrays(bytes) => push_count(out, b"limit 21 Arrays ", *bytes),
         Report::LargeFrame { name, bytes } => {
             push_words(out, b"limit 22 Frame ")?;
-            push_frame(alloc, out, name.as_slice(), *bytes)
+            push_frame(out, name.as_slice(), *bytes)
         }
-        Report::TooManyFiles(count) => push_count(alloc, out, b"limit 23 Files ", *count),
+        Report::TooManyFiles(count) => push_count(out, b"limit 23 Files ", *count),
         Report::ReadFault(file) => push_about(out, b"read fault ", command, *file),
         Report::InputFault => push_words(out, b"read fault input"),
         Report::WriteFault(file) => push_about(out, b"write fault ", command, *file),
@@ -213,11 +208,11 @@ fn push_report(
             push_words(out, b"stopped ")?;
             push_stop(out, *cause, *address)
         }
-        Report::BudgetSpent(steps) => push_count(alloc, out, b"budget ", *steps),
+        Report::BudgetSpent(steps) => push_count(out, b"budget ", *steps),
         Report::BadBoard => {
             push_name(out, command, Named::Board)?;
             push_words(out, b": ")?;
-            push_kind(alloc, out, FaultKind::BadBoard)
+            push_kind(out, FaultKind::BadBoard)
         }
         Report::NoMemory => push_words(out, b"no memory"),
     }
@@ -242,7 +237,7 @@ fn line_of(alloc: Global, command: &Command<'_>, report: &Report) -> Result<Vec<
 {
     let mut line = Vec::new(alloc);
     if !report.is_silent() {
-        push_report(alloc, &mut line, command, report)?;
+        push_report(&mut line, command, report)?;
         line.push(b'\n')?;
     }
     Ok(line)
