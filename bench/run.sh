@@ -2,11 +2,11 @@
 # Measures the machine: the steps that it makes in a second over NOPs and over a loop of arithmetic, memory and
 # jumps, the ratio of that loop's time to its time on the processor, the time that it takes to begin, and the time and
 # the memory that it takes to read and load an image of 100 MB. The images are made in a temporary folder, which is
-# removed at the end.
+# removed at the end. It wants python3 and GNU time.
 . "$(dirname "$(readlink -f "$0")")/start.sh"
 build_pcc
 
-PYTHONPATH=$top/bench python3 -B - "$top/bin/pcc" "$room" <<'PYTHON'
+PYTHONPATH=$top/bench python3 -B - "$top/crates/pcc/out/pcc" "$room" <<'PYTHON'
 import os
 import subprocess
 import sys
@@ -57,22 +57,12 @@ def shortest(name, words, said):
     return min(times)
 
 
-# Runs a command and prints the most memory that it had at once, in kilobytes. What runs it has little itself, since that
-# would count too.
-WATCH = """
-import os, sys
-_, status, used = os.wait4(os.spawnv(os.P_NOWAIT, sys.argv[1], sys.argv[1:]), 0)
-print(used.ru_maxrss)
-sys.exit(status != 0)
-"""
-
-
-def most_bytes(name, words):
+def most_bytes(words):
     """The most memory that a run of a command has at once."""
-    ran = subprocess.run([sys.executable, "-c", WATCH, *words], stdin=subprocess.DEVNULL, capture_output=True)
-    if ran.returncode != 0:
-        sys.exit(f"bench: {name} failed")
-    return int(ran.stdout) * 1024
+    told = f"{ROOM}/memory"
+    subprocess.run(["time", "-f", "%M", "-o", told, *words], stdin=subprocess.DEVNULL, stderr=subprocess.DEVNULL, check=True)
+    with open(told, encoding="ascii") as file:
+        return int(file.read()) * 1024
 
 
 def written(name, text):
@@ -104,8 +94,8 @@ print(f"steps: {steps / (whole - load) / 1e6:.1f} million a second")
 # What the machine and the processor take to begin, apart from their steps.
 begun = seconds("begun", EXIT)
 print(f"begin an image of 6 bytes: {begun * 1e3:.1f} ms")
-bare = most_bytes("begun", [PROGRAM, "run", f"{ROOM}/begun"])
-full = most_bytes("loaded", [PROGRAM, "run", f"{ROOM}/loaded"])
+bare = most_bytes([PROGRAM, "run", f"{ROOM}/begun"])
+full = most_bytes([PROGRAM, "run", f"{ROOM}/loaded"])
 print(f"memory of the machine and its stack: {bare / 1e6:.0f} MB")
 print(f"memory for each byte of an image of {COUNT / 1e6:.0f} MB: {(full - bare) / COUNT:.2f} bytes")
 begun_there = on_processor("begun there", EXIT)
