@@ -3,24 +3,12 @@
 use crate::programs::{
     ARITHMETIC, ARRAYS, CALLS, OPERATORS, POINTERS, Row, STATEMENTS, WORD_COUNTER, WORDS,
 };
-use crate::tests::{Answer, failing, files_with, run_line, run_over};
-use pcc_outside::{MemFiles, MemSource};
+use crate::runs::{
+    expect_answer, expect_commands, expect_runs, files_with, input_of, put, run_line, run_over,
+};
 use std::alloc::Global;
 use std::process::Abort;
 use std::test::Fail;
-
-/// An input with these bytes. The call with this number fails, and none where it is 0.
-fn input_of(alloc: Global, text: &str, failing_call: u64) -> Result<MemSource, Fail> {
-    let bytes = Vec::from_slice(alloc, text.as_bytes())?;
-    Ok(MemSource::new(bytes, failing(alloc, failing_call)?))
-}
-
-/// A command is answered by these bytes on the output, this status and this line.
-fn expect_answer(rt: &impl Abort, answer: &Answer, out: &str, status: u8, line: &str, of: &str) {
-    assert_eq!(rt; answer.err.taken(), line.as_bytes(), "{of}");
-    assert_eq!(rt; answer.out.taken(), out.as_bytes(), "{of}");
-    assert_eq!(rt; answer.status, status, "{of}");
-}
 
 /// The program of each row is evaluated.
 fn expect_evaluations(rt: &impl Abort, alloc: Global, rows: &[Row]) -> Result<(), Fail> {
@@ -29,33 +17,6 @@ fn expect_evaluations(rt: &impl Abort, alloc: Global, rows: &[Row]) -> Result<()
         let input = input_of(alloc, input, 0)?;
         let answer = run_over(alloc, "eval a.c", &mut files, input, 0)?;
         expect_answer(rt, &answer, out, *status, line, source);
-    }
-    Ok(())
-}
-
-/// The program of each row is compiled, and its image is run.
-fn expect_runs(rt: &impl Abort, alloc: Global, rows: &[Row]) -> Result<(), Fail> {
-    for (source, input, out, status, line) in rows {
-        let mut files = files_with(alloc, source, 0)?;
-        let compiled = run_line(alloc, "compile -o a a.c", &mut files, 0)?;
-        expect_answer(rt, &compiled, "", 0, "", source);
-        let input = input_of(alloc, input, 0)?;
-        let ran = run_over(alloc, "run a", &mut files, input, 0)?;
-        expect_answer(rt, &ran, out, *status, line, source);
-    }
-    Ok(())
-}
-
-/// Commands over files with an empty input: the words, the output, the status and the line.
-fn expect_commands(
-    rt: &impl Abort,
-    alloc: Global,
-    files: &mut MemFiles,
-    rows: &[(&str, &str, u8, &str)],
-) -> Result<(), Fail> {
-    for (words, out, status, line) in rows {
-        let answer = run_line(alloc, words, files, 0)?;
-        expect_answer(rt, &answer, out, *status, line, words);
     }
     Ok(())
 }
@@ -166,9 +127,7 @@ fn links_files(rt: HostRuntime) -> Result<(), Fail> {
     let alloc = rt.alloc();
     let first = "int f(int n); int main(void){return f(20);}";
     let mut files = files_with(alloc, first, 0)?;
-    if files.place("b.c", b"int f(int n){return n*2+1;}").is_err() {
-        return Err(Fail::new("no memory"));
-    }
+    put(&mut files, "b.c", b"int f(int n){return n*2+1;}")?;
     expect_commands(&rt, alloc, &mut files, &TWO_FILES)
 }
 

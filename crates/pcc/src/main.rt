@@ -13,6 +13,8 @@ mod programs;
 #[cfg(test)]
 mod refusals;
 #[cfg(test)]
+mod runs;
+#[cfg(test)]
 mod tests;
 
 use pcc_driver::pcc;

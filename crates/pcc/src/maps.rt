@@ -1,6 +1,6 @@
 //! The whole text of a map, beside the image as GNU objdump disassembles it.
 
-use crate::tests::{files_with, run_line};
+use crate::runs::{files_with, run_line};
 use std::test::Fail;
 
 /// A local that is declared, assigned, written and returned.

@@ -1,6 +1,6 @@
 //! Sources that are refused: `compile` and `eval` tell the same fault or limit, and nothing is written.
 
-use crate::tests::{files_with, run_line};
+use crate::runs::{expect_answer, expect_commands, files_with, run_line};
 use std::alloc::Global;
 use std::process::Abort;
 use std::test::Fail;
@@ -16,9 +16,7 @@ fn expect_refusal(
     let mut files = files_with(alloc, source, 0)?;
     for words in ["compile -o a a.c", "eval a.c"] {
         let answer = run_line(alloc, words, &mut files, 0)?;
-        assert_eq!(rt; answer.err.taken(), line.as_bytes());
-        assert_eq!(rt; answer.status, status, "{line}");
-        assert!(rt; answer.out.taken().is_empty(), "{line}");
+        expect_answer(rt, &answer, "", status, line, words);
     }
     assert!(rt; files.content("a").is_none(), "{line}");
     assert!(rt; files.content("a.map").is_none(), "{line}");
@@ -130,6 +128,12 @@ fn refuses_long_sources(rt: HostRuntime) -> Result<(), Fail> {
     expect_refusal(&rt, alloc, deep.as_str(), 1, "a.c:1:275: 7 TooDeep\n")
 }
 
+/// Commands over a source whose tree has the greatest height.
+const DEEPEST: [(&str, &str, u8, &str); 2] = [
+    ("eval a.c", "", 0, "exit 0\n"),
+    ("compile -o a a.c", "", 0, ""),
+];
+
 #[test]
 fn accepts_the_deepest(rt: HostRuntime) -> Result<(), Fail> {
     let alloc = rt.alloc();
@@ -137,10 +141,5 @@ fn accepts_the_deepest(rt: HostRuntime) -> Result<(), Fail> {
     let right = repeated(alloc, ")", 252)?;
     let source = format!(in alloc; "int main(void){{return {left}0{right};}}")?;
     let mut files = files_with(alloc, source.as_str(), 0)?;
-    for (words, line) in [("eval a.c", "exit 0\n"), ("compile -o a a.c", "")] {
-        let answer = run_line(alloc, words, &mut files, 0)?;
-        assert_eq!(rt; answer.err.taken(), line.as_bytes());
-        assert_eq!(rt; answer.status, 0);
-    }
-    Ok(())
+    expect_commands(&rt, alloc, &mut files, &DEEPEST)
 }

@@ -1,150 +1,96 @@
 //! Runs of the whole compiler: over files in memory, and over files of the system.
 
+use crate::programs::Row;
+use crate::runs::{
+    Answer, expect_answer, expect_commands, expect_runs, failing, files_with, put, run_line,
+};
 use elf_image::{Image, TEXT_ADDRESS, write_image};
-use pcc_driver::pcc;
-use pcc_outside::{FileStore, HostFiles, MemFiles, MemSink, MemSource};
+use pcc_outside::{HostFiles, MemFiles};
 use std::alloc::Global;
 use std::fs;
 use std::test::Fail;
 
-/// The words of a command line.
-fn words_of(alloc: Global, line: &str) -> Result<Vec<String>, Fail> {
-    let mut words = Vec::new(alloc);
-    for word in line.split_whitespace() {
-        words.push(String::from_str(alloc, word)?)?;
-    }
-    Ok(words)
-}
+/// A source with the lines that `gcc -E` leaves.
+const WITH_MARKERS: &str =
+    "# 0 \"a.c\"\n# 0 \"<built-in>\"\n# 0 \"<command-line>\"\n# 1 \"/usr/include/stdc-predef.h\" 1 3 4
+# 0 \"<command-line>\" 2\n# 1 \"a.c\"\nint main(void){return 7;}";
 
-/// A list of the numbers of failing calls: this one, or none where it is 0.
-pub fn failing(alloc: Global, number: u64) -> Result<Vec<u64>, Fail> {
-    let mut numbers = Vec::new(alloc);
-    if number > 0 {
-        numbers.push(number)?;
-    }
-    Ok(numbers)
-}
-
-/// What a command answers, and what it puts on standard output and standard error.
-#[derive(Drop)]
-pub struct Answer {
-    pub status: u8,
-    pub out: MemSink,
-    pub err: MemSink,
-}
-
-/// Runs a command over these files and this input. Of standard error the call with this number fails.
-pub fn run_over<F: FileStore>(
-    alloc: Global,
-    line: &str,
-    files: &mut F,
-    mut input: MemSource,
-    failing_put: u64,
-) -> Result<Answer, Fail> {
-    let words = words_of(alloc, line)?;
-    let mut out = MemSink::new(alloc, Vec::new(alloc));
-    let mut err = MemSink::new(alloc, failing(alloc, failing_put)?);
-    let status = pcc(alloc, &words, files, &mut input, &mut out, &mut err);
-    Ok(Answer { status, out, err })
-}
-
-/// Runs a command over these files with an empty input. Of standard error the call with this number
-/// fails.
-pub fn run_line<F: FileStore>(
-    alloc: Global,
-    line: &str,
-    files: &mut F,
-    failing_put: u64,
-) -> Result<Answer, Fail> {
-    let input = MemSource::new(Vec::new(alloc), Vec::new(alloc));
-    run_over(alloc, line, files, input, failing_put)
-}
-
-/// Files in memory with one source, whose call with this number fails.
-pub fn files_with(alloc: Global, source: &str, failing_call: u64) -> Result<MemFiles, Fail> {
-    let mut files = MemFiles::new(alloc, failing(alloc, failing_call)?);
-    match files.place("a.c", source.as_bytes()) {
-        Ok(()) => Ok(files),
-        Err(_) => Err(Fail::new("no memory")),
-    }
-}
+/// Small programs without an input.
+const SMALL: [Row; 9] = [
+    ("int main(void){return 300;}", "", "", 0, "exit 44\n"),
+    ("int main(void){return 0;}\n", "", "", 0, "exit 0\n"),
+    (
+        "int main(void){return 2147483647;}",
+        "",
+        "",
+        0,
+        "exit 255\n",
+    ),
+    ("int main(void){return 07;}", "", "", 0, "exit 7\n"),
+    (
+        "int main(void){char c=200; return c<0?c+100:1;}",
+        "",
+        "",
+        0,
+        "exit 44\n",
+    ),
+    ("int main(void)<%return 7;%>\n\n", "", "", 0, "exit 7\n"),
+    (WITH_MARKERS, "", "", 0, "exit 7\n"),
+    (
+        "int main(void){int x=70; int y=x+2; putchar(y); putchar(x-1); return y-x;}",
+        "",
+        "HE",
+        0,
+        "exit 2\n",
+    ),
+    (
+        "int main(void){int x=2147483647; x=x+1; return x-1;}",
+        "",
+        "",
+        0,
+        "exit 255\n",
+    ),
+];
 
 /// A source is compiled and its image is run.
 #[test]
 fn compiles_and_runs(rt: HostRuntime) -> Result<(), Fail> {
-    let alloc = rt.alloc();
-    let markers = "# 0 \"a.c\"\n# 0 \"<built-in>\"\n# 0 \"<command-line>\"\n\
-        # 1 \"/usr/include/stdc-predef.h\" 1 3 4\n# 0 \"<command-line>\" 2\n# 1 \"a.c\"\n\
-        int main(void){return 7;}";
-    for (source, out, ran) in [
-        ("int main(void){return 300;}", "", "exit 44\n"),
-        ("int main(void){return 0;}\n", "", "exit 0\n"),
-        ("int main(void){return 2147483647;}", "", "exit 255\n"),
-        ("int main(void){return 07;}", "", "exit 7\n"),
-        (
-            "int main(void){char c=200; return c<0?c+100:1;}",
-            "",
-            "exit 44\n",
-        ),
-        ("int main(void)<%return 7;%>\n\n", "", "exit 7\n"),
-        (markers, "", "exit 7\n"),
-        (
-            "int main(void){int x=70; int y=x+2; putchar(y); putchar(x-1); return y-x;}",
-            "HE",
-            "exit 2\n",
-        ),
-        (
-            "int main(void){int x=2147483647; x=x+1; return x-1;}",
-            "",
-            "exit 255\n",
-        ),
-    ] {
-        let mut files = files_with(alloc, source, 0)?;
-        let first = run_line(alloc, "compile -o a a.c", &mut files, 0)?;
-        assert_eq!(rt; first.err.taken(), b"".as_slice(), "{source}");
-        assert_eq!(rt; first.status, 0, "{source}");
-        let second = run_line(alloc, "run a", &mut files, 0)?;
-        assert_eq!(rt; second.err.taken(), ran.as_bytes(), "{source}");
-        assert_eq!(rt; second.status, 0, "{source}");
-        assert_eq!(rt; second.out.taken(), out.as_bytes(), "{source}");
-        assert!(rt; first.out.taken().is_empty());
-    }
-    Ok(())
+    expect_runs(&rt, rt.alloc(), &SMALL)
 }
+
+/// Command lines over one source, in their order: nothing on the output, the status and the line.
+const LINES: [(&str, &str, u8, &str); 13] = [
+    ("compile -o a a.c", "", 0, ""),
+    ("run a", "", 0, "exit 44\n"),
+    ("run --steps 18446744073709551615 a", "", 0, "exit 44\n"),
+    ("run --steps 0 a", "", 10, "budget 0\n"),
+    ("run --steps=3 a", "", 10, "budget 3\n"),
+    ("run a.map", "", 7, "not an image\n"),
+    ("run b.c", "", 6, "no file b.c\n"),
+    ("solve b.c", "", 6, "no file b.c\n"),
+    ("solve a", "", 1, "a: 25 BadBoard\n"),
+    ("compile -o a b.c", "", 6, "no file b.c\n"),
+    ("compile a.c -o a", "", 0, ""),
+    (
+        "compile -o a 1 2 3 4 5 6 7 8 9 10 11 12 13 14 15 16 a",
+        "",
+        3,
+        "limit 23 Files 17\n",
+    ),
+    (
+        "eval 1 2 3 4 5 6 7 8 9 10 11 12 13 14 15 16 17 18",
+        "",
+        3,
+        "limit 23 Files 18\n",
+    ),
+];
 
 /// Each command line has its status and its line.
 #[test]
 fn refuses_words_and_names(rt: HostRuntime) -> Result<(), Fail> {
     let alloc = rt.alloc();
     let mut files = files_with(alloc, "int main(void){return 300;}", 0)?;
-    for (line, status, err) in [
-        ("compile -o a a.c", 0, ""),
-        ("run a", 0, "exit 44\n"),
-        ("run --steps 18446744073709551615 a", 0, "exit 44\n"),
-        ("run --steps 0 a", 10, "budget 0\n"),
-        ("run --steps=3 a", 10, "budget 3\n"),
-        ("run a.map", 7, "not an image\n"),
-        ("run b.c", 6, "no file b.c\n"),
-        ("solve b.c", 6, "no file b.c\n"),
-        ("solve a", 1, "a: 25 BadBoard\n"),
-        ("compile -o a b.c", 6, "no file b.c\n"),
-        ("compile a.c -o a", 0, ""),
-        (
-            "compile -o a 1 2 3 4 5 6 7 8 9 10 11 12 13 14 15 16 a",
-            3,
-            "limit 23 Files 17\n",
-        ),
-        (
-            "eval 1 2 3 4 5 6 7 8 9 10 11 12 13 14 15 16 17 18",
-            3,
-            "limit 23 Files 18\n",
-        ),
-    ] {
-        let answer = run_line(alloc, line, &mut files, 0)?;
-        assert_eq!(rt; answer.err.taken(), err.as_bytes(), "{line}");
-        assert_eq!(rt; answer.status, status, "{line}");
-        assert!(rt; answer.out.taken().is_empty(), "{line}");
-    }
+    expect_commands(&rt, alloc, &mut files, &LINES)?;
     let map = files.content("a.map").unwrap_or(b"");
     assert!(rt; map.starts_with(b"pcc map 1\n") && map.ends_with(b"end\n"));
     Ok(())
@@ -201,9 +147,7 @@ fn refuses_several_sources(rt: HostRuntime) -> Result<(), Fail> {
         ("goto.c", "int f(void){goto x;}"),
         ("byte.c", "int f(void)\n{return @;}"),
     ] {
-        if files.place(name, text.as_bytes()).is_err() {
-            return Err(Fail::new("no memory"));
-        }
+        put(&mut files, name, text.as_bytes())?;
     }
     for (sources, status, err) in [
         ("a.c a.c", 1, "a.c:1:5: 8 Redeclared\n"),
@@ -216,8 +160,7 @@ fn refuses_several_sources(rt: HostRuntime) -> Result<(), Fail> {
     ] {
         let line = format!(in alloc; "compile -o p {sources}")?;
         let answer = run_line(alloc, line.as_str(), &mut files, 0)?;
-        assert_eq!(rt; answer.err.taken(), err.as_bytes(), "{sources}");
-        assert_eq!(rt; answer.status, status, "{sources}");
+        expect_answer(&rt, &answer, "", status, err, sources);
         assert!(rt;
             files.content("p").is_none() && files.content("p.map").is_none(),
             "{sources}"
@@ -238,24 +181,20 @@ fn names_faults(rt: HostRuntime) -> Result<(), Fail> {
     ] {
         let mut files = files_with(alloc, "int main(void){return 300;}", call)?;
         let answer = run_line(alloc, "compile -o a a.c", &mut files, 0)?;
-        assert_eq!(rt; answer.err.taken(), err.as_bytes(), "{call}");
-        assert_eq!(rt; answer.status, status, "{call}");
+        expect_answer(&rt, &answer, "", status, err, "compile");
         assert_eq!(rt; files.content("a.map").is_some(), map_stands, "{call}");
     }
     let mut files = files_with(alloc, "int main(void){return 300;}", 0)?;
     let refused = run_line(alloc, "run a", &mut files, 1)?;
-    assert_eq!(rt; refused.status, 5);
-    assert!(rt; refused.err.taken().is_empty());
+    expect_answer(&rt, &refused, "", 5, "", "run");
     Ok(())
 }
 
 /// Solves the board of a file with this text.
 fn solve_text(alloc: Global, board: &str) -> Result<Answer, Fail> {
     let mut files = MemFiles::new(alloc, failing(alloc, 0)?);
-    match files.place("b", board.as_bytes()) {
-        Ok(()) => run_line(alloc, "solve b", &mut files, 0),
-        Err(_) => Err(Fail::new("no memory")),
-    }
+    put(&mut files, "b", board.as_bytes())?;
+    run_line(alloc, "solve b", &mut files, 0)
 }
 
 /// Each text of a board has its placement on the output, or `none`, and any other file its fault.
@@ -284,9 +223,7 @@ fn solves_boards(rt: HostRuntime) -> Result<(), Fail> {
         ("areas bb\npieces X1", 1, "", bad),
     ] {
         let answer = solve_text(alloc, board)?;
-        assert_eq!(rt; answer.err.taken(), err.as_bytes(), "{board}");
-        assert_eq!(rt; answer.out.taken(), out.as_bytes(), "{board}");
-        assert_eq!(rt; answer.status, status, "{board}");
+        expect_answer(&rt, &answer, out, status, err, board);
     }
     // The wide pieces share an area, since the others need all columns of the rest.
     let full = solve_text(alloc, "areas bb bb bb bb\npieces X2 Z2 Y1 Y1 Y1 Y1 Y1 Y1\n")?;
@@ -365,12 +302,8 @@ fn runs_changed_images(rt: HostRuntime) -> Result<(), Fail> {
     let image = small_image(alloc)?;
     for &(at, bytes, status, err) in &CHANGED_BYTES {
         let changed = with_bytes(alloc, image.as_slice(), at, bytes)?;
-        if files.place("b", changed.as_slice()).is_err() {
-            return Err(Fail::new("no memory"));
-        }
-        let answer = run_line(alloc, "run b", &mut files, 0)?;
-        assert_eq!(rt; answer.err.taken(), err.as_bytes(), "{at}");
-        assert_eq!(rt; answer.status, status, "{at}");
+        put(&mut files, "b", changed.as_slice())?;
+        expect_commands(&rt, alloc, &mut files, &[("run b", "", status, err)])?;
     }
     Ok(())
 }
@@ -382,38 +315,37 @@ fn refuses_images_that_end_too_early(rt: HostRuntime) -> Result<(), Fail> {
     let mut files = MemFiles::new(alloc, failing(alloc, 0)?);
     let image = small_image(alloc)?;
     for count in [51, image.len().saturating_sub(1)] {
-        if files.place("b", image.get(..count).unwrap_or(b"")).is_err() {
-            return Err(Fail::new("no memory"));
-        }
-        let answer = run_line(alloc, "run b", &mut files, 0)?;
-        assert_eq!(rt; answer.err.taken(), b"not an image\n".as_slice(), "{count}");
-        assert_eq!(rt; answer.status, 7, "{count}");
+        put(&mut files, "b", image.get(..count).unwrap_or(b""))?;
+        expect_commands(
+            &rt,
+            alloc,
+            &mut files,
+            &[("run b", "", 7, "not an image\n")],
+        )?;
     }
     Ok(())
 }
 
+/// Commands over files of the system: nothing on the output, the status and the line.
+const REAL_LINES: [(&str, &str, u8, &str); 6] = [
+    ("compile -o pcc_test pcc_test.c", "", 0, ""),
+    ("run pcc_test", "", 0, "exit 44\n"),
+    ("run pcc_test.map", "", 7, "not an image\n"),
+    ("run pcc_test.o", "", 6, "no file pcc_test.o\n"),
+    (
+        "compile -o nowhere/a pcc_test.c",
+        "",
+        5,
+        "write fault nowhere/a.map\n",
+    ),
+    ("run .", "", 4, "read fault .\n"),
+];
+
 /// The same over files of the system, in the folder where the test runs.
 #[test]
 fn compiles_and_runs_real_files(rt: HostRuntime) -> Result<(), Fail> {
-    let alloc = rt.alloc();
     fs::write(&rt, "pcc_test.c", "int main(void){return 300;}")?;
-    let mut files = HostFiles::new(&rt);
-    for (line, status, err) in [
-        ("compile -o pcc_test pcc_test.c", 0, ""),
-        ("run pcc_test", 0, "exit 44\n"),
-        ("run pcc_test.map", 7, "not an image\n"),
-        ("run pcc_test.o", 6, "no file pcc_test.o\n"),
-        (
-            "compile -o nowhere/a pcc_test.c",
-            5,
-            "write fault nowhere/a.map\n",
-        ),
-        ("run .", 4, "read fault .\n"),
-    ] {
-        let answer = run_line(alloc, line, &mut files, 0)?;
-        assert_eq!(rt; answer.err.taken(), err.as_bytes(), "{line}");
-        assert_eq!(rt; answer.status, status, "{line}");
-    }
+    expect_commands(&rt, rt.alloc(), &mut HostFiles::new(&rt), &REAL_LINES)?;
     for name in ["pcc_test.c", "pcc_test.map", "pcc_test"] {
         fs::remove_file(&rt, name)?;
     }
