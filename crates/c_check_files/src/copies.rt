@@ -7,29 +7,22 @@ use c_tree::{Local, LocalArray};
 use pcc_base::{Name, NoMemory};
 use std::alloc::Global;
 
-/// A copy of a name.
-pub(crate) fn copy_name(alloc: Global, name: &Name) -> Result<Name, NoMemory>
-    ensures { IfOk result (λ n. n ≡ name.now) }
-{
-    Ok(Name::new(name.as_bytes().to_vec(alloc)?))
-}
-
 /// A copy of a local.
-fn copy_local(alloc: Global, local: &Local) -> Result<Local, NoMemory>
+fn copy_local(local: &Local) -> Result<Local, NoMemory>
     ensures { IfOk result (λ l. local_of l ≡ local_of local.now) }
 {
     Ok(Local {
-        name: copy_name(alloc, &local.name)?,
+        name: local.name.copy()?,
         of: local.of,
     })
 }
 
 /// A copy of an array of a function.
-fn copy_array(alloc: Global, array: &LocalArray) -> Result<LocalArray, NoMemory>
+fn copy_array(array: &LocalArray) -> Result<LocalArray, NoMemory>
     ensures { IfOk result (λ a. array_of a ≡ array_of array.now) }
 {
     Ok(LocalArray {
-        name: copy_name(alloc, &array.name)?,
+        name: array.name.copy()?,
         element: array.element,
         count: array.count,
     })
@@ -41,7 +34,7 @@ pub(crate) fn copy_locals(alloc: Global, locals: &[Local]) -> Result<Vec<Local>,
 {
     let mut copies = Vec::new(alloc);
     for local in locals {
-        let copy = copy_local(alloc, local)?;
+        let copy = copy_local(local)?;
         copies.push(copy)?;
     }
     Ok(copies)
@@ -53,7 +46,7 @@ pub(crate) fn copy_arrays(alloc: Global, arrays: &[LocalArray]) -> Result<Vec<Lo
 {
     let mut copies = Vec::new(alloc);
     for array in arrays {
-        let copy = copy_array(alloc, array)?;
+        let copy = copy_array(array)?;
         copies.push(copy)?;
     }
     Ok(copies)

@@ -26,7 +26,7 @@ ghost use Rattle.c_check_declarators.specs.Views.{specified_of};
 ghost use Rattle.c_check_jumps.specs.Answers.{AreStatements};
 ghost use Rattle.c_check_files.specs.Answers.{AreFunction, IsFunction};
 
-use crate::copies::{copy_arrays, copy_locals, copy_name};
+use crate::copies::{copy_arrays, copy_locals};
 use c_check_declarations::{Specified, parameters};
 use c_check_outside::{declare_function, function_signature};
 use c_check_statements::body;
@@ -74,7 +74,7 @@ fn function(
     ensures { IfOk result (λ f. (first : Scope) → parameters ≡ length first.locals → IsFunction
         (function_with name.now (views.signature_of signature.now) first scopes.now (statements_of body.items)) f) }
 {
-    let copy = copy_name(alloc, &name.name)?;
+    let copy = name.name.copy()?;
     let seen = scopes.locals();
     let locals = copy_locals(alloc, seen)?;
     let held = scopes.arrays();

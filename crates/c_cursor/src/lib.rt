@@ -11,5 +11,5 @@ mod tables;
 
 pub use cursor::{Cursor, fault_at};
 pub use height::Height;
-pub use rows::{copy_of, push};
+pub use rows::push;
 pub use tables::begins_expression;

@@ -24,13 +24,6 @@ pub fn push<T: Drop>(values: &mut Vec<T>, value: T) -> Result<(), NoMemory>
     Ok(values.push(value)?)
 }
 
-/// A copy of a name.
-pub fn copy_of(alloc: Global, name: &Name) -> Result<Name, NoMemory>
-    ensures { IfOk result (λ n. n ≡ name.now) }
-{
-    Ok(Name::new(name.as_bytes().to_vec(alloc)?))
-}
-
 impl Cursor<'_> {
     /// Takes a specifier, where the next token is one.
     fn take_specifier(&mut self) -> Option<Specifier>
@@ -94,7 +87,7 @@ impl Cursor<'_> {
         match &first.kind {
             TokenKind::Text(bytes) => {
                 self.rest = others;
-                let bytes = copy_of(self.alloc, bytes)?;
+                let bytes = bytes.copy()?;
                 Ok(Some(TextPiece {
                     bytes,
                     at: first.at,

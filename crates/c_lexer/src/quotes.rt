@@ -186,10 +186,8 @@ pub fn quote_at(alloc: Global, rest: &[u8]) -> Result<Option<(usize, Scanned)>, 
         return Ok(None);
     };
     if *quote == b'"' {
-        return Ok(Some((
-            length + 2,
-            Scanned::Token(TokenKind::Text(Name::new(values))),
-        )));
+        let text = Name::new(alloc, values)?;
+        return Ok(Some((length + 2, Scanned::Token(TokenKind::Text(text)))));
     }
     if values.len() != 1 {
         return Ok(None);

@@ -142,7 +142,7 @@ pub fn word_at(alloc: Global, rest: &[u8]) -> Result<Option<(usize, Scanned)>, N
     let word = &rest[..length];
     let kind = match keyword_of(word) {
         Some(keyword) => TokenKind::Word(keyword),
-        None => TokenKind::Ident(Name::new(Vec::from_slice(alloc, word)?)),
+        None => TokenKind::Ident(Name::new(alloc, Vec::from_slice(alloc, word)?)?),
     };
     Ok(Some((length, Scanned::Token(kind))))
 }

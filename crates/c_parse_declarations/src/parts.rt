@@ -8,7 +8,7 @@ ghost use Rattle.c_cursor.specs.Readings.{IsRead, IsPartRead};
 ghost use Rattle.c_cursor.specs.Rows.{IsRow};
 ghost use Rattle.c_parse_declarations.specs.Parts.{AreSpecifiers, NoSpecifiers};
 
-use c_cursor::{Cursor, Height, copy_of};
+use c_cursor::{Cursor, Height};
 use c_lexer::{Punct, TokenKind};
 use c_parse_expressions::{Rule, tree_of};
 use c_syntax::{ArrayPart, Expression, Identifier, Specifier};
@@ -58,7 +58,7 @@ pub(crate) fn take_name(cursor: &mut Cursor<'_>) -> Result<Option<Identifier>, N
     match &first.kind {
         TokenKind::Ident(name) => {
             cursor.rest = others;
-            let name = copy_of(cursor.alloc, name)?;
+            let name = name.copy()?;
             Ok(Some(Identifier { name, at: first.at }))
         }
         TokenKind::Word(_) | TokenKind::Number(_) | TokenKind::Text(_) | TokenKind::Mark(_) => Ok(

@@ -18,7 +18,7 @@ use crate::build::{
 };
 use crate::expression::{Rule, tree_below, tree_of};
 use crate::found::{Found, Turn, Values, ValuesTurn};
-use c_cursor::{Cursor, Height, copy_of};
+use c_cursor::{Cursor, Height};
 use c_lexer::{Punct, TokenKind};
 use c_syntax::{Identifier, TextPiece};
 use pcc_base::{FaultKind, Name, NoMemory, Refusal, Span};
@@ -149,7 +149,7 @@ fn texts(cursor: &mut Cursor<'_>, first: &Name, at: Span) -> Result<Found, NoMem
     ensures fewer { IfOk result (λ _. length cursor.new.rest.now ≤ length cursor.old.rest.now) }
     ensures height { IfOk result (λ f. (f.height ≡ 1) × (f.height ≡ expr_height (expr_of f.tree.value))) }
 {
-    let bytes = copy_of(cursor.alloc, first)?;
+    let bytes = first.copy()?;
     let pieces = cursor.take_texts(TextPiece { bytes, at })?;
     text_node(cursor.alloc, pieces)
 }
@@ -161,7 +161,7 @@ fn named(cursor: &mut Cursor<'_>, name: &Name, at: Span, height: Height) -> Resu
     ensures { IsPartReading height.levels (λ ts. call_from (below height.levels) (record { name = name.now; at = at })
         (take_mark Punct.LeftParen ts) ts) cursor.old.rest.now cursor.new.rest.now result }
 {
-    let name = copy_of(cursor.alloc, name)?;
+    let name = name.copy()?;
     let name = Identifier { name, at };
     let Some(opening) = cursor.take_mark(Punct::LeftParen) else {
         return Ok(identifier_node(cursor.alloc, name)?);

@@ -184,7 +184,7 @@ impl Scopes {
             × (self.new ≡ with_local name.now of self.old)) }
     {
         let number = number(self.locals.len())?;
-        let copy = Name::new(name.as_bytes().to_vec(alloc)?);
+        let copy = name.copy()?;
         self.locals.push(Local { name: copy, of })?;
         self.bind(alloc, name, Meaning::Local(number, of))?;
         Ok(number)
@@ -202,7 +202,7 @@ impl Scopes {
             × (self.new ≡ with_array name.now element count self.old)) }
     {
         let number = number(self.arrays.len())?;
-        let copy = Name::new(name.as_bytes().to_vec(alloc)?);
+        let copy = name.copy()?;
         self.arrays.push(LocalArray {
             name: copy,
             element,

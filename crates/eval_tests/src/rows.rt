@@ -15,7 +15,7 @@ const NULL: Value = Value::Pointer {
 };
 
 fn name(alloc: Global, letter: u8) -> Result<Name, NoMemory> {
-    Ok(Name::new([letter].to_vec(alloc)?))
+    Name::new(alloc, [letter].to_vec(alloc)?)
 }
 
 /// A function with the locals `char c`, its parameter, `int x` and `int *p`, and the arrays `char s[3]` and `int a[2]`.

@@ -87,10 +87,10 @@ fn call(point: u32, address: u32, to: Option<u32>, function: u32, arguments: Wor
 fn each_kind(rt: HostRuntime) -> Result<(), Fail> {
     let alloc = rt.alloc();
     let standings = vec![in alloc; standing(0, 20), standing(2, 28)]?;
-    let main = Name::new(b"main".to_vec(alloc)?);
-    let x1 = Name::new(b"x1".to_vec(alloc)?);
-    let base = Name::new(b"p".to_vec(alloc)?);
-    let index = Name::new(b"p".to_vec(alloc)?);
+    let main = Name::new(alloc, b"main".to_vec(alloc)?)?;
+    let x1 = Name::new(alloc, b"x1".to_vec(alloc)?)?;
+    let base = Name::new(alloc, b"p".to_vec(alloc)?)?;
+    let index = Name::new(alloc, b"p".to_vec(alloc)?)?;
     let lines = vec![in alloc;
         Line::Object {
             number: 0,

@@ -10,7 +10,7 @@ ghost use Rattle.pcc_listing.specs.Views.{line_of};
 ghost use Rattle.program_map.specs.ProgramMap.{function_over, program_map};
 
 use crate::points::push_points;
-use crate::variables::{copied, push_arrays, push_objects, push_variables};
+use crate::variables::{push_arrays, push_objects, push_variables};
 use c_tree::{Function, Program};
 use flow_graph::Graph;
 use ia32_frames::Frame;
@@ -42,11 +42,11 @@ fn push_function(
     graph.is_flow();
     lines.push(Line::Function {
         number,
-        name: copied(alloc, &function.name)?,
+        name: function.name.copy()?,
         frame: frame.bytes,
     })?;
     push_arrays(lines, function.arrays.as_slice(), frame.arrays.as_slice())?;
-    push_variables(alloc, lines, function.locals.as_slice(), graph)?;
+    push_variables(lines, function.locals.as_slice(), graph)?;
     push_points(alloc, lines, function, graph, first, frame, addresses)
 }
 

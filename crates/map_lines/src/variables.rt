@@ -31,16 +31,8 @@ fn bytes_of(t: IntegerType) -> u32
     }
 }
 
-/// The same name once more.
-pub(crate) fn copied(alloc: Global, name: &Name) -> Result<Name, NoMemory>
-    ensures { IfOk result (λ copy. copy ≡ name.now) }
-{
-    Ok(Name::new(name.as_bytes().to_vec(alloc)?))
-}
-
 /// Puts the line of the variable of an integer local at the end.
 fn push_scalar(
-    alloc: Global,
     lines: &mut Vec<Line>,
     number: u32,
     width: Width,
@@ -50,7 +42,7 @@ fn push_scalar(
         map line_of lines.new.items
         ≡ map line_of lines.old.items ++ VariableLine number width (NamesScalar name.now) ∷ []) }
 {
-    let name = Named::Scalar(copied(alloc, name)?);
+    let name = Named::Scalar(name.copy()?);
     lines.push(Line::Variable {
         number,
         width,
@@ -61,7 +53,6 @@ fn push_scalar(
 
 /// Puts the lines of the two variables of a pointer local at the end: its array and its index.
 fn push_pointer(
-    alloc: Global,
     lines: &mut Vec<Line>,
     number: u32,
     name: &Name,
@@ -74,13 +65,13 @@ fn push_pointer(
         ∷ VariableLine (number + 1) Two (NamesIndex name.now)
         ∷ []) }
 {
-    let base = Named::Array(copied(alloc, name)?);
+    let base = Named::Array(name.copy()?);
     lines.push(Line::Variable {
         number,
         width: Width::Two,
         name: base,
     })?;
-    let index = Named::Index(copied(alloc, name)?);
+    let index = Named::Index(name.copy()?);
     lines.push(Line::Variable {
         number: number + 1,
         width: Width::Two,
@@ -91,7 +82,6 @@ fn push_pointer(
 
 /// Puts the lines of the variables of a local at the end, of which the first has this number.
 fn push_local(
-    alloc: Global,
     lines: &mut Vec<Line>,
     number: u32,
     local: &Local,
@@ -104,20 +94,20 @@ fn push_local(
     match local.of {
         ValueType::Void => Ok(()),
         ValueType::Integer(IntegerType::Char) => {
-            push_scalar(alloc, lines, number, Width::One, &local.name)
+            push_scalar(lines, number, Width::One, &local.name)
         }
         ValueType::Integer(IntegerType::Short) => {
-            push_scalar(alloc, lines, number, Width::Two, &local.name)
+            push_scalar(lines, number, Width::Two, &local.name)
         }
         ValueType::Integer(IntegerType::Int) => {
-            push_scalar(alloc, lines, number, Width::Two, &local.name)
+            push_scalar(lines, number, Width::Two, &local.name)
         }
-        ValueType::Pointer(_) => push_pointer(alloc, lines, number, &local.name),
+        ValueType::Pointer(_) => push_pointer(lines, number, &local.name),
     }
 }
 
 /// Puts the lines of the variables of locals at the end, and answers how many variables there are.
-fn push_locals(alloc: Global, lines: &mut Vec<Line>, locals: &[Local]) -> Result<u32, NoMemory>
+fn push_locals(lines: &mut Vec<Line>, locals: &[Local]) -> Result<u32, NoMemory>
     requires { length (local_widths (map local_of locals.now)) ≤ 4294967295 }
     ensures many { IfOk result (λ number. number ≡ length (local_widths (map local_of locals.now))) }
     ensures lines { OnOk result (
@@ -127,7 +117,7 @@ fn push_locals(alloc: Global, lines: &mut Vec<Line>, locals: &[Local]) -> Result
 {
     let mut number = 0;
     for local in locals {
-        push_local(alloc, lines, number, local)?;
+        push_local(lines, number, local)?;
         number += variables_in(local.of);
     }
     Ok(number)
@@ -153,7 +143,6 @@ fn push_temporaries(lines: &mut Vec<Line>, graph: &Graph, first: u32) -> Result<
 
 /// Puts the lines of the variables of a function at the end: those of its locals, and then the temporaries.
 pub(crate) fn push_variables(
-    alloc: Global,
     lines: &mut Vec<Line>,
     locals: &[Local],
     graph: &Graph,
@@ -166,7 +155,7 @@ pub(crate) fn push_variables(
         ++ numbered variable_lines 0 (flat_map local_variables (map local_of locals.now)
         ++ map temporary (drop (length (local_widths (map local_of locals.now))) graph.now.widths))) }
 {
-    let first = push_locals(alloc, lines, locals)?;
+    let first = push_locals(lines, locals)?;
     push_temporaries(lines, graph, first)?;
     Ok(())
 }

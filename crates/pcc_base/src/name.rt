@@ -1,11 +1,14 @@
-ghost use Rattle.std.specs.Prelude.{◌≡◌};
+ghost use Rattle.std.specs.Prelude.{◌≡◌, IfOk};
 
+use crate::memory::NoMemory;
+use std::alloc::Global;
 use std::marker::Model;
+use std::rc::Rc;
 
-/// A name or a text of a source: a list of bytes.
+/// A name or a text of a source: a list of bytes, which all copies of it share.
 #[derive(Debug, Drop)]
 pub struct Name {
-    bytes: Vec<u8>,
+    bytes: Rc<Vec<u8>>,
 }
 
 impl Model for Name {
@@ -13,15 +16,24 @@ impl Model for Name {
 
     ghost Value = { List ℕ };
 
-    ghost view = { λ n. n.bytes.items };
+    ghost view = { λ n. n.bytes.value.items };
 }
 
 impl Name {
     /// The name with these bytes.
-    pub fn new(bytes: Vec<u8>) -> Name
-        ensures { result ≡ bytes.items }
+    pub fn new(alloc: Global, bytes: Vec<u8>) -> Result<Name, NoMemory>
+        ensures { IfOk result (λ n. n ≡ bytes.items) }
     {
-        Name { bytes }
+        let bytes = Rc::new(alloc, bytes)?;
+        Ok(Name { bytes })
+    }
+
+    /// The same name once more.
+    pub fn copy(&self) -> Result<Name, NoMemory>
+        ensures { IfOk result (λ n. n ≡ self.now) }
+    {
+        let bytes = self.bytes.clone()?;
+        Ok(Name { bytes })
     }
 
     /// The bytes of the name.

@@ -79,21 +79,3 @@ impl Sink for MemSink {
         Ok(())
     }
 }
-
-#[cfg(test)]
-mod tests {
-    use super::*;
-    use std::alloc::AllocError;
-
-    // The second call fails and takes nothing.
-    #[test]
-    fn calls_in_order(rt: HostRuntime) -> Result<(), AllocError> {
-        let alloc = rt.alloc();
-        let mut sink = MemSink::new(alloc, vec![in alloc; 2]?);
-        assert_eq!(rt; sink.put_all(b"one"), Ok(()));
-        assert_eq!(rt; sink.put_all(b"two"), Err(WriteRefusal::Failed));
-        assert_eq!(rt; sink.put_all(b"three"), Ok(()));
-        assert_eq!(rt; sink.taken(), b"onethree".as_slice());
-        Ok(())
-    }
-}

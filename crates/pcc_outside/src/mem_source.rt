@@ -69,21 +69,3 @@ impl Source for MemSource {
         Ok(None)
     }
 }
-
-#[cfg(test)]
-mod tests {
-    use super::*;
-    use std::alloc::AllocError;
-
-    // The second call fails and takes nothing.
-    #[test]
-    fn calls_in_order(rt: HostRuntime) -> Result<(), AllocError> {
-        let alloc = rt.alloc();
-        let mut source = MemSource::new(vec![in alloc; 7, 8]?, vec![in alloc; 2]?);
-        let answers = [Ok(Some(7)), Err(Failed), Ok(Some(8)), Ok(None), Ok(None)];
-        for (i, answer) in answers.iter().enumerate() {
-            assert_eq!(rt; source.next_byte(), *answer, "after {i} calls");
-        }
-        Ok(())
-    }
-}

@@ -82,19 +82,3 @@ impl Sink for SureSink {
         Ok(())
     }
 }
-
-#[cfg(test)]
-mod tests {
-    use super::*;
-    use std::alloc::AllocError;
-
-    #[test]
-    fn never_refuse(rt: HostRuntime) -> Result<(), AllocError> {
-        let mut source = SureSource::new(vec![in rt.alloc(); 7]?);
-        for answer in [Some(7), None, None] {
-            assert_eq!(rt; source.next_byte(), Ok(answer));
-        }
-        assert_eq!(rt; SureSink::new().put_all(b"one"), Ok(()));
-        Ok(())
-    }
-}

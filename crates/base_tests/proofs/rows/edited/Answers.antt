@@ -2,7 +2,7 @@ use Rattle.std.proofs.Common.{ℕ, ◌≡◌, ◌++◌, ◌∷◌, [], List, len
 use Rattle.std.specs.List.{slice_get}
 use Rattle.index_lists.specs.Lists.{Lists, IsListed, with_list, with_nodes, nodes_of}
 use Rattle.index_lists.proofs.Callers.{unlisted}
-use Rattle.list_tests.proofs.rows.edited.Goals as goal
+use Rattle.base_tests.proofs.rows.edited.Goals as goal
 
 -- so many nodes, these in the first list, and none in the second
 abbrev first_of : ℕ → List ℕ → Lists
