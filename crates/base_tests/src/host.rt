@@ -2,12 +2,12 @@
 
 ghost use Rattle.std.specs.Prelude.{◌≡◌, IfOk};
 
-use pcc_outside::{Failed, FileStore, HostFiles, HostInput, HostOutput, ReadRefusal, Sink, Source};
-use pcc_outside::WriteRefusal;
-use std::fs;
+use pcc_outside::{
+    Failed, FileStore, HostFiles, HostInput, HostOutput, ReadRefusal, Sink, Source, WriteRefusal,
+};
 use std::fs::OpenOptions;
-use std::io;
 use std::io::{ErrorKind, Read, Write};
+use std::{fs, io};
 
 // A reader and a writer that a signal interrupts at first, and that then take or give nothing.
 #[derive(Drop)]

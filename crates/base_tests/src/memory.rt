@@ -1,7 +1,9 @@
 //! The stores, sources and sinks in memory: which of their calls fail, in order.
 
-use pcc_outside::{Failed, FileStore, MemFiles, MemSink, MemSource, ReadRefusal, Sink, Source};
-use pcc_outside::{SureSink, SureSource, WriteRefusal};
+use pcc_outside::{
+    Failed, FileStore, MemFiles, MemSink, MemSource, ReadRefusal, Sink, Source, SureSink,
+    SureSource, WriteRefusal,
+};
 use std::alloc::AllocError;
 
 // The second call fails and takes nothing.

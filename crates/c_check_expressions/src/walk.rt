@@ -46,11 +46,8 @@ pub(crate) fn walked(
         Expression::Number(value, _) => Ok(constant(*value)),
         Expression::Text(pieces) => text(alloc, scopes, notes, pieces.as_slice()),
         Expression::Parenthesised(_, inner, _) => walked(alloc, scopes, inner, notes),
-        Expression::Call {
-            function,
-            arguments,
-            ..
-        } => {
+        Expression::Call(parts, arguments) => {
+            let function = &parts.function;
             let meaning = scopes.meaning(&function.name);
             let parameters = parameters_of(meaning);
             let given = each_argument(alloc, scopes, arguments.as_slice(), parameters, notes)?;
@@ -81,15 +78,15 @@ pub(crate) fn walked(
             let part = walked(alloc, scopes, operand, notes)?;
             unary_of(alloc, *op, *at, part)
         }
-        Expression::Cast {
-            opening,
-            specifiers,
-            pointer,
-            operand,
-            ..
-        } => {
+        Expression::Cast(of, operand) => {
             let part = walked(alloc, scopes, operand, notes)?;
-            cast_to(alloc, *opening, specifiers.as_slice(), pointer, part)
+            cast_to(
+                alloc,
+                of.opening,
+                of.specifiers.as_slice(),
+                &of.pointer,
+                part,
+            )
         }
         Expression::Binary(op, left, at, right) => {
             let first = walked(alloc, scopes, left, notes)?;

@@ -82,25 +82,14 @@ pub(crate) fn statement(
             let head = test_head(alloc, scopes, notes, *at, condition)?;
             if_behind(alloc, around, scopes, notes, head, then)
         }
-        RawStatement::IfElse {
-            at,
-            condition,
-            then,
-            other,
-            ..
-        } => {
-            let head = test_head(alloc, scopes, notes, *at, condition)?;
+        RawStatement::IfElse(parts, then, other) => {
+            let head = test_head(alloc, scopes, notes, parts.at, &parts.condition)?;
             let front = branch_behind(alloc, around, scopes, notes, head, then)?;
             else_behind(alloc, around, scopes, notes, front, other)
         }
-        RawStatement::Switch {
-            at,
-            value,
-            items,
-            ..
-        } => {
+        RawStatement::Switch(parts, items) => {
             let list = items.as_slice();
-            let head = switch_head(alloc, scopes, notes, *at, value, list)?;
+            let head = switch_head(alloc, scopes, notes, parts.at, &parts.value, list)?;
             switch_behind(alloc, around.in_switch(), scopes, notes, head, list)
         }
         RawStatement::While {
@@ -112,37 +101,34 @@ pub(crate) fn statement(
             let head = test_head(alloc, scopes, notes, *at, condition)?;
             while_behind(alloc, around.in_loop(), scopes, notes, head, body)
         }
-        RawStatement::Do {
-            body,
-            until,
-            condition,
-            ..
-        } => {
-            let head = do_head(alloc, scopes, *until, condition)?;
+        RawStatement::Do(parts, body) => {
+            let head = do_head(alloc, scopes, parts.until, &parts.condition)?;
             do_before(alloc, around.in_loop(), scopes, notes, head, body)
         }
-        RawStatement::For {
-            at,
-            start,
-            condition,
-            step,
-            body,
-            ..
-        } => {
-            let head = for_head(alloc, scopes, notes, *at, start, condition, step)?;
+        RawStatement::For(parts, body) => {
+            let head = for_head(
+                alloc,
+                scopes,
+                notes,
+                parts.at,
+                &parts.start,
+                &parts.condition,
+                &parts.step,
+            )?;
             for_behind(alloc, around.in_loop(), scopes, notes, head, body)
         }
-        RawStatement::ForDeclaration {
-            at,
-            start,
-            condition,
-            step,
-            body,
-            ..
-        } => {
+        RawStatement::ForDeclaration(parts, body) => {
             let number = scopes.take_number()?;
             let mark = scopes.enter()?;
-            let parts = declared_head(alloc, scopes, notes, *at, start, condition, step)?;
+            let parts = declared_head(
+                alloc,
+                scopes,
+                notes,
+                parts.at,
+                &parts.start,
+                &parts.condition,
+                &parts.step,
+            )?;
             let head = ForHead { number, parts };
             let part = for_behind(alloc, around.in_loop(), scopes, notes, head, body)?;
             scopes.leave(mark);

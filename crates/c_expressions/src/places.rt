@@ -28,12 +28,12 @@ pub fn first_token(e: &Expression) -> Span
     match e {
         Expression::Identifier(name) => name.at,
         Expression::Text(pieces) => first_piece(pieces.as_slice()),
-        Expression::Call { function, .. } => function.at,
+        Expression::Call(parts, _) => parts.function.at,
         Expression::Number(_, at)
         | Expression::Parenthesised(at, _, _)
         | Expression::Prefix(_, at, _)
-        | Expression::Unary(_, at, _)
-        | Expression::Cast { opening: at, .. } => *at,
+        | Expression::Unary(_, at, _) => *at,
+        Expression::Cast(of, _) => of.opening,
         Expression::Index(first, _, _, _)
         | Expression::Postfix(first, _, _)
         | Expression::Binary(_, first, _, _)

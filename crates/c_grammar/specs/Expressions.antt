@@ -62,12 +62,14 @@ expr_step (layers.Identifier name) = Identifier name
 expr_step (layers.Number value at) = Number value at
 expr_step (layers.Text pieces) = Text pieces.items
 expr_step (layers.Parenthesised o e c) = Parenthesised o e.value c
-expr_step (layers.Call name o arguments commas c) = Call name o (exprs_of arguments.items) commas.items c
+expr_step (layers.Call parts arguments) =
+    Call parts.value.function parts.value.opening (exprs_of arguments.items) parts.value.commas.items parts.value.close
 expr_step (layers.Index b o e c) = Index b.value o e.value c
 expr_step (layers.Postfix b op at) = Postfix b.value op at
 expr_step (layers.Prefix op at e) = Prefix op at e.value
 expr_step (layers.Unary op at e) = Unary op at e.value
-expr_step (layers.Cast o specifiers pointer c e) = Cast o specifiers.items (star_of pointer) c e.value
+expr_step (layers.Cast of e) =
+    Cast of.value.opening of.value.specifiers.items (star_of of.value.pointer) of.value.close e.value
 expr_step (layers.Binary op l at r) = Binary op l.value at r.value
 expr_step (layers.Conditional c q f k s) = Conditional c.value q f.value k s.value
 expr_step (layers.Assignment op l at r) = Assignment op l.value at r.value

@@ -65,14 +65,22 @@ stmt_step (layers.Labelled before s) = Labelled (map label_of before.items) s.va
 stmt_step (layers.Block o items c) = Block o (stmts_of items.items) c
 stmt_step (layers.Simple e semicolon) = Simple (maybe_expr_of e) semicolon
 stmt_step (layers.If at o e c s) = If at o (expr_of e) c s.value
-stmt_step (layers.IfElse at o e c s otherwise t) = IfElse at o (expr_of e) c s.value otherwise t.value
+stmt_step (layers.IfElse parts s t) =
+    IfElse parts.value.at parts.value.opening (expr_of parts.value.condition) parts.value.close s.value
+    parts.value.otherwise t.value
 stmt_step (layers.While at o e c s) = While at o (expr_of e) c s.value
-stmt_step (layers.Do at s until o e c semicolon) = Do at s.value until o (expr_of e) c semicolon
-stmt_step (layers.For at o start first condition second step c s) =
-    For at o (maybe_expr_of start) first (maybe_expr_of condition) second (maybe_expr_of step) c s.value
-stmt_step (layers.ForDeclaration at o start condition second step c s) =
-    ForDeclaration at o (declaration_of start) (maybe_expr_of condition) second (maybe_expr_of step) c s.value
-stmt_step (layers.Switch at o e c begin items end) = Switch at o (expr_of e) c begin (stmts_of items.items) end
+stmt_step (layers.Do parts s) =
+    Do parts.value.at s.value parts.value.until parts.value.opening (expr_of parts.value.condition) parts.value.close
+    parts.value.semicolon
+stmt_step (layers.For parts s) =
+    For parts.value.at parts.value.opening (maybe_expr_of parts.value.start) parts.value.first
+    (maybe_expr_of parts.value.condition) parts.value.second (maybe_expr_of parts.value.step) parts.value.close s.value
+stmt_step (layers.ForDeclaration parts s) =
+    ForDeclaration parts.value.at parts.value.opening (declaration_of parts.value.start)
+    (maybe_expr_of parts.value.condition) parts.value.second (maybe_expr_of parts.value.step) parts.value.close s.value
+stmt_step (layers.Switch parts items) =
+    Switch parts.value.at parts.value.opening (expr_of parts.value.value) parts.value.close parts.value.begin
+    (stmts_of items.items) parts.value.end
 stmt_step (layers.Break at semicolon) = Break at semicolon
 stmt_step (layers.Continue at semicolon) = Continue at semicolon
 stmt_step (layers.Return at e semicolon) = Return at (maybe_expr_of e) semicolon

@@ -12,9 +12,10 @@ ghost use Rattle.c_parse_expressions.specs.Readings.{values_of, height_of_values
 use crate::found::{Found, Values};
 use c_cursor::push;
 use c_syntax::{
-    AssignOp, BinaryOp, Expression, Identifier, Pointer, Specifier, StepOp, TextPiece, UnaryOp,
+    AssignOp, BinaryOp, CallParts, Expression, Identifier, Pointer, Specifier, StepOp, TextPiece,
+    TypeName, UnaryOp,
 };
-use pcc_base::{NoMemory, Span};
+use pcc_base::{NoMemory, Span, boxed};
 use std::alloc::Global;
 
 /// A tree in a box, with its height.
@@ -153,15 +154,14 @@ pub(crate) fn cast_node(
     ensures height { IfOk result (λ f. f.height ≡ suc operand.height) }
 {
     let height = operand.height + 1;
-    let operand = operand.tree;
-    let tree = Expression::Cast {
+    let of = TypeName {
         opening,
         specifiers,
         pointer,
         close,
-        operand,
     };
-    found_of(alloc, tree, height)
+    let (of, operand) = boxed(alloc, of, operand.tree)?;
+    found_of(alloc, Expression::Cast(of, operand), height)
 }
 
 #[inline(never)]
@@ -250,14 +250,14 @@ pub(crate) fn call_node(
     ensures height { IfOk result (λ f. f.height ≡ suc arguments.height) }
 {
     let height = arguments.height + 1;
-    let tree = Expression::Call {
+    let parts = CallParts {
         function,
         opening,
-        arguments: arguments.values,
         commas: arguments.commas,
         close,
     };
-    found_of(alloc, tree, height)
+    let (parts, values) = boxed(alloc, parts, arguments.values)?;
+    found_of(alloc, Expression::Call(parts, values), height)
 }
 
 /// One value.

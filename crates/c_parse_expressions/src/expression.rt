@@ -47,12 +47,12 @@ fn is_unary(e: &Expression) -> bool
         | Expression::Number(_, _)
         | Expression::Text(_)
         | Expression::Parenthesised(_, _, _)
-        | Expression::Call { .. }
+        | Expression::Call(_, _)
         | Expression::Index(_, _, _, _)
         | Expression::Postfix(_, _, _)
         | Expression::Prefix(_, _, _)
         | Expression::Unary(_, _, _) => true,
-        Expression::Cast { .. }
+        Expression::Cast(_, _)
         | Expression::Binary(_, _, _, _)
         | Expression::Conditional { .. }
         | Expression::Assignment(_, _, _, _) => false,

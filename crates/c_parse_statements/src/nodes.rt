@@ -14,8 +14,10 @@ use crate::parts::{
     Clause, Condition, DoTail, ForHead, ForStart, ForTests, LabelList, StatementList, SwitchHead,
 };
 use c_cursor::push;
-use c_syntax::{Declaration, Statement};
-use pcc_base::{NoMemory, Span};
+use c_syntax::{
+    Declaration, DoParts, ForDeclarationParts, ForParts, IfElseParts, Statement, SwitchParts,
+};
+use pcc_base::{NoMemory, Span, boxed as boxed_beside};
 use std::alloc::Global;
 
 /// A value in a box.
@@ -105,16 +107,15 @@ pub(crate) fn if_else_node(
         ≡ trees.IfElse at condition.opening (expr_of condition.value.value) condition.close (stmt_of then.value)
         otherwise (stmt_of other.value)) }
 {
-    let statement = Statement::IfElse {
+    let parts = IfElseParts {
         at,
         opening: condition.opening,
         condition: Box::into_inner(condition.value),
         close: condition.close,
-        then,
         otherwise,
-        other,
     };
-    boxed(alloc, statement)
+    let (parts, (then, other)) = boxed_beside(alloc, parts, (then, other))?;
+    boxed(alloc, Statement::IfElse(parts, then, other))
 }
 
 #[inline(never)]
@@ -147,16 +148,16 @@ pub(crate) fn do_node(
     ensures { IfOk result (λ b. stmt_of b.value ≡ trees.Do at (stmt_of body.value) tail.until tail.condition.opening
         (expr_of tail.condition.value.value) tail.condition.close tail.semicolon) }
 {
-    let statement = Statement::Do {
+    let parts = DoParts {
         at,
-        body,
         until: tail.until,
         opening: tail.condition.opening,
         condition: Box::into_inner(tail.condition.value),
         close: tail.condition.close,
         semicolon: tail.semicolon,
     };
-    boxed(alloc, statement)
+    let (parts, body) = boxed_beside(alloc, parts, body)?;
+    boxed(alloc, Statement::Do(parts, body))
 }
 
 #[inline(never)]
@@ -176,30 +177,35 @@ pub(crate) fn for_node(
         tests,
     } = Box::into_inner(head);
     let ForTests { condition, step } = tests;
-    let statement = match start {
-        ForStart::Expressed(start) => Statement::For {
-            at,
-            opening,
-            start: start.value,
-            first: start.mark,
-            condition: condition.value,
-            second: condition.mark,
-            step: step.value,
-            close: step.mark,
-            body,
-        },
-        ForStart::Declared(start) => Statement::ForDeclaration {
-            at,
-            opening,
-            start,
-            condition: condition.value,
-            second: condition.mark,
-            step: step.value,
-            close: step.mark,
-            body,
-        },
-    };
-    boxed(alloc, statement)
+    match start {
+        ForStart::Expressed(start) => {
+            let parts = ForParts {
+                at,
+                opening,
+                start: start.value,
+                first: start.mark,
+                condition: condition.value,
+                second: condition.mark,
+                step: step.value,
+                close: step.mark,
+            };
+            let (parts, body) = boxed_beside(alloc, parts, body)?;
+            boxed(alloc, Statement::For(parts, body))
+        }
+        ForStart::Declared(start) => {
+            let parts = ForDeclarationParts {
+                at,
+                opening,
+                start,
+                condition: condition.value,
+                second: condition.mark,
+                step: step.value,
+                close: step.mark,
+            };
+            let (parts, body) = boxed_beside(alloc, parts, body)?;
+            boxed(alloc, Statement::ForDeclaration(parts, body))
+        }
+    }
 }
 
 #[inline(never)]
@@ -213,16 +219,16 @@ pub(crate) fn switch_node(
         ≡ trees.Switch at head.value.opening (expr_of head.value.value.value) head.value.close head.begin
         (stmts_of (statements_of items)) items.close) }
 {
-    let statement = Statement::Switch {
+    let parts = SwitchParts {
         at,
         opening: head.value.opening,
         value: Box::into_inner(head.value.value),
         close: head.value.close,
         begin: head.begin,
-        items: items.statements,
         end: items.close,
     };
-    boxed(alloc, statement)
+    let (parts, items) = boxed_beside(alloc, parts, items.statements)?;
+    boxed(alloc, Statement::Switch(parts, items))
 }
 
 pub(crate) fn return_node(at: Span, clause: Clause) -> Statement

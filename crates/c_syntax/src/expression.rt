@@ -29,7 +29,25 @@ pub struct TextPiece {
     pub at: Span,
 }
 
-/// An expression (C99 6.5).
+/// What a call has beside its arguments: the function, and the commas between the arguments.
+#[derive(Debug, Drop)]
+pub struct CallParts {
+    pub function: Identifier,
+    pub opening: Span,
+    pub commas: Vec<Span>,
+    pub close: Span,
+}
+
+/// The type name of a cast: `'(' specifiers pointer? ')'` (C99 6.7.6)
+#[derive(Debug, Drop)]
+pub struct TypeName {
+    pub opening: Span,
+    pub specifiers: Vec<Specifier>,
+    pub pointer: Option<Pointer>,
+    pub close: Span,
+}
+
+/// An expression (C99 6.5). The parts of its largest nodes are in boxes, so that the others take less room.
 #[derive(Debug, Drop)]
 pub enum Expression {
     /// `ident`
@@ -40,14 +58,8 @@ pub enum Expression {
     Text(Vec<TextPiece>),
     /// `'(' expression ')'`
     Parenthesised(Span, Box<Expression>, Span),
-    /// `ident '(' (assignment (',' assignment)*)? ')'`: the arguments, and the commas between them
-    Call {
-        function: Identifier,
-        opening: Span,
-        arguments: Vec<Expression>,
-        commas: Vec<Span>,
-        close: Span,
-    },
+    /// `ident '(' (assignment (',' assignment)*)? ')'`, and the arguments
+    Call(Box<CallParts>, Vec<Expression>),
     /// `postfix '[' expression ']'`
     Index(Box<Expression>, Span, Box<Expression>, Span),
     /// `postfix '++'`, `postfix '--'`
@@ -57,13 +69,7 @@ pub enum Expression {
     /// `('&' | '*' | '+' | '-' | '~' | '!') cast`
     Unary(UnaryOp, Span, Box<Expression>),
     /// `'(' specifiers pointer? ')' cast`
-    Cast {
-        opening: Span,
-        specifiers: Vec<Specifier>,
-        pointer: Option<Pointer>,
-        close: Span,
-        operand: Box<Expression>,
-    },
+    Cast(Box<TypeName>, Box<Expression>),
     /// an operator of one of the levels of `binary`, or a comma of `expression`
     Binary(BinaryOp, Box<Expression>, Span, Box<Expression>),
     /// `binary '?' expression ':' conditional`

@@ -14,7 +14,9 @@ pub use declaration::{
     ArrayPart, Declaration, Declarator, DeclaratorPart, Initialiser, InitialiserPart, Item,
     Parameter, ParametersPart,
 };
-pub use expression::{Expression, Identifier, Pointer, Specifier, TextPiece};
+pub use expression::{CallParts, Expression, Identifier, Pointer, Specifier, TextPiece, TypeName};
 pub use operator::{AssignOp, BinaryOp, SpecifierWord, StepOp, UnaryOp};
-pub use statement::{Label, Statement};
+pub use statement::{
+    DoParts, ForDeclarationParts, ForParts, IfElseParts, Label, Statement, SwitchParts,
+};
 pub use unit::{External, RawUnit};

@@ -9,8 +9,65 @@ pub enum Label {
     Default(Span, Span),
 }
 
+/// What an `if` with an `else` has beside its statements.
+#[derive(Debug, Drop)]
+pub struct IfElseParts {
+    pub at: Span,
+    pub opening: Span,
+    pub condition: Expression,
+    pub close: Span,
+    pub otherwise: Span,
+}
+
+/// What a `do` has beside its body.
+#[derive(Debug, Drop)]
+pub struct DoParts {
+    pub at: Span,
+    pub until: Span,
+    pub opening: Span,
+    pub condition: Expression,
+    pub close: Span,
+    pub semicolon: Span,
+}
+
+/// What a `for` has beside its body.
+#[derive(Debug, Drop)]
+pub struct ForParts {
+    pub at: Span,
+    pub opening: Span,
+    pub start: Option<Expression>,
+    pub first: Span,
+    pub condition: Option<Expression>,
+    pub second: Span,
+    pub step: Option<Expression>,
+    pub close: Span,
+}
+
+/// What a `for` with a declaration has beside its body.
+#[derive(Debug, Drop)]
+pub struct ForDeclarationParts {
+    pub at: Span,
+    pub opening: Span,
+    pub start: Declaration,
+    pub condition: Option<Expression>,
+    pub second: Span,
+    pub step: Option<Expression>,
+    pub close: Span,
+}
+
+/// What a `switch` has beside its statements.
+#[derive(Debug, Drop)]
+pub struct SwitchParts {
+    pub at: Span,
+    pub opening: Span,
+    pub value: Expression,
+    pub close: Span,
+    pub begin: Span,
+    pub end: Span,
+}
+
 /// A statement (C99 6.8). In a block a declaration may stand for one, and in a switch a statement with its
-/// labels.
+/// labels. The parts of its largest nodes are in boxes, so that the others take less room.
 #[derive(Debug, Drop)]
 pub enum Statement {
     /// A declaration, in a block alone (C99 6.8.2)
@@ -30,15 +87,7 @@ pub enum Statement {
         then: Box<Statement>,
     },
     /// `'if' '(' expression ')' statement 'else' statement`
-    IfElse {
-        at: Span,
-        opening: Span,
-        condition: Expression,
-        close: Span,
-        then: Box<Statement>,
-        otherwise: Span,
-        other: Box<Statement>,
-    },
+    IfElse(Box<IfElseParts>, Box<Statement>, Box<Statement>),
     /// `'while' '(' expression ')' statement`
     While {
         at: Span,
@@ -48,48 +97,13 @@ pub enum Statement {
         body: Box<Statement>,
     },
     /// `'do' statement 'while' '(' expression ')' ';'`
-    Do {
-        at: Span,
-        body: Box<Statement>,
-        until: Span,
-        opening: Span,
-        condition: Expression,
-        close: Span,
-        semicolon: Span,
-    },
+    Do(Box<DoParts>, Box<Statement>),
     /// `'for' '(' expression? ';' expression? ';' expression? ')' statement`
-    For {
-        at: Span,
-        opening: Span,
-        start: Option<Expression>,
-        first: Span,
-        condition: Option<Expression>,
-        second: Span,
-        step: Option<Expression>,
-        close: Span,
-        body: Box<Statement>,
-    },
+    For(Box<ForParts>, Box<Statement>),
     /// `'for' '(' declaration expression? ';' expression? ')' statement`
-    ForDeclaration {
-        at: Span,
-        opening: Span,
-        start: Declaration,
-        condition: Option<Expression>,
-        second: Span,
-        step: Option<Expression>,
-        close: Span,
-        body: Box<Statement>,
-    },
+    ForDeclaration(Box<ForDeclarationParts>, Box<Statement>),
     /// `'switch' '(' expression ')' '{' (label* statement)* '}'`
-    Switch {
-        at: Span,
-        opening: Span,
-        value: Expression,
-        close: Span,
-        begin: Span,
-        items: Vec<Statement>,
-        end: Span,
-    },
+    Switch(Box<SwitchParts>, Vec<Statement>),
     /// `'break' ';'`
     Break(Span, Span),
     /// `'continue' ';'`

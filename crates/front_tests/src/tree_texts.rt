@@ -43,12 +43,8 @@ fn push_expression(alloc: Global, out: &mut String, tree: &Expression) -> Result
         Expression::Number(value, _) => out.push_str(format!(in alloc; "{value}")?.as_str())?,
         Expression::Text(pieces) => push_texts(out, pieces)?,
         Expression::Parenthesised(_, inner, _) => push_all!(alloc out "(" (inner) ")"),
-        Expression::Call {
-            function,
-            arguments,
-            ..
-        } => {
-            push_name(out, &function.name)?;
+        Expression::Call(parts, arguments) => {
+            push_name(out, &parts.function.name)?;
             out.push_str("(")?;
             for argument in arguments {
                 push_all!(alloc out (argument) ",");
@@ -59,7 +55,7 @@ fn push_expression(alloc: Global, out: &mut String, tree: &Expression) -> Result
         Expression::Postfix(base, op, _) => push_all!(alloc out "[" (base) " " {op} "]"),
         Expression::Prefix(op, _, operand) => push_all!(alloc out "[" {op} " " (operand) "]"),
         Expression::Unary(op, _, operand) => push_all!(alloc out "[" {op} " " (operand) "]"),
-        Expression::Cast { operand, .. } => push_all!(alloc out "[Cast " (operand) "]"),
+        Expression::Cast(_, operand) => push_all!(alloc out "[Cast " (operand) "]"),
         Expression::Binary(op, left, _, right) => {
             push_all!(alloc out "[" (left) " " {op} " " (right) "]")
         }
@@ -131,26 +127,18 @@ fn push_label(alloc: Global, out: &mut String, label: &Label) -> Result<(), Allo
 }
 
 /// What controls a loop `for`, behind its first part.
-fn push_control(alloc: Global, out: &mut String, statement: &Statement) -> Result<(), AllocError> {
-    if let Statement::For {
-        condition,
-        step,
-        ..
-    }
-    | Statement::ForDeclaration {
-        condition,
-        step,
-        ..
-    } = statement
-    {
-        push_maybe(alloc, out, condition)?;
-        out.push_str(";")?;
-        push_maybe(alloc, out, step)?;
-    }
-    Ok(())
+fn push_control(
+    alloc: Global,
+    out: &mut String,
+    condition: &Option<Expression>,
+    step: &Option<Expression>,
+) -> Result<(), AllocError> {
+    push_maybe(alloc, out, condition)?;
+    out.push_str(";")?;
+    push_maybe(alloc, out, step)
 }
 
-/// What a statement begins with, before the statements inside it and what controls a loop `for`.
+/// What a statement begins with, before the statements inside it.
 fn push_head(alloc: Global, out: &mut String, statement: &Statement) -> Result<(), AllocError> {
     match statement {
         Statement::Declaration(declaration) => push_declaration(alloc, out, declaration)?,
@@ -161,21 +149,28 @@ fn push_head(alloc: Global, out: &mut String, statement: &Statement) -> Result<(
         }
         Statement::Block(..) => {}
         Statement::Simple(value, _) => push_maybe(alloc, out, value)?,
-        Statement::If { condition, .. } | Statement::IfElse { condition, .. } => {
-            push_all!(alloc out "if " (condition))
+        Statement::If { condition, .. } => push_all!(alloc out "if " (condition)),
+        Statement::IfElse(parts, _, _) => {
+            out.push_str("if ")?;
+            push_expression(alloc, out, &parts.condition)?;
         }
         Statement::While { condition, .. } => push_all!(alloc out "while " (condition)),
-        Statement::Do { .. } => out.push_str("do")?,
-        Statement::For { start, .. } => {
+        Statement::Do(_, _) => out.push_str("do")?,
+        Statement::For(parts, _) => {
             out.push_str("for ")?;
-            push_maybe(alloc, out, start)?;
+            push_maybe(alloc, out, &parts.start)?;
             out.push_str(";")?;
+            push_control(alloc, out, &parts.condition, &parts.step)?;
         }
-        Statement::ForDeclaration { start, .. } => {
+        Statement::ForDeclaration(parts, _) => {
             out.push_str("for ")?;
-            push_declaration(alloc, out, start)?;
+            push_declaration(alloc, out, &parts.start)?;
+            push_control(alloc, out, &parts.condition, &parts.step)?;
         }
-        Statement::Switch { value, .. } => push_all!(alloc out "switch " (value)),
+        Statement::Switch(parts, _) => {
+            out.push_str("switch ")?;
+            push_expression(alloc, out, &parts.value)?;
+        }
         Statement::Break(_, _) => out.push_str("break")?,
         Statement::Continue(_, _) => out.push_str("continue")?,
         Statement::Return(_, value, _) => {
@@ -194,30 +189,25 @@ fn push_statement(
 ) -> Result<(), AllocError> {
     out.push_str("{")?;
     push_head(alloc, out, statement)?;
-    push_control(alloc, out, statement)?;
     match statement {
         Statement::Labelled(_, inner) => push_statement(alloc, out, inner)?,
-        Statement::Block(_, items, _) | Statement::Switch { items, .. } => {
+        Statement::Block(_, items, _) | Statement::Switch(_, items) => {
             for item in items {
                 push_statement(alloc, out, item)?;
             }
         }
         Statement::If { then, .. } => push_statement(alloc, out, then)?,
-        Statement::IfElse { then, other, .. } => {
+        Statement::IfElse(_, then, other) => {
             push_statement(alloc, out, then)?;
             out.push_str("else")?;
             push_statement(alloc, out, other)?;
         }
         Statement::While { body, .. }
-        | Statement::For { body, .. }
-        | Statement::ForDeclaration { body, .. } => push_statement(alloc, out, body)?,
-        Statement::Do {
-            body,
-            condition,
-            ..
-        } => {
+        | Statement::For(_, body)
+        | Statement::ForDeclaration(_, body) => push_statement(alloc, out, body)?,
+        Statement::Do(parts, body) => {
             push_statement(alloc, out, body)?;
-            push_expression(alloc, out, condition)?;
+            push_expression(alloc, out, &parts.condition)?;
         }
         Statement::Declaration(_)
         | Statement::Simple(_, _)

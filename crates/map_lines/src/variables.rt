@@ -52,11 +52,7 @@ fn push_scalar(
 }
 
 /// Puts the lines of the two variables of a pointer local at the end: its array and its index.
-fn push_pointer(
-    lines: &mut Vec<Line>,
-    number: u32,
-    name: &Name,
-) -> Result<(), NoMemory>
+fn push_pointer(lines: &mut Vec<Line>, number: u32, name: &Name) -> Result<(), NoMemory>
     requires { number + 1 ≤ 4294967295 }
     ensures { OnOk result (
         map line_of lines.new.items
@@ -81,11 +77,7 @@ fn push_pointer(
 }
 
 /// Puts the lines of the variables of a local at the end, of which the first has this number.
-fn push_local(
-    lines: &mut Vec<Line>,
-    number: u32,
-    local: &Local,
-) -> Result<(), NoMemory>
+fn push_local(lines: &mut Vec<Line>, number: u32, local: &Local) -> Result<(), NoMemory>
     requires { number + length (local_widths (local_of local.now ∷ [])) ≤ 4294967295 }
     ensures { OnOk result (
         map line_of lines.new.items
