@@ -4,19 +4,6 @@
 
 ghost use Rattle.std.specs.Prelude.{◌≡◌, ◌⊎◌, IfErr};
 
-#[cfg(test)]
-mod evaluations;
-#[cfg(test)]
-mod maps;
-#[cfg(test)]
-mod programs;
-#[cfg(test)]
-mod refusals;
-#[cfg(test)]
-mod runs;
-#[cfg(test)]
-mod tests;
-
 use pcc_driver::pcc;
 use pcc_outside::{HostFiles, HostInput, HostOutput};
 use std::env;
