@@ -1,4 +1,4 @@
-ghost use Rattle.std.specs.Prelude.{◌≡◌, ◌≤◌, ◌∷◌, ℕ, List, Bool, IsTrue, length, take, drop, MatchOption, Contains};
+ghost use Rattle.std.specs.Prelude.{◌≡◌, ◌≤◌, ◌∷◌, ℕ, List, Bool, IsTrue, length, take, drop, MatchOption, Contains, IfOk};
 ghost use Rattle.c_lexer.specs.Bytes.{is_letter, is_word_byte};
 ghost use Rattle.c_lexer.specs.Literals.{AllPass, StartsNot};
 ghost use Rattle.c_lexer.specs.Pieces.{IsNoKeyword};
@@ -129,6 +129,14 @@ fn word_length(rest: &[u8]) -> usize
     rest.len()
 }
 
+/// The name with these bytes.
+fn name_of(alloc: Global, word: &[u8]) -> Result<Name, NoMemory>
+    ensures { IfOk result (λ n. n ≡ word.now) }
+{
+    let bytes = Vec::from_slice(alloc, word)?;
+    Name::new(alloc, bytes)
+}
+
 /// The identifier or keyword that begins the rest (C99 6.4.1, 6.4.2), and None where it is an `L` before
 /// a quote.
 pub fn word_at(alloc: Global, rest: &[u8]) -> Result<Option<(usize, Scanned)>, NoMemory>
@@ -142,7 +150,7 @@ pub fn word_at(alloc: Global, rest: &[u8]) -> Result<Option<(usize, Scanned)>, N
     let word = &rest[..length];
     let kind = match keyword_of(word) {
         Some(keyword) => TokenKind::Word(keyword),
-        None => TokenKind::Ident(Name::new(alloc, Vec::from_slice(alloc, word)?)?),
+        None => TokenKind::Ident(name_of(alloc, word)?),
     };
     Ok(Some((length, Scanned::Token(kind))))
 }

@@ -165,11 +165,18 @@ walked-returns-in_ok-given-in-Call t c =
     let gs = given s (exprs_of (map expr_of es)) in
     let many : c.len.result ≡ length es = search rules in
     let count : c.len.result ≡ length gs = many ∙ sym (ap length (given_all s es) ∙ length-map es (given_of s)) in
-    let same : expr_of c.args.e.now ≡ trees.Call c.deref-in-Call.result.now.function c.deref-in-Call.result.now.opening (exprs_of (map expr_of es))
-    c.deref-in-Call.result.now.commas.items c.deref-in-Call.result.now.close = search (rules, the_lemmas, fold-roll-Expression, fold_out-Expression) in
+    let same : expr_of c.args.e.now ≡ trees.Call c.deref-in-Call.result.now.function c.deref-in-Call.result.now.opening
+    (exprs_of (map expr_of es))
+    c.deref-in-Call.result.now.commas.items c.deref-in-Call.result.now.close = search (
+      rules,
+      the_lemmas,
+      fold-roll-Expression,
+      fold_out-Expression,
+    ) in
     subst (λ e. IfOk c.called.result (λ j. IsSaid IsOperandOf (typed_expression s e) j c.args.notes.now
     c.called.new.notes)) (sym same)
-    (subst (λ m. IfOk c.called.result (λ j. IsSaid IsOperandOf (called s c.deref-in-Call.result.now.function gs m) j c.args.notes.now
+    (subst (λ m. IfOk c.called.result (λ j. IsSaid IsOperandOf (called s c.deref-in-Call.result.now.function gs m) j
+    c.args.notes.now
     c.called.new.notes)) c.meaning-meaning.ensures
     (IfOk-weaker c.called.result _ _ (λ j row. row gs c.args.notes.now c.in_ok-given-in-Call.ensures.typed count
     (subst (λ ps. IsSaid AreArguments (arguments_for ps gs) c.in_ok-given-in-Call.given.values c.args.notes.now

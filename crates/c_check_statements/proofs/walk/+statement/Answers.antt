@@ -193,13 +193,15 @@ statement-returns-in_ok-head-in-Do-clause-said t c =
     let w = around_of c.args.around in
     let e = expr_of c.deref-in-Do-2.result.now.condition in
     let st = stmt_of c.deref-in-Do-3.result.now in
-    let same : stmt_of c.args.st.now ≡ trees.Do c.deref-in-Do.result.now.at st c.deref-in-Do.result.now.until c.deref-in-Do.result.now.opening e c.deref-in-Do.result.now.close
+    let same : stmt_of c.args.st.now ≡ trees.Do c.deref-in-Do.result.now.at st c.deref-in-Do.result.now.until
+    c.deref-in-Do.result.now.opening e c.deref-in-Do.result.now.close
     c.deref-in-Do.result.now.semicolon
     = search (rules, the_lemmas, fold-roll-Statement, fold_out-Statement) in
     subst (λ x. IfOk c.do_before.result (λ j. IsSaid AreListed (typed_statement w x s) j c.args.notes.now
     c.do_before.new.notes)) (sym same)
     (IfOk-weaker c.do_before.result _ _ (λ j row. around_number (λ v u n.
-    one (both (alone (typed_statement v st u)) (condition s c.deref-in-Do.result.now.until e) (λ a x. fits (tree.Do n a x))))
+    one (both (alone (typed_statement v st u)) (condition s c.deref-in-Do.result.now.until e) (λ a x. fits (tree.Do n a
+    x))))
     (around_of c.in_loop-in-Do.result) (in_loop w) s
     c.do_head.new.scopes c.in_ok-head-in-Do.head.number j c.args.notes.now c.do_before.new.notes
     c.in_loop-in-Do.ensures c.in_ok-head-in-Do.ensures.scope c.in_ok-head-in-Do.ensures.said.0
@@ -210,7 +212,8 @@ statement-returns-in_ok-head-in-Do-clause-scope t c =
     let s = c.args.scopes.now in
     let e = expr_of c.deref-in-Do-2.result.now.condition in
     let st = stmt_of c.deref-in-Do-3.result.now in
-    let same : stmt_of c.args.st.now ≡ trees.Do c.deref-in-Do.result.now.at st c.deref-in-Do.result.now.until c.deref-in-Do.result.now.opening e c.deref-in-Do.result.now.close
+    let same : stmt_of c.args.st.now ≡ trees.Do c.deref-in-Do.result.now.at st c.deref-in-Do.result.now.until
+    c.deref-in-Do.result.now.opening e c.deref-in-Do.result.now.close
     c.deref-in-Do.result.now.semicolon
     = search (rules, the_lemmas, fold-roll-Statement, fold_out-Statement) in
     on_ok c.do_before.result _ _ (λ h. h ∙ ap (after_statement st) c.in_ok-head-in-Do.ensures.scope
@@ -224,17 +227,20 @@ statement-returns-in_ok-head-in-For-clause-said t c =
     let b = maybe_expr_of c.deref-in-For-3.result.now.condition in
     let d = maybe_expr_of c.deref-in-For-4.result.now.step in
     let st = stmt_of c.deref-in-For-5.result.now in
-    let same : stmt_of c.args.st.now ≡ trees.For c.deref-in-For.result.now.at c.deref-in-For.result.now.opening a c.deref-in-For.result.now.first b c.deref-in-For.result.now.second d
+    let same : stmt_of c.args.st.now ≡ trees.For c.deref-in-For.result.now.at c.deref-in-For.result.now.opening a
+    c.deref-in-For.result.now.first b c.deref-in-For.result.now.second d
     c.deref-in-For.result.now.close st
     = search (rules, the_lemmas, fold-roll-Statement, fold_out-Statement) in
     subst (λ x. IfOk c.for_behind.result (λ j. IsSaid AreListed (typed_statement w x s) j c.args.notes.now
     c.for_behind.new.notes)) (sym same)
     (IfOk-weaker c.for_behind.result _ _ (λ j row. around_number (λ v u n.
-    for_loop n (if_fits (typed_if_any s a) (λ x. fits (first_part x))) (condition_if_any s c.deref-in-For.result.now.at b)
+    for_loop n (if_fits (typed_if_any s a) (λ x. fits (first_part x))) (condition_if_any s c.deref-in-For.result.now.at
+    b)
     (typed_if_any s d) (alone (typed_statement v st u))) (around_of c.in_loop-in-For.result) (in_loop w) s
     c.for_head.new.scopes c.in_ok-head-in-For.head.number j c.args.notes.now c.for_behind.new.notes
     c.in_loop-in-For.ensures c.in_ok-head-in-For.ensures.scope c.in_ok-head-in-For.ensures.said.0
-    (row (if_fits (typed_if_any s a) (λ x. fits (first_part x))) (condition_if_any s c.deref-in-For.result.now.at b) (typed_if_any s
+    (row (if_fits (typed_if_any s a) (λ x. fits (first_part x))) (condition_if_any s c.deref-in-For.result.now.at b)
+    (typed_if_any s
     d) c.args.notes.now c.in_ok-head-in-For.ensures.said.1)) c.for_behind.ensures.said)
 
 pub statement-returns-in_ok-head-in-For-clause-scope : goal.statement-returns-in_ok-head-in-For-clause-scope
@@ -244,7 +250,8 @@ statement-returns-in_ok-head-in-For-clause-scope t c =
     let b = maybe_expr_of c.deref-in-For-3.result.now.condition in
     let d = maybe_expr_of c.deref-in-For-4.result.now.step in
     let st = stmt_of c.deref-in-For-5.result.now in
-    let same : stmt_of c.args.st.now ≡ trees.For c.deref-in-For.result.now.at c.deref-in-For.result.now.opening a c.deref-in-For.result.now.first b c.deref-in-For.result.now.second d
+    let same : stmt_of c.args.st.now ≡ trees.For c.deref-in-For.result.now.at c.deref-in-For.result.now.opening a
+    c.deref-in-For.result.now.first b c.deref-in-For.result.now.second d
     c.deref-in-For.result.now.close st
     = search (rules, the_lemmas, fold-roll-Statement, fold_out-Statement) in
     on_ok c.for_behind.result _ _ (λ h. h ∙ ap (after_statement st) c.in_ok-head-in-For.ensures.scope
@@ -259,8 +266,10 @@ statement-returns-in_ok-front-in-IfElse-clause-said t c =
     let e = expr_of c.deref-in-IfElse-2.result.now.condition in
     let st = stmt_of c.deref-in-IfElse-3.result.now in
     let other = stmt_of c.deref-in-IfElse-4.result.now in
-    let same : stmt_of c.args.st.now ≡ trees.IfElse c.deref-in-IfElse.result.now.at c.deref-in-IfElse.result.now.opening e c.deref-in-IfElse.result.now.close st
-    c.deref-in-IfElse.result.now.otherwise other = search (rules, the_lemmas, fold-roll-Statement, fold_out-Statement) in
+    let same : stmt_of c.args.st.now ≡ trees.IfElse c.deref-in-IfElse.result.now.at
+    c.deref-in-IfElse.result.now.opening e c.deref-in-IfElse.result.now.close st
+    c.deref-in-IfElse.result.now.otherwise other = search (rules, the_lemmas, fold-roll-Statement, fold_out-Statement)
+    in
     let test = condition s c.deref-in-IfElse.result.now.at e in
     let u = c.test_head-in-IfElse.new.scopes in
     subst (λ x. IfOk c.else_behind.result (λ j. IsSaid AreListed (typed_statement w x s) j c.args.notes.now
@@ -283,8 +292,14 @@ statement-returns-in_ok-head-in-Switch-clause-said t c =
     let w = around_of c.args.around in
     let e = expr_of c.deref-in-Switch-2.result.now.value in
     let sts = stmts_of (map stmt_of c.as_slice-list.result.now) in
-    let same : stmt_of c.args.st.now ≡ trees.Switch c.deref-in-Switch.result.now.at c.deref-in-Switch.result.now.opening e c.deref-in-Switch.result.now.close
-    c.deref-in-Switch.result.now.begin sts c.deref-in-Switch.result.now.end = search (rules, the_lemmas, fold-roll-Statement, fold_out-Statement) in
+    let same : stmt_of c.args.st.now ≡ trees.Switch c.deref-in-Switch.result.now.at
+    c.deref-in-Switch.result.now.opening e c.deref-in-Switch.result.now.close
+    c.deref-in-Switch.result.now.begin sts c.deref-in-Switch.result.now.end = search (
+      rules,
+      the_lemmas,
+      fold-roll-Statement,
+      fold_out-Statement,
+    ) in
     let value = if_fits (typed_expression s e) (λ x. selected (value_type x) c.deref-in-Switch.result.now.at x) in
     let labels = typed_labels [] (given_labels s 0 sts) in
     subst (λ x. IfOk c.switch_behind.result (λ j. IsSaid AreListed (typed_statement w x s) j c.args.notes.now
@@ -304,9 +319,12 @@ statement-returns-in_ok-part-in-ForDeclaration-clause-scope t c =
     let s = c.args.scopes.now in
     let d = declaration_of c.deref-in-ForDeclaration-2.result.now.start in
     let st = stmt_of c.deref-in-ForDeclaration-5.result.now in
-    let same : stmt_of c.args.st.now ≡ trees.ForDeclaration c.deref-in-ForDeclaration.result.now.at c.deref-in-ForDeclaration.result.now.opening d
-    (maybe_expr_of c.deref-in-ForDeclaration-3.result.now.condition) c.deref-in-ForDeclaration.result.now.second (maybe_expr_of c.deref-in-ForDeclaration-4.result.now.step)
-    c.deref-in-ForDeclaration.result.now.close st = search (rules, the_lemmas, fold-roll-Statement, fold_out-Statement) in
+    let same : stmt_of c.args.st.now ≡ trees.ForDeclaration c.deref-in-ForDeclaration.result.now.at
+    c.deref-in-ForDeclaration.result.now.opening d
+    (maybe_expr_of c.deref-in-ForDeclaration-3.result.now.condition) c.deref-in-ForDeclaration.result.now.second
+    (maybe_expr_of c.deref-in-ForDeclaration-4.result.now.step)
+    c.deref-in-ForDeclaration.result.now.close st = search (rules, the_lemmas, fold-roll-Statement, fold_out-Statement)
+    in
     left_for c.take_number.new.self c.enter.new.self c.declared_head.new.scopes
     c.for_behind-in-ForDeclaration.new.scopes c.leave.new.self d st c.in_ok-mark-in-ForDeclaration.mark.names
     c.in_ok-mark-in-ForDeclaration.mark.depth c.in_ok-mark-in-ForDeclaration.ensures.0

@@ -54,9 +54,10 @@ returns-then-quote-eq34 c fresh =
     let n : ℕ = c.in-Some.length in
     let there : IsClosedBehind (get_or rest 0 0) (text_of rest) c.in-Some.values.items n =
     closed rest _ (c.in-Some.values, n) c.in-Some.is c.in_ok-values.ensures in
-    subst (λ (r : List ℕ). Begins fresh r (n + 2) (Spelled (kinds.Text c.new.result))) (sym (whole rest c.requires))
+    subst (λ (r : List ℕ). Begins fresh r (n + 2) (Spelled (kinds.Text c.in_ok-text.text))) (sym (whole rest
+    c.requires))
     (subst (λ (vs : List ℕ). Begins fresh (get_or rest 0 0 ∷ text_of rest) (n + 2) (Spelled (kinds.Text vs)))
-    (sym c.new.ensures)
+    (sym c.in_ok-text.ensures)
     (text_begins fresh (get_or rest 0 0) (text_of rest) c.in-Some.values.items n c.if-quote-eq34.true there))
 
 -- a quote that isn't that of a string literal

@@ -4,7 +4,7 @@ use Rattle.c_lexer.specs.declared.token.TokenKind.TheVariants as kinds
 use Rattle.c_lexer.specs.Pieces.{Begins, Spelled}
 use Rattle.c_lexer.proofs.WordPieces.{unprefixed, keyword_begins, ident_begins}
 use Rattle.c_lexer.proofs.words.word_at.Goals as goal
-use Rattle.c_lexer.proofs.words.word_at.Goals.{in-Some, in-None+in_ok-from_slice-in-None}
+use Rattle.c_lexer.proofs.words.word_at.Goals.{in-Some, in-None+in_ok-name_of-in-None}
 
 pub returns : goal.returns
 returns c = λ fresh.
@@ -16,8 +16,7 @@ returns c = λ fresh.
       | in-Some w ↦
           subst P (sym w.kind-is)
           (keyword_begins fresh c.args.rest.now _ _ c.requires run.within run.longest un w.in-Some.ensures)
-      | in-None+in_ok-from_slice-in-None w ↦
-          let name = w.new.ensures ∙ w.in_ok-from_slice-in-None.ensures.items in
-          subst P (sym (w.kind-is ∙ ap kinds.Ident name))
+      | in-None+in_ok-name_of-in-None w ↦
+          subst P (sym (w.kind-is ∙ ap kinds.Ident w.in_ok-name_of-in-None.ensures))
           (ident_begins fresh c.args.rest.now _ c.requires run.within run.word run.longest un w.in-None.ensures)
     ]
