@@ -1,4 +1,3 @@
-pub mod GivenValues
 pub mod Initialised
 pub mod Itemised
 pub mod Pushes

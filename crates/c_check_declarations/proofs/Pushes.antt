@@ -1,24 +1,14 @@
--- One more value behind others, of each kind.
+-- One more item behind others.
 use Rattle.std.proofs.Common.{◌≡◌, sym, ap, ◌∙◌, List, [], ◌∷◌, ◌++◌, map, Option, Some, None}
 use Rattle.std.proofs.lemmas.List.{append-nil, map-append}
-use Rattle.c_tree.specs.declared.expression.Expression.{Expression as Built}
 use Rattle.c_tree.specs.declared.statement.Item.{Item as BuiltItem}
-use Rattle.c_tree.specs.Erased.{expression_of, item_of}
-use Rattle.c_tree.specs.Program.{Expression, Item}
+use Rattle.c_tree.specs.Erased.{item_of}
+use Rattle.c_tree.specs.Program.{Item}
 use Rattle.c_check_declarations.specs.Answers.{AreItem}
 use Rattle.c_check_declarators.specs.Together.{maybe_listed}
-use Rattle.c_check_declarators.proofs.Lists.{push_same}
-
-abbrev pub AreTreesOf : List Expression → List Built → Type 0
-AreTreesOf xs vs = map expression_of vs ≡ xs
 
 abbrev pub AreItemsOf : List Item → List BuiltItem → Type 0
 AreItemsOf xs vs = map item_of vs ≡ xs
-
-pub push_tree : (xs : List Expression) (x : Expression) (vs : List Built) (a : Built) → map expression_of vs ≡ xs
-    → expression_of a ≡ x → map expression_of (vs ++ a ∷ []) ≡ (xs ++ x ∷ [])
-push_tree xs x vs a h k = map-append expression_of vs (a ∷ [])
-    ∙ push_same xs x (map expression_of vs) (expression_of a) h k
 
 pub push_item : (xs ys : List Item) (vs : List BuiltItem) (o : Option BuiltItem) → map item_of vs ≡ xs → AreItem ys o
     → map item_of (vs ++ maybe_listed o) ≡ (xs ++ ys)

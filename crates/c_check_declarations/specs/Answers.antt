@@ -13,10 +13,7 @@ use Rattle.c_expressions.specs.Notes.{contents_of}
 abbrev pub IsContents : checked.Contents → Contents → Type 0
 IsContents x a = contents_of a ≡ x
 
--- the tree of an expression, and one that may be absent
-abbrev pub IsTree : Expression → Built → Type 0
-IsTree x a = expression_of a ≡ x
-
+-- the tree of an expression that may be absent
 abbrev pub IsTreeIfAny : Option Expression → Option Built → Type 0
 IsTreeIfAny x a = option_map expression_of a ≡ x
 

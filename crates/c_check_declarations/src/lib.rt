@@ -8,7 +8,6 @@
 mod initialisers;
 mod items;
 mod stored;
-mod values;
 
 pub use c_check_declarators::{
     ObjectType, Position, Specified, also, bind_object, object_allowed, object_declared,

@@ -3,4 +3,3 @@ mod Chains
 mod Ones
 mod QuietRows
 mod Returning
-mod Sorted

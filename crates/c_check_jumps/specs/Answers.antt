@@ -7,7 +7,9 @@ use Rattle.c_tree.specs.declared.statement.Label.{Label}
 use Rattle.c_tree.specs.declared.statement.Statement.{Statement as BuiltStatement}
 use Rattle.c_tree.specs.Erased.{first_of, statement_of, statements_of}
 use Rattle.c_tree.specs.Program.{Expression, First, Statement, Statements}
-use Rattle.c_check_declarations.specs.Answers.{IsTree, IsTreeIfAny}
+use Rattle.c_check_values.specs.Values.{IsTree}
+use Rattle.c_check_declarations.specs.Answers.{IsTreeIfAny}
+use Rattle.c_check_labels.specs.Labels.{AreLabels}
 
 abbrev pub IsStatement : Statement → BuiltStatement → Type 0
 IsStatement x a = statement_of a ≡ x
@@ -19,9 +21,6 @@ AreListed xs v = map statement_of v.items ≡ xs
 -- the statements of a block
 abbrev pub AreStatements : Statements → Vec BuiltStatement Global → Type 0
 AreStatements xs v = statements_of v.items ≡ xs
-
-abbrev pub AreLabels : List Label → Vec Label Global → Type 0
-AreLabels xs v = v.items ≡ xs
 
 abbrev pub IsFirst : First → BuiltFirst → Type 0
 IsFirst x a = first_of a ≡ x

@@ -28,12 +28,14 @@ ghost use Rattle.c_typing.specs.Statements.{
 };
 ghost use Rattle.c_typing.specs.Types.{InFor};
 ghost use Rattle.c_expressions.specs.Said.{IsSaid};
-ghost use Rattle.c_check_declarations.specs.Answers.{AreItems, IsTree, IsTreeIfAny};
-ghost use Rattle.c_check_jumps.specs.Answers.{AreHead, AreLabels, AreSelected, AreStart, IsFirst};
+ghost use Rattle.c_check_values.specs.Values.{IsTree};
+ghost use Rattle.c_check_declarations.specs.Answers.{AreItems, IsTreeIfAny};
+ghost use Rattle.c_check_labels.specs.Labels.{AreLabels};
+ghost use Rattle.c_check_jumps.specs.Answers.{AreHead, AreSelected, AreStart, IsFirst};
 
 use crate::conditions::{condition, condition_if_any, switch_value, value_if_any};
-use crate::labels::switch_labels;
 use c_check_declarations::{Position, declaration};
+use c_check_labels::switch_labels;
 use c_expressions::Notes;
 use c_operands::{Judged, both};
 use c_scopes::Scopes;

@@ -1,5 +1,5 @@
-//! Parts of statements, judged, and statements of judged parts (C99 6.8): conditions, labels, jumps, and one function
-//! for each kind of statement.
+//! Parts of statements, judged, and statements of judged parts (C99 6.8): conditions, jumps, and one function for each
+//! kind of statement. Labels are judged by `c_check_labels`.
 //!
 //! In: raw expressions and labels with what is known at their place, or parts that were judged. Out: typed trees, or
 //! the fault that is answered. `specs/Answers.antt` says how what is answered stands for what `c_typing` has. The only
@@ -9,7 +9,6 @@
 mod conditions;
 mod heads;
 mod jumps;
-mod labels;
 mod nodes;
 mod parts;
 

@@ -28,7 +28,7 @@ ghost use Rattle.c_typing.specs.Statements.{
 };
 ghost use Rattle.c_typing.specs.Types.{InFor};
 ghost use Rattle.c_expressions.specs.Said.{IsSaid};
-ghost use Rattle.c_check_declarations.specs.Answers.{IsTree};
+ghost use Rattle.c_check_values.specs.Values.{IsTree};
 ghost use Rattle.c_check_jumps.specs.Answers.{AreHead, AreListed, AreSelected, AreStatements, AreTested};
 ghost use Rattle.c_check_jumps.specs.Together.{joined};
 ghost use Rattle.c_check_statements.specs.Views.{around_of};

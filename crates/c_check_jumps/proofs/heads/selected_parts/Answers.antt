@@ -1,6 +1,6 @@
 use Rattle.c_expressions.proofs.Answered.{pair_said}
-use Rattle.c_check_declarations.specs.Answers.{IsTree}
-use Rattle.c_check_jumps.specs.Answers.{AreLabels}
+use Rattle.c_check_values.specs.Values.{IsTree}
+use Rattle.c_check_labels.specs.Labels.{AreLabels}
 use Rattle.c_check_jumps.proofs.heads.selected_parts.Goals as goal
 
 pub returns : goal.returns

@@ -1,0 +1,2 @@
+mod GivenValues
+mod Pushes
