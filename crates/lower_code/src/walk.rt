@@ -4,7 +4,7 @@ ghost use Rattle.std.specs.Prelude.{◌≡◌, OnOk};
 ghost use Rattle.c_tree.specs.Erased.{statement_of, statements_of};
 ghost use Rattle.lower_code.specs.Walks.{AddsIf, starts_at};
 ghost use Rattle.lower_lines.specs.Statements.{run_of, runs_of, sequence_blocks, sequence_lines};
-ghost use Rattle.lower_pieces.specs.Sites.{context_of};
+ghost use Rattle.lower_moves.specs.Sites.{context_of};
 ghost use Rattle.lower_runs.specs.Views.{after_of, exits_of};
 
 use crate::rows::{next_after, start_labelled};
@@ -16,7 +16,7 @@ use lower_items::{
     again, close_do, close_for, evaluated, go, is_nothing, item, open_do, open_for, open_if,
     open_while, return_value, start_second,
 };
-use lower_pieces::Site;
+use lower_moves::Site;
 use lower_runs::{After, Ahead, Exits, go_onward, start_exit};
 use pcc_base::NoMemory;
 

@@ -10,7 +10,7 @@ use c_tree::{Function, Program};
 use flow_graph::Graph;
 use lower_code::function as lines_of;
 use lower_frames::{arrays_of, widths_of};
-use lower_pieces::Site;
+use lower_moves::Site;
 use pcc_base::NoMemory;
 use std::alloc::Global;
 

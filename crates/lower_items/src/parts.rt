@@ -14,7 +14,7 @@ ghost use Rattle.lower_lines.specs.Statements.{returned_blocks, returned_lines, 
 ghost use Rattle.lower_lines.specs.Statements.{test_blocks_if_any};
 ghost use Rattle.lower_lines.specs.Statements.{test_if_any};
 ghost use Rattle.lower_lines.specs.Variables.{Context};
-ghost use Rattle.lower_pieces.specs.Sites.{context_of};
+ghost use Rattle.lower_moves.specs.Sites.{context_of};
 ghost use Rattle.lower_runs.specs.Views.{after_of};
 
 use crate::items::first_part;
@@ -22,7 +22,7 @@ use c_tree::{Expression, First, Statement};
 use flow_graph::Op;
 use lower_builder::Lines;
 use lower_emit::{emit, returned};
-use lower_pieces::{Site, Wanted};
+use lower_moves::{Site, Wanted};
 use lower_runs::{After, Ahead, start_dead, take_dead, take_exit};
 use pcc_base::NoMemory;
 

@@ -1,25 +1,11 @@
--- What the types of this crate in memory stand for.
+-- What it is that the lines of parts and operands were added.
 use Rattle.std.specs.Prelude.{ℕ, suc, ◌+◌, List, [], ◌∷◌, pos}
 use Rattle.flow_graph.specs.declared.op.Op.TheVariants as op
 use Rattle.lower_lines.specs.Lines.{Line, Start, Emit}
 use Rattle.lower_lines.specs.Variables.{Context}
 use Rattle.lower_builder.specs.Built.{Built, Adds}
-use Rattle.lower_lines.specs.Parts.{Wanted, Dropped, Own, ToLocal, Tests, Part, Operand, target}
-use Rattle.lower_pieces.specs.declared.wanted.Wanted as asked
-use Rattle.lower_pieces.specs.declared.wanted.Wanted.TheVariants as wants
-
-abbrev pub wanted_of : asked.Wanted → Wanted
-wanted_of wants.Dropped = Dropped
-wanted_of wants.Own = Own
-wanted_of (wants.ToLocal local) = ToLocal local
-wanted_of (wants.Tests holds fails) = Tests holds fails
-
--- what is wanted, without the blocks to which control goes: how many blocks lines take doesn't depend on these
-abbrev pub plain : Wanted → Wanted
-plain Dropped = Dropped
-plain Own = Own
-plain (ToLocal local) = ToLocal local
-plain (Tests holds fails) = Tests 0 0
+use Rattle.lower_lines.specs.Parts.{Wanted, Part, Operand, target}
+use Rattle.lower_moves.specs.Views.{plain}
 
 -- the lines of a part were added, and its blocks taken
 abbrev pub AddsPart : Part → ℕ → Wanted → Built → Built → Type 0

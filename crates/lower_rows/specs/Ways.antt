@@ -4,7 +4,8 @@ use Rattle.flow_graph.specs.declared.op.Op.TheVariants as op
 use Rattle.lower_lines.specs.Lines.{Line, Start, Emit}
 use Rattle.lower_lines.specs.Parts.{Wanted, Dropped, Own, ToLocal, Tests}
 use Rattle.lower_lines.specs.Variables.{Context}
-use Rattle.lower_pieces.specs.Views.{truth_end, wanted_of}
+use Rattle.lower_moves.specs.Views.{wanted_of}
+use Rattle.lower_pieces.specs.Views.{truth_end}
 use Rattle.lower_rows.specs.declared.ways.Ways as memory
 
 -- the block of the second operand, those of a value that is true and of one that is false, and what is wanted of it

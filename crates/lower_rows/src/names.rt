@@ -9,18 +9,19 @@ ghost use Rattle.lower_lines.specs.Expressions.{stepped_lines, update_part};
 ghost use Rattle.lower_lines.specs.Expressions.{read_part, AtLocal, AtObject};
 ghost use Rattle.lower_lines.specs.Parts.{tested_blocks, Dropped, Own};
 ghost use Rattle.lower_lines.specs.Variables.{own};
-ghost use Rattle.lower_pieces.specs.Sites.{context_of};
-ghost use Rattle.lower_pieces.specs.Spots.{spot_of};
-ghost use Rattle.lower_pieces.specs.Views.{plain, wanted_of, AddsPart};
+ghost use Rattle.lower_moves.specs.Sites.{context_of};
+ghost use Rattle.lower_moves.specs.Spots.{spot_of};
+ghost use Rattle.lower_moves.specs.Views.{plain, wanted_of};
+ghost use Rattle.lower_pieces.specs.Views.{AddsPart};
 ghost use Rattle.lower_rows.specs.Rows.{applied_part};
 
 use crate::kinds::number_type;
 use crate::rows::{byte_set, narrow_made, put, stored};
 use c_tree::{BinaryOp, IntegerType, StepOp, ValueType};
 use lower_builder::{Lines, plus};
-use lower_pieces::{
-    Site, Spot, Wanted, applied, constant, delivered, local, local_operand, object,
-};
+use lower_leaves::{constant, local, local_operand, object};
+use lower_moves::{Site, Spot, Wanted, delivered};
+use lower_pieces::applied;
 use pcc_base::NoMemory;
 
 /// A local gets what an operator gives of two values.

@@ -9,9 +9,10 @@ ghost use Rattle.lower_lines.specs.Parts.{delivered};
 ghost use Rattle.lower_lines.specs.Variables.{temporary, ForNumber};
 ghost use Rattle.lower_builder.specs.Built.{Adds, Built};
 ghost use Rattle.lower_lines.specs.Expressions.{old_value, read_part, step_part, step_value, Located};
-ghost use Rattle.lower_pieces.specs.Sites.{context_of};
-ghost use Rattle.lower_pieces.specs.Spots.{spot_of};
-ghost use Rattle.lower_pieces.specs.Views.{wanted_of, AddsPart};
+ghost use Rattle.lower_moves.specs.Sites.{context_of};
+ghost use Rattle.lower_moves.specs.Spots.{spot_of};
+ghost use Rattle.lower_moves.specs.Views.{wanted_of};
+ghost use Rattle.lower_pieces.specs.Views.{AddsPart};
 ghost use Rattle.lower_rows.specs.Finding.{Finds};
 ghost use Rattle.lower_rows.specs.Rows.{element_at, element_lines, stepping};
 
@@ -22,7 +23,8 @@ use crate::rows::{element_sum, load_old, loaded, renewed};
 use c_tree::{BinaryOp, IntegerType, StepOp, ValueType};
 use flow_graph::Op;
 use lower_builder::{Lines, plus};
-use lower_pieces::{Site, Spot, Wanted, converted, delivered, local, object};
+use lower_leaves::{local, object};
+use lower_moves::{Site, Spot, Wanted, converted, delivered};
 use pcc_base::NoMemory;
 
 /// The value of a place that was found.

@@ -13,18 +13,18 @@ ghost use Rattle.lower_lines.specs.Lines.{Emit, Start};
 ghost use Rattle.lower_lines.specs.Parts.{bits_of, converted_lines, converting, made, tested_blocks};
 ghost use Rattle.lower_lines.specs.Operators.{computing};
 ghost use Rattle.lower_lines.specs.Variables.{local_spot, own, Spot as Place};
-ghost use Rattle.lower_pieces.specs.Sites.{context_of};
-ghost use Rattle.lower_pieces.specs.Spots.{spot_of};
-ghost use Rattle.lower_pieces.specs.Views.{plain, wanted_of, AddsPart};
+ghost use Rattle.lower_moves.specs.Sites.{context_of};
+ghost use Rattle.lower_moves.specs.Spots.{spot_of};
+ghost use Rattle.lower_moves.specs.Views.{plain, wanted_of};
+ghost use Rattle.lower_pieces.specs.Views.{AddsPart};
 ghost use Rattle.lower_rows.specs.Rows.{applied_part, number_op, renewing};
 
 use c_tree::{BinaryOp, IntegerType, StepOp, ValueType};
 use flow_graph::{Op, Words};
 use lower_builder::{Lines, plus};
-use lower_pieces::{
-    Site, Spot, Wanted, applied, bits_of, computing, converted, converting, copied, delivered,
-    local, target, tested, tested_number,
-};
+use lower_leaves::{bits_of, local};
+use lower_moves::{Site, Spot, Wanted, converted, converting, copied, delivered, target, tested};
+use lower_pieces::{applied, computing, tested_number};
 use pcc_base::NoMemory;
 
 /// An op on one number.

@@ -9,13 +9,14 @@ ghost use Rattle.lower_lines.specs.Lines.{Emit, Start};
 ghost use Rattle.lower_lines.specs.Parts.{bits_of};
 ghost use Rattle.lower_lines.specs.Statements.{reads_none, text_count, zeroing};
 ghost use Rattle.lower_lines.specs.Variables.{own, temporary, ForOld, ForScratch};
-ghost use Rattle.lower_pieces.specs.Sites.{context_of};
+ghost use Rattle.lower_moves.specs.Sites.{context_of};
 ghost use Rattle.lower_runs.specs.Views.{copy_lines, text_lines};
 
 use c_tree::{Expression, IntegerType, ValueType};
 use flow_graph::{Comparison, Op};
 use lower_builder::{Lines, plus};
-use lower_pieces::{Site, bits_of};
+use lower_leaves::bits_of;
+use lower_moves::Site;
 use pcc_base::NoMemory;
 
 /// A local becomes 0 or null.

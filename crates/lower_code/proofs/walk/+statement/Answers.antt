@@ -11,7 +11,7 @@ use Rattle.lower_code.proofs.Switched.{switch-none, switch-some}
 use Rattle.lower_code.proofs.Ordered.{row-first, row-more, row-none}
 use Rattle.lower_items.proofs.Resting.{statements_are}
 use Rattle.lower_lines.specs.Statements.{run_of}
-use Rattle.lower_pieces.specs.Sites.{context_of}
+use Rattle.lower_moves.specs.Sites.{context_of}
 use Rattle.lower_runs.specs.Views.{after_of, exits_of}
 use Rattle.lower_code.proofs.walk.+statement.Goals as goal
 

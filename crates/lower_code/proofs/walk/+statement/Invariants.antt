@@ -3,7 +3,7 @@ use Rattle.std.proofs.Common.{◌-◌, drop, length}
 use Rattle.lower_code.specs.Walks.{starts_at}
 use Rattle.lower_code.proofs.Ordered.{RestsIf, rest_blocks, rest_lines, runs}
 use Rattle.lower_lines.specs.Statements.{sequence_blocks, sequence_lines}
-use Rattle.lower_pieces.specs.Sites.{context_of}
+use Rattle.lower_moves.specs.Sites.{context_of}
 use Rattle.lower_runs.specs.Views.{after_of, exits_of}
 use Rattle.lower_code.proofs.walk.+statement.Given as goal
 

@@ -10,9 +10,10 @@ use Rattle.lower_lines.specs.Expressions as parts
 use Rattle.lower_lines.specs.Expressions.{Located, AtLocal, AtObject, AtAddress, assign_part, element_of, own_blocks}
 use Rattle.lower_lines.specs.Expressions.{parameters_of, part_of, result_lines, target_of, update_part, words_of}
 use Rattle.lower_lines.specs.Parts.{Part, if_stays}
-use Rattle.lower_pieces.specs.Sites.{context_of}
-use Rattle.lower_pieces.specs.Spots.{spot_of}
-use Rattle.lower_pieces.specs.Views.{AddsPart, wanted_of}
+use Rattle.lower_moves.specs.Sites.{context_of}
+use Rattle.lower_moves.specs.Spots.{spot_of}
+use Rattle.lower_moves.specs.Views.{wanted_of}
+use Rattle.lower_pieces.specs.Views.{AddsPart}
 use Rattle.lower_rows.specs.Finding.{AtElement, found_at, located_blocks, located_lines}
 use Rattle.lower_rows.proofs.Naming.{local-assigned, object-updated}
 use Rattle.lower_rows.proofs.Placing.{after-nothing, element-found, element-spot, found-local, found-object}

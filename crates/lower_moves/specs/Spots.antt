@@ -3,7 +3,7 @@ use Rattle.std.specs.Prelude.{ℕ, ◌+◌, List, [], ◌∷◌, length}
 use Rattle.c_tree.specs.Program.{Local}
 use Rattle.lower_lines.specs.Shown.{type_widths}
 use Rattle.lower_lines.specs.Variables.{Spot, typed_spot}
-use Rattle.lower_pieces.specs.declared.spot.Spot as memory
+use Rattle.lower_moves.specs.declared.spot.Spot as memory
 
 abbrev pub spot_of : memory.Spot → Spot
 spot_of s = record { array = s.array; number = s.number }

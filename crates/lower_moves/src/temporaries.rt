@@ -4,8 +4,8 @@ ghost use Rattle.std.specs.Prelude.{◌≡◌, ◌+◌, ◌*◌, IfOk, slice_get
 ghost use Rattle.c_tree.specs.Evaluation.{type_at};
 ghost use Rattle.lower_lines.specs.Variables.{local_spot, local_variables, own, temporary};
 ghost use Rattle.lower_lines.specs.Variables.{ForArray, ForByte, ForNumber, ForOld, ForScratch};
-ghost use Rattle.lower_pieces.specs.Sites.{context_of};
-ghost use Rattle.lower_pieces.specs.Spots.{spot_of};
+ghost use Rattle.lower_moves.specs.Sites.{context_of};
+ghost use Rattle.lower_moves.specs.Spots.{spot_of};
 
 use crate::site::Site;
 use crate::spot::Spot;

@@ -4,8 +4,8 @@ ghost use Rattle.std.specs.Prelude.{◌≡◌, ◌+◌, ◌++◌, ◌∷◌, [],
 ghost use Rattle.c_tree.specs.Erased.{function_of, local_of, program_of};
 ghost use Rattle.lower_lines.specs.Shown.{local_widths, type_widths};
 ghost use Rattle.lower_lines.specs.Variables.{typed_spot};
-ghost use Rattle.lower_pieces.specs.Sites.{context_of};
-ghost use Rattle.lower_pieces.specs.Spots.{spot_of, spots_from};
+ghost use Rattle.lower_moves.specs.Sites.{context_of};
+ghost use Rattle.lower_moves.specs.Spots.{spot_of, spots_from};
 
 use crate::site::Site;
 use crate::spot::Spot;

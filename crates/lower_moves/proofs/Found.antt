@@ -7,8 +7,8 @@ use Rattle.c_tree.specs.Evaluation.{type_of}
 use Rattle.c_tree.specs.Program.{Local}
 use Rattle.lower_lines.specs.Shown.{first_variable, local_widths, type_widths}
 use Rattle.lower_lines.specs.Variables.{Spot, typed_spot}
-use Rattle.lower_pieces.specs.Spots.{spot_of, spots_from}
-use Rattle.lower_pieces.specs.declared.spot.Spot as memory
+use Rattle.lower_moves.specs.Spots.{spot_of, spots_from}
+use Rattle.lower_moves.specs.declared.spot.Spot as memory
 
 get-found : (ls : List Local) (from k : ℕ) (s : Spot) → slice_get (spots_from from ls) k ≡ Some s
     → s ≡ typed_spot (type_of (slice_get ls k)) (from + first_variable ls k)

@@ -3,7 +3,7 @@
 ghost use Rattle.std.specs.Prelude.{◌≡◌, map};
 ghost use Rattle.c_tree.specs.Erased.{function_of};
 ghost use Rattle.lower_lines.specs.Variables.{local_variables};
-ghost use Rattle.lower_pieces.specs.Spots.{spot_of, spots_from};
+ghost use Rattle.lower_moves.specs.Spots.{spot_of, spots_from};
 
 use crate::spot::Spot;
 use c_tree::{Function, Program};

@@ -8,9 +8,9 @@ ghost use Rattle.lower_lines.specs.Expressions.{reading};
 ghost use Rattle.lower_lines.specs.Parts.{converted_lines, converting, delivered, null_lines, number_test};
 ghost use Rattle.lower_lines.specs.Parts.{pointer_test, target, test_blocks, test_lines, tested, tested_blocks};
 ghost use Rattle.lower_lines.specs.Variables.{copied, moved};
-ghost use Rattle.lower_pieces.specs.Sites.{context_of};
-ghost use Rattle.lower_pieces.specs.Spots.{spot_of};
-ghost use Rattle.lower_pieces.specs.Views.{plain, wanted_of};
+ghost use Rattle.lower_moves.specs.Sites.{context_of};
+ghost use Rattle.lower_moves.specs.Spots.{spot_of};
+ghost use Rattle.lower_moves.specs.Views.{plain, wanted_of};
 
 use crate::site::Site;
 use crate::spot::Spot;

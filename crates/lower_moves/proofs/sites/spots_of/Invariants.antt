@@ -1,8 +1,8 @@
 use Rattle.std.proofs.Common.{◌≡◌, ◌+◌, ◌++◌, drop, length, map}
 use Rattle.c_tree.specs.Erased.{local_of}
 use Rattle.lower_lines.specs.Shown.{local_widths}
-use Rattle.lower_pieces.specs.Spots.{spot_of, spots_from}
-use Rattle.lower_pieces.proofs.sites.spots_of.Given as goal
+use Rattle.lower_moves.specs.Spots.{spot_of, spots_from}
+use Rattle.lower_moves.proofs.sites.spots_of.Given as goal
 
 abbrev pub invariant-loop-local : goal.invariant-loop-local
 invariant-loop-local l = record {

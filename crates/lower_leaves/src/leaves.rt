@@ -8,19 +8,17 @@ ghost use Rattle.lower_lines.specs.Expressions.{array_line, constant_part, local
 ghost use Rattle.lower_lines.specs.Expressions.{reading, start_part, AtObject};
 ghost use Rattle.lower_lines.specs.Parts.{bits_of, if_stays, operand, tested_blocks};
 ghost use Rattle.lower_lines.specs.Variables.{local_spot, Context};
-ghost use Rattle.lower_pieces.specs.Sites.{context_of};
-ghost use Rattle.lower_pieces.specs.Spots.{spot_of};
-ghost use Rattle.lower_pieces.specs.Views.{plain, wanted_of, AddsOperand, AddsPart};
+ghost use Rattle.lower_moves.specs.Sites.{context_of};
+ghost use Rattle.lower_moves.specs.Spots.{spot_of};
+ghost use Rattle.lower_moves.specs.Views.{plain, wanted_of};
+ghost use Rattle.lower_pieces.specs.Views.{AddsOperand, AddsPart};
 
-use crate::moves::{reading, target, tested};
-use crate::operators::tested_number;
-use crate::site::Site;
-use crate::spot::Spot;
-use crate::wanted::Wanted;
 use c_operators::convert;
 use c_tree::{ArrayRef, IntegerType, ValueType};
 use flow_graph::{Bits, Op};
 use lower_builder::Lines;
+use lower_moves::{Site, Spot, Wanted, reading, target, tested};
+use lower_pieces::tested_number;
 use pcc_base::NoMemory;
 
 /// How many bits an access to a value of a type has.

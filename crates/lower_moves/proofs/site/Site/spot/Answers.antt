@@ -1,9 +1,9 @@
 use Rattle.std.proofs.Common.{sym, ap, ◌∙◌, List}
 use Rattle.std.specs.Prelude.{slice_get}
 use Rattle.c_tree.specs.Erased.{function_of}
-use Rattle.lower_pieces.proofs.Found.{listed-none, listed-there}
-use Rattle.lower_pieces.specs.declared.spot.Spot as memory
-use Rattle.lower_pieces.proofs.site.Site.spot.Goals as goal
+use Rattle.lower_moves.proofs.Found.{listed-none, listed-there}
+use Rattle.lower_moves.specs.declared.spot.Spot as memory
+use Rattle.lower_moves.proofs.site.Site.spot.Goals as goal
 
 pub returns-in-Some : goal.returns-in-Some
 returns-in-Some c =
