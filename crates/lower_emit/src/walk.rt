@@ -14,7 +14,7 @@ ghost use Rattle.lower_moves.specs.Spots.{spot_of};
 ghost use Rattle.lower_moves.specs.Views.{wanted_of};
 ghost use Rattle.lower_pieces.specs.Views.{AddsOperand, AddsPart};
 ghost use Rattle.lower_rows.specs.Finding.{Finds};
-ghost use Rattle.lower_rows.specs.Rows.{arguments_list, passed_as};
+ghost use Rattle.lower_operands.specs.Rows.{arguments_list, passed_as};
 
 use crate::arguments::all_simple;
 use c_tree::{ArrayRef, BinaryOp, Expression, IntegerType, Place, UnaryOp, ValueType};
@@ -22,12 +22,15 @@ use flow_graph::Words;
 use lower_builder::{Lines, plus};
 use lower_leaves::{constant, if_stays, local, local_operand, object, start};
 use lower_moves::{Site, Spot, Wanted, null_pointer};
+use lower_operands::{
+    NumberOp, byte_set, exit_with, getchar, load_old, narrow_made, number_made, put, renew, store,
+    stored,
+};
 use lower_pieces::{applied, end_truth};
 use lower_rows::{
-    Found, NumberOp, byte_set, call_made, element_at, end_ways, exit_with, getchar, is_simple,
-    join, load_old, narrow_made, number_made, number_type, open_ways, own_blocks, parameter_type,
-    part_type, passed_type, push_words, put, read_found, renew, set_local, set_object, stands,
-    start_joined, step_found, store, stored,
+    Found, call_made, element_at, end_ways, is_simple, join, number_type, open_ways, own_blocks,
+    parameter_type, part_type, passed_type, push_words, read_found, set_local, set_object, stands,
+    start_joined, step_found,
 };
 use pcc_base::NoMemory;
 

@@ -1,4 +1,3 @@
 pub mod Kinds
 pub mod Finding
-pub mod Rows
 pub mod Ways

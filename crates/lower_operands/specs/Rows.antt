@@ -17,8 +17,8 @@ use Rattle.lower_lines.specs.Lines.{Line, Emit}
 use Rattle.lower_lines.specs.Operators.{applied, applied_blocks, computing}
 use Rattle.lower_lines.specs.Parts.{Part, Wanted, bits_of, compound, converted_lines}
 use Rattle.lower_lines.specs.Variables.{Context, ForNumber, Spot, own, temporary}
-use Rattle.lower_rows.specs.declared.rows.NumberOp.{NumberOp}
-use Rattle.lower_rows.specs.declared.rows.NumberOp.TheVariants.{Negate, Complement, Put}
+use Rattle.lower_operands.specs.declared.rows.NumberOp.{NumberOp}
+use Rattle.lower_operands.specs.declared.rows.NumberOp.TheVariants.{Negate, Complement, Put}
 
 -- an operator on two values in variables
 abbrev pub applied_part : Context → ValueType → BinaryOp → ValueType → ValueType → Spot → Spot → Part

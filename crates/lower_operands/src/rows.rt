@@ -17,14 +17,14 @@ ghost use Rattle.lower_moves.specs.Sites.{context_of};
 ghost use Rattle.lower_moves.specs.Spots.{spot_of};
 ghost use Rattle.lower_moves.specs.Views.{plain, wanted_of};
 ghost use Rattle.lower_pieces.specs.Views.{AddsPart};
-ghost use Rattle.lower_rows.specs.Rows.{applied_part, number_op, renewing};
+ghost use Rattle.lower_operands.specs.Rows.{applied_part, number_op, renewing};
 
-use c_tree::{BinaryOp, IntegerType, StepOp, ValueType};
-use flow_graph::{Op, Words};
+use c_tree::{BinaryOp, IntegerType, ValueType};
+use flow_graph::Op;
 use lower_builder::{Lines, plus};
 use lower_leaves::{bits_of, local};
-use lower_moves::{Site, Spot, Wanted, converted, converting, copied, delivered, target, tested};
-use lower_pieces::{applied, computing, tested_number};
+use lower_moves::{Site, Spot, Wanted, converted, converting, copied, target};
+use lower_pieces::{computing, tested_number};
 use pcc_base::NoMemory;
 
 /// An op on one number.
