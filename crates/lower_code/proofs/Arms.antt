@@ -19,7 +19,7 @@ use Rattle.lower_lines.specs.Statements.{loop_blocks, loop_lines, run_of}
 use Rattle.lower_lines.specs.Statements.{test_blocks_if_any}
 use Rattle.lower_lines.specs.Variables.{Context}
 use Rattle.lower_pieces.proofs.Joined.{nothing, two}
-use Rattle.lower_runs.proofs.Chained.{next-to}
+use Rattle.lower_fills.proofs.Chained.{next-to}
 
 -- the flag of before, by another name
 pub since : {old first new : Bool} {s t : Built} {n : ℕ} {ls : List Line} → first ≡ old → AddsIf first new s t n ls

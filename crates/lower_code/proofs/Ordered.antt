@@ -12,7 +12,7 @@ use Rattle.lower_lines.specs.Statements.{After, Exits, Labelled, Run, run_of, ru
 use Rattle.lower_lines.specs.Statements.{started, towards}
 use Rattle.lower_lines.specs.Variables.{Context}
 use Rattle.lower_pieces.proofs.Joined.{counted, lined, nothing, two}
-use Rattle.lower_runs.proofs.Chained.{next-to}
+use Rattle.lower_fills.proofs.Chained.{next-to}
 
 -- ---- blocks that statements start
 

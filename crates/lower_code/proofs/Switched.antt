@@ -22,7 +22,7 @@ use Rattle.lower_lines.specs.Statements.{labelled_from, opening, opening_blocks,
 use Rattle.lower_lines.specs.Statements.{sequence_lines, started, towards}
 use Rattle.lower_lines.specs.Variables.{Context}
 use Rattle.lower_pieces.proofs.Joined.{counted, lined, taken, two}
-use Rattle.lower_runs.proofs.Chained.{behind, next-to, same-next}
+use Rattle.lower_fills.proofs.Chained.{behind, next-to, same-next}
 
 -- ---- up to the body
 

@@ -15,7 +15,7 @@ use Rattle.lower_lines.specs.Statements.{if_run, loop_lines, second_block, secon
 use Rattle.lower_lines.specs.Statements.{test_blocks_if_any, test_if_any}
 use Rattle.lower_lines.specs.Variables.{Context}
 use Rattle.lower_pieces.proofs.Joined.{counted, lined, two}
-use Rattle.lower_runs.proofs.Chained.{behind}
+use Rattle.lower_fills.proofs.Chained.{behind}
 
 -- the start of the block behind a statement, by its number
 pub exit-same : (c : Context) (block : ℕ) (after : After) → exit_lines c (exit_of block after) after

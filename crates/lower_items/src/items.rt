@@ -18,8 +18,8 @@ use c_tree::{Expression, First, Initialiser, IntegerType, Item};
 use flow_graph::Op;
 use lower_builder::Lines;
 use lower_emit::{assign_local, emit, stood};
+use lower_fills::{clear_array, copy_text, reads_none, store_element, zero};
 use lower_moves::{Site, Wanted};
-use lower_runs::{clear_array, copy_text, reads_none, store_element, zero};
 use pcc_base::NoMemory;
 
 /// A local takes the value of its initialiser.

@@ -1,7 +1,7 @@
 use Rattle.std.proofs.Common.{w32}
 use Rattle.std.proofs.lemmas.Int.{to_z-of_z}
-use Rattle.lower_runs.proofs.Chained.{three-numbers}
-use Rattle.lower_runs.proofs.items.prepare_copy.Goals as goal
+use Rattle.lower_fills.proofs.Chained.{three-numbers}
+use Rattle.lower_fills.proofs.items.prepare_copy.Goals as goal
 
 pub returns : goal.returns
 returns c = three-numbers _ _ _ c.args.count _ c.in_ok-to.to c.in_ok-from.from c.in_ok-one.one

@@ -1,7 +1,7 @@
 use Rattle.std.proofs.Common.{rules}
 use Rattle.lower_moves.specs.Sites.{context_of}
-use Rattle.lower_runs.proofs.Chained.{text-whole}
-use Rattle.lower_runs.proofs.items.copy_text.Goals as goal
+use Rattle.lower_fills.proofs.Chained.{text-whole}
+use Rattle.lower_fills.proofs.items.copy_text.Goals as goal
 
 pub returns : goal.returns
 returns c = text-whole (context_of c.args.site.now) c.args.k c.args.t c.args.object c.in_ok-count.count

@@ -10,7 +10,7 @@ ghost use Rattle.lower_lines.specs.Parts.{bits_of};
 ghost use Rattle.lower_lines.specs.Statements.{reads_none, text_count, zeroing};
 ghost use Rattle.lower_lines.specs.Variables.{own, temporary, ForOld, ForScratch};
 ghost use Rattle.lower_moves.specs.Sites.{context_of};
-ghost use Rattle.lower_runs.specs.Views.{copy_lines, text_lines};
+ghost use Rattle.lower_fills.specs.Copies.{copy_lines, text_lines};
 
 use c_tree::{Expression, IntegerType, ValueType};
 use flow_graph::{Comparison, Op};

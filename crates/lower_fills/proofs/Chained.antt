@@ -8,7 +8,7 @@ use Rattle.lower_builder.specs.Built.{Built, Adds}
 use Rattle.lower_lines.specs.Lines.{Line, Start, Emit}
 use Rattle.lower_lines.specs.Statements.{text_count}
 use Rattle.lower_lines.specs.Variables.{Context, ForArray, ForNumber, ForScratch, temporary}
-use Rattle.lower_runs.specs.Views.{copy_lines, text_lines}
+use Rattle.lower_fills.specs.Copies.{copy_lines, text_lines}
 
 -- lines that take no blocks keep the first one that isn't taken
 pub same-next : {s t : Built} {xs : List Line} → Adds s t 0 xs → t.next ≡ s.next
