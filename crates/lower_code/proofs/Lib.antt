@@ -1,7 +1,6 @@
 pub mod Alike
 pub mod Arms
 pub mod Bodies
-mod Cases
 mod Comparisons
 pub mod Ordered
 mod Switched

@@ -1,11 +1,11 @@
 -- Statements in order.
 use Rattle.std.proofs.Common.{◌≡◌, ℕ, zero, suc, ◌+◌, ◌<◌, ◌≤◌, List, [], ◌∷◌, ◌++◌, refl, sym, ap, ◌∙◌, arith}
-use Rattle.std.proofs.Common.{append-nil, drop, length, subst, true, Option, None}
-use Rattle.std.specs.Prelude.{Bool, get_or, slice_index_or}
+use Rattle.std.proofs.Common.{append-nil, drop, length, subst, true}
+use Rattle.std.specs.Prelude.{Bool, get_or}
 use Rattle.c_tree.specs.Erased.{statement_of, statements_of}
 use Rattle.c_tree.specs.declared.statement.Statement.{Statement}
 use Rattle.lower_builder.specs.Built.{Built, Adds}
-use Rattle.lower_code.specs.Walks.{AddsIf, starts_at}
+use Rattle.lower_code.specs.Walks.{AddsIf}
 use Rattle.lower_items.proofs.Resting.{Rests}
 use Rattle.lower_lines.specs.Lines.{Line}
 use Rattle.lower_lines.specs.Statements.{After, Exits, Labelled, Run, run_of, runs_of, sequence_blocks, sequence_lines}
@@ -13,18 +13,6 @@ use Rattle.lower_lines.specs.Statements.{started, towards}
 use Rattle.lower_lines.specs.Variables.{Context}
 use Rattle.lower_pieces.proofs.Joined.{counted, lined, nothing, two}
 use Rattle.lower_fills.proofs.Chained.{next-to}
-
--- ---- blocks that statements start
-
-pub start-there : (starts : List (Option ℕ)) (place : ℕ) → slice_index_or starts place None ≡ starts_at starts place
-start-there [] place = refl
-start-there (x ∷ xs) zero = refl
-start-there (x ∷ xs) (suc place) = start-there xs place
-
-pub start-none : (starts : List (Option ℕ)) (place : ℕ) → length starts ≤ place → None ≡ starts_at starts place
-start-none [] place w = refl
-start-none (x ∷ xs) zero w = absurd (omega (arith, w))
-start-none (x ∷ xs) (suc place) w = start-none xs place (omega (arith, w))
 
 -- ---- the statements from a place on, behind others
 

@@ -8,7 +8,8 @@ use Rattle.c_tree.specs.Erased.{statements_of}
 use Rattle.c_tree.specs.Program as typed
 use Rattle.flow_graph.specs.declared.op.Op.TheVariants as op
 use Rattle.lower_builder.specs.Built.{Built, Adds}
-use Rattle.lower_code.specs.Walks.{AddsIf, has_start, starts_at, switch_blocks, switch_front}
+use Rattle.lower_code.specs.Walks.{AddsIf, has_start, switch_blocks, switch_front}
+use Rattle.lower_labels.specs.Starts.{starts_at}
 use Rattle.lower_code.proofs.Alike.{alike}
 use Rattle.lower_code.proofs.Comparisons.{blocks-same}
 use Rattle.lower_code.proofs.Ordered.{runs}

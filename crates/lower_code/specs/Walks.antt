@@ -1,28 +1,17 @@
 -- What the walk over statements adds.
-use Rattle.std.specs.Prelude.{◌≡◌, ℕ, zero, suc, ◌+◌, Bool, true, false, List, [], ◌∷◌, ◌++◌, Option, Some, None}
+use Rattle.std.specs.Prelude.{◌≡◌, ℕ, ◌+◌, Bool, true, false, List, ◌∷◌, ◌++◌, Option, Some, None}
 use Rattle.c_tree.specs.declared.statement.Label.{Label}
 use Rattle.flow_graph.specs.declared.op.Op.TheVariants as op
 use Rattle.lower_builder.specs.Built.{Built, Adds}
 use Rattle.lower_lines.specs.Lines.{Line, Emit}
 use Rattle.lower_lines.specs.Parts.{Part, operand}
-use Rattle.lower_lines.specs.Statements.{After, Labelled, cases_of, comparing, comparing_blocks, default_block}
+use Rattle.lower_lines.specs.Statements.{After, cases_of, comparing, comparing_blocks, default_block}
 use Rattle.lower_lines.specs.Statements.{exit_blocks, exit_of, labelled_before}
 use Rattle.lower_lines.specs.Variables.{Context}
 
 -- Where the blocks that were named ahead are right behind lines, they are before them, and these lines were added.
 abbrev pub AddsIf : Bool → Bool → Built → Built → ℕ → List Line → Type 0
 AddsIf old new s t blocks lines = new ≡ true → (old ≡ true) × Adds s t blocks lines
-
--- the blocks that statements start, by their places
-abbrev pub starts_at : List (Option ℕ) → Labelled
-starts_at [] place = None
-starts_at (start ∷ starts) zero = start
-starts_at (start ∷ starts) (suc place) = starts_at starts place
-
--- the blocks are those of labelled statements, from one on
-abbrev pub AreStarts : ℕ → List Label → List (Option ℕ) → Type 0
-AreStarts first labels starts = (place block : ℕ) → starts_at starts place ≡ Some block
-    → block ≡ first + labelled_before labels place
 
 abbrev pub has_start : Option ℕ → Bool
 has_start None = false

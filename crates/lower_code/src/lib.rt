@@ -6,8 +6,6 @@
 #![tactic(auto)]
 
 mod functions;
-mod labels;
-mod rows;
 mod switches;
 mod walk;
 

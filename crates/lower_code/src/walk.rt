@@ -2,12 +2,12 @@
 
 ghost use Rattle.std.specs.Prelude.{◌≡◌, OnOk};
 ghost use Rattle.c_tree.specs.Erased.{statement_of, statements_of};
-ghost use Rattle.lower_code.specs.Walks.{AddsIf, starts_at};
+ghost use Rattle.lower_code.specs.Walks.{AddsIf};
+ghost use Rattle.lower_labels.specs.Starts.{starts_at};
 ghost use Rattle.lower_lines.specs.Statements.{run_of, runs_of, sequence_blocks, sequence_lines};
 ghost use Rattle.lower_moves.specs.Sites.{context_of};
 ghost use Rattle.lower_runs.specs.Views.{after_of, exits_of};
 
-use crate::rows::{next_after, start_labelled};
 use crate::switches::{open_body, open_switch};
 use c_tree::Statement;
 use flow_graph::Op;
@@ -16,6 +16,7 @@ use lower_items::{
     again, close_do, close_for, evaluated, go, is_nothing, item, open_do, open_for, open_if,
     open_while, return_value, start_second,
 };
+use lower_labels::{next_after, start_labelled};
 use lower_moves::Site;
 use lower_runs::{After, Ahead, Exits, go_onward, start_exit};
 use pcc_base::NoMemory;

@@ -5,7 +5,8 @@ use Rattle.c_tree.specs.Erased.{expression_of, first_of, statement_of, statement
 use Rattle.c_tree.specs.Program as typed
 use Rattle.c_tree.specs.declared.statement.Statement.{Statement}
 use Rattle.c_tree.specs.declared.statement.Statement.TheViews.{the_lemmas}
-use Rattle.lower_code.specs.Walks.{AddsIf, starts_at}
+use Rattle.lower_code.specs.Walks.{AddsIf}
+use Rattle.lower_labels.specs.Starts.{starts_at}
 use Rattle.lower_code.proofs.Arms.{do-arm, for-arm, if-none-arm, if-some-arm, since, while-arm}
 use Rattle.lower_code.proofs.Switched.{switch-none, switch-some}
 use Rattle.lower_code.proofs.Ordered.{row-first, row-more, row-none}

@@ -2,7 +2,7 @@
 
 ghost use Rattle.std.specs.Prelude.{◌≡◌, ◌<◌, ◌≤◌, OnOk};
 ghost use Rattle.lower_builder.specs.Built.{Adds};
-ghost use Rattle.lower_code.specs.Walks.{starts_at};
+ghost use Rattle.lower_labels.specs.Starts.{starts_at};
 ghost use Rattle.lower_lines.specs.Statements.{started, towards};
 ghost use Rattle.lower_runs.specs.Views.{after_of};
 
@@ -20,8 +20,8 @@ pub(crate) fn block_at(starts: &[Option<u32>], place: usize) -> Option<u32>
     None
 }
 
-/// The start of that block.
-pub(crate) fn start_labelled(
+/// The start of the block that the statement at a place starts, if it has one.
+pub fn start_labelled(
     lines: &mut Lines,
     starts: &[Option<u32>],
     place: usize,
@@ -35,12 +35,7 @@ pub(crate) fn start_labelled(
 }
 
 /// Where control goes before the statement at a place, which is there or isn't.
-pub(crate) fn next_after(
-    starts: &[Option<u32>],
-    place: usize,
-    statements: usize,
-    after: After,
-) -> After
+pub fn next_after(starts: &[Option<u32>], place: usize, statements: usize, after: After) -> After
     ensures inside { place < statements → after_of result ≡ towards (starts_at starts.now place) }
     ensures last { statements ≤ place → after_of result ≡ after_of after }
 {

@@ -1,7 +1,7 @@
 //! Labels of a switch (C99 6.8.1): the blocks of the statements that have some, and the cases.
 
 ghost use Rattle.std.specs.Prelude.{◌≡◌, ◌+◌, ◌<◌, ℕ, false, length, get_or, IfOk};
-ghost use Rattle.lower_code.specs.Walks.{AreStarts, starts_at};
+ghost use Rattle.lower_labels.specs.Starts.{AreStarts, starts_at};
 ghost use Rattle.lower_lines.specs.Statements.{cases_of as all_cases, default_block, has_label, labelled_before};
 ghost use Rattle.lower_lines.specs.Statements.{labelled_from};
 
@@ -45,13 +45,13 @@ fn marked(alloc: Global, labels: &[Label], statements: usize) -> Result<Vec<bool
 
 /// The blocks that statements start, by their places, and how many they are.
 #[derive(Drop)]
-pub(crate) struct Starts {
+pub struct Starts {
     pub blocks: Vec<Option<u32>>,
     pub count: u32,
 }
 
 /// The labelled statements of so many have blocks in their order, from one on.
-pub(crate) fn starts_of(
+pub fn starts_of(
     alloc: Global,
     first: u32,
     labels: &[Label],
@@ -95,7 +95,7 @@ fn block_of(
 }
 
 /// The cases of a switch, each with the block of its statement.
-pub(crate) fn cases_of(
+pub fn cases_of(
     alloc: Global,
     first: u32,
     starts: &[Option<u32>],
@@ -118,7 +118,7 @@ pub(crate) fn cases_of(
 }
 
 /// Where control goes that comes to no case: the `default`, or behind the switch.
-pub(crate) fn otherwise_of(
+pub fn otherwise_of(
     exit: u32,
     first: u32,
     starts: &[Option<u32>],

@@ -1,6 +1,6 @@
 use Rattle.std.proofs.Common.{◌-◌, ◌≡◌, drop, length}
 use Rattle.c_tree.specs.Evaluation.{first_label, is_default}
-use Rattle.lower_code.proofs.labels.otherwise_of.Given as goal
+use Rattle.lower_labels.proofs.labels.otherwise_of.Given as goal
 
 abbrev pub invariant-labels : goal.invariant-labels
 invariant-labels l = first_label is_default (drop l.place l.labels) ≡ first_label is_default l.labels

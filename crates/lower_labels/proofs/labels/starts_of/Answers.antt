@@ -1,10 +1,10 @@
 use Rattle.std.proofs.Common.{rules, arith, sym, get_or, ◌≡◌, ◌∙◌, ◌++◌, ◌∷◌, [], true, false, Some, None, ◌+◌}
 use Rattle.lower_lines.specs.Statements.{has_label}
-use Rattle.lower_code.proofs.Cases.{any-default, count-more, count-same, found, label-none, label-there, size-more}
-use Rattle.lower_code.proofs.Cases.{starts-more}
-use Rattle.lower_code.proofs.labels.starts_of.Goals.{then-index+in_ok-plus+in_ok-push+in_ok-count}
-use Rattle.lower_code.proofs.labels.starts_of.Goals.{else-index+in_ok-push-2}
-use Rattle.lower_code.proofs.labels.starts_of.Goals as goal
+use Rattle.lower_labels.proofs.Cases.{any-default, count-more, count-same, found, label-none, label-there, size-more}
+use Rattle.lower_labels.proofs.Cases.{starts-more}
+use Rattle.lower_labels.proofs.labels.starts_of.Goals.{then-index+in_ok-plus+in_ok-push+in_ok-count}
+use Rattle.lower_labels.proofs.labels.starts_of.Goals.{else-index+in_ok-push-2}
+use Rattle.lower_labels.proofs.labels.starts_of.Goals as goal
 
 pub places-preserved : goal.places-preserved
 places-preserved c = elim c.if-index.branch [

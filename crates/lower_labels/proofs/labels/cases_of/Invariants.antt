@@ -1,6 +1,6 @@
 use Rattle.std.proofs.Common.{◌-◌, ◌≡◌, ◌++◌, drop, length}
 use Rattle.lower_lines.specs.Statements.{cases_of}
-use Rattle.lower_code.proofs.labels.cases_of.Given as goal
+use Rattle.lower_labels.proofs.labels.cases_of.Given as goal
 
 abbrev pub invariant-labels : goal.invariant-labels
 invariant-labels l = l.cases.items ++ cases_of l.first l.labels (drop l.place l.labels)

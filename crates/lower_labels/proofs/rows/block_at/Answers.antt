@@ -1,6 +1,6 @@
 use Rattle.std.proofs.Common.{rules}
-use Rattle.lower_code.proofs.Ordered.{start-none, start-there}
-use Rattle.lower_code.proofs.rows.block_at.Goals as goal
+use Rattle.lower_labels.proofs.Starts.{start-none, start-there}
+use Rattle.lower_labels.proofs.rows.block_at.Goals as goal
 
 pub returns-then-place-starts : goal.returns-then-place-starts
 returns-then-place-starts c = start-there c.args.starts.now c.args.place

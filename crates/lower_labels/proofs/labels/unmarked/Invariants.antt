@@ -1,5 +1,5 @@
 use Rattle.std.proofs.Common.{◌-◌, ◌≡◌, ◌≤◌, ℕ, false, length, get_or}
-use Rattle.lower_code.proofs.labels.unmarked.Given as goal
+use Rattle.lower_labels.proofs.labels.unmarked.Given as goal
 
 abbrev pub invariant-places : goal.invariant-places
 invariant-places l = record {

@@ -1,6 +1,6 @@
 use Rattle.std.proofs.Common.{◌≡◌, ◌<◌, ◌≤◌, ℕ, drop, false, length, get_or}
 use Rattle.lower_lines.specs.Statements.{has_label}
-use Rattle.lower_code.proofs.labels.marked.Given as goal
+use Rattle.lower_labels.proofs.labels.marked.Given as goal
 
 abbrev pub invariant-labels : goal.invariant-labels
 invariant-labels l = record {

@@ -1,7 +1,7 @@
 use Rattle.std.proofs.Common.{◌-◌, ◌≡◌, ◌<◌, ◌≤◌, ℕ, length}
-use Rattle.lower_code.specs.Walks.{starts_at}
+use Rattle.lower_labels.specs.Starts.{starts_at}
 use Rattle.lower_lines.specs.Statements.{labelled_before, labelled_from}
-use Rattle.lower_code.proofs.labels.starts_of.Given as goal
+use Rattle.lower_labels.proofs.labels.starts_of.Given as goal
 
 abbrev pub invariant-places : goal.invariant-places
 invariant-places l = record {
