@@ -1,5 +1,5 @@
 use Rattle.std.proofs.Common.{rules}
-use Rattle.lower_labels.proofs.Starts.{start-none, start-there}
+use Rattle.lower_labels.proofs.Places.{start-none, start-there}
 use Rattle.lower_labels.proofs.rows.block_at.Goals as goal
 
 pub returns-then-place-starts : goal.returns-then-place-starts
