@@ -5,6 +5,7 @@ ghost use Rattle.c_lexer.specs.Tokens.{HasTokens, fresh_after, place_after, toke
 ghost use Rattle.c_lexer.specs.Scans.{IsRefused, piece_of};
 
 use crate::faults::fault_of;
+use crate::recent::Recent;
 use crate::scanner::{Scanned, scan};
 use crate::token::Token;
 use pcc_base::{Fault, Limit, Refusal, Span};
@@ -25,10 +26,13 @@ pub fn lex(alloc: Global, file: u32, text: &[u8], most: usize) -> Result<Vec<Tok
         line: 1,
         col: 1,
     };
+    let Ok(mut met) = Recent::new(alloc) else {
+        return Err(Refusal::NoMemory);
+    };
     let mut fresh = true;
     let mut rest = text;
     while !rest.is_empty() {
-        let (length, scanned) = match scan(alloc, fresh, rest) {
+        let (length, scanned) = match scan(alloc, &mut met, fresh, rest) {
             Ok(Some(found)) => found,
             Ok(None) => return Err(Refusal::Fault(Fault {
                 kind: fault_of(rest),

@@ -11,6 +11,7 @@ mod lexer;
 mod marks;
 mod numbers;
 mod quotes;
+mod recent;
 mod scanner;
 mod skips;
 mod token;

@@ -7,6 +7,7 @@ ghost use Rattle.c_lexer.specs.Scans.{IsScan};
 use crate::marks::mark_at;
 use crate::numbers::number_at;
 use crate::quotes::quote_at;
+use crate::recent::Recent;
 use crate::skips::{hash_at, slash_at, space_at};
 use crate::token::TokenKind;
 use crate::words::word_at;
@@ -24,13 +25,18 @@ pub enum Scanned {
 
 /// The length of the piece that begins the rest of a text, and the piece; None where none begins. The
 /// only refusal is want of memory.
-pub fn scan(alloc: Global, fresh: bool, rest: &[u8]) -> Result<Option<(usize, Scanned)>, NoMemory>
+pub(crate) fn scan(
+    alloc: Global,
+    met: &mut Recent,
+    fresh: bool,
+    rest: &[u8],
+) -> Result<Option<(usize, Scanned)>, NoMemory>
     requires { 0 < length rest.now }
     ensures { IsScan fresh rest.now result }
 {
     let first = rest[0];
     if is_letter(first) {
-        return word_at(alloc, rest);
+        return word_at(alloc, met, rest);
     }
     if starts_number(rest) {
         return Ok(number_at(rest));

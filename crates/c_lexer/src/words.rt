@@ -1,13 +1,14 @@
-ghost use Rattle.std.specs.Prelude.{◌≡◌, ◌≤◌, ◌∷◌, ℕ, List, Bool, IsTrue, length, take, drop, MatchOption, Contains, IfOk};
+ghost use Rattle.std.specs.Prelude.{◌≡◌, ◌≤◌, ◌∷◌, ℕ, List, Bool, IsTrue, length, take, drop, MatchOption, Contains};
 ghost use Rattle.c_lexer.specs.Bytes.{is_letter, is_word_byte};
 ghost use Rattle.c_lexer.specs.Literals.{AllPass, StartsNot};
 ghost use Rattle.c_lexer.specs.Pieces.{IsNoKeyword};
 ghost use Rattle.c_lexer.specs.Scans.{IsScan};
 ghost use Rattle.c_lexer.specs.Spellings.{keyword_text};
 
+use crate::recent::Recent;
 use crate::scanner::Scanned;
 use crate::token::TokenKind;
-use pcc_base::{Keyword, Name, NoMemory};
+use pcc_base::{Keyword, NoMemory};
 use std::alloc::Global;
 
 /// The spelling of a keyword.
@@ -129,17 +130,13 @@ fn word_length(rest: &[u8]) -> usize
     rest.len()
 }
 
-/// The name with these bytes.
-fn name_of(alloc: Global, word: &[u8]) -> Result<Name, NoMemory>
-    ensures { IfOk result (λ n. n ≡ word.now) }
-{
-    let bytes = Vec::from_slice(alloc, word)?;
-    Name::new(alloc, bytes)
-}
-
 /// The identifier or keyword that begins the rest (C99 6.4.1, 6.4.2), and None where it is an `L` before
-/// a quote.
-pub fn word_at(alloc: Global, rest: &[u8]) -> Result<Option<(usize, Scanned)>, NoMemory>
+/// a quote. A name that was met shares its bytes.
+pub(crate) fn word_at(
+    alloc: Global,
+    met: &mut Recent,
+    rest: &[u8],
+) -> Result<Option<(usize, Scanned)>, NoMemory>
     requires { (b : ℕ) × (others : List ℕ) × (rest.now ≡ b ∷ others) × IsTrue (is_letter b) }
     ensures { (fresh : Bool) → IsScan fresh rest.now result }
 {
@@ -150,7 +147,7 @@ pub fn word_at(alloc: Global, rest: &[u8]) -> Result<Option<(usize, Scanned)>, N
     let word = &rest[..length];
     let kind = match keyword_of(word) {
         Some(keyword) => TokenKind::Word(keyword),
-        None => TokenKind::Ident(name_of(alloc, word)?),
+        None => TokenKind::Ident(met.name_of(alloc, word)?),
     };
     Ok(Some((length, Scanned::Token(kind))))
 }

@@ -1,0 +1,61 @@
+//! Names that were met not long ago.
+
+ghost use Rattle.std.specs.Prelude.{◌≡◌, IfOk};
+
+use pcc_base::{Name, NoMemory};
+use std::alloc::Global;
+
+/// How many names are kept.
+const PLACES: usize = 256;
+
+/// Names that were met, one for each place that bytes may have: a name that is met again shares the bytes of the one
+/// before it.
+#[derive(Drop)]
+pub(crate) struct Recent {
+    places: Vec<Option<Name>>,
+}
+
+impl Recent {
+    /// No name so far.
+    pub(crate) fn new(alloc: Global) -> Result<Recent, NoMemory> {
+        let mut places = Vec::with_capacity(alloc, PLACES)?;
+        for _ in 0..PLACES {
+            places.push(None)?;
+        }
+        Ok(Recent { places })
+    }
+
+    /// The name with these bytes.
+    pub(crate) fn name_of(&mut self, alloc: Global, bytes: &[u8]) -> Result<Name, NoMemory>
+        ensures { IfOk result (λ n. n ≡ bytes.now) }
+    {
+        let place = place_of(bytes);
+        if let Some(Some(name)) = self.places.get(place)
+            && name.as_bytes() == bytes
+        {
+            return name.copy();
+        }
+        let name = new_name(alloc, bytes)?;
+        if let Some(kept) = self.places.get_mut(place) {
+            *kept = Some(name.copy()?);
+        }
+        Ok(name)
+    }
+}
+
+/// The place that bytes have.
+fn place_of(bytes: &[u8]) -> usize {
+    let mut sum: u32 = 0;
+    for byte in bytes {
+        sum = sum.wrapping_mul(31).wrapping_add(u32::from(*byte));
+    }
+    sum as usize % PLACES
+}
+
+/// A name that was not met before.
+fn new_name(alloc: Global, bytes: &[u8]) -> Result<Name, NoMemory>
+    ensures { IfOk result (λ n. n ≡ bytes.now) }
+{
+    let bytes = Vec::from_slice(alloc, bytes)?;
+    Name::new(alloc, bytes)
+}
