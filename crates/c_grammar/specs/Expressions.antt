@@ -71,7 +71,7 @@ expr_step (layers.Unary op at e) = Unary op at e.value
 expr_step (layers.Cast of e) =
     Cast of.value.opening of.value.specifiers.items (star_of of.value.pointer) of.value.close e.value
 expr_step (layers.Binary op l at r) = Binary op l.value at r.value
-expr_step (layers.Conditional c q f k s) = Conditional c.value q f.value k s.value
+expr_step (layers.Conditional c f s q k) = Conditional c.value q f.value k s.value
 expr_step (layers.Assignment op l at r) = Assignment op l.value at r.value
 
 -- the tree that a raw expression stands for

@@ -72,13 +72,13 @@ pub enum Expression {
     Cast(Box<TypeName>, Box<Expression>),
     /// an operator of one of the levels of `binary`, or a comma of `expression`
     Binary(BinaryOp, Box<Expression>, Span, Box<Expression>),
-    /// `binary '?' expression ':' conditional`
+    /// `binary '?' expression ':' conditional`: its expressions, and then its tokens, which leaves no room unused
     Conditional {
         condition: Box<Expression>,
-        question: Span,
         first: Box<Expression>,
-        colon: Span,
         second: Box<Expression>,
+        question: Span,
+        colon: Span,
     },
     /// `unary assign-op assignment`
     Assignment(AssignOp, Box<Expression>, Span, Box<Expression>),
