@@ -1,7 +1,7 @@
 //! Raw trees: what a source file is by the grammar alone, before names and types are looked at.
 //!
 //! `RawUnit` is the raw tree of one file. It has one kind of node for each rule of the grammar that makes
-//! one; a node holds its parts in the order of the rule, and the place of each of its own tokens.
+//! one; a node holds its parts, and the place of each of its own tokens.
 #![tactic(auto)]
 
 mod declaration;
