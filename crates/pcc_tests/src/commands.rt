@@ -54,7 +54,7 @@ const SMALL: [Row; 9] = [
 
 /// A source is compiled and its image is run.
 #[test]
-fn compiles_and_runs(rt: HostRuntime) -> Result<(), Fail> {
+fn compiles_and_runs_small(rt: HostRuntime) -> Result<(), Fail> {
     expect_runs(&rt, rt.alloc(), &SMALL)
 }
 

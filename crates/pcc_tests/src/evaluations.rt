@@ -21,56 +21,31 @@ fn expect_evaluations(rt: &impl Abort, alloc: Global, rows: &[Row]) -> Result<()
     Ok(())
 }
 
+/// The tables of programs.
+const TABLES: [&[Row]; 7] = [
+    &ARITHMETIC,
+    &OPERATORS,
+    &STATEMENTS,
+    &CALLS,
+    &POINTERS,
+    &ARRAYS,
+    &WORDS,
+];
+
 #[test]
 fn evaluates(rt: HostRuntime) -> Result<(), Fail> {
-    let alloc = rt.alloc();
-    expect_evaluations(&rt, alloc, &ARITHMETIC)?;
-    expect_evaluations(&rt, alloc, &OPERATORS)?;
-    expect_evaluations(&rt, alloc, &STATEMENTS)?;
-    expect_evaluations(&rt, alloc, &CALLS)
+    for rows in TABLES {
+        expect_evaluations(&rt, rt.alloc(), rows)?;
+    }
+    Ok(())
 }
 
 #[test]
-fn evaluates_arrays(rt: HostRuntime) -> Result<(), Fail> {
-    let alloc = rt.alloc();
-    expect_evaluations(&rt, alloc, &POINTERS)?;
-    expect_evaluations(&rt, alloc, &ARRAYS)?;
-    expect_evaluations(&rt, alloc, &WORDS)
-}
-
-#[test]
-fn runs_arithmetic(rt: HostRuntime) -> Result<(), Fail> {
-    expect_runs(&rt, rt.alloc(), &ARITHMETIC)
-}
-
-#[test]
-fn runs_operators(rt: HostRuntime) -> Result<(), Fail> {
-    expect_runs(&rt, rt.alloc(), &OPERATORS)
-}
-
-#[test]
-fn runs_statements(rt: HostRuntime) -> Result<(), Fail> {
-    expect_runs(&rt, rt.alloc(), &STATEMENTS)
-}
-
-#[test]
-fn runs_calls(rt: HostRuntime) -> Result<(), Fail> {
-    expect_runs(&rt, rt.alloc(), &CALLS)
-}
-
-#[test]
-fn runs_pointers(rt: HostRuntime) -> Result<(), Fail> {
-    expect_runs(&rt, rt.alloc(), &POINTERS)
-}
-
-#[test]
-fn runs_arrays(rt: HostRuntime) -> Result<(), Fail> {
-    expect_runs(&rt, rt.alloc(), &ARRAYS)
-}
-
-#[test]
-fn runs_the_word_counter(rt: HostRuntime) -> Result<(), Fail> {
-    expect_runs(&rt, rt.alloc(), &WORDS)
+fn compiles_and_runs(rt: HostRuntime) -> Result<(), Fail> {
+    for rows in TABLES {
+        expect_runs(&rt, rt.alloc(), rows)?;
+    }
+    Ok(())
 }
 
 /// A frame of exactly the limit, and static objects of exactly theirs.
