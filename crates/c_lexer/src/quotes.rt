@@ -10,9 +10,10 @@ ghost use Rattle.c_lexer.specs.Literals.{simple_escapes};
 ghost use Rattle.c_lexer.specs.Scans.{IsScan};
 
 use crate::numbers::{Radix, base_in, worth_of};
+use crate::recent::new_name;
 use crate::scanner::Scanned;
 use crate::token::TokenKind;
-use pcc_base::{Name, NoMemory};
+use pcc_base::NoMemory;
 use std::alloc::Global;
 
 /// What stands at the front of the rest of a literal: a character with its value and its number of bytes, the
@@ -186,7 +187,7 @@ pub fn quote_at(alloc: Global, rest: &[u8]) -> Result<Option<(usize, Scanned)>, 
         return Ok(None);
     };
     if *quote == b'"' {
-        let text = Name::new(alloc, values)?;
+        let text = new_name(alloc, values)?;
         return Ok(Some((length + 2, Scanned::Token(TokenKind::Text(text)))));
     }
     if values.len() != 1 {

@@ -4,6 +4,7 @@ ghost use Rattle.std.specs.Prelude.{◌≡◌, IfOk};
 
 use pcc_base::{Name, NoMemory};
 use std::alloc::Global;
+use std::rc::Rc;
 
 /// How many names are kept.
 const PLACES: usize = 256;
@@ -35,7 +36,7 @@ impl Recent {
         {
             return name.copy();
         }
-        let name = new_name(alloc, bytes)?;
+        let name = new_name(alloc, Vec::from_slice(alloc, bytes)?)?;
         if let Some(kept) = self.places.get_mut(place) {
             *kept = Some(name.copy()?);
         }
@@ -52,10 +53,10 @@ fn place_of(bytes: &[u8]) -> usize {
     sum as usize % PLACES
 }
 
-/// A name that was not met before.
-fn new_name(alloc: Global, bytes: &[u8]) -> Result<Name, NoMemory>
-    ensures { IfOk result (λ n. n ≡ bytes.now) }
+/// A name that shares its bytes with no other.
+pub(crate) fn new_name(alloc: Global, bytes: Vec<u8>) -> Result<Name, NoMemory>
+    ensures { IfOk result (λ n. n ≡ bytes.items) }
 {
-    let bytes = Vec::from_slice(alloc, bytes)?;
-    Name::new(alloc, bytes)
+    let bytes = Rc::new(alloc, bytes)?;
+    Ok(Name::new(bytes))
 }

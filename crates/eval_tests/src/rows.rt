@@ -7,6 +7,7 @@ use c_tree::{
 use pcc_base::{Name, NoMemory};
 use std::alloc::Global;
 use std::process::Abort;
+use std::rc::Rc;
 use std::test::Fail;
 
 const NULL: Value = Value::Pointer {
@@ -15,7 +16,8 @@ const NULL: Value = Value::Pointer {
 };
 
 fn name(alloc: Global, letter: u8) -> Result<Name, NoMemory> {
-    Name::new(alloc, [letter].to_vec(alloc)?)
+    let bytes = [letter].to_vec(alloc)?;
+    Ok(Name::new(Rc::new(alloc, bytes)?))
 }
 
 /// A function with the locals `char c`, its parameter, `int x` and `int *p`, and the arrays `char s[3]` and `int a[2]`.

@@ -1,8 +1,10 @@
 //! Texts of maps and of their parts, by hand.
 
 use flow_graph::Words;
-use pcc_base::{Name, Width};
+use pcc_base::{Name, NoMemory, Width};
 use pcc_listing::{Line, Named, Standing, print_lines, push_address, push_number};
+use std::alloc::Global;
+use std::rc::Rc;
 use std::test::Fail;
 
 const NUMBERS: [(u64, &str); 4] = [(0, "0"), (7, "7"), (100, "100"), (4294967295, "4294967295")];
@@ -82,15 +84,20 @@ fn call(point: u32, address: u32, to: Option<u32>, function: u32, arguments: Wor
     }
 }
 
+fn name(alloc: Global, text: &[u8]) -> Result<Name, NoMemory> {
+    let bytes = text.to_vec(alloc)?;
+    Ok(Name::new(Rc::new(alloc, bytes)?))
+}
+
 /// Lines of each kind.
 #[test]
 fn each_kind(rt: HostRuntime) -> Result<(), Fail> {
     let alloc = rt.alloc();
     let standings = vec![in alloc; standing(0, 20), standing(2, 28)]?;
-    let main = Name::new(alloc, b"main".to_vec(alloc)?)?;
-    let x1 = Name::new(alloc, b"x1".to_vec(alloc)?)?;
-    let base = Name::new(alloc, b"p".to_vec(alloc)?)?;
-    let index = Name::new(alloc, b"p".to_vec(alloc)?)?;
+    let main = name(alloc, b"main")?;
+    let x1 = name(alloc, b"x1")?;
+    let base = name(alloc, b"p")?;
+    let index = name(alloc, b"p")?;
     let lines = vec![in alloc;
         Line::Object {
             number: 0,

@@ -21,11 +21,10 @@ impl Model for Name {
 
 impl Name {
     /// The name with these bytes.
-    pub fn new(alloc: Global, bytes: Vec<u8>) -> Result<Name, NoMemory>
-        ensures { IfOk result (λ n. n ≡ bytes.items) }
+    pub fn new(bytes: Rc<Vec<u8>>) -> Name
+        ensures { result ≡ bytes.value.items }
     {
-        let bytes = Rc::new(alloc, bytes)?;
-        Ok(Name { bytes })
+        Name { bytes }
     }
 
     /// The same name once more.
