@@ -19,12 +19,11 @@ ghost use Rattle.c_typing.specs.Statements.{
   one_label,
   same_label,
   typed_labels,
-  with_value,
 };
 ghost use Rattle.c_operands.specs.Judged.{IsOperandOf};
 ghost use Rattle.c_expressions.specs.Said.{IsSaid};
 ghost use Rattle.c_check_declarators.specs.Answers.{IsSame};
-ghost use Rattle.c_check_labels.specs.Labels.{AreLabels, AreSeen, AreSoFar, label_behind};
+ghost use Rattle.c_check_labels.specs.Labels.{AreLabels, AreSeen, AreSoFar};
 
 use c_check_declarators::behind;
 use c_check_expressions::expression;

@@ -3,7 +3,7 @@
 ghost use Rattle.std.specs.Prelude.{◌≡◌, [], List, Some, is_some, option_map, true, IfOk, OnOk};
 ghost use Rattle.c_grammar.specs.Declarations.{item_of, value_of};
 ghost use Rattle.c_tree.specs.Program.{Function as Defined};
-ghost use Rattle.c_typing.specs.Checked.{Checked, Note, also, if_fits, value_in};
+ghost use Rattle.c_typing.specs.Checked.{Checked, Note, also, if_fits};
 ghost use Rattle.c_typing.specs.Declarators.{ObjectType as Objects, object_allowed};
 ghost use Rattle.c_typing.specs.Files.{
   after_object,

@@ -1,11 +1,10 @@
 //! What files that fit note, as the outline of a program.
 
 ghost use Rattle.std.specs.Prelude.{◌≡◌, List, map, IfErr, IfOk};
-ghost use Rattle.std.specs.List.{list_any};
 ghost use Rattle.c_grammar.specs.Statements.{ExternalTree};
 ghost use Rattle.c_typing.specs.Library.{number_among};
 ghost use Rattle.c_typing.specs.Numbering.{numbers_of, static_objects};
-ghost use Rattle.c_typing.specs.Typed.{main, no_main, no_numbers, numbers_in, is_main};
+ghost use Rattle.c_typing.specs.Typed.{main, no_main, no_numbers, numbers_in};
 ghost use Rattle.c_expressions.specs.Notes.{note_of};
 ghost use Rattle.c_expressions.specs.Said.{IfFits};
 ghost use Rattle.c_numbering.specs.Tables.{known_of, object_described, AreDefinedOnce, IsKnownOf};

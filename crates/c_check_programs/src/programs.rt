@@ -4,7 +4,6 @@ ghost use Rattle.std.specs.Prelude.{◌≡◌, List, None, map, IfErr, IfOk};
 ghost use Rattle.pcc_base.specs.declared.span.Span.{Span};
 ghost use Rattle.c_grammar.specs.Statements.{ExternalTree};
 ghost use Rattle.c_tree.specs.Erased.{function_of, program_of};
-ghost use Rattle.c_typing.specs.Checked.{Note};
 ghost use Rattle.c_typing.specs.Typed.{checked, limit_of, IsAccepted};
 ghost use Rattle.c_operands.specs.Parts.{Stands};
 ghost use Rattle.c_check_programs.specs.Answers.{AreFunctions, IsRefusal};

@@ -1,7 +1,6 @@
 //! The walk over raw statements, which judges each part once.
 
 ghost use Rattle.std.specs.Prelude.{◌≡◌, [], List, Option, map, IfOk, OnOk};
-ghost use Rattle.c_grammar.specs.Declarations.{declaration_of, maybe_expr_of};
 ghost use Rattle.c_grammar.specs.Statements.{stmt_of, stmts_of};
 ghost use Rattle.c_tree.specs.Program as tree;
 ghost use Rattle.c_tree.specs.Program.{
@@ -11,22 +10,17 @@ ghost use Rattle.c_tree.specs.Program.{
   Statement as TypedStatement,
 };
 ghost use Rattle.c_tree.specs.declared.statement.Label.{Label as TypedLabel};
-ghost use Rattle.c_typing.specs.Checked.{Checked, Note, both, fits, if_fits, pair, three};
-ghost use Rattle.c_typing.specs.Expressions.{typed_if_any};
-ghost use Rattle.c_typing.specs.Names.{entered, left, numbered};
+ghost use Rattle.c_typing.specs.Checked.{Checked, Note, both, fits, pair, three};
+ghost use Rattle.c_typing.specs.Names.{entered, left};
 ghost use Rattle.c_typing.specs.Statements.{
-  after_declaration,
   after_statement,
   after_statements,
   alone,
-  condition_if_any,
   for_loop,
   one,
-  typed_declaration,
   typed_statement,
   typed_statements,
 };
-ghost use Rattle.c_typing.specs.Types.{InFor};
 ghost use Rattle.c_expressions.specs.Said.{IsSaid};
 ghost use Rattle.c_check_values.specs.Values.{IsTree};
 ghost use Rattle.c_check_jumps.specs.Answers.{AreHead, AreListed, AreSelected, AreStatements, AreTested};

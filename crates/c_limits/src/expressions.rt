@@ -1,6 +1,6 @@
 //! How many temporaries an expression takes at once.
 
-ghost use Rattle.std.specs.Prelude.{◌≡◌, ◌+◌, ◌≤◌, suc, map, max, IfOk};
+ghost use Rattle.std.specs.Prelude.{◌≡◌, ◌+◌, map, max, IfOk};
 ghost use Rattle.c_tree.specs.Erased.{expression_of, place_of};
 ghost use Rattle.c_tree.specs.Sizes.{arguments_height, height, place_height};
 ghost use Rattle.c_limits.specs.Lists.{arguments_from};

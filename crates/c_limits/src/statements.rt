@@ -1,8 +1,7 @@
 //! The greatest height of an expression that a statement evaluates.
 
-ghost use Rattle.std.specs.Prelude.{◌≡◌, ◌+◌, map, option_map, IfOk};
-ghost use Rattle.c_tree.specs.Erased.{expression_of, first_of, initialiser_of, item_of, statement_of, statements_of};
-ghost use Rattle.c_tree.specs.Program as typed;
+ghost use Rattle.std.specs.Prelude.{◌≡◌, map, option_map, IfOk};
+ghost use Rattle.c_tree.specs.Erased.{expression_of, first_of, item_of, statement_of, statements_of};
 ghost use Rattle.c_tree.specs.Sizes as sizes;
 ghost use Rattle.c_tree.specs.Sizes.{first_height, highest, item_height, items_height, option_height};
 ghost use Rattle.c_tree.specs.Sizes.{statement_height, statements_height};

@@ -1,4 +1,4 @@
-ghost use Rattle.std.specs.Prelude.{◌≡◌, ◌<◌, ◌≤◌, ◌+◌, ◌^◌, ◌++◌, IsTrue, OnOk, length, vec_len};
+ghost use Rattle.std.specs.Prelude.{◌≡◌, ◌<◌, ◌≤◌, ◌+◌, ◌^◌, ◌++◌, OnOk};
 ghost use Rattle.ia32_asm.specs.Sections.{IsSpelled, is_relative, item_size, target_of};
 ghost use Rattle.ia32_asm.specs.Pieces.{HasEntry, IsPreferred, distance_in, instruction_in, piece, relocations_in};
 

@@ -1,8 +1,8 @@
 //! ModRM, SIB, displacements and immediate numbers (Intel manual, volume 2, section 2.1), each by the bytes
 //! that begin with it. What is found comes with the number of bytes that it takes.
 
-ghost use Rattle.std.specs.Prelude.{◌≡◌, ◌⊎◌, ◌≤◌, ◌<◌, ◌^◌, ℕ, Option, Some, option_map, drop, length, IfSome};
-ghost use Rattle.ia32_insn.specs.Spelling.{high_field, middle_field, low_field, displacement_size};
+ghost use Rattle.std.specs.Prelude.{◌≡◌, ◌⊎◌, ◌≤◌, ◌<◌, ◌^◌, Option, Some, option_map, drop, IfSome};
+ghost use Rattle.ia32_insn.specs.Spelling.{displacement_size};
 ghost use Rattle.ia32_insn.specs.Reading.{
   read_signed,
   read_byte,

@@ -1,13 +1,12 @@
 //! Opcodes of two bytes, after 0F and after 66 (Intel manual, volume 2, table A-3). Each reader answers the
 //! instruction and the length of the whole spelling.
 
-ghost use Rattle.std.specs.Prelude.{◌≡◌, ◌-◌, ◌≤◌, ◌<◌, Some};
+ghost use Rattle.std.specs.Prelude.{◌≡◌, ◌-◌, ◌<◌, Some};
 ghost use Rattle.ia32_insn.specs.declared.insn.Insn.TheVariants.{Jcc};
 ghost use Rattle.ia32_insn.specs.Reading.{
   condition_at,
   extended32_insn,
   extended8_insn,
-  sixteen_insn,
   read_with_signed,
   read_with32,
   read_with8,

@@ -1,6 +1,6 @@
 //! How words and bytes move between places and registers, and what an instruction works on.
 
-ghost use Rattle.std.specs.Prelude.{◌≡◌, ◌∷◌, [], ◌++◌, OnOk};
+ghost use Rattle.std.specs.Prelude.{◌≡◌, ◌++◌, OnOk};
 ghost use Rattle.std.specs.Prelude.{◌%◌};
 ghost use Rattle.std.specs.Int.{w32, cast_unsigned};
 ghost use Rattle.ia32_rows.specs.Rows.{read, write, operate, number_row, copy_row, operation, commuting, pass};

@@ -1,8 +1,7 @@
 //! The row of a call.
 
-ghost use Rattle.std.specs.Prelude.{◌≡◌, ◌<◌, ◌^◌, ◌∷◌, [], ◌++◌, OnOk, length, map, option_map};
-ghost use Rattle.ia32_insn.specs.declared.item.Item.TheVariants as item;
-ghost use Rattle.ia32_rows.specs.Rows.{pass_all, undeepen, drop_words, write_any, before_call, behind_call, call_row};
+ghost use Rattle.std.specs.Prelude.{◌≡◌, ◌<◌, ◌^◌, ◌++◌, OnOk, length, map, option_map};
+ghost use Rattle.ia32_rows.specs.Rows.{pass_all, drop_words, before_call, behind_call, call_row};
 ghost use Rattle.ia32_emit.specs.Locations.{place_of};
 
 use crate::passing::{emit_deepen, emit_undeepen, emit_write_any};

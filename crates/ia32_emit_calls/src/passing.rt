@@ -1,12 +1,12 @@
 //! The rows of what goes to other code and comes back, and the first and last items of a function.
 
-ghost use Rattle.std.specs.Prelude.{◌≡◌, ◌<◌, ◌∷◌, [], ◌++◌, ◌^◌, pos, OnOk, length, map, option_map};
+ghost use Rattle.std.specs.Prelude.{◌≡◌, ◌<◌, ◌∷◌, [], ◌++◌, pos, OnOk, option_map};
 ghost use Rattle.ia32_insn.specs.Items.{plain};
 ghost use Rattle.ia32_insn.specs.declared.insn.Insn.TheVariants as insn;
 ghost use Rattle.ia32_insn.specs.declared.operand.Rm32.TheVariants as rm;
 ghost use Rattle.ia32_regs.specs.declared.names.Reg32.TheVariants as reg;
-ghost use Rattle.ia32_rows.specs.Rows.{putchar_row, getchar_row, exit_row, argument_word, param_row, pass_all, deepen};
-ghost use Rattle.ia32_rows.specs.Rows.{undeepen, drop_words, write_any, before_call, behind_call, call_row, leave};
+ghost use Rattle.ia32_rows.specs.Rows.{putchar_row, getchar_row, exit_row, argument_word, param_row, deepen};
+ghost use Rattle.ia32_rows.specs.Rows.{undeepen, write_any, leave};
 ghost use Rattle.ia32_rows.specs.Rows.{return_row, prologue};
 ghost use Rattle.ia32_shows.specs.Filling.{fill};
 ghost use Rattle.ia32_shows.specs.Placements.{below};

@@ -1,6 +1,6 @@
 //! The rows of ops that compute a value from one or two others.
 
-ghost use Rattle.std.specs.Prelude.{◌≡◌, ◌==◌, ◌||◌, ◌∷◌, [], ◌++◌, OnOk};
+ghost use Rattle.std.specs.Prelude.{◌≡◌, ◌==◌, ◌||◌, ◌++◌, OnOk};
 ghost use Rattle.ia32_insn.specs.declared.insn.Insn.TheVariants as insn;
 ghost use Rattle.ia32_regs.specs.Registers.{number32};
 ghost use Rattle.ia32_regs.specs.declared.names.Reg32.TheVariants.{Eax, Edx};

@@ -1,6 +1,6 @@
 //! A graph over slots: where its variables and its frame arrays stand.
 
-ghost use Rattle.std.specs.Prelude.{◌≡◌, ◌<◌, ◌+◌, ◌^◌, suc, IfOk, length, map, option_map, slice_index_or};
+ghost use Rattle.std.specs.Prelude.{◌≡◌, ◌<◌, ◌+◌, ◌^◌, IfOk, map, option_map, slice_index_or};
 ghost use Rattle.ia32_rows.specs.Rows.{loop_label};
 ghost use Rattle.ia32_emit.specs.Locations.{distance, place_of, slots_of};
 ghost use Rattle.ia32_functions.specs.Sites.{flow_of, place_of_variable};

@@ -1,7 +1,7 @@
 ghost use Rattle.std.specs.Prelude.{◌≡◌, Ok, None};
 ghost use Rattle.ia32_insn.specs.Meaning.{
   and_then,
-  write32 as written32,
+  write32 as written,
   with_flags,
   operate as operated,
   write_result as result_written,
@@ -162,7 +162,7 @@ impl Processor {
 
     /// Changes an operand, and the flags are unknown after it.
     fn change(&mut self, operand: &Rm32, value: u32) -> Result<(), Halt>
-        ensures { Leaves (and_then (written32 operand.now value self.old) (λ t. Ok (with_flags None t))) self.old self.new
+        ensures { Leaves (and_then (written operand.now value self.old) (λ t. Ok (with_flags None t))) self.old self.new
             result }
     {
         self.write32(operand, value)?;

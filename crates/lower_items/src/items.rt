@@ -1,6 +1,6 @@
 //! Declared items and their initialisers (C99 6.7.8).
 
-ghost use Rattle.std.specs.Prelude.{◌≡◌, ◌∷◌, [], ◌++◌, IfOk, OnOk, map, option_map, pos, true, Some};
+ghost use Rattle.std.specs.Prelude.{◌∷◌, [], ◌++◌, OnOk, map, option_map, pos, true, Some};
 ghost use Rattle.c_tree.specs.Erased.{expression_of, first_of, initialiser_of, item_of};
 ghost use Rattle.flow_graph.specs.declared.op.Op.TheVariants as op;
 ghost use Rattle.lower_builder.specs.Built.{Adds};

@@ -1,6 +1,6 @@
 //! What stands in a statement beside other statements (C99 6.8).
 
-ghost use Rattle.std.specs.Prelude.{◌≡◌, ◌+◌, ◌∷◌, [], ◌++◌, suc, IfOk, OnOk, option_map, true, Some};
+ghost use Rattle.std.specs.Prelude.{◌≡◌, ◌+◌, ◌∷◌, [], suc, IfOk, OnOk, option_map, true, Some};
 ghost use Rattle.c_tree.specs.Erased.{expression_of, first_of, statement_of, statements_of};
 ghost use Rattle.flow_graph.specs.declared.op.Op.TheVariants as op;
 ghost use Rattle.lower_builder.specs.Built.{Adds};

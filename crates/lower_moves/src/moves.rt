@@ -1,9 +1,9 @@
 //! Values that stand in variables: copies, tests, conversions, and where a value goes that is wanted.
 
-ghost use Rattle.std.specs.Prelude.{◌≡◌, ◌++◌, ◌∷◌, [], IfOk, OnOk, pos};
+ghost use Rattle.std.specs.Prelude.{◌≡◌, ◌∷◌, [], IfOk, OnOk, pos};
 ghost use Rattle.flow_graph.specs.declared.op.Op.TheVariants as op;
 ghost use Rattle.lower_builder.specs.Built.{Adds};
-ghost use Rattle.lower_lines.specs.Lines.{Emit, Start};
+ghost use Rattle.lower_lines.specs.Lines.{Emit};
 ghost use Rattle.lower_lines.specs.Expressions.{reading};
 ghost use Rattle.lower_lines.specs.Parts.{converted_lines, converting, delivered, null_lines, number_test};
 ghost use Rattle.lower_lines.specs.Parts.{pointer_test, target, test_blocks, test_lines, tested, tested_blocks};

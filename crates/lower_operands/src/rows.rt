@@ -1,23 +1,22 @@
 //! What is done with operands that stand in variables.
 
-ghost use Rattle.std.specs.Prelude.{◌≡◌, ℕ, ◌∷◌, ◌++◌, [], IfOk, OnOk, Option, Some, suc};
+ghost use Rattle.std.specs.Prelude.{◌≡◌, ◌∷◌, ◌++◌, [], IfOk, OnOk};
 ghost use Rattle.c_tree.specs.Program.{int};
 ghost use Rattle.c_tree.specs.declared.types.IntegerType.TheVariants.{Char};
 ghost use Rattle.c_tree.specs.declared.types.ValueType.TheVariants.{Integer};
 ghost use Rattle.flow_graph.specs.declared.op.Op.TheVariants as op;
-ghost use Rattle.lower_builder.specs.Built.{Adds, Built};
-ghost use Rattle.lower_lines.specs.Expressions.{array_kept, element_spot, element_sum, getchar_part, old_value};
-ghost use Rattle.lower_lines.specs.Expressions.{new_value, result_lines, stored_lines, step_value, words_of};
-ghost use Rattle.lower_lines.specs.Expressions.{assigned_local, assigned_object};
+ghost use Rattle.lower_builder.specs.Built.{Adds};
+ghost use Rattle.lower_lines.specs.Expressions.{element_sum, getchar_part, old_value};
+ghost use Rattle.lower_lines.specs.Expressions.{new_value, stored_lines};
 ghost use Rattle.lower_lines.specs.Lines.{Emit, Start};
 ghost use Rattle.lower_lines.specs.Parts.{bits_of, converted_lines, converting, made, tested_blocks};
 ghost use Rattle.lower_lines.specs.Operators.{computing};
-ghost use Rattle.lower_lines.specs.Variables.{local_spot, own, Spot as Place};
+ghost use Rattle.lower_lines.specs.Variables.{local_spot};
 ghost use Rattle.lower_moves.specs.Sites.{context_of};
 ghost use Rattle.lower_moves.specs.Spots.{spot_of};
 ghost use Rattle.lower_moves.specs.Views.{plain, wanted_of};
 ghost use Rattle.lower_pieces.specs.Views.{AddsPart};
-ghost use Rattle.lower_operands.specs.Rows.{applied_part, number_op, renewing};
+ghost use Rattle.lower_operands.specs.Rows.{number_op, renewing};
 
 use c_tree::{BinaryOp, IntegerType, ValueType};
 use flow_graph::Op;

@@ -1,6 +1,6 @@
 //! The start of a call (C99 6.5.2.2p7).
 
-ghost use Rattle.std.specs.Prelude.{◌≡◌, ◌+◌, IfOk, OnOk, map, take};
+ghost use Rattle.std.specs.Prelude.{◌≡◌, ◌+◌, OnOk, map, take};
 ghost use Rattle.c_tree.specs.Erased.{local_of};
 ghost use Rattle.lower_builder.specs.Built.{Adds};
 ghost use Rattle.lower_lines.specs.Programs.{parameter_of, parameters_lines, words_in};

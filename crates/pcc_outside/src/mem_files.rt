@@ -1,5 +1,5 @@
 ghost use Rattle.std.specs.Prelude.{◌≡◌, ◌≢◌, ◌≤◌, ◌↔◌, ℕ, List, None, Some, IfOk, IsErrOf, OnErr, OnOk, option_map};
-ghost use Rattle.std.specs.Prelude.{string_bytes, vec_len};
+ghost use Rattle.std.specs.Prelude.{vec_len};
 ghost use Rattle.std.specs.BTreeMap.{get_by_text};
 ghost use Rattle.pcc_outside.specs.Calls.{FailsNext, ReadRaises, WriteRaises, no_calls, one_more};
 ghost use Rattle.pcc_outside.specs.Files.{CountsRead, CountsWrite, ReadTold, WriteTold};
