@@ -1,8 +1,9 @@
 #!/bin/sh
 # Measures the machine: the steps that it makes in a second over NOPs and over a loop of arithmetic, memory and
 # jumps, the ratio of that loop's time to its time on the processor, the time that it takes to begin, and the time and
-# the memory that it takes to read and load an image of 100 MB. The images are made in a temporary folder, which is
-# removed at the end. It wants python3 and GNU time.
+# the memory that it takes to read and load an image of 100 MB. The loop runs several times, each time behind a loop of
+# additions in registers on the same processor itself, whose times tell how much of it others took meanwhile. The images
+# are made in a temporary folder, which is removed at the end. It wants python3 and GNU time.
 . "$(dirname "$(readlink -f "$0")")/start.sh"
 build_pcc
 
@@ -44,17 +45,40 @@ LOOP = bytes.fromhex(
     "B801000000" "BB00000000" "CD80"
 )
 
+# What GNU as makes of these lines:
+#         movl $300000000, %esi
+#     1:  addl $1, %eax
+#         addl $1, %ebx
+#         addl $1, %ecx
+#         addl $1, %edx
+#         addl $1, %edi
+#         addl $1, %ebp
+#         subl $1, %esi
+#         jne 1b
+#         movl $1, %eax
+#         movl $0, %ebx
+#         int $0x80
+ADDITIONS = bytes.fromhex(
+    "BE00A3E111"
+    "83C001" "83C301" "83C101" "83C201" "83C701" "83C501" "83EE01" "75E9"
+    "B801000000" "BB00000000" "CD80"
+)
+PAIRS = 12
+
+
+def once(name, words, said):
+    """The time of a run of a command, which ends with status 0 and says this."""
+    start = time.perf_counter()
+    ran = subprocess.run(words, stdin=subprocess.DEVNULL, stderr=subprocess.PIPE)
+    taken = time.perf_counter() - start
+    if ran.returncode != 0 or ran.stderr != said:
+        sys.exit(f"bench: {name} ended with {ran.returncode} and {ran.stderr}")
+    return taken
+
 
 def shortest(name, words, said):
     """The shortest time of some runs of a command, which ends with status 0 and says this."""
-    times = []
-    for _ in range(RUNS):
-        start = time.perf_counter()
-        ran = subprocess.run(words, stdin=subprocess.DEVNULL, stderr=subprocess.PIPE)
-        times.append(time.perf_counter() - start)
-        if ran.returncode != 0 or ran.stderr != said:
-            sys.exit(f"bench: {name} ended with {ran.returncode} and {ran.stderr}")
-    return min(times)
+    return min(once(name, words, said) for _ in range(RUNS))
 
 
 def most_bytes(words):
@@ -98,11 +122,20 @@ bare = most_bytes([PROGRAM, "run", f"{ROOM}/begun"])
 full = most_bytes([PROGRAM, "run", f"{ROOM}/loaded"])
 print(f"memory of the machine and its stack: {bare / 1e6:.0f} MB")
 print(f"memory for each byte of an image of {COUNT / 1e6:.0f} MB: {(full - bare) / COUNT:.2f} bytes")
+
+# The loop on one processor of those that may be used, each time behind one of additions in registers.
+os.sched_setaffinity(0, {max(os.sched_getaffinity(0))})
+added_words, looped_words = [written("added", ADDITIONS)], [PROGRAM, "run", written("looped", LOOP)]
+added, looped = [], []
+for _ in range(PAIRS):
+    added.append(once("added", added_words, b""))
+    looped.append(once("looped", looped_words, b"exit 0\n"))
+least, most = min(looped), max(looped)
 begun_there = on_processor("begun there", EXIT)
-looped = seconds("looped", LOOP) - begun
 looped_there = on_processor("looped there", LOOP) - begun_there
 loop_steps = TURNS * TURN_STEPS
-print(f"a loop of arithmetic, memory and jumps, {loop_steps:,} steps: {looped:.2f} s")
-print(f"steps of that loop: {loop_steps / looped / 1e6:.1f} million a second")
-print(f"the same image on the processor: {looped_there:.3f} s, so the machine takes {looped / looped_there:.0f} times as long")
+print(f"a loop of arithmetic, memory and jumps, {loop_steps:,} steps, {PAIRS} times: {least:.2f} s to {most:.2f} s")
+print(f"steps of that loop: {loop_steps / most / 1e6:.1f} to {loop_steps / least / 1e6:.1f} million a second")
+print(f"a loop of additions in registers between them, on the processor: {min(added):.3f} s to {max(added):.3f} s")
+print(f"the same image on the processor: {looped_there:.3f} s, so the machine takes {least / looped_there:.0f} times as long at best")
 PYTHON
