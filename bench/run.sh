@@ -2,7 +2,7 @@
 # Measures the machine: the steps that it makes in a second over NOPs and over a loop of arithmetic, memory and
 # jumps, the ratio of that loop's time to its time on the processor, the time that it takes to begin, and the time and
 # the memory that it takes to read and load an image of 100 MB. The loop runs several times, each time behind a loop of
-# additions in registers on the same processor itself, whose times tell how much of it others took meanwhile. The images
+# additions in registers on the same processor itself, whose times tell how much that varies. The images
 # are made in a temporary folder, which is removed at the end. It wants python3 and GNU time.
 . "$(dirname "$(readlink -f "$0")")/start.sh"
 build_pcc
