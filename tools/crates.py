@@ -1,6 +1,8 @@
 """The crates of crates.txt, for the scripts beside this one."""
 import os
 import re
+import shutil
+import subprocess
 
 TOP = os.path.dirname(os.path.dirname(os.path.abspath(__file__)))
 
@@ -28,3 +30,14 @@ def below(name, rows):
 
     visit(name)
     return order
+
+
+def copy(room, names):
+    """Makes a repository of these crates in an empty folder, without what was built there and without their edits."""
+    with open(f"{TOP}/crates.txt", encoding="utf-8") as old, open(f"{room}/crates.txt", "w", encoding="utf-8") as new:
+        new.writelines(line for line in old if line.partition(":")[0].strip() in names)
+    shutil.copy(f"{TOP}/HANDLES", room)
+    for name in names:
+        shutil.copytree(f"{TOP}/crates/{name}", f"{room}/crates/{name}",
+                        ignore=shutil.ignore_patterns("out", "must-fail"))
+    subprocess.run(["git", "init", "-q", room], check=True)
