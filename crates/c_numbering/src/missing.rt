@@ -15,7 +15,7 @@ ghost use Rattle.c_numbering.specs.Tables.{known_of, IsKnownOf};
 
 use crate::known::Known;
 use c_expressions::Note;
-use c_operands::earlier;
+use c_faults::earlier;
 use c_scopes::{Declared, Entity};
 use c_tree::{IntegerType, ValueType};
 use pcc_base::{Fault, FaultKind};

@@ -18,6 +18,6 @@ pub use choice::conditional;
 pub use judged::{Judged, Operand};
 pub use lvalues::{address, assignment, dereferenced, index, place_named, step};
 pub use one::{assigned, cast, negated, on_number, selected, tested};
-pub use parts::{both, earlier};
+pub use parts::both;
 pub use prefix::unary;
 pub use two::binary;
