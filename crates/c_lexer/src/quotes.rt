@@ -18,7 +18,7 @@ use std::alloc::Global;
 
 /// What stands at the front of the rest of a literal: a character with its value and its number of bytes, the
 /// closing quote, or neither, as where the line ends.
-#[derive(Clone, Copy, Debug)]
+#[derive(Clone, Copy)]
 enum Reading {
     Character(u8, usize),
     Closing,

@@ -15,7 +15,7 @@ use pcc_base::NoMemory;
 use std::alloc::Global;
 
 /// A piece of a text.
-#[derive(Debug, Drop)]
+#[derive(Drop)]
 pub enum Scanned {
     Space,
     Comment,

@@ -4,7 +4,7 @@ use c_syntax::Expression;
 use pcc_base::{Refusal, Span};
 
 /// An expression that was read, and its height.
-#[derive(Debug, Drop)]
+#[derive(Drop)]
 pub struct Found {
     pub tree: Box<Expression>,
     pub height: u32,
@@ -23,7 +23,7 @@ impl Found {
 }
 
 /// Values, the commas between them, and the greatest of their heights.
-#[derive(Debug, Drop)]
+#[derive(Drop)]
 pub struct Values {
     pub values: Vec<Expression>,
     pub commas: Vec<Span>,
@@ -42,14 +42,14 @@ impl Values {
 }
 
 /// One turn of a loop over an expression: one part more, or the end.
-#[derive(Debug, Drop)]
+#[derive(Drop)]
 pub(crate) enum Turn {
     More(Found),
     Last(Found),
 }
 
 /// One turn of a loop over values: one value more, or the end.
-#[derive(Debug, Drop)]
+#[derive(Drop)]
 pub enum ValuesTurn {
     MoreValues(Values),
     LastValues(Values),

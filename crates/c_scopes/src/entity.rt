@@ -7,7 +7,7 @@ use pcc_base::NoMemory;
 use std::alloc::Global;
 
 /// A function of the library, which is known without a declaration (C99 7.19.7.9, 7.19.7.6 and 7.20.4.3).
-#[derive(Clone, Copy, Debug, PartialEq, Eq, Hash)]
+#[derive(Clone, Copy, PartialEq, Eq, Hash)]
 pub enum LibraryFunction {
     Putchar,
     Getchar,
@@ -15,7 +15,7 @@ pub enum LibraryFunction {
 }
 
 /// A function, or an object of static storage.
-#[derive(Debug, PartialEq, Eq, Hash, Drop)]
+#[derive(PartialEq, Eq, Hash, Drop)]
 pub enum Entity {
     Library(LibraryFunction),
     /// Of external linkage: one in all files, by its name (C99 6.2.2p2).

@@ -1,7 +1,7 @@
 //! The library, whose functions are known without a declaration (C99 7.19.7 and 7.20.4).
 
-ghost use Rattle.std.specs.Prelude.{◌≡◌, ◌∷◌, [], IfOk};
-ghost use Rattle.c_typing.specs.Names.{library_names, library_outer, library_signature};
+ghost use Rattle.std.specs.Prelude.{◌≡◌, ◌∷◌, [], IfOk, OnOk};
+ghost use Rattle.c_typing.specs.Names.{library_binding, library_names, library_outer, library_signature};
 ghost use Rattle.c_typing.specs.Library as library;
 ghost use Rattle.c_typing.specs.Library.{Putchar, Getchar, Exit};
 ghost use Rattle.c_typing.specs.Names as names;
@@ -61,35 +61,48 @@ fn outer(alloc: Global, function: LibraryFunction) -> Result<Outer, NoMemory>
     })
 }
 
-/// The names that are seen before a file.
-pub(crate) fn library_names(alloc: Global) -> Result<Names, NoMemory>
-    ensures { IfOk result (λ n. n ≡ library_names) }
+/// Binds the name of a function of the library.
+fn bind_function(
+    alloc: Global,
+    names: &mut Names,
+    name: &[u8],
+    function: LibraryFunction,
+) -> Result<(), NoMemory>
+    ensures { OnOk result (names.new ≡ library_binding name.now (library_of function) ∷ names.old) }
 {
-    let mut names = Names::new(alloc);
-    names.bind(alloc, b"exit", 0, meaning(alloc, LibraryFunction::Exit)?)?;
-    names.bind(
-        alloc,
-        b"getchar",
-        0,
-        meaning(alloc, LibraryFunction::Getchar)?,
-    )?;
-    names.bind(
-        alloc,
-        b"putchar",
-        0,
-        meaning(alloc, LibraryFunction::Putchar)?,
-    )?;
-    Ok(names)
+    let meaning = meaning(alloc, function)?;
+    names.bind(alloc, name, 0, meaning)
 }
 
-/// What is declared outside functions before the first file.
-pub(crate) fn library_outers(alloc: Global) -> Result<Outers, NoMemory>
-    ensures { IfOk result (λ o.
-        o ≡ library_outer Putchar ∷ library_outer Getchar ∷ library_outer Exit ∷ []) }
+/// Binds the names of all functions of the library, which are seen before a file.
+pub(crate) fn bind_functions(alloc: Global, names: &mut Names) -> Result<(), NoMemory>
+    requires { names.old ≡ [] }
+    ensures { OnOk result (names.new ≡ library_names) }
 {
-    let mut outers = Outers::new(alloc);
-    outers.push(alloc, outer(alloc, LibraryFunction::Exit)?)?;
-    outers.push(alloc, outer(alloc, LibraryFunction::Getchar)?)?;
-    outers.push(alloc, outer(alloc, LibraryFunction::Putchar)?)?;
-    Ok(outers)
+    bind_function(alloc, names, b"exit", LibraryFunction::Exit)?;
+    bind_function(alloc, names, b"getchar", LibraryFunction::Getchar)?;
+    bind_function(alloc, names, b"putchar", LibraryFunction::Putchar)
+}
+
+/// Adds a function of the library to what is declared outside functions.
+fn declare_function(
+    alloc: Global,
+    outers: &mut Outers,
+    function: LibraryFunction,
+) -> Result<(), NoMemory>
+    ensures { OnOk result (outers.new ≡ library_outer (library_of function) ∷ outers.old) }
+{
+    let outer = outer(alloc, function)?;
+    outers.push(alloc, outer)
+}
+
+/// Adds all functions of the library to what is declared outside functions, before the first file.
+pub(crate) fn declare_functions(alloc: Global, outers: &mut Outers) -> Result<(), NoMemory>
+    requires { outers.old ≡ [] }
+    ensures { OnOk result (outers.new
+        ≡ library_outer Putchar ∷ library_outer Getchar ∷ library_outer Exit ∷ []) }
+{
+    declare_function(alloc, outers, LibraryFunction::Exit)?;
+    declare_function(alloc, outers, LibraryFunction::Getchar)?;
+    declare_function(alloc, outers, LibraryFunction::Putchar)
 }

@@ -1,7 +1,7 @@
 //! The names that are seen, and how they are seen no more.
 
 ghost use Rattle.std.specs.Prelude.{◌≡◌, ◌-◌, [], ◌∷◌, ◌++◌, drop, length, nat_eq, option_map};
-ghost use Rattle.std.specs.Prelude.{IfNone, IfSome, IsSome, OnOk};
+ghost use Rattle.std.specs.Prelude.{IfNone, IfOk, IfSome, IsSome, OnOk};
 ghost use Rattle.std.specs.Cmp.Lexicographic.{pointwise};
 ghost use Rattle.std.specs.Map.{KeepsOthers};
 ghost use Rattle.indexmap.specs.IndexMap.{get_by};
@@ -50,6 +50,15 @@ impl Model for Names {
     ghost invariant = { λ n. AreChained (reverse n.entries.items)
         × ((name : List ℕ) → get_by (λ k. pointwise nat_eq name k.items) n.places
         ≡ place_of (reverse n.entries.items) name) };
+}
+
+/// Two copies of a name, for its entry and for the table of places.
+fn two_copies(alloc: Global, name: &[u8]) -> Result<(Vec<u8>, Vec<u8>), NoMemory>
+    ensures { IfOk result (λ p. (p.0.items ≡ name.now) × (p.1.items ≡ name.now)) }
+{
+    let first = name.to_vec(alloc)?;
+    let second = name.to_vec(alloc)?;
+    Ok((first, second))
 }
 
 /// Takes the last binding away: its name, and the place of the binding that it hid.
@@ -120,11 +129,11 @@ impl Names {
         ensures { OnOk result (self.new
             ≡ record { name = name.now; depth = depth; meaning = meaning_of meaning } ∷ self.old) }
     {
-        let key = name.to_vec(alloc)?;
+        let (own, key) = two_copies(alloc, name)?;
         let hidden = self.places.get(name).copied();
         let place = self.entries.len();
         self.entries.push(Entry {
-            name: name.to_vec(alloc)?,
+            name: own,
             depth,
             meaning,
             hidden,
@@ -132,7 +141,7 @@ impl Names {
         match self.places.insert(key, place) {
             Ok(_) => Ok(()),
             Err(_) => {
-                self.entries.pop();
+                self.entries.truncate(place);
                 Err(NoMemory)
             }
         }

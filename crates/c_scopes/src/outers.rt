@@ -19,7 +19,7 @@ use std::marker::Model;
 
 /// What is known of all declarations of one thing: the place of the first one, whether another one has another type,
 /// and whether one of them is whole.
-#[derive(Clone, Copy, Debug, PartialEq, Eq)]
+#[derive(Clone, Copy)]
 pub(crate) struct Seen {
     first: usize,
     mixed: bool,
@@ -122,11 +122,12 @@ impl Outers {
     {
         let key = outer.entity.copy(alloc)?;
         let seen = summed(&self.list, &self.seen, &outer);
+        let place = self.list.len();
         self.list.push(outer)?;
         match self.seen.insert(key, seen) {
             Ok(_) => Ok(()),
             Err(_) => {
-                self.list.pop();
+                self.list.truncate(place);
                 Err(NoMemory)
             }
         }

@@ -37,7 +37,7 @@ ghost use Rattle.c_typing.specs.Files.{with_outer};
 ghost use Rattle.c_scopes.specs.Views as views;
 
 use crate::entity::Entity;
-use crate::library::{library_names, library_outers};
+use crate::library::{bind_functions, declare_functions};
 use crate::linkage::{as_before, entity_meant, external, is_function, is_other};
 use crate::meaning::{Declared, Meaning, Outer, Storage};
 use crate::names::Names;
@@ -49,7 +49,7 @@ use std::alloc::Global;
 use std::marker::Model;
 
 /// Where a scope was opened: how many names were seen, and how many scopes were around the place.
-#[derive(Clone, Copy, Debug, PartialEq, Eq)]
+#[derive(Clone, Copy)]
 pub struct Mark {
     pub names: usize,
     pub depth: u32,
@@ -92,22 +92,51 @@ impl Model for Scopes {
 }
 
 impl Scopes {
-    /// Before the first file, where objects and functions have these numbers.
-    pub fn new(alloc: Global, numbers: Numbers) -> Result<Scopes, NoMemory>
-        ensures { IfOk result (λ s. s ≡ first_scope numbers) }
+    /// Where nothing is known but the numbers of objects and functions.
+    fn empty(alloc: Global, numbers: Numbers) -> Scopes
+        ensures { result ≡ record {
+          numbers = numbers;
+          file = 0;
+          outer = [];
+          names = [];
+          depth = 0;
+          locals = [];
+          arrays = [];
+          next = 0;
+        } }
     {
-        let outers = library_outers(alloc)?;
-        let names = library_names(alloc)?;
-        Ok(Scopes {
+        Scopes {
             numbers,
             file: 0,
-            outers,
-            names,
+            outers: Outers::new(alloc),
+            names: Names::new(alloc),
             depth: 0,
             locals: Vec::new(alloc),
             arrays: Vec::new(alloc),
             next: 0,
-        })
+        }
+    }
+
+    /// Declares the library before the first file.
+    fn declare_library(&mut self, alloc: Global) -> Result<(), NoMemory>
+        requires names { self.old.names ≡ [] }
+        requires outer { self.old.outer ≡ [] }
+        ensures { OnOk result (self.new ≡ record self.old {
+          outer = (first_scope self.old.numbers).outer;
+          names = (first_scope self.old.numbers).names;
+        }) }
+    {
+        declare_functions(alloc, &mut self.outers)?;
+        bind_functions(alloc, &mut self.names)
+    }
+
+    /// Before the first file, where objects and functions have these numbers.
+    pub fn new(alloc: Global, numbers: Numbers) -> Result<Scopes, NoMemory>
+        ensures { IfOk result (λ s. s ≡ first_scope numbers) }
+    {
+        let mut scopes = Scopes::empty(alloc, numbers);
+        scopes.declare_library(alloc)?;
+        Ok(scopes)
     }
 
     /// Before the next file, which sees nothing of this one but what is shared.
@@ -115,7 +144,8 @@ impl Scopes {
         ensures { OnOk result (self.new ≡ next_file self.old) }
     {
         let file = number(self.file as usize + 1)?;
-        self.names = library_names(alloc)?;
+        self.names.forget_until(0);
+        bind_functions(alloc, &mut self.names)?;
         self.file = file;
         Ok(())
     }

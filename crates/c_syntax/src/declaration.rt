@@ -2,7 +2,7 @@ use crate::expression::{Expression, Identifier, Pointer, Specifier};
 use pcc_base::Span;
 
 /// `'[' conditional? ']'`
-#[derive(Debug, Drop)]
+#[derive(Drop)]
 pub struct ArrayPart {
     pub opening: Span,
     pub size: Option<Expression>,
@@ -10,7 +10,7 @@ pub struct ArrayPart {
 }
 
 /// `parameter : specifiers pointer? ident? ('[' conditional? ']')?`
-#[derive(Debug, Drop)]
+#[derive(Drop)]
 pub struct Parameter {
     pub specifiers: Vec<Specifier>,
     pub pointer: Option<Pointer>,
@@ -19,7 +19,7 @@ pub struct Parameter {
 }
 
 /// `'(' parameters? ')'`, and the commas between the parameters
-#[derive(Debug, Drop)]
+#[derive(Drop)]
 pub struct ParametersPart {
     pub opening: Span,
     pub parameters: Vec<Parameter>,
@@ -28,7 +28,7 @@ pub struct ParametersPart {
 }
 
 /// What stands behind the name of a declarator.
-#[derive(Debug, Drop)]
+#[derive(Drop)]
 pub enum DeclaratorPart {
     Plain,
     Array(ArrayPart),
@@ -36,7 +36,7 @@ pub enum DeclaratorPart {
 }
 
 /// `declarator : pointer? ident ('[' conditional? ']' | '(' parameters? ')')?`
-#[derive(Debug, Drop)]
+#[derive(Drop)]
 pub struct Declarator {
     pub pointer: Option<Pointer>,
     pub name: Identifier,
@@ -45,7 +45,7 @@ pub struct Declarator {
 
 /// `initialiser : assignment | '{' assignment (',' assignment)* ','? '}'`: of a list the commas between the
 /// values, and the one behind the last value.
-#[derive(Debug, Drop)]
+#[derive(Drop)]
 pub enum Initialiser {
     Single(Expression),
     List {
@@ -58,21 +58,21 @@ pub enum Initialiser {
 }
 
 /// `'=' initialiser`
-#[derive(Debug, Drop)]
+#[derive(Drop)]
 pub struct InitialiserPart {
     pub equal: Span,
     pub value: Initialiser,
 }
 
 /// `item : declarator ('=' initialiser)?`
-#[derive(Debug, Drop)]
+#[derive(Drop)]
 pub struct Item {
     pub declarator: Declarator,
     pub initialiser: Option<InitialiserPart>,
 }
 
 /// `declaration : specifiers item (',' item)* ';'` (C99 6.7)
-#[derive(Debug, Drop)]
+#[derive(Drop)]
 pub struct Declaration {
     pub specifiers: Vec<Specifier>,
     pub items: Vec<Item>,

@@ -2,35 +2,35 @@ use crate::operator::{AssignOp, BinaryOp, SpecifierWord, StepOp, UnaryOp};
 use pcc_base::{Name, Span};
 
 /// An identifier, and where it stands.
-#[derive(Debug, Drop)]
+#[derive(Drop)]
 pub struct Identifier {
     pub name: Name,
     pub at: Span,
 }
 
 /// A specifier, and where it stands.
-#[derive(Clone, Copy, Debug, PartialEq, Eq)]
+#[derive(Clone, Copy)]
 pub struct Specifier {
     pub word: SpecifierWord,
     pub at: Span,
 }
 
 /// `pointer : '*' 'const'*`
-#[derive(Debug, Drop)]
+#[derive(Drop)]
 pub struct Pointer {
     pub star: Span,
     pub consts: Vec<Span>,
 }
 
 /// One of the string literals that stand one after the other.
-#[derive(Debug, Drop)]
+#[derive(Drop)]
 pub struct TextPiece {
     pub bytes: Name,
     pub at: Span,
 }
 
 /// What a call has beside its arguments: the function, and the commas between the arguments.
-#[derive(Debug, Drop)]
+#[derive(Drop)]
 pub struct CallParts {
     pub function: Identifier,
     pub opening: Span,
@@ -39,7 +39,7 @@ pub struct CallParts {
 }
 
 /// The type name of a cast: `'(' specifiers pointer? ')'` (C99 6.7.6)
-#[derive(Debug, Drop)]
+#[derive(Drop)]
 pub struct TypeName {
     pub opening: Span,
     pub specifiers: Vec<Specifier>,
@@ -48,7 +48,7 @@ pub struct TypeName {
 }
 
 /// An expression (C99 6.5). The parts of its largest nodes are in boxes, so that the others take less room.
-#[derive(Debug, Drop)]
+#[derive(Drop)]
 pub enum Expression {
     /// `ident`
     Identifier(Identifier),

@@ -3,14 +3,14 @@ use crate::expression::Expression;
 use pcc_base::Span;
 
 /// `label : 'case' conditional ':' | 'default' ':'` (C99 6.8.1)
-#[derive(Debug, Drop)]
+#[derive(Drop)]
 pub enum Label {
     Case(Span, Expression, Span),
     Default(Span, Span),
 }
 
 /// What an `if` with an `else` has beside its statements.
-#[derive(Debug, Drop)]
+#[derive(Drop)]
 pub struct IfElseParts {
     pub at: Span,
     pub opening: Span,
@@ -20,7 +20,7 @@ pub struct IfElseParts {
 }
 
 /// What a `do` has beside its body.
-#[derive(Debug, Drop)]
+#[derive(Drop)]
 pub struct DoParts {
     pub at: Span,
     pub until: Span,
@@ -31,7 +31,7 @@ pub struct DoParts {
 }
 
 /// What a `for` has beside its body.
-#[derive(Debug, Drop)]
+#[derive(Drop)]
 pub struct ForParts {
     pub at: Span,
     pub opening: Span,
@@ -44,7 +44,7 @@ pub struct ForParts {
 }
 
 /// What a `for` with a declaration has beside its body.
-#[derive(Debug, Drop)]
+#[derive(Drop)]
 pub struct ForDeclarationParts {
     pub at: Span,
     pub opening: Span,
@@ -56,7 +56,7 @@ pub struct ForDeclarationParts {
 }
 
 /// What a `switch` has beside its statements.
-#[derive(Debug, Drop)]
+#[derive(Drop)]
 pub struct SwitchParts {
     pub at: Span,
     pub opening: Span,
@@ -68,7 +68,7 @@ pub struct SwitchParts {
 
 /// A statement (C99 6.8). In a block a declaration may stand for one, and in a switch a statement with its
 /// labels. The parts of its largest nodes are in boxes, so that the others take less room.
-#[derive(Debug, Drop)]
+#[derive(Drop)]
 pub enum Statement {
     /// A declaration, in a block alone (C99 6.8.2)
     Declaration(Declaration),

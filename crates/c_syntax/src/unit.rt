@@ -3,7 +3,7 @@ use crate::expression::Specifier;
 use crate::statement::Statement;
 
 /// An external declaration (C99 6.9).
-#[derive(Debug, Drop)]
+#[derive(Drop)]
 pub enum External {
     /// `specifiers pointer? ident '(' parameters? ')' block`: the declarator is a function's, and the body
     /// a block.
@@ -16,7 +16,7 @@ pub enum External {
 }
 
 /// The raw tree of one file: `unit : external*`.
-#[derive(Debug, Drop)]
+#[derive(Drop)]
 pub struct RawUnit {
     pub externals: Vec<External>,
 }
