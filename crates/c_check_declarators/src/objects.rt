@@ -17,7 +17,7 @@ use pcc_base::{Fault, FaultKind, NoMemory, Span};
 use std::alloc::Global;
 
 /// The types that objects have: an integer, a pointer by its element, an array by its element and how many there are.
-#[derive(Clone, Copy, Debug, PartialEq, Eq)]
+#[derive(Clone, Copy)]
 pub enum ObjectType {
     Integer(IntegerType),
     Pointer(IntegerType),

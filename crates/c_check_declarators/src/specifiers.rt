@@ -18,7 +18,7 @@ use c_tree::ValueType;
 use pcc_base::{Fault, FaultKind};
 
 /// Where specifiers stand: outside functions, in a block, in a `for`, in a list of parameters, or in a cast.
-#[derive(Clone, Copy, Debug, PartialEq, Eq)]
+#[derive(Clone, Copy)]
 pub enum Position {
     Outside,
     InBlock,
@@ -28,7 +28,7 @@ pub enum Position {
 }
 
 /// What specifiers say: void or an integer type, and the storage word.
-#[derive(Clone, Copy, Debug, PartialEq, Eq)]
+#[derive(Clone, Copy)]
 pub struct Specified {
     pub base: ValueType,
     pub storage: Storage,

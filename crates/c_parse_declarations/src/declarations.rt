@@ -25,11 +25,16 @@ fn item_behind(
     ensures { IsPartRead item_of (item_behind (below height.levels) (declarator_of declarator)) cursor.old.rest.now
         cursor.new.rest.now result }
 {
-    let initialiser = maybe_value(cursor, height)?;
-    Ok(Item {
-        declarator,
-        initialiser,
-    })
+    match maybe_value(cursor, height) {
+        Ok(initialiser) => Ok(Item {
+            declarator,
+            initialiser,
+        }),
+        Err(refusal) => {
+            drop(declarator);
+            Err(refusal)
+        }
+    }
 }
 
 /// `item : declarator ('=' initialiser)?`

@@ -78,6 +78,7 @@ pub(crate) fn array_behind(
 {
     let size = maybe(cursor, Rule::Conditional, Punct::RightBracket, height)?;
     let Some(close) = cursor.take_mark(Punct::RightBracket) else {
+        drop(size);
         return Err(cursor.refusal(FaultKind::Syntax));
     };
     Ok(ArrayPart {

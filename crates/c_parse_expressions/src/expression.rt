@@ -27,7 +27,7 @@ const LOOSEST: usize = 10;
 const COMMA: usize = 13;
 
 /// A rule whose trees stand below nodes of other rules.
-#[derive(Clone, Copy, Debug, PartialEq, Eq)]
+#[derive(Clone, Copy)]
 pub enum Rule {
     Expression,
     Assignment,

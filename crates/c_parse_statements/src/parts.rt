@@ -120,6 +120,7 @@ pub(crate) fn take_clause(
 {
     let value = maybe(cursor, Rule::Expression, mark, height)?;
     let Some(mark) = cursor.take_mark(mark) else {
+        drop(value);
         return Err(cursor.refusal(FaultKind::Syntax));
     };
     Ok(Clause { value, mark })

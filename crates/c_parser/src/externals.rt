@@ -1,8 +1,9 @@
 //! External declarations, and the unit of a file.
 
-ghost use Rattle.std.specs.Prelude.{◌≡◌, [], IfOk};
-ghost use Rattle.c_grammar.specs.Declarations.{part_of};
-ghost use Rattle.c_grammar.specs.Statements.{external_of, unit_of};
+ghost use Rattle.std.specs.Prelude.{◌≡◌, [], IfOk, Some};
+ghost use Rattle.c_grammar.specs.Chains.{then_read};
+ghost use Rattle.c_grammar.specs.Declarations.{declarator_of, part_of};
+ghost use Rattle.c_grammar.specs.Statements.{external_of, unit_of, FunctionTree};
 ghost use Rattle.c_grammar.specs.StatementReading.{has_parameters, read_external, read_unit};
 ghost use Rattle.c_cursor.specs.Readings.{IsRead, IsPartRead};
 ghost use Rattle.c_parse_statements.specs.Parts.{below_node};
@@ -11,7 +12,7 @@ use c_cursor::{Cursor, Height, push};
 use c_lexer::Punct;
 use c_parse_declarations::{declaration_behind, declarator, some_specifiers};
 use c_parse_statements::statement_below;
-use c_syntax::{DeclaratorPart, External, RawUnit};
+use c_syntax::{Declarator, DeclaratorPart, External, RawUnit, Specifier};
 use pcc_base::Refusal;
 
 /// Whether a declarator with this part is a function's.
@@ -24,6 +25,30 @@ fn is_function(part: &DeclaratorPart) -> bool
     }
 }
 
+/// `block`, behind the specifiers and the declarator of a function
+fn function_behind(
+    cursor: &mut Cursor<'_>,
+    specifiers: Vec<Specifier>,
+    declarator: Declarator,
+    height: Height,
+) -> Result<External, Refusal>
+    ensures { IsRead external_of (λ ts. then_read ((below_node height.levels).statement ts)
+        (λ body us. Some (FunctionTree specifiers.items (declarator_of declarator) body, us)))
+        cursor.old.rest.now cursor.new.rest.now result }
+{
+    match statement_below(cursor, height) {
+        Ok(body) => Ok(External::Function {
+            specifiers,
+            declarator,
+            body,
+        }),
+        Err(refusal) => {
+            drop(declarator);
+            Err(refusal)
+        }
+    }
+}
+
 /// `external : specifiers pointer? ident '(' parameters? ')' block | declaration` (C99 6.9), in a unit with
 /// nodes of less than this height and such a declaration
 fn external(cursor: &mut Cursor<'_>, height: Height) -> Result<External, Refusal>
@@ -33,12 +58,7 @@ fn external(cursor: &mut Cursor<'_>, height: Height) -> Result<External, Refusal
     let specifiers = some_specifiers(cursor)?;
     let declarator = declarator(cursor, height)?;
     if is_function(&declarator.part) && cursor.at_mark(Punct::LeftBrace) {
-        let body = statement_below(cursor, height)?;
-        return Ok(External::Function {
-            specifiers,
-            declarator,
-            body,
-        });
+        return function_behind(cursor, specifiers, declarator, height);
     }
     let declaration = declaration_behind(cursor, specifiers, declarator, height)?;
     Ok(External::Declaration(declaration))
