@@ -19,7 +19,6 @@ fn take_label(cursor: &mut Cursor<'_>, lower: Height) -> Result<Option<Label>, R
     if let Some(at) = cursor.take_word(Keyword::Case) {
         let value = tree_of(cursor, Rule::Conditional, lower)?;
         let Some(colon) = cursor.take_mark(Punct::Colon) else {
-            drop(value);
             return Err(cursor.refusal(FaultKind::Syntax));
         };
         return Ok(Some(Label::Case(at, Box::into_inner(value.tree), colon)));

@@ -235,14 +235,17 @@ fn declaration_below(cursor: &mut Cursor<'_>, height: Height) -> Result<Declarat
 
 /// Whether a statement begins with this word.
 fn begins_statement(word: Keyword) -> bool {
-    word == Keyword::If
-        || word == Keyword::While
-        || word == Keyword::Do
-        || word == Keyword::For
-        || word == Keyword::Switch
-        || word == Keyword::Break
-        || word == Keyword::Continue
-        || word == Keyword::Return
+    matches!(
+        word,
+        Keyword::If
+            | Keyword::While
+            | Keyword::Do
+            | Keyword::For
+            | Keyword::Switch
+            | Keyword::Break
+            | Keyword::Continue
+            | Keyword::Return
+    )
 }
 
 /// Whether a statement may begin with this token.
