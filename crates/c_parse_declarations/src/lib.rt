@@ -1,5 +1,8 @@
 //! Declarations: tokens in, the raw tree of the declaration at their front out, or the place where no
 //! declaration goes on.
+//!
+//! Where a later part is refused, an earlier one that holds a tree is dropped by a call of `drop`: a drop in place is
+//! proved over again, through each kind of node, in each function that has one.
 #![tactic(auto)]
 
 mod declarations;

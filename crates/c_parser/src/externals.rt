@@ -25,7 +25,8 @@ fn is_function(part: &DeclaratorPart) -> bool
     }
 }
 
-/// `block`, behind the specifiers and the declarator of a function
+/// `block`, behind the specifiers and the declarator of a function. The declarator is dropped by a call, since a drop
+/// in place is proved over again through each kind of node.
 fn function_behind(
     cursor: &mut Cursor<'_>,
     specifiers: Vec<Specifier>,
