@@ -8,12 +8,13 @@ use Rattle.c_grammar.specs.Chains.{Step, Done, Goes, Reads}
 use Rattle.c_grammar.specs.Reading as reading
 use Rattle.c_grammar.specs.Reading.{Readers, readers}
 use Rattle.c_cursor.specs.Readings.{Refused, RefusedStep}
-use Rattle.c_parse_expressions.specs.declared.found.Values.{Values}
-use Rattle.c_parse_expressions.specs.declared.found.Found.{Found}
-use Rattle.c_parse_expressions.specs.declared.found.Turn.{Turn}
-use Rattle.c_parse_expressions.specs.declared.found.Turn.TheVariants.{More, Last}
-use Rattle.c_parse_expressions.specs.declared.found.ValuesTurn.{ValuesTurn}
-use Rattle.c_parse_expressions.specs.declared.found.ValuesTurn.TheVariants.{MoreValues, LastValues}
+use Rattle.c_expression_nodes.specs.declared.found.Values.{Values}
+use Rattle.c_expression_nodes.specs.Values.{values_of, height_of_values}
+use Rattle.c_expression_nodes.specs.declared.found.Found.{Found}
+use Rattle.c_parse_expressions.specs.declared.turn.Turn.{Turn}
+use Rattle.c_parse_expressions.specs.declared.turn.Turn.TheVariants.{More, Last}
+use Rattle.c_parse_expressions.specs.declared.turn.ValuesTurn.{ValuesTurn}
+use Rattle.c_parse_expressions.specs.declared.turn.ValuesTurn.TheVariants.{MoreValues, LastValues}
 use Rattle.c_parse_expressions.specs.declared.expression.Rule.{Rule}
 use Rattle.c_parse_expressions.specs.declared.expression.Rule.TheVariants.{Expression, Assignment, Conditional, Binary}
 use Rattle.c_parse_expressions.specs.declared.expression.Rule.TheVariants.{Cast}
@@ -43,13 +44,6 @@ IsTurn height step was old new (Ok (More f)) =
 IsTurn height step was old new (Ok (Last f)) = (step ≡ Done) × (expr_of f.tree.value ≡ was)
     × (f.height ≡ expr_height was) × (new ≡ old)
 IsTurn height step was old new (Err e) = RefusedStep step e
-
--- several values and the commas between them
-abbrev pub values_of : Values → reading.Values
-values_of v = (map expr_of v.values.items, v.commas.items)
-
-abbrev pub height_of_values : Values → ℕ
-height_of_values v = exprs_height (exprs_of (map expr_of v.values.items))
 
 -- the values that a reader finds, each less high than this, and the tokens behind them
 abbrev pub AreValues : ℕ → (List Token → Reads reading.Values) → List Token → List Token → Result Values Refusal

@@ -10,12 +10,12 @@ ghost use Rattle.c_grammar.specs.Taking.{take_specifiers, take_pointer};
 ghost use Rattle.c_grammar.specs.Chains.{chained};
 ghost use Rattle.c_parse_expressions.specs.Readings.{IsReading, IsPartReading, IsTurn, IsRule, below, reader_of};
 
-use crate::build::{
-    assignment_node, binary_node, cast_node, conditional_node, prefix_node, unary_node,
-};
-use crate::found::{Found, Turn};
 use crate::primary::postfix;
+use crate::turn::Turn;
 use c_cursor::{Cursor, Height, fault_at};
+use c_expression_nodes::{
+    Found, assignment_node, binary_node, cast_node, conditional_node, prefix_node, unary_node,
+};
 use c_lexer::Punct;
 use c_syntax::{AssignOp, BinaryOp, Expression, StepOp, UnaryOp};
 use pcc_base::{FaultKind, Refusal, Span};

@@ -2,11 +2,9 @@
 //! expression goes on.
 #![tactic(auto)]
 
-mod build;
 mod expression;
-mod found;
 mod primary;
+mod turn;
 
-pub use build::{one_more, one_value};
 pub use expression::{Rule, tree_below, tree_of};
-pub use found::{Found, Values, ValuesTurn};
+pub use turn::ValuesTurn;

@@ -8,17 +8,18 @@ ghost use Rattle.c_grammar.specs.Reading.{read_postfix, read_primary, read_argum
 ghost use Rattle.c_grammar.specs.Reading.{call_from, index_from, parenthesised_from, text_from};
 ghost use Rattle.c_grammar.specs.Taking.{take_mark, take_texts};
 ghost use Rattle.c_parse_expressions.specs.Readings.{IsReading, IsPartReading, IsTurn, AreValues, IsValuesTurn};
-ghost use Rattle.c_parse_expressions.specs.Readings.{values_of, height_of_values, below};
-ghost use Rattle.c_parse_expressions.specs.declared.found.Found.{Found as Tree};
+ghost use Rattle.c_parse_expressions.specs.Readings.{below};
+ghost use Rattle.c_expression_nodes.specs.Values.{values_of, height_of_values};
+ghost use Rattle.c_expression_nodes.specs.declared.found.Found.{Found as Tree};
 ghost use Rattle.c_cursor.specs.Readings.{IsRead};
 
-use crate::build::{
-    call_node, identifier_node, index_node, number_node, one_more, one_value, parenthesised_node,
-    postfix_node, text_node,
-};
 use crate::expression::{Rule, tree_below, tree_of};
-use crate::found::{Found, Turn, Values, ValuesTurn};
+use crate::turn::{Turn, ValuesTurn};
 use c_cursor::{Cursor, Height};
+use c_expression_nodes::{
+    Found, Values, call_node, identifier_node, index_node, number_node, one_more, one_value,
+    parenthesised_node, postfix_node, text_node,
+};
 use c_lexer::{Punct, TokenKind};
 use c_syntax::{Identifier, TextPiece};
 use pcc_base::{FaultKind, Name, NoMemory, Refusal, Span};

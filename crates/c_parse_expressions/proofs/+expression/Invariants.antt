@@ -6,7 +6,8 @@ use Rattle.c_grammar.specs.Chains.{chained}
 use Rattle.c_grammar.proofs.Chains.{Continues}
 use Rattle.c_grammar.specs.Reading.{read_expression, read_binary, read_postfix, read_arguments, infix_step}
 use Rattle.c_grammar.specs.Reading.{suffix_step, value_step}
-use Rattle.c_parse_expressions.specs.Readings.{values_of, height_of_values, below}
+use Rattle.c_parse_expressions.specs.Readings.{below}
+use Rattle.c_expression_nodes.specs.Values.{values_of, height_of_values}
 use Rattle.c_parse_expressions.proofs.+expression.Given as goal
 
 abbrev pub decreases-expression::tree_below : goal.decreases-expression::tree_below

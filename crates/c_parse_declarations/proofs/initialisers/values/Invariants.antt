@@ -2,7 +2,8 @@
 use Rattle.std.proofs.Common.{◌≡◌, ◌<◌, ◌≤◌, length}
 use Rattle.c_grammar.proofs.Chains.{Continues}
 use Rattle.c_grammar.specs.DeclarationReading.{brace_step}
-use Rattle.c_parse_expressions.specs.Readings.{values_of, height_of_values, below}
+use Rattle.c_parse_expressions.specs.Readings.{below}
+use Rattle.c_expression_nodes.specs.Values.{values_of, height_of_values}
 use Rattle.c_parse_declarations.specs.Braces.{read_values}
 use Rattle.c_parse_declarations.proofs.initialisers.values.Given as goal
 

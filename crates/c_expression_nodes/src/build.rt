@@ -7,7 +7,7 @@ ghost use Rattle.std.specs.Prelude.{◌≡◌, ◌≤◌, ◌∷◌, ◌++◌, [
 ghost use Rattle.c_grammar.specs.Expressions as trees;
 ghost use Rattle.c_grammar.specs.Expressions.{expr_of, exprs_of, star_of};
 ghost use Rattle.c_grammar.specs.ExpressionTokens.{expr_height};
-ghost use Rattle.c_parse_expressions.specs.Readings.{values_of, height_of_values};
+ghost use Rattle.c_expression_nodes.specs.Values.{values_of, height_of_values};
 
 use crate::found::{Found, Values};
 use c_cursor::push;
@@ -28,32 +28,36 @@ pub(crate) fn found_of(alloc: Global, tree: Expression, height: u32) -> Result<F
     Ok(Found { tree, height })
 }
 
+/// A name (C99 6.5.1).
 #[inline(never)]
-pub(crate) fn identifier_node(alloc: Global, name: Identifier) -> Result<Found, NoMemory>
+pub fn identifier_node(alloc: Global, name: Identifier) -> Result<Found, NoMemory>
     ensures tree { IfOk result (λ f. expr_of f.tree.value ≡ trees.Identifier name) }
     ensures height { IfOk result (λ f. f.height ≡ 1) }
 {
     found_of(alloc, Expression::Identifier(name), 1)
 }
 
+/// A number (C99 6.4.4).
 #[inline(never)]
-pub(crate) fn number_node(alloc: Global, value: i32, at: Span) -> Result<Found, NoMemory>
+pub fn number_node(alloc: Global, value: i32, at: Span) -> Result<Found, NoMemory>
     ensures tree { IfOk result (λ f. expr_of f.tree.value ≡ trees.Number value at) }
     ensures height { IfOk result (λ f. f.height ≡ 1) }
 {
     found_of(alloc, Expression::Number(value, at), 1)
 }
 
+/// String literals, one behind another (C99 6.4.5).
 #[inline(never)]
-pub(crate) fn text_node(alloc: Global, pieces: Vec<TextPiece>) -> Result<Found, NoMemory>
+pub fn text_node(alloc: Global, pieces: Vec<TextPiece>) -> Result<Found, NoMemory>
     ensures tree { IfOk result (λ f. expr_of f.tree.value ≡ trees.Text pieces.items) }
     ensures height { IfOk result (λ f. f.height ≡ 1) }
 {
     found_of(alloc, Expression::Text(pieces), 1)
 }
 
+/// An expression in parentheses (C99 6.5.1).
 #[inline(never)]
-pub(crate) fn parenthesised_node(
+pub fn parenthesised_node(
     alloc: Global,
     opening: Span,
     inner: Found,
@@ -72,8 +76,9 @@ pub(crate) fn parenthesised_node(
     )
 }
 
+/// `a[i]` (C99 6.5.2.1).
 #[inline(never)]
-pub(crate) fn index_node(
+pub fn index_node(
     alloc: Global,
     base: Found,
     opening: Span,
@@ -94,13 +99,9 @@ pub(crate) fn index_node(
     )
 }
 
+/// `e++` or `e--` (C99 6.5.2.4).
 #[inline(never)]
-pub(crate) fn postfix_node(
-    alloc: Global,
-    base: Found,
-    op: StepOp,
-    at: Span,
-) -> Result<Found, NoMemory>
+pub fn postfix_node(alloc: Global, base: Found, op: StepOp, at: Span) -> Result<Found, NoMemory>
     requires { base.height ≤ 256 }
     ensures tree { IfOk result (λ f. expr_of f.tree.value ≡ trees.Postfix (expr_of base.tree.value) op at) }
     ensures height { IfOk result (λ f. f.height ≡ suc base.height) }
@@ -109,13 +110,9 @@ pub(crate) fn postfix_node(
     found_of(alloc, Expression::Postfix(base.tree, op, at), height)
 }
 
+/// `++e` or `--e` (C99 6.5.3.1).
 #[inline(never)]
-pub(crate) fn prefix_node(
-    alloc: Global,
-    op: StepOp,
-    at: Span,
-    operand: Found,
-) -> Result<Found, NoMemory>
+pub fn prefix_node(alloc: Global, op: StepOp, at: Span, operand: Found) -> Result<Found, NoMemory>
     requires { operand.height ≤ 256 }
     ensures tree { IfOk result (λ f. expr_of f.tree.value ≡ trees.Prefix op at (expr_of operand.tree.value)) }
     ensures height { IfOk result (λ f. f.height ≡ suc operand.height) }
@@ -124,13 +121,9 @@ pub(crate) fn prefix_node(
     found_of(alloc, Expression::Prefix(op, at, operand.tree), height)
 }
 
+/// An operator before its operand (C99 6.5.3.2 and 6.5.3.3).
 #[inline(never)]
-pub(crate) fn unary_node(
-    alloc: Global,
-    op: UnaryOp,
-    at: Span,
-    operand: Found,
-) -> Result<Found, NoMemory>
+pub fn unary_node(alloc: Global, op: UnaryOp, at: Span, operand: Found) -> Result<Found, NoMemory>
     requires { operand.height ≤ 256 }
     ensures tree { IfOk result (λ f. expr_of f.tree.value ≡ trees.Unary op at (expr_of operand.tree.value)) }
     ensures height { IfOk result (λ f. f.height ≡ suc operand.height) }
@@ -139,8 +132,9 @@ pub(crate) fn unary_node(
     found_of(alloc, Expression::Unary(op, at, operand.tree), height)
 }
 
+/// A cast (C99 6.5.4).
 #[inline(never)]
-pub(crate) fn cast_node(
+pub fn cast_node(
     alloc: Global,
     opening: Span,
     specifiers: Vec<Specifier>,
@@ -164,8 +158,9 @@ pub(crate) fn cast_node(
     found_of(alloc, Expression::Cast(of, operand), height)
 }
 
+/// An operator between two operands (C99 6.5.5 to 6.5.14, and the `,` of 6.5.17).
 #[inline(never)]
-pub(crate) fn binary_node(
+pub fn binary_node(
     alloc: Global,
     op: BinaryOp,
     left: Found,
@@ -186,8 +181,9 @@ pub(crate) fn binary_node(
     )
 }
 
+/// An assignment, with an operator or without (C99 6.5.16).
 #[inline(never)]
-pub(crate) fn assignment_node(
+pub fn assignment_node(
     alloc: Global,
     op: AssignOp,
     left: Found,
@@ -208,8 +204,9 @@ pub(crate) fn assignment_node(
     )
 }
 
+/// `?:` (C99 6.5.15).
 #[inline(never)]
-pub(crate) fn conditional_node(
+pub fn conditional_node(
     alloc: Global,
     condition: Found,
     question: Span,
@@ -236,8 +233,9 @@ pub(crate) fn conditional_node(
     found_of(alloc, tree, height)
 }
 
+/// A call (C99 6.5.2.2).
 #[inline(never)]
-pub(crate) fn call_node(
+pub fn call_node(
     alloc: Global,
     function: Identifier,
     opening: Span,

@@ -1,3 +1,5 @@
+//! What was read: an expression, or values, with its height.
+
 ghost use Rattle.std.specs.Prelude.{◌≡◌};
 
 use c_syntax::Expression;
@@ -14,7 +16,7 @@ impl Found {
     /// Lets the tree go, since a part behind it is refused. A drop in place would take its room in the frame of
     /// whoever reads the nest.
     #[inline(never)]
-    pub(crate) fn refused(self, refusal: Refusal) -> Refusal
+    pub fn refused(self, refusal: Refusal) -> Refusal
         ensures { result ≡ refusal }
     {
         drop(self);
@@ -33,24 +35,10 @@ pub struct Values {
 impl Values {
     /// Lets the values go, since a part behind them is refused.
     #[inline(never)]
-    pub(crate) fn refused(self, refusal: Refusal) -> Refusal
+    pub fn refused(self, refusal: Refusal) -> Refusal
         ensures { result ≡ refusal }
     {
         drop(self);
         refusal
     }
-}
-
-/// One turn of a loop over an expression: one part more, or the end.
-#[derive(Drop)]
-pub(crate) enum Turn {
-    More(Found),
-    Last(Found),
-}
-
-/// One turn of a loop over values: one value more, or the end.
-#[derive(Drop)]
-pub enum ValuesTurn {
-    MoreValues(Values),
-    LastValues(Values),
 }
