@@ -7,7 +7,7 @@ use std::alloc::Global;
 use std::marker::Model;
 
 /// The variables of one point. A contract sees a list of numbers.
-#[derive(Debug, Drop)]
+#[derive(Drop)]
 struct Variables {
     list: Vec<u32>,
 }
@@ -69,7 +69,7 @@ fn copy_lists(alloc: Global, lists: &[Variables]) -> Result<Vec<Variables>, NoMe
 }
 
 /// The variables that are live before and after each point. A contract sees `Lives`.
-#[derive(Debug, Drop)]
+#[derive(Drop)]
 pub struct LiveSets {
     before: Vec<Variables>,
     after: Vec<Variables>,

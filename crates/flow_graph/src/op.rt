@@ -9,7 +9,7 @@ use pcc_base::NoMemory;
 use std::alloc::Global;
 
 /// How many bits an access has.
-#[derive(Clone, Copy, Debug, PartialEq, Eq)]
+#[derive(Clone, Copy)]
 pub enum Bits {
     Eight,
     Sixteen,
@@ -17,7 +17,7 @@ pub enum Bits {
 }
 
 /// How two values are compared: `==`, `!=`, `<`, `<=`, `>` and `>=` (C99 6.5.8 and 6.5.9).
-#[derive(Clone, Copy, Debug, PartialEq, Eq)]
+#[derive(Clone, Copy)]
 pub enum Comparison {
     Eq,
     Ne,
@@ -30,7 +30,7 @@ pub enum Comparison {
 /// What happens at a point. A variable of width Two holds 32 bits or an array, one of width One a byte.
 /// The first part of most ops is the variable that is written; the parts are of width Two unless it is
 /// said otherwise. A function and a static object go by their numbers in the whole program.
-#[derive(Debug, Drop)]
+#[derive(Drop)]
 pub enum Op {
     /// A number into a variable of either width.
     Const(u32, i32),
@@ -146,11 +146,11 @@ impl Op {
     pub(crate) fn numbers_fit(&self)
         ensures { NumbersFit self.now }
     {
-        match self {
-            Op::Const(_, number) => fits_word(*number),
-            Op::Static(_, number) | Op::Get(_, _, number) => is_word(*number),
-            Op::Put(_, number, _) | Op::Param(_, number) => is_word(*number),
-            Op::Call(_, number, _) | Op::Mark(number) => is_word(*number),
+        match *self {
+            Op::Const(_, number) => fits_word(number),
+            Op::Static(_, number) | Op::Get(_, _, number) => is_word(number),
+            Op::Put(_, number, _) | Op::Param(_, number) => is_word(number),
+            Op::Call(_, number, _) | Op::Mark(number) => is_word(number),
             Op::Copy(_, _) | Op::Wide(_, _) | Op::Low(_, _) | Op::Low16(_, _) => {}
             Op::Neg(_, _) | Op::Not(_, _) | Op::Frame(_, _) | Op::Putchar(_, _) => {}
             Op::Add(_, _, _) | Op::Sub(_, _, _) | Op::Mul(_, _, _) => {}
@@ -166,17 +166,17 @@ impl Op {
     pub fn defined(&self) -> Option<u32>
         ensures { result ≡ defined self.now }
     {
-        match self {
-            Op::Const(to, _) | Op::Frame(to, _) | Op::Static(to, _) => Some(*to),
-            Op::Copy(to, _) | Op::Wide(to, _) | Op::Low(to, _) | Op::Low16(to, _) => Some(*to),
-            Op::Neg(to, _) | Op::Not(to, _) | Op::Putchar(to, _) => Some(*to),
-            Op::Add(to, _, _) | Op::Sub(to, _, _) | Op::Mul(to, _, _) => Some(*to),
-            Op::And(to, _, _) | Op::Or(to, _, _) | Op::Xor(to, _, _) => Some(*to),
-            Op::Shl(to, _, _) | Op::Sar(to, _, _) => Some(*to),
-            Op::Div(to, _, _) | Op::Rem(to, _, _) => Some(*to),
-            Op::Set(_, to, _, _) | Op::Load(_, to, _, _) | Op::Get(_, to, _) => Some(*to),
-            Op::Param(to, _) | Op::Getchar(to) => Some(*to),
-            Op::Call(to, _, _) => *to,
+        match *self {
+            Op::Const(to, _) | Op::Frame(to, _) | Op::Static(to, _) => Some(to),
+            Op::Copy(to, _) | Op::Wide(to, _) | Op::Low(to, _) | Op::Low16(to, _) => Some(to),
+            Op::Neg(to, _) | Op::Not(to, _) | Op::Putchar(to, _) => Some(to),
+            Op::Add(to, _, _) | Op::Sub(to, _, _) | Op::Mul(to, _, _) => Some(to),
+            Op::And(to, _, _) | Op::Or(to, _, _) | Op::Xor(to, _, _) => Some(to),
+            Op::Shl(to, _, _) | Op::Sar(to, _, _) => Some(to),
+            Op::Div(to, _, _) | Op::Rem(to, _, _) => Some(to),
+            Op::Set(_, to, _, _) | Op::Load(_, to, _, _) | Op::Get(_, to, _) => Some(to),
+            Op::Param(to, _) | Op::Getchar(to) => Some(to),
+            Op::Call(to, _, _) => to,
             Op::Store(_, _, _, _) | Op::Put(_, _, _) | Op::Clear(_) => None,
             Op::Same(_, _) | Op::Mark(_) | Op::Turn => None,
             Op::Jump(_) | Op::Branch(_, _, _, _, _) | Op::Return(_) | Op::Exit(_) => None,
@@ -187,22 +187,22 @@ impl Op {
     pub fn use_at(&self, place: usize) -> Option<u32>
         ensures { result ≡ slice_get (uses self.now) place }
     {
-        match self {
+        match *self {
             Op::Const(_, _) | Op::Frame(_, _) | Op::Static(_, _) | Op::Get(_, _, _) => None,
             Op::Clear(_) | Op::Param(_, _) | Op::Getchar(_) => None,
             Op::Mark(_) | Op::Turn | Op::Jump(_) => None,
-            Op::Copy(_, from) | Op::Wide(_, from) | Op::Low(_, from) => first(place, *from),
-            Op::Low16(_, from) | Op::Neg(_, from) | Op::Not(_, from) => first(place, *from),
-            Op::Put(_, _, from) | Op::Putchar(_, from) | Op::Exit(from) => first(place, *from),
-            Op::Add(_, a, b) | Op::Sub(_, a, b) | Op::Mul(_, a, b) => either(place, *a, *b),
-            Op::And(_, a, b) | Op::Or(_, a, b) | Op::Xor(_, a, b) => either(place, *a, *b),
-            Op::Shl(_, a, b) | Op::Sar(_, a, b) => either(place, *a, *b),
-            Op::Div(_, a, b) | Op::Rem(_, a, b) => either(place, *a, *b),
-            Op::Set(_, _, a, b) | Op::Load(_, _, a, b) => either(place, *a, *b),
-            Op::Same(a, b) | Op::Branch(_, a, b, _, _) => either(place, *a, *b),
-            Op::Store(_, array, index, from) => one_of_three(place, *array, *index, *from),
-            Op::Call(_, _, words) => words.at(place),
-            Op::Return(Some(from)) => first(place, *from),
+            Op::Copy(_, from) | Op::Wide(_, from) | Op::Low(_, from) => first(place, from),
+            Op::Low16(_, from) | Op::Neg(_, from) | Op::Not(_, from) => first(place, from),
+            Op::Put(_, _, from) | Op::Putchar(_, from) | Op::Exit(from) => first(place, from),
+            Op::Add(_, a, b) | Op::Sub(_, a, b) | Op::Mul(_, a, b) => either(place, a, b),
+            Op::And(_, a, b) | Op::Or(_, a, b) | Op::Xor(_, a, b) => either(place, a, b),
+            Op::Shl(_, a, b) | Op::Sar(_, a, b) => either(place, a, b),
+            Op::Div(_, a, b) | Op::Rem(_, a, b) => either(place, a, b),
+            Op::Set(_, _, a, b) | Op::Load(_, _, a, b) => either(place, a, b),
+            Op::Same(a, b) | Op::Branch(_, a, b, _, _) => either(place, a, b),
+            Op::Store(_, array, index, from) => one_of_three(place, array, index, from),
+            Op::Call(_, _, ref words) => words.at(place),
+            Op::Return(Some(from)) => first(place, from),
             Op::Return(None) => None,
         }
     }
@@ -211,7 +211,7 @@ impl Op {
     pub fn use_count(&self) -> usize
         ensures { result ≡ length (uses self.now) }
     {
-        match self {
+        match *self {
             Op::Const(_, _) | Op::Frame(_, _) | Op::Static(_, _) | Op::Get(_, _, _) => 0,
             Op::Clear(_) | Op::Param(_, _) | Op::Getchar(_) => 0,
             Op::Mark(_) | Op::Turn | Op::Jump(_) => 0,
@@ -223,7 +223,7 @@ impl Op {
             Op::Set(_, _, _, _) | Op::Load(_, _, _, _) => 2,
             Op::Same(_, _) | Op::Branch(_, _, _, _, _) => 2,
             Op::Store(_, _, _, _) => 3,
-            Op::Call(_, _, words) => words.len(),
+            Op::Call(_, _, ref words) => words.len(),
             Op::Return(Some(_)) => 1,
             Op::Return(None) => 0,
         }
@@ -233,43 +233,43 @@ impl Op {
     pub fn copy(&self, alloc: Global) -> Result<Op, NoMemory>
         ensures { IfOk result (λ copy. copy ≡ self.now) }
     {
-        Ok(match self {
-            Op::Const(to, number) => Op::Const(*to, *number),
-            Op::Copy(to, from) => Op::Copy(*to, *from),
-            Op::Wide(to, from) => Op::Wide(*to, *from),
-            Op::Low(to, from) => Op::Low(*to, *from),
-            Op::Low16(to, from) => Op::Low16(*to, *from),
-            Op::Neg(to, a) => Op::Neg(*to, *a),
-            Op::Not(to, a) => Op::Not(*to, *a),
-            Op::Add(to, a, b) => Op::Add(*to, *a, *b),
-            Op::Sub(to, a, b) => Op::Sub(*to, *a, *b),
-            Op::Mul(to, a, b) => Op::Mul(*to, *a, *b),
-            Op::And(to, a, b) => Op::And(*to, *a, *b),
-            Op::Or(to, a, b) => Op::Or(*to, *a, *b),
-            Op::Xor(to, a, b) => Op::Xor(*to, *a, *b),
-            Op::Shl(to, a, count) => Op::Shl(*to, *a, *count),
-            Op::Sar(to, a, count) => Op::Sar(*to, *a, *count),
-            Op::Div(to, a, b) => Op::Div(*to, *a, *b),
-            Op::Rem(to, a, b) => Op::Rem(*to, *a, *b),
-            Op::Set(how, to, a, b) => Op::Set(*how, *to, *a, *b),
-            Op::Frame(to, array) => Op::Frame(*to, *array),
-            Op::Static(to, object) => Op::Static(*to, *object),
-            Op::Load(bits, to, array, index) => Op::Load(*bits, *to, *array, *index),
-            Op::Store(bits, array, index, from) => Op::Store(*bits, *array, *index, *from),
-            Op::Get(bits, to, object) => Op::Get(*bits, *to, *object),
-            Op::Put(bits, object, from) => Op::Put(*bits, *object, *from),
-            Op::Clear(array) => Op::Clear(*array),
-            Op::Param(to, word) => Op::Param(*to, *word),
-            Op::Call(to, function, words) => Op::Call(*to, *function, words.copy(alloc)?),
-            Op::Putchar(to, from) => Op::Putchar(*to, *from),
-            Op::Getchar(to) => Op::Getchar(*to),
-            Op::Exit(status) => Op::Exit(*status),
-            Op::Same(a, b) => Op::Same(*a, *b),
-            Op::Mark(statement) => Op::Mark(*statement),
+        Ok(match *self {
+            Op::Const(to, number) => Op::Const(to, number),
+            Op::Copy(to, from) => Op::Copy(to, from),
+            Op::Wide(to, from) => Op::Wide(to, from),
+            Op::Low(to, from) => Op::Low(to, from),
+            Op::Low16(to, from) => Op::Low16(to, from),
+            Op::Neg(to, a) => Op::Neg(to, a),
+            Op::Not(to, a) => Op::Not(to, a),
+            Op::Add(to, a, b) => Op::Add(to, a, b),
+            Op::Sub(to, a, b) => Op::Sub(to, a, b),
+            Op::Mul(to, a, b) => Op::Mul(to, a, b),
+            Op::And(to, a, b) => Op::And(to, a, b),
+            Op::Or(to, a, b) => Op::Or(to, a, b),
+            Op::Xor(to, a, b) => Op::Xor(to, a, b),
+            Op::Shl(to, a, count) => Op::Shl(to, a, count),
+            Op::Sar(to, a, count) => Op::Sar(to, a, count),
+            Op::Div(to, a, b) => Op::Div(to, a, b),
+            Op::Rem(to, a, b) => Op::Rem(to, a, b),
+            Op::Set(how, to, a, b) => Op::Set(how, to, a, b),
+            Op::Frame(to, array) => Op::Frame(to, array),
+            Op::Static(to, object) => Op::Static(to, object),
+            Op::Load(bits, to, array, index) => Op::Load(bits, to, array, index),
+            Op::Store(bits, array, index, from) => Op::Store(bits, array, index, from),
+            Op::Get(bits, to, object) => Op::Get(bits, to, object),
+            Op::Put(bits, object, from) => Op::Put(bits, object, from),
+            Op::Clear(array) => Op::Clear(array),
+            Op::Param(to, word) => Op::Param(to, word),
+            Op::Call(to, function, ref words) => Op::Call(to, function, words.copy(alloc)?),
+            Op::Putchar(to, from) => Op::Putchar(to, from),
+            Op::Getchar(to) => Op::Getchar(to),
+            Op::Exit(status) => Op::Exit(status),
+            Op::Same(a, b) => Op::Same(a, b),
+            Op::Mark(statement) => Op::Mark(statement),
             Op::Turn => Op::Turn,
-            Op::Jump(block) => Op::Jump(*block),
-            Op::Branch(how, a, b, x, y) => Op::Branch(*how, *a, *b, *x, *y),
-            Op::Return(from) => Op::Return(*from),
+            Op::Jump(block) => Op::Jump(block),
+            Op::Branch(how, a, b, x, y) => Op::Branch(how, a, b, x, y),
+            Op::Return(from) => Op::Return(from),
         })
     }
 }

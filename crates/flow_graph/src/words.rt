@@ -8,7 +8,7 @@ use std::marker::Model;
 
 /// The variables whose values a call passes, in order. A contract sees a list of numbers, so that two calls that pass
 /// the same words are the same op.
-#[derive(Debug, Drop)]
+#[derive(Drop)]
 pub struct Words {
     list: Vec<u32>,
 }
