@@ -1,9 +1,9 @@
 -- Where the parts of an image stand in its bytes.
-use Rattle.std.proofs.Common.{◌≡◌, ℕ, ◌+◌, ◌-◌, ◌≤◌, List, ◌++◌, length, take, drop, sym, ap, ◌∙◌, arith, append_assoc}
+use Rattle.std.proofs.Common.{◌≡◌, ℕ, ◌+◌, ◌-◌, List, ◌++◌, length, take, drop, sym, ap, ◌∙◌, arith, append_assoc}
 use Rattle.std.proofs.Common.{◌<◌, ◌^◌, [], ◌∷◌, refl, length-append}
 use Rattle.std.proofs.Math.Seq.{take-append_seam, drop-append_seam}
 use Rattle.byteorder.specs.Endian.{little_number}
-use Rattle.byteorder.specs.Numbers.{little_from-take, little_number-reads_back}
+use Rattle.byteorder.specs.Numbers.{little_number-reads_back}
 use Rattle.elf_image.specs.Fields.{Header, entry_in, header_at, loads_in}
 use Rattle.pcc_base.specs.Bytes.{zeros}
 use Rattle.pcc_base.proofs.Zeros.{length-zeros}

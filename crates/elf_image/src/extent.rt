@@ -10,7 +10,7 @@ use pcc_base::NoMemory;
 use std::alloc::Global;
 
 /// The memory that a segment takes.
-#[derive(Clone, Copy, Debug)]
+#[derive(Clone, Copy)]
 pub(crate) struct Extent {
     /// The address of its first byte.
     pub address: u32,

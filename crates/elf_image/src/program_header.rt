@@ -28,7 +28,7 @@ pub(crate) const PF_W: u32 = 2;
 pub(crate) const PF_R: u32 = 4;
 
 /// The fields of a program header of type `PT_LOAD` (ELF, "Program Header").
-#[derive(Clone, Copy, Debug)]
+#[derive(Clone, Copy)]
 pub(crate) struct ProgramHeader {
     /// `p_offset`: where the segment's bytes begin in the file.
     pub offset: u32,

@@ -1,26 +1,16 @@
 ghost use Rattle.std.specs.Prelude.{◌≡◌, ◌+◌, ◌≤◌, ◌++◌, length, OnOk, IfOk, vec_len};
 ghost use Rattle.pcc_base.specs.Bytes.{zeros};
-ghost use Rattle.elf_image.specs.Layout.{elf_header, image_bytes, program_header, word};
+ghost use Rattle.elf_image.specs.Layout.{elf_header, image_bytes, program_header};
 ghost use Rattle.elf_image.specs.Segments.{parts_of};
 
 use crate::image::{Image, PAGE, TEXT_ADDRESS};
-use crate::program_header::{PF_R, PF_W, PF_X, PT_LOAD, ProgramHeader};
+use crate::program_header::{PF_R, PF_W, PF_X, PROGRAM_HEADER, PT_LOAD, ProgramHeader};
 use byteorder::{ByteOrder, LittleEndian};
 use pcc_base::NoMemory;
 use std::alloc::Global;
 
 /// The bytes of the ELF header and of the two program headers.
 const HEADERS: usize = 52 + 2 * 32;
-
-/// Puts a word of four bytes at the end, the lowest first.
-fn push_word(out: &mut Vec<u8>, value: u32) -> Result<(), NoMemory>
-    ensures { OnOk result (out.new.items ≡ out.old.items ++ word value) }
-{
-    let mut bytes = [0u8; 4];
-    LittleEndian::write_u32(&mut bytes, value);
-    out.extend_from_slice(&bytes)?;
-    Ok(())
-}
 
 /// Puts bytes that are 0 at the end, a page of them at most.
 fn push_zeros(out: &mut Vec<u8>, count: usize) -> Result<(), NoMemory>
@@ -41,11 +31,9 @@ fn push_elf_header(out: &mut Vec<u8>, entry: u32) -> Result<(), NoMemory>
         0x7f, b'E', b'L', b'F', 1, 1, 1, 0, 0, 0, 0, 0, 0, 0, 0, 0, 2, 0, 3, 0,
     ])?;
     // `e_version`, `e_entry`, `e_phoff`, `e_shoff`, `e_flags`
-    push_word(out, 1)?;
-    push_word(out, entry)?;
-    push_word(out, 52)?;
-    push_word(out, 0)?;
-    push_word(out, 0)?;
+    let mut bytes = [0u8; 20];
+    LittleEndian::write_u32_into(&[1, entry, 52, 0, 0], &mut bytes);
+    out.extend_from_slice(&bytes)?;
     // `e_ehsize`, `e_phentsize`, `e_phnum`, and no sections
     out.extend_from_slice(&[52, 0, 32, 0, 2, 0, 0, 0, 0, 0, 0, 0])?;
     Ok(())
@@ -56,14 +44,19 @@ fn push_program_header(out: &mut Vec<u8>, header: ProgramHeader) -> Result<(), N
     ensures { OnOk result (out.new.items ≡ out.old.items
         ++ program_header header.offset header.address header.file_size header.memory_size header.flags) }
 {
-    push_word(out, PT_LOAD)?;
-    push_word(out, header.offset)?;
-    push_word(out, header.address)?;
-    push_word(out, header.address)?;
-    push_word(out, header.file_size)?;
-    push_word(out, header.memory_size)?;
-    push_word(out, header.flags)?;
-    push_word(out, PAGE as u32)?;
+    let fields = [
+        PT_LOAD,
+        header.offset,
+        header.address,
+        header.address,
+        header.file_size,
+        header.memory_size,
+        header.flags,
+        PAGE as u32,
+    ];
+    let mut bytes = [0u8; PROGRAM_HEADER];
+    LittleEndian::write_u32_into(&fields, &mut bytes);
+    out.extend_from_slice(&bytes)?;
     Ok(())
 }
 
