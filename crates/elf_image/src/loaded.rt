@@ -6,7 +6,7 @@ use std::alloc::{AllocError, AllocFailed};
 use thiserror::Error;
 
 /// A piece of memory that an image asks for (ELF, "Program Header").
-#[derive(Debug, Drop)]
+#[derive(Drop)]
 pub struct Segment {
     /// The address of its first byte.
     pub addr: u32,
@@ -23,7 +23,7 @@ pub struct Segment {
 }
 
 /// What the bytes of an image load.
-#[derive(Debug, Drop)]
+#[derive(Drop)]
 pub struct Loaded {
     /// The address of the first instruction.
     pub entry: u32,
