@@ -4,7 +4,7 @@ ghost use Rattle.liveness.specs.Ways as ways;
 use flow_graph::Op;
 
 /// Where an op leads.
-#[derive(Clone, Copy, Debug, PartialEq, Eq)]
+#[derive(Clone, Copy)]
 pub enum Way {
     /// To the next point of its block.
     Next,
