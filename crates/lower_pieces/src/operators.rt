@@ -14,6 +14,7 @@ ghost use Rattle.lower_lines.specs.Parts.{chosen, chosen_blocks, made, pointer_t
 ghost use Rattle.lower_moves.specs.Sites.{context_of};
 ghost use Rattle.lower_moves.specs.Spots.{spot_of};
 ghost use Rattle.lower_moves.specs.Views.{plain, wanted_of};
+ghost use Rattle.lower_pieces.specs.Computed.{op_of};
 ghost use Rattle.lower_pieces.specs.Views.{truth_end};
 
 use c_tree::{BinaryOp, IntegerType, ValueType};
@@ -40,6 +41,30 @@ pub fn comparison_of(operator: BinaryOp) -> Option<Comparison>
     }
 }
 
+/// The op of an operator on two numbers, which stand where it takes them.
+fn op_of(operator: BinaryOp, to: u32, x: u32, y: u32) -> Op
+    ensures { result ≡ op_of operator to x y }
+{
+    match operator {
+        BinaryOp::Multiply => Op::Mul(to, x, y),
+        BinaryOp::Divide => Op::Div(to, x, y),
+        BinaryOp::Remainder => Op::Rem(to, x, y),
+        BinaryOp::Add => Op::Add(to, x, y),
+        BinaryOp::Subtract => Op::Sub(to, x, y),
+        BinaryOp::ShiftLeft => Op::Shl(to, x, y),
+        BinaryOp::ShiftRight => Op::Sar(to, x, y),
+        BinaryOp::Less => Op::Set(Comparison::Lt, to, x, y),
+        BinaryOp::Greater => Op::Set(Comparison::Gt, to, x, y),
+        BinaryOp::LessOrEqual => Op::Set(Comparison::Le, to, x, y),
+        BinaryOp::GreaterOrEqual => Op::Set(Comparison::Ge, to, x, y),
+        BinaryOp::Equal => Op::Set(Comparison::Eq, to, x, y),
+        BinaryOp::NotEqual => Op::Set(Comparison::Ne, to, x, y),
+        BinaryOp::BitAnd => Op::And(to, x, y),
+        BinaryOp::BitXor => Op::Xor(to, x, y),
+        BinaryOp::BitOr => Op::Or(to, x, y),
+    }
+}
+
 /// The result of an operator on two numbers in a variable.
 pub fn computing(
     lines: &mut Lines,
@@ -53,38 +78,28 @@ pub fn computing(
     ensures { OnOk result (Adds lines.old lines.new 0 (computing (context_of site.now) level operator to x y)) }
 {
     match operator {
-        BinaryOp::Multiply => lines.emit(Op::Mul(to, x, y)),
-        BinaryOp::Divide => {
+        BinaryOp::Divide | BinaryOp::Remainder => {
             let dividend = site.scratch(level)?;
             lines.emit(Op::Copy(dividend, x))?;
-            lines.emit(Op::Div(to, dividend, y))
+            lines.emit(op_of(operator, to, dividend, y))
         }
-        BinaryOp::Remainder => {
-            let dividend = site.scratch(level)?;
-            lines.emit(Op::Copy(dividend, x))?;
-            lines.emit(Op::Rem(to, dividend, y))
-        }
-        BinaryOp::Add => lines.emit(Op::Add(to, x, y)),
-        BinaryOp::Subtract => lines.emit(Op::Sub(to, x, y)),
-        BinaryOp::ShiftLeft => {
+        BinaryOp::ShiftLeft | BinaryOp::ShiftRight => {
             let count = site.byte(level)?;
             lines.emit(Op::Low(count, y))?;
-            lines.emit(Op::Shl(to, x, count))
+            lines.emit(op_of(operator, to, x, count))
         }
-        BinaryOp::ShiftRight => {
-            let count = site.byte(level)?;
-            lines.emit(Op::Low(count, y))?;
-            lines.emit(Op::Sar(to, x, count))
-        }
-        BinaryOp::Less => lines.emit(Op::Set(Comparison::Lt, to, x, y)),
-        BinaryOp::Greater => lines.emit(Op::Set(Comparison::Gt, to, x, y)),
-        BinaryOp::LessOrEqual => lines.emit(Op::Set(Comparison::Le, to, x, y)),
-        BinaryOp::GreaterOrEqual => lines.emit(Op::Set(Comparison::Ge, to, x, y)),
-        BinaryOp::Equal => lines.emit(Op::Set(Comparison::Eq, to, x, y)),
-        BinaryOp::NotEqual => lines.emit(Op::Set(Comparison::Ne, to, x, y)),
-        BinaryOp::BitAnd => lines.emit(Op::And(to, x, y)),
-        BinaryOp::BitXor => lines.emit(Op::Xor(to, x, y)),
-        BinaryOp::BitOr => lines.emit(Op::Or(to, x, y)),
+        BinaryOp::Multiply
+        | BinaryOp::Add
+        | BinaryOp::Subtract
+        | BinaryOp::Less
+        | BinaryOp::Greater
+        | BinaryOp::LessOrEqual
+        | BinaryOp::GreaterOrEqual
+        | BinaryOp::Equal
+        | BinaryOp::NotEqual
+        | BinaryOp::BitAnd
+        | BinaryOp::BitXor
+        | BinaryOp::BitOr => lines.emit(op_of(operator, to, x, y)),
     }
 }
 
@@ -205,8 +220,7 @@ pub fn end_truth(
     let behind = plus(block, 2)?;
     truth_way(lines, block, Op::Const(to.number, 1), behind)?;
     truth_way(lines, second, Op::Const(to.number, 0), behind)?;
-    lines.start(behind)?;
-    Ok(())
+    lines.start(behind)
 }
 
 /// A pointer whose index moves by a number: forwards, or backwards.
@@ -216,18 +230,21 @@ fn moving(lines: &mut Lines, operator: BinaryOp, to: Spot, x: Spot, n: u32) -> R
     copied(lines, to.array, x.array)?;
     match operator {
         BinaryOp::Subtract => lines.emit(Op::Sub(to.number, x.number, n)),
-        BinaryOp::Multiply | BinaryOp::Divide | BinaryOp::Remainder | BinaryOp::Add => {
-            lines.emit(Op::Add(to.number, x.number, n))
-        }
-        BinaryOp::ShiftLeft | BinaryOp::ShiftRight | BinaryOp::Less | BinaryOp::Greater => {
-            lines.emit(Op::Add(to.number, x.number, n))
-        }
-        BinaryOp::LessOrEqual | BinaryOp::GreaterOrEqual | BinaryOp::Equal => {
-            lines.emit(Op::Add(to.number, x.number, n))
-        }
-        BinaryOp::NotEqual | BinaryOp::BitAnd | BinaryOp::BitXor | BinaryOp::BitOr => {
-            lines.emit(Op::Add(to.number, x.number, n))
-        }
+        BinaryOp::Multiply
+        | BinaryOp::Divide
+        | BinaryOp::Remainder
+        | BinaryOp::Add
+        | BinaryOp::ShiftLeft
+        | BinaryOp::ShiftRight
+        | BinaryOp::Less
+        | BinaryOp::Greater
+        | BinaryOp::LessOrEqual
+        | BinaryOp::GreaterOrEqual
+        | BinaryOp::Equal
+        | BinaryOp::NotEqual
+        | BinaryOp::BitAnd
+        | BinaryOp::BitXor
+        | BinaryOp::BitOr => lines.emit(Op::Add(to.number, x.number, n)),
     }
 }
 
@@ -268,8 +285,7 @@ fn null_truth(
     let first = lines.take_blocks(3)?;
     let second = plus(first, 1)?;
     null_branch(lines, site, level, equal, x, first, second)?;
-    end_truth(lines, site, level, wanted, first)?;
-    Ok(())
+    end_truth(lines, site, level, wanted, first)
 }
 
 /// Whether a pointer is null, or isn't, for what is wanted of that.
@@ -289,8 +305,7 @@ fn null_tested(
     match wanted {
         Wanted::Dropped => Ok(()),
         Wanted::Tests(holds, fails) => null_branch(lines, site, level, equal, x, holds, fails),
-        Wanted::Own => null_truth(lines, site, level, wanted, equal, x),
-        Wanted::ToLocal(_) => null_truth(lines, site, level, wanted, equal, x),
+        Wanted::Own | Wanted::ToLocal(_) => null_truth(lines, site, level, wanted, equal, x),
     }
 }
 
@@ -336,18 +351,20 @@ fn on_pointer(
     match operator {
         BinaryOp::Equal => null_tested(lines, site, level, wanted, true, x),
         BinaryOp::NotEqual => null_tested(lines, site, level, wanted, false, x),
-        BinaryOp::Multiply | BinaryOp::Divide | BinaryOp::Remainder | BinaryOp::Add => {
-            moved_pointer(lines, site, level, wanted, operator, x, n)
-        }
-        BinaryOp::Subtract | BinaryOp::ShiftLeft | BinaryOp::ShiftRight | BinaryOp::Less => {
-            moved_pointer(lines, site, level, wanted, operator, x, n)
-        }
-        BinaryOp::Greater | BinaryOp::LessOrEqual | BinaryOp::GreaterOrEqual => {
-            moved_pointer(lines, site, level, wanted, operator, x, n)
-        }
-        BinaryOp::BitAnd | BinaryOp::BitXor | BinaryOp::BitOr => {
-            moved_pointer(lines, site, level, wanted, operator, x, n)
-        }
+        BinaryOp::Multiply
+        | BinaryOp::Divide
+        | BinaryOp::Remainder
+        | BinaryOp::Add
+        | BinaryOp::Subtract
+        | BinaryOp::ShiftLeft
+        | BinaryOp::ShiftRight
+        | BinaryOp::Less
+        | BinaryOp::Greater
+        | BinaryOp::LessOrEqual
+        | BinaryOp::GreaterOrEqual
+        | BinaryOp::BitAnd
+        | BinaryOp::BitXor
+        | BinaryOp::BitOr => moved_pointer(lines, site, level, wanted, operator, x, n),
     }
 }
 
@@ -405,8 +422,7 @@ fn equality_truth(
     let first = lines.take_blocks(3)?;
     let second = plus(first, 1)?;
     equality_branch(lines, equal, x, y, first, second)?;
-    end_truth(lines, site, level, wanted, first)?;
-    Ok(())
+    end_truth(lines, site, level, wanted, first)
 }
 
 /// Whether two pointers are the same, or differ, for what is wanted of that.
@@ -427,8 +443,9 @@ fn equality_tested(
     match wanted {
         Wanted::Dropped => Ok(()),
         Wanted::Tests(holds, fails) => equality_branch(lines, equal, x, y, holds, fails),
-        Wanted::Own => equality_truth(lines, site, level, wanted, equal, x, y),
-        Wanted::ToLocal(_) => equality_truth(lines, site, level, wanted, equal, x, y),
+        Wanted::Own | Wanted::ToLocal(_) => {
+            equality_truth(lines, site, level, wanted, equal, x, y)
+        }
     }
 }
 
@@ -466,18 +483,20 @@ fn on_pointers(
     match operator {
         BinaryOp::Equal => equality_tested(lines, site, level, wanted, true, x, y),
         BinaryOp::NotEqual => equality_tested(lines, site, level, wanted, false, x, y),
-        BinaryOp::Multiply | BinaryOp::Divide | BinaryOp::Remainder | BinaryOp::Add => {
-            in_one_array(lines, site, level, wanted, operator, x, y)
-        }
-        BinaryOp::Subtract | BinaryOp::ShiftLeft | BinaryOp::ShiftRight | BinaryOp::Less => {
-            in_one_array(lines, site, level, wanted, operator, x, y)
-        }
-        BinaryOp::Greater | BinaryOp::LessOrEqual | BinaryOp::GreaterOrEqual => {
-            in_one_array(lines, site, level, wanted, operator, x, y)
-        }
-        BinaryOp::BitAnd | BinaryOp::BitXor | BinaryOp::BitOr => {
-            in_one_array(lines, site, level, wanted, operator, x, y)
-        }
+        BinaryOp::Multiply
+        | BinaryOp::Divide
+        | BinaryOp::Remainder
+        | BinaryOp::Add
+        | BinaryOp::Subtract
+        | BinaryOp::ShiftLeft
+        | BinaryOp::ShiftRight
+        | BinaryOp::Less
+        | BinaryOp::Greater
+        | BinaryOp::LessOrEqual
+        | BinaryOp::GreaterOrEqual
+        | BinaryOp::BitAnd
+        | BinaryOp::BitXor
+        | BinaryOp::BitOr => in_one_array(lines, site, level, wanted, operator, x, y),
     }
 }
 

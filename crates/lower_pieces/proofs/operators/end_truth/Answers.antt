@@ -1,3 +1,4 @@
+use Rattle.std.proofs.lemmas.Result.{on_ok_weaker}
 use Rattle.lower_moves.specs.Sites.{context_of}
 use Rattle.lower_moves.specs.Spots.{spot_of}
 use Rattle.lower_moves.specs.Views.{wanted_of}
@@ -6,6 +7,7 @@ use Rattle.lower_pieces.proofs.operators.end_truth.Goals as goal
 
 pub returns : goal.returns
 returns c =
-    end-whole (context_of c.args.site.now) c.args.level (wanted_of c.args.wanted) c.args.block c.in_ok-second.second
+    on_ok_weaker c.start.result (λ added. end-whole (context_of c.args.site.now) c.args.level
+    (wanted_of c.args.wanted) c.args.block c.in_ok-second.second
     c.in_ok-behind.behind (spot_of c.in_ok-to.to) c.in_ok-second.ensures c.in_ok-behind.ensures c.in_ok-to.ensures
-    c.in_ok-truth_way.ensures c.in_ok-truth_way-2.ensures c.in_ok-start.ensures
+    c.in_ok-truth_way.ensures c.in_ok-truth_way-2.ensures added) c.start.ensures

@@ -1,4 +1,5 @@
 use Rattle.std.specs.Prelude.{if◌then◌else◌}
+use Rattle.std.proofs.lemmas.Result.{on_ok_weaker}
 use Rattle.lower_lines.specs.Operators.{equality_test}
 use Rattle.lower_moves.specs.Sites.{context_of}
 use Rattle.lower_moves.specs.Spots.{spot_of}
@@ -10,7 +11,8 @@ pub returns : goal.returns
 returns c =
     let x = spot_of c.args.x in
     let y = spot_of c.args.y in
-    truth-whole (context_of c.args.site.now) c.args.level (wanted_of c.args.wanted)
+    on_ok_weaker c.end_truth.result (λ added. truth-whole (context_of c.args.site.now) c.args.level
+    (wanted_of c.args.wanted)
     (λ b holds fails. if c.args.equal then equality_test b x y holds fails else equality_test b x y fails holds) 1
     c.in_ok-first.first c.in_ok-second.second c.in_ok-first.ensures.first c.in_ok-second.ensures
-    c.in_ok-first.ensures.lines c.in_ok-first.ensures.next c.in_ok-equality_branch.ensures c.in_ok-end_truth.ensures
+    c.in_ok-first.ensures.lines c.in_ok-first.ensures.next c.in_ok-equality_branch.ensures added) c.end_truth.ensures
