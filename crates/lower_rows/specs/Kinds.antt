@@ -1,13 +1,14 @@
 -- What is known of an expression before its lines are. The laws that they are those of its part are proved.
-use Rattle.std.specs.Prelude.{Bool, true, false, Option, None}
+use Rattle.std.specs.Prelude.{ℕ, Bool, true, false, Option, None}
 use Rattle.c_tree.specs.declared.types.IntegerType.{IntegerType}
-use Rattle.c_tree.specs.declared.types.IntegerType.TheVariants.{Int}
+use Rattle.c_tree.specs.declared.types.IntegerType.TheVariants.{Char, Short, Int}
 use Rattle.c_tree.specs.declared.types.ValueType.{ValueType}
 use Rattle.c_tree.specs.declared.types.ValueType.TheVariants.{Void, Integer, Pointer}
 use Rattle.c_tree.specs.Program.{int, Expression, Constant, Start, Read, Address, Unary, Binary, And, Or, Conditional}
 use Rattle.c_tree.specs.Program.{Cast, Assign, Update, Step, Comma, Call, Putchar, Getchar, Exit, Place, LocalPlace}
 use Rattle.c_tree.specs.Program.{StaticPlace, Target, Element}
 use Rattle.lower_lines.specs.Expressions.{local_part}
+use Rattle.lower_lines.specs.Parts.{Wanted, Dropped, Own, ToLocal}
 use Rattle.lower_lines.specs.Variables.{Context, Spot}
 
 -- a static object that is no array is a number
@@ -15,6 +16,14 @@ abbrev pub number_type : ValueType → IntegerType
 number_type Void = Int
 number_type (Integer t) = t
 number_type (Pointer t) = Int
+
+-- where an operator's value goes that a local gets
+abbrev pub value_in : ValueType → ℕ → Wanted
+value_in Void place = Dropped
+value_in (Integer Char) place = Own
+value_in (Integer Short) place = Own
+value_in (Integer Int) place = ToLocal place
+value_in (Pointer t) place = ToLocal place
 
 -- the type of the value of a place
 abbrev pub place_type : ValueType → Place → ValueType

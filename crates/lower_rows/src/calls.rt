@@ -126,15 +126,11 @@ pub fn call_made(
 {
     match wanted {
         Wanted::Dropped => lines.emit(Op::Call(None, f, words)),
-        Wanted::Own => match of {
+        Wanted::Own | Wanted::ToLocal(_) => match of {
             ValueType::Void => lines.emit(Op::Call(None, f, words)),
-            ValueType::Integer(_) => taken(lines, site, level, wanted, f, words),
-            ValueType::Pointer(_) => taken(lines, site, level, wanted, f, words),
-        },
-        Wanted::ToLocal(_) => match of {
-            ValueType::Void => lines.emit(Op::Call(None, f, words)),
-            ValueType::Integer(_) => taken(lines, site, level, wanted, f, words),
-            ValueType::Pointer(_) => taken(lines, site, level, wanted, f, words),
+            ValueType::Integer(_) | ValueType::Pointer(_) => {
+                taken(lines, site, level, wanted, f, words)
+            }
         },
         Wanted::Tests(_, _) => match of {
             ValueType::Void => lines.emit(Op::Call(None, f, words)),

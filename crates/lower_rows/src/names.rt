@@ -1,6 +1,7 @@
 //! Names that are assigned to, updated and stepped (C99 6.5.16, 6.5.2.4 and 6.5.3.1).
 
 ghost use Rattle.std.specs.Prelude.{◌≡◌, ◌+◌, IfOk, OnOk, suc};
+ghost use Rattle.c_tree.specs.Operators.{step_op};
 ghost use Rattle.c_tree.specs.Program.{int};
 ghost use Rattle.lower_builder.specs.Built.{Adds};
 ghost use Rattle.lower_lines.specs.Expressions.{assigned_local, assigned_object};
@@ -14,6 +15,7 @@ ghost use Rattle.lower_moves.specs.Spots.{spot_of};
 ghost use Rattle.lower_moves.specs.Views.{plain, wanted_of};
 ghost use Rattle.lower_pieces.specs.Views.{AddsPart};
 ghost use Rattle.lower_operands.specs.Rows.{applied_part};
+ghost use Rattle.lower_rows.specs.Kinds.{value_in};
 
 use crate::kinds::number_type;
 use c_tree::{BinaryOp, IntegerType, StepOp, ValueType};
@@ -23,6 +25,17 @@ use lower_moves::{Site, Spot, Wanted, delivered};
 use lower_operands::{byte_set, narrow_made, put, stored};
 use lower_pieces::applied;
 use pcc_base::NoMemory;
+
+/// Where an operator's value goes that a local of a type gets: to the local, if it is as wide.
+fn value_in(of: ValueType, place: u32) -> Wanted
+    ensures { wanted_of result ≡ value_in of place }
+{
+    match of {
+        ValueType::Void => Wanted::Dropped,
+        ValueType::Integer(IntegerType::Char | IntegerType::Short) => Wanted::Own,
+        ValueType::Integer(IntegerType::Int) | ValueType::Pointer(_) => Wanted::ToLocal(place),
+    }
+}
 
 /// A local gets what an operator gives of two values.
 pub fn set_local(
@@ -41,14 +54,22 @@ pub fn set_local(
         (applied_part (context_of site.now) (result_type of) operator types.0 types.1 (spot_of x) (spot_of y)))
         level (wanted_of wanted) lines.old lines.new) }
 {
+    applied(
+        lines,
+        site,
+        level,
+        value_in(of, place),
+        operator,
+        types,
+        x,
+        y,
+    )?;
     match of {
         ValueType::Integer(IntegerType::Char) => {
-            applied(lines, site, level, Wanted::Own, operator, types, x, y)?;
             let value = site.number(level)?;
             byte_set(lines, site, level, wanted, place, value)
         }
         ValueType::Integer(IntegerType::Short) => {
-            applied(lines, site, level, Wanted::Own, operator, types, x, y)?;
             let value = site.number(level)?;
             narrow_made(
                 lines,
@@ -60,34 +81,7 @@ pub fn set_local(
             )?;
             stored(lines, site, level, wanted, of, place)
         }
-        ValueType::Integer(IntegerType::Int) => {
-            applied(
-                lines,
-                site,
-                level,
-                Wanted::ToLocal(place),
-                operator,
-                types,
-                x,
-                y,
-            )?;
-            stored(lines, site, level, wanted, of, place)
-        }
-        ValueType::Pointer(_) => {
-            applied(
-                lines,
-                site,
-                level,
-                Wanted::ToLocal(place),
-                operator,
-                types,
-                x,
-                y,
-            )?;
-            stored(lines, site, level, wanted, of, place)
-        }
-        ValueType::Void => {
-            applied(lines, site, level, Wanted::Dropped, operator, types, x, y)?;
+        ValueType::Integer(IntegerType::Int) | ValueType::Pointer(_) | ValueType::Void => {
             stored(lines, site, level, wanted, of, place)
         }
     }
@@ -126,6 +120,16 @@ fn one(lines: &mut Lines, site: &Site<'_>, level: u32) -> Result<Spot, NoMemory>
     Ok(spot)
 }
 
+/// The operator of `++` and `--`.
+pub(crate) fn step_op(operator: StepOp) -> BinaryOp
+    ensures { result ≡ step_op operator }
+{
+    match operator {
+        StepOp::PreIncrement | StepOp::PostIncrement => BinaryOp::Add,
+        StepOp::PreDecrement | StepOp::PostDecrement => BinaryOp::Subtract,
+    }
+}
+
 /// A local is assigned itself and 1.
 fn add_to_local(
     lines: &mut Lines,
@@ -142,8 +146,7 @@ fn add_to_local(
     let x = local_operand(lines, site, level, true, of, place)?;
     let y = one(lines, site, level)?;
     let types = (of, ValueType::Integer(IntegerType::Int));
-    set_local(lines, site, level, wanted, of, place, operator, types, x, y)?;
-    Ok(())
+    set_local(lines, site, level, wanted, of, place, operator, types, x, y)
 }
 
 /// A static object is assigned itself and 1.
@@ -164,8 +167,7 @@ fn add_to_object(
     let x = site.own(level)?;
     let y = one(lines, site, level)?;
     let types = (ValueType::Integer(t), ValueType::Integer(IntegerType::Int));
-    set_object(lines, site, level, wanted, t, k, operator, types, x, y)?;
-    Ok(())
+    set_object(lines, site, level, wanted, t, k, operator, types, x, y)
 }
 
 /// The old value of a local is kept in its own temporaries, and delivered behind the step.
@@ -189,8 +191,7 @@ fn local_after(
     local(lines, site, level, Wanted::Own, of, place)?;
     add_to_local(lines, site, above, Wanted::Dropped, of, place, operator)?;
     let own = site.own(level)?;
-    delivered(lines, site, level, wanted, of, own)?;
-    Ok(())
+    delivered(lines, site, level, wanted, of, own)
 }
 
 /// A step of a local whose value is the old one.
@@ -211,13 +212,10 @@ fn local_then(
         lines.old.next level (wanted_of wanted))) }
 {
     match wanted {
-        Wanted::Dropped => {
-            add_to_local(lines, site, level, wanted, of, place, operator)?;
-            Ok(())
+        Wanted::Dropped => add_to_local(lines, site, level, wanted, of, place, operator),
+        Wanted::Own | Wanted::ToLocal(_) | Wanted::Tests(_, _) => {
+            local_after(lines, site, level, wanted, of, place, operator)
         }
-        Wanted::Own => local_after(lines, site, level, wanted, of, place, operator),
-        Wanted::ToLocal(_) => local_after(lines, site, level, wanted, of, place, operator),
-        Wanted::Tests(_, _) => local_after(lines, site, level, wanted, of, place, operator),
     }
 }
 
@@ -235,13 +233,11 @@ pub fn step_local(
         (wanted_of wanted) lines.old lines.new) }
 {
     match operator {
-        StepOp::PreIncrement => add_to_local(lines, site, level, wanted, of, place, BinaryOp::Add),
-        StepOp::PreDecrement => {
-            add_to_local(lines, site, level, wanted, of, place, BinaryOp::Subtract)
+        StepOp::PreIncrement | StepOp::PreDecrement => {
+            add_to_local(lines, site, level, wanted, of, place, step_op(operator))
         }
-        StepOp::PostIncrement => local_then(lines, site, level, wanted, of, place, BinaryOp::Add),
-        StepOp::PostDecrement => {
-            local_then(lines, site, level, wanted, of, place, BinaryOp::Subtract)
+        StepOp::PostIncrement | StepOp::PostDecrement => {
+            local_then(lines, site, level, wanted, of, place, step_op(operator))
         }
     }
 }
@@ -267,8 +263,7 @@ fn object_after(
     object(lines, site, level, Wanted::Own, number_type(of), k)?;
     add_to_object(lines, site, above, Wanted::Dropped, of, k, operator)?;
     let own = site.own(level)?;
-    delivered(lines, site, level, wanted, of, own)?;
-    Ok(())
+    delivered(lines, site, level, wanted, of, own)
 }
 
 /// A step of a static object whose value is the old one.
@@ -289,13 +284,10 @@ fn object_then(
         lines.old.next level (wanted_of wanted))) }
 {
     match wanted {
-        Wanted::Dropped => {
-            add_to_object(lines, site, level, wanted, of, k, operator)?;
-            Ok(())
+        Wanted::Dropped => add_to_object(lines, site, level, wanted, of, k, operator),
+        Wanted::Own | Wanted::ToLocal(_) | Wanted::Tests(_, _) => {
+            object_after(lines, site, level, wanted, of, k, operator)
         }
-        Wanted::Own => object_after(lines, site, level, wanted, of, k, operator),
-        Wanted::ToLocal(_) => object_after(lines, site, level, wanted, of, k, operator),
-        Wanted::Tests(_, _) => object_after(lines, site, level, wanted, of, k, operator),
     }
 }
 
@@ -313,13 +305,11 @@ pub fn step_object(
         (wanted_of wanted) lines.old lines.new) }
 {
     match operator {
-        StepOp::PreIncrement => add_to_object(lines, site, level, wanted, of, k, BinaryOp::Add),
-        StepOp::PreDecrement => {
-            add_to_object(lines, site, level, wanted, of, k, BinaryOp::Subtract)
+        StepOp::PreIncrement | StepOp::PreDecrement => {
+            add_to_object(lines, site, level, wanted, of, k, step_op(operator))
         }
-        StepOp::PostIncrement => object_then(lines, site, level, wanted, of, k, BinaryOp::Add),
-        StepOp::PostDecrement => {
-            object_then(lines, site, level, wanted, of, k, BinaryOp::Subtract)
+        StepOp::PostIncrement | StepOp::PostDecrement => {
+            object_then(lines, site, level, wanted, of, k, step_op(operator))
         }
     }
 }

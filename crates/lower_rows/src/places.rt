@@ -1,7 +1,6 @@
 //! Places that were found (C99 6.3.2.1).
 
 ghost use Rattle.std.specs.Prelude.{◌≡◌, ℕ, suc, pos, [], ◌∷◌, true, IfOk, OnOk, option_map};
-ghost use Rattle.c_tree.specs.Operators.{step_op};
 ghost use Rattle.c_tree.specs.declared.types.ValueType.TheVariants.{Integer};
 ghost use Rattle.flow_graph.specs.declared.op.Op.TheVariants as op;
 ghost use Rattle.lower_lines.specs.Lines.{Emit};
@@ -18,8 +17,8 @@ ghost use Rattle.lower_operands.specs.Rows.{element_at, element_lines, stepping}
 
 use crate::found::Found;
 use crate::kinds::number_type;
-use crate::names::{step_local, step_object};
-use c_tree::{BinaryOp, IntegerType, StepOp, ValueType};
+use crate::names::{step_local, step_object, step_op};
+use c_tree::{IntegerType, StepOp, ValueType};
 use flow_graph::Op;
 use lower_builder::{Lines, plus};
 use lower_leaves::{local, object};
@@ -40,18 +39,9 @@ pub fn read_found(
         → AddsPart (read_part (context_of site.now) of located) level (wanted_of wanted) s lines.new) }
 {
     match found {
-        Found::Local(v) => {
-            local(lines, site, level, wanted, of, v)?;
-            Ok(())
-        }
-        Found::Object(k) => {
-            object(lines, site, level, wanted, number_type(of), k)?;
-            Ok(())
-        }
-        Found::Element(t, at) => {
-            loaded(lines, site, level, wanted, t, at)?;
-            Ok(())
-        }
+        Found::Local(v) => local(lines, site, level, wanted, of, v),
+        Found::Object(k) => object(lines, site, level, wanted, number_type(of), k),
+        Found::Element(t, at) => loaded(lines, site, level, wanted, t, at),
     }
 }
 
@@ -87,18 +77,6 @@ pub fn element_at(
             element_sum(lines, own, y, x.number)?;
             Ok(own)
         }
-    }
-}
-
-/// The operator of `++` and `--`.
-fn step_op(operator: StepOp) -> BinaryOp
-    ensures { result ≡ step_op operator }
-{
-    match operator {
-        StepOp::PreIncrement => BinaryOp::Add,
-        StepOp::PostIncrement => BinaryOp::Add,
-        StepOp::PreDecrement => BinaryOp::Subtract,
-        StepOp::PostDecrement => BinaryOp::Subtract,
     }
 }
 
@@ -169,10 +147,12 @@ fn step_value(
     let above = plus(level, 1)?;
     let new = site.old(above)?;
     match operator {
-        StepOp::PreIncrement => converted(lines, site, level, wanted, t, new),
-        StepOp::PreDecrement => converted(lines, site, level, wanted, t, new),
-        StepOp::PostIncrement => old_delivered(lines, site, level, wanted, t),
-        StepOp::PostDecrement => old_delivered(lines, site, level, wanted, t),
+        StepOp::PreIncrement | StepOp::PreDecrement => {
+            converted(lines, site, level, wanted, t, new)
+        }
+        StepOp::PostIncrement | StepOp::PostDecrement => {
+            old_delivered(lines, site, level, wanted, t)
+        }
     }
 }
 
@@ -192,8 +172,7 @@ pub fn step_element(
     load_old(lines, site, level, t, at)?;
     let y = one(lines, site, level)?;
     renewed(lines, site, level, t, step_op(operator), at, y)?;
-    step_value(lines, site, level, wanted, t, operator)?;
-    Ok(())
+    step_value(lines, site, level, wanted, t, operator)
 }
 
 /// A place that was found is stepped (C99 6.5.2.4 and 6.5.3.1).
@@ -210,17 +189,8 @@ pub fn step_found(
         → AddsPart (step_part (context_of site.now) of operator located) level (wanted_of wanted) s lines.new) }
 {
     match found {
-        Found::Local(v) => {
-            step_local(lines, site, level, wanted, of, v, operator)?;
-            Ok(())
-        }
-        Found::Object(k) => {
-            step_object(lines, site, level, wanted, of, k, operator)?;
-            Ok(())
-        }
-        Found::Element(t, at) => {
-            step_element(lines, site, level, wanted, t, at, operator)?;
-            Ok(())
-        }
+        Found::Local(v) => step_local(lines, site, level, wanted, of, v, operator),
+        Found::Object(k) => step_object(lines, site, level, wanted, of, k, operator),
+        Found::Element(t, at) => step_element(lines, site, level, wanted, t, at, operator),
     }
 }

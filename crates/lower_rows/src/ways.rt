@@ -63,8 +63,7 @@ pub fn open_ways(lines: &mut Lines, wanted: Wanted) -> Result<Ways, NoMemory>
                 last: Wanted::Dropped,
             })
         }
-        Wanted::Own => truth_ways(lines),
-        Wanted::ToLocal(_) => truth_ways(lines),
+        Wanted::Own | Wanted::ToLocal(_) => truth_ways(lines),
         Wanted::Tests(holds, fails) => {
             let first = lines.take_blocks(1)?;
             Ok(Ways {
@@ -102,8 +101,7 @@ pub fn end_ways(
             let behind = plus(first, 1)?;
             go_on(lines, behind)
         }
-        Wanted::Own => end_truth(lines, site, level, wanted, first),
-        Wanted::ToLocal(_) => end_truth(lines, site, level, wanted, first),
+        Wanted::Own | Wanted::ToLocal(_) => end_truth(lines, site, level, wanted, first),
         Wanted::Tests(_, _) => Ok(()),
     }
 }
@@ -114,9 +112,7 @@ pub fn own_blocks(wanted: Wanted) -> u32
 {
     match wanted {
         Wanted::Tests(_, _) => 2,
-        Wanted::Dropped => 3,
-        Wanted::Own => 3,
-        Wanted::ToLocal(_) => 3,
+        Wanted::Dropped | Wanted::Own | Wanted::ToLocal(_) => 3,
     }
 }
 
@@ -126,9 +122,7 @@ pub fn join(lines: &mut Lines, wanted: Wanted, behind: u32) -> Result<(), NoMemo
 {
     match wanted {
         Wanted::Tests(_, _) => Ok(()),
-        Wanted::Dropped => lines.emit(Op::Jump(behind)),
-        Wanted::Own => lines.emit(Op::Jump(behind)),
-        Wanted::ToLocal(_) => lines.emit(Op::Jump(behind)),
+        Wanted::Dropped | Wanted::Own | Wanted::ToLocal(_) => lines.emit(Op::Jump(behind)),
     }
 }
 
@@ -138,8 +132,6 @@ pub fn start_joined(lines: &mut Lines, wanted: Wanted, behind: u32) -> Result<()
 {
     match wanted {
         Wanted::Tests(_, _) => Ok(()),
-        Wanted::Dropped => lines.start(behind),
-        Wanted::Own => lines.start(behind),
-        Wanted::ToLocal(_) => lines.start(behind),
+        Wanted::Dropped | Wanted::Own | Wanted::ToLocal(_) => lines.start(behind),
     }
 }

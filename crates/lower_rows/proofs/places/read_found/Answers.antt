@@ -1,4 +1,5 @@
 use Rattle.std.proofs.Common.{sym, subst}
+use Rattle.std.proofs.lemmas.Result.{on_ok_weaker}
 use Rattle.lower_lines.specs.Expressions.{Located, AtLocal, AtObject, read_part}
 use Rattle.lower_moves.specs.Sites.{context_of}
 use Rattle.lower_moves.specs.Spots.{spot_of}
@@ -9,18 +10,18 @@ use Rattle.lower_rows.proofs.Naming.{object-read-adds}
 use Rattle.lower_rows.proofs.Placing.{after-nothing, found-element, found-local, found-object, read-element}
 use Rattle.lower_rows.proofs.places.read_found.Goals as goal
 
-pub returns-in_ok-local-in-Local : goal.returns-in_ok-local-in-Local
-returns-in_ok-local-in-Local c = λ located s h.
+pub returns-in-Local : goal.returns-in-Local
+returns-in-Local c = on_ok_weaker c.local.result (λ added. λ located s h.
     let context = context_of c.args.site.now in
     let w = wanted_of c.args.wanted in
     let level = c.args.level in
     let v = c.in-Local.v in
     let f = found-local located true level v (rw c.in-Local.is at h) in
     subst (λ (l : Located). AddsPart (read_part context c.args.of l) level w s c.local.new.lines) (sym f.0)
-    (after-nothing (λ n. (read_part context c.args.of (AtLocal v)).lines n level w) f.1 c.in_ok-local-in-Local.ensures)
+    (after-nothing (λ n. (read_part context c.args.of (AtLocal v)).lines n level w) f.1 added)) c.local.ensures
 
-pub returns-in_ok-object-in-Object : goal.returns-in_ok-object-in-Object
-returns-in_ok-object-in-Object c = λ located s h.
+pub returns-in-Object : goal.returns-in-Object
+returns-in-Object c = on_ok_weaker c.object.result (λ added. λ located s h.
     let context = context_of c.args.site.now in
     let w = wanted_of c.args.wanted in
     let level = c.args.level in
@@ -29,14 +30,14 @@ returns-in_ok-object-in-Object c = λ located s h.
     subst (λ (l : Located). AddsPart (read_part context c.args.of l) level w s c.object.new.lines) (sym f.0)
     (after-nothing (λ n. (read_part context c.args.of (AtObject k)).lines n level w) f.1
     (object-read-adds context c.args.of k level w c.number_type.result c.number_type.ensures
-    c.in_ok-object-in-Object.ensures))
+    added))) c.object.ensures
 
-pub returns-in_ok-loaded-in-Element : goal.returns-in_ok-loaded-in-Element
-returns-in_ok-loaded-in-Element c = λ located s h.
+pub returns-in-Element : goal.returns-in-Element
+returns-in-Element c = on_ok_weaker c.loaded.result (λ added. λ located s h.
     let context = context_of c.args.site.now in
     let w = wanted_of c.args.wanted in
     let level = c.args.level in
     let t = c.in-Element.t in
     let f = found-element located true level t c.in-Element.at (rw c.in-Element.is at h) in
     subst (λ (l : Located). AddsPart (read_part context c.args.of l) level w s c.loaded.new.lines) (sym f.1)
-    (read-element context c.args.of t f.0 level w (spot_of c.in-Element.at) f.2 f.3 c.in_ok-loaded-in-Element.ensures)
+    (read-element context c.args.of t f.0 level w (spot_of c.in-Element.at) f.2 f.3 added)) c.loaded.ensures
