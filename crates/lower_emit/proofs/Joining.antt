@@ -1,5 +1,6 @@
 -- The lines of `?:`, and of assignments to static objects and calls, from those of their parts.
 use Rattle.std.proofs.Common.{◌≡◌, ℕ, zero, suc, ◌+◌, List, [], ◌∷◌, ◌++◌, refl, sym, ap, ◌∙◌, arith, subst}
+use Rattle.std.proofs.Common.{append_assoc}
 use Rattle.std.proofs.Common.{true, false, Option, Some, None, drop}
 use Rattle.std.specs.Prelude.{Bool, ◌&&◌}
 use Rattle.c_tree.specs.declared.expression.Expression as built
@@ -22,7 +23,7 @@ use Rattle.lower_pieces.specs.Views.{AddsOperand, AddsPart}
 use Rattle.lower_pieces.proofs.Joined.{counted, lined, taken, two}
 use Rattle.lower_rows.specs.Kinds.{number_type}
 use Rattle.lower_operands.specs.Rows.{arguments_list, parameter_type, passed_as, passed_type}
-use Rattle.lower_rows.proofs.Naming.{next-to, object-assigned}
+use Rattle.lower_rows.proofs.Naming.{object-assigned}
 use Rattle.lower_emit.specs.Passing.{passed_from}
 use Rattle.lower_emit.proofs.Alike.{IsAlike}
 
@@ -30,42 +31,44 @@ use Rattle.lower_emit.proofs.Alike.{IsAlike}
 
 -- behind the test; `b` begins with the first block that `a` doesn't take
 pub conditional-at : (t a b : Part) (level : ℕ) (w : Wanted) (k first second behind : ℕ)
-    {s s1 s2 s3 s4 s5 s6 s7 s8 s9 : Built} → s1.lines ≡ s.lines → s1.next ≡ s.next + k
-    → AddsPart t level (Tests first second) s1 s2 → Adds s2 s3 0 (Start first ∷ []) → AddsPart a level w s3 s4
-    → Adds s4 s5 0 (joined behind w) → Adds s5 s6 0 (Start second ∷ []) → AddsPart b level w s6 s7
-    → Adds s7 s8 0 (joined behind w) → Adds s8 s9 0 (joins behind w)
-    → Adds s s9 (k + (test_blocks_of t + (a.blocks (plain w) + b.blocks (plain w))))
+    {s s1 s2 s3 s4 s5 : Built} → s1.lines ≡ s.lines → s1.next ≡ s.next + k
+    → AddsPart t level (Tests first second) s1 s2
+    → Adds s2 s3 (a.blocks (plain w)) (Start first ∷ (a.lines s2.next level w ++ joined behind w))
+    → Adds s3 s4 (b.blocks (plain w)) (Start second ∷ (b.lines s3.next level w ++ joined behind w))
+    → Adds s4 s5 0 (joins behind w)
+    → Adds s s5 (k + (test_blocks_of t + (a.blocks (plain w) + b.blocks (plain w))))
     (t.lines (s.next + k) level (Tests first second)
     ++ (Start first ∷ (a.lines (s.next + k + test_blocks_of t) level w ++ (joined behind w
     ++ (Start second ∷ (b.lines (s.next + k + test_blocks_of t + a.blocks (plain w)) level w
     ++ (joined behind w ++ joins behind w)))))))
-conditional-at t a b level w k first second behind {s} {s1} {s2} {s3} {s4} {s5} {s6} {s7} {s8} {s9} lines next ht st ha
-    j su hb l js =
-    let E = joined behind w ++ joins behind w in
-    let e7 : Adds s7 s9 0 E = next-to (λ n. joins behind w) l js in
+conditional-at t a b level w k first second behind {s} {s1} {s2} {s3} {s4} {s5} lines next ht ha hb js =
+    let J = joined behind w in
+    let E = joins behind w in
     let count : b.blocks (plain w) + 0 ≡ b.blocks (plain w) = omega arith in
-    let e6 : Adds s6 s9 (b.blocks (plain w)) (b.lines s6.next level w ++ E) = counted count (two (λ n. E) hb e7) in
-    let B : ℕ → List Line = λ n. Start second ∷ (b.lines n level w ++ E) in
-    let e5 : Adds s5 s9 (b.blocks (plain w)) (B s5.next) = next-to (λ n. b.lines n level w ++ E) su e6 in
-    let e4 : Adds s4 s9 (b.blocks (plain w)) (joined behind w ++ B s4.next) = next-to B j e5 in
-    let A : ℕ → List Line = λ n. a.lines n level w ++ (joined behind w ++ B (n + a.blocks (plain w))) in
-    let e3 : Adds s3 s9 (a.blocks (plain w) + b.blocks (plain w)) (A s3.next) =
-    two (λ n. joined behind w ++ B n) ha e4 in
-    let e2 : Adds s2 s9 (a.blocks (plain w) + b.blocks (plain w)) (Start first ∷ A s2.next) = next-to A st e3 in
-    two (λ n. t.lines n level (Tests first second) ++ (Start first ∷ A (n + test_blocks_of t))) (taken _ _ _ lines next)
-    (two (λ n. Start first ∷ A n) ht e2)
+    let B : ℕ → List Line = λ n. Start second ∷ (b.lines n level w ++ (J ++ E)) in
+    let e3 : Adds s3 s5 (b.blocks (plain w)) (B s3.next) =
+    counted count (lined (ap (λ (ls : List Line). Start second ∷ ls) (append_assoc (b.lines s3.next level w) J E))
+    (two (λ n. E) hb js)) in
+    let A : ℕ → List Line = λ n. Start first ∷ (a.lines n level w ++ (J ++ B (n + a.blocks (plain w)))) in
+    let e2 : Adds s2 s5 (a.blocks (plain w) + b.blocks (plain w)) (A s2.next) =
+    lined (ap (λ (ls : List Line). Start first ∷ ls)
+    (append_assoc (a.lines s2.next level w) J (B (s2.next + a.blocks (plain w))))) (two B ha e3) in
+    two (λ n. t.lines n level (Tests first second) ++ A (n + test_blocks_of t)) (taken _ _ _ lines next)
+    (two A ht e2)
 
 pub conditional-whole : (c : Context) (of : ValueType) (t a b : Part) (level : ℕ) (w : Wanted)
-    (k first second behind : ℕ) {s s1 s2 s3 s4 s5 s6 s7 s8 s9 : Built} → IsAlike (in_type c of a)
+    (k first second behind : ℕ) {s s1 s2 s3 s4 s5 : Built} → IsAlike (in_type c of a)
     → k ≡ own_blocks w → own_blocks w ≡ own_blocks (plain w) → first ≡ s.next → second ≡ first + 1
     → behind ≡ first + 2 → s1.lines ≡ s.lines → s1.next ≡ s.next + k
-    → AddsPart t level (Tests first second) s1 s2 → Adds s2 s3 0 (Start first ∷ [])
-    → AddsPart (in_type c of a) level w s3 s4
-    → Adds s4 s5 0 (joined behind w) → Adds s5 s6 0 (Start second ∷ []) → AddsPart (in_type c of b) level w s6 s7
-    → Adds s7 s8 0 (joined behind w) → Adds s8 s9 0 (joins behind w)
-    → AddsPart (conditional_part c of t a b) level w s s9
-conditional-whole c of t a b level w k first second behind {s} {s1} {s2} {s3} {s4} {s5} {s6} {s7} {s8} {s9} alike own
-    same is-first is-second is-behind lines next ht st ha j su hb l js =
+    → AddsPart t level (Tests first second) s1 s2
+    → Adds s2 s3 ((in_type c of a).blocks (plain w))
+    (Start first ∷ ((in_type c of a).lines s2.next level w ++ joined behind w))
+    → Adds s3 s4 ((in_type c of b).blocks (plain w))
+    (Start second ∷ ((in_type c of b).lines s3.next level w ++ joined behind w))
+    → Adds s4 s5 0 (joins behind w)
+    → AddsPart (conditional_part c of t a b) level w s s5
+conditional-whole c of t a b level w k first second behind {s} {s1} {s2} {s3} {s4} {s5} alike own same is-first
+    is-second is-behind lines next ht ha hb js =
     let x = in_type c of a in
     let y = in_type c of b in
     let n = s.next in
@@ -75,7 +78,7 @@ conditional-whole c of t a b level w k first second behind {s} {s1} {s2} {s3} {s
     t.lines (n + k) level (Tests first second) ++ (Start first ∷ (x.lines (n + k + test_blocks_of t) level w
     ++ (joined behind w ++ (Start second ∷ (y.lines (n + k + test_blocks_of t + taken') level w
     ++ (joined behind w ++ joins behind w)))))) in
-    let whole = conditional-at t x y level w k first second behind lines next ht st ha j su hb l js in
+    let whole = conditional-at t x y level w k first second behind lines next ht ha hb js in
     let count : k + (test_blocks_of t + (x.blocks (plain w) + y.blocks (plain w)))
     ≡ own_blocks (plain w) + test_blocks_of t + x.blocks (plain w) + y.blocks (plain w) =
     omega (arith, own, same) in

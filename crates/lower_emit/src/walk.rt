@@ -1,20 +1,23 @@
 //! The walk over a typed expression, which puts the lines of each part behind those of the parts before it.
 
-ghost use Rattle.std.specs.Prelude.{◌≡◌, true, IfOk, OnOk, slice_get};
+ghost use Rattle.std.specs.Prelude.{◌≡◌, ◌∷◌, ◌++◌, true, IfOk, OnOk, slice_get};
 ghost use Rattle.c_tree.specs.Erased.{expression_of, place_of};
 ghost use Rattle.lower_builder.specs.Built.{Adds, Built};
 ghost use Rattle.lower_lines.specs.Expressions.{address_part, all_passed, assign_part, assigned_local, call_part};
 ghost use Rattle.lower_lines.specs.Expressions.{parameters_of, part_of, parts_of, unary_part};
-ghost use Rattle.lower_lines.specs.Expressions.{update_part, Located};
+ghost use Rattle.lower_lines.specs.Expressions.{joined, number_part, update_part, Located};
 ghost use Rattle.lower_lines.specs.Expressions as parts;
+ghost use Rattle.lower_lines.specs.Lines.{Start};
 ghost use Rattle.lower_lines.specs.Parts.{in_type, operand, Own};
 ghost use Rattle.lower_lines.specs.Variables.{own};
 ghost use Rattle.lower_moves.specs.Sites.{context_of};
 ghost use Rattle.lower_moves.specs.Spots.{spot_of};
-ghost use Rattle.lower_moves.specs.Views.{wanted_of};
+ghost use Rattle.lower_moves.specs.Views.{plain, wanted_of};
 ghost use Rattle.lower_pieces.specs.Views.{AddsOperand, AddsPart};
 ghost use Rattle.lower_rows.specs.Finding.{Finds};
-ghost use Rattle.lower_operands.specs.Rows.{arguments_list, passed_as};
+ghost use Rattle.lower_rows.specs.Ways.{ways_end};
+ghost use Rattle.lower_operands.specs.Rows.{arguments_list, number_op, passed_as};
+ghost use Rattle.lower_emit.specs.Operating.{operating, operating_blocks};
 
 use crate::arguments::all_simple;
 use c_tree::{ArrayRef, BinaryOp, Expression, IntegerType, Place, UnaryOp, ValueType};
@@ -28,9 +31,9 @@ use lower_operands::{
 };
 use lower_pieces::{applied, end_truth};
 use lower_rows::{
-    Found, call_made, element_at, end_ways, is_simple, join, number_type, open_ways, own_blocks,
-    parameter_type, part_type, passed_type, push_words, read_found, set_local, set_object, stands,
-    start_joined, step_found,
+    Found, Ways, call_made, element_at, end_ways, is_simple, join, number_type, open_ways,
+    own_blocks, parameter_type, part_type, passed_type, push_words, read_found, set_local,
+    set_object, stands, start_joined, step_found,
 };
 use pcc_base::NoMemory;
 
@@ -51,98 +54,157 @@ pub fn emit(
         Expression::Start(t, array) => start(lines, site, level, wanted, *t, *array),
         Expression::Read(of, place) => {
             let found = find(lines, site, level, true, place)?;
-            read_found(lines, site, level, wanted, *of, found)?;
-            Ok(())
+            read_found(lines, site, level, wanted, *of, found)
         }
         Expression::Address(t, place) => address(lines, site, level, wanted, *t, place),
         Expression::Unary(_, operator, a) => unary(lines, site, level, wanted, *operator, a),
         Expression::Binary(_, operator, a, b) => {
             let x = stood(lines, site, level, is_simple(b), a)?;
-            let above = plus(level, 1)?;
-            let y = stood(lines, site, above, true, b)?;
-            let types = (part_type(a), part_type(b));
-            applied(lines, site, level, wanted, *operator, types, x, y)?;
-            Ok(())
+            operate(lines, site, level, wanted, *operator, part_type(a), x, b)
         }
         Expression::And(a, b) => {
             let ways = open_ways(lines, wanted)?;
-            emit(
-                lines,
-                site,
-                level,
-                Wanted::Tests(ways.second, ways.fails),
-                a,
-            )?;
-            lines.start(ways.second)?;
-            emit(lines, site, level, ways.last, b)?;
-            end_ways(lines, site, level, wanted, ways.first)?;
-            Ok(())
+            let first = Wanted::Tests(ways.second, ways.fails);
+            emit(lines, site, level, first, a)?;
+            second_way(lines, site, level, wanted, ways, b)
         }
         Expression::Or(a, b) => {
             let ways = open_ways(lines, wanted)?;
-            emit(
-                lines,
-                site,
-                level,
-                Wanted::Tests(ways.holds, ways.second),
-                a,
-            )?;
-            lines.start(ways.second)?;
-            emit(lines, site, level, ways.last, b)?;
-            end_ways(lines, site, level, wanted, ways.first)?;
-            Ok(())
+            let first = Wanted::Tests(ways.holds, ways.second);
+            emit(lines, site, level, first, a)?;
+            second_way(lines, site, level, wanted, ways, b)
         }
         Expression::Conditional(of, t, a, b) => {
             let first = lines.take_blocks(own_blocks(wanted))?;
             let second = plus(first, 1)?;
             let behind = plus(first, 2)?;
             emit(lines, site, level, Wanted::Tests(first, second), t)?;
-            lines.start(first)?;
-            typed(lines, site, level, wanted, *of, a)?;
-            join(lines, wanted, behind)?;
-            lines.start(second)?;
-            typed(lines, site, level, wanted, *of, b)?;
-            join(lines, wanted, behind)?;
+            choice(lines, site, level, wanted, *of, first, behind, a)?;
+            choice(lines, site, level, wanted, *of, second, behind, b)?;
             start_joined(lines, wanted, behind)?;
             Ok(())
         }
         Expression::Cast(to, a) => typed(lines, site, level, wanted, *to, a),
         Expression::Assign(of, place, a) => {
             let found = find(lines, site, level, is_simple(a), place)?;
-            assign(lines, site, level, wanted, *of, found, a)?;
-            Ok(())
+            assign(lines, site, level, wanted, *of, found, a)
         }
         Expression::Update(of, operator, place, a) => {
             let found = find(lines, site, level, is_simple(a), place)?;
-            update(lines, site, level, wanted, *of, *operator, found, a)?;
-            Ok(())
+            update(lines, site, level, wanted, *of, *operator, found, a)
         }
         Expression::Step(of, operator, place) => {
             let found = find(lines, site, level, true, place)?;
-            step_found(lines, site, level, wanted, *of, *operator, found)?;
-            Ok(())
+            step_found(lines, site, level, wanted, *of, *operator, found)
         }
         Expression::Comma(a, b) => {
             emit(lines, site, level, Wanted::Dropped, a)?;
-            emit(lines, site, level, wanted, b)?;
-            Ok(())
+            emit(lines, site, level, wanted, b)
         }
         Expression::Call(of, f, arguments) => {
             call(lines, site, level, wanted, *of, *f, arguments.as_slice())
         }
-        Expression::Putchar(a) => {
-            let x = stood(lines, site, level, true, a)?;
-            number_made(lines, site, level, wanted, NumberOp::Put, x.number)?;
-            Ok(())
-        }
+        Expression::Putchar(a) => number(lines, site, level, wanted, NumberOp::Put, a),
         Expression::Getchar => getchar(lines, site, level, wanted),
         Expression::Exit(a) => {
             let block = lines.take_blocks(1)?;
             let x = stood(lines, site, level, true, a)?;
-            exit_with(lines, block, x.number)?;
-            Ok(())
+            exit_with(lines, block, x.number)
         }
     }
+}
+
+/// An operator on a value that stands in variables and a second operand.
+#[cycle(emit)]
+fn operate(
+    lines: &mut Lines,
+    site: &Site<'_>,
+    level: u32,
+    wanted: Wanted,
+    operator: BinaryOp,
+    of: ValueType,
+    x: Spot,
+    e: &Expression,
+) -> Result<(), NoMemory>
+    ensures { OnOk result (Adds lines.old lines.new
+        (operating_blocks (context_of site.now) (plain (wanted_of wanted)) operator of
+        (part_of (context_of site.now) (expression_of e.now)))
+        (operating (context_of site.now) lines.old.next level (wanted_of wanted) operator of (spot_of x)
+        (part_of (context_of site.now) (expression_of e.now)))) }
+{
+    let above = plus(level, 1)?;
+    let y = stood(lines, site, above, true, e)?;
+    applied(
+        lines,
+        site,
+        level,
+        wanted,
+        operator,
+        (of, part_type(e)),
+        x,
+        y,
+    )
+}
+
+/// The second operand of `&&` and `||`, and what stands behind both.
+#[cycle(emit)]
+fn second_way(
+    lines: &mut Lines,
+    site: &Site<'_>,
+    level: u32,
+    wanted: Wanted,
+    ways: Ways,
+    e: &Expression,
+) -> Result<(), NoMemory>
+    ensures { OnOk result (Adds lines.old lines.new
+        ((part_of (context_of site.now) (expression_of e.now)).blocks (plain (wanted_of ways.last)))
+        (Start ways.second
+        ∷ ((part_of (context_of site.now) (expression_of e.now)).lines lines.old.next level (wanted_of ways.last)
+        ++ ways_end (context_of site.now) ways.first level (wanted_of wanted)))) }
+{
+    lines.start(ways.second)?;
+    emit(lines, site, level, ways.last, e)?;
+    end_ways(lines, site, level, wanted, ways.first)
+}
+
+/// One way of `?:`: its block, its value in the type of both, and where both lead.
+#[cycle(emit)]
+fn choice(
+    lines: &mut Lines,
+    site: &Site<'_>,
+    level: u32,
+    wanted: Wanted,
+    of: ValueType,
+    block: u32,
+    behind: u32,
+    e: &Expression,
+) -> Result<(), NoMemory>
+    ensures { OnOk result (Adds lines.old lines.new
+        ((in_type (context_of site.now) of (part_of (context_of site.now) (expression_of e.now))).blocks
+        (plain (wanted_of wanted)))
+        (Start block ∷ ((in_type (context_of site.now) of (part_of (context_of site.now) (expression_of e.now))).lines
+        lines.old.next level (wanted_of wanted) ++ joined behind (wanted_of wanted)))) }
+{
+    lines.start(block)?;
+    typed(lines, site, level, wanted, of, e)?;
+    join(lines, wanted, behind)
+}
+
+/// An op on the number that an expression gives.
+#[cycle(emit)]
+fn number(
+    lines: &mut Lines,
+    site: &Site<'_>,
+    level: u32,
+    wanted: Wanted,
+    how: NumberOp,
+    e: &Expression,
+) -> Result<(), NoMemory>
+    ensures { OnOk result (AddsPart (number_part (context_of site.now) (number_op how)
+        (part_of (context_of site.now) (expression_of e.now))) level (wanted_of wanted) lines.old lines.new) }
+{
+    let x = stood(lines, site, level, true, e)?;
+    number_made(lines, site, level, wanted, how, x.number)
 }
 
 /// An expression as an operand. `stays` says that nothing which is evaluated before its use stores anything.
@@ -186,30 +248,36 @@ pub fn typed(
     match to {
         ValueType::Void => emit(lines, site, level, Wanted::Dropped, e),
         ValueType::Integer(IntegerType::Int) => emit(lines, site, level, wanted, e),
-        ValueType::Integer(IntegerType::Char) => {
+        ValueType::Integer(t) => {
             let x = stood(lines, site, level, true, e)?;
-            narrow_made(lines, site, level, wanted, IntegerType::Char, x.number)?;
-            Ok(())
-        }
-        ValueType::Integer(IntegerType::Short) => {
-            let x = stood(lines, site, level, true, e)?;
-            narrow_made(lines, site, level, wanted, IntegerType::Short, x.number)?;
-            Ok(())
+            narrow_made(lines, site, level, wanted, t, x.number)
         }
         ValueType::Pointer(_) => match part_type(e) {
             ValueType::Pointer(_) => emit(lines, site, level, wanted, e),
-            ValueType::Void => {
+            ValueType::Void | ValueType::Integer(_) => {
                 emit(lines, site, level, Wanted::Dropped, e)?;
-                null_pointer(lines, site, level, wanted)?;
-                Ok(())
-            }
-            ValueType::Integer(_) => {
-                emit(lines, site, level, Wanted::Dropped, e)?;
-                null_pointer(lines, site, level, wanted)?;
-                Ok(())
+                null_pointer(lines, site, level, wanted)
             }
         },
     }
+}
+
+/// A value in a type that stands nowhere yet: the temporaries of a level that get it.
+#[cycle(emit)]
+fn in_own(
+    lines: &mut Lines,
+    site: &Site<'_>,
+    level: u32,
+    to: ValueType,
+    e: &Expression,
+) -> Result<Spot, NoMemory>
+    ensures adds { IfOk result (λ _. AddsPart (in_type (context_of site.now) to
+        (part_of (context_of site.now) (expression_of e.now))) level Own lines.old lines.new) }
+    ensures spot { IfOk result (λ spot. spot_of spot ≡ own (context_of site.now) level) }
+{
+    typed(lines, site, level, Wanted::Own, to, e)?;
+    let own = site.own(level)?;
+    Ok(own)
 }
 
 /// `+`, `-`, `~` and `!` (C99 6.5.3.3).
@@ -227,32 +295,16 @@ fn unary(
 {
     match operator {
         UnaryOp::Plus => emit(lines, site, level, wanted, e),
-        UnaryOp::Minus => {
-            let x = stood(lines, site, level, true, e)?;
-            number_made(lines, site, level, wanted, NumberOp::Negate, x.number)?;
-            Ok(())
-        }
-        UnaryOp::Complement => {
-            let x = stood(lines, site, level, true, e)?;
-            number_made(lines, site, level, wanted, NumberOp::Complement, x.number)?;
-            Ok(())
-        }
+        UnaryOp::Minus => number(lines, site, level, wanted, NumberOp::Negate, e),
+        UnaryOp::Complement => number(lines, site, level, wanted, NumberOp::Complement, e),
         UnaryOp::Not => match wanted {
             Wanted::Dropped => emit(lines, site, level, Wanted::Dropped, e),
             Wanted::Tests(holds, fails) => emit(lines, site, level, Wanted::Tests(fails, holds), e),
-            Wanted::Own => {
+            Wanted::Own | Wanted::ToLocal(_) => {
                 let first = lines.take_blocks(3)?;
                 let second = plus(first, 1)?;
                 emit(lines, site, level, Wanted::Tests(second, first), e)?;
-                end_truth(lines, site, level, wanted, first)?;
-                Ok(())
-            }
-            Wanted::ToLocal(_) => {
-                let first = lines.take_blocks(3)?;
-                let second = plus(first, 1)?;
-                emit(lines, site, level, Wanted::Tests(second, first), e)?;
-                end_truth(lines, site, level, wanted, first)?;
-                Ok(())
+                end_truth(lines, site, level, wanted, first)
             }
         },
     }
@@ -277,11 +329,16 @@ fn address(
         Place::Target(_, e) => emit(lines, site, level, wanted, e),
         Place::Element(_, a, i) => {
             let x = stood(lines, site, level, is_simple(i), a)?;
-            let above = plus(level, 1)?;
-            let y = stood(lines, site, above, true, i)?;
-            let types = (part_type(a), part_type(i));
-            applied(lines, site, level, wanted, BinaryOp::Add, types, x, y)?;
-            Ok(())
+            operate(
+                lines,
+                site,
+                level,
+                wanted,
+                BinaryOp::Add,
+                part_type(a),
+                x,
+                i,
+            )
         }
     }
 }
@@ -336,20 +393,15 @@ fn assign(
         (part_of (context_of site.now) (expression_of e.now))) level (wanted_of wanted) s lines.new) }
 {
     match found {
-        Found::Local(v) => {
-            assign_local(lines, site, level, wanted, of, v, e)?;
-            Ok(())
-        }
+        Found::Local(v) => assign_local(lines, site, level, wanted, of, v, e),
         Found::Object(k) => {
             let x = stood(lines, site, level, true, e)?;
-            put(lines, site, level, wanted, number_type(of), k, x.number)?;
-            Ok(())
+            put(lines, site, level, wanted, number_type(of), k, x.number)
         }
         Found::Element(t, at) => {
             let above = plus(level, 1)?;
             let x = stood(lines, site, above, true, e)?;
-            store(lines, site, level, wanted, t, at, x.number)?;
-            Ok(())
+            store(lines, site, level, wanted, t, at, x.number)
         }
     }
 }
@@ -371,28 +423,11 @@ pub fn assign_local(
     match of {
         ValueType::Integer(IntegerType::Char) => {
             let x = stood(lines, site, level, true, e)?;
-            byte_set(lines, site, level, wanted, v, x.number)?;
-            Ok(())
+            byte_set(lines, site, level, wanted, v, x.number)
         }
-        ValueType::Integer(IntegerType::Short) => {
+        ValueType::Integer(_) | ValueType::Pointer(_) | ValueType::Void => {
             typed(lines, site, level, Wanted::ToLocal(v), of, e)?;
-            stored(lines, site, level, wanted, of, v)?;
-            Ok(())
-        }
-        ValueType::Integer(IntegerType::Int) => {
-            typed(lines, site, level, Wanted::ToLocal(v), of, e)?;
-            stored(lines, site, level, wanted, of, v)?;
-            Ok(())
-        }
-        ValueType::Pointer(_) => {
-            typed(lines, site, level, Wanted::ToLocal(v), of, e)?;
-            stored(lines, site, level, wanted, of, v)?;
-            Ok(())
-        }
-        ValueType::Void => {
-            typed(lines, site, level, Wanted::ToLocal(v), of, e)?;
-            stored(lines, site, level, wanted, of, v)?;
-            Ok(())
+            stored(lines, site, level, wanted, of, v)
         }
     }
 }
@@ -420,8 +455,7 @@ fn update(
             let x = local_operand(lines, site, level, is_simple(e), of, v)?;
             let y = stood(lines, site, above, true, e)?;
             let types = (of, part_type(e));
-            set_local(lines, site, level, wanted, of, v, operator, types, x, y)?;
-            Ok(())
+            set_local(lines, site, level, wanted, of, v, operator, types, x, y)
         }
         Found::Object(k) => {
             let t = number_type(of);
@@ -429,14 +463,12 @@ fn update(
             let x = site.own(level)?;
             let y = stood(lines, site, above, true, e)?;
             let types = (ValueType::Integer(t), part_type(e));
-            set_object(lines, site, level, wanted, t, k, operator, types, x, y)?;
-            Ok(())
+            set_object(lines, site, level, wanted, t, k, operator, types, x, y)
         }
         Found::Element(t, at) => {
             load_old(lines, site, level, t, at)?;
             let y = stood(lines, site, above, true, e)?;
-            renew(lines, site, level, wanted, t, operator, at, y.number)?;
-            Ok(())
+            renew(lines, site, level, wanted, t, operator, at, y.number)
         }
     }
 }
@@ -467,8 +499,7 @@ fn call(
         own_level = plus(own_level, 1)?;
     }
     let passed = Words::new(words);
-    call_made(lines, site, level, wanted, of, f, passed)?;
-    Ok(())
+    call_made(lines, site, level, wanted, of, f, passed)
 }
 
 /// An argument as its parameter takes it, as an operand.
@@ -489,22 +520,11 @@ fn argument(
         level) }
 {
     match parameter {
-        None => stood(lines, site, level, stays, e),
-        Some(ValueType::Void) => stood(lines, site, level, stays, e),
-        Some(ValueType::Integer(_)) => stood(lines, site, level, stays, e),
-        Some(ValueType::Pointer(_)) => match part_type(e) {
+        None | Some(ValueType::Void | ValueType::Integer(_)) => stood(lines, site, level, stays, e),
+        Some(ValueType::Pointer(t)) => match part_type(e) {
             ValueType::Pointer(_) => stood(lines, site, level, stays, e),
-            ValueType::Void => {
-                emit(lines, site, level, Wanted::Dropped, e)?;
-                null_pointer(lines, site, level, Wanted::Own)?;
-                let own = site.own(level)?;
-                Ok(own)
-            }
-            ValueType::Integer(_) => {
-                emit(lines, site, level, Wanted::Dropped, e)?;
-                null_pointer(lines, site, level, Wanted::Own)?;
-                let own = site.own(level)?;
-                Ok(own)
+            ValueType::Void | ValueType::Integer(_) => {
+                in_own(lines, site, level, ValueType::Pointer(t), e)
             }
         },
     }
@@ -523,33 +543,10 @@ pub fn returned(
     ensures number { IfOk result (λ x. x ≡ ((operand (context_of site.now) true
         (in_type (context_of site.now) to (part_of (context_of site.now) (expression_of e.now)))).spot 0).number) }
 {
-    match to {
-        ValueType::Integer(IntegerType::Int) => {
-            let x = stood(lines, site, 0, true, e)?;
-            Ok(x.number)
-        }
-        ValueType::Pointer(_) => {
-            let x = argument(lines, site, 0, true, Some(to), e)?;
-            Ok(x.number)
-        }
-        ValueType::Void => in_own(lines, site, to, e),
-        ValueType::Integer(IntegerType::Char) => in_own(lines, site, to, e),
-        ValueType::Integer(IntegerType::Short) => in_own(lines, site, to, e),
-    }
-}
-
-/// A value in a type that stands nowhere yet: the variable of level 0 that gets it.
-fn in_own(
-    lines: &mut Lines,
-    site: &Site<'_>,
-    to: ValueType,
-    e: &Expression,
-) -> Result<u32, NoMemory>
-    ensures adds { IfOk result (λ _. AddsPart (in_type (context_of site.now) to
-        (part_of (context_of site.now) (expression_of e.now))) 0 Own lines.old lines.new) }
-    ensures number { IfOk result (λ x. x ≡ (own (context_of site.now) 0).number) }
-{
-    typed(lines, site, 0, Wanted::Own, to, e)?;
-    let number = site.number(0)?;
-    Ok(number)
+    let x = match to {
+        ValueType::Integer(IntegerType::Int) => stood(lines, site, 0, true, e),
+        ValueType::Pointer(_) => argument(lines, site, 0, true, Some(to), e),
+        ValueType::Void | ValueType::Integer(_) => in_own(lines, site, 0, to, e),
+    }?;
+    Ok(x.number)
 }

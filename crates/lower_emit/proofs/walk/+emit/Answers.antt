@@ -2,6 +2,7 @@
 use Rattle.std.proofs.Common.{rules, ◌≡◌, ◌∙◌, ◌+◌, ◌++◌, ◌∷◌, sym, ap, subst, suc, arith, ℕ, List, drop}
 use Rattle.std.specs.Prelude.{◌&&◌, option_map, slice_get}
 use Rattle.std.proofs.lemmas.List.{drop_all, drop_more}
+use Rattle.std.proofs.lemmas.Result.{on_ok_weaker}
 use Rattle.c_tree.specs.declared.expression.Expression.TheViews.{the_lemmas}
 use Rattle.c_tree.specs.Erased.{expression_of, place_of}
 use Rattle.c_tree.specs.Program as typed
@@ -41,12 +42,11 @@ emit-returns-in_ok-start_joined-in-Conditional t c =
     c.in_ok-first-in-Conditional.ensures.first c.in_ok-second-in-Conditional.ensures
     c.in_ok-behind-in-Conditional.ensures c.in_ok-first-in-Conditional.ensures.lines
     c.in_ok-first-in-Conditional.ensures.next c.in_ok-emit-in-Conditional.ensures
-    c.in_ok-start-in-Conditional.ensures c.in_ok-typed-in-Conditional.ensures c.in_ok-join-in-Conditional.ensures
-    c.in_ok-start-in-Conditional-2.ensures c.in_ok-typed-in-Conditional-2.ensures
-    c.in_ok-join-in-Conditional-2.ensures c.in_ok-start_joined-in-Conditional.ensures)
+    c.in_ok-choice-in-Conditional.ensures c.in_ok-choice-in-Conditional-2.ensures
+    c.in_ok-start_joined-in-Conditional.ensures)
 
-pub assign-returns-in_ok-put-in-Object : goal.assign-returns-in_ok-put-in-Object
-assign-returns-in_ok-put-in-Object t c = λ located s h.
+pub assign-returns-in_ok-x-in-Object : goal.assign-returns-in_ok-x-in-Object
+assign-returns-in_ok-x-in-Object t c = on_ok_weaker c.put.result (λ added. λ located s h.
     let context = context_of c.args.site.now in
     let w = wanted_of c.args.wanted in
     let level = c.args.level in
@@ -57,7 +57,7 @@ assign-returns-in_ok-put-in-Object t c = λ located s h.
     (after-nothing (λ n. (assign_part context c.args.of (AtObject k) a).lines n level w) f.1
     (assign-object context c.args.of c.number_type.result k a level w (spot_of c.in_ok-x-in-Object.x)
     c.number_type.ensures c.in_ok-x-in-Object.ensures.adds c.in_ok-x-in-Object.ensures.spot
-    c.in_ok-put-in-Object.ensures))
+    added))) c.put.ensures
 
 pub find-returns-in_ok-at-in-Target : goal.find-returns-in_ok-at-in-Target
 find-returns-in_ok-at-in-Target t c =
@@ -106,8 +106,8 @@ find-returns-in_ok-at-in-Element t c =
           c.in_ok-x-in-Element.ensures.spot spot),
     )
 
-pub update-returns-in_ok-set_local-in-Local : goal.update-returns-in_ok-set_local-in-Local
-update-returns-in_ok-set_local-in-Local t c = λ located s h.
+pub update-returns-in_ok-y-in-Local : goal.update-returns-in_ok-y-in-Local
+update-returns-in_ok-y-in-Local t c = on_ok_weaker c.set_local.result (λ added. λ located s h.
     let context = context_of c.args.site.now in
     let w = wanted_of c.args.wanted in
     let level = c.args.level in
@@ -121,10 +121,10 @@ update-returns-in_ok-set_local-in-Local t c = λ located s h.
     (local-assigned context c.args.of v o level c.in_ok-above.above w a c.is_simple.result c.part_type.result
     (spot_of c.in_ok-x-in-Local.x) (spot_of c.in_ok-y-in-Local.y) up (c.is_simple.ensures context)
     (c.part_type.ensures context) c.in_ok-x-in-Local.ensures.adds c.in_ok-x-in-Local.ensures.spot
-    c.in_ok-y-in-Local.ensures.adds c.in_ok-y-in-Local.ensures.spot c.in_ok-set_local-in-Local.ensures))
+    c.in_ok-y-in-Local.ensures.adds c.in_ok-y-in-Local.ensures.spot added))) c.set_local.ensures
 
-pub update-returns-in_ok-set_object-in-Object : goal.update-returns-in_ok-set_object-in-Object
-update-returns-in_ok-set_object-in-Object t c = λ located s h.
+pub update-returns-in_ok-y-in-Object : goal.update-returns-in_ok-y-in-Object
+update-returns-in_ok-y-in-Object t c = on_ok_weaker c.set_object.result (λ added. λ located s h.
     let context = context_of c.args.site.now in
     let w = wanted_of c.args.wanted in
     let level = c.args.level in
@@ -139,7 +139,7 @@ update-returns-in_ok-set_object-in-Object t c = λ located s h.
     c.part_type-in-Object.result (spot_of c.in_ok-x-in-Object.x) (spot_of c.in_ok-y-in-Object.y)
     c.number_type-t.ensures up (c.part_type-in-Object.ensures context) c.in_ok-object-in-Object.ensures
     c.in_ok-x-in-Object.ensures c.in_ok-y-in-Object.ensures.adds c.in_ok-y-in-Object.ensures.spot
-    c.in_ok-set_object-in-Object.ensures))
+    added))) c.set_object.ensures
 
 pub emit-returns-in-Call : goal.emit-returns-in-Call
 emit-returns-in-Call t c = search (rules, the_lemmas, row_is)
@@ -182,9 +182,10 @@ call-returns t c =
     let ps = parameters_of (slice_get s.program.functions c.args.f) in
     let es = c.args.arguments.now in
     let past = passed-past s ps es c.arguments.place (drop_all c.arguments.place es c.arguments-test.false) in
-    passing-all s c.args.of c.args.f (passed_from s ps es 0) c.args.level c.arguments.own_level
-    (wanted_of c.args.wanted) c.arguments.words.items c.args.lines.now c.arguments.lines c.call_made.new.lines
+    on_ok_weaker c.call_made.result (λ added. passing-all s c.args.of c.args.f (passed_from s ps es 0) c.args.level
+    c.arguments.own_level (wanted_of c.args.wanted) c.arguments.words.items c.args.lines.now c.arguments.lines
+    c.call_made.new.lines
     (subst (λ (r : List Part). IsPassing s (passed_from s ps es 0) r c.args.level c.args.lines.now c.arguments.own_level
     c.arguments.lines c.arguments.words.items) past c.arguments.invariant)
     (subst (λ (ws : List ℕ). Adds c.arguments.lines c.call_made.new.lines 0 (result_lines s c.arguments.lines.next
-    c.args.level (wanted_of c.args.wanted) c.args.of c.args.f ws)) c.new-passed.ensures c.in_ok-call_made.ensures)
+    c.args.level (wanted_of c.args.wanted) c.args.of c.args.f ws)) c.new-passed.ensures added)) c.call_made.ensures
