@@ -39,18 +39,15 @@ pub fn statement(
     match s {
         Statement::Declare(of) => {
             item(lines, site, of)?;
-            go_onward(lines, site, after)?;
-            Ok(())
+            go_onward(lines, site, after)
         }
         Statement::Empty(n) => {
             lines.emit(Op::Mark(*n))?;
-            go_onward(lines, site, after)?;
-            Ok(())
+            go_onward(lines, site, after)
         }
         Statement::Expression(n, e) => {
             evaluated(lines, site, *n, e)?;
-            go_onward(lines, site, after)?;
-            Ok(())
+            go_onward(lines, site, after)
         }
         Statement::Block(body) => sequence(lines, ahead, site, &[], body.as_slice(), exits, after),
         Statement::If(n, e, a, b) => {
@@ -125,18 +122,9 @@ pub fn statement(
             start_exit(lines, site, ways.exit, after)?;
             Ok(())
         }
-        Statement::Break(n) => {
-            go(lines, *n, exits.breaks, after)?;
-            Ok(())
-        }
-        Statement::Continue(n) => {
-            go(lines, *n, exits.continues, after)?;
-            Ok(())
-        }
-        Statement::Return(n, value) => {
-            return_value(lines, site, *n, value, after)?;
-            Ok(())
-        }
+        Statement::Break(n) => go(lines, *n, exits.breaks, after),
+        Statement::Continue(n) => go(lines, *n, exits.continues, after),
+        Statement::Return(n, value) => return_value(lines, site, *n, value, after),
     }
 }
 
