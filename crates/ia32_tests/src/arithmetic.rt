@@ -73,23 +73,28 @@ const WORDS: [(u32, [u32; 5]); 3] = results! {
     0x8000_0000 => [0x7fff_ffff, 0x8000_0000, 0xffff_ffff, 0, 0];
 };
 
+/// What is made of a word is this.
+fn expect_made(rt: &impl Abort, a: u32, made: u32, expected: u32) {
+    assert_eq!(rt; made, expected, "of {a:#x}");
+}
+
 /// The word of each row is shifted so.
 fn expect_shifts(rt: &impl Abort, rows: &[((u32, u8), [u32; 3])]) {
     for ((a, count), [left, right, signed]) in rows {
-        assert_eq!(rt; shift(ShiftOp::Shl, *a, *count), *left);
-        assert_eq!(rt; shift(ShiftOp::Shr, *a, *count), *right);
-        assert_eq!(rt; shift(ShiftOp::Sar, *a, *count), *signed);
+        expect_made(rt, *a, shift(ShiftOp::Shl, *a, *count), *left);
+        expect_made(rt, *a, shift(ShiftOp::Shr, *a, *count), *right);
+        expect_made(rt, *a, shift(ShiftOp::Sar, *a, *count), *signed);
     }
 }
 
 /// The word of each row gives these.
 fn expect_words(rt: &impl Abort, rows: &[(u32, [u32; 5])]) {
     for (a, [not, neg, sign, byte, half]) in rows {
-        assert_eq!(rt; complement(*a), *not);
-        assert_eq!(rt; negation(*a), *neg);
-        assert_eq!(rt; sign_word(*a), *sign);
-        assert_eq!(rt; sign_extend8((*a & 0xff) as u8), *byte);
-        assert_eq!(rt; sign_extend16((*a & 0xffff) as u16), *half);
+        expect_made(rt, *a, complement(*a), *not);
+        expect_made(rt, *a, negation(*a), *neg);
+        expect_made(rt, *a, sign_word(*a), *sign);
+        expect_made(rt, *a, sign_extend8((*a & 0xff) as u8), *byte);
+        expect_made(rt, *a, sign_extend16((*a & 0xffff) as u16), *half);
     }
 }
 
@@ -97,8 +102,13 @@ fn expect_words(rt: &impl Abort, rows: &[(u32, [u32; 5])]) {
 fn words(rt: HostRuntime) {
     expect_shifts(&rt, &SHIFTS);
     expect_words(&rt, &WORDS);
-    assert_eq!(rt; product(0xffff_fffe, 7), 0xffff_fff2);
-    assert_eq!(rt; with_low16(0x8000, 0x1234_5678), 0x1234_8000);
+    expect_made(&rt, 0xffff_fffe, product(0xffff_fffe, 7), 0xffff_fff2);
+    expect_made(
+        &rt,
+        0x1234_5678,
+        with_low16(0x8000, 0x1234_5678),
+        0x1234_8000,
+    );
 }
 
 /// A dividend and a divisor, and their quotient and remainder.
@@ -121,25 +131,25 @@ const SIGNED: [Division; 7] = results! {
     (7, 0) => None;
 };
 
+/// The quotient and the remainder are those of the row.
+fn expect_division(rt: &impl Abort, made: Option<(u32, u32)>, row: &Division) {
+    let ((dividend, divisor), expected) = row;
+    assert_eq!(rt; made, *expected, "{dividend:#x} by {divisor:#x}");
+}
+
 /// The quotient of each row, without signs, is this.
 fn expect_unsigned(rt: &impl Abort, rows: &[Division]) {
-    for ((dividend, divisor), expected) in rows {
-        assert_eq!(rt;
-            divide(*dividend, *divisor),
-            *expected,
-            "{dividend:#x} by {divisor:#x}"
-        );
+    for row in rows {
+        let (dividend, divisor) = row.0;
+        expect_division(rt, divide(dividend, divisor), row);
     }
 }
 
 /// The quotient of each row, with signs, is this.
 fn expect_signed(rt: &impl Abort, rows: &[Division]) {
-    for ((dividend, divisor), expected) in rows {
-        assert_eq!(rt;
-            divide_signed(*dividend, *divisor),
-            *expected,
-            "{dividend:#x} by {divisor:#x}"
-        );
+    for row in rows {
+        let (dividend, divisor) = row.0;
+        expect_division(rt, divide_signed(dividend, divisor), row);
     }
 }
 
@@ -176,19 +186,29 @@ const CONDITIONS: [(Bits, [u8; 14]); 5] = results! {
     [1, 0, 1, 0] => [0, 1, 1, 0, 0, 1, 1, 0, 1, 0, 1, 0, 1, 0];
 };
 
+/// The condition has this answer under these flags.
+fn expect_holds(rt: &impl Abort, cond: Cond, known: Option<Flags>, expected: Option<bool>) {
+    assert_eq!(rt; holds(cond, known), expected, "{cond:?}");
+}
+
 /// Under these flags those conditions hold, and the conditions on parity and those on unknown flags have no answer.
-fn expect_conditions(rt: &impl Abort, known: Flags, expected: [u8; 14]) {
-    for (cond, bit) in ORDER.into_iter().zip(expected) {
-        assert_eq!(rt; holds(cond, Some(known)), Some(bit == 1));
-        assert_eq!(rt; holds(cond, None), None);
+fn expect_answers(rt: &impl Abort, known: Flags, expected: &[u8]) {
+    for (cond, bit) in ORDER.iter().zip(expected.iter()) {
+        expect_holds(rt, *cond, Some(known), Some(*bit == 1));
+        expect_holds(rt, *cond, None, None);
     }
-    assert_eq!(rt; holds(Cond::P, Some(known)), None);
-    assert_eq!(rt; holds(Cond::Np, Some(known)), None);
+    expect_holds(rt, Cond::P, Some(known), None);
+    expect_holds(rt, Cond::Np, Some(known), None);
+}
+
+/// Under the flags of each row those conditions hold.
+fn expect_conditions(rt: &impl Abort, rows: &[(Bits, [u8; 14])]) {
+    for (known, expected) in rows {
+        expect_answers(rt, flags(*known), expected);
+    }
 }
 
 #[test]
 fn conditions(rt: HostRuntime) {
-    for (known, expected) in CONDITIONS {
-        expect_conditions(&rt, flags(known), expected);
-    }
+    expect_conditions(&rt, &CONDITIONS);
 }

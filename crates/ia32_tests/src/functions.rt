@@ -1,5 +1,8 @@
 //! The items of a function with two blocks, a frame array and a call, by hand.
 
+ghost use Rattle.std.specs.Prelude.{◌≡◌, ◌<◌, length};
+ghost use Rattle.flow_graph.specs.Graphs.{with_op, FitsOp, IsEnded};
+
 use flow_graph::{Comparison, Graph, Op, Words};
 use ia32_frames::{Frame, frames_support, offsets_are_below};
 use ia32_functions::select_function;
@@ -11,6 +14,7 @@ use ia32_insn::Rm32::{Mem as Memory, Reg};
 use ia32_insn::{AluOp, Cond, Mem};
 use ia32_regs::Reg32::{Eax, Ebp, Ebx, Edi, Esi, Esp};
 use pcc_base::Width;
+use std::process::Abort;
 use std::test::Fail;
 
 /// The memory at a distance from the address in a register.
@@ -18,6 +22,17 @@ macro_rules! at {
     ($register:ident $distance:literal) => {
         Mem { base: Some($register), index: None, disp: $distance }
     };
+}
+
+/// Makes a point with this op at the end of a block.
+fn append(rt: &impl Abort, graph: &mut Graph, block: u32, op: Op)
+    requires room { length graph.old.ops < 4294967295 }
+    requires in_range { block < length graph.old.blocks }
+    requires not_ended { ¬ IsEnded graph.old block }
+    requires fits { FitsOp graph.old op }
+    ensures { graph.new ≡ with_op graph.old block op }
+{
+    graph.append(block, op).expect(rt, "a point");
 }
 
 /// Variable 0 stands 20 below EBP. The array has three elements of two bytes, which take two words, from 28 below EBP
@@ -74,25 +89,26 @@ const ITEMS: [Item; 46] = [
 
 #[test]
 fn call_clear_and_branch(rt: HostRuntime) -> Result<(), Fail> {
-    let mut graph = Graph::new(rt.alloc())?;
-    graph.add_var(Width::Two)?;
-    graph.add_array(2, 3)?;
-    graph.add_block()?;
     let words = Words::new(vec![in rt.alloc(); 0]?);
-    graph.append(0, Op::Call(Some(0), 3, words))?;
-    graph.append(0, Op::Clear(0))?;
-    graph.append(0, Op::Branch(Comparison::Lt, 0, 0, 1, 0))?;
-    graph.append(1, Op::Return(None))?;
+    let mut graph = Graph::new(rt.alloc())?;
+    graph.add_var(Width::Two).expect(&rt, "a variable");
+    graph.add_array(2, 3).expect(&rt, "an array");
+    graph.add_block().expect(&rt, "a block");
+    append(&rt, &mut graph, 0, Op::Call(Some(0), 3, words));
+    append(&rt, &mut graph, 0, Op::Clear(0));
+    append(&rt, &mut graph, 0, Op::Branch(Comparison::Lt, 0, 0, 1, 0));
+    append(&rt, &mut graph, 1, Op::Return(None));
     frames_support();
     offsets_are_below();
-    let frame = Frame::of(rt.alloc(), &graph)?;
+    let frame = Frame::of(rt.alloc(), &graph).expect(&rt, "a frame");
     let items = select_function(
         rt.alloc(),
         &graph,
         frame.bytes,
         frame.arrays.as_slice(),
         frame.variables.as_slice(),
-    )?;
+    )
+    .expect(&rt, "the items");
     assert_eq!(rt; items.as_slice(), ITEMS.as_slice());
     Ok(())
 }

@@ -126,16 +126,19 @@ fn exit_within(alloc: Global, budget: u64) -> Result<MachineEnd, NoMemory> {
     Ok(machine.run(&mut input, &mut SureSink::new(), budget))
 }
 
+/// Budgets, and how the exit ends within them.
+const BUDGETS: [(u64, MachineEnd); 4] = [
+    (0, MachineEnd::BudgetSpent),
+    (2, MachineEnd::BudgetSpent),
+    (3, MachineEnd::Ended(44)),
+    (1_000_000, MachineEnd::Ended(44)),
+];
+
 #[test]
 fn spends_the_budget(rt: HostRuntime) -> Result<(), Fail> {
-    let rows = [
-        (0, MachineEnd::BudgetSpent),
-        (2, MachineEnd::BudgetSpent),
-        (3, MachineEnd::Ended(44)),
-        (1_000_000, MachineEnd::Ended(44)),
-    ];
-    for (budget, want) in rows {
-        assert_eq!(rt; exit_within(rt.alloc(), budget)?, want, "after {budget}");
+    for (budget, want) in &BUDGETS {
+        let end = exit_within(rt.alloc(), *budget)?;
+        assert_eq!(rt; end, *want, "after {budget}");
     }
     Ok(())
 }

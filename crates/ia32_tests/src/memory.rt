@@ -1,11 +1,12 @@
 //! Loads and stores in two areas, worked by hand.
 
+ghost use Rattle.std.specs.Prelude.{◌≤◌, length};
+
 use elf_image::Segment;
 use ia32_memory::Memory;
 use pcc_base::NoMemory;
 use std::alloc::Global;
 use std::process::Abort;
-use std::test::Fail;
 
 /// Where the text begins.
 const TEXT: u32 = 0x0804_8000;
@@ -34,36 +35,64 @@ fn two_segments(alloc: Global) -> Result<Memory, NoMemory> {
     Memory::load(alloc, &[text, data])
 }
 
+/// At the address there is this byte, if any.
+fn expect_byte(rt: &impl Abort, memory: &Memory, address: u32, byte: Option<u8>) {
+    assert_eq!(rt; memory.load8(address), byte, "{address:#x}");
+}
+
+/// At the address there is this half, if any.
+fn expect_half(rt: &impl Abort, memory: &Memory, address: u32, half: Option<u16>) {
+    assert_eq!(rt; memory.load16(address), half, "{address:#x}");
+}
+
+/// At the address there is this word, if any.
+fn expect_word(rt: &impl Abort, memory: &Memory, address: u32, word: Option<u32>) {
+    assert_eq!(rt; memory.load32(address), word, "{address:#x}");
+}
+
+/// From the address on there are these bytes.
+fn expect_bytes(rt: &impl Abort, memory: &mut Memory, address: u32, bytes: &[u8])
+    requires few { length bytes.now ≤ 8 }
+{
+    assert!(rt;
+        memory.bytes_at(address, bytes.len() as u32) == Some(bytes),
+        "other bytes from {address:#x} on"
+    );
+}
+
+/// An address, and the byte, the half and the word there.
+type Loads = (u32, Option<u8>, Option<u16>, Option<u32>);
+
+const LOADS: [Loads; 9] = [
+    (TEXT, Some(0x78), Some(0x5678), Some(0x9234_5678)),
+    (TEXT + 3, Some(0x92), Some(0x9092), Some(0x9092)),
+    (TEXT + 5, Some(0), Some(0), None),
+    (TEXT + 7, Some(0), None, None),
+    (TEXT + 8, None, None, None),
+    (TEXT - 1, None, None, None),
+    (DATA, Some(1), Some(0x201), Some(0x201)),
+    (DATA + 2, Some(0), Some(0), Some(0)),
+    (0xffff_ffff, None, None, None),
+];
+
 #[test]
-fn loads(rt: HostRuntime) -> Result<(), Fail> {
-    let mut memory = two_segments(rt.alloc())?;
-    let rows = [
-        (TEXT, Some(0x78u8), Some(0x5678u16), Some(0x9234_5678u32)),
-        (TEXT + 3, Some(0x92), Some(0x9092), Some(0x9092)),
-        (TEXT + 5, Some(0), Some(0), None),
-        (TEXT + 7, Some(0), None, None),
-        (TEXT + 8, None, None, None),
-        (TEXT - 1, None, None, None),
-        (DATA, Some(1), Some(0x201), Some(0x201)),
-        (DATA + 2, Some(0), Some(0), Some(0)),
-        (0xffff_ffff, None, None, None),
-    ];
-    for (address, byte, half, word) in rows {
-        assert_eq!(rt; memory.load8(address), byte, "{address:#x}");
-        assert_eq!(rt; memory.load16(address), half, "{address:#x}");
-        assert_eq!(rt; memory.load32(address), word, "{address:#x}");
+fn loads(rt: HostRuntime) {
+    let mut memory = two_segments(rt.alloc()).expect(&rt, "two segments");
+    for (address, byte, half, word) in &LOADS {
+        expect_byte(&rt, &memory, *address, *byte);
+        expect_half(&rt, &memory, *address, *half);
+        expect_word(&rt, &memory, *address, *word);
     }
     assert!(rt; memory.code_at(TEXT + 3) == Some(&[0x92, 0x90, 0, 0, 0]));
     assert!(rt; memory.code_at(DATA).is_none());
-    assert!(rt; memory.bytes_at(TEXT + 1, 3) == Some(&[0x56, 0x34, 0x92]));
+    expect_bytes(&rt, &mut memory, TEXT + 1, &[0x56, 0x34, 0x92]);
     assert!(rt; memory.bytes_at(TEXT + 1, 8).is_none());
-    Ok(())
 }
 
 /// A store was made where a word is wanted, and the data begin with it, or with what they began with.
-fn expect_word(rt: &impl Abort, memory: &Memory, stored: bool, want: Option<u32>) {
+fn expect_stored(rt: &impl Abort, memory: &Memory, stored: bool, want: Option<u32>) {
     assert_eq!(rt; stored, want.is_some());
-    assert_eq!(rt; memory.load32(DATA), Some(want.unwrap_or(0x201)));
+    expect_word(rt, memory, DATA, Some(want.unwrap_or(0x201)));
 }
 
 /// Addresses, and the word at the beginning of the data after a store of one, two and four bytes there, where it may
@@ -81,25 +110,30 @@ const STORES: [(u32, [Option<u32>; 3]); 7] = [
     (TEXT, [None, None, None]),
 ];
 
+/// What a store at the address does, of one, of two and of four bytes.
+fn expect_stores(rt: &impl Abort, alloc: Global, address: u32, wants: &[Option<u32>; 3]) {
+    let [byte, half, word] = *wants;
+    let mut memory = two_segments(alloc).expect(rt, "two segments");
+    assert_eq!(rt;
+        memory.may_store(address, 4),
+        word.is_some(),
+        "{address:#x}"
+    );
+    let stored = memory.store8(address, 0x55);
+    expect_stored(rt, &memory, stored, byte);
+    memory = two_segments(alloc).expect(rt, "two segments");
+    let stored = memory.store16(address, 0xaabb);
+    expect_stored(rt, &memory, stored, half);
+    memory = two_segments(alloc).expect(rt, "two segments");
+    let stored = memory.store32(address, 0x6677_8899);
+    expect_stored(rt, &memory, stored, word);
+}
+
 #[test]
-fn stores(rt: HostRuntime) -> Result<(), Fail> {
-    for (address, [byte, half, word]) in STORES {
-        let mut memory = two_segments(rt.alloc())?;
-        assert_eq!(rt;
-            memory.may_store(address, 4),
-            word.is_some(),
-            "{address:#x}"
-        );
-        let stored = memory.store8(address, 0x55);
-        expect_word(&rt, &memory, stored, byte);
-        let mut memory = two_segments(rt.alloc())?;
-        let stored = memory.store16(address, 0xaabb);
-        expect_word(&rt, &memory, stored, half);
-        let mut memory = two_segments(rt.alloc())?;
-        let stored = memory.store32(address, 0x6677_8899);
-        expect_word(&rt, &memory, stored, word);
+fn stores(rt: HostRuntime) {
+    for (address, wants) in &STORES {
+        expect_stores(&rt, rt.alloc(), *address, wants);
     }
-    Ok(())
 }
 
 /// The size of data of which two bytes are given, so that most of it stays untouched when it is loaded.
@@ -109,35 +143,50 @@ const WIDE: u32 = 1 << 20;
 /// where its last quarter begins.
 const PLACES: [u32; 5] = [WIDE - 4, 6, WIDE / 2, WIDE / 4 * 3 - 2, WIDE / 4 * 3 - 64];
 
-#[test]
-fn untouched_bytes(rt: HostRuntime) -> Result<(), Fail> {
+/// A memory of the wide data.
+fn wide_segment(alloc: Global) -> Result<Memory, NoMemory> {
     let data = Segment {
         addr: DATA,
-        bytes: [1, 2].to_vec(rt.alloc())?,
+        bytes: [1, 2].to_vec(alloc)?,
         size: WIDE,
         read: true,
         write: true,
         exec: false,
     };
-    let mut memory = Memory::load(rt.alloc(), &[data])?;
-    assert_eq!(rt; memory.load32(DATA + 1), Some(2));
+    Memory::load(alloc, &[data])
+}
+
+/// Nothing but 0 stands at the places.
+fn expect_zeros(rt: &impl Abort, memory: &Memory) {
     for place in PLACES {
-        assert_eq!(rt; memory.load8(DATA + place), Some(0), "{place:#x}");
-        assert_eq!(rt; memory.load16(DATA + place), Some(0), "{place:#x}");
-        assert_eq!(rt; memory.load32(DATA + place), Some(0), "{place:#x}");
+        expect_byte(rt, memory, DATA + place, Some(0));
+        expect_half(rt, memory, DATA + place, Some(0));
+        expect_word(rt, memory, DATA + place, Some(0));
     }
+}
+
+/// A word can be stored at each place, and then it stands at each.
+fn expect_words_stored(rt: &impl Abort, memory: &mut Memory) {
     for place in PLACES {
         assert!(rt; memory.store32(DATA + place, 0x0a0b_0c0d), "{place:#x}");
     }
     for place in PLACES {
-        assert_eq!(rt;
-            memory.load32(DATA + place),
-            Some(0x0a0b_0c0d),
-            "{place:#x}"
-        );
-        assert_eq!(rt; memory.load16(DATA + place + 1), Some(0x0b0c), "{place:#x}");
+        expect_word(rt, memory, DATA + place, Some(0x0a0b_0c0d));
+        expect_half(rt, memory, DATA + place + 1, Some(0x0b0c));
     }
-    assert!(rt; memory.bytes_at(DATA, 8) == Some(&[1, 2, 0, 0, 0, 0, 0x0d, 0x0c]));
-    assert!(rt; memory.bytes_at(DATA + WIDE - 5, 5) == Some(&[0, 0x0d, 0x0c, 0x0b, 0x0a]));
-    Ok(())
+}
+
+#[test]
+fn untouched_bytes(rt: HostRuntime) {
+    let mut memory = wide_segment(rt.alloc()).expect(&rt, "a segment");
+    expect_word(&rt, &memory, DATA + 1, Some(2));
+    expect_zeros(&rt, &memory);
+    expect_words_stored(&rt, &mut memory);
+    expect_bytes(&rt, &mut memory, DATA, &[1, 2, 0, 0, 0, 0, 0x0d, 0x0c]);
+    expect_bytes(
+        &rt,
+        &mut memory,
+        DATA + WIDE - 5,
+        &[0, 0x0d, 0x0c, 0x0b, 0x0a],
+    );
 }

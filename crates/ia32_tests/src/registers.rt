@@ -4,28 +4,39 @@ ghost use Rattle.std.specs.Prelude.{◌≡◌};
 
 use ia32_regs::{Reg8, Reg32, RegFile};
 use std::process::Abort;
-use std::test::Fail;
+
+/// A register, a byte of it, and the register after a store to that byte.
+const BYTES: [(Reg32, Reg8, u32); 8] = [
+    (Reg32::Eax, Reg8::Al, 0x1122_3355),
+    (Reg32::Ecx, Reg8::Cl, 0x1122_3355),
+    (Reg32::Edx, Reg8::Dl, 0x1122_3355),
+    (Reg32::Ebx, Reg8::Bl, 0x1122_3355),
+    (Reg32::Eax, Reg8::Ah, 0x1122_5544),
+    (Reg32::Ecx, Reg8::Ch, 0x1122_5544),
+    (Reg32::Edx, Reg8::Dh, 0x1122_5544),
+    (Reg32::Ebx, Reg8::Bh, 0x1122_5544),
+];
+
+/// The register holds this word.
+fn expect_word(rt: &impl Abort, registers: &RegFile, register: Reg32, word: u32) {
+    assert_eq!(rt; registers.get32(register), word);
+}
+
+/// A store to the byte changes its own register so, and no other.
+fn expect_byte_of(rt: &impl Abort, wide: Reg32, narrow: Reg8, expected: u32) {
+    let mut registers = RegFile::new();
+    registers.set32(wide, 0x1122_3344);
+    registers.set32(Reg32::Esi, 7);
+    registers.set8(narrow, 0x55);
+    expect_word(rt, &registers, wide, expected);
+    assert_eq!(rt; registers.get8(narrow), 0x55);
+    expect_word(rt, &registers, Reg32::Esi, 7);
+    expect_word(rt, &registers, Reg32::Edi, 0);
+}
 
 #[test]
 fn bytes_of_their_registers(rt: HostRuntime) {
-    let rows = [
-        (Reg32::Eax, Reg8::Al, 0x1122_3355u32),
-        (Reg32::Ecx, Reg8::Cl, 0x1122_3355),
-        (Reg32::Edx, Reg8::Dl, 0x1122_3355),
-        (Reg32::Ebx, Reg8::Bl, 0x1122_3355),
-        (Reg32::Eax, Reg8::Ah, 0x1122_5544),
-        (Reg32::Ecx, Reg8::Ch, 0x1122_5544),
-        (Reg32::Edx, Reg8::Dh, 0x1122_5544),
-        (Reg32::Ebx, Reg8::Bh, 0x1122_5544),
-    ];
-    for (wide, narrow, expected) in rows {
-        let mut registers = RegFile::new();
-        registers.set32(wide, 0x1122_3344);
-        registers.set32(Reg32::Esi, 7);
-        registers.set8(narrow, 0x55);
-        assert_eq!(rt; registers.get32(wide), expected);
-        assert_eq!(rt; registers.get8(narrow), 0x55);
-        assert_eq!(rt; registers.get32(Reg32::Esi), 7);
-        assert_eq!(rt; registers.get32(Reg32::Edi), 0);
+    for (wide, narrow, expected) in &BYTES {
+        expect_byte_of(&rt, *wide, *narrow, *expected);
     }
 }
