@@ -1,7 +1,9 @@
 //! Tables of texts, their tokens and their faults. The expected values are those of C99 6.4, by hand.
 
+use crate::expected::{expect_refusal, expect_shown};
+use crate::texts::{push_name, push_shown};
 use c_lexer::{Token, TokenKind, lex};
-use pcc_base::{FaultKind, Limit, Refusal};
+use pcc_base::{Fault, FaultKind, Limit, Name, Refusal, Span};
 use std::alloc::{AllocError, Global};
 use std::process::Abort;
 use std::test::Fail;
@@ -10,21 +12,41 @@ use std::test::Fail;
 const MOST: usize = 65536;
 
 /// A token as a word: a keyword's or mark's variant, a name, a number, or a text in quotes.
-fn push_shown(alloc: Global, out: &mut String, token: &Token) -> Result<(), AllocError> {
+fn push_token(alloc: Global, out: &mut String, token: &Token) -> Result<(), AllocError> {
     match &token.kind {
-        TokenKind::Word(word) => out.push_str(format!(in alloc; "{word:?} ")?.as_str()),
-        TokenKind::Mark(mark) => out.push_str(format!(in alloc; "{mark:?} ")?.as_str()),
-        TokenKind::Number(number) => out.push_str(format!(in alloc; "{number} ")?.as_str()),
-        TokenKind::Ident(name) => {
-            out.push_str(std::str::from_utf8(name.as_bytes()).unwrap_or("?"))?;
-            out.push_str(" ")
-        }
-        TokenKind::Text(text) => {
-            out.push_str("\"")?;
-            out.push_str(std::str::from_utf8(text.as_bytes()).unwrap_or("?"))?;
-            out.push_str("\" ")
-        }
+        TokenKind::Word(word) => push_shown(alloc, out, word),
+        TokenKind::Mark(mark) => push_shown(alloc, out, mark),
+        TokenKind::Number(number) => push_shown(alloc, out, number),
+        TokenKind::Ident(name) => push_name(out, name),
+        TokenKind::Text(text) => push_quoted(out, text),
     }
+}
+
+fn push_quoted(out: &mut String, text: &Name) -> Result<(), AllocError> {
+    out.push_str("\"")?;
+    push_name(out, text)?;
+    out.push_str("\"")
+}
+
+/// Tokens with a space behind each.
+fn push_tokens(alloc: Global, out: &mut String, tokens: &[Token]) -> Result<(), AllocError> {
+    for token in tokens {
+        push_token(alloc, out, token)?;
+        out.push_str(" ")?;
+    }
+    Ok(())
+}
+
+/// The tokens of a short text of this file, if they are not more than `most`.
+fn lexed(
+    rt: &impl Abort,
+    alloc: Global,
+    file: u32,
+    text: &str,
+    most: usize,
+) -> Result<Vec<Token>, Refusal> {
+    assert!(rt; text.len() <= 1000);
+    lex(alloc, file, text.as_bytes(), most)
 }
 
 /// A table: on each line a text, and then what it is to give.
@@ -53,19 +75,21 @@ const TOKENS: [(&str, &str); 15] = texts! {
     "a/b/=c" => "a Slash b SlashEqual c ";
 };
 
+/// The tokens of a text, with a space behind each.
+fn shown_tokens(rt: &impl Abort, alloc: Global, text: &str) -> Result<String, Fail> {
+    let Ok(tokens) = lexed(rt, alloc, 0, text, MOST) else {
+        return Err(Fail::new(text));
+    };
+    let mut out = String::new(alloc);
+    push_tokens(alloc, &mut out, &tokens)?;
+    Ok(out)
+}
+
 /// The text of each row has these tokens.
 fn expect_tokens(rt: &impl Abort, alloc: Global, rows: &[(&str, &str)]) -> Result<(), Fail> {
     for (text, shown) in rows {
-        assert!(rt; text.len() <= 1000);
-        let tokens = match lex(alloc, 0, text.as_bytes(), MOST) {
-            Ok(tokens) => tokens,
-            Err(_) => return Err(Fail::new(text)),
-        };
-        let mut out = String::new(alloc);
-        for token in &tokens {
-            push_shown(alloc, &mut out, token)?;
-        }
-        assert_eq!(rt; out.as_str(), *shown, "{text}");
+        let out = shown_tokens(rt, alloc, text)?;
+        expect_shown(rt, out.as_str(), shown, text);
     }
     Ok(())
 }
@@ -101,49 +125,49 @@ const FAULTS: [(&str, (u32, u32, FaultKind)); 21] = texts! {
 };
 
 /// The text of each row, as file 3, has this first fault.
-fn expect_faults(
-    rt: &impl Abort,
-    alloc: Global,
-    rows: &[(&str, (u32, u32, FaultKind))],
-) -> Result<(), Fail> {
+fn expect_faults(rt: &impl Abort, alloc: Global, rows: &[(&str, (u32, u32, FaultKind))]) {
     for (text, (line, col, kind)) in rows {
-        assert!(rt; text.len() <= 1000);
-        match lex(alloc, 3, text.as_bytes(), MOST) {
-            Err(Refusal::Fault(fault)) => {
-                assert_eq!(rt; fault.kind, *kind, "{text}");
-                assert_eq!(rt; fault.at.file, 3, "{text}");
-                assert_eq!(rt; fault.at.line, *line, "{text}");
-                assert_eq!(rt; fault.at.col, *col, "{text}");
-            }
-            _ => return Err(Fail::new(text)),
-        }
+        let at = Span {
+            file: 3,
+            line: *line,
+            col: *col,
+        };
+        let fault = Refusal::Fault(Fault { kind: *kind, at });
+        expect_refusal(rt, lexed(rt, alloc, 3, text, MOST).err(), Some(fault), text);
     }
-    Ok(())
 }
 
 #[test]
-fn faults_of_texts(rt: HostRuntime) -> Result<(), Fail> {
+fn faults_of_texts(rt: HostRuntime) {
     expect_faults(&rt, rt.alloc(), &FAULTS)
 }
 
+/// The fault of the mark `@` in the fifth column of the first line.
+const BAD_BYTE: Refusal = Refusal::Fault(Fault {
+    kind: FaultKind::BadByte,
+    at: Span {
+        file: 0,
+        line: 1,
+        col: 5,
+    },
+});
+
+/// Texts of which two tokens are allowed.
+const LIMITS: [(&str, Refusal); 3] = texts! {
+    "; ; ;" => Refusal::Limit(Limit::Tokens(3));
+    "; ; ; @" => Refusal::Limit(Limit::Tokens(3));
+    "; ; @" => BAD_BYTE;
+};
+
 /// The limit on the tokens comes with the third one, and a fault only where there are no more before it.
 #[test]
-fn limits_of_texts(rt: HostRuntime) -> Result<(), Fail> {
-    let alloc = rt.alloc();
-    for (text, most, limited) in [
-        ("; ; ;", 2, true),
-        ("; ; ; @", 2, true),
-        ("; ; @", 2, false),
-    ] {
-        match lex(alloc, 0, text.as_bytes(), most) {
-            Err(Refusal::Limit(Limit::Tokens(number))) => {
-                assert!(rt; limited && number == 3, "{text}");
-            }
-            Err(Refusal::Fault(fault)) => {
-                assert!(rt; !limited && fault.at.col == 5, "{text}");
-            }
-            _ => return Err(Fail::new(text)),
-        }
+fn limits_of_texts(rt: HostRuntime) {
+    for (text, refusal) in LIMITS {
+        expect_refusal(
+            &rt,
+            lexed(&rt, rt.alloc(), 0, text, 2).err(),
+            Some(refusal),
+            text,
+        );
     }
-    Ok(())
 }

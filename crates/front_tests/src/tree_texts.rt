@@ -1,86 +1,127 @@
 //! Raw trees as texts, in which the tables of `trees` say what they expect.
 
+use crate::texts::{push_name, push_shown};
 use c_syntax::{
-    Declaration, Expression, External, Initialiser, Item, Label, RawUnit, Statement, TextPiece,
+    CallParts, Declaration, Expression, External, ForDeclarationParts, ForParts, Initialiser, Item,
+    Label, RawUnit, Statement, TextPiece,
 };
-use pcc_base::Name;
 use std::alloc::{AllocError, Global};
 
-fn push_name(out: &mut String, name: &Name) -> Result<(), AllocError> {
-    out.push_str(std::str::from_utf8(name.as_bytes()).unwrap_or("?"))
+fn push_piece(out: &mut String, piece: &TextPiece) -> Result<(), AllocError> {
+    out.push_str("'")?;
+    push_name(out, &piece.bytes)?;
+    out.push_str("'")
 }
 
-fn push_texts(out: &mut String, pieces: &Vec<TextPiece>) -> Result<(), AllocError> {
+fn push_texts(out: &mut String, pieces: &[TextPiece]) -> Result<(), AllocError> {
     for piece in pieces {
-        out.push_str("'")?;
-        push_name(out, &piece.bytes)?;
-        out.push_str("'")?;
+        push_piece(out, piece)?;
     }
     Ok(())
 }
 
-/// Writes texts, expressions (in brackets) and operators (in braces) in turn.
-macro_rules! push_all {
-    ($alloc:ident $out:ident) => { () };
-    ($alloc:ident $out:ident $text:literal $($rest:tt)*) => {{
-        $out.push_str($text)?;
-        push_all!($alloc $out $($rest)*)
-    }};
-    ($alloc:ident $out:ident ($tree:ident) $($rest:tt)*) => {{
-        push_expression($alloc, $out, $tree)?;
-        push_all!($alloc $out $($rest)*)
-    }};
-    ($alloc:ident $out:ident {$op:ident} $($rest:tt)*) => {{
-        $out.push_str(format!(in $alloc; "{:?}", $op)?.as_str())?;
-        push_all!($alloc $out $($rest)*)
-    }};
+/// The name of a function that is called, and the bracket behind it.
+fn push_called(out: &mut String, parts: &CallParts) -> Result<(), AllocError> {
+    push_name(out, &parts.function.name)?;
+    out.push_str("(")
 }
 
-/// An expression with its operators by name, and a pair of brackets round each node of one.
-fn push_expression(alloc: Global, out: &mut String, tree: &Expression) -> Result<(), AllocError> {
+/// What stands between or beside the operands of an expression: its operator by name, or its digits.
+fn push_operator(alloc: Global, out: &mut String, tree: &Expression) -> Result<(), AllocError> {
     match tree {
-        Expression::Identifier(name) => push_name(out, &name.name)?,
-        Expression::Number(value, _) => out.push_str(format!(in alloc; "{value}")?.as_str())?,
-        Expression::Text(pieces) => push_texts(out, pieces)?,
-        Expression::Parenthesised(_, inner, _) => push_all!(alloc out "(" (inner) ")"),
+        Expression::Number(value, _) => push_shown(alloc, out, value),
+        Expression::Index(..) => out.push_str("at"),
+        Expression::Postfix(_, op, _) | Expression::Prefix(op, _, _) => push_shown(alloc, out, op),
+        Expression::Unary(op, _, _) => push_shown(alloc, out, op),
+        Expression::Cast(_, _) => out.push_str("Cast"),
+        Expression::Binary(op, _, _, _) => push_shown(alloc, out, op),
+        Expression::Assignment(op, _, _, _) => push_shown(alloc, out, op),
+        Expression::Identifier(_)
+        | Expression::Text(_)
+        | Expression::Parenthesised(..)
+        | Expression::Call(..)
+        | Expression::Conditional { .. } => Ok(()),
+    }
+}
+
+/// An expression between two texts, with its operators by name, and a pair of brackets round each node of one.
+fn push_expression(
+    alloc: Global,
+    out: &mut String,
+    before: &str,
+    tree: &Expression,
+    behind: &str,
+) -> Result<(), AllocError> {
+    out.push_str(before)?;
+    let node = match tree {
+        Expression::Identifier(name) => push_name(out, &name.name),
+        Expression::Number(_, _) => push_operator(alloc, out, tree),
+        Expression::Text(pieces) => push_texts(out, pieces),
+        Expression::Parenthesised(_, inner, _) => push_expression(alloc, out, "(", inner, ")"),
         Expression::Call(parts, arguments) => {
-            push_name(out, &parts.function.name)?;
-            out.push_str("(")?;
+            push_called(out, parts)?;
             for argument in arguments {
-                push_all!(alloc out (argument) ",");
+                push_expression(alloc, out, "", argument, ",")?;
             }
-            out.push_str(")")?;
+            out.push_str(")")
         }
-        Expression::Index(base, _, index, _) => push_all!(alloc out "[" (base) " at " (index) "]"),
-        Expression::Postfix(base, op, _) => push_all!(alloc out "[" (base) " " {op} "]"),
-        Expression::Prefix(op, _, operand) => push_all!(alloc out "[" {op} " " (operand) "]"),
-        Expression::Unary(op, _, operand) => push_all!(alloc out "[" {op} " " (operand) "]"),
-        Expression::Cast(_, operand) => push_all!(alloc out "[Cast " (operand) "]"),
-        Expression::Binary(op, left, _, right) => {
-            push_all!(alloc out "[" (left) " " {op} " " (right) "]")
+        Expression::Postfix(base, _, _) => {
+            push_expression(alloc, out, "[", base, " ")?;
+            push_operator(alloc, out, tree)?;
+            out.push_str("]")
+        }
+        Expression::Prefix(_, _, operand)
+        | Expression::Unary(_, _, operand)
+        | Expression::Cast(_, operand) => {
+            out.push_str("[")?;
+            push_operator(alloc, out, tree)?;
+            push_expression(alloc, out, " ", operand, "]")
+        }
+        Expression::Index(left, _, right, _)
+        | Expression::Binary(_, left, _, right)
+        | Expression::Assignment(_, left, _, right) => {
+            push_expression(alloc, out, "[", left, " ")?;
+            push_operator(alloc, out, tree)?;
+            push_expression(alloc, out, " ", right, "]")
         }
         Expression::Conditional {
             condition,
             first,
             second,
             ..
-        } => push_all!(alloc out "[" (condition) " ? " (first) " : " (second) "]"),
-        Expression::Assignment(op, left, _, right) => {
-            push_all!(alloc out "[" (left) " " {op} " " (right) "]")
+        } => {
+            push_expression(alloc, out, "[", condition, " ? ")?;
+            push_expression(alloc, out, "", first, " : ")?;
+            push_expression(alloc, out, "", second, "]")
         }
-    }
-    Ok(())
+    };
+    node?;
+    out.push_str(behind)
 }
 
+/// An expression, or none, between two texts.
 fn push_maybe(
     alloc: Global,
     out: &mut String,
+    before: &str,
     expression: &Option<Expression>,
+    behind: &str,
 ) -> Result<(), AllocError> {
     match expression {
-        Some(expression) => push_expression(alloc, out, expression),
-        None => Ok(()),
+        Some(expression) => push_expression(alloc, out, before, expression, behind),
+        None => {
+            out.push_str(before)?;
+            out.push_str(behind)
+        }
     }
+}
+
+/// Expressions with a comma behind each.
+fn push_values(alloc: Global, out: &mut String, values: &[Expression]) -> Result<(), AllocError> {
+    for value in values {
+        push_expression(alloc, out, "", value, ",")?;
+    }
+    Ok(())
 }
 
 fn push_item(alloc: Global, out: &mut String, item: &Item) -> Result<(), AllocError> {
@@ -88,15 +129,11 @@ fn push_item(alloc: Global, out: &mut String, item: &Item) -> Result<(), AllocEr
     let Some(initialiser) = &item.initialiser else {
         return Ok(());
     };
-    out.push_str("=")?;
     match &initialiser.value {
-        Initialiser::Single(value) => push_expression(alloc, out, value),
+        Initialiser::Single(value) => push_expression(alloc, out, "=", value, ""),
         Initialiser::List { values, .. } => {
-            out.push_str("{")?;
-            for value in values {
-                push_expression(alloc, out, value)?;
-                out.push_str(",")?;
-            }
+            out.push_str("={")?;
+            push_values(alloc, out, values)?;
             out.push_str("}")
         }
     }
@@ -115,15 +152,14 @@ fn push_declaration(
     out.push_str(";")
 }
 
-fn push_label(alloc: Global, out: &mut String, label: &Label) -> Result<(), AllocError> {
-    match label {
-        Label::Case(_, value, _) => {
-            out.push_str("case ")?;
-            push_expression(alloc, out, value)?;
-            out.push_str(":")
+fn push_labels(alloc: Global, out: &mut String, labels: &[Label]) -> Result<(), AllocError> {
+    for label in labels {
+        match label {
+            Label::Case(_, value, _) => push_expression(alloc, out, "case ", value, ":")?,
+            Label::Default(_, _) => out.push_str("default:")?,
         }
-        Label::Default(_, _) => out.push_str("default:"),
     }
+    Ok(())
 }
 
 /// What controls a loop `for`, behind its first part.
@@ -133,52 +169,43 @@ fn push_control(
     condition: &Option<Expression>,
     step: &Option<Expression>,
 ) -> Result<(), AllocError> {
-    push_maybe(alloc, out, condition)?;
-    out.push_str(";")?;
-    push_maybe(alloc, out, step)
+    push_maybe(alloc, out, "", condition, ";")?;
+    push_maybe(alloc, out, "", step, "")
+}
+
+fn push_for(alloc: Global, out: &mut String, parts: &ForParts) -> Result<(), AllocError> {
+    push_maybe(alloc, out, "for ", &parts.start, ";")?;
+    push_control(alloc, out, &parts.condition, &parts.step)
+}
+
+fn push_for_declaration(
+    alloc: Global,
+    out: &mut String,
+    parts: &ForDeclarationParts,
+) -> Result<(), AllocError> {
+    out.push_str("for ")?;
+    push_declaration(alloc, out, &parts.start)?;
+    push_control(alloc, out, &parts.condition, &parts.step)
 }
 
 /// What a statement begins with, before the statements inside it.
 fn push_head(alloc: Global, out: &mut String, statement: &Statement) -> Result<(), AllocError> {
     match statement {
-        Statement::Declaration(declaration) => push_declaration(alloc, out, declaration)?,
-        Statement::Labelled(labels, _) => {
-            for label in labels {
-                push_label(alloc, out, label)?;
-            }
-        }
-        Statement::Block(..) => {}
-        Statement::Simple(value, _) => push_maybe(alloc, out, value)?,
-        Statement::If { condition, .. } => push_all!(alloc out "if " (condition)),
-        Statement::IfElse(parts, _, _) => {
-            out.push_str("if ")?;
-            push_expression(alloc, out, &parts.condition)?;
-        }
-        Statement::While { condition, .. } => push_all!(alloc out "while " (condition)),
-        Statement::Do(_, _) => out.push_str("do")?,
-        Statement::For(parts, _) => {
-            out.push_str("for ")?;
-            push_maybe(alloc, out, &parts.start)?;
-            out.push_str(";")?;
-            push_control(alloc, out, &parts.condition, &parts.step)?;
-        }
-        Statement::ForDeclaration(parts, _) => {
-            out.push_str("for ")?;
-            push_declaration(alloc, out, &parts.start)?;
-            push_control(alloc, out, &parts.condition, &parts.step)?;
-        }
-        Statement::Switch(parts, _) => {
-            out.push_str("switch ")?;
-            push_expression(alloc, out, &parts.value)?;
-        }
-        Statement::Break(_, _) => out.push_str("break")?,
-        Statement::Continue(_, _) => out.push_str("continue")?,
-        Statement::Return(_, value, _) => {
-            out.push_str("return ")?;
-            push_maybe(alloc, out, value)?;
-        }
+        Statement::Declaration(declaration) => push_declaration(alloc, out, declaration),
+        Statement::Labelled(labels, _) => push_labels(alloc, out, labels),
+        Statement::Block(..) => Ok(()),
+        Statement::Simple(value, _) => push_maybe(alloc, out, "", value, ""),
+        Statement::If { condition, .. } => push_expression(alloc, out, "if ", condition, ""),
+        Statement::IfElse(parts, _, _) => push_expression(alloc, out, "if ", &parts.condition, ""),
+        Statement::While { condition, .. } => push_expression(alloc, out, "while ", condition, ""),
+        Statement::Do(_, _) => out.push_str("do"),
+        Statement::For(parts, _) => push_for(alloc, out, parts),
+        Statement::ForDeclaration(parts, _) => push_for_declaration(alloc, out, parts),
+        Statement::Switch(parts, _) => push_expression(alloc, out, "switch ", &parts.value, ""),
+        Statement::Break(_, _) => out.push_str("break"),
+        Statement::Continue(_, _) => out.push_str("continue"),
+        Statement::Return(_, value, _) => push_maybe(alloc, out, "return ", value, ""),
     }
-    Ok(())
 }
 
 /// A statement with braces round each one inside it.
@@ -189,32 +216,34 @@ fn push_statement(
 ) -> Result<(), AllocError> {
     out.push_str("{")?;
     push_head(alloc, out, statement)?;
-    match statement {
-        Statement::Labelled(_, inner) => push_statement(alloc, out, inner)?,
+    let inside = match statement {
+        Statement::Labelled(_, inner)
+        | Statement::If { then: inner, .. }
+        | Statement::While { body: inner, .. }
+        | Statement::For(_, inner)
+        | Statement::ForDeclaration(_, inner) => push_statement(alloc, out, inner),
         Statement::Block(_, items, _) | Statement::Switch(_, items) => {
             for item in items {
                 push_statement(alloc, out, item)?;
             }
+            Ok(())
         }
-        Statement::If { then, .. } => push_statement(alloc, out, then)?,
         Statement::IfElse(_, then, other) => {
             push_statement(alloc, out, then)?;
             out.push_str("else")?;
-            push_statement(alloc, out, other)?;
+            push_statement(alloc, out, other)
         }
-        Statement::While { body, .. }
-        | Statement::For(_, body)
-        | Statement::ForDeclaration(_, body) => push_statement(alloc, out, body)?,
         Statement::Do(parts, body) => {
             push_statement(alloc, out, body)?;
-            push_expression(alloc, out, &parts.condition)?;
+            push_expression(alloc, out, "", &parts.condition, "")
         }
         Statement::Declaration(_)
         | Statement::Simple(_, _)
         | Statement::Break(_, _)
         | Statement::Continue(_, _)
-        | Statement::Return(_, _, _) => {}
-    }
+        | Statement::Return(_, _, _) => Ok(()),
+    };
+    inside?;
     out.push_str("}")
 }
 

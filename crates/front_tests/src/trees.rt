@@ -1,11 +1,12 @@
 //! Tables of sources, what their trees are, and the faults of those that have none. The expected values are
 //! those of the grammar, by hand.
 
+use crate::expected::{expect_refusal, expect_shown};
 use crate::tree_texts::push_unit;
 use c_lexer::lex;
 use c_parser::parse;
 use c_syntax::RawUnit;
-use pcc_base::{FaultKind, Keyword, Refusal, Span};
+use pcc_base::{Fault, FaultKind, Keyword, Refusal, Span};
 use std::alloc::{AllocError, Global};
 use std::process::Abort;
 use std::test::Fail;
@@ -14,7 +15,7 @@ use std::test::Fail;
 const MOST: usize = 65536;
 
 /// What is parsed of a text of one line that has tokens.
-pub fn parsed(alloc: Global, text: &str) -> Option<Result<RawUnit, Refusal>> {
+fn parsed(alloc: Global, text: &str) -> Option<Result<RawUnit, Refusal>> {
     if text.len() > 1_000_000 {
         return None;
     }
@@ -28,6 +29,38 @@ pub fn parsed(alloc: Global, text: &str) -> Option<Result<RawUnit, Refusal>> {
         col: text.len() as u32 + 1,
     };
     Some(parse(alloc, &tokens, end))
+}
+
+/// How many external declarations the source has, and its tree as a text.
+fn shown_tree(alloc: Global, source: &str) -> Result<(usize, String), Fail> {
+    let unit = match parsed(alloc, source) {
+        Some(Ok(unit)) => unit,
+        Some(Err(_)) | None => return Err(Fail::new(source)),
+    };
+    let mut out = String::new(alloc);
+    push_unit(alloc, &mut out, &unit)?;
+    Ok((unit.externals.len(), out))
+}
+
+/// Why the source, which has tokens, has no tree, or nothing where it has one.
+fn refusal_of(alloc: Global, source: &str) -> Result<Option<Refusal>, Fail> {
+    match parsed(alloc, source) {
+        Some(Ok(_)) => Ok(None),
+        Some(Err(refusal)) => Ok(Some(refusal)),
+        None => Err(Fail::new(source)),
+    }
+}
+
+/// A fault in the first line of the only file.
+const fn fault_at(col: u32, kind: FaultKind) -> Refusal {
+    Refusal::Fault(Fault {
+        kind,
+        at: Span {
+            file: 0,
+            line: 1,
+            col,
+        },
+    })
 }
 
 /// A table: on each line a source, and then what it is to give.
@@ -60,13 +93,8 @@ const TREES: [(&str, &str); 13] = sources! {
 /// The source of each row has this tree.
 fn expect_trees(rt: &impl Abort, alloc: Global, rows: &[(&str, &str)]) -> Result<(), Fail> {
     for (source, shown) in rows {
-        let unit = match parsed(alloc, source) {
-            Some(Ok(unit)) => unit,
-            Some(Err(_)) | None => return Err(Fail::new(source)),
-        };
-        let mut out = String::new(alloc);
-        push_unit(alloc, &mut out, &unit)?;
-        assert_eq!(rt; out.as_str(), *shown, "{source}");
+        let (_, out) = shown_tree(alloc, source)?;
+        expect_shown(rt, out.as_str(), shown, source);
     }
     Ok(())
 }
@@ -121,14 +149,8 @@ int main(void)
 
 #[test]
 fn word_counter(rt: HostRuntime) -> Result<(), Fail> {
-    let alloc = rt.alloc();
-    let unit = match parsed(alloc, WORD_COUNTER) {
-        Some(Ok(unit)) => unit,
-        Some(Err(_)) | None => return Err(Fail::new("the word counter")),
-    };
-    assert_eq!(rt; unit.externals.len(), 6);
-    let mut out = String::new(alloc);
-    push_unit(alloc, &mut out, &unit)?;
+    let (externals, out) = shown_tree(rt.alloc(), WORD_COUNTER)?;
+    assert_eq!(rt; externals, 6);
     let shown = out.as_str();
     assert!(rt; shown.starts_with("declare putchar;declare getchar;declare counts;number{"));
     assert!(rt; shown.ends_with("text([[c Less 2] ? ' ' : '\n'],)}}}{return 0}}"));
@@ -165,13 +187,8 @@ fn expect_faults(
     rows: &[(&str, (u32, FaultKind))],
 ) -> Result<(), Fail> {
     for (source, (col, kind)) in rows {
-        match parsed(alloc, source) {
-            Some(Err(Refusal::Fault(fault))) => {
-                assert_eq!(rt; fault.kind, *kind, "{source}");
-                assert_eq!(rt; fault.at.col, *col, "{source}");
-            }
-            Some(_) | None => return Err(Fail::new(source)),
-        }
+        let wanted = fault_at(*col, *kind);
+        expect_refusal(rt, refusal_of(alloc, source)?, Some(wanted), source);
     }
     Ok(())
 }
@@ -188,7 +205,7 @@ type Nest = ([&'static str; 5], usize, usize, u32);
 /// The beginning of a program, whose end is `;}`.
 const OPEN: &str = "int main(void){return ";
 
-const NESTS: [Nest; 13] = [
+static NESTS: [Nest; 13] = [
     ([OPEN, "(", "0", ")", ";}"], 252, 252, 0),
     ([OPEN, "(", "0", ")", ";}"], 253, 253, 275),
     ([OPEN, "(", "", "", ""], 300, 0, 275),
@@ -204,7 +221,15 @@ const NESTS: [Nest; 13] = [
     (["int x=", "(", "0", ")", ";"], 255, 255, 261),
 ];
 
-/// This text before so many times the second, then the third, then so many times the fourth, and the last.
+/// A text so many times over.
+fn push_repeated(out: &mut String, text: &str, count: usize) -> Result<(), AllocError> {
+    for _ in 0..count {
+        out.push_str(text)?;
+    }
+    Ok(())
+}
+
+/// These parts, of which the second and the fourth stand so many times.
 fn nested(
     alloc: Global,
     parts: &[&str; 5],
@@ -212,15 +237,9 @@ fn nested(
     closed: usize,
 ) -> Result<String, AllocError> {
     let mut out = String::new(alloc);
-    out.push_str(parts[0])?;
-    for _ in 0..opened {
-        out.push_str(parts[1])?;
+    for (part, count) in parts.iter().zip([1, opened, 1, closed, 1]) {
+        push_repeated(&mut out, part, count)?;
     }
-    out.push_str(parts[2])?;
-    for _ in 0..closed {
-        out.push_str(parts[3])?;
-    }
-    out.push_str(parts[4])?;
     Ok(out)
 }
 
@@ -228,14 +247,11 @@ fn nested(
 fn expect_nests(rt: &impl Abort, alloc: Global, rows: &[Nest]) -> Result<(), Fail> {
     for (parts, opened, closed, col) in rows {
         let text = nested(alloc, parts, *opened, *closed)?;
-        match parsed(alloc, text.as_str()) {
-            Some(Ok(_)) => assert_eq!(rt; *col, 0, "{text}"),
-            Some(Err(Refusal::Fault(fault))) => {
-                assert_eq!(rt; fault.kind, FaultKind::TooDeep, "{text}");
-                assert_eq!(rt; fault.at.col, *col, "{text}");
-            }
-            Some(Err(_)) | None => return Err(Fail::new("a limit, or no tokens")),
-        }
+        let wanted = match *col {
+            0 => None,
+            col => Some(fault_at(col, FaultKind::TooDeep)),
+        };
+        expect_refusal(rt, refusal_of(alloc, text.as_str())?, wanted, text.as_str());
     }
     Ok(())
 }
