@@ -20,38 +20,42 @@ fn name(alloc: Global, letter: u8) -> Result<Name, NoMemory> {
     Ok(Name::new(Rc::new(alloc, bytes)?))
 }
 
-/// A function with the locals `char c`, its parameter, `int x` and `int *p`, and the arrays `char s[3]` and `int a[2]`.
-fn function(alloc: Global) -> Result<Function, NoMemory> {
+/// The locals `char c`, `int x` and `int *p`.
+fn locals(alloc: Global) -> Result<Vec<Local>, NoMemory> {
     let mut locals = Vec::new(alloc);
-    locals.push(Local {
-        name: name(alloc, b'c')?,
-        of: ValueType::Integer(IntegerType::Char),
-    })?;
-    locals.push(Local {
-        name: name(alloc, b'x')?,
-        of: ValueType::Integer(IntegerType::Int),
-    })?;
-    locals.push(Local {
-        name: name(alloc, b'p')?,
-        of: ValueType::Pointer(IntegerType::Int),
-    })?;
+    for (letter, of) in [
+        (b'c', ValueType::Integer(IntegerType::Char)),
+        (b'x', ValueType::Integer(IntegerType::Int)),
+        (b'p', ValueType::Pointer(IntegerType::Int)),
+    ] {
+        let name = name(alloc, letter)?;
+        locals.push(Local { name, of })?;
+    }
+    Ok(locals)
+}
+
+/// The arrays `char s[3]` and `int a[2]`.
+fn arrays(alloc: Global) -> Result<Vec<LocalArray>, NoMemory> {
     let mut arrays = Vec::new(alloc);
-    arrays.push(LocalArray {
-        name: name(alloc, b's')?,
-        element: IntegerType::Char,
-        count: 3,
-    })?;
-    arrays.push(LocalArray {
-        name: name(alloc, b'a')?,
-        element: IntegerType::Int,
-        count: 2,
-    })?;
+    for (letter, element, count) in [(b's', IntegerType::Char, 3), (b'a', IntegerType::Int, 2)] {
+        let name = name(alloc, letter)?;
+        arrays.push(LocalArray {
+            name,
+            element,
+            count,
+        })?;
+    }
+    Ok(arrays)
+}
+
+/// A function with these locals, of which the first is its parameter, and these arrays.
+fn function(alloc: Global) -> Result<Function, NoMemory> {
     Ok(Function {
         name: name(alloc, b'f')?,
         result: ValueType::Void,
         parameters: 1,
-        locals,
-        arrays,
+        locals: locals(alloc)?,
+        arrays: arrays(alloc)?,
         body: Vec::new(alloc),
     })
 }
@@ -59,14 +63,13 @@ fn function(alloc: Global) -> Result<Function, NoMemory> {
 /// A program with the static objects `int n = 5` and the text `Hi`.
 fn program(alloc: Global) -> Result<Program, NoMemory> {
     let mut objects = Vec::new(alloc);
-    objects.push(StaticObject {
-        element: IntegerType::Int,
-        elements: [5].to_vec(alloc)?,
-    })?;
-    objects.push(StaticObject {
-        element: IntegerType::Char,
-        elements: [72, 105, 0].to_vec(alloc)?,
-    })?;
+    for (element, elements) in [
+        (IntegerType::Int, [5].as_slice()),
+        (IntegerType::Char, [72, 105, 0].as_slice()),
+    ] {
+        let elements = elements.to_vec(alloc)?;
+        objects.push(StaticObject { element, elements })?;
+    }
     Ok(Program {
         objects,
         functions: Vec::new(alloc),
@@ -74,25 +77,45 @@ fn program(alloc: Global) -> Result<Program, NoMemory> {
     })
 }
 
-/// A call of the function, where there is room for it.
-fn enter(store: &mut Store, function: &Function, arguments: &[Value]) -> Result<(), Fail> {
-    if store.is_full() {
-        return Err(Fail::new("as many calls as may be"));
-    }
-    store.enter(function, arguments)?;
-    Ok(())
+/// A call of the function, for which there is room and memory.
+fn enter(rt: &impl Abort, store: &mut Store, function: &Function, arguments: &[Value]) {
+    assert!(rt; !store.is_full());
+    assert!(rt; store.enter(function, arguments).is_ok());
+}
+
+fn expect_local(rt: &impl Abort, store: &Store, local: u32, value: Value, when: &str) {
+    assert_eq!(rt; store.local(local), value, "{when}");
+}
+
+fn expect_element(
+    rt: &impl Abort,
+    store: &Store,
+    array: ArrayName,
+    index: i32,
+    element: Option<i32>,
+    when: &str,
+) {
+    assert_eq!(rt; store.element(array, index), element, "{when}");
+}
+
+fn expect_array(rt: &impl Abort, store: &Store, array: ArrayName, elements: &[i32], when: &str) {
+    assert_eq!(rt; store.elements(array), elements, "{when}");
 }
 
 /// Locals: an argument in its type, and 0 or null; a value that stays, and that its declaration ends.
 fn expect_locals(rt: &impl Abort, store: &mut Store) {
-    assert_eq!(rt; store.local(0), Value::Number(-56));
-    assert_eq!(rt; store.local(1), Value::Number(0));
-    assert_eq!(rt; store.local(2), NULL);
-    assert_eq!(rt; store.local(3), Value::Number(0));
+    for (local, value, which) in [
+        (0, Value::Number(-56), "c"),
+        (1, Value::Number(0), "x"),
+        (2, NULL, "p"),
+        (3, Value::Number(0), "no local"),
+    ] {
+        expect_local(rt, store, local, value, which);
+    }
     store.set_local(1, Value::Number(7));
-    assert_eq!(rt; store.local(1), Value::Number(7));
+    expect_local(rt, store, 1, Value::Number(7), "x is set");
     store.declare_local(1, ValueType::Integer(IntegerType::Int));
-    assert_eq!(rt; store.local(1), Value::Number(0));
+    expect_local(rt, store, 1, Value::Number(0), "x is declared");
 }
 
 /// Elements: those of a static object, and of an array up to its end.
@@ -100,46 +123,61 @@ fn expect_elements(rt: &impl Abort, store: &mut Store, array: ArrayName) {
     assert_eq!(rt; store.load(Place::Object(0)), Some(Value::Number(5)));
     assert!(rt; store.store(Place::Element { array, index: 1 }, Value::Number(9)));
     assert!(rt; store.store_at(array, 0, Value::Number(3)));
-    assert_eq!(rt; store.element(array, 0), Some(3));
-    assert_eq!(rt; store.element(array, 1), Some(9));
-    assert_eq!(rt; store.element(array, 2), None);
-    assert_eq!(rt; store.element(array, -1), None);
+    for (index, element, which) in [
+        (0, Some(3), "the first"),
+        (1, Some(9), "the last"),
+        (2, None, "one behind the last"),
+        (-1, None, "one before the first"),
+    ] {
+        expect_element(rt, store, array, index, element, which);
+    }
     assert!(rt; !store.store(Place::Element { array, index: 2 }, Value::Number(9)));
-    assert_eq!(rt; store.element(ArrayName::Null, 0), None);
+    expect_element(rt, store, ArrayName::Null, 0, None, "of no array");
 }
 
-/// Two calls of one function: each has arrays of its own, which begin as zeros again.
-fn expect_calls(rt: &impl Abort, store: &mut Store, function: &Function) -> Result<(), Fail> {
-    enter(store, function, &[Value::Number(200)])?;
+/// A first call, whose array `a` is the one that it answers.
+fn expect_first(rt: &impl Abort, store: &mut Store, function: &Function) -> ArrayName {
+    enter(rt, store, function, &[Value::Number(200)]);
     expect_locals(rt, store);
     let outer = store.array_of(ArrayRef::Frame(1));
     assert_eq!(rt; outer, ArrayName::InFrame { array: 1, depth: 1 });
     expect_elements(rt, store, outer);
-    enter(store, function, &[])?;
+    outer
+}
+
+/// A call in it has arrays of its own, until it is left.
+fn expect_inner(rt: &impl Abort, store: &mut Store, function: &Function, outer: ArrayName) {
+    enter(rt, store, function, &[]);
     let inner = store.array_of(ArrayRef::Frame(1));
-    assert_eq!(rt; store.element(inner, 1), Some(0));
-    assert_eq!(rt; store.element(outer, 1), Some(9));
+    expect_element(rt, store, inner, 1, Some(0), "of the inner call");
+    expect_element(rt, store, outer, 1, Some(9), "of the outer call");
     assert!(rt; store.set_element(outer, 0, 4));
     store.set_text(0, 1);
-    assert_eq!(rt;
-        store.elements(store.array_of(ArrayRef::Frame(0))),
-        [72, 105, 0].as_slice()
-    );
+    let text = store.array_of(ArrayRef::Frame(0));
+    expect_array(rt, store, text, &[72, 105, 0], "the text");
     store.leave();
-    assert_eq!(rt; store.element(inner, 1), None);
-    enter(store, function, &[])?;
-    assert_eq!(rt;
-        store.elements(store.array_of(ArrayRef::Frame(0))),
-        [0, 0, 0].as_slice()
-    );
+    expect_element(rt, store, inner, 1, None, "of a call that is left");
+}
+
+/// The next call's arrays begin as zeros again.
+fn expect_zeros(rt: &impl Abort, store: &mut Store, function: &Function) {
+    enter(rt, store, function, &[]);
+    let text = store.array_of(ArrayRef::Frame(0));
+    expect_array(rt, store, text, &[0, 0, 0], "no text again");
     assert_eq!(rt; store.depth(), 2);
     store.leave();
-    assert_eq!(rt; store.elements(outer), [4, 9].as_slice());
+}
+
+/// Calls of one function: each has arrays of its own, which begin as zeros again.
+fn expect_calls(rt: &impl Abort, store: &mut Store, function: &Function) {
+    let outer = expect_first(rt, store, function);
+    expect_inner(rt, store, function, outer);
+    expect_zeros(rt, store, function);
+    expect_array(rt, store, outer, &[4, 9], "the outer array");
     store.declare_array(1);
-    assert_eq!(rt; store.elements(outer), [0, 0].as_slice());
+    expect_array(rt, store, outer, &[0, 0], "the outer array is declared");
     store.leave();
-    assert_eq!(rt; store.local(0), Value::Number(0));
-    Ok(())
+    expect_local(rt, store, 0, Value::Number(0), "no call is left");
 }
 
 /// The row of calls on a store of the program.
@@ -151,7 +189,6 @@ fn store(rt: HostRuntime) -> Result<(), Fail> {
     drop(program);
     let mut store = store?;
     let function = function(alloc)?;
-    let row = expect_calls(&rt, &mut store, &function);
-    drop(function);
-    row
+    expect_calls(&rt, &mut store, &function);
+    Ok(())
 }
