@@ -1,6 +1,6 @@
 //! How many temporaries an expression takes at once.
 
-ghost use Rattle.std.specs.Prelude.{◌≡◌, ◌+◌, map, max, IfOk};
+ghost use Rattle.std.specs.Prelude.{◌≡◌, ◌+◌, ℕ, suc, map, max, IfOk};
 ghost use Rattle.c_tree.specs.Erased.{expression_of, place_of};
 ghost use Rattle.c_tree.specs.Sizes.{arguments_height, height, place_height};
 ghost use Rattle.c_limits.specs.Lists.{arguments_from};
@@ -8,76 +8,83 @@ ghost use Rattle.c_limits.specs.Lists.{arguments_from};
 use c_tree::{Expression, Place};
 use pcc_base::NoMemory;
 
+/// A height, where a number can say it.
+pub(crate) type Height = Result<u64, NoMemory>;
+
 /// A height and so many more.
-pub(crate) fn raised(height: u64, by: u64) -> Result<u64, NoMemory>
+pub(crate) fn raised(height: u64, by: u64) -> Height
     ensures { IfOk result (λ n. n ≡ height + by) }
 {
     height.checked_add(by).ok_or(NoMemory)
 }
 
+/// A height above one more value.
+pub(crate) fn on_one(height: Height) -> Height
+    ensures { (h : ℕ) → IfOk height (λ n. n ≡ h) → IfOk result (λ n. n ≡ suc h) }
+{
+    raised(height?, 1)
+}
+
+/// The higher of two heights.
+pub(crate) fn higher(one: Height, other: Height) -> Height
+    ensures { (g h : ℕ) → IfOk one (λ n. n ≡ g) → IfOk other (λ n. n ≡ h) → IfOk result (λ n. n ≡ max g h) }
+{
+    Ok(one?.max(other?))
+}
+
+/// The height of two parts in turn: the value of the first stays while the second is evaluated.
+fn in_turn(first: Height, second: Height) -> Height
+    ensures { (g h : ℕ) → IfOk first (λ n. n ≡ g) → IfOk second (λ n. n ≡ h)
+        → IfOk result (λ n. n ≡ max g (suc h)) }
+{
+    higher(first, on_one(second))
+}
+
 /// The height of an expression.
 #[cycle(expression)]
-pub(crate) fn expression(e: &Expression) -> Result<u64, NoMemory>
+pub(crate) fn expression(e: &Expression) -> Height
     ensures { IfOk result (λ n. n ≡ height (expression_of e.now)) }
 {
     match e {
         Expression::Constant(_, _) | Expression::Start(_, _) | Expression::Getchar => Ok(1),
         Expression::Read(_, of) => place(of),
-        Expression::Address(_, of) | Expression::Step(_, _, of) => raised(place(of)?, 1),
+        Expression::Address(_, of) | Expression::Step(_, _, of) => on_one(place(of)),
         Expression::Unary(_, _, operand) | Expression::Cast(_, operand) => {
-            raised(expression(operand)?, 1)
+            on_one(expression(operand))
         }
         Expression::Binary(_, _, left, right) | Expression::Comma(left, right) => {
-            let first = expression(left)?;
-            let second = raised(expression(right)?, 1)?;
-            Ok(first.max(second))
+            in_turn(expression(left), expression(right))
         }
         Expression::And(left, right) | Expression::Or(left, right) => {
-            let first = expression(left)?;
-            let second = expression(right)?;
-            Ok(first.max(second))
+            higher(expression(left), expression(right))
         }
         Expression::Conditional(_, test, first, second) => {
-            let test = expression(test)?;
-            let first = expression(first)?;
-            let second = expression(second)?;
-            Ok(test.max(first.max(second)))
+            let chosen = higher(expression(first), expression(second));
+            higher(expression(test), chosen)
         }
         Expression::Assign(_, of, value) | Expression::Update(_, _, of, value) => {
-            let first = place(of)?;
-            let second = raised(expression(value)?, 1)?;
-            raised(first.max(second), 1)
+            on_one(in_turn(place(of), expression(value)))
         }
-        Expression::Call(_, _, values) => {
-            let height = arguments(values.as_slice())?;
-            Ok(height.max(1))
-        }
-        Expression::Putchar(value) | Expression::Exit(value) => {
-            let height = expression(value)?;
-            Ok(height.max(1))
-        }
+        Expression::Call(_, _, values) => higher(Ok(1), arguments(values.as_slice())),
+        Expression::Putchar(value) | Expression::Exit(value) => higher(Ok(1), expression(value)),
     }
 }
 
 /// The height of a place.
 #[cycle(expression)]
-fn place(of: &Place) -> Result<u64, NoMemory>
+fn place(of: &Place) -> Height
     ensures { IfOk result (λ n. n ≡ place_height (place_of of.now)) }
 {
     match of {
         Place::Local(_) | Place::Static(_) => Ok(1),
-        Place::Target(_, pointer) => raised(expression(pointer)?, 1),
-        Place::Element(_, array, index) => {
-            let first = expression(array)?;
-            let second = raised(expression(index)?, 1)?;
-            Ok(first.max(second))
-        }
+        Place::Target(_, pointer) => on_one(expression(pointer)),
+        Place::Element(_, array, index) => { in_turn(expression(array), expression(index)) }
     }
 }
 
 /// The height of arguments: each one stands on those before it.
 #[cycle(expression)]
-fn arguments(values: &[Expression]) -> Result<u64, NoMemory>
+fn arguments(values: &[Expression]) -> Height
     ensures { IfOk result (λ n. n ≡ arguments_height (arguments_from (map expression_of values.now)) 0) }
 {
     let mut height = values.len() as u64;

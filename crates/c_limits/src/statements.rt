@@ -6,12 +6,11 @@ ghost use Rattle.c_tree.specs.Sizes as sizes;
 ghost use Rattle.c_tree.specs.Sizes.{first_height, highest, item_height, items_height, option_height};
 ghost use Rattle.c_tree.specs.Sizes.{statement_height, statements_height};
 
-use crate::expressions::{expression, raised};
+use crate::expressions::{Height, expression, higher, on_one, raised};
 use c_tree::{Expression, First, Initialiser, Item, Statement};
-use pcc_base::NoMemory;
 
 /// The height of an expression that may be absent.
-fn if_any(value: &Option<Expression>) -> Result<u64, NoMemory>
+fn if_any(value: &Option<Expression>) -> Height
     ensures { IfOk result (λ n. n ≡ option_height (option_map expression_of value.now)) }
 {
     match value {
@@ -21,7 +20,7 @@ fn if_any(value: &Option<Expression>) -> Result<u64, NoMemory>
 }
 
 /// The same with so many more where it is there.
-fn raised_if_any(by: u64, value: &Option<Expression>) -> Result<u64, NoMemory>
+fn raised_if_any(by: u64, value: &Option<Expression>) -> Height
     ensures { IfOk result (λ n. n ≡ sizes.raised by (option_map expression_of value.now)) }
 {
     match value {
@@ -31,7 +30,7 @@ fn raised_if_any(by: u64, value: &Option<Expression>) -> Result<u64, NoMemory>
 }
 
 /// The greatest height of several expressions, with so many more.
-fn highest(by: u64, values: &[Expression]) -> Result<u64, NoMemory>
+fn highest(by: u64, values: &[Expression]) -> Height
     ensures { IfOk result (λ n. n ≡ highest by (map expression_of values.now)) }
 {
     let mut height = 0u64;
@@ -45,7 +44,7 @@ fn highest(by: u64, values: &[Expression]) -> Result<u64, NoMemory>
 }
 
 /// The height of a declared item: an initialiser counts one more, that of an element two.
-fn item(of: &Item) -> Result<u64, NoMemory>
+fn item(of: &Item) -> Height
     ensures { IfOk result (λ n. n ≡ item_height (item_of of.now)) }
 {
     match of {
@@ -56,7 +55,7 @@ fn item(of: &Item) -> Result<u64, NoMemory>
 }
 
 /// The greatest height of several items.
-fn items(of: &[Item]) -> Result<u64, NoMemory>
+fn items(of: &[Item]) -> Height
     ensures { IfOk result (λ n. n ≡ items_height (map item_of of.now)) }
 {
     let mut height = 0u64;
@@ -69,7 +68,7 @@ fn items(of: &[Item]) -> Result<u64, NoMemory>
 }
 
 /// The height of the first part of a `for`.
-fn first(of: &First) -> Result<u64, NoMemory>
+fn first(of: &First) -> Height
     ensures { IfOk result (λ n. n ≡ first_height (first_of of.now)) }
 {
     match of {
@@ -81,7 +80,7 @@ fn first(of: &First) -> Result<u64, NoMemory>
 
 /// The height of a statement; the value of a switch counts one more.
 #[cycle(statement)]
-fn statement(s: &Statement) -> Result<u64, NoMemory>
+fn statement(s: &Statement) -> Height
     ensures { IfOk result (λ n. n ≡ statement_height (statement_of s.now)) }
 {
     match s {
@@ -90,32 +89,17 @@ fn statement(s: &Statement) -> Result<u64, NoMemory>
         Statement::Expression(_, e) => expression(e),
         Statement::Block(body) => statements(body.as_slice()),
         Statement::If(_, test, one, other) => {
-            let test = expression(test)?;
-            let one = statement(one)?;
-            let other = statement(other)?;
-            Ok(test.max(one.max(other)))
+            let branches = higher(statement(one), statement(other));
+            higher(expression(test), branches)
         }
-        Statement::While(_, test, body) => {
-            let test = expression(test)?;
-            let body = statement(body)?;
-            Ok(test.max(body))
-        }
-        Statement::Do(_, body, test) => {
-            let body = statement(body)?;
-            let test = expression(test)?;
-            Ok(body.max(test))
-        }
+        Statement::While(_, test, body) => higher(expression(test), statement(body)),
+        Statement::Do(_, body, test) => higher(statement(body), expression(test)),
         Statement::For(_, start, test, after, body) => {
-            let start = first(start)?;
-            let body = statement(body)?;
-            let test = if_any(test)?;
-            let after = if_any(after)?;
-            Ok(start.max(body).max(test.max(after)))
+            let once = higher(first(start), statement(body));
+            higher(once, higher(if_any(test), if_any(after)))
         }
         Statement::Switch(_, value, _, body) => {
-            let value = raised(expression(value)?, 1)?;
-            let body = statements(body.as_slice())?;
-            Ok(value.max(body))
+            higher(on_one(expression(value)), statements(body.as_slice()))
         }
         Statement::Return(_, value) => if_any(value),
     }
@@ -123,7 +107,7 @@ fn statement(s: &Statement) -> Result<u64, NoMemory>
 
 /// The greatest height of several statements.
 #[cycle(statement)]
-pub(crate) fn statements(body: &[Statement]) -> Result<u64, NoMemory>
+pub(crate) fn statements(body: &[Statement]) -> Height
     ensures { IfOk result (λ n. n ≡ statements_height (statements_of body.now)) }
 {
     let mut height = 0u64;
