@@ -67,6 +67,24 @@ fn main_number(alloc: Global, numbers: &Numbers) -> Result<u32, NoMemory>
     numbers.function(&Entity::Shared(name))
 }
 
+/// The outline that notes give of a program with these numbers.
+fn outline_of(
+    alloc: Global,
+    notes: &[Note],
+    known: &Known,
+    numbers: &Numbers,
+) -> Result<Outline, NoMemory>
+    requires known { IsKnownOf (map note_of notes.now) (known_of known.now) }
+    requires once { AreDefinedOnce (map note_of notes.now) }
+    ensures main { IfOk result (λ o. o.main ≡ number_among numbers.now.functions main) }
+    ensures objects { IfOk result (λ o.
+        map object_described o.objects.items ≡ static_objects (map note_of notes.now)) }
+{
+    let main = main_number(alloc, numbers)?;
+    let objects = describe(alloc, notes, known)?;
+    Ok(Outline { main, objects })
+}
+
 /// What notes give of a program.
 fn outlined(alloc: Global, notes: &[Note], known: &Known) -> Result<Plan, NoMemory>
     requires known { IsKnownOf (map note_of notes.now) (known_of known.now) }
@@ -78,12 +96,27 @@ fn outlined(alloc: Global, notes: &[Note], known: &Known) -> Result<Plan, NoMemo
         map object_described p.outline.objects.items ≡ static_objects (map note_of notes.now)) }
 {
     let numbers = numbered(alloc, notes, known)?;
-    let main = main_number(alloc, &numbers)?;
-    let objects = describe(alloc, notes, known)?;
-    Ok(Plan {
-        numbers,
-        outline: Outline { main, objects },
-    })
+    let outline = outline_of(alloc, notes, known, &numbers)?;
+    Ok(Plan { numbers, outline })
+}
+
+/// What the notes of files that fit give of a program, or the fault of what is missing among what they define.
+fn outlined_or_missing(
+    alloc: Global,
+    notes: &[Note],
+    known: &Known,
+    end: Span,
+) -> Result<Plan, Refusal>
+    requires known { IsKnownOf (map note_of notes.now) (known_of known.now) }
+    requires once { AreDefinedOnce (map note_of notes.now) }
+    ensures numbers { IfOk result (λ p. p.numbers ≡ numbers_of (map note_of notes.now)) }
+    ensures outline { IfOk result (λ p. IsOutlineOf (map note_of notes.now) p.outline) }
+    ensures refused { IfErr result (IsUnfinished (map note_of notes.now) end) }
+{
+    match unfinished(notes, known, end) {
+        Some(fault) => Err(Refusal::Fault(fault)),
+        None => Ok(outlined(alloc, notes, known)?),
+    }
 }
 
 /// What the notes of files that fit give of a program, or the fault of what is missing.
@@ -94,10 +127,7 @@ fn outlined_or_unfinished(alloc: Global, notes: &[Note], end: Span) -> Result<Pl
     ensures refused { IfErr result (IsUnfinished (map note_of notes.now) end) }
 {
     let known = defined(alloc, notes)?;
-    match unfinished(notes, &known, end) {
-        Some(fault) => Err(Refusal::Fault(fault)),
-        None => Ok(outlined(alloc, notes, &known)?),
-    }
+    outlined_or_missing(alloc, notes, &known, end)
 }
 
 /// The numbers of the functions and objects of files, and the outline of their program, or the least fault: what comes
