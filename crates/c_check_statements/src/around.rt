@@ -8,7 +8,7 @@ ghost use Rattle.c_check_statements.specs.Views.{around_of};
 use c_tree::ValueType;
 
 /// The result of the function, and whether `break` and `continue` may stand here.
-#[derive(Clone, Copy, Debug, PartialEq, Eq)]
+#[derive(Clone, Copy)]
 pub(crate) struct Around {
     pub(crate) result: ValueType,
     pub(crate) breaks: bool,
