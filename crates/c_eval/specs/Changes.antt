@@ -4,7 +4,9 @@ use Rattle.pcc_base.specs.Outcome.{Listing}
 use Rattle.pcc_base.specs.Outcome as outcome
 use Rattle.c_tree.specs.declared.types.ValueType.{ValueType}
 use Rattle.c_tree.specs.Evaluation.{Found}
-use Rattle.c_tree.specs.Program.{Expression, Getchar, Place, Program, First, Item, Scalar, Array, Statement, Statements}
+use Rattle.c_tree.specs.Program.{Expression, Place, Program, First, Item, Scalar, Array, Statement, Statements}
+use Rattle.c_tree.specs.Program.{Getchar, Read, Address, Assign, Update, Step, Unary, Binary, And, Or, Conditional}
+use Rattle.c_tree.specs.Program.{Cast, Comma, Putchar, Exit}
 use Rattle.c_tree.specs.Program.{Function}
 use Rattle.c_tree.specs.Program.{Declare, Empty, Evaluate, Block, If, While, Do, For, Switch, Break, Continue, Return}
 use Rattle.c_tree.specs.Store.{Held, HoldsNumber, State, Gives, Ends, visited}
@@ -137,6 +139,35 @@ IsLoop (While n e body) = Unit {0}
 IsLoop (Do n body e) = Unit {0}
 IsLoop (For n first test after body) = Unit {0}
 IsLoop _ = ⊥
+
+-- a jump (C99 6.8.6)
+abbrev pub IsJump : Statement → Type 0
+IsJump (Break n) = Unit {0}
+IsJump (Continue n) = Unit {0}
+IsJump (Return n value) = Unit {0}
+IsJump _ = ⊥
+
+-- an expression that begins with a place, which it reads, stores to or takes the address of
+abbrev pub IsAccess : Expression → Type 0
+IsAccess (Read of place) = Unit {0}
+IsAccess (Address element place) = Unit {0}
+IsAccess (Assign of place e) = Unit {0}
+IsAccess (Update of op place e) = Unit {0}
+IsAccess (Step of op place) = Unit {0}
+IsAccess _ = ⊥
+
+-- an expression that begins with its operand, or the first one
+abbrev pub IsOnOperands : Expression → Type 0
+IsOnOperands (Unary of op e) = Unit {0}
+IsOnOperands (Binary of op a b) = Unit {0}
+IsOnOperands (And a b) = Unit {0}
+IsOnOperands (Or a b) = Unit {0}
+IsOnOperands (Conditional of e a b) = Unit {0}
+IsOnOperands (Cast to e) = Unit {0}
+IsOnOperands (Comma a b) = Unit {0}
+IsOnOperands (Putchar e) = Unit {0}
+IsOnOperands (Exit e) = Unit {0}
+IsOnOperands _ = ⊥
 
 -- an expression is taken apart, or it is `getchar` and nothing is done
 abbrev pub TakenApart : Bool → Expression → Configuration → Configuration → State → Type 0

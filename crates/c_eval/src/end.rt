@@ -6,7 +6,7 @@ ghost use Rattle.c_eval.specs.declared.end.EvalEnd.TheVariants.{NoMemory as Want
 use pcc_base::{NoMemory, Trap};
 
 /// How an evaluation ends.
-#[derive(Clone, Copy, Debug, PartialEq, Eq)]
+#[derive(Clone, Copy)]
 pub enum EvalEnd {
     /// The program ended, with this exit status (C99 5.1.2.2.3 and 7.20.4.3).
     Ended(u8),

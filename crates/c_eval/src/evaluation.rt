@@ -104,8 +104,7 @@ impl<'a> Evaluation<'a> {
             ≡ doing_both (task_of first.entry) (task_of second.entry) (left_of self.old)) }
     {
         self.next(second)?;
-        self.next(first)?;
-        Ok(())
+        self.next(first)
     }
 
     /// Three tasks are to be done before all others, in order.
@@ -119,8 +118,7 @@ impl<'a> Evaluation<'a> {
             ≡ doing_three (task_of first.entry) (task_of second.entry) (task_of third.entry) (left_of self.old)) }
     {
         self.next(third)?;
-        self.next_both(first, second)?;
-        Ok(())
+        self.next_both(first, second)
     }
 
     /// Four tasks are to be done before all others, in order.
@@ -136,8 +134,7 @@ impl<'a> Evaluation<'a> {
             (left_of self.old)) }
     {
         self.next_both(third, fourth)?;
-        self.next_both(first, second)?;
-        Ok(())
+        self.next_both(first, second)
     }
 
     /// A value comes.

@@ -2,7 +2,7 @@
 
 ghost use Rattle.std.specs.Prelude.{◌≡◌, IfOk, option_map};
 ghost use Rattle.c_eval.specs.Changes.{after_start, done, going_again, going_to_label, starting_for};
-ghost use Rattle.c_eval.specs.Changes.{IsLoop, starting_return, statement_done};
+ghost use Rattle.c_eval.specs.Changes.{IsJump, IsLoop, starting_return, statement_done};
 ghost use Rattle.c_eval.specs.Left.{left_of};
 ghost use Rattle.c_eval.specs.Views.{has_label, part_task};
 ghost use Rattle.c_eval.specs.declared.task.StatementPart.TheVariants as parts;
@@ -54,10 +54,31 @@ fn start_return<'a>(
             left.next_both(Task::Evaluates(e), Task::ReturnsValue(result))
         }
         None => {
-            left.hold(Value::Number(0))?;
             left.pass_over(Way::Returning);
+            left.hold(Value::Number(0))
+        }
+    }
+}
+
+/// A jump: what follows is passed over, for a `return` once its value is there (C99 6.8.6).
+fn start_jump<'a>(left: &mut Evaluation<'a>, x: &'a Statement) -> Result<(), NoMemory>
+    requires way { (left_of left.old).way ≡ Ahead }
+    requires jumps { IsJump (statement_of x.now) }
+    ensures { IfOk result (λ _. (l : Listing) (s : State)
+        → statement_done l (statement_of x.now) (left_of left.old) s
+        ≡ Gives (left_of left.new) (after_start l (statement_of x.now) s)) }
+{
+    match x {
+        Statement::Break(_) => {
+            left.pass_over(Way::Breaking);
             Ok(())
         }
+        Statement::Continue(_) => {
+            left.pass_over(Way::Continuing);
+            Ok(())
+        }
+        Statement::Return(_, value) => start_return(left, value),
+        _ => Ok(()),
     }
 }
 
@@ -81,15 +102,9 @@ pub fn start<'a>(left: &mut Evaluation<'a>, x: &'a Statement) -> Result<(), NoMe
             left.next(Task::Goes(StatementPart::Turn, x))
         }
         Statement::For(_, first, _, _, _) => start_for(left, first, x),
-        Statement::Break(_) => {
-            left.pass_over(Way::Breaking);
-            Ok(())
+        Statement::Break(_) | Statement::Continue(_) | Statement::Return(_, _) => {
+            start_jump(left, x)
         }
-        Statement::Continue(_) => {
-            left.pass_over(Way::Continuing);
-            Ok(())
-        }
-        Statement::Return(_, value) => start_return(left, value),
     }
 }
 
@@ -142,9 +157,8 @@ pub fn return_value(left: &mut Evaluation<'_>, to: ValueType) -> Result<(), NoMe
         → done p l (tasks.ReturnsValue to) (left_of left.old) s ≡ Gives (left_of left.new) s) }
 {
     let value = left.take_value();
-    left.hold(value.in_type(to))?;
     left.pass_over(Way::Returning);
-    Ok(())
+    left.hold(value.in_type(to))
 }
 
 /// Behind the body of a loop, or of a `switch`.

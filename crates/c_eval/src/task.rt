@@ -47,7 +47,7 @@ pub enum Task<'a> {
 }
 
 /// How far a statement is: tasks that stand for its parts are named by the whole (C99 6.8).
-#[derive(Clone, Copy, Debug, PartialEq, Eq)]
+#[derive(Clone, Copy)]
 pub enum StatementPart {
     /// Before all of it.
     Start,
@@ -61,7 +61,7 @@ pub enum StatementPart {
 
 /// How tasks are gone through: each is done, or they are passed over, up to what a `break` or `continue` leaves (C99
 /// 6.8.6.2 and 6.8.6.3), or up to the end of the function (C99 6.8.6.4).
-#[derive(Clone, Copy, Debug, PartialEq, Eq)]
+#[derive(Clone, Copy)]
 pub enum Way {
     Ahead,
     Breaking,
