@@ -52,8 +52,10 @@ IsPlain (tasks.Goes part x) = ⊥
 IsPlain (tasks.Declares item) = ⊥
 IsPlain _ = Unit {0}
 
--- those of these that need the stacks alone
+-- those of these that need the stacks alone, and after which the program goes on
 abbrev pub IsOnStacks : memory.Task → Type 0
+IsOnStacks (tasks.AppliesBinary op) = ⊥
+IsOnStacks tasks.Exits = ⊥
 IsOnStacks tasks.Loads = ⊥
 IsOnStacks tasks.LoadsOld = ⊥
 IsOnStacks (tasks.Stores of) = ⊥

@@ -1,6 +1,6 @@
 //! The step of the task that is to be done before all others, up to what moves bytes or takes a turn.
 
-ghost use Rattle.std.specs.Prelude.{◌≡◌, ◌≤◌, length};
+ghost use Rattle.std.specs.Prelude.{◌≡◌, ◌≤◌, IfOk, length};
 ghost use Rattle.c_eval.specs.Changes.{Comes, done};
 ghost use Rattle.c_eval.specs.Left.{left_of};
 ghost use Rattle.c_eval.specs.Views.{arguments_from, part_task, task_of};
@@ -12,7 +12,7 @@ ghost use Rattle.c_tasks.specs.Tasks as tasks;
 ghost use Rattle.c_tasks.specs.Tasks.{Ahead};
 ghost use Rattle.c_tree.specs.Erased.{program_of, statement_of};
 ghost use Rattle.c_tree.specs.Program as typed;
-ghost use Rattle.c_tree.specs.Store.{State};
+ghost use Rattle.c_tree.specs.Store.{State, Gives};
 ghost use Rattle.pcc_base.specs.Outcome.{Listing};
 
 use crate::next::{Next, Turn};
@@ -22,37 +22,38 @@ use c_eval::{
 };
 use c_store::Store;
 use c_tree::{Expression, Program, Statement};
+use pcc_base::NoMemory;
 
-/// A task that needs the stacks alone.
-fn perform_on_stacks<'a>(left: &mut Evaluation<'a>, task: Task<'a>) -> Result<(), EvalEnd>
+/// A task that needs the stacks alone, and after which the program goes on.
+fn perform_on_stacks<'a>(left: &mut Evaluation<'a>, task: Task<'a>) -> Result<(), NoMemory>
     requires way { (left_of left.old).way ≡ Ahead }
     requires task { IsOnStacks task }
-    ensures { (p : typed.Program) (l : Listing) (s : State)
-        → Comes result (done p l (task_of task.entry) (left_of left.old) s) (left_of left.new) s }
+    ensures { IfOk result (λ _. (p : typed.Program) (l : Listing) (s : State)
+        → done p l (task_of task.entry) (left_of left.old) s ≡ Gives (left_of left.new) s) }
 {
     match task {
-        Task::Locates(place) => Ok(expressions::locate(left, place)?),
-        Task::Points => Ok(values::point(left)?),
-        Task::Addresses => Ok(values::take_address(left)?),
-        Task::AppliesUnary(of, op) => Ok(values::apply_unary(left, of, op)?),
-        Task::AppliesBinary(op) => values::apply_binary(left, op),
-        Task::AndThen(right) => Ok(values::and_then(left, right)?),
-        Task::OrElse(right) => Ok(values::or_else(left, right)?),
-        Task::Truth => Ok(values::find_truth(left)?),
-        Task::Chooses(of, first, second) => Ok(values::choose(left, of, first, second)?),
-        Task::Converts(to) => Ok(values::convert(left, to)?),
+        Task::Locates(place) => expressions::locate(left, place),
+        Task::Points => values::point(left),
+        Task::Addresses => values::take_address(left),
+        Task::AppliesUnary(of, op) => values::apply_unary(left, of, op),
+        Task::AndThen(right) => values::and_then(left, right),
+        Task::OrElse(right) => values::or_else(left, right),
+        Task::Truth => values::find_truth(left),
+        Task::Chooses(of, first, second) => values::choose(left, of, first, second),
+        Task::Converts(to) => values::convert(left, to),
         Task::Drops => {
             values::drop_value(left);
             Ok(())
         }
-        Task::Exits => Err(EvalEnd::Ended(values::exit_status(left))),
-        Task::DeclaresAll(items) => Ok(items::declare_next(left, items)?),
+        Task::DeclaresAll(items) => items::declare_next(left, items),
         Task::Fills(array, element, elements, place) => {
-            Ok(items::fill(left, array, element, elements, place)?)
+            items::fill(left, array, element, elements, place)
         }
-        Task::Follows(row) => Ok(statements::follow(left, row)?),
-        Task::ReturnsValue(result) => Ok(statements::return_value(left, result)?),
+        Task::Follows(row) => statements::follow(left, row),
+        Task::ReturnsValue(result) => statements::return_value(left, result),
         Task::Evaluates(_)
+        | Task::AppliesBinary(_)
+        | Task::Exits
         | Task::Puts
         | Task::Passes(_, _, _)
         | Task::Goes(_, _)
@@ -94,7 +95,9 @@ fn perform_plain<'a>(
             items::fill_element(left, store, array, element, elements, place)
         }
         Task::ReturnsTo(caller) => Ok(passing::pass_return(left, store, caller)?),
-        other => perform_on_stacks(left, other),
+        Task::AppliesBinary(op) => values::apply_binary(left, op),
+        Task::Exits => Err(EvalEnd::Ended(values::exit_status(left))),
+        other => Ok(perform_on_stacks(left, other)?),
     }
 }
 

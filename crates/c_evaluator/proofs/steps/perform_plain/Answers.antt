@@ -27,6 +27,12 @@ returns-in-Initialises c = rw c.in-Initialises.is c.initialise.ensures
 pub returns-in-FillsElement : goal.returns-in-FillsElement
 returns-in-FillsElement c = rw c.in-FillsElement.is c.fill_element.ensures
 
+pub returns-in-AppliesBinary : goal.returns-in-AppliesBinary
+returns-in-AppliesBinary c = λ p l s. rw c.in-AppliesBinary.is (c.apply_binary.ensures p l (over s c.args.store.now))
+
+pub returns-in-Exits : goal.returns-in-Exits
+returns-in-Exits c = λ p l s. rw c.in-Exits.is (c.exit_status.ensures p l (over s c.args.store.now))
+
 pub returns-in_ok-pass_return-in-ReturnsTo : goal.returns-in_ok-pass_return-in-ReturnsTo
 returns-in_ok-pass_return-in-ReturnsTo c = λ p l s. rw c.in-ReturnsTo.is
     (return_ahead p l (function_of c.in-ReturnsTo.caller.now)
