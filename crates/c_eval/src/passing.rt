@@ -12,6 +12,7 @@ ghost use Rattle.c_tree.specs.Erased.{function_of, statement_of};
 ghost use Rattle.c_tree.specs.Store.{State, Gives};
 
 use crate::evaluation::Evaluation;
+use crate::statements::go_again;
 use crate::task::{StatementPart, Task, Way};
 use c_store::{Store, Value};
 use c_tree::{Function, Statement};
@@ -28,17 +29,9 @@ fn continue_behind<'a>(left: &mut Evaluation<'a>, x: &'a Statement) -> Result<()
             left.pass_over(Way::Ahead);
             left.next(Task::Goes(StatementPart::Turn, x))
         }
-        Statement::For(_, _, _, Some(after), _) => {
+        Statement::For(_, _, _, after, _) => {
             left.pass_over(Way::Ahead);
-            left.next_three(
-                Task::Evaluates(after),
-                Task::Drops,
-                Task::Goes(StatementPart::Turn, x),
-            )
-        }
-        Statement::For(_, _, _, None, _) => {
-            left.pass_over(Way::Ahead);
-            left.next(Task::Goes(StatementPart::Turn, x))
+            go_again(left, after, x)
         }
         Statement::Do(_, _, e) => {
             left.pass_over(Way::Ahead);

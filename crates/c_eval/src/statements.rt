@@ -178,7 +178,7 @@ pub fn go_behind_body<'a>(left: &mut Evaluation<'a>, x: &'a Statement) -> Result
 }
 
 /// What follows each turn of a `for`, and then its next turn (C99 6.8.5.3).
-fn go_again<'a>(
+pub(crate) fn go_again<'a>(
     left: &mut Evaluation<'a>,
     after: &'a Option<Expression>,
     whole: &'a Statement,
