@@ -35,7 +35,7 @@ const NULL: Value = Value::Pointer {
 
 /// A place that was found (C99 6.3.2.1): a local that is no array, a static object that is none, or the element of an
 /// array at an index, which may be outside it.
-#[derive(Clone, Copy, Debug, PartialEq, Eq)]
+#[derive(Clone, Copy)]
 pub enum Place {
     Local(u32),
     Object(u32),
