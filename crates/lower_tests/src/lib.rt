@@ -3,6 +3,8 @@
 //!
 //! A plain interpreter of graphs stands here (`machine`, `ops`, `calls`, `arrays`), written from the meaning of ops in
 //! `flow_graph`. It shares no code with `lower`.
+//!
+//! Beside these stand tests of `c_store` (`stores`), on which the evaluator rests.
 #![tactic(auto)]
 
 #[cfg(test)]
@@ -23,3 +25,5 @@ mod ops;
 mod outcomes;
 #[cfg(test)]
 mod programs;
+#[cfg(test)]
+mod stores;
