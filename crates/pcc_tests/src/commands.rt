@@ -96,33 +96,37 @@ fn refuses_words_and_names(rt: HostRuntime) -> Result<(), Fail> {
     Ok(())
 }
 
+const COMMANDS: &str = "\n  pcc run [--steps N] IMAGE ";
+
+/// What a telling of usage has for words that mean help or nothing: the command line, and two of its parts.
+const USAGES: [(&str, &str, &str); 15] = [
+    ("", "'pcc' requires a subcommand", COMMANDS),
+    ("compile a.c", "-o <NAME>", COMMANDS),
+    ("compile -o a", "<SRC>...", COMMANDS),
+    ("compile -O a a.c", "'-O'", COMMANDS),
+    ("compile -o a.c a.c", "NAME and NAME.map", COMMANDS),
+    ("compile -o a b.c a.map", "NAME and NAME.map", COMMANDS),
+    ("run", "<IMAGE>", COMMANDS),
+    ("run a a", "'a'", COMMANDS),
+    (
+        "run --steps 18446744073709551616 a",
+        "--steps <N>",
+        COMMANDS,
+    ),
+    ("eval --turns x a.c", "invalid value 'x'", COMMANDS),
+    ("solve", "<FILE>", COMMANDS),
+    ("gcc a.c", "'gcc'", COMMANDS),
+    ("--help", "  compile  Compiles C files", "  solve "),
+    ("run --help", "--steps <N>", "[default: 1000000000]"),
+    ("compile -h", "-o <NAME>", "its map is NAME.map"),
+];
+
 /// Words that mean no command are told what is wrong with them and the commands; help that is asked for is told alone.
 #[test]
 fn tells_usage(rt: HostRuntime) -> Result<(), Fail> {
     let alloc = rt.alloc();
-    let commands = "\n  pcc run [--steps N] IMAGE ";
     let mut files = files_with(alloc, "int main(void){return 300;}", 0)?;
-    for (line, wrong, more) in [
-        ("", "'pcc' requires a subcommand", commands),
-        ("compile a.c", "-o <NAME>", commands),
-        ("compile -o a", "<SRC>...", commands),
-        ("compile -O a a.c", "'-O'", commands),
-        ("compile -o a.c a.c", "NAME and NAME.map", commands),
-        ("compile -o a b.c a.map", "NAME and NAME.map", commands),
-        ("run", "<IMAGE>", commands),
-        ("run a a", "'a'", commands),
-        (
-            "run --steps 18446744073709551616 a",
-            "--steps <N>",
-            commands,
-        ),
-        ("eval --turns x a.c", "invalid value 'x'", commands),
-        ("solve", "<FILE>", commands),
-        ("gcc a.c", "'gcc'", commands),
-        ("--help", "  compile  Compiles C files", "  solve "),
-        ("run --help", "--steps <N>", "[default: 1000000000]"),
-        ("compile -h", "-o <NAME>", "its map is NAME.map"),
-    ] {
+    for &(line, wrong, more) in &USAGES {
         let answer = run_line(alloc, line, &mut files, 0)?;
         let text = std::str::from_utf8(answer.err.taken()).unwrap_or("");
         assert!(rt;
@@ -136,28 +140,34 @@ fn tells_usage(rt: HostRuntime) -> Result<(), Fail> {
     Ok(())
 }
 
+/// Sources beside `a.c`, and their texts.
+const SOURCES: [(&str, &str); 4] = [
+    ("b.c", "int f(void){return 1;}\n"),
+    ("syntax.c", "\nint f(void){return 1}"),
+    ("goto.c", "int f(void){goto x;}"),
+    ("byte.c", "int f(void)\n{return @;}"),
+];
+
+/// Sources in an order, the status and the line.
+const ORDERS: [(&str, u8, &str); 7] = [
+    ("a.c a.c", 1, "a.c:1:5: 8 Redeclared\n"),
+    ("a.c x.c byte.c", 6, "no file x.c\n"),
+    ("x.c y.c", 6, "no file x.c\n"),
+    ("a.c byte.c", 1, "byte.c:2:9: 1 BadByte\n"),
+    ("syntax.c byte.c", 1, "byte.c:2:9: 1 BadByte\n"),
+    ("a.c syntax.c goto.c", 1, "syntax.c:2:21: 5 Syntax\n"),
+    ("goto.c syntax.c", 1, "goto.c:1:13: 6 Unsupported goto\n"),
+];
+
 /// Sources are read in their order, then lexed in it, and then parsed in it.
 #[test]
 fn refuses_several_sources(rt: HostRuntime) -> Result<(), Fail> {
     let alloc = rt.alloc();
     let mut files = files_with(alloc, "int main(void){return 300;}", 0)?;
-    for (name, text) in [
-        ("b.c", "int f(void){return 1;}\n"),
-        ("syntax.c", "\nint f(void){return 1}"),
-        ("goto.c", "int f(void){goto x;}"),
-        ("byte.c", "int f(void)\n{return @;}"),
-    ] {
+    for &(name, text) in &SOURCES {
         put(&mut files, name, text.as_bytes())?;
     }
-    for (sources, status, err) in [
-        ("a.c a.c", 1, "a.c:1:5: 8 Redeclared\n"),
-        ("a.c x.c byte.c", 6, "no file x.c\n"),
-        ("x.c y.c", 6, "no file x.c\n"),
-        ("a.c byte.c", 1, "byte.c:2:9: 1 BadByte\n"),
-        ("syntax.c byte.c", 1, "byte.c:2:9: 1 BadByte\n"),
-        ("a.c syntax.c goto.c", 1, "syntax.c:2:21: 5 Syntax\n"),
-        ("goto.c syntax.c", 1, "goto.c:1:13: 6 Unsupported goto\n"),
-    ] {
+    for &(sources, status, err) in &ORDERS {
         let line = format!(in alloc; "compile -o p {sources}")?;
         let answer = run_line(alloc, line.as_str(), &mut files, 0)?;
         expect_answer(&rt, &answer, "", status, err, sources);
@@ -169,16 +179,19 @@ fn refuses_several_sources(rt: HostRuntime) -> Result<(), Fail> {
     Ok(())
 }
 
+/// The number of the call that fails, the status and the line, and whether there is a map then.
+const FAILING_CALLS: [(u64, u8, &str, bool); 4] = [
+    (1, 4, "read fault a.c\n", false),
+    (2, 5, "write fault a.map\n", false),
+    (3, 5, "write fault a\n", true),
+    (4, 0, "", true),
+];
+
 /// The call of the store that fails is named, and what was written before it stands.
 #[test]
 fn names_faults(rt: HostRuntime) -> Result<(), Fail> {
     let alloc = rt.alloc();
-    for (call, status, err, map_stands) in [
-        (1, 4, "read fault a.c\n", false),
-        (2, 5, "write fault a.map\n", false),
-        (3, 5, "write fault a\n", true),
-        (4, 0, "", true),
-    ] {
+    for &(call, status, err, map_stands) in &FAILING_CALLS {
         let mut files = files_with(alloc, "int main(void){return 300;}", call)?;
         let answer = run_line(alloc, "compile -o a a.c", &mut files, 0)?;
         expect_answer(&rt, &answer, "", status, err, "compile");
@@ -197,31 +210,35 @@ fn solve_text(alloc: Global, board: &str) -> Result<Answer, Fail> {
     run_line(alloc, "solve b", &mut files, 0)
 }
 
+const BAD: &str = "b: 25 BadBoard\n";
+
+/// The text of a board, the status, the output and the line.
+const BOARDS: [(&str, u8, &str, &str); 8] = [
+    (
+        "areas bb bu\npieces X2 Z2 Y1\n",
+        0,
+        "0 X2 0 all\n1 Z2 0 all\n2 Y1 1 low\n",
+        "",
+    ),
+    (
+        "areas bb bb bb bb\npieces X2 Z2 Y1 Y1 Y1 Y1 Y1 Y1 Y1\n",
+        0,
+        "none\n",
+        "",
+    ),
+    ("areas\npieces\n", 0, "", ""),
+    ("areas\npieces X1\n", 0, "none\n", ""),
+    ("areas b\npieces\n", 1, "", BAD),
+    ("areas bb\npieces X3\n", 1, "", BAD),
+    ("areas  bb\npieces\n", 1, "", BAD),
+    ("areas bb\npieces X1", 1, "", BAD),
+];
+
 /// Each text of a board has its placement on the output, or `none`, and any other file its fault.
 #[test]
 fn solves_boards(rt: HostRuntime) -> Result<(), Fail> {
     let alloc = rt.alloc();
-    let bad = "b: 25 BadBoard\n";
-    for (board, status, out, err) in [
-        (
-            "areas bb bu\npieces X2 Z2 Y1\n",
-            0,
-            "0 X2 0 all\n1 Z2 0 all\n2 Y1 1 low\n",
-            "",
-        ),
-        (
-            "areas bb bb bb bb\npieces X2 Z2 Y1 Y1 Y1 Y1 Y1 Y1 Y1\n",
-            0,
-            "none\n",
-            "",
-        ),
-        ("areas\npieces\n", 0, "", ""),
-        ("areas\npieces X1\n", 0, "none\n", ""),
-        ("areas b\npieces\n", 1, "", bad),
-        ("areas bb\npieces X3\n", 1, "", bad),
-        ("areas  bb\npieces\n", 1, "", bad),
-        ("areas bb\npieces X1", 1, "", bad),
-    ] {
+    for &(board, status, out, err) in &BOARDS {
         let answer = solve_text(alloc, board)?;
         expect_answer(&rt, &answer, out, status, err, board);
     }
