@@ -1,5 +1,5 @@
-//! In: parts of an expression that were read. Out: its node in a box, with its height, or values with their commas. The only
-//! refusal is want of memory.
+//! In: parts of an expression that were read. Out: its node in a box, with its height, or values with their commas.
+//! The only refusal is want of memory.
 #![tactic(auto)]
 
 mod build;

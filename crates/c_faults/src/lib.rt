@@ -1,5 +1,5 @@
-//! In: faults of a program. Out: which of two comes first. `specs/Faults.antt` of `c_typing` says it: by their places, and
-//! at one place by the numbers of their kinds.
+//! In: faults of a program. Out: which of two comes first. `specs/Faults.antt` of `c_typing` says it: by their places,
+//! and at one place by the numbers of their kinds.
 #![tactic(auto)]
 
 mod order;

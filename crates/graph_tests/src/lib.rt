@@ -1,5 +1,5 @@
-//! Tests of the public calls of `flow_graph` (`graphs`), `liveness` (`live_points`) and `elementary_form` (`forms`). The
-//! first two build their graphs by the steps in `building`.
+//! Tests of the public calls of `flow_graph` (`graphs`), `liveness` (`live_points`) and `elementary_form` (`forms`).
+//! The first two build their graphs by the steps in `building`.
 //!
 //! They stand in a crate of their own since a crate with tests is proved a second time; this one needs only
 //! what those crates promise.

@@ -2,21 +2,27 @@
 
 use crate::rows::{Row, answer, read};
 use crate::{declarations, expressions, statements, typed};
-use pcc_base::{Fault, FaultKind, Limit, Refusal};
-use std::alloc::Global;
+use pcc_base::{Fault, FaultKind, Limit, Refusal, Span};
+use std::alloc::{AllocError, Global};
 use std::process::Abort;
 use std::test::Fail;
+
+/// Where the `@` of a row stands, and why its program is refused, if it is.
+fn answer_of(alloc: Global, text: &str) -> Result<(Span, Option<Refusal>), AllocError> {
+    let Row { files, at } = read(alloc, text)?;
+    Ok((at, answer(alloc, files.as_slice())))
+}
+
+fn expect_answer(rt: &impl Abort, found: Option<Refusal>, wanted: Option<Refusal>, text: &str) {
+    assert_eq!(rt; found, wanted, "{text}");
+}
 
 /// The program of each row has this least fault, at the place of its `@`.
 fn expect_faults(rt: &impl Abort, alloc: Global, rows: &[(&str, FaultKind)]) -> Result<(), Fail> {
     for (text, kind) in rows {
-        let Row { files, at } = read(alloc, text)?;
+        let (at, found) = answer_of(alloc, text)?;
         let fault = Fault { kind: *kind, at };
-        assert_eq!(rt;
-            answer(alloc, files.as_slice()),
-            Some(Refusal::Fault(fault)),
-            "{text}"
-        );
+        expect_answer(rt, found, Some(Refusal::Fault(fault)), text);
     }
     Ok(())
 }
@@ -41,8 +47,8 @@ fn faults(rt: HostRuntime) -> Result<(), Fail> {
 /// The program of each row is typed, and within the limits.
 fn expect_typed(rt: &impl Abort, alloc: Global, rows: &[&str]) -> Result<(), Fail> {
     for text in rows {
-        let Row { files, .. } = read(alloc, text)?;
-        assert_eq!(rt; answer(alloc, files.as_slice()), None, "{text}");
+        let (_, found) = answer_of(alloc, text)?;
+        expect_answer(rt, found, None, text);
     }
     Ok(())
 }
@@ -79,12 +85,8 @@ const LIMITS: [(&str, Limit); 5] = [
 /// The program of each row is above this limit.
 fn expect_limits(rt: &impl Abort, alloc: Global, rows: &[(&str, Limit)]) -> Result<(), Fail> {
     for (text, limit) in rows {
-        let Row { files, .. } = read(alloc, text)?;
-        assert_eq!(rt;
-            answer(alloc, files.as_slice()),
-            Some(Refusal::Limit(*limit)),
-            "{text}"
-        );
+        let (_, found) = answer_of(alloc, text)?;
+        expect_answer(rt, found, Some(Refusal::Limit(*limit)), text);
     }
     Ok(())
 }
