@@ -1,4 +1,1 @@
 pub mod Stacking
-pub mod Declaring
-pub mod Filling
-pub mod Passed

@@ -1,5 +1,4 @@
 pub mod Views
 pub mod Changes
 pub mod Left
-pub mod Passing
 pub mod Streaming

@@ -5,13 +5,9 @@
 //! `specs/Steps.antt` of `c_tasks`.
 #![tactic(auto)]
 
-pub mod calls;
 mod end;
 mod evaluation;
 pub mod expressions;
-pub mod items;
-pub mod passing;
-pub mod statements;
 pub mod stores;
 pub mod streams;
 mod task;

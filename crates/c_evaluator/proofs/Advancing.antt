@@ -10,7 +10,7 @@ use Rattle.c_tasks.specs.Steps.{Configuration}
 use Rattle.c_tasks.specs.Tasks.{Task, Ahead, Evaluates, Puts, top}
 use Rattle.c_store.specs.Kept.{Kept, over}
 use Rattle.c_eval.specs.Changes.{doing, holding, without_value}
-use Rattle.c_eval.specs.Passing.{passed}
+use Rattle.c_eval_statements.specs.Passing.{passed}
 use Rattle.c_eval.specs.Streaming.{GetTold, InputCounts, OutCounts, PutTold}
 use Rattle.c_eval.specs.declared.end.EvalEnd.{EvalEnd}
 use Rattle.c_eval.specs.declared.end.EvalEnd.TheVariants.{Ended, NoMemory}

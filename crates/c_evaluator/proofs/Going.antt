@@ -15,7 +15,7 @@ use Rattle.c_tasks.proofs.Corollaries.{steps_end, steps_go_on}
 use Rattle.c_tasks.proofs.Going.{rest_goes_on}
 use Rattle.c_store.specs.Kept.{Kept, over}
 use Rattle.c_eval.specs.Changes.{Comes, done, doing}
-use Rattle.c_eval.specs.Passing.{passed}
+use Rattle.c_eval_statements.specs.Passing.{passed}
 use Rattle.c_eval.specs.declared.end.EvalEnd.{EvalEnd}
 use Rattle.c_eval.specs.declared.end.EvalEnd.TheVariants.{Ended, Trapped, TurnsSpent, ReadFault, WriteFault, NoMemory}
 use Rattle.c_evaluator.specs.Runs.{EvalTold, Gives, GivesSoFar, WritesSoFar, outcome_in}

@@ -21,7 +21,7 @@ use Rattle.c_tasks.specs.Weights.{is_there, is_turn}
 use Rattle.c_store.specs.Kept.{Kept, entered, over}
 use Rattle.c_eval.specs.Changes.{IsLoop, after_start, calling, doing, done, holding, item_done, seen, statement_done}
 use Rattle.c_eval.specs.Changes.{without_values}
-use Rattle.c_eval.specs.Passing.{passed}
+use Rattle.c_eval_statements.specs.Passing.{passed}
 use Rattle.c_eval.specs.Views.{arguments_from, part_task, task_of}
 use Rattle.c_eval.specs.declared.task.StatementPart.TheVariants as parts
 use Rattle.c_eval.specs.declared.task.Task as memory

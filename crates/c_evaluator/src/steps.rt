@@ -16,10 +16,8 @@ ghost use Rattle.c_tree.specs.Store.{State, Gives};
 ghost use Rattle.pcc_base.specs.Outcome.{Listing};
 
 use crate::next::{Next, Turn};
-use c_eval::{
-    EvalEnd, Evaluation, StatementPart, Task, calls, expressions, items, passing, statements,
-    stores, values,
-};
+use c_eval::{EvalEnd, Evaluation, StatementPart, Task, expressions, stores, values};
+use c_eval_statements::{calls, items, passing, statements};
 use c_store::Store;
 use c_tree::{Expression, Program, Statement};
 use pcc_base::NoMemory;

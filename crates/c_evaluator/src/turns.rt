@@ -7,7 +7,8 @@ ghost use Rattle.c_tasks.specs.Tasks.{Ahead, Task};
 ghost use Rattle.c_tree.specs.Program as typed;
 
 use crate::next::Turn;
-use c_eval::{EvalEnd, Evaluation, calls, statements};
+use c_eval::{EvalEnd, Evaluation};
+use c_eval_statements::{calls, statements};
 use c_store::Store;
 use pcc_base::Trap;
 
