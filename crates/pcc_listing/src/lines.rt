@@ -43,8 +43,8 @@ pub enum Named {
     Temporary,
 }
 
-/// A line of a map, of the kinds that are made so far.
-#[derive(Debug, Drop)]
+/// A line of a map.
+#[derive(Drop)]
 pub enum Line {
     /// A static object: the address of its element 0, its elements, and the bytes of one.
     Object {
