@@ -1,10 +1,11 @@
 -- How what is answered of initialisers and items stands for what the definitions have.
 use Rattle.std.specs.Prelude.{◌≡◌, List, [], ◌∷◌, map, option_map, Vec, Option, Some, None}
+use Rattle.std.specs.Global.{Box}
 use Rattle.std.specs.declared.alloc.Global.{Global}
 use Rattle.c_tree.specs.declared.expression.Expression.{Expression as Built}
 use Rattle.c_tree.specs.declared.statement.Initialiser.{Initialiser as BuiltInitialiser}
 use Rattle.c_tree.specs.declared.statement.Item.{Item as BuiltItem}
-use Rattle.c_tree.specs.Erased.{expression_of, initialiser_of, item_of}
+use Rattle.c_tree.specs.Erased.{boxed_of, initialiser_of, item_of}
 use Rattle.c_tree.specs.Program.{Expression, Initialiser, Item}
 use Rattle.c_typing.specs.Checked as checked
 use Rattle.c_expressions.specs.declared.notes.Contents.{Contents}
@@ -14,8 +15,8 @@ abbrev pub IsContents : checked.Contents → Contents → Type 0
 IsContents x a = contents_of a ≡ x
 
 -- the tree of an expression that may be absent
-abbrev pub IsTreeIfAny : Option Expression → Option Built → Type 0
-IsTreeIfAny x a = option_map expression_of a ≡ x
+abbrev pub IsTreeIfAny : Option Expression → Option (Box Built) → Type 0
+IsTreeIfAny x a = option_map boxed_of a ≡ x
 
 abbrev pub IsInitialiser : Initialiser → BuiltInitialiser → Type 0
 IsInitialiser x a = initialiser_of a ≡ x

@@ -4,7 +4,7 @@ ghost use Rattle.std.specs.Prelude.{◌≡◌, ℤ, List, Some, map, option_map,
 ghost use Rattle.pcc_base.specs.declared.span.Span.{Span as Place};
 ghost use Rattle.c_grammar.specs.Declarations.{initialiser_of, value_of};
 ghost use Rattle.c_grammar.specs.Expressions.{expr_of, exprs_of};
-ghost use Rattle.c_tree.specs.Erased.{expression_of};
+ghost use Rattle.c_tree.specs.Erased.{boxed_of, expression_of};
 ghost use Rattle.c_tree.specs.Program.{Expression as Typed, Elements, Text};
 ghost use Rattle.c_typing.specs.Checked.{Checked, Contents as Holding, Note, Values, fits, if_fits};
 ghost use Rattle.c_typing.specs.Declarators.{array_values};
@@ -46,26 +46,33 @@ fn scalar_values(value: &Initialiser) -> &[Expression]
     ensures { exprs_of (map expr_of result.now) ≡ scalar_values (initialiser_of value.now) }
 {
     match value {
-        Initialiser::Single(e) => slice::from_ref(e),
+        Initialiser::Single(e) => slice::from_ref(&**e),
         Initialiser::List { values, .. } => values.as_slice(),
     }
 }
 
 /// The first of several trees.
-fn first_of(values: Vec<Tree>) -> Option<Tree>
-    ensures { option_map expression_of result ≡ first_of (map expression_of values.items) }
+fn first_of(alloc: Global, values: Vec<Tree>) -> Result<Option<Box<Tree>>, NoMemory>
+    ensures { IfOk result (λ e. option_map boxed_of e ≡ first_of (map expression_of values.items)) }
 {
-    values.into_iter().next()
+    match values.into_iter().next() {
+        Some(tree) => Ok(Some(Box::new(alloc, tree)?)),
+        None => Ok(None),
+    }
 }
 
 /// The value of a scalar, of which there is one at most.
-fn scalar(values: Judged<Vec<Tree>>) -> Judged<Option<Tree>>
-    ensures { (c : Checked (List Typed)) (before after : List Note) → IsSaid AreTrees c values before after
-        → IsSaid IsTreeIfAny (if_fits c (λ es. fits (first_of es))) result before after }
+fn scalar(
+    alloc: Global,
+    values: Judged<Vec<Tree>>,
+) -> Result<Judged<Option<Box<Tree>>>, NoMemory>
+    ensures { IfOk result (λ j. (c : Checked (List Typed)) (before after : List Note)
+        → IsSaid AreTrees c values before after
+        → IsSaid IsTreeIfAny (if_fits c (λ es. fits (first_of es))) j before after) }
 {
     match values {
-        Judged::Fails(fault) => Judged::Fails(fault),
-        Judged::Fits(values) => Judged::Fits(first_of(values)),
+        Judged::Fails(fault) => Ok(Judged::Fails(fault)),
+        Judged::Fits(values) => Ok(Judged::Fits(first_of(alloc, values)?)),
     }
 }
 
@@ -76,7 +83,7 @@ pub(crate) fn scalar_initialiser(
     notes: &mut Notes,
     of: ValueType,
     value: &Option<InitialiserPart>,
-) -> Result<Judged<Option<Tree>>, NoMemory>
+) -> Result<Judged<Option<Box<Tree>>>, NoMemory>
     ensures { IfOk result (λ j. IsSaid IsTreeIfAny (scalar_initialiser scopes.now of (value_of value.now)) j
         notes.old notes.new) }
 {
@@ -84,7 +91,7 @@ pub(crate) fn scalar_initialiser(
         None => Ok(Judged::Fits(None)),
         Some(part) => {
             let values = trees(alloc, scopes, notes, 1, of, scalar_values(&part.value))?;
-            Ok(scalar(values))
+            scalar(alloc, values)
         }
     }
 }

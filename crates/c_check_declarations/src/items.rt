@@ -63,7 +63,7 @@ fn is_static(storage: Storage) -> bool
 }
 
 /// The item of a local that is no array, whose initialiser was judged.
-fn scalar(number: u32, local: u32, value: Judged<Option<Expression>>) -> Judged<Option<Item>>
+fn scalar(number: u32, local: u32, value: Judged<Option<Box<Expression>>>) -> Judged<Option<Item>>
     ensures { (c : Checked (Option Typed)) (before after : List Note) → IsSaid IsTreeIfAny c value before after
         → IsSaid AreItem (if_fits c (λ e. fits (tree.Scalar number local e ∷ []))) result before after }
 {

@@ -9,7 +9,7 @@ use Rattle.c_syntax.specs.declared.declaration.Parameter.{Parameter}
 use Rattle.c_grammar.specs.Declarations.{ArrayTree, Array, DeclaratorTree, ParameterTree, PartTree, ValueTree}
 use Rattle.c_grammar.specs.Declarations.{parameter_of}
 use Rattle.c_tree.specs.Program.{Expression as Typed}
-use Rattle.c_tree.specs.Erased.{expression_of}
+use Rattle.c_tree.specs.Erased.{boxed_of}
 use Rattle.c_tree.specs.declared.types.ValueType.{ValueType}
 use Rattle.c_constants.specs.Constants.{IsConstant}
 use Rattle.c_typing.specs.Checked.{Checked, Note, also, fits, if_fits}
@@ -46,7 +46,7 @@ pub size_said : (opening : Span) (o : Operand) (value : Option ℤ) (j : Judged 
 size_said opening o value j c before after is row said =
     then_said IsOperandOf IsSame (λ x. at_least_one opening (constant_value x)) c o j before after after said
     (λ x same. subst (λ (v : Option ℤ). IsSaid IsSame (at_least_one opening v) j after after)
-    (sym (subst (λ (e : Typed). constant_value e ≡ value) same.0 (is (expression_of o.tree) same.1.0))) (row after))
+    (sym (subst (λ (e : Typed). constant_value e ≡ value) same.0 (is (boxed_of o.tree) same.1.0))) (row after))
 
 pub array_said : (s : Scope) (said : types.Specified) (d : DeclaratorTree) (a : ArrayTree) (value : Option ValueTree)
     (of : Option ValueType) (given : Option ℕ) (count : Judged ℕ) (j : Judged Declared) (before after : List Note)

@@ -121,7 +121,7 @@ pub fn size_or(
     notes: &mut Notes,
     opening: Span,
     given: Option<u32>,
-    size: &Option<Expression>,
+    size: &Option<Box<Expression>>,
 ) -> Result<Judged<u32>, NoMemory>
     ensures { IfOk result (λ j. IsSaid IsSame (size_or scopes.now opening given (maybe_expr_of size.now)) j
         notes.old notes.new) }

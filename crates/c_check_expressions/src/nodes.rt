@@ -21,10 +21,11 @@ use pcc_base::{NoMemory, Span};
 use std::alloc::Global;
 
 /// A number (C99 6.4.4).
-pub(crate) fn constant(value: i32) -> Judged<Operand>
-    ensures { (before : List Note) → IsSaid IsOperandOf (fits (typed.Constant Int value)) result before before }
+pub(crate) fn constant(alloc: Global, value: i32) -> Result<Judged<Operand>, NoMemory>
+    ensures { (before : List Note)
+        → IfOk result (λ j. IsSaid IsOperandOf (fits (typed.Constant Int value)) j before before) }
 {
-    Judged::Fits(number(value))
+    Ok(Judged::Fits(number(alloc, value)?))
 }
 
 /// `++` and `--` behind their operand.
@@ -48,19 +49,31 @@ fn prefix_op(op: StepOp) -> TypedStep
 }
 
 /// `operand++` and `operand--` (C99 6.5.2.4).
-pub(crate) fn postfix_of(op: StepOp, at: Span, part: Judged<Operand>) -> Judged<Operand>
-    ensures { (c : Checked Typed) (before after : List Note) → IsSaid IsOperandOf c part before after
-        → IsSaid IsOperandOf (if_fits c (λ e. step_row (postfix_op op) at (place_named e))) result before after }
+pub(crate) fn postfix_of(
+    alloc: Global,
+    op: StepOp,
+    at: Span,
+    part: Judged<Operand>,
+) -> Result<Judged<Operand>, NoMemory>
+    ensures { IfOk result (λ j. (c : Checked Typed) (before after : List Note)
+        → IsSaid IsOperandOf c part before after
+        → IsSaid IsOperandOf (if_fits c (λ e. step_row (postfix_op op) at (place_named e))) j before after) }
 {
-    step_of(postfix_op(op), at, part)
+    step_of(alloc, postfix_op(op), at, part)
 }
 
 /// `++operand` and `--operand` (C99 6.5.3.1).
-pub(crate) fn prefix_of(op: StepOp, at: Span, part: Judged<Operand>) -> Judged<Operand>
-    ensures { (c : Checked Typed) (before after : List Note) → IsSaid IsOperandOf c part before after
-        → IsSaid IsOperandOf (if_fits c (λ e. step_row (prefix_op op) at (place_named e))) result before after }
+pub(crate) fn prefix_of(
+    alloc: Global,
+    op: StepOp,
+    at: Span,
+    part: Judged<Operand>,
+) -> Result<Judged<Operand>, NoMemory>
+    ensures { IfOk result (λ j. (c : Checked Typed) (before after : List Note)
+        → IsSaid IsOperandOf c part before after
+        → IsSaid IsOperandOf (if_fits c (λ e. step_row (prefix_op op) at (place_named e))) j before after) }
 {
-    step_of(prefix_op(op), at, part)
+    step_of(alloc, prefix_op(op), at, part)
 }
 
 /// A cast (C99 6.5.4).

@@ -43,7 +43,7 @@ pub(crate) fn walked(
 {
     match e {
         Expression::Identifier(name) => named(alloc, scopes, notes, name),
-        Expression::Number(value, _) => Ok(constant(*value)),
+        Expression::Number(value, _) => constant(alloc, *value),
         Expression::Text(pieces) => text(alloc, scopes, notes, pieces.as_slice()),
         Expression::Parenthesised(_, inner, _) => walked(alloc, scopes, inner, notes),
         Expression::Call(parts, arguments) => {
@@ -68,11 +68,11 @@ pub(crate) fn walked(
         }
         Expression::Postfix(base, op, at) => {
             let part = walked(alloc, scopes, base, notes)?;
-            Ok(postfix_of(*op, *at, part))
+            postfix_of(alloc, *op, *at, part)
         }
         Expression::Prefix(op, at, operand) => {
             let part = walked(alloc, scopes, operand, notes)?;
-            Ok(prefix_of(*op, *at, part))
+            prefix_of(alloc, *op, *at, part)
         }
         Expression::Unary(op, at, operand) => {
             let part = walked(alloc, scopes, operand, notes)?;

@@ -48,7 +48,7 @@ fn some(part: Judged<Operand>) -> Judged<Option<Operand>>
 pub fn expression_if_any(
     alloc: Global,
     scopes: &Scopes,
-    e: &Option<Expression>,
+    e: &Option<Box<Expression>>,
     notes: &mut Notes,
 ) -> Result<Judged<Option<Operand>>, NoMemory>
     ensures said { IfOk result (λ j. IsSaid IsOperandIfAny (typed_if_any scopes.now (maybe_expr_of e.now)) j

@@ -26,7 +26,7 @@ use pcc_base::{Fault, FaultKind, NoMemory, Span};
 use std::alloc::Global;
 
 /// The tree of an operand.
-fn tree_of(part: Judged<Operand>) -> Judged<Tree>
+fn tree_of(part: Judged<Operand>) -> Judged<Box<Tree>>
     ensures { (c : Checked Typed) (before after : List Note) → IsSaid IsOperandOf c part before after
         → IsSaid IsTree c result before after }
 {
@@ -42,7 +42,7 @@ pub(crate) fn value(
     scopes: &Scopes,
     notes: &mut Notes,
     e: &Expression,
-) -> Result<Judged<Tree>, NoMemory>
+) -> Result<Judged<Box<Tree>>, NoMemory>
     ensures { IfOk result (λ j. IsSaid IsTree (typed_expression scopes.now (expr_of e.now)) j
         notes.old notes.new) }
 {
@@ -50,7 +50,7 @@ pub(crate) fn value(
 }
 
 /// The tree of an operand, where there is one.
-fn tree_if_any(part: Judged<Option<Operand>>) -> Judged<Option<Tree>>
+fn tree_if_any(part: Judged<Option<Operand>>) -> Judged<Option<Box<Tree>>>
     ensures { (c : Checked (Option Typed)) (before after : List Note) → IsSaid IsOperandIfAny c part before after
         → IsSaid IsTreeIfAny c result before after }
 {
@@ -66,8 +66,8 @@ pub(crate) fn value_if_any(
     alloc: Global,
     scopes: &Scopes,
     notes: &mut Notes,
-    e: &Option<Expression>,
-) -> Result<Judged<Option<Tree>>, NoMemory>
+    e: &Option<Box<Expression>>,
+) -> Result<Judged<Option<Box<Tree>>>, NoMemory>
     ensures { IfOk result (λ j. IsSaid IsTreeIfAny (typed_if_any scopes.now (maybe_expr_of e.now)) j
         notes.old notes.new) }
 {
@@ -75,7 +75,7 @@ pub(crate) fn value_if_any(
 }
 
 /// A condition, where it fits (C99 6.8.4.1p1 and 6.8.5p2).
-fn tested_tree(at: Span, part: Judged<Operand>) -> Judged<Tree>
+fn tested_tree(at: Span, part: Judged<Operand>) -> Judged<Box<Tree>>
     requires { IfFits part IsOperand }
     ensures { (c : Checked Typed) (before after : List Note) → IsSaid IsOperandOf c part before after
         → IsSaid IsTree (if_fits c (tested at)) result before after }
@@ -93,7 +93,7 @@ pub(crate) fn condition(
     notes: &mut Notes,
     at: Span,
     e: &Expression,
-) -> Result<Judged<Tree>, NoMemory>
+) -> Result<Judged<Box<Tree>>, NoMemory>
     ensures { IfOk result (λ j. IsSaid IsTree (condition scopes.now at (expr_of e.now)) j notes.old notes.new) }
 {
     let part = expression(alloc, scopes, e, notes)?;
@@ -101,7 +101,7 @@ pub(crate) fn condition(
 }
 
 /// A tree where there is one.
-fn some(part: Judged<Tree>) -> Judged<Option<Tree>>
+fn some(part: Judged<Box<Tree>>) -> Judged<Option<Box<Tree>>>
     ensures { (c : Checked Typed) (before after : List Note) → IsSaid IsTree c part before after
         → IsSaid IsTreeIfAny (if_fits c (λ x. fits (Some x))) result before after }
 {
@@ -117,8 +117,8 @@ pub(crate) fn condition_if_any(
     scopes: &Scopes,
     notes: &mut Notes,
     at: Span,
-    e: &Option<Expression>,
-) -> Result<Judged<Option<Tree>>, NoMemory>
+    e: &Option<Box<Expression>>,
+) -> Result<Judged<Option<Box<Tree>>>, NoMemory>
     ensures { IfOk result (λ j. IsSaid IsTreeIfAny (condition_if_any scopes.now at (maybe_expr_of e.now)) j
         notes.old notes.new) }
 {
@@ -132,7 +132,7 @@ pub(crate) fn condition_if_any(
 }
 
 /// The value of a switch, where it fits (C99 6.8.4.2p1).
-fn selected_tree(at: Span, part: Judged<Operand>) -> Judged<Tree>
+fn selected_tree(at: Span, part: Judged<Operand>) -> Judged<Box<Tree>>
     requires { IfFits part IsOperand }
     ensures { (c : Checked Typed) (before after : List Note) → IsSaid IsOperandOf c part before after
         → IsSaid IsTree (if_fits c (λ x. selected (value_type x) at x)) result before after }
@@ -150,7 +150,7 @@ pub(crate) fn switch_value(
     notes: &mut Notes,
     at: Span,
     e: &Expression,
-) -> Result<Judged<Tree>, NoMemory>
+) -> Result<Judged<Box<Tree>>, NoMemory>
     ensures { IfOk result (λ j. IsSaid IsTree (if_fits (typed_expression scopes.now (expr_of e.now))
         (λ x. selected (value_type x) at x)) j notes.old notes.new) }
 {
@@ -169,7 +169,7 @@ fn not_returned(at: Span) -> Fault
 }
 
 /// A value that the function's type asks for.
-fn value_returned(of: ValueType, at: Span, operand: Operand) -> Judged<Option<Tree>>
+fn value_returned(of: ValueType, at: Span, operand: Operand) -> Judged<Option<Box<Tree>>>
     requires { IsOperand operand }
     ensures { (e : Typed) (notes : List Note) → IsOperandOf e operand
         → IsSaid IsTreeIfAny (if_fits (assigned of at e) (λ x. fits (Some x))) result notes notes }
@@ -178,7 +178,7 @@ fn value_returned(of: ValueType, at: Span, operand: Operand) -> Judged<Option<Tr
 }
 
 /// No value, which is returned exactly where the function is void (C99 6.8.6.4p1).
-fn nothing_returned(of: ValueType, at: Span) -> Judged<Option<Tree>>
+fn nothing_returned(of: ValueType, at: Span) -> Judged<Option<Box<Tree>>>
     ensures { (notes : List Note) → IsSaid IsTreeIfAny (returned of at None) result notes notes }
 {
     match of {
@@ -188,7 +188,7 @@ fn nothing_returned(of: ValueType, at: Span) -> Judged<Option<Tree>>
 }
 
 /// A value, which is returned exactly where the function isn't void.
-fn something_returned(of: ValueType, at: Span, operand: Operand) -> Judged<Option<Tree>>
+fn something_returned(of: ValueType, at: Span, operand: Operand) -> Judged<Option<Box<Tree>>>
     requires { IsOperand operand }
     ensures { (e : Typed) (notes : List Note) → IsOperandOf e operand
         → IsSaid IsTreeIfAny (returned of at (Some e)) result notes notes }
@@ -204,7 +204,7 @@ fn something_returned(of: ValueType, at: Span, operand: Operand) -> Judged<Optio
 }
 
 /// A returned value that fits, or none.
-fn returned_value(of: ValueType, at: Span, value: Option<Operand>) -> Judged<Option<Tree>>
+fn returned_value(of: ValueType, at: Span, value: Option<Operand>) -> Judged<Option<Box<Tree>>>
     requires { IsOperandWhere value }
     ensures { (x : Option Typed) (notes : List Note) → IsOperandIfAny x value
         → IsSaid IsTreeIfAny (returned of at x) result notes notes }
@@ -216,7 +216,7 @@ fn returned_value(of: ValueType, at: Span, value: Option<Operand>) -> Judged<Opt
 }
 
 /// A returned value that was judged.
-fn returned_tree(of: ValueType, at: Span, part: Judged<Option<Operand>>) -> Judged<Option<Tree>>
+fn returned_tree(of: ValueType, at: Span, part: Judged<Option<Operand>>) -> Judged<Option<Box<Tree>>>
     requires { IfFits part IsOperandWhere }
     ensures { (c : Checked (Option Typed)) (before after : List Note) → IsSaid IsOperandIfAny c part before after
         → IsSaid IsTreeIfAny (if_fits c (returned of at)) result before after }
@@ -234,8 +234,8 @@ pub(crate) fn returned(
     notes: &mut Notes,
     of: ValueType,
     at: Span,
-    e: &Option<Expression>,
-) -> Result<Judged<Option<Tree>>, NoMemory>
+    e: &Option<Box<Expression>>,
+) -> Result<Judged<Option<Box<Tree>>>, NoMemory>
     ensures { IfOk result (λ j. IsSaid IsTreeIfAny (if_fits (typed_if_any scopes.now (maybe_expr_of e.now))
         (returned of at)) j notes.old notes.new) }
 {

@@ -4,7 +4,7 @@ ghost use Rattle.std.specs.Prelude.{◌≡◌, [], List, Option, map, option_map
 ghost use Rattle.c_grammar.specs.Declarations.{declaration_of, maybe_expr_of};
 ghost use Rattle.c_grammar.specs.Expressions.{expr_of};
 ghost use Rattle.c_grammar.specs.Statements.{stmt_of, stmts_of};
-ghost use Rattle.c_tree.specs.Erased.{expression_of, first_of};
+ghost use Rattle.c_tree.specs.Erased.{boxed_of, first_of};
 ghost use Rattle.c_tree.specs.Program.{
   value_type,
   Declared,
@@ -48,14 +48,14 @@ use std::alloc::Global;
 #[derive(Drop)]
 pub struct TestHead {
     pub number: u32,
-    pub test: Judged<Tree>,
+    pub test: Judged<Box<Tree>>,
 }
 
 /// The condition of a `do`, with the number of the statement and what it says beside its tree.
 #[derive(Drop)]
 pub struct DoHead {
     pub number: u32,
-    pub test: Judged<Tree>,
+    pub test: Judged<Box<Tree>>,
     pub notes: Notes,
 }
 
@@ -63,14 +63,14 @@ pub struct DoHead {
 #[derive(Drop)]
 pub struct SwitchHead {
     pub number: u32,
-    pub parts: Judged<(Tree, Vec<Label>)>,
+    pub parts: Judged<(Box<Tree>, Vec<Label>)>,
 }
 
 /// The first part of a `for`, its test and what follows each turn, with the number of the statement.
 #[derive(Drop)]
 pub struct ForHead {
     pub number: u32,
-    pub parts: Judged<((First, Option<Tree>), Option<Tree>)>,
+    pub parts: Judged<((First, Option<Box<Tree>>), Option<Box<Tree>>)>,
 }
 
 // ---- conditions
@@ -130,9 +130,9 @@ fn and_labels(
     alloc: Global,
     scopes: &Scopes,
     notes: &mut Notes,
-    value: Judged<Tree>,
+    value: Judged<Box<Tree>>,
     items: &[RawStatement],
-) -> Result<Judged<(Tree, Vec<Label>)>, NoMemory>
+) -> Result<Judged<(Box<Tree>, Vec<Label>)>, NoMemory>
     ensures { IfOk result (λ j. (c : Checked Typed) (before : List Note) → IsSaid IsTree c value before notes.old
         → IsSaid AreSelected
         (pair c (typed_labels [] (given_labels scopes.now 0 (stmts_of (map stmt_of items.now))))) j
@@ -148,7 +148,7 @@ fn and_labels(
 }
 
 /// A value and labels.
-fn selected_parts(value: Judged<Tree>, labels: Judged<Vec<Label>>) -> Judged<(Tree, Vec<Label>)>
+fn selected_parts(value: Judged<Box<Tree>>, labels: Judged<Vec<Label>>) -> Judged<(Box<Tree>, Vec<Label>)>
     ensures { (c : Checked Typed) (d : Checked (List TypedLabel)) (before between after : List Note)
         → IsSaid IsTree c value before between → IsSaid AreLabels d labels between after
         → IsSaid AreSelected (pair c d) result before after }
@@ -185,8 +185,8 @@ pub fn switch_head(
 // ---- the parts of a `for`
 
 /// The first part of a `for`, an expression that may be absent.
-fn first_part(value: Option<Tree>) -> First
-    ensures { first_of result ≡ first_part (option_map expression_of value) }
+fn first_part(value: Option<Box<Tree>>) -> First
+    ensures { first_of result ≡ first_part (option_map boxed_of value) }
 {
     match value {
         None => First::Nothing,
@@ -195,7 +195,7 @@ fn first_part(value: Option<Tree>) -> First
 }
 
 /// The first part of a `for` that was judged.
-fn first(part: Judged<Option<Tree>>) -> Judged<First>
+fn first(part: Judged<Option<Box<Tree>>>) -> Judged<First>
     ensures { (c : Checked (Option Typed)) (before after : List Note) → IsSaid IsTreeIfAny c part before after
         → IsSaid IsFirst (if_fits c (λ x. fits (first_part x))) result before after }
 {
@@ -217,7 +217,7 @@ fn first_items(part: Judged<Vec<Item>>) -> Judged<First>
 }
 
 /// A first part and a test.
-fn start(first: Judged<First>, test: Judged<Option<Tree>>) -> Judged<(First, Option<Tree>)>
+fn start(first: Judged<First>, test: Judged<Option<Box<Tree>>>) -> Judged<(First, Option<Box<Tree>>)>
     ensures { (a : Checked TypedFirst) (b : Checked (Option Typed)) (before between after : List Note)
         → IsSaid IsFirst a first before between → IsSaid IsTreeIfAny b test between after
         → IsSaid AreStart (pair a b) result before after }
@@ -232,8 +232,8 @@ fn and_test(
     notes: &mut Notes,
     first: Judged<First>,
     at: Span,
-    e: &Option<Expression>,
-) -> Result<Judged<(First, Option<Tree>)>, NoMemory>
+    e: &Option<Box<Expression>>,
+) -> Result<Judged<(First, Option<Box<Tree>>)>, NoMemory>
     ensures { IfOk result (λ j. (a : Checked TypedFirst) (before : List Note) → IsSaid IsFirst a first before notes.old
         → IsSaid AreStart (pair a (condition_if_any scopes.now at (maybe_expr_of e.now))) j before notes.new) }
 {
@@ -248,9 +248,9 @@ fn and_test(
 
 /// A first part and a test, and what follows each turn.
 fn head(
-    start: Judged<(First, Option<Tree>)>,
-    step: Judged<Option<Tree>>,
-) -> Judged<((First, Option<Tree>), Option<Tree>)>
+    start: Judged<(First, Option<Box<Tree>>)>,
+    step: Judged<Option<Box<Tree>>>,
+) -> Judged<((First, Option<Box<Tree>>), Option<Box<Tree>>)>
     ensures { (a : Checked (TypedFirst × Option Typed)) (b : Checked (Option Typed))
         (before between after : List Note)
         → IsSaid AreStart a start before between → IsSaid IsTreeIfAny b step between after
@@ -264,9 +264,9 @@ fn and_step(
     alloc: Global,
     scopes: &Scopes,
     notes: &mut Notes,
-    start: Judged<(First, Option<Tree>)>,
-    e: &Option<Expression>,
-) -> Result<Judged<((First, Option<Tree>), Option<Tree>)>, NoMemory>
+    start: Judged<(First, Option<Box<Tree>>)>,
+    e: &Option<Box<Expression>>,
+) -> Result<Judged<((First, Option<Box<Tree>>), Option<Box<Tree>>)>, NoMemory>
     ensures { IfOk result (λ j. (a : Checked (TypedFirst × Option Typed)) (before : List Note)
         → IsSaid AreStart a start before notes.old
         → IsSaid AreHead (pair a (typed_if_any scopes.now (maybe_expr_of e.now))) j before notes.new) }
@@ -287,9 +287,9 @@ fn behind_first(
     notes: &mut Notes,
     first: Judged<First>,
     at: Span,
-    condition: &Option<Expression>,
-    step: &Option<Expression>,
-) -> Result<Judged<((First, Option<Tree>), Option<Tree>)>, NoMemory>
+    condition: &Option<Box<Expression>>,
+    step: &Option<Box<Expression>>,
+) -> Result<Judged<((First, Option<Box<Tree>>), Option<Box<Tree>>)>, NoMemory>
     ensures { IfOk result (λ j. (a : Checked TypedFirst) (before : List Note)
         → IsSaid IsFirst a first before notes.old → IsSaid AreHead
         (pair (pair a (condition_if_any scopes.now at (maybe_expr_of condition.now)))
@@ -305,9 +305,9 @@ pub fn for_head(
     scopes: &mut Scopes,
     notes: &mut Notes,
     at: Span,
-    start: &Option<Expression>,
-    condition: &Option<Expression>,
-    step: &Option<Expression>,
+    start: &Option<Box<Expression>>,
+    condition: &Option<Box<Expression>>,
+    step: &Option<Box<Expression>>,
 ) -> Result<ForHead, NoMemory>
     ensures said { IfOk result (λ h. (h.number ≡ scopes.old.next) × IsSaid AreHead
         (pair (pair (if_fits (typed_if_any scopes.old (maybe_expr_of start.now)) (λ x. fits (first_part x)))
@@ -333,9 +333,9 @@ pub fn declared_head(
     notes: &mut Notes,
     at: Span,
     start: &Declaration,
-    condition: &Option<Expression>,
-    step: &Option<Expression>,
-) -> Result<Judged<((First, Option<Tree>), Option<Tree>)>, NoMemory>
+    condition: &Option<Box<Expression>>,
+    step: &Option<Box<Expression>>,
+) -> Result<Judged<((First, Option<Box<Tree>>), Option<Box<Tree>>)>, NoMemory>
     ensures said { let inside = after_declaration InFor (declaration_of start.now) scopes.old in
         IfOk result (λ j. IsSaid AreHead
         (pair (pair (if_fits (typed_declaration InFor (declaration_of start.now) scopes.old)

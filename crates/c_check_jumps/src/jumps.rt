@@ -42,7 +42,7 @@ pub fn empty_statement(
 fn evaluation(
     alloc: Global,
     number: u32,
-    value: Judged<Tree>,
+    value: Judged<Box<Tree>>,
 ) -> Result<Judged<Vec<Statement>>, NoMemory>
     ensures { IfOk result (λ j. (c : Checked Typed) (before after : List Note) → IsSaid IsTree c value before after
         → IsSaid AreListed (one (if_fits c (λ x. fits (tree.Evaluate number x)))) j before after) }
@@ -128,7 +128,7 @@ pub fn continue_statement(
 fn returning(
     alloc: Global,
     number: u32,
-    value: Judged<Option<Tree>>,
+    value: Judged<Option<Box<Tree>>>,
 ) -> Result<Judged<Vec<Statement>>, NoMemory>
     ensures { IfOk result (λ j. (c : Checked (Option Typed)) (before after : List Note)
         → IsSaid IsTreeIfAny c value before after
@@ -147,7 +147,7 @@ pub fn return_statement(
     notes: &mut Notes,
     of: ValueType,
     at: Span,
-    e: &Option<Expression>,
+    e: &Option<Box<Expression>>,
 ) -> Result<Judged<Vec<Statement>>, NoMemory>
     ensures said { IfOk result (λ j. IsSaid AreListed (one
         (if_fits (typed_if_any scopes.old (maybe_expr_of e.now)) (λ x. if_fits (returned of at x) (λ y.

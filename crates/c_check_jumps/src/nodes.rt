@@ -1,7 +1,7 @@
 //! Statements with statements inside, whose parts were judged (C99 6.8.2, 6.8.4 and 6.8.5).
 
 ghost use Rattle.std.specs.Prelude.{◌≡◌, [], ◌∷◌, List, Option, IfOk};
-ghost use Rattle.c_tree.specs.Erased.{expression_of, statement_of, statements_of};
+ghost use Rattle.c_tree.specs.Erased.{boxed_of, statement_of, statements_of};
 ghost use Rattle.c_tree.specs.Program as tree;
 ghost use Rattle.c_tree.specs.Program.{
   Done,
@@ -54,7 +54,7 @@ pub fn block(
 // ---- a condition, and what it decides on
 
 /// A condition and a statement behind it.
-fn tested_parts(test: Judged<Tree>, part: Judged<Vec<Statement>>) -> Judged<(Tree, Statement)>
+fn tested_parts(test: Judged<Box<Tree>>, part: Judged<Vec<Statement>>) -> Judged<(Box<Tree>, Statement)>
     ensures { (c : Checked Typed) (a : Checked (List TypedStatement)) (before between after : List Note)
         → IsSaid IsTree c test before between → IsSaid AreListed a part between after
         → IsSaid AreTested (pair c (alone a)) result before after }
@@ -66,11 +66,11 @@ fn tested_parts(test: Judged<Tree>, part: Judged<Vec<Statement>>) -> Judged<(Tre
 fn only_branch(
     alloc: Global,
     number: u32,
-    test: Tree,
+    test: Box<Tree>,
     part: Statement,
 ) -> Result<Statement, NoMemory>
     ensures { IfOk result (λ s. statement_of s
-        ≡ tree.If number (expression_of test) (statement_of part) (tree.Block Done)) }
+        ≡ tree.If number (boxed_of test) (statement_of part) (tree.Block Done)) }
 {
     let nothing = block_of(Vec::new(alloc));
     Statement::if_else(alloc, number, test, part, nothing)
@@ -80,7 +80,7 @@ fn only_branch(
 fn if_only_of(
     alloc: Global,
     number: u32,
-    parts: Judged<(Tree, Statement)>,
+    parts: Judged<(Box<Tree>, Statement)>,
 ) -> Result<Judged<Vec<Statement>>, NoMemory>
     ensures { IfOk result (λ j. (c : Checked (Typed × TypedStatement)) (before after : List Note)
         → IsSaid AreTested c parts before after
@@ -115,7 +115,7 @@ pub fn if_only(
 fn while_of(
     alloc: Global,
     number: u32,
-    parts: Judged<(Tree, Statement)>,
+    parts: Judged<(Box<Tree>, Statement)>,
 ) -> Result<Judged<Vec<Statement>>, NoMemory>
     ensures { IfOk result (λ j. (c : Checked (Typed × TypedStatement)) (before after : List Note)
         → IsSaid AreTested c parts before after
@@ -150,7 +150,7 @@ pub fn while_loop(
 #[derive(Drop)]
 pub struct Branch {
     pub number: u32,
-    pub parts: Judged<(Tree, Statement)>,
+    pub parts: Judged<(Box<Tree>, Statement)>,
 }
 
 /// The first branch behind a condition.
@@ -167,7 +167,7 @@ pub fn first_branch(head: TestHead, part: Judged<Vec<Statement>>) -> Branch
 }
 
 /// Three parts in turn.
-fn in_turn(parts: Judged<((Tree, Statement), Statement)>) -> Judged<(Tree, (Statement, Statement))>
+fn in_turn(parts: Judged<((Box<Tree>, Statement), Statement)>) -> Judged<(Box<Tree>, (Statement, Statement))>
     ensures { (a : Checked Typed) (b c : Checked TypedStatement) (before after : List Note)
         → IsSaid (λ p q. AreTested p.0 q.0 × IsStatement p.1 q.1) (pair (pair a b) c) parts before after
         → IsSaid AreBranches (pair a (pair b c)) result before after }
@@ -183,9 +183,9 @@ fn in_turn(parts: Judged<((Tree, Statement), Statement)>) -> Judged<(Tree, (Stat
 
 /// The second branch behind a condition and the first one.
 fn branches(
-    front: Judged<(Tree, Statement)>,
+    front: Judged<(Box<Tree>, Statement)>,
     other: Judged<Vec<Statement>>,
-) -> Judged<(Tree, (Statement, Statement))>
+) -> Judged<(Box<Tree>, (Statement, Statement))>
     ensures { (c : Checked Typed) (a : Checked TypedStatement) (b : Checked (List TypedStatement))
         (before between after : List Note)
         → IsSaid AreTested (pair c a) front before between → IsSaid AreListed b other between after
@@ -198,7 +198,7 @@ fn branches(
 fn if_else_of(
     alloc: Global,
     number: u32,
-    parts: Judged<(Tree, (Statement, Statement))>,
+    parts: Judged<(Box<Tree>, (Statement, Statement))>,
 ) -> Result<Judged<Vec<Statement>>, NoMemory>
     ensures { IfOk result (λ j. (c : Checked (Typed × (TypedStatement × TypedStatement))) (before after : List Note)
         → IsSaid AreBranches c parts before after
@@ -234,8 +234,8 @@ pub fn if_else(
 fn said_behind(
     notes: &mut Notes,
     behind: Notes,
-    test: Judged<Tree>,
-) -> Result<Judged<Tree>, NoMemory>
+    test: Judged<Box<Tree>>,
+) -> Result<Judged<Box<Tree>>, NoMemory>
     ensures { IfOk result (λ j. (c : Checked Typed) → IsSaid IsTree c test [] behind
         → IsSaid IsTree c j notes.old notes.new) }
 {
@@ -249,7 +249,7 @@ fn said_behind(
 }
 
 /// A statement and the condition behind it.
-fn repeated_parts(part: Judged<Vec<Statement>>, test: Judged<Tree>) -> Judged<(Statement, Tree)>
+fn repeated_parts(part: Judged<Vec<Statement>>, test: Judged<Box<Tree>>) -> Judged<(Statement, Box<Tree>)>
     ensures { (a : Checked (List TypedStatement)) (c : Checked Typed) (before between after : List Note)
         → IsSaid AreListed a part before between → IsSaid IsTree c test between after
         → IsSaid AreRepeated (pair (alone a) c) result before after }
@@ -261,7 +261,7 @@ fn repeated_parts(part: Judged<Vec<Statement>>, test: Judged<Tree>) -> Judged<(S
 fn do_of(
     alloc: Global,
     number: u32,
-    parts: Judged<(Statement, Tree)>,
+    parts: Judged<(Statement, Box<Tree>)>,
 ) -> Result<Judged<Vec<Statement>>, NoMemory>
     ensures { IfOk result (λ j. (c : Checked (TypedStatement × Typed)) (before after : List Note)
         → IsSaid AreRepeated c parts before after
@@ -300,8 +300,8 @@ pub fn do_loop(
 
 /// Three parts in turn.
 fn cases_in_turn(
-    parts: Judged<((Tree, Vec<Label>), Vec<Statement>)>,
-) -> Judged<(Tree, (Vec<Label>, Vec<Statement>))>
+    parts: Judged<((Box<Tree>, Vec<Label>), Vec<Statement>)>,
+) -> Judged<(Box<Tree>, (Vec<Label>, Vec<Statement>))>
     ensures { (a : Checked Typed) (b : Checked (List TypedLabel)) (c : Checked TypedStatements)
         (before after : List Note)
         → IsSaid (λ p q. AreSelected p.0 q.0 × AreStatements p.1 q.1) (pair (pair a b) c) parts before after
@@ -318,9 +318,9 @@ fn cases_in_turn(
 
 /// The statements of a switch behind its value and labels.
 fn cases(
-    front: Judged<(Tree, Vec<Label>)>,
+    front: Judged<(Box<Tree>, Vec<Label>)>,
     body: Judged<Vec<Statement>>,
-) -> Judged<(Tree, (Vec<Label>, Vec<Statement>))>
+) -> Judged<(Box<Tree>, (Vec<Label>, Vec<Statement>))>
     ensures { (a : Checked Typed) (b : Checked (List TypedLabel)) (c : Checked TypedStatements)
         (before between after : List Note)
         → IsSaid AreSelected (pair a b) front before between → IsSaid AreStatements c body between after
@@ -330,9 +330,9 @@ fn cases(
 }
 
 /// The tree of a switch.
-fn switch_tree(number: u32, value: Tree, labels: Vec<Label>, body: Vec<Statement>) -> Statement
+fn switch_tree(number: u32, value: Box<Tree>, labels: Vec<Label>, body: Vec<Statement>) -> Statement
     ensures { statement_of result
-        ≡ tree.Switch number (expression_of value) labels.items (statements_of body.items) }
+        ≡ tree.Switch number (boxed_of value) labels.items (statements_of body.items) }
 {
     Statement::Switch(number, value, labels, body)
 }
@@ -341,7 +341,7 @@ fn switch_tree(number: u32, value: Tree, labels: Vec<Label>, body: Vec<Statement
 fn switch_of(
     alloc: Global,
     number: u32,
-    parts: Judged<(Tree, (Vec<Label>, Vec<Statement>))>,
+    parts: Judged<(Box<Tree>, (Vec<Label>, Vec<Statement>))>,
 ) -> Result<Judged<Vec<Statement>>, NoMemory>
     ensures { IfOk result (λ j. (c : Checked (Typed × (List TypedLabel × TypedStatements))) (before after : List Note)
         → IsSaid AreCases c parts before after
@@ -373,8 +373,8 @@ pub fn switch(
 
 /// Four parts in turn.
 fn turns_in_turn(
-    parts: Judged<(((First, Option<Tree>), Option<Tree>), Statement)>,
-) -> Judged<((First, Option<Tree>), (Option<Tree>, Statement))>
+    parts: Judged<(((First, Option<Box<Tree>>), Option<Box<Tree>>), Statement)>,
+) -> Judged<((First, Option<Box<Tree>>), (Option<Box<Tree>>, Statement))>
     ensures { (a : Checked (TypedFirst × Option Typed)) (b : Checked (Option Typed)) (c : Checked TypedStatement)
         (before after : List Note)
         → IsSaid (λ p q. AreHead p.0 q.0 × IsStatement p.1 q.1) (pair (pair a b) c) parts before after
@@ -391,9 +391,9 @@ fn turns_in_turn(
 
 /// The body of a `for` behind its other parts.
 fn turns(
-    front: Judged<((First, Option<Tree>), Option<Tree>)>,
+    front: Judged<((First, Option<Box<Tree>>), Option<Box<Tree>>)>,
     part: Judged<Vec<Statement>>,
-) -> Judged<((First, Option<Tree>), (Option<Tree>, Statement))>
+) -> Judged<((First, Option<Box<Tree>>), (Option<Box<Tree>>, Statement))>
     ensures { (a : Checked (TypedFirst × Option Typed)) (b : Checked (Option Typed))
         (c : Checked (List TypedStatement)) (before between after : List Note)
         → IsSaid AreHead (pair a b) front before between → IsSaid AreListed c part between after
@@ -406,7 +406,7 @@ fn turns(
 fn for_of(
     alloc: Global,
     number: u32,
-    parts: Judged<((First, Option<Tree>), (Option<Tree>, Statement))>,
+    parts: Judged<((First, Option<Box<Tree>>), (Option<Box<Tree>>, Statement))>,
 ) -> Result<Judged<Vec<Statement>>, NoMemory>
     ensures { IfOk result (λ j. (c : Checked ((TypedFirst × Option Typed) × (Option Typed × TypedStatement)))
         (before after : List Note) → IsSaid AreTurns c parts before after

@@ -16,7 +16,7 @@ ghost use Rattle.c_operands.specs.Judged.{IsOperand, IsOperandOf};
 ghost use Rattle.c_expressions.specs.Arguments.{AreTrees, given_of};
 ghost use Rattle.c_expressions.specs.Said.{IfFits, IsSaid};
 ghost use Rattle.c_check_declarators.specs.Answers.{AreSame, IsSame};
-ghost use Rattle.c_check_values.specs.Values.{IsTree, row_within};
+ghost use Rattle.c_check_values.specs.Values.{IsPlainTree, row_within};
 
 use c_check_declarators::behind;
 use c_check_expressions::expression;
@@ -54,11 +54,11 @@ fn assigned_within(room: bool, to: ValueType, at: Span, part: Judged<Operand>) -
 /// The tree of an operand.
 fn tree_of(part: Judged<Operand>) -> Judged<Tree>
     ensures { (c : Checked Typed) (before after : List Note) → IsSaid IsOperandOf c part before after
-        → IsSaid IsTree c result before after }
+        → IsSaid IsPlainTree c result before after }
 {
     match part {
         Judged::Fails(fault) => Judged::Fails(fault),
-        Judged::Fits(operand) => Judged::Fits(operand.tree),
+        Judged::Fits(operand) => Judged::Fits(Box::into_inner(operand.tree)),
     }
 }
 
@@ -71,7 +71,7 @@ fn tree_value(
     to: ValueType,
     e: &Expression,
 ) -> Result<Judged<Tree>, NoMemory>
-    ensures { IfOk result (λ j. IsSaid IsTree (if_fits (given_of scopes.now e.now).value
+    ensures { IfOk result (λ j. IsSaid IsPlainTree (if_fits (given_of scopes.now e.now).value
         (row_within room (assigned to) (given_of scopes.now e.now).at)) j notes.old notes.new) }
 {
     let part = expression(alloc, scopes, e, notes)?;

@@ -7,7 +7,7 @@ ghost use Rattle.c_eval.specs.Views.{elements_from};
 ghost use Rattle.c_store.specs.Kept.{over};
 ghost use Rattle.c_tasks.specs.Tasks as tasks;
 ghost use Rattle.c_tasks.specs.Tasks.{Ahead};
-ghost use Rattle.c_tree.specs.Erased.{expression_of, initialiser_of, item_of};
+ghost use Rattle.c_tree.specs.Erased.{boxed_of, expression_of, initialiser_of, item_of};
 ghost use Rattle.c_tree.specs.Program.{Array, Elements, Program, Scalar, Text};
 ghost use Rattle.c_tree.specs.declared.types.IntegerType.{IntegerType};
 ghost use Rattle.c_tree.specs.Store.{State, Gives, visited};
@@ -23,10 +23,10 @@ fn start_value<'a>(
     left: &mut Evaluation<'a>,
     local: u32,
     of: ValueType,
-    value: &'a Option<Expression>,
+    value: &'a Option<Box<Expression>>,
 ) -> Result<(), NoMemory>
     ensures { IfOk result (λ _. left_of left.new
-        ≡ first_value_comes local of (option_map expression_of value.now) (left_of left.old)) }
+        ≡ first_value_comes local of (option_map boxed_of value.now) (left_of left.old)) }
 {
     match value {
         Some(e) => left.next_both(Task::Evaluates(e), Task::Initialises(local, of)),
@@ -39,11 +39,11 @@ fn declare_local<'a>(
     left: &mut Evaluation<'a>,
     store: &mut Store,
     local: u32,
-    value: &'a Option<Expression>,
+    value: &'a Option<Box<Expression>>,
 ) -> Result<(), NoMemory>
     requires { (left_of left.old).way ≡ Ahead }
     ensures { IfOk result (λ _. (l : Listing) (s : State) (n : ℕ)
-        → item_done l (Scalar n local (option_map expression_of value.now)) (left_of left.old) (over s store.old)
+        → item_done l (Scalar n local (option_map boxed_of value.now)) (left_of left.old) (over s store.old)
         ≡ Gives (left_of left.new) (over (visited l n (over s store.old)) store.new)) }
 {
     let of = left.type_of_local(local);

@@ -10,7 +10,7 @@ ghost use Rattle.c_store.specs.Values.{held_of};
 ghost use Rattle.c_tasks.specs.Steps.{statements_from};
 ghost use Rattle.c_tasks.specs.Tasks as tasks;
 ghost use Rattle.c_tasks.specs.Tasks.{Ahead, top};
-ghost use Rattle.c_tree.specs.Erased.{expression_of, first_of, statement_of, statements_of};
+ghost use Rattle.c_tree.specs.Erased.{boxed_of, first_of, statement_of, statements_of};
 ghost use Rattle.c_tree.specs.Evaluation.{first_label, switched};
 ghost use Rattle.c_tree.specs.Program.{Program};
 ghost use Rattle.c_tree.specs.Store.{State, Gives, take_turn};
@@ -41,10 +41,10 @@ fn start_for<'a>(
 /// The value of a `return` is to be evaluated, or the function ends without one (C99 6.8.6.4).
 fn start_return<'a>(
     left: &mut Evaluation<'a>,
-    value: &'a Option<Expression>,
+    value: &'a Option<Box<Expression>>,
 ) -> Result<(), NoMemory>
     requires { (left_of left.old).way ≡ Ahead }
-    ensures { IfOk result (λ _. left_of left.new ≡ starting_return (option_map expression_of value.now)
+    ensures { IfOk result (λ _. left_of left.new ≡ starting_return (option_map boxed_of value.now)
         (left_of left.old)) }
 {
     match value {
@@ -179,11 +179,11 @@ pub fn go_behind_body<'a>(left: &mut Evaluation<'a>, x: &'a Statement) -> Result
 /// What follows each turn of a `for`, and then its next turn (C99 6.8.5.3).
 pub(crate) fn go_again<'a>(
     left: &mut Evaluation<'a>,
-    after: &'a Option<Expression>,
+    after: &'a Option<Box<Expression>>,
     whole: &'a Statement,
 ) -> Result<(), NoMemory>
     ensures { IfOk result (λ _. left_of left.new
-        ≡ going_again (option_map expression_of after.now) (part_task parts.Turn (statement_of whole.now))
+        ≡ going_again (option_map boxed_of after.now) (part_task parts.Turn (statement_of whole.now))
         (left_of left.old)) }
 {
     match after {

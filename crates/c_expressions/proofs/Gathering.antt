@@ -11,7 +11,7 @@ use Rattle.c_tree.specs.declared.expression.Expression.{Expression as Built}
 use Rattle.c_tree.specs.declared.expression.Expression.{Row_of-Expression, end_of-Expression, more_of-Expression}
 use Rattle.c_tree.specs.declared.expression.Expression.{items-the_row-Expression}
 use Rattle.c_tree.specs.declared.types.ValueType.{ValueType}
-use Rattle.c_tree.specs.Erased.{expression_of, arguments_of}
+use Rattle.c_tree.specs.Erased.{boxed_of, expression_of, arguments_of}
 use Rattle.c_tree.specs.Program.{Expression, Arguments, NoMore, Argument}
 use Rattle.c_typing.specs.Faults.{least}
 use Rattle.c_typing.specs.Checked.{Checked, Fits, Fails, Note, both, fits, if_fits, pair}
@@ -79,10 +79,11 @@ abbrev pub AreBehind : List Expression × Expression → Vec Built Global × Ope
 AreBehind p q = AreTrees p.0 q.0 × IsOperandOf p.1 q.1
 
 trees_behind : (c : Checked (List Expression × Expression)) (v more : Vec Built Global) (o : Operand)
-    → Stands AreBehind c (answers.Fits (v, o)) → more.items ≡ v.items ++ o.tree ∷ []
+    → Stands AreBehind c (answers.Fits (v, o)) → more.items ≡ v.items ++ o.tree.value ∷ []
     → Stands AreTrees (if_fits c (λ p. fits (p.0 ++ p.1 ∷ []))) (answers.Fits more)
-trees_behind (Fits p ns) v more o h is = ap (map expression_of) is ∙ map-append expression_of v.items (o.tree ∷ [])
-    ∙ ap (λ xs. xs ++ expression_of o.tree ∷ []) h.0 ∙ ap (λ x. p.0 ++ x ∷ []) h.1.0
+trees_behind (Fits p ns) v more o h is =
+    ap (map expression_of) is ∙ map-append expression_of v.items (o.tree.value ∷ [])
+    ∙ ap (λ xs. xs ++ boxed_of o.tree ∷ []) h.0 ∙ ap (λ x. p.0 ++ x ∷ []) h.1.0
 trees_behind (Fails f fs) v more o h is = absurd h
 
 fault_behind : (c : Checked (List Expression × Expression)) (f : Fault) → Stands AreBehind c (answers.Fails f)
@@ -109,7 +110,7 @@ module _ (front : Checked (List Expression)) (c : Checked Expression) (values : 
 
   pub behind_fits : (v : Vec Built Global) (o : Operand) (more : Vec Built Global) (before between after : List Note)
       → IsSaid AreTrees front values before between → IsSaid IsOperandOf c part between after
-      → joined_answers values part ≡ answers.Fits (v, o) → more.items ≡ v.items ++ o.tree ∷ []
+      → joined_answers values part ≡ answers.Fits (v, o) → more.items ≡ v.items ++ o.tree.value ∷ []
       → IsSaid AreTrees (one_behind front c) (answers.Fits more) before after
   behind_fits v o more before between after x y is items = (
     trees_behind (pair front c) v more o (subst (Stands AreBehind (pair front c)) is

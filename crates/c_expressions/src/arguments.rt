@@ -45,10 +45,13 @@ fn for_parameter(parameter: Option<ValueType>, at: Span, part: Judged<Operand>) 
 }
 
 /// One more tree behind others.
-fn pushed(mut values: Vec<Expression>, tree: Expression) -> Result<Vec<Expression>, NoMemory>
-    ensures { IfOk result (λ v. v.items ≡ values.items ++ tree ∷ []) }
+fn pushed(
+    mut values: Vec<Expression>,
+    tree: Box<Expression>,
+) -> Result<Vec<Expression>, NoMemory>
+    ensures { IfOk result (λ v. v.items ≡ values.items ++ tree.value ∷ []) }
 {
-    values.push(tree)?;
+    values.push(Box::into_inner(tree))?;
     Ok(values)
 }
 

@@ -26,10 +26,9 @@ ghost use Rattle.c_expressions.specs.Arguments.{AreArguments, first_of};
 ghost use Rattle.c_expressions.specs.Said.{IsSaid};
 
 use crate::arguments::Arguments;
-use crate::named::plain;
 use crate::notes::Notes;
 use c_faults::earlier;
-use c_operands::{Judged, Operand};
+use c_operands::{Judged, Operand, plain, plain_node};
 use c_scopes::{Entity, LibraryFunction, Scopes, Signature};
 use c_tree::{Expression, ValueType};
 use pcc_base::{Fault, FaultKind, NoMemory, Span};
@@ -56,7 +55,10 @@ fn putchar(alloc: Global, at: Span, first: Option<Expression>) -> Result<Judged<
         → IsJudged (library_call at Putchar es) j) }
 {
     match first {
-        Some(first) => Ok(Judged::Fits(plain(Expression::putchar(alloc, first)?))),
+        Some(first) => {
+            let first = Box::new(alloc, first)?;
+            Ok(Judged::Fits(plain(Expression::putchar(alloc, first)?)))
+        }
         None => Ok(Judged::Fails(Fault {
             kind: FaultKind::ArgumentCount,
             at,
@@ -71,7 +73,10 @@ fn exit(alloc: Global, at: Span, first: Option<Expression>) -> Result<Judged<Ope
         → IsJudged (library_call at Exit es) j) }
 {
     match first {
-        Some(first) => Ok(Judged::Fits(plain(Expression::exit(alloc, first)?))),
+        Some(first) => {
+            let first = Box::new(alloc, first)?;
+            Ok(Judged::Fits(plain(Expression::exit(alloc, first)?)))
+        }
         None => Ok(Judged::Fails(Fault {
             kind: FaultKind::ArgumentCount,
             at,
@@ -92,7 +97,7 @@ fn library_call(
     match function {
         LibraryFunction::Getchar => {
             drop(values);
-            Ok(Judged::Fits(plain(Expression::Getchar)))
+            Ok(Judged::Fits(plain_node(alloc, Expression::Getchar)?))
         }
         LibraryFunction::Putchar => Ok(putchar(alloc, at, first_of(values))?),
         LibraryFunction::Exit => Ok(exit(alloc, at, first_of(values))?),
@@ -130,7 +135,7 @@ fn program_call(
     ensures noted { OnOk result (notes.new ≡ notes.old ++ Uses (entity_of entity.now) at ∷ []) }
 {
     match called_number(alloc, scopes, notes, at, entity) {
-        Ok(number) => Ok(plain(call_tree(of, number, values))),
+        Ok(number) => plain_node(alloc, call_tree(of, number, values)),
         Err(refusal) => {
             drop(values);
             Err(refusal)

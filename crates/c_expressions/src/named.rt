@@ -4,40 +4,39 @@ ghost use Rattle.std.specs.Prelude.{◌≡◌, false, IfOk};
 ghost use Rattle.c_tree.specs.Erased.{expression_of};
 ghost use Rattle.c_tree.specs.Program as typed;
 ghost use Rattle.c_tree.specs.declared.types.IntegerType.TheVariants.{Int};
+ghost use Rattle.c_typing.specs.Checked.{fits};
 ghost use Rattle.c_typing.specs.Constants.{has_constant_form};
 ghost use Rattle.c_typing.specs.Expressions.{named};
 ghost use Rattle.c_typing.specs.Names.{meaning_of};
 ghost use Rattle.c_operands.specs.Judged.{IsOperandOf};
+ghost use Rattle.c_operands.specs.Parts.{Stands};
 ghost use Rattle.c_expressions.specs.Said.{IsSaid};
 
 use crate::notes::Notes;
 use c_constants::Constant;
-use c_operands::{Judged, Operand};
+use c_operands::{Judged, Operand, plain_node};
 use c_scopes::{Meaning, Scopes};
 use c_syntax::Identifier;
 use c_tree::{ArrayRef, Expression, IntegerType, Place, ValueType};
 use pcc_base::{Fault, FaultKind, NoMemory};
 use std::alloc::Global;
 
-/// A tree that is no constant expression.
-pub fn plain(tree: Expression) -> Operand
-    requires { has_constant_form (expression_of tree) ≡ false }
-    ensures { IsOperandOf (expression_of tree) result }
+/// A constant (C99 6.4.4), which is an `int`.
+pub fn number(alloc: Global, value: i32) -> Result<Operand, NoMemory>
+    ensures { IfOk result (λ o. IsOperandOf (typed.Constant Int value) o) }
 {
-    Operand {
-        tree,
-        constant: Constant::NotConstant,
-    }
+    Ok(Operand {
+        tree: Box::new(alloc, Expression::Constant(IntegerType::Int, value))?,
+        constant: Constant::of_number(IntegerType::Int, value),
+    })
 }
 
-/// A constant (C99 6.4.4), which is an `int`.
-pub fn number(value: i32) -> Operand
-    ensures { IsOperandOf (typed.Constant Int value) result }
+/// A tree that is no constant expression, which fits.
+pub fn fitting(alloc: Global, tree: Expression) -> Result<Judged<Operand>, NoMemory>
+    requires { has_constant_form (expression_of tree) ≡ false }
+    ensures { IfOk result (λ j. Stands IsOperandOf (fits (expression_of tree)) j) }
 {
-    Operand {
-        tree: Expression::Constant(IntegerType::Int, value),
-        constant: Constant::of_number(IntegerType::Int, value),
-    }
+    Ok(Judged::Fits(plain_node(alloc, tree)?))
 }
 
 /// A name: a local or an object, or the first element of an array; a function's name that isn't called fits no row.
@@ -56,24 +55,21 @@ pub fn named(
             at: name.at,
         })),
         Some(Meaning::Local(number, of)) => {
-            let tree = Expression::Read(*of, Place::Local(*number));
-            Ok(Judged::Fits(plain(tree)))
+            fitting(alloc, Expression::Read(*of, Place::Local(*number)))
         }
         Some(Meaning::LocalArray(number, element)) => {
-            let tree = Expression::Start(*element, ArrayRef::Frame(*number));
-            Ok(Judged::Fits(plain(tree)))
+            fitting(alloc, Expression::Start(*element, ArrayRef::Frame(*number)))
         }
         Some(Meaning::Object(entity, of)) => {
             let number = scopes.object_number(entity)?;
             notes.uses(alloc, entity, name.at)?;
-            let tree = Expression::Read(ValueType::Integer(*of), Place::Static(number));
-            Ok(Judged::Fits(plain(tree)))
+            let place = Place::Static(number);
+            fitting(alloc, Expression::Read(ValueType::Integer(*of), place))
         }
         Some(Meaning::ObjectArray(entity, element)) => {
             let number = scopes.object_number(entity)?;
             notes.uses(alloc, entity, name.at)?;
-            let tree = Expression::Start(*element, ArrayRef::Static(number));
-            Ok(Judged::Fits(plain(tree)))
+            fitting(alloc, Expression::Start(*element, ArrayRef::Static(number)))
         }
         Some(Meaning::Function(_, _)) => Ok(Judged::Fails(Fault {
             kind: FaultKind::TypeRule,

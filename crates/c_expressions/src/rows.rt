@@ -42,13 +42,19 @@ pub fn unary_of(
 }
 
 /// `++` and `--` (C99 6.5.2.4 and 6.5.3.1).
-pub fn step_of(op: StepOp, at: Span, part: Judged<Operand>) -> Judged<Operand>
-    ensures { (c : Checked Typed) (before after : List Note) → IsSaid IsOperandOf c part before after
-        → IsSaid IsOperandOf (if_fits c (λ e. step_row op at (place_named e))) result before after }
+pub fn step_of(
+    alloc: Global,
+    op: StepOp,
+    at: Span,
+    part: Judged<Operand>,
+) -> Result<Judged<Operand>, NoMemory>
+    ensures { IfOk result (λ j. (c : Checked Typed) (before after : List Note)
+        → IsSaid IsOperandOf c part before after
+        → IsSaid IsOperandOf (if_fits c (λ e. step_row op at (place_named e))) j before after) }
 {
     match part {
-        Judged::Fails(fault) => Judged::Fails(fault),
-        Judged::Fits(operand) => step(op, at, operand),
+        Judged::Fails(fault) => Ok(Judged::Fails(fault)),
+        Judged::Fits(operand) => step(alloc, op, at, operand),
     }
 }
 

@@ -9,7 +9,7 @@ ghost use Rattle.c_scopes.specs.Views.{entity_of};
 ghost use Rattle.c_expressions.specs.Notes.{note_of};
 ghost use Rattle.c_expressions.specs.Said.{IsSaid};
 
-use crate::named::plain;
+use crate::named::fitting;
 use crate::notes::{Contents, Note, Notes, Stored};
 use crate::places::first_piece;
 use c_operands::{Judged, Operand};
@@ -77,6 +77,5 @@ pub fn text(
     let number = scopes.object_number(&entity)?;
     let note = text_note(alloc, pieces)?;
     notes.push(note)?;
-    let tree = Expression::Start(IntegerType::Char, ArrayRef::Static(number));
-    Ok(Judged::Fits(plain(tree)))
+    fitting(alloc, Expression::Start(IntegerType::Char, ArrayRef::Static(number)))
 }

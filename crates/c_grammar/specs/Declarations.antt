@@ -1,5 +1,6 @@
 -- Declarations as definitions see them: without the boxes and vectors that hold their parts.
 use Rattle.std.specs.Prelude.{List, map, Option, Some, None}
+use Rattle.std.specs.Global.{Box}
 use Rattle.pcc_base.specs.declared.span.Span.{Span}
 use Rattle.c_syntax.specs.declared.expression.Identifier.{Identifier}
 use Rattle.c_syntax.specs.declared.expression.Specifier.{Specifier}
@@ -74,9 +75,9 @@ pub record DeclarationTree : Type 0 where
 
 -- ---- what the raw parts stand for
 
-abbrev pub maybe_expr_of : Option Expression → Option Expr
+abbrev pub maybe_expr_of : Option (Box Expression) → Option Expr
 maybe_expr_of None = None
-maybe_expr_of (Some e) = Some (expr_of e)
+maybe_expr_of (Some e) = Some (expr_of e.value)
 
 abbrev pub array_of : ArrayPart → ArrayTree
 array_of a = record { opening = a.opening; size = maybe_expr_of a.size; close = a.close }
@@ -112,7 +113,7 @@ abbrev pub declarator_of : Declarator → DeclaratorTree
 declarator_of d = record { pointer = star_of d.pointer; name = d.name; part = part_of d.part }
 
 abbrev pub initialiser_of : Initialiser → InitialiserTree
-initialiser_of (initialisers.Single e) = Single (expr_of e)
+initialiser_of (initialisers.Single e) = Single (expr_of e.value)
 initialiser_of (initialisers.List o values commas trailing c) =
     Braces o (exprs_of (map expr_of values.items)) commas.items trailing c
 

@@ -55,7 +55,7 @@ stmts_of [] = NoStmt
 stmts_of (s ∷ ss) = OneStmt s (stmts_of ss)
 
 abbrev pub label_of : Label → LabelTree
-label_of (labels.Case at e colon) = Case at (expr_of e) colon
+label_of (labels.Case at e colon) = Case at (expr_of e.value) colon
 label_of (labels.Default at colon) = Default at colon
 
 -- one layer of a raw statement, with what each part stands for in its place
@@ -64,14 +64,14 @@ stmt_step (layers.Declaration d) = Declared (declaration_of d)
 stmt_step (layers.Labelled before s) = Labelled (map label_of before.items) s.value
 stmt_step (layers.Block o items c) = Block o (stmts_of items.items) c
 stmt_step (layers.Simple e semicolon) = Simple (maybe_expr_of e) semicolon
-stmt_step (layers.If at o e c s) = If at o (expr_of e) c s.value
+stmt_step (layers.If at o e c s) = If at o (expr_of e.value) c s.value
 stmt_step (layers.IfElse parts s t) =
-    IfElse parts.value.at parts.value.opening (expr_of parts.value.condition) parts.value.close s.value
+    IfElse parts.value.at parts.value.opening (expr_of parts.value.condition.value) parts.value.close s.value
     parts.value.otherwise t.value
-stmt_step (layers.While at o e c s) = While at o (expr_of e) c s.value
+stmt_step (layers.While at o e c s) = While at o (expr_of e.value) c s.value
 stmt_step (layers.Do parts s) =
-    Do parts.value.at s.value parts.value.until parts.value.opening (expr_of parts.value.condition) parts.value.close
-    parts.value.semicolon
+    Do parts.value.at s.value parts.value.until parts.value.opening (expr_of parts.value.condition.value)
+    parts.value.close parts.value.semicolon
 stmt_step (layers.For parts s) =
     For parts.value.at parts.value.opening (maybe_expr_of parts.value.start) parts.value.first
     (maybe_expr_of parts.value.condition) parts.value.second (maybe_expr_of parts.value.step) parts.value.close s.value
@@ -79,7 +79,7 @@ stmt_step (layers.ForDeclaration parts s) =
     ForDeclaration parts.value.at parts.value.opening (declaration_of parts.value.start)
     (maybe_expr_of parts.value.condition) parts.value.second (maybe_expr_of parts.value.step) parts.value.close s.value
 stmt_step (layers.Switch parts items) =
-    Switch parts.value.at parts.value.opening (expr_of parts.value.value) parts.value.close parts.value.begin
+    Switch parts.value.at parts.value.opening (expr_of parts.value.value.value) parts.value.close parts.value.begin
     (stmts_of items.items) parts.value.end
 stmt_step (layers.Break at semicolon) = Break at semicolon
 stmt_step (layers.Continue at semicolon) = Continue at semicolon

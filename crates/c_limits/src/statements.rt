@@ -1,7 +1,7 @@
 //! The greatest height of an expression that a statement evaluates.
 
 ghost use Rattle.std.specs.Prelude.{◌≡◌, map, option_map, IfOk};
-ghost use Rattle.c_tree.specs.Erased.{expression_of, first_of, item_of, statement_of, statements_of};
+ghost use Rattle.c_tree.specs.Erased.{boxed_of, expression_of, first_of, item_of, statement_of, statements_of};
 ghost use Rattle.c_tree.specs.Sizes as sizes;
 ghost use Rattle.c_tree.specs.Sizes.{first_height, highest, item_height, items_height, option_height};
 ghost use Rattle.c_tree.specs.Sizes.{statement_height, statements_height};
@@ -10,8 +10,8 @@ use crate::expressions::{Height, expression, higher, on_one, raised};
 use c_tree::{Expression, First, Initialiser, Item, Statement};
 
 /// The height of an expression that may be absent.
-fn if_any(value: &Option<Expression>) -> Height
-    ensures { IfOk result (λ n. n ≡ option_height (option_map expression_of value.now)) }
+fn if_any(value: &Option<Box<Expression>>) -> Height
+    ensures { IfOk result (λ n. n ≡ option_height (option_map boxed_of value.now)) }
 {
     match value {
         None => Ok(0),
@@ -20,8 +20,8 @@ fn if_any(value: &Option<Expression>) -> Height
 }
 
 /// The same with so many more where it is there.
-fn raised_if_any(by: u64, value: &Option<Expression>) -> Height
-    ensures { IfOk result (λ n. n ≡ sizes.raised by (option_map expression_of value.now)) }
+fn raised_if_any(by: u64, value: &Option<Box<Expression>>) -> Height
+    ensures { IfOk result (λ n. n ≡ sizes.raised by (option_map boxed_of value.now)) }
 {
     match value {
         None => Ok(0),

@@ -1,19 +1,19 @@
 -- Operands of trees that are put together.
 use Rattle.std.proofs.Common.{◌≡◌, Bool, true, false, ◌&&◌, refl, sym, subst, ◌∙◌, true≢false}
+use Rattle.std.specs.Global.{Box}
 use Rattle.c_tree.specs.declared.expression.BinaryOp.{BinaryOp}
 use Rattle.c_tree.specs.declared.types.ValueType.{ValueType}
 use Rattle.c_tree.specs.Program.{Expression, Binary, Conditional, Cast, value_type}
 use Rattle.c_tree.specs.declared.expression.Expression.{Expression as Built}
-use Rattle.c_tree.specs.Erased.{expression_of}
+use Rattle.c_tree.specs.Erased.{boxed_of}
 use Rattle.c_constants.specs.declared.constant.Constant.{Constant}
 use Rattle.c_constants.specs.Constants.{IsConstant}
 use Rattle.c_typing.specs.Constants.{has_constant_form, is_integer_type}
 use Rattle.c_operands.specs.Judged.{IsIntegral}
 
 -- the operand of a tree
-pub operand_of : (tree : Built) (constant : Constant) (e : Expression) → expression_of tree ≡ e → IsConstant e constant
-    → IsIntegral e → (expression_of tree ≡ e)
-    × (IsConstant (expression_of tree) constant × IsIntegral (expression_of tree))
+pub operand_of : (tree : Box Built) (constant : Constant) (e : Expression) → boxed_of tree ≡ e → IsConstant e constant
+    → IsIntegral e → (boxed_of tree ≡ e) × (IsConstant (boxed_of tree) constant × IsIntegral (boxed_of tree))
 operand_of tree constant e is known integral =
     (is, (subst (λ x. IsConstant x constant) (sym is) known, subst IsIntegral (sym is) integral))
 

@@ -1,7 +1,7 @@
 -- What the code's operands and answers are to the definitions of typing.
 use Rattle.std.specs.Prelude.{◌≡◌, ◌∷◌, true, Some, if◌then◌else◌}
 use Rattle.c_tree.specs.Program.{Expression, value_type}
-use Rattle.c_tree.specs.Erased.{expression_of}
+use Rattle.c_tree.specs.Erased.{boxed_of}
 use Rattle.c_constants.specs.Constants.{IsConstant}
 use Rattle.c_typing.specs.Faults.{least, precedes}
 use Rattle.c_typing.specs.Checked.{Checked, Fits, Fails}
@@ -16,11 +16,11 @@ IsIntegral e = has_constant_form e ≡ true → is_integer_type (value_type e) �
 
 -- What stands beside a tree is what it is as a constant.
 abbrev pub IsOperand : Operand → Type 0
-IsOperand o = IsConstant (expression_of o.tree) o.constant × IsIntegral (expression_of o.tree)
+IsOperand o = IsConstant (boxed_of o.tree) o.constant × IsIntegral (boxed_of o.tree)
 
 -- the operand of a typed tree
 abbrev pub IsOperandOf : Expression → Operand → Type 0
-IsOperandOf e o = (expression_of o.tree ≡ e) × IsOperand o
+IsOperandOf e o = (boxed_of o.tree ≡ e) × IsOperand o
 
 -- What is answered is what the definition has: the operand of the tree that fits, or the least of its faults.
 abbrev pub IsJudged : Checked Expression → Judged Operand → Type 0

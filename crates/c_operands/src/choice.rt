@@ -4,7 +4,7 @@ ghost use Rattle.std.specs.Prelude.{◌≡◌, ◌∷◌, true, None, IfOk, IfSo
 ghost use Rattle.std.specs.List.{list_any};
 ghost use Rattle.pcc_base.specs.declared.fault.FaultKind.TheVariants as kinds;
 ghost use Rattle.c_constants.specs.Constants.{IsConstant};
-ghost use Rattle.c_tree.specs.Erased.{expression_of};
+ghost use Rattle.c_tree.specs.Erased.{boxed_of};
 ghost use Rattle.c_tree.specs.Program.{value_type, Expression as Typed, Conditional};
 ghost use Rattle.c_typing.specs.Constants.{is_integer_type, is_null};
 ghost use Rattle.c_typing.specs.Faults.{fault};
@@ -44,10 +44,10 @@ fn conditional_of(
     requires test { IsOperand test }
     requires first { IsOperand first }
     requires second { IsOperand second }
-    requires integer { is_integer_type (value_type (expression_of first.tree)) ≡ true
-        → is_integer_type (value_type (expression_of second.tree)) ≡ true → is_integer_type of ≡ true }
-    ensures { IfOk result (λ o. IsOperandOf (Conditional of (expression_of test.tree)
-        (expression_of first.tree) (expression_of second.tree)) o) }
+    requires integer { is_integer_type (value_type (boxed_of first.tree)) ≡ true
+        → is_integer_type (value_type (boxed_of second.tree)) ≡ true → is_integer_type of ≡ true }
+    ensures { IfOk result (λ o. IsOperandOf (Conditional of (boxed_of test.tree)
+        (boxed_of first.tree) (boxed_of second.tree)) o) }
 {
     let constant = constant_of(of, test.constant, first.constant, second.constant);
     let tree = Expression::conditional(alloc, of, test.tree, first.tree, second.tree)?;
@@ -56,8 +56,8 @@ fn conditional_of(
 
 /// The fault where the types of `test ? first : second` fit no row.
 fn misfits(at: Span, test: Operand, first: Operand, second: Operand) -> Fault
-    ensures { result ≡ fault (if list_any is_pointer (value_type (expression_of test.tree)
-        ∷ types_of (expression_of first.tree) (expression_of second.tree))
+    ensures { result ≡ fault (if list_any is_pointer (value_type (boxed_of test.tree)
+        ∷ types_of (boxed_of first.tree) (boxed_of second.tree))
         then kinds.PointerUse else kinds.TypeRule) at }
 {
     let t = test.tree.value_type();
@@ -72,11 +72,11 @@ fn misfits(at: Span, test: Operand, first: Operand, second: Operand) -> Fault
 fn type_of(test: &Operand, first: &Operand, second: &Operand) -> Option<ValueType>
     requires first { IsOperand first.now }
     requires second { IsOperand second.now }
-    ensures is { let a = expression_of first.now.tree in let b = expression_of second.now.tree in
-        result ≡ (if is_scalar (value_type (expression_of test.now.tree))
+    ensures is { let a = boxed_of first.now.tree in let b = boxed_of second.now.tree in
+        result ≡ (if is_scalar (value_type (boxed_of test.now.tree))
         then of_choice (value_type a) (is_null a) (value_type b) (is_null b) else None) }
-    ensures integer { is_integer_type (value_type (expression_of first.now.tree)) ≡ true
-        → is_integer_type (value_type (expression_of second.now.tree)) ≡ true
+    ensures integer { is_integer_type (value_type (boxed_of first.now.tree)) ≡ true
+        → is_integer_type (value_type (boxed_of second.now.tree)) ≡ true
         → IfSome result (λ of. is_integer_type of ≡ true) }
 {
     if !is_scalar(test.tree.value_type()) {
@@ -97,8 +97,8 @@ pub fn conditional(
     requires test { IsOperand test }
     requires first { IsOperand first }
     requires second { IsOperand second }
-    ensures { IfOk result (λ j. IsJudged (conditional_row at (expression_of test.tree)
-        (expression_of first.tree) (expression_of second.tree)) j) }
+    ensures { IfOk result (λ j. IsJudged (conditional_row at (boxed_of test.tree)
+        (boxed_of first.tree) (boxed_of second.tree)) j) }
 {
     match type_of(&test, &first, &second) {
         Some(of) => Ok(Judged::Fits(conditional_of(alloc, of, test, first, second)?)),

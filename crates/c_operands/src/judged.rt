@@ -1,23 +1,26 @@
 //! Operands, and what comes of judging a part.
 
-ghost use Rattle.std.specs.Prelude.{◌≡◌, [], ◌∷◌, if◌then◌else◌};
+ghost use Rattle.std.specs.Prelude.{◌≡◌, [], ◌∷◌, false, IfOk, if◌then◌else◌};
 ghost use Rattle.std.specs.List.{list_any};
 ghost use Rattle.pcc_base.specs.declared.fault.FaultKind.TheVariants as kinds;
-ghost use Rattle.c_tree.specs.Erased.{expression_of};
+ghost use Rattle.c_tree.specs.Erased.{boxed_of, expression_of};
 ghost use Rattle.c_tree.specs.Program.{value_type};
+ghost use Rattle.c_typing.specs.Constants.{has_constant_form};
 ghost use Rattle.c_typing.specs.Faults.{fault};
 ghost use Rattle.c_typing.specs.Rows.{types_of};
 ghost use Rattle.c_typing.specs.Types.{is_pointer};
+ghost use Rattle.c_operands.specs.Judged.{IsOperandOf};
 
 use crate::types::is_pointer;
 use c_constants::Constant;
 use c_tree::{Expression, ValueType};
-use pcc_base::{Fault, FaultKind, Span};
+use pcc_base::{Fault, FaultKind, NoMemory, Span};
+use std::alloc::Global;
 
 /// A typed expression, and what it is as an integer constant expression.
 #[derive(Drop)]
 pub struct Operand {
-    pub tree: Expression,
+    pub tree: Box<Expression>,
     pub constant: Constant,
 }
 
@@ -26,6 +29,25 @@ pub struct Operand {
 pub enum Judged<T> {
     Fits(T),
     Fails(Fault),
+}
+
+/// A tree that is no constant expression.
+pub fn plain(tree: Box<Expression>) -> Operand
+    requires { has_constant_form (boxed_of tree) ≡ false }
+    ensures { IsOperandOf (boxed_of tree) result }
+{
+    Operand {
+        tree,
+        constant: Constant::NotConstant,
+    }
+}
+
+/// The same of a tree that is in no box yet.
+pub fn plain_node(alloc: Global, tree: Expression) -> Result<Operand, NoMemory>
+    requires { has_constant_form (expression_of tree) ≡ false }
+    ensures { IfOk result (λ o. IsOperandOf (expression_of tree) o) }
+{
+    Ok(plain(Box::new(alloc, tree)?))
 }
 
 /// The fault where no row fits: a pointer is among the types, or none.
@@ -67,7 +89,7 @@ pub(crate) fn misfit_three(at: Span, t: ValueType, u: ValueType, v: ValueType) -
 /// The fault of two operands that fit no row.
 pub(crate) fn misfits(at: Span, left: Operand, right: Operand) -> Fault
     ensures { result
-        ≡ fault (if list_any is_pointer (types_of (expression_of left.tree) (expression_of right.tree))
+        ≡ fault (if list_any is_pointer (types_of (boxed_of left.tree) (boxed_of right.tree))
         then kinds.PointerUse else kinds.TypeRule) at }
 {
     let (t, u) = (left.tree.value_type(), right.tree.value_type());

@@ -15,7 +15,7 @@ mod two;
 mod types;
 
 pub use choice::conditional;
-pub use judged::{Judged, Operand};
+pub use judged::{Judged, Operand, plain, plain_node};
 pub use lvalues::{address, assignment, dereferenced, index, place_named, step};
 pub use one::{assigned, cast, negated, on_number, selected, tested};
 pub use parts::both;

@@ -4,8 +4,9 @@ ghost use Rattle.std.specs.Prelude.{◌≡◌, ◌∷◌, [], false, IfOk, optio
 ghost use Rattle.std.specs.Option.{option_map_or};
 ghost use Rattle.std.specs.List.{list_any};
 ghost use Rattle.pcc_base.specs.declared.fault.FaultKind.TheVariants as kinds;
-ghost use Rattle.c_tree.specs.Erased.{expression_of, place_of};
+ghost use Rattle.c_tree.specs.Erased.{boxed_of, expression_of, place_of};
 ghost use Rattle.c_tree.specs.Program.{value_type, Expression as Typed, Place as TypedPlace};
+ghost use Rattle.c_typing.specs.Checked.{fits};
 ghost use Rattle.c_typing.specs.Constants.{has_constant_form};
 ghost use Rattle.c_typing.specs.Faults.{fault};
 ghost use Rattle.c_typing.specs.Types.{is_pointer};
@@ -21,35 +22,32 @@ ghost use Rattle.c_typing.specs.Rows.{
   step_row,
   to_place_row,
 };
-ghost use Rattle.c_operands.specs.Judged.{IsJudged, IsOperand, IsOperandOf};
+ghost use Rattle.c_operands.specs.Judged.{IsJudged, IsOperand};
 ghost use Rattle.c_operands.specs.Operators.{address_at, change_row, result_type};
 ghost use Rattle.c_operands.specs.declared.lvalues.Change.TheVariants.{Updates};
 
-use crate::judged::{Judged, Operand, misfit_one, misfit_two, misfits};
+use crate::judged::{Judged, Operand, misfit_one, misfit_two, misfits, plain, plain_node};
 use crate::two::type_of;
 use crate::types::{can_assign, of_sum};
-use c_constants::Constant;
 use c_syntax::AssignOp;
 use c_tree::{BinaryOp, Expression, IntegerType, Place, StepOp, ValueType};
 use pcc_base::{Fault, FaultKind, NoMemory, Span};
 use std::alloc::Global;
 
-/// A tree that is no constant expression.
-fn plain(tree: Expression) -> Operand
+
+/// A tree that is no constant expression, where a row fits.
+fn fits_plain(alloc: Global, tree: Expression) -> Result<Judged<Operand>, NoMemory>
     requires { has_constant_form (expression_of tree) ≡ false }
-    ensures { IsOperandOf (expression_of tree) result }
+    ensures { IfOk result (λ j. IsJudged (fits (expression_of tree)) j) }
 {
-    Operand {
-        tree,
-        constant: Constant::NotConstant,
-    }
+    Ok(Judged::Fits(plain_node(alloc, tree)?))
 }
 
 /// The place that an operand names, with its type; none where it names no place (C99 6.3.2.1p1).
 pub fn place_named(operand: Operand) -> Option<(ValueType, Place)>
-    ensures { option_map (λ p. (p.0, place_of p.1)) result ≡ place_named (expression_of operand.tree) }
+    ensures { option_map (λ p. (p.0, place_of p.1)) result ≡ place_named (boxed_of operand.tree) }
 {
-    match operand.tree {
+    match Box::into_inner(operand.tree) {
         Expression::Read(of, place) => Some((of, place)),
         other => {
             drop(other);
@@ -69,30 +67,30 @@ fn element_at(place: &Place) -> Option<IntegerType>
 }
 
 /// `&` (C99 6.5.3.2), which is for elements alone.
-pub fn address(at: Span, operand: Operand) -> Judged<Operand>
-    ensures { IsJudged (address_row at (place_named (expression_of operand.tree))) result }
+pub fn address(alloc: Global, at: Span, operand: Operand) -> Result<Judged<Operand>, NoMemory>
+    ensures { IfOk result (λ j. IsJudged (address_row at (place_named (boxed_of operand.tree))) j) }
 {
     match place_named(operand) {
-        None => Judged::Fails(Fault {
+        None => Ok(Judged::Fails(Fault {
             kind: FaultKind::PointerUse,
             at,
-        }),
-        Some((_, place)) => address_of(at, place),
+        })),
+        Some((_, place)) => address_of(alloc, at, place),
     }
 }
 
 /// `&` of a place.
-fn address_of(at: Span, place: Place) -> Judged<Operand>
-    ensures { IsJudged (address_of_place at (place_of place)) result }
+fn address_of(alloc: Global, at: Span, place: Place) -> Result<Judged<Operand>, NoMemory>
+    ensures { IfOk result (λ j. IsJudged (address_of_place at (place_of place)) j) }
 {
     match element_at(&place) {
-        Some(element) => Judged::Fits(plain(Expression::Address(element, place))),
+        Some(element) => fits_plain(alloc, Expression::Address(element, place)),
         None => {
             drop(place);
-            Judged::Fails(Fault {
+            Ok(Judged::Fails(Fault {
                 kind: FaultKind::PointerUse,
                 at,
-            })
+            }))
         }
     }
 }
@@ -100,12 +98,12 @@ fn address_of(at: Span, place: Place) -> Judged<Operand>
 /// `*` (C99 6.5.3.2).
 pub fn dereferenced(alloc: Global, at: Span, operand: Operand) -> Result<Judged<Operand>, NoMemory>
     ensures { IfOk result (λ j. IsJudged
-        (dereferenced at (value_type (expression_of operand.tree)) (expression_of operand.tree)) j) }
+        (dereferenced at (value_type (boxed_of operand.tree)) (boxed_of operand.tree)) j) }
 {
     match operand.tree.value_type() {
         ValueType::Pointer(element) => {
-            let place = Place::target(alloc, element, operand.tree)?;
-            Ok(Judged::Fits(plain(Expression::Read(ValueType::Integer(element), place))))
+            let place = Place::Target(element, operand.tree);
+            fits_plain(alloc, Expression::Read(ValueType::Integer(element), place))
         }
         of => {
             drop(operand);
@@ -122,27 +120,32 @@ pub fn index(
     index: Operand,
 ) -> Result<Judged<Operand>, NoMemory>
     ensures { IfOk result (λ j. IsJudged
-        (index_row at (expression_of array.tree) (expression_of index.tree)) j) }
+        (index_row at (boxed_of array.tree) (boxed_of index.tree)) j) }
 {
     match of_sum(array.tree.value_type(), index.tree.value_type()) {
         Some(ValueType::Pointer(element)) => {
-            let place = Place::element(alloc, element, array.tree, index.tree)?;
-            Ok(Judged::Fits(plain(Expression::Read(ValueType::Integer(element), place))))
+            let place = Place::Element(element, array.tree, index.tree);
+            fits_plain(alloc, Expression::Read(ValueType::Integer(element), place))
         }
         _ => Ok(Judged::Fails(misfits(at, array, index))),
     }
 }
 
 /// `++` and `--` (C99 6.5.2.4 and 6.5.3.1).
-pub fn step(op: StepOp, at: Span, operand: Operand) -> Judged<Operand>
-    ensures { IsJudged (step_row op at (place_named (expression_of operand.tree))) result }
+pub fn step(
+    alloc: Global,
+    op: StepOp,
+    at: Span,
+    operand: Operand,
+) -> Result<Judged<Operand>, NoMemory>
+    ensures { IfOk result (λ j. IsJudged (step_row op at (place_named (boxed_of operand.tree))) j) }
 {
     match place_named(operand) {
-        None => Judged::Fails(Fault {
+        None => Ok(Judged::Fails(Fault {
             kind: FaultKind::NotAssignable,
             at,
-        }),
-        Some((of, place)) => Judged::Fits(plain(Expression::Step(of, op, place))),
+        })),
+        Some((of, place)) => fits_plain(alloc, Expression::Step(of, op, place)),
     }
 }
 
@@ -175,7 +178,7 @@ fn change_of(op: AssignOp) -> Change
 
 /// The fault of a place and a value whose types fit no row.
 fn unassigned(at: Span, of: ValueType, place: Place, value: Operand) -> Fault
-    ensures { result ≡ fault (if list_any is_pointer (of ∷ value_type (expression_of value.tree) ∷ [])
+    ensures { result ≡ fault (if list_any is_pointer (of ∷ value_type (boxed_of value.tree) ∷ [])
         then kinds.PointerUse else kinds.TypeRule) at }
 {
     let from = value.tree.value_type();
@@ -194,7 +197,7 @@ fn assign(
 ) -> Result<Judged<Operand>, NoMemory>
     requires { IsOperand value }
     ensures { IfOk result (λ j. IsJudged
-        (assign_row at of (place_of place) (expression_of value.tree)) j) }
+        (assign_row at of (place_of place) (boxed_of value.tree)) j) }
 {
     if !can_assign(of, value.tree.value_type(), value.constant.is_null()) {
         return Ok(Judged::Fails(unassigned(at, of, place, value)));
@@ -223,7 +226,7 @@ fn update(
     value: Operand,
 ) -> Result<Judged<Operand>, NoMemory>
     ensures { IfOk result (λ j. IsJudged
-        (change_row (Updates op) at of (place_of place) (expression_of value.tree)) j) }
+        (change_row (Updates op) at of (place_of place) (boxed_of value.tree)) j) }
 {
     if !can_update(op, of, value.tree.value_type()) {
         return Ok(Judged::Fails(unassigned(at, of, place, value)));
@@ -242,7 +245,7 @@ fn to_place(
 ) -> Result<Judged<Operand>, NoMemory>
     requires { IsOperand value }
     ensures { IfOk result (λ j. IsJudged
-        (to_place_row op at named.0 (place_of named.1) (expression_of value.tree)) j) }
+        (to_place_row op at named.0 (place_of named.1) (boxed_of value.tree)) j) }
 {
     let (of, place) = named;
     match change_of(op) {
@@ -261,7 +264,7 @@ pub fn assignment(
 ) -> Result<Judged<Operand>, NoMemory>
     requires { IsOperand value }
     ensures { IfOk result (λ j. IsJudged
-        (assignment_row op at (place_named (expression_of target.tree)) (expression_of value.tree)) j) }
+        (assignment_row op at (place_named (boxed_of target.tree)) (boxed_of value.tree)) j) }
 {
     match place_named(target) {
         None => {

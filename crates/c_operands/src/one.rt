@@ -1,7 +1,7 @@
 //! The rows of one operand (C99 6.5.3.3, 6.5.4), and of values that are assigned, tested or counted.
 
 ghost use Rattle.std.specs.Prelude.{[], ◌∷◌, IfOk, if◌then◌else◌};
-ghost use Rattle.c_tree.specs.Erased.{expression_of};
+ghost use Rattle.c_tree.specs.Erased.{boxed_of};
 ghost use Rattle.c_constants.specs.Constants.{IsConstant};
 ghost use Rattle.c_tree.specs.Program.{value_type, Expression as Typed, Unary, Cast};
 ghost use Rattle.c_tree.specs.declared.expression.UnaryOp.TheVariants.{Not};
@@ -20,7 +20,7 @@ use std::alloc::Global;
 /// An operator on one operand, an `int`.
 fn unary_of(alloc: Global, op: UnaryOp, operand: Operand) -> Result<Operand, NoMemory>
     requires { IsOperand operand }
-    ensures { IfOk result (λ o. IsOperandOf (Unary Int op (expression_of operand.tree)) o) }
+    ensures { IfOk result (λ o. IsOperandOf (Unary Int op (boxed_of operand.tree)) o) }
 {
     let Operand { tree, constant } = operand;
     let tree = Expression::unary(alloc, IntegerType::Int, op, tree)?;
@@ -39,7 +39,7 @@ pub fn on_number(
 ) -> Result<Judged<Operand>, NoMemory>
     requires { IsOperand operand }
     ensures { IfOk result (λ j. IsJudged
-        (on_number op at (value_type (expression_of operand.tree)) (expression_of operand.tree)) j) }
+        (on_number op at (value_type (boxed_of operand.tree)) (boxed_of operand.tree)) j) }
 {
     match operand.tree.value_type() {
         ValueType::Integer(_) => Ok(Judged::Fits(unary_of(alloc, op, operand)?)),
@@ -53,7 +53,7 @@ pub fn on_number(
 /// `!` (C99 6.5.3.3).
 pub fn negated(alloc: Global, at: Span, operand: Operand) -> Result<Judged<Operand>, NoMemory>
     requires { IsOperand operand }
-    ensures { let e = expression_of operand.tree in IfOk result (λ j. IsJudged
+    ensures { let e = boxed_of operand.tree in IfOk result (λ j. IsJudged
         (if is_scalar (value_type e) then fits (Unary Int Not e) else misfit at (value_type e ∷ [])) j) }
 {
     let of = operand.tree.value_type();
@@ -77,7 +77,7 @@ fn constant_of(to: ValueType, constant: Constant) -> Constant
 /// A cast, to a type that values can be cast to.
 fn cast_of(alloc: Global, to: ValueType, operand: Operand) -> Result<Operand, NoMemory>
     requires { IsOperand operand }
-    ensures { IfOk result (λ o. IsOperandOf (Cast to (expression_of operand.tree)) o) }
+    ensures { IfOk result (λ o. IsOperandOf (Cast to (boxed_of operand.tree)) o) }
 {
     let Operand { tree, constant } = operand;
     let tree = Expression::cast(alloc, to, tree)?;
@@ -95,7 +95,7 @@ pub fn cast(
     operand: Operand,
 ) -> Result<Judged<Operand>, NoMemory>
     requires { IsOperand operand }
-    ensures { IfOk result (λ j. IsJudged (cast_row at to (expression_of operand.tree)) j) }
+    ensures { IfOk result (λ j. IsJudged (cast_row at to (boxed_of operand.tree)) j) }
 {
     let from = operand.tree.value_type();
     if can_cast(to, from, operand.constant.is_null()) {
@@ -108,7 +108,7 @@ pub fn cast(
 /// An initialiser, argument or returned value (C99 6.5.2.2p7, 6.7.8p11 and 6.8.6.4p3).
 pub fn assigned(to: ValueType, at: Span, operand: Operand) -> Judged<Operand>
     requires { IsOperand operand }
-    ensures { IsJudged (assigned to at (expression_of operand.tree)) result }
+    ensures { IsJudged (assigned to at (boxed_of operand.tree)) result }
 {
     let from = operand.tree.value_type();
     if can_assign(to, from, operand.constant.is_null()) {
@@ -121,7 +121,7 @@ pub fn assigned(to: ValueType, at: Span, operand: Operand) -> Judged<Operand>
 /// A condition (C99 6.8.4.1p1 and 6.8.5p2).
 pub fn tested(at: Span, operand: Operand) -> Judged<Operand>
     requires { IsOperand operand }
-    ensures { IsJudged (tested at (expression_of operand.tree)) result }
+    ensures { IsJudged (tested at (boxed_of operand.tree)) result }
 {
     let of = operand.tree.value_type();
     if is_scalar(of) {
@@ -134,7 +134,7 @@ pub fn tested(at: Span, operand: Operand) -> Judged<Operand>
 /// The value of a switch (C99 6.8.4.2p1).
 pub fn selected(at: Span, operand: Operand) -> Judged<Operand>
     requires { IsOperand operand }
-    ensures { IsJudged (selected (value_type (expression_of operand.tree)) at (expression_of operand.tree)) result }
+    ensures { IsJudged (selected (value_type (boxed_of operand.tree)) at (boxed_of operand.tree)) result }
 {
     match operand.tree.value_type() {
         ValueType::Integer(_) => Judged::Fits(operand),

@@ -1,7 +1,7 @@
 //! The operators before one operand (C99 6.5.3).
 
 ghost use Rattle.std.specs.Prelude.{IfOk};
-ghost use Rattle.c_tree.specs.Erased.{expression_of};
+ghost use Rattle.c_tree.specs.Erased.{boxed_of};
 ghost use Rattle.c_typing.specs.Rows.{unary_row};
 ghost use Rattle.c_operands.specs.Judged.{IsJudged, IsOperand};
 
@@ -21,10 +21,10 @@ pub fn unary(
     operand: Operand,
 ) -> Result<Judged<Operand>, NoMemory>
     requires { IsOperand operand }
-    ensures { IfOk result (λ j. IsJudged (unary_row op at (expression_of operand.tree)) j) }
+    ensures { IfOk result (λ j. IsJudged (unary_row op at (boxed_of operand.tree)) j) }
 {
     match op {
-        RawOp::AddressOf => Ok(address(at, operand)),
+        RawOp::AddressOf => address(alloc, at, operand),
         RawOp::Dereference => dereferenced(alloc, at, operand),
         RawOp::Plus => on_number(alloc, UnaryOp::Plus, at, operand),
         RawOp::Minus => on_number(alloc, UnaryOp::Minus, at, operand),

@@ -1,7 +1,7 @@
 //! The rows of two operands (C99 6.5.5 to 6.5.14 and 6.5.17).
 
 ghost use Rattle.std.specs.Prelude.{◌≡◌, true, IfOk, IfSome};
-ghost use Rattle.c_tree.specs.Erased.{expression_of};
+ghost use Rattle.c_tree.specs.Erased.{boxed_of};
 ghost use Rattle.c_tree.specs.Program.{value_type, Expression as Typed, Binary, And, Or, Comma};
 ghost use Rattle.c_typing.specs.Constants.{is_integer_type};
 ghost use Rattle.c_typing.specs.Rows.{binary_row, joined, row_at, types_of};
@@ -27,10 +27,10 @@ fn binary_of(
 ) -> Result<Operand, NoMemory>
     requires left { IsOperand left }
     requires right { IsOperand right }
-    requires integer { is_integer_type (value_type (expression_of left.tree)) ≡ true
-        → is_integer_type (value_type (expression_of right.tree)) ≡ true → is_integer_type of ≡ true }
+    requires integer { is_integer_type (value_type (boxed_of left.tree)) ≡ true
+        → is_integer_type (value_type (boxed_of right.tree)) ≡ true → is_integer_type of ≡ true }
     ensures { IfOk result (λ o.
-        IsOperandOf (Binary of op (expression_of left.tree) (expression_of right.tree)) o) }
+        IsOperandOf (Binary of op (boxed_of left.tree) (boxed_of right.tree)) o) }
 {
     let constant = left.constant.binary(op, right.constant);
     let tree = Expression::binary(alloc, of, op, left.tree, right.tree)?;
@@ -48,10 +48,10 @@ fn operated(
 ) -> Result<Judged<Operand>, NoMemory>
     requires left { IsOperand left }
     requires right { IsOperand right }
-    requires integer { is_integer_type (value_type (expression_of left.tree)) ≡ true
-        → is_integer_type (value_type (expression_of right.tree)) ≡ true
+    requires integer { is_integer_type (value_type (boxed_of left.tree)) ≡ true
+        → is_integer_type (value_type (boxed_of right.tree)) ≡ true
         → IfSome of (λ t. is_integer_type t ≡ true) }
-    ensures { let a = expression_of left.tree in let b = expression_of right.tree in
+    ensures { let a = boxed_of left.tree in let b = boxed_of right.tree in
         IfOk result (λ j. IsJudged (row_at at (types_of a b) of (λ t. Binary t op a b)) j) }
 {
     match of {
@@ -64,7 +64,7 @@ fn operated(
 fn and_of(alloc: Global, left: Operand, right: Operand) -> Result<Operand, NoMemory>
     requires left { IsOperand left }
     requires right { IsOperand right }
-    ensures { IfOk result (λ o. IsOperandOf (And (expression_of left.tree) (expression_of right.tree)) o) }
+    ensures { IfOk result (λ o. IsOperandOf (And (boxed_of left.tree) (boxed_of right.tree)) o) }
 {
     let constant = left.constant.and(right.constant);
     let tree = Expression::and(alloc, left.tree, right.tree)?;
@@ -75,7 +75,7 @@ fn and_of(alloc: Global, left: Operand, right: Operand) -> Result<Operand, NoMem
 fn or_of(alloc: Global, left: Operand, right: Operand) -> Result<Operand, NoMemory>
     requires left { IsOperand left }
     requires right { IsOperand right }
-    ensures { IfOk result (λ o. IsOperandOf (Or (expression_of left.tree) (expression_of right.tree)) o) }
+    ensures { IfOk result (λ o. IsOperandOf (Or (boxed_of left.tree) (boxed_of right.tree)) o) }
 {
     let constant = left.constant.or(right.constant);
     let tree = Expression::or(alloc, left.tree, right.tree)?;
@@ -84,7 +84,7 @@ fn or_of(alloc: Global, left: Operand, right: Operand) -> Result<Operand, NoMemo
 
 /// `left, right`, which is no constant expression.
 fn comma_of(alloc: Global, left: Operand, right: Operand) -> Result<Operand, NoMemory>
-    ensures { IfOk result (λ o. IsOperandOf (Comma (expression_of left.tree) (expression_of right.tree)) o) }
+    ensures { IfOk result (λ o. IsOperandOf (Comma (boxed_of left.tree) (boxed_of right.tree)) o) }
 {
     let tree = Expression::comma(alloc, left.tree, right.tree)?;
     Ok(Operand {
@@ -97,7 +97,7 @@ fn comma_of(alloc: Global, left: Operand, right: Operand) -> Result<Operand, NoM
 fn and(alloc: Global, at: Span, left: Operand, right: Operand) -> Result<Judged<Operand>, NoMemory>
     requires left { IsOperand left }
     requires right { IsOperand right }
-    ensures { let a = expression_of left.tree in let b = expression_of right.tree in
+    ensures { let a = boxed_of left.tree in let b = boxed_of right.tree in
         IfOk result (λ j. IsJudged (joined And at a b) j) }
 {
     match of_conditions(left.tree.value_type(), right.tree.value_type()) {
@@ -110,7 +110,7 @@ fn and(alloc: Global, at: Span, left: Operand, right: Operand) -> Result<Judged<
 fn or(alloc: Global, at: Span, left: Operand, right: Operand) -> Result<Judged<Operand>, NoMemory>
     requires left { IsOperand left }
     requires right { IsOperand right }
-    ensures { let a = expression_of left.tree in let b = expression_of right.tree in
+    ensures { let a = boxed_of left.tree in let b = boxed_of right.tree in
         IfOk result (λ j. IsJudged (joined Or at a b) j) }
 {
     match of_conditions(left.tree.value_type(), right.tree.value_type()) {
@@ -160,7 +160,7 @@ fn evaluated(
     requires left { IsOperand left }
     requires right { IsOperand right }
     ensures { IfOk result (λ j. IsJudged
-        (joint_row (Evaluates op) at (expression_of left.tree) (expression_of right.tree)) j) }
+        (joint_row (Evaluates op) at (boxed_of left.tree) (boxed_of right.tree)) j) }
 {
     let (t, u) = (left.tree.value_type(), right.tree.value_type());
     let of = type_of(op, t, left.constant.is_null(), u, right.constant.is_null());
@@ -214,7 +214,7 @@ pub fn binary(
     requires left { IsOperand left }
     requires right { IsOperand right }
     ensures { IfOk result (λ j. IsJudged
-        (binary_row op at (expression_of left.tree) (expression_of right.tree)) j) }
+        (binary_row op at (boxed_of left.tree) (boxed_of right.tree)) j) }
 {
     match joint_of(op) {
         Joint::Evaluates(op) => evaluated(alloc, op, at, left, right),

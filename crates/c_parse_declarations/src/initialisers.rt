@@ -78,7 +78,7 @@ fn initialiser(cursor: &mut Cursor<'_>, equal: Span, height: Height) -> Result<I
 {
     let Some(opening) = cursor.take_mark(Punct::LeftBrace) else {
         let found = tree_below(cursor, Rule::Assignment, height, equal)?;
-        return Ok(Initialiser::Single(Box::into_inner(found.tree)));
+        return Ok(Initialiser::Single(found.tree));
     };
     let list = values(cursor, equal, height)?;
     let trailing = cursor.take_mark(Punct::Comma);

@@ -20,7 +20,7 @@ pub fn maybe(
     rule: Rule,
     close: Punct,
     height: Height,
-) -> Result<Option<Expression>, Refusal>
+) -> Result<Option<Box<Expression>>, Refusal>
     requires rule { IsRule rule }
     ensures { IsPartRead maybe_expr_of (maybe_before (reader_of rule (below height.levels)) close) cursor.old.rest.now
         cursor.new.rest.now result }
@@ -32,7 +32,7 @@ pub fn maybe(
         return Err(cursor.no_height());
     };
     let found = tree_of(cursor, rule, lower)?;
-    Ok(Some(Box::into_inner(found.tree)))
+    Ok(Some(found.tree))
 }
 
 /// `specifiers : one or more of auto register static extern const void char short int signed`

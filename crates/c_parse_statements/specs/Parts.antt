@@ -140,9 +140,6 @@ start_of (starts.Declared d) = Declares (declaration_of d)
 abbrev pub for_head_of : ForHead → ForHeadTree
 for_head_of h = (h.opening, start_of h.start, tests_of h.tests)
 
-abbrev pub boxed_head_of : Box ForHead → ForHeadTree
-boxed_head_of b = for_head_of b.value
-
 abbrev pub switch_head_of : SwitchHead → SwitchHeadTree
 switch_head_of h = (condition_of h.value, h.begin)
 

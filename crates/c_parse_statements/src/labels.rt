@@ -21,7 +21,7 @@ fn take_label(cursor: &mut Cursor<'_>, lower: Height) -> Result<Option<Label>, R
         let Some(colon) = cursor.take_mark(Punct::Colon) else {
             return Err(cursor.refusal(FaultKind::Syntax));
         };
-        return Ok(Some(Label::Case(at, Box::into_inner(value.tree), colon)));
+        return Ok(Some(Label::Case(at, value.tree, colon)));
     }
     let Some(at) = cursor.take_word(Keyword::Default) else {
         return Ok(None);

@@ -87,7 +87,7 @@ pub(crate) fn if_node(
     let statement = Statement::If {
         at,
         opening: condition.opening,
-        condition: Box::into_inner(condition.value),
+        condition: condition.value,
         close: condition.close,
         then,
     };
@@ -110,7 +110,7 @@ pub(crate) fn if_else_node(
     let parts = IfElseParts {
         at,
         opening: condition.opening,
-        condition: Box::into_inner(condition.value),
+        condition: condition.value,
         close: condition.close,
         otherwise,
     };
@@ -131,7 +131,7 @@ pub(crate) fn while_node(
     let statement = Statement::While {
         at,
         opening: condition.opening,
-        condition: Box::into_inner(condition.value),
+        condition: condition.value,
         close: condition.close,
         body,
     };
@@ -152,7 +152,7 @@ pub(crate) fn do_node(
         at,
         until: tail.until,
         opening: tail.condition.opening,
-        condition: Box::into_inner(tail.condition.value),
+        condition: tail.condition.value,
         close: tail.condition.close,
         semicolon: tail.semicolon,
     };
@@ -164,18 +164,17 @@ pub(crate) fn do_node(
 pub(crate) fn for_node(
     alloc: Global,
     at: Span,
-    head: Box<ForHead>,
+    head: ForHead,
     body: Box<Statement>,
 ) -> Result<Box<Statement>, NoMemory>
     ensures { IfOk result (λ b. stmt_of b.value
-        ≡ for_of at head.value.opening (start_of head.value.start) (tests_of head.value.tests)
-        (stmt_of body.value)) }
+        ≡ for_of at head.opening (start_of head.start) (tests_of head.tests) (stmt_of body.value)) }
 {
     let ForHead {
         opening,
         start,
         tests,
-    } = Box::into_inner(head);
+    } = head;
     let ForTests { condition, step } = tests;
     match start {
         ForStart::Expressed(start) => {
@@ -222,7 +221,7 @@ pub(crate) fn switch_node(
     let parts = SwitchParts {
         at,
         opening: head.value.opening,
-        value: Box::into_inner(head.value.value),
+        value: head.value.value,
         close: head.value.close,
         begin: head.begin,
         end: items.close,

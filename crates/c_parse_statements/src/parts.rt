@@ -1,7 +1,7 @@
 //! Parts of the rules without a statement in them.
 //!
-//! Where a second part is refused, a first one that holds a tree is dropped by a call of `drop`: a drop in place
-//! is proved over again, through each kind of node, in each function that has one.
+//! Where a second part is refused, a first one that holds a declaration is dropped by a call of `drop`: a drop in
+//! place is proved over again, through each of its parts, in each function that has one.
 
 ghost use Rattle.std.specs.Prelude.{◌≡◌};
 ghost use Rattle.pcc_base.specs.declared.fault.Fault.{Fault};
@@ -9,13 +9,11 @@ ghost use Rattle.pcc_base.specs.declared.refusal.Refusal.TheVariants.{Fault as F
 ghost use Rattle.c_grammar.specs.Declarations.{declaration_of};
 ghost use Rattle.c_grammar.specs.StatementReading.{read_condition};
 ghost use Rattle.c_cursor.specs.Readings.{IsRead};
-ghost use Rattle.c_parse_statements.specs.Parts.{below_node, boxed_head_of, clause_of, condition_of, fields_of};
-ghost use Rattle.c_parse_statements.specs.Parts.{for_head_of};
+ghost use Rattle.c_parse_statements.specs.Parts.{below_node, clause_of, condition_of, fields_of, for_head_of};
 ghost use Rattle.c_parse_statements.specs.Parts.{read_clause, read_do_tail, read_for_head, read_for_start};
 ghost use Rattle.c_parse_statements.specs.Parts.{read_for_tests, read_switch_head, start_of, switch_head_of, tail_of};
 ghost use Rattle.c_parse_statements.specs.Parts.{tests_of};
 
-use crate::nodes::boxed;
 use c_cursor::{Cursor, Height, begins_expression, fault_at};
 use c_lexer::{Punct, TokenKind};
 use c_parse_declarations::{declaration, maybe};
@@ -34,7 +32,7 @@ pub(crate) struct Condition {
 /// `expression?` and the mark that ends it
 #[derive(Drop)]
 pub(crate) struct Clause {
-    pub value: Option<Expression>,
+    pub value: Option<Box<Expression>>,
     pub mark: Span,
 }
 
@@ -120,7 +118,6 @@ pub(crate) fn take_clause(
 {
     let value = maybe(cursor, Rule::Expression, mark, height)?;
     let Some(mark) = cursor.take_mark(mark) else {
-        drop(value);
         return Err(cursor.refusal(FaultKind::Syntax));
     };
     Ok(Clause { value, mark })
@@ -167,18 +164,13 @@ fn for_tests(cursor: &mut Cursor<'_>, height: Height) -> Result<ForTests, Refusa
         cursor.new.rest.now result }
 {
     let condition = take_clause(cursor, Punct::Semicolon, height)?;
-    match take_clause(cursor, Punct::RightParen, height) {
-        Ok(step) => Ok(ForTests { condition, step }),
-        Err(refusal) => {
-            drop(condition);
-            Err(refusal)
-        }
-    }
+    let step = take_clause(cursor, Punct::RightParen, height)?;
+    Ok(ForTests { condition, step })
 }
 
 /// `'(' (expression? ';' | declaration) expression? ';' expression? ')'`, in a `for`
 #[inline(never)]
-fn for_head(cursor: &mut Cursor<'_>, height: Height) -> Result<ForHead, Refusal>
+pub(crate) fn for_head(cursor: &mut Cursor<'_>, height: Height) -> Result<ForHead, Refusal>
     ensures { IsRead for_head_of (read_for_head (below_node height.levels)) cursor.old.rest.now
         cursor.new.rest.now result }
 {
@@ -197,16 +189,6 @@ fn for_head(cursor: &mut Cursor<'_>, height: Height) -> Result<ForHead, Refusal>
             Err(refusal)
         }
     }
-}
-
-/// The same in a box, since it stays while the body is read.
-#[inline(never)]
-pub(crate) fn boxed_head(cursor: &mut Cursor<'_>, height: Height) -> Result<Box<ForHead>, Refusal>
-    ensures { IsRead boxed_head_of (read_for_head (below_node height.levels)) cursor.old.rest.now
-        cursor.new.rest.now result }
-{
-    let head = for_head(cursor, height)?;
-    Ok(boxed(cursor.alloc, head)?)
 }
 
 /// `'(' expression ')' '{'`, in a `switch`, of an expression of at most this height

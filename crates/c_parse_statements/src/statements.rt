@@ -18,7 +18,7 @@ use crate::nodes::{
     switch_node, while_node,
 };
 use crate::parts::{
-    Condition, StatementList, boxed_head, do_tail, no_item_height, parenthesised, switch_head,
+    Condition, StatementList, do_tail, for_head, no_item_height, parenthesised, switch_head,
 };
 use c_cursor::{Cursor, Height};
 use c_lexer::Punct;
@@ -234,7 +234,7 @@ fn for_behind(cursor: &mut Cursor<'_>, at: Span, height: Height) -> Result<Box<S
         cursor.new.rest.now result }
 {
     let lower = height.below(at)?;
-    let head = boxed_head(cursor, height)?;
+    let head = for_head(cursor, height)?;
     match boxed_statement(cursor, lower) {
         Ok(body) => Ok(for_node(cursor.alloc, at, head, body)?),
         Err(refusal) => {

@@ -5,7 +5,7 @@ use pcc_base::Span;
 #[derive(Drop)]
 pub struct ArrayPart {
     pub opening: Span,
-    pub size: Option<Expression>,
+    pub size: Option<Box<Expression>>,
     pub close: Span,
 }
 
@@ -47,7 +47,7 @@ pub struct Declarator {
 /// values, and the one behind the last value.
 #[derive(Drop)]
 pub enum Initialiser {
-    Single(Expression),
+    Single(Box<Expression>),
     List {
         opening: Span,
         values: Vec<Expression>,

@@ -5,7 +5,7 @@ use pcc_base::Span;
 /// `label : 'case' conditional ':' | 'default' ':'` (C99 6.8.1)
 #[derive(Drop)]
 pub enum Label {
-    Case(Span, Expression, Span),
+    Case(Span, Box<Expression>, Span),
     Default(Span, Span),
 }
 
@@ -14,7 +14,7 @@ pub enum Label {
 pub struct IfElseParts {
     pub at: Span,
     pub opening: Span,
-    pub condition: Expression,
+    pub condition: Box<Expression>,
     pub close: Span,
     pub otherwise: Span,
 }
@@ -25,7 +25,7 @@ pub struct DoParts {
     pub at: Span,
     pub until: Span,
     pub opening: Span,
-    pub condition: Expression,
+    pub condition: Box<Expression>,
     pub close: Span,
     pub semicolon: Span,
 }
@@ -35,11 +35,11 @@ pub struct DoParts {
 pub struct ForParts {
     pub at: Span,
     pub opening: Span,
-    pub start: Option<Expression>,
+    pub start: Option<Box<Expression>>,
     pub first: Span,
-    pub condition: Option<Expression>,
+    pub condition: Option<Box<Expression>>,
     pub second: Span,
-    pub step: Option<Expression>,
+    pub step: Option<Box<Expression>>,
     pub close: Span,
 }
 
@@ -49,9 +49,9 @@ pub struct ForDeclarationParts {
     pub at: Span,
     pub opening: Span,
     pub start: Declaration,
-    pub condition: Option<Expression>,
+    pub condition: Option<Box<Expression>>,
     pub second: Span,
-    pub step: Option<Expression>,
+    pub step: Option<Box<Expression>>,
     pub close: Span,
 }
 
@@ -60,14 +60,14 @@ pub struct ForDeclarationParts {
 pub struct SwitchParts {
     pub at: Span,
     pub opening: Span,
-    pub value: Expression,
+    pub value: Box<Expression>,
     pub close: Span,
     pub begin: Span,
     pub end: Span,
 }
 
 /// A statement (C99 6.8). In a block a declaration may stand for one, and in a switch a statement with its
-/// labels. The parts of its largest nodes are in boxes, so that the others take less room.
+/// labels. Its expressions and the parts of its largest nodes are in boxes, so that the others take less room.
 #[derive(Drop)]
 pub enum Statement {
     /// A declaration, in a block alone (C99 6.8.2)
@@ -77,12 +77,12 @@ pub enum Statement {
     /// `'{' (declaration | statement)* '}'`
     Block(Span, Vec<Statement>, Span),
     /// `expression? ';'`
-    Simple(Option<Expression>, Span),
+    Simple(Option<Box<Expression>>, Span),
     /// `'if' '(' expression ')' statement`
     If {
         at: Span,
         opening: Span,
-        condition: Expression,
+        condition: Box<Expression>,
         close: Span,
         then: Box<Statement>,
     },
@@ -92,7 +92,7 @@ pub enum Statement {
     While {
         at: Span,
         opening: Span,
-        condition: Expression,
+        condition: Box<Expression>,
         close: Span,
         body: Box<Statement>,
     },
@@ -109,5 +109,5 @@ pub enum Statement {
     /// `'continue' ';'`
     Continue(Span, Span),
     /// `'return' expression? ';'`
-    Return(Span, Option<Expression>, Span),
+    Return(Span, Option<Box<Expression>>, Span),
 }

@@ -1,5 +1,6 @@
 -- The tree without boxes and vectors that a typed program in memory is.
 use Rattle.std.specs.Prelude.{List, [], ◌∷◌, map, option_map}
+use Rattle.std.specs.Global.{Box}
 use Rattle.c_tree.specs.declared.expression.Expression.{Expression, Row_of-Expression, end_of-Expression}
 use Rattle.c_tree.specs.declared.expression.Expression.{more_of-Expression}
 use Rattle.c_tree.specs.declared.expression.Expression as built
@@ -52,34 +53,38 @@ abbrev mutual
   arguments_of end_of-Expression = typed.NoMore
   arguments_of (more_of-Expression e rest) = typed.Argument (expression_of e) (arguments_of rest)
 
+-- the expression in a box
+abbrev pub boxed_of : Box Expression → typed.Expression
+boxed_of b = expression_of b.value
+
 abbrev pub initialiser_of : Initialiser → typed.Initialiser
 initialiser_of (initialisers.List first) = typed.Elements (map expression_of first.items)
 initialiser_of (initialisers.Text k) = typed.Text k
 
 abbrev pub item_of : Item → typed.Item
-item_of (items.Scalar number local value) = typed.Scalar number local (option_map expression_of value)
+item_of (items.Scalar number local value) = typed.Scalar number local (option_map boxed_of value)
 item_of (items.Array number array element value) = typed.Array number array element (initialiser_of value)
 
 abbrev pub first_of : First → typed.First
 first_of firsts.Nothing = typed.Nothing
-first_of (firsts.Expression e) = typed.Evaluated (expression_of e)
+first_of (firsts.Expression e) = typed.Evaluated (boxed_of e)
 first_of (firsts.Items is) = typed.Declared (map item_of is.items)
 
 abbrev mutual
   pub statement_of : Statement → typed.Statement
   statement_of (statements.Declare item) = typed.Declare (item_of item)
   statement_of (statements.Empty n) = typed.Empty n
-  statement_of (statements.Expression n e) = typed.Evaluate n (expression_of e)
+  statement_of (statements.Expression n e) = typed.Evaluate n (boxed_of e)
   statement_of (statements.Block' shape body) = typed.Block (row_of body)
-  statement_of (statements.If' n e p a q b) = typed.If n (expression_of e) (statement_of a) (statement_of b)
-  statement_of (statements.While' n e p s) = typed.While n (expression_of e) (statement_of s)
-  statement_of (statements.Do' n p s e) = typed.Do n (statement_of s) (expression_of e)
-  statement_of (statements.For' n first test after p s) = typed.For n (first_of first) (option_map expression_of test)
-      (option_map expression_of after) (statement_of s)
-  statement_of (statements.Switch' n e labels shape body) = typed.Switch n (expression_of e) labels.items (row_of body)
+  statement_of (statements.If' n e p a q b) = typed.If n (boxed_of e) (statement_of a) (statement_of b)
+  statement_of (statements.While' n e p s) = typed.While n (boxed_of e) (statement_of s)
+  statement_of (statements.Do' n p s e) = typed.Do n (statement_of s) (boxed_of e)
+  statement_of (statements.For' n first test after p s) = typed.For n (first_of first) (option_map boxed_of test)
+      (option_map boxed_of after) (statement_of s)
+  statement_of (statements.Switch' n e labels shape body) = typed.Switch n (boxed_of e) labels.items (row_of body)
   statement_of (statements.Break n) = typed.Break n
   statement_of (statements.Continue n) = typed.Continue n
-  statement_of (statements.Return n value) = typed.Return n (option_map expression_of value)
+  statement_of (statements.Return n value) = typed.Return n (option_map boxed_of value)
 
   pub row_of : {m : _} → Row_of-Statement m → typed.Statements
   row_of end_of-Statement = typed.Done

@@ -1,12 +1,12 @@
 //! Expressions and the places that they name (C99 6.5).
 
 ghost use Rattle.std.specs.Prelude.{◌≡◌, IfOk};
-ghost use Rattle.c_tree.specs.Erased.{expression_of, place_of};
+ghost use Rattle.c_tree.specs.Erased.{boxed_of, expression_of, place_of};
 ghost use Rattle.c_tree.specs.Program as typed;
 ghost use Rattle.c_tree.specs.Program.{value_type};
 
 use crate::types::{IntegerType, ValueType};
-use pcc_base::{NoMemory, boxed, boxed_both};
+use pcc_base::NoMemory;
 use std::alloc::Global;
 
 /// The operators on one operand (C99 6.5.3.3).
@@ -117,11 +117,11 @@ impl Expression {
         alloc: Global,
         of: IntegerType,
         op: UnaryOp,
-        operand: Expression,
-    ) -> Result<Self, NoMemory>
-        ensures { IfOk result (λ e. expression_of e ≡ typed.Unary of op (expression_of operand)) }
+        operand: Box<Expression>,
+    ) -> Result<Box<Self>, NoMemory>
+        ensures { IfOk result (λ e. boxed_of e ≡ typed.Unary of op (boxed_of operand)) }
     {
-        Ok(Expression::Unary(of, op, Box::new(alloc, operand)?))
+        Ok(Box::new(alloc, Expression::Unary(of, op, operand))?)
     }
 
     /// An operator on two operands, with the type of its result.
@@ -129,57 +129,59 @@ impl Expression {
         alloc: Global,
         of: ValueType,
         op: BinaryOp,
-        left: Expression,
-        right: Expression,
-    ) -> Result<Self, NoMemory>
-        ensures { IfOk result (λ e.
-            expression_of e ≡ typed.Binary of op (expression_of left) (expression_of right)) }
+        left: Box<Expression>,
+        right: Box<Expression>,
+    ) -> Result<Box<Self>, NoMemory>
+        ensures { IfOk result (λ e. boxed_of e ≡ typed.Binary of op (boxed_of left) (boxed_of right)) }
     {
-        let (left, right) = boxed_both(alloc, left, right)?;
-        Ok(Expression::Binary(of, op, left, right))
+        Ok(Box::new(alloc, Expression::Binary(of, op, left, right))?)
     }
 
     /// `left && right`.
-    pub fn and(alloc: Global, left: Expression, right: Expression) -> Result<Self, NoMemory>
-        ensures { IfOk result (λ e.
-            expression_of e ≡ typed.And (expression_of left) (expression_of right)) }
+    pub fn and(
+        alloc: Global,
+        left: Box<Expression>,
+        right: Box<Expression>,
+    ) -> Result<Box<Self>, NoMemory>
+        ensures { IfOk result (λ e. boxed_of e ≡ typed.And (boxed_of left) (boxed_of right)) }
     {
-        let (left, right) = boxed_both(alloc, left, right)?;
-        Ok(Expression::And(left, right))
+        Ok(Box::new(alloc, Expression::And(left, right))?)
     }
 
     /// `left || right`.
-    pub fn or(alloc: Global, left: Expression, right: Expression) -> Result<Self, NoMemory>
-        ensures { IfOk result (λ e.
-            expression_of e ≡ typed.Or (expression_of left) (expression_of right)) }
+    pub fn or(
+        alloc: Global,
+        left: Box<Expression>,
+        right: Box<Expression>,
+    ) -> Result<Box<Self>, NoMemory>
+        ensures { IfOk result (λ e. boxed_of e ≡ typed.Or (boxed_of left) (boxed_of right)) }
     {
-        let (left, right) = boxed_both(alloc, left, right)?;
-        Ok(Expression::Or(left, right))
+        Ok(Box::new(alloc, Expression::Or(left, right))?)
     }
 
     /// `test ? first : second`, with the type of its value.
     pub fn conditional(
         alloc: Global,
         of: ValueType,
-        test: Expression,
-        first: Expression,
-        second: Expression,
-    ) -> Result<Self, NoMemory>
+        test: Box<Expression>,
+        first: Box<Expression>,
+        second: Box<Expression>,
+    ) -> Result<Box<Self>, NoMemory>
         ensures { IfOk result (λ e.
-            expression_of e
-            ≡ typed.Conditional of (expression_of test) (expression_of first) (expression_of second)) }
+            boxed_of e ≡ typed.Conditional of (boxed_of test) (boxed_of first) (boxed_of second)) }
     {
-        let (test, (first, second)) = boxed(alloc, test, (first, second))?;
-        let (first, (test, second)) = boxed(alloc, first, (test, second))?;
-        let (second, (test, first)) = boxed(alloc, second, (test, first))?;
-        Ok(Expression::Conditional(of, test, first, second))
+        Ok(Box::new(alloc, Expression::Conditional(of, test, first, second))?)
     }
 
     /// A cast to a type.
-    pub fn cast(alloc: Global, to: ValueType, operand: Expression) -> Result<Self, NoMemory>
-        ensures { IfOk result (λ e. expression_of e ≡ typed.Cast to (expression_of operand)) }
+    pub fn cast(
+        alloc: Global,
+        to: ValueType,
+        operand: Box<Expression>,
+    ) -> Result<Box<Self>, NoMemory>
+        ensures { IfOk result (λ e. boxed_of e ≡ typed.Cast to (boxed_of operand)) }
     {
-        Ok(Expression::Cast(to, Box::new(alloc, operand)?))
+        Ok(Box::new(alloc, Expression::Cast(to, operand))?)
     }
 
     /// `place = value`, with the type of the place.
@@ -187,13 +189,11 @@ impl Expression {
         alloc: Global,
         of: ValueType,
         place: Place,
-        value: Expression,
-    ) -> Result<Self, NoMemory>
-        ensures { IfOk result (λ e.
-            expression_of e ≡ typed.Assign of (place_of place) (expression_of value)) }
+        value: Box<Expression>,
+    ) -> Result<Box<Self>, NoMemory>
+        ensures { IfOk result (λ e. boxed_of e ≡ typed.Assign of (place_of place) (boxed_of value)) }
     {
-        let (value, place) = boxed(alloc, value, place)?;
-        Ok(Expression::Assign(of, place, value))
+        Ok(Box::new(alloc, Expression::Assign(of, place, value))?)
     }
 
     /// An assignment with an operator, with the type of the place.
@@ -202,36 +202,36 @@ impl Expression {
         of: ValueType,
         op: BinaryOp,
         place: Place,
-        value: Expression,
-    ) -> Result<Self, NoMemory>
-        ensures { IfOk result (λ e.
-            expression_of e ≡ typed.Update of op (place_of place) (expression_of value)) }
+        value: Box<Expression>,
+    ) -> Result<Box<Self>, NoMemory>
+        ensures { IfOk result (λ e. boxed_of e ≡ typed.Update of op (place_of place) (boxed_of value)) }
     {
-        let (value, place) = boxed(alloc, value, place)?;
-        Ok(Expression::Update(of, op, place, value))
+        Ok(Box::new(alloc, Expression::Update(of, op, place, value))?)
     }
 
     /// `left, right`.
-    pub fn comma(alloc: Global, left: Expression, right: Expression) -> Result<Self, NoMemory>
-        ensures { IfOk result (λ e.
-            expression_of e ≡ typed.Comma (expression_of left) (expression_of right)) }
+    pub fn comma(
+        alloc: Global,
+        left: Box<Expression>,
+        right: Box<Expression>,
+    ) -> Result<Box<Self>, NoMemory>
+        ensures { IfOk result (λ e. boxed_of e ≡ typed.Comma (boxed_of left) (boxed_of right)) }
     {
-        let (left, right) = boxed_both(alloc, left, right)?;
-        Ok(Expression::Comma(left, right))
+        Ok(Box::new(alloc, Expression::Comma(left, right))?)
     }
 
     /// `putchar(operand)`.
-    pub fn putchar(alloc: Global, operand: Expression) -> Result<Self, NoMemory>
-        ensures { IfOk result (λ e. expression_of e ≡ typed.Putchar (expression_of operand)) }
+    pub fn putchar(alloc: Global, operand: Box<Expression>) -> Result<Box<Self>, NoMemory>
+        ensures { IfOk result (λ e. boxed_of e ≡ typed.Putchar (boxed_of operand)) }
     {
-        Ok(Expression::Putchar(Box::new(alloc, operand)?))
+        Ok(Box::new(alloc, Expression::Putchar(operand))?)
     }
 
     /// `exit(operand)`.
-    pub fn exit(alloc: Global, operand: Expression) -> Result<Self, NoMemory>
-        ensures { IfOk result (λ e. expression_of e ≡ typed.Exit (expression_of operand)) }
+    pub fn exit(alloc: Global, operand: Box<Expression>) -> Result<Box<Self>, NoMemory>
+        ensures { IfOk result (λ e. boxed_of e ≡ typed.Exit (boxed_of operand)) }
     {
-        Ok(Expression::Exit(Box::new(alloc, operand)?))
+        Ok(Box::new(alloc, Expression::Exit(operand))?)
     }
 
     /// The type of the expression's value; that of a place that is read is the place's.
@@ -258,32 +258,5 @@ impl Expression {
             | Expression::Putchar(_)
             | Expression::Getchar => ValueType::Integer(IntegerType::Int),
         }
-    }
-}
-
-impl Place {
-    /// `*pointer`.
-    pub fn target(
-        alloc: Global,
-        element: IntegerType,
-        pointer: Expression,
-    ) -> Result<Self, NoMemory>
-        ensures { IfOk result (λ e. place_of e ≡ typed.Target element (expression_of pointer)) }
-    {
-        Ok(Place::Target(element, Box::new(alloc, pointer)?))
-    }
-
-    /// `array[index]`.
-    pub fn element(
-        alloc: Global,
-        element: IntegerType,
-        array: Expression,
-        index: Expression,
-    ) -> Result<Self, NoMemory>
-        ensures { IfOk result (λ e.
-            place_of e ≡ typed.Element element (expression_of array) (expression_of index)) }
-    {
-        let (array, index) = boxed_both(alloc, array, index)?;
-        Ok(Place::Element(element, array, index))
     }
 }

@@ -2,7 +2,7 @@
 //! item that isn't static, has its number: they are numbered together from 0 in the order of the text.
 
 ghost use Rattle.std.specs.Prelude.{◌≡◌, IfOk, option_map};
-ghost use Rattle.c_tree.specs.Erased.{expression_of, first_of, statement_of};
+ghost use Rattle.c_tree.specs.Erased.{boxed_of, first_of, statement_of};
 ghost use Rattle.c_tree.specs.Program as typed;
 
 use crate::expression::Expression;
@@ -23,7 +23,7 @@ pub enum Initialiser {
 #[derive(Drop)]
 pub enum Item {
     /// A local that is no array, by its number, and its initialiser.
-    Scalar(u32, u32, Option<Expression>),
+    Scalar(u32, u32, Option<Box<Expression>>),
     /// An array of the function, by its number, the type of its elements, and what it holds at first.
     Array(u32, u32, IntegerType, Initialiser),
 }
@@ -32,7 +32,7 @@ pub enum Item {
 #[derive(Drop)]
 pub enum First {
     Nothing,
-    Expression(Expression),
+    Expression(Box<Expression>),
     Items(Vec<Item>),
 }
 
@@ -44,23 +44,24 @@ pub struct Label {
     pub before: u32,
 }
 
-/// A statement (C99 6.8). All but blocks have their number first.
+/// A statement (C99 6.8). All but blocks have their number first. Its expressions are in boxes, so that it takes little
+/// room.
 #[derive(Drop)]
 pub enum Statement {
     Declare(Item),
     Empty(u32),
-    Expression(u32, Expression),
+    Expression(u32, Box<Expression>),
     Block(Vec<Statement>),
     /// An `if`; an `else` that isn't there is an empty block.
-    If(u32, Expression, Box<Statement>, Box<Statement>),
-    While(u32, Expression, Box<Statement>),
-    Do(u32, Box<Statement>, Expression),
+    If(u32, Box<Expression>, Box<Statement>, Box<Statement>),
+    While(u32, Box<Expression>, Box<Statement>),
+    Do(u32, Box<Statement>, Box<Expression>),
     /// A `for`: its first part, its test, what follows each turn, and its body.
-    For(u32, First, Option<Expression>, Option<Expression>, Box<Statement>),
-    Switch(u32, Expression, Vec<Label>, Vec<Statement>),
+    For(u32, First, Option<Box<Expression>>, Option<Box<Expression>>, Box<Statement>),
+    Switch(u32, Box<Expression>, Vec<Label>, Vec<Statement>),
     Break(u32),
     Continue(u32),
-    Return(u32, Option<Expression>),
+    Return(u32, Option<Box<Expression>>),
 }
 
 impl Statement {
@@ -68,13 +69,13 @@ impl Statement {
     pub fn if_else(
         alloc: Global,
         number: u32,
-        test: Expression,
+        test: Box<Expression>,
         first: Statement,
         second: Statement,
     ) -> Result<Self, NoMemory>
         ensures { IfOk result (λ s.
             statement_of s
-            ≡ typed.If number (expression_of test) (statement_of first) (statement_of second)) }
+            ≡ typed.If number (boxed_of test) (statement_of first) (statement_of second)) }
     {
         let (first, (test, second)) = boxed(alloc, first, (test, second))?;
         let (second, (test, first)) = boxed(alloc, second, (test, first))?;
@@ -85,11 +86,11 @@ impl Statement {
     pub fn while_loop(
         alloc: Global,
         number: u32,
-        test: Expression,
+        test: Box<Expression>,
         body: Statement,
     ) -> Result<Self, NoMemory>
         ensures { IfOk result (λ s.
-            statement_of s ≡ typed.While number (expression_of test) (statement_of body)) }
+            statement_of s ≡ typed.While number (boxed_of test) (statement_of body)) }
     {
         let (body, test) = boxed(alloc, body, test)?;
         Ok(Statement::While(number, test, body))
@@ -100,10 +101,10 @@ impl Statement {
         alloc: Global,
         number: u32,
         body: Statement,
-        test: Expression,
+        test: Box<Expression>,
     ) -> Result<Self, NoMemory>
         ensures { IfOk result (λ s.
-            statement_of s ≡ typed.Do number (statement_of body) (expression_of test)) }
+            statement_of s ≡ typed.Do number (statement_of body) (boxed_of test)) }
     {
         let (body, test) = boxed(alloc, body, test)?;
         Ok(Statement::Do(number, body, test))
@@ -114,14 +115,14 @@ impl Statement {
         alloc: Global,
         number: u32,
         first: First,
-        test: Option<Expression>,
-        after: Option<Expression>,
+        test: Option<Box<Expression>>,
+        after: Option<Box<Expression>>,
         body: Statement,
     ) -> Result<Self, NoMemory>
         ensures { IfOk result (λ s.
             statement_of s
-            ≡ typed.For number (first_of first) (option_map expression_of test)
-            (option_map expression_of after) (statement_of body)) }
+            ≡ typed.For number (first_of first) (option_map boxed_of test)
+            (option_map boxed_of after) (statement_of body)) }
     {
         let (body, (first, test, after)) = boxed(alloc, body, (first, test, after))?;
         Ok(Statement::For(number, first, test, after, body))

@@ -104,7 +104,7 @@ fn push_maybe(
     alloc: Global,
     out: &mut String,
     before: &str,
-    expression: &Option<Expression>,
+    expression: &Option<Box<Expression>>,
     behind: &str,
 ) -> Result<(), AllocError> {
     match expression {
@@ -166,8 +166,8 @@ fn push_labels(alloc: Global, out: &mut String, labels: &[Label]) -> Result<(), 
 fn push_control(
     alloc: Global,
     out: &mut String,
-    condition: &Option<Expression>,
-    step: &Option<Expression>,
+    condition: &Option<Box<Expression>>,
+    step: &Option<Box<Expression>>,
 ) -> Result<(), AllocError> {
     push_maybe(alloc, out, "", condition, ";")?;
     push_maybe(alloc, out, "", step, "")

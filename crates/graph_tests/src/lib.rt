@@ -1,5 +1,7 @@
-//! Tests of the public calls of `flow_graph` (`graphs`), `liveness` (`live_points`) and `elementary_form` (`forms`).
-//! The first two build their graphs by the steps in `building`.
+//! Tests of the public calls of `flow_graph` (`graphs`), `liveness` (`live_points`) and `elementary_form` (`forms`),
+//! whose graphs are built by the steps in `building`; and of `puzzle_board`, `puzzle_solver`, `spiller` and
+//! `puzzle_texts`: rows worked by hand (`rows`), every small board compared with a plain search (`search`), boards and
+//! placements as texts (`texts`), and a map of points (`maps`).
 //!
 //! They stand in a crate of their own since a crate with tests is proved a second time; this one needs only
 //! what those crates promise.
@@ -13,3 +15,13 @@ mod forms;
 mod graphs;
 #[cfg(test)]
 mod live_points;
+#[cfg(test)]
+mod maps;
+#[cfg(test)]
+mod rows;
+#[cfg(test)]
+mod search;
+#[cfg(test)]
+mod solving;
+#[cfg(test)]
+mod texts;

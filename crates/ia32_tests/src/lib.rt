@@ -1,6 +1,7 @@
 //! Tests of the public calls of the crates `ia32_..`: what registers, memory and arithmetic do (`registers`,
 //! `memory`, `arithmetic`), the bytes of instructions there and back (`spellings`, `decoding`), the sections of items
-//! (`items`), the items of a function (`functions`), and runs of images (`machine`).
+//! (`items`), the items of a function (`functions`), and runs of images (`machine`); and of `elf_image` (`images`),
+//! `elf_link` (`linking`) and `pcc_listing` (`maps`).
 //!
 //! They stand in a crate of their own since a crate with tests is proved a second time; this one needs only
 //! what those crates promise.
@@ -21,9 +22,15 @@ mod decoding;
 #[cfg(test)]
 mod functions;
 #[cfg(test)]
+mod images;
+#[cfg(test)]
 mod items;
 #[cfg(test)]
+mod linking;
+#[cfg(test)]
 mod machine;
+#[cfg(test)]
+mod maps;
 #[cfg(test)]
 mod memory;
 #[cfg(test)]

@@ -59,6 +59,8 @@ pub fn emit(
         Expression::Address(t, place) => address(lines, site, level, wanted, *t, place),
         Expression::Unary(_, operator, a) => unary(lines, site, level, wanted, *operator, a),
         Expression::Binary(_, operator, a, b) => {
+            let a: &Expression = a;
+            let b: &Expression = b;
             let x = stood(lines, site, level, is_simple(b), a)?;
             operate(lines, site, level, wanted, *operator, part_type(a), x, b)
         }
@@ -86,10 +88,12 @@ pub fn emit(
         }
         Expression::Cast(to, a) => typed(lines, site, level, wanted, *to, a),
         Expression::Assign(of, place, a) => {
+            let a: &Expression = a;
             let found = find(lines, site, level, is_simple(a), place)?;
             assign(lines, site, level, wanted, *of, found, a)
         }
         Expression::Update(of, operator, place, a) => {
+            let a: &Expression = a;
             let found = find(lines, site, level, is_simple(a), place)?;
             update(lines, site, level, wanted, *of, *operator, found, a)
         }
@@ -328,6 +332,8 @@ fn address(
         Place::Static(k) => start(lines, site, level, wanted, t, ArrayRef::Static(*k)),
         Place::Target(_, e) => emit(lines, site, level, wanted, e),
         Place::Element(_, a, i) => {
+            let a: &Expression = a;
+            let i: &Expression = i;
             let x = stood(lines, site, level, is_simple(i), a)?;
             operate(
                 lines,

@@ -24,21 +24,24 @@ pub fn bytes_of(t: IntegerType) -> u8
     }
 }
 
+/// More widths behind those that there are.
+fn add(widths: &mut Vec<Width>, more: &[Width]) -> Result<(), NoMemory>
+    ensures { OnOk result (widths.new.items ≡ widths.old.items ++ more.now) }
+{
+    widths.extend_from_slice(more)?;
+    Ok(())
+}
+
 /// The widths of the variables of a local.
 fn add_type(widths: &mut Vec<Width>, of: ValueType) -> Result<(), NoMemory>
     ensures { OnOk result (widths.new.items ≡ widths.old.items ++ type_widths of) }
 {
     match of {
-        ValueType::Void => {}
-        ValueType::Integer(IntegerType::Char) => widths.push(Width::One)?,
-        ValueType::Integer(IntegerType::Short) => widths.push(Width::Two)?,
-        ValueType::Integer(IntegerType::Int) => widths.push(Width::Two)?,
-        ValueType::Pointer(_) => {
-            widths.push(Width::Two)?;
-            widths.push(Width::Two)?;
-        }
+        ValueType::Void => Ok(()),
+        ValueType::Integer(IntegerType::Char) => add(widths, &[Width::One]),
+        ValueType::Integer(IntegerType::Short | IntegerType::Int) => add(widths, &[Width::Two]),
+        ValueType::Pointer(_) => add(widths, &[Width::Two, Width::Two]),
     }
-    Ok(())
 }
 
 /// The widths of the variables of locals, in order.
@@ -55,12 +58,10 @@ fn add_locals(widths: &mut Vec<Width>, locals: &[Local]) -> Result<(), NoMemory>
 fn add_level(widths: &mut Vec<Width>) -> Result<(), NoMemory>
     ensures { OnOk result (widths.new.items ≡ widths.old.items ++ level_widths) }
 {
-    widths.push(Width::Two)?;
-    widths.push(Width::Two)?;
-    widths.push(Width::Two)?;
-    widths.push(Width::Two)?;
-    widths.push(Width::One)?;
-    Ok(())
+    add(
+        widths,
+        &[Width::Two, Width::Two, Width::Two, Width::Two, Width::One],
+    )
 }
 
 /// The widths of the temporaries of so many levels.
@@ -77,9 +78,9 @@ fn add_levels(widths: &mut Vec<Width>, levels: u32) -> Result<(), NoMemory>
 pub fn widths_of(alloc: Global, function: &Function) -> Result<Vec<Width>, NoMemory>
     ensures { IfOk result (λ widths. widths.items ≡ variable_widths (function_of function.now)) }
 {
+    let levels = plus(statements_height(function.body.as_slice())?, 2)?;
     let mut widths = Vec::new(alloc);
     add_locals(&mut widths, function.locals.as_slice())?;
-    let levels = plus(statements_height(function.body.as_slice())?, 2)?;
     add_levels(&mut widths, levels)?;
     Ok(widths)
 }

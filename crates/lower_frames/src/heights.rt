@@ -1,7 +1,8 @@
 //! How many temporaries expressions take at once: the heights of trees.
 
-ghost use Rattle.std.specs.Prelude.{◌≡◌, IfOk, map, option_map};
-ghost use Rattle.c_tree.specs.Erased.{expression_of, first_of, item_of, place_of, statement_of, statements_of};
+ghost use Rattle.std.specs.Prelude.{◌≡◌, ℕ, suc, max, IfOk, map, option_map};
+ghost use Rattle.c_tree.specs.Erased.{boxed_of, expression_of, first_of, item_of, place_of};
+ghost use Rattle.c_tree.specs.Erased.{statement_of, statements_of};
 ghost use Rattle.c_tree.specs.Sizes as sizes;
 ghost use Rattle.lower_frames.specs.Lists.{arguments_list};
 
@@ -9,52 +10,53 @@ use c_tree::{Expression, First, Initialiser, Item, Place, Statement};
 use lower_builder::plus;
 use pcc_base::NoMemory;
 
+/// A height above one more value.
+fn on_one(height: Result<u32, NoMemory>) -> Result<u32, NoMemory>
+    ensures { (h : ℕ) → IfOk height (λ n. n ≡ h) → IfOk result (λ n. n ≡ suc h) }
+{
+    plus(height?, 1)
+}
+
+/// The higher of two heights.
+fn higher(one: Result<u32, NoMemory>, other: Result<u32, NoMemory>) -> Result<u32, NoMemory>
+    ensures { (g h : ℕ) → IfOk one (λ n. n ≡ g) → IfOk other (λ n. n ≡ h) → IfOk result (λ n. n ≡ max g h) }
+{
+    Ok(one?.max(other?))
+}
+
+/// The height of two parts in turn: the value of the first stays while the second is evaluated.
+fn in_turn(first: Result<u32, NoMemory>, second: Result<u32, NoMemory>) -> Result<u32, NoMemory>
+    ensures { (g h : ℕ) → IfOk first (λ n. n ≡ g) → IfOk second (λ n. n ≡ h)
+        → IfOk result (λ n. n ≡ max g (suc h)) }
+{
+    higher(first, on_one(second))
+}
+
 /// The height of an expression.
 #[cycle(height)]
 pub fn height(e: &Expression) -> Result<u32, NoMemory>
     ensures { IfOk result (λ h. h ≡ sizes.height (expression_of e.now)) }
 {
     match e {
-        Expression::Constant(_, _) => Ok(1),
-        Expression::Start(_, _) => Ok(1),
+        Expression::Constant(_, _) | Expression::Start(_, _) | Expression::Getchar => Ok(1),
         Expression::Read(_, place) => place_height(place),
-        Expression::Address(_, place) => plus(place_height(place)?, 1),
-        Expression::Unary(_, _, a) => plus(height(a)?, 1),
-        Expression::Binary(_, _, a, b) => {
-            let left = height(a)?;
-            Ok(left.max(plus(height(b)?, 1)?))
+        Expression::Address(_, place) | Expression::Step(_, _, place) => {
+            on_one(place_height(place))
         }
-        Expression::And(a, b) => {
-            let left = height(a)?;
-            Ok(left.max(height(b)?))
-        }
-        Expression::Or(a, b) => {
-            let left = height(a)?;
-            Ok(left.max(height(b)?))
-        }
+        Expression::Unary(_, _, a) | Expression::Cast(_, a) => on_one(height(a)),
+        Expression::Binary(_, _, a, b) | Expression::Comma(a, b) => in_turn(height(a), height(b)),
+        Expression::And(a, b) | Expression::Or(a, b) => higher(height(a), height(b)),
         Expression::Conditional(_, t, a, b) => {
-            let test = height(t)?;
-            let first = height(a)?;
-            Ok(test.max(first.max(height(b)?)))
+            let chosen = higher(height(a), height(b));
+            higher(height(t), chosen)
         }
-        Expression::Cast(_, a) => plus(height(a)?, 1),
-        Expression::Assign(_, place, a) => {
-            let left = place_height(place)?;
-            plus(left.max(plus(height(a)?, 1)?), 1)
+        Expression::Assign(_, place, a) | Expression::Update(_, _, place, a) => {
+            on_one(in_turn(place_height(place), height(a)))
         }
-        Expression::Update(_, _, place, a) => {
-            let left = place_height(place)?;
-            plus(left.max(plus(height(a)?, 1)?), 1)
+        Expression::Call(_, _, arguments) => {
+            higher(Ok(1), arguments_height(arguments.as_slice()))
         }
-        Expression::Step(_, _, place) => plus(place_height(place)?, 1),
-        Expression::Comma(a, b) => {
-            let left = height(a)?;
-            Ok(left.max(plus(height(b)?, 1)?))
-        }
-        Expression::Call(_, _, arguments) => Ok(arguments_height(arguments.as_slice())?.max(1)),
-        Expression::Putchar(a) => Ok(height(a)?.max(1)),
-        Expression::Getchar => Ok(1),
-        Expression::Exit(a) => Ok(height(a)?.max(1)),
+        Expression::Putchar(a) | Expression::Exit(a) => higher(Ok(1), height(a)),
     }
 }
 
@@ -64,13 +66,9 @@ fn place_height(place: &Place) -> Result<u32, NoMemory>
     ensures { IfOk result (λ h. h ≡ sizes.place_height (place_of place.now)) }
 {
     match place {
-        Place::Local(_) => Ok(1),
-        Place::Static(_) => Ok(1),
-        Place::Target(_, e) => plus(height(e)?, 1),
-        Place::Element(_, a, i) => {
-            let left = height(a)?;
-            Ok(left.max(plus(height(i)?, 1)?))
-        }
+        Place::Local(_) | Place::Static(_) => Ok(1),
+        Place::Target(_, e) => on_one(height(e)),
+        Place::Element(_, a, i) => in_turn(height(a), height(i)),
     }
 }
 
@@ -111,8 +109,8 @@ fn items_height(items: &[Item]) -> Result<u32, NoMemory>
 }
 
 /// The height of an expression, if there is one.
-fn option_height(e: &Option<Expression>) -> Result<u32, NoMemory>
-    ensures { IfOk result (λ h. h ≡ sizes.option_height (option_map expression_of e.now)) }
+fn option_height(e: &Option<Box<Expression>>) -> Result<u32, NoMemory>
+    ensures { IfOk result (λ h. h ≡ sizes.option_height (option_map boxed_of e.now)) }
 {
     match e {
         Some(e) => height(e),
@@ -150,34 +148,22 @@ fn statement_height(s: &Statement) -> Result<u32, NoMemory>
 {
     match s {
         Statement::Declare(item) => item_height(item),
-        Statement::Empty(_) => Ok(0),
+        Statement::Empty(_) | Statement::Break(_) | Statement::Continue(_) => Ok(0),
         Statement::Expression(_, e) => height(e),
         Statement::Block(body) => statements_height(body.as_slice()),
         Statement::If(_, e, a, b) => {
-            let test = height(e)?;
-            let first = statement_height(a)?;
-            Ok(test.max(first.max(statement_height(b)?)))
+            let branches = higher(statement_height(a), statement_height(b));
+            higher(height(e), branches)
         }
-        Statement::While(_, e, body) => {
-            let test = height(e)?;
-            Ok(test.max(statement_height(body)?))
-        }
-        Statement::Do(_, body, e) => {
-            let inside = statement_height(body)?;
-            Ok(inside.max(height(e)?))
-        }
+        Statement::While(_, e, body) => higher(height(e), statement_height(body)),
+        Statement::Do(_, body, e) => higher(statement_height(body), height(e)),
         Statement::For(_, first, test, after, body) => {
-            let start = first_height(first)?;
-            let inside = statement_height(body)?;
-            let tests = option_height(test)?;
-            Ok(start.max(inside).max(tests.max(option_height(after)?)))
+            let once = higher(first_height(first), statement_height(body));
+            higher(once, higher(option_height(test), option_height(after)))
         }
         Statement::Switch(_, e, _, body) => {
-            let value = plus(height(e)?, 1)?;
-            Ok(value.max(statements_height(body.as_slice())?))
+            higher(on_one(height(e)), statements_height(body.as_slice()))
         }
-        Statement::Break(_) => Ok(0),
-        Statement::Continue(_) => Ok(0),
         Statement::Return(_, value) => option_height(value),
     }
 }

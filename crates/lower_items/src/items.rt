@@ -1,7 +1,7 @@
 //! Declared items and their initialisers (C99 6.7.8).
 
 ghost use Rattle.std.specs.Prelude.{◌∷◌, [], ◌++◌, OnOk, map, option_map, pos, true, Some};
-ghost use Rattle.c_tree.specs.Erased.{expression_of, first_of, initialiser_of, item_of};
+ghost use Rattle.c_tree.specs.Erased.{boxed_of, expression_of, first_of, initialiser_of, item_of};
 ghost use Rattle.flow_graph.specs.declared.op.Op.TheVariants as op;
 ghost use Rattle.lower_builder.specs.Built.{Adds};
 ghost use Rattle.lower_lines.specs.Expressions.{part_of};
@@ -46,11 +46,11 @@ fn scalar(
     lines: &mut Lines,
     site: &Site<'_>,
     local: u32,
-    value: &Option<Expression>,
+    value: &Option<Box<Expression>>,
 ) -> Result<(), NoMemory>
     ensures { OnOk result (Adds lines.old lines.new
-        (local_blocks (context_of site.now) local (option_map expression_of value.now))
-        (local_lines (context_of site.now) local (option_map expression_of value.now) lines.old.next)) }
+        (local_blocks (context_of site.now) local (option_map boxed_of value.now))
+        (local_lines (context_of site.now) local (option_map boxed_of value.now) lines.old.next)) }
 {
     match value {
         None => zero(lines, site, local),

@@ -1,7 +1,7 @@
 //! What stands in a statement beside other statements (C99 6.8).
 
 ghost use Rattle.std.specs.Prelude.{◌≡◌, ◌+◌, ◌∷◌, [], suc, IfOk, OnOk, option_map, true, Some};
-ghost use Rattle.c_tree.specs.Erased.{expression_of, first_of, statement_of, statements_of};
+ghost use Rattle.c_tree.specs.Erased.{boxed_of, expression_of, first_of, statement_of, statements_of};
 ghost use Rattle.flow_graph.specs.declared.op.Op.TheVariants as op;
 ghost use Rattle.lower_builder.specs.Built.{Adds};
 ghost use Rattle.lower_items.specs.Fronts.{do_end, do_front, for_front, if_front, returned_whole};
@@ -67,10 +67,10 @@ pub fn go(lines: &mut Lines, n: u32, to: u32, after: After) -> Result<(), NoMemo
 }
 
 /// The value that a function returns, and the return.
-fn give(lines: &mut Lines, site: &Site<'_>, value: &Option<Expression>) -> Result<(), NoMemory>
+fn give(lines: &mut Lines, site: &Site<'_>, value: &Option<Box<Expression>>) -> Result<(), NoMemory>
     ensures { OnOk result (Adds lines.old lines.new
-        (returned_blocks (context_of site.now) (option_map expression_of value.now))
-        (returned_lines (context_of site.now) (option_map expression_of value.now) lines.old.next)) }
+        (returned_blocks (context_of site.now) (option_map boxed_of value.now))
+        (returned_lines (context_of site.now) (option_map boxed_of value.now) lines.old.next)) }
 {
     match value {
         None => lines.emit(Op::Return(None)),
@@ -86,12 +86,12 @@ pub fn return_value(
     lines: &mut Lines,
     site: &Site<'_>,
     n: u32,
-    value: &Option<Expression>,
+    value: &Option<Box<Expression>>,
     after: After,
 ) -> Result<(), NoMemory>
     ensures { OnOk result (Adds lines.old lines.new
-        (returned_blocks (context_of site.now) (option_map expression_of value.now) + dead_blocks (after_of after))
-        (returned_whole (context_of site.now) n (option_map expression_of value.now) lines.old.next
+        (returned_blocks (context_of site.now) (option_map boxed_of value.now) + dead_blocks (after_of after))
+        (returned_whole (context_of site.now) n (option_map boxed_of value.now) lines.old.next
         (after_of after))) }
 {
     let dead = take_dead(lines, after)?;
@@ -180,12 +180,12 @@ fn test(lines: &mut Lines, site: &Site<'_>, e: &Expression, exit: u32) -> Result
 fn test_if_any(
     lines: &mut Lines,
     site: &Site<'_>,
-    e: &Option<Expression>,
+    e: &Option<Box<Expression>>,
     exit: u32,
 ) -> Result<(), NoMemory>
     ensures { OnOk result (Adds lines.old lines.new
-        (test_blocks_if_any (context_of site.now) (option_map expression_of e.now))
-        (test_if_any (context_of site.now) (option_map expression_of e.now) (lines.old.next + 1) lines.old.next
+        (test_blocks_if_any (context_of site.now) (option_map boxed_of e.now))
+        (test_if_any (context_of site.now) (option_map boxed_of e.now) (lines.old.next + 1) lines.old.next
         exit)) }
 {
     match e {
@@ -221,7 +221,7 @@ pub fn open_for(
     site: &Site<'_>,
     n: u32,
     first: &First,
-    e: &Option<Expression>,
+    e: &Option<Box<Expression>>,
     after: After,
 ) -> Result<Ends, NoMemory>
     ensures exit { IfOk result (λ ends. ends.exit
@@ -231,8 +231,8 @@ pub fn open_for(
         + exit_blocks (after_of after)) }
     ensures adds { IfOk result (λ _. Adds lines.old lines.new
         (first_blocks (context_of site.now) (first_of first.now) + (exit_blocks (after_of after)
-        + suc (test_blocks_if_any (context_of site.now) (option_map expression_of e.now))))
-        (for_front (context_of site.now) n (first_of first.now) (option_map expression_of e.now) lines.old.next
+        + suc (test_blocks_if_any (context_of site.now) (option_map boxed_of e.now))))
+        (for_front (context_of site.now) n (first_of first.now) (option_map boxed_of e.now) lines.old.next
         (after_of after))) }
 {
     lines.emit(Op::Mark(n))?;
@@ -243,8 +243,8 @@ pub fn open_for(
 }
 
 /// Where `continue` goes: to what comes after the body, and where nothing does, to the start.
-pub fn again(step: &Option<Expression>, start: u32, named: u32) -> u32
-    ensures { result ≡ continue_block (option_map expression_of step.now) start named }
+pub fn again(step: &Option<Box<Expression>>, start: u32, named: u32) -> u32
+    ensures { result ≡ continue_block (option_map boxed_of step.now) start named }
 {
     match step {
         None => start,
@@ -257,17 +257,17 @@ pub fn close_for(
     lines: &mut Lines,
     ahead: &mut Ahead,
     site: &Site<'_>,
-    step: &Option<Expression>,
+    step: &Option<Box<Expression>>,
     start: u32,
     place: usize,
     named: u32,
 ) -> Result<(), NoMemory>
     ensures named { OnOk result (ahead.new ≡ true → (ahead.old ≡ true)
-        × (continue_block (option_map expression_of step.now) start named
-        ≡ continue_block (option_map expression_of step.now) start lines.old.next)) }
+        × (continue_block (option_map boxed_of step.now) start named
+        ≡ continue_block (option_map boxed_of step.now) start lines.old.next)) }
     ensures adds { OnOk result (Adds lines.old lines.new
-        (after_blocks (context_of site.now) (option_map expression_of step.now))
-        (after_lines (context_of site.now) (option_map expression_of step.now) start lines.old.next)) }
+        (after_blocks (context_of site.now) (option_map boxed_of step.now))
+        (after_lines (context_of site.now) (option_map boxed_of step.now) start lines.old.next)) }
 {
     match step {
         None => Ok(()),

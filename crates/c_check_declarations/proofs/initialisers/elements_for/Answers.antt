@@ -1,5 +1,5 @@
-use Rattle.std.proofs.Common.{refl, sym, ap}
-use Rattle.c_grammar.specs.Declarations.{initialiser_of}
+use Rattle.std.proofs.Common.{refl, sym, ap, ◌∙◌}
+use Rattle.c_grammar.specs.Declarations.{Single, initialiser_of}
 use Rattle.c_grammar.specs.Expressions.{expr_of}
 use Rattle.c_typing.specs.Initialisers.{elements_for}
 use Rattle.c_check_declarations.specs.Answers.{IsInitialiser}
@@ -9,6 +9,6 @@ use Rattle.c_check_declarations.proofs.initialisers.elements_for.Goals as goal
 pub returns-in_ok-fault-in-Single : goal.returns-in_ok-fault-in-Single
 returns-in_ok-fault-in-Single c = no_value_said IsInitialiser
     (elements_for c.args.scopes.now c.args.element c.args.count) c.args.scopes.now c.args.element
-    (initialiser_of c.args.value.now) (expr_of c.in-Single.e) c.in_ok-fault-in-Single.fault c.args.notes.now
-    c.no_values.new.notes (ap initialiser_of c.in-Single.is) (sym c.in_default.ensures) refl
-    c.in_ok-fault-in-Single.ensures
+    (initialiser_of c.args.value.now) (expr_of c.deref.result.now) c.in_ok-fault-in-Single.fault c.args.notes.now
+    c.no_values.new.notes (ap initialiser_of c.in-Single.is ∙ ap (λ e. Single (expr_of e)) (sym c.deref.ensures))
+    (sym c.in_default.ensures) refl c.in_ok-fault-in-Single.ensures

@@ -117,10 +117,11 @@ walked-returns-in-Number t c =
     let small : FitsSigned w32 c.in-Number.value = search rules in
     let same : expr_of c.args.e.now ≡ trees.Number c.in-Number.value c.in-Number.field-1
     = search (rules, the_lemmas, fold-roll-Expression, fold_out-Expression) in
-    subst (λ x. IsSaid IsOperandOf (typed_expression c.args.scopes.now x) c.constant.result c.args.notes.now
-    c.args.notes.now) (sym same)
-    (subst (λ n. IsSaid IsOperandOf (fits (tree.Constant Int n)) c.constant.result c.args.notes.now
-    c.args.notes.now) (to_z-of_z w32 c.in-Number.value small) (c.constant.ensures c.args.notes.now))
+    let notes = c.args.notes.now in
+    subst (λ x. IfOk c.constant.result (λ j. IsSaid IsOperandOf (typed_expression c.args.scopes.now x) j notes notes))
+    (sym same)
+    (subst (λ n. IfOk c.constant.result (λ j. IsSaid IsOperandOf (fits (tree.Constant Int n)) j notes notes))
+    (to_z-of_z w32 c.in-Number.value small) (c.constant.ensures notes))
 
 pub walked-returns-in_ok-parts-in-Conditional : goal.walked-returns-in_ok-parts-in-Conditional
 walked-returns-in_ok-parts-in-Conditional t c =

@@ -136,8 +136,8 @@ pub statement-returns-in_ok-head-in-If-clause-said : goal.statement-returns-in_o
 statement-returns-in_ok-head-in-If-clause-said t c =
     let s = c.args.scopes.now in
     let w = around_of c.args.around in
-    let e = expr_of c.in-If.condition in
-    let st = stmt_of c.deref-in-If.result.now in
+    let e = expr_of c.deref-in-If.result.now in
+    let st = stmt_of c.deref-in-If-2.result.now in
     let same : stmt_of c.args.st.now ≡ trees.If c.in-If.at c.in-If.opening e c.in-If.close st
     = search (rules, the_lemmas, fold-roll-Statement, fold_out-Statement) in
     subst (λ x. IfOk c.if_behind.result (λ j. IsSaid AreListed (typed_statement w x s) j c.args.notes.now
@@ -152,8 +152,8 @@ statement-returns-in_ok-head-in-If-clause-said t c =
 pub statement-returns-in_ok-head-in-If-clause-scope : goal.statement-returns-in_ok-head-in-If-clause-scope
 statement-returns-in_ok-head-in-If-clause-scope t c =
     let s = c.args.scopes.now in
-    let e = expr_of c.in-If.condition in
-    let st = stmt_of c.deref-in-If.result.now in
+    let e = expr_of c.deref-in-If.result.now in
+    let st = stmt_of c.deref-in-If-2.result.now in
     let same : stmt_of c.args.st.now ≡ trees.If c.in-If.at c.in-If.opening e c.in-If.close st
     = search (rules, the_lemmas, fold-roll-Statement, fold_out-Statement) in
     on_ok c.if_behind.result _ _ (λ h. h ∙ ap (after_statement st) c.in_ok-head-in-If.ensures.scope
@@ -163,8 +163,8 @@ pub statement-returns-in_ok-head-in-While-clause-said : goal.statement-returns-i
 statement-returns-in_ok-head-in-While-clause-said t c =
     let s = c.args.scopes.now in
     let w = around_of c.args.around in
-    let e = expr_of c.in-While.condition in
-    let st = stmt_of c.deref-in-While.result.now in
+    let e = expr_of c.deref-in-While.result.now in
+    let st = stmt_of c.deref-in-While-2.result.now in
     let same : stmt_of c.args.st.now ≡ trees.While c.in-While.at c.in-While.opening e c.in-While.close st
     = search (rules, the_lemmas, fold-roll-Statement, fold_out-Statement) in
     subst (λ x. IfOk c.while_behind.result (λ j. IsSaid AreListed (typed_statement w x s) j c.args.notes.now
@@ -180,8 +180,8 @@ statement-returns-in_ok-head-in-While-clause-said t c =
 pub statement-returns-in_ok-head-in-While-clause-scope : goal.statement-returns-in_ok-head-in-While-clause-scope
 statement-returns-in_ok-head-in-While-clause-scope t c =
     let s = c.args.scopes.now in
-    let e = expr_of c.in-While.condition in
-    let st = stmt_of c.deref-in-While.result.now in
+    let e = expr_of c.deref-in-While.result.now in
+    let st = stmt_of c.deref-in-While-2.result.now in
     let same : stmt_of c.args.st.now ≡ trees.While c.in-While.at c.in-While.opening e c.in-While.close st
     = search (rules, the_lemmas, fold-roll-Statement, fold_out-Statement) in
     on_ok c.while_behind.result _ _ (λ h. h ∙ ap (after_statement st) c.in_ok-head-in-While.ensures.scope
@@ -191,8 +191,8 @@ pub statement-returns-in_ok-head-in-Do-clause-said : goal.statement-returns-in_o
 statement-returns-in_ok-head-in-Do-clause-said t c =
     let s = c.args.scopes.now in
     let w = around_of c.args.around in
-    let e = expr_of c.deref-in-Do-2.result.now.condition in
-    let st = stmt_of c.deref-in-Do-3.result.now in
+    let e = expr_of c.deref-in-Do-3.result.now in
+    let st = stmt_of c.deref-in-Do-4.result.now in
     let same : stmt_of c.args.st.now ≡ trees.Do c.deref-in-Do.result.now.at st c.deref-in-Do.result.now.until
     c.deref-in-Do.result.now.opening e c.deref-in-Do.result.now.close
     c.deref-in-Do.result.now.semicolon
@@ -210,8 +210,8 @@ statement-returns-in_ok-head-in-Do-clause-said t c =
 pub statement-returns-in_ok-head-in-Do-clause-scope : goal.statement-returns-in_ok-head-in-Do-clause-scope
 statement-returns-in_ok-head-in-Do-clause-scope t c =
     let s = c.args.scopes.now in
-    let e = expr_of c.deref-in-Do-2.result.now.condition in
-    let st = stmt_of c.deref-in-Do-3.result.now in
+    let e = expr_of c.deref-in-Do-3.result.now in
+    let st = stmt_of c.deref-in-Do-4.result.now in
     let same : stmt_of c.args.st.now ≡ trees.Do c.deref-in-Do.result.now.at st c.deref-in-Do.result.now.until
     c.deref-in-Do.result.now.opening e c.deref-in-Do.result.now.close
     c.deref-in-Do.result.now.semicolon
@@ -263,9 +263,9 @@ pub statement-returns-in_ok-front-in-IfElse-clause-said : goal.statement-returns
 statement-returns-in_ok-front-in-IfElse-clause-said t c =
     let s = c.args.scopes.now in
     let w = around_of c.args.around in
-    let e = expr_of c.deref-in-IfElse-2.result.now.condition in
-    let st = stmt_of c.deref-in-IfElse-3.result.now in
-    let other = stmt_of c.deref-in-IfElse-4.result.now in
+    let e = expr_of c.deref-in-IfElse-3.result.now in
+    let st = stmt_of c.deref-in-IfElse-4.result.now in
+    let other = stmt_of c.deref-in-IfElse-5.result.now in
     let same : stmt_of c.args.st.now ≡ trees.IfElse c.deref-in-IfElse.result.now.at
     c.deref-in-IfElse.result.now.opening e c.deref-in-IfElse.result.now.close st
     c.deref-in-IfElse.result.now.otherwise other = search (rules, the_lemmas, fold-roll-Statement, fold_out-Statement)
@@ -290,7 +290,7 @@ pub statement-returns-in_ok-head-in-Switch-clause-said : goal.statement-returns-
 statement-returns-in_ok-head-in-Switch-clause-said t c =
     let s = c.args.scopes.now in
     let w = around_of c.args.around in
-    let e = expr_of c.deref-in-Switch-2.result.now.value in
+    let e = expr_of c.deref-in-Switch-3.result.now in
     let sts = stmts_of (map stmt_of c.as_slice-list.result.now) in
     let same : stmt_of c.args.st.now ≡ trees.Switch c.deref-in-Switch.result.now.at
     c.deref-in-Switch.result.now.opening e c.deref-in-Switch.result.now.close

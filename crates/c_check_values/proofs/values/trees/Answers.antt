@@ -7,7 +7,7 @@ use Rattle.c_expressions.specs.Arguments.{AreTrees, given_of}
 use Rattle.c_expressions.specs.Said.{IsSaid}
 use Rattle.c_expressions.proofs.Gathering.{given_all}
 use Rattle.c_check_declarators.proofs.Lists.{gathered_all, gathered_none, gathered_one}
-use Rattle.c_check_values.specs.Values.{IsTree, row_within}
+use Rattle.c_check_values.specs.Values.{IsPlainTree, row_within}
 use Rattle.c_check_values.proofs.GivenValues.{next_row, none_left}
 use Rattle.c_check_values.proofs.Pushes.{AreTreesOf, push_tree}
 use Rattle.c_check_values.proofs.values.trees.Goals as goal
@@ -25,7 +25,7 @@ loop-e-preserved c =
     let s = c.args.scopes.now in
     let row = assigned c.args.to in
     let one : c.saturating_sub-free.result ≡ c.loop-e.free - 1 = omega arith in
-    gathered_one AreTreesOf IsTree push_tree
+    gathered_one AreTreesOf IsPlainTree push_tree
     (values_for row c.args.room (map (given_of s) es))
     (values_for row c.loop-e.free (map (given_of s) (drop i es)))
     (values_for row c.saturating_sub-free.result (map (given_of s) (drop (i + 1) es)))

@@ -1,6 +1,6 @@
 use Rattle.std.proofs.Common.{rules, ◌≡◌, ◌∙◌, ap, option_map}
 use Rattle.c_store.specs.Kept.{over}
-use Rattle.c_tree.specs.Erased.{expression_of}
+use Rattle.c_tree.specs.Erased.{boxed_of}
 use Rattle.c_tree.specs.Store.{Gives, visited, with_local, zero_of}
 use Rattle.c_tree.specs.Evaluation.{type_at}
 use Rattle.c_tasks.specs.Steps.{Configuration, first_value, go_on}
@@ -11,7 +11,7 @@ use Rattle.c_eval_statements.proofs.items.declare_local.Goals as goal
 pub returns : goal.returns
 returns c = λ l s n.
     let old = left_of c.args.left.now in
-    let given = option_map expression_of c.args.value.now in
+    let given = option_map boxed_of c.args.value.now in
     let t = over (visited l n (over s c.args.store.now)) c.declare_local.new.self in
     let of = type_at old.function c.args.local in
     let left : go_on old.function (first_value c.args.local of given old.tasks) old.values old.places

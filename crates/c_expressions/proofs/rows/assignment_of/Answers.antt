@@ -1,4 +1,4 @@
-use Rattle.c_tree.specs.Erased.{expression_of}
+use Rattle.c_tree.specs.Erased.{boxed_of}
 use Rattle.c_typing.specs.Rows.{assignment_row, place_named}
 use Rattle.c_expressions.specs.Said.{AreOperandsOf}
 use Rattle.c_expressions.proofs.Quiet.{quiet_assignment}
@@ -6,7 +6,7 @@ use Rattle.c_expressions.proofs.Answered.{row_ok, same_pair}
 use Rattle.c_expressions.proofs.rows.assignment_of.Goals as goal
 
 pub returns-in-Fits : goal.returns-in-Fits
-returns-in-Fits c = row_ok AreOperandsOf (λ o. (expression_of o.0.tree, expression_of o.1.tree))
+returns-in-Fits c = row_ok AreOperandsOf (λ o. (boxed_of o.0.tree, boxed_of o.1.tree))
     (λ e. assignment_row c.args.op c.args.at (place_named e.0) e.1)
     (λ e o h. same_pair _ _ e h.0.0 h.1.0)
     (λ e. quiet_assignment c.args.op c.args.at (place_named e.0) e.1) c.args.parts

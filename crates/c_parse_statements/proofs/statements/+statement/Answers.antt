@@ -187,11 +187,11 @@ pub for_behind-returns-in-Err : goal.for_behind-returns-in-Err
 for_behind-returns-in-Err t c =
     rw (for_parted (below_node c.args.height.levels) c.args.at c.args.cursor.now.rest.now, c.in_ok-head.ensures.0)
     (refused_then _ _ _ (refused_below c.args.height.levels c.in_ok-lower.lower.levels
-    c.boxed_head.new.cursor.rest.now _ c.in_ok-lower.ensures.ok.1 c.in-Err.ensures))
+    c.for_head.new.cursor.rest.now _ c.in_ok-lower.ensures.ok.1 c.in-Err.ensures))
 
 pub for_behind-returns-in_ok-for_node-in-Ok : goal.for_behind-returns-in_ok-for_node-in-Ok
 for_behind-returns-in_ok-for_node-in-Ok t c =
-    let stated = ap (λ (b : Below). b.statement c.boxed_head.new.cursor.rest.now)
+    let stated = ap (λ (b : Below). b.statement c.for_head.new.cursor.rest.now)
     (below_is c.args.height.levels c.in_ok-lower.lower.levels c.in_ok-lower.ensures.ok.1) in (
       for_parted (below_node c.args.height.levels) c.args.at c.args.cursor.now.rest.now
           ∙ (rw (c.in_ok-head.ensures.0, stated, c.in-Ok.ensures.0, c.in_ok-for_node-in-Ok.ensures) refl),

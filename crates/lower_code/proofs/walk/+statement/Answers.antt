@@ -1,7 +1,7 @@
 -- Each arm puts together what its calls add.
 use Rattle.std.proofs.Common.{rules, sym, ap, ◌≡◌, ◌∙◌, ◌<◌, length, subst, OnOk}
 use Rattle.std.specs.Prelude.{option_map}
-use Rattle.c_tree.specs.Erased.{expression_of, first_of, statement_of, statements_of}
+use Rattle.c_tree.specs.Erased.{boxed_of, expression_of, first_of, statement_of, statements_of}
 use Rattle.c_tree.specs.Program as typed
 use Rattle.c_tree.specs.declared.statement.Statement.{Statement}
 use Rattle.c_tree.specs.declared.statement.Statement.TheViews.{the_lemmas}
@@ -46,22 +46,24 @@ statement-returns-in-Block t c =
 
 pub statement-returns-then-nothing : goal.statement-returns-then-nothing
 statement-returns-then-nothing t c =
-    let is : statement_of c.args.s.now ≡ typed.If c.in-If.n (expression_of c.in-If.e)
-    (statement_of c.deref-in-If.result.now) (statement_of c.deref.result.now) = search (rules, the_lemmas) in
-    since c.in_ok-place-in-If.ensures (if-none-arm (context_of c.args.site.now) c.in-If.n (expression_of c.in-If.e)
-    (statement_of c.deref-in-If.result.now) (statement_of c.deref.result.now) (exits_of c.args.exits)
-    (after_of c.args.after) c.is_nothing-nothing.result c.in_ok-place-in-If.named c.in_ok-exit-in-If.exit is
+    let is : statement_of c.args.s.now ≡ typed.If c.in-If.n (expression_of c.deref-in-If-2.result.now)
+    (statement_of c.deref-in-If-3.result.now) (statement_of c.deref-in-If.result.now) = search (rules, the_lemmas) in
+    since c.in_ok-place-in-If.ensures (if-none-arm (context_of c.args.site.now) c.in-If.n
+    (expression_of c.deref-in-If-2.result.now) (statement_of c.deref-in-If-3.result.now)
+    (statement_of c.deref-in-If.result.now) (exits_of c.args.exits) (after_of c.args.after)
+    c.is_nothing-nothing.result c.in_ok-place-in-If.named c.in_ok-exit-in-If.exit is
     (c.is_nothing-nothing.ensures (context_of c.args.site.now)) c.if-nothing.true c.in_ok-exit-in-If.ensures.exit
     c.in_ok-exit-in-If.ensures.adds c.in_ok-statement-in-If.ensures c.in_ok-start_exit-in-If.ensures)
 
 pub statement-returns-in_ok-start_exit-in-If-2 : goal.statement-returns-in_ok-start_exit-in-If-2
 statement-returns-in_ok-start_exit-in-If-2 t c =
-    let is : statement_of c.args.s.now ≡ typed.If c.in-If.n (expression_of c.in-If.e)
-    (statement_of c.deref-in-If.result.now) (statement_of c.deref-in-If-2.result.now) = search (rules, the_lemmas) in
-    let same : c.deref.result.now ≡ c.deref-in-If-2.result.now = search rules in
-    since c.in_ok-place-in-If.ensures (if-some-arm (context_of c.args.site.now) c.in-If.n (expression_of c.in-If.e)
-    (statement_of c.deref-in-If.result.now) (statement_of c.deref-in-If-2.result.now) (exits_of c.args.exits)
-    (after_of c.args.after) c.is_nothing-nothing.result c.in_ok-place-in-If.named c.in_ok-exit-in-If.exit is
+    let is : statement_of c.args.s.now ≡ typed.If c.in-If.n (expression_of c.deref-in-If-2.result.now)
+    (statement_of c.deref-in-If-3.result.now) (statement_of c.deref-in-If-4.result.now) = search (rules, the_lemmas) in
+    let same : c.deref-in-If.result.now ≡ c.deref-in-If-4.result.now = search rules in
+    since c.in_ok-place-in-If.ensures (if-some-arm (context_of c.args.site.now) c.in-If.n
+    (expression_of c.deref-in-If-2.result.now) (statement_of c.deref-in-If-3.result.now)
+    (statement_of c.deref-in-If-4.result.now) (exits_of c.args.exits) (after_of c.args.after)
+    c.is_nothing-nothing.result c.in_ok-place-in-If.named c.in_ok-exit-in-If.exit is
     (c.is_nothing-nothing.ensures (context_of c.args.site.now)
     ∙ ap (λ (x : Statement). (run_of (context_of c.args.site.now) (statement_of x)).nothing) same) c.if-nothing.false
     c.in_ok-exit-in-If.ensures.exit c.in_ok-exit-in-If.ensures.adds c.in_ok-statement-in-If.ensures
@@ -70,10 +72,10 @@ statement-returns-in_ok-start_exit-in-If-2 t c =
 
 pub statement-returns-in_ok-start_exit-in-While : goal.statement-returns-in_ok-start_exit-in-While
 statement-returns-in_ok-start_exit-in-While t c =
-    let is : statement_of c.args.s.now ≡ typed.While c.in-While.n (expression_of c.in-While.e)
-    (statement_of c.deref-in-While.result.now) = search (rules, the_lemmas) in
-    while-arm (context_of c.args.site.now) c.in-While.n (expression_of c.in-While.e)
-    (statement_of c.deref-in-While.result.now) (exits_of c.args.exits) (after_of c.args.after)
+    let is : statement_of c.args.s.now ≡ typed.While c.in-While.n (expression_of c.deref-in-While.result.now)
+    (statement_of c.deref-in-While-2.result.now) = search (rules, the_lemmas) in
+    while-arm (context_of c.args.site.now) c.in-While.n (expression_of c.deref-in-While.result.now)
+    (statement_of c.deref-in-While-2.result.now) (exits_of c.args.exits) (after_of c.args.after)
     c.in_ok-ends-in-While.ends.exit c.in_ok-ends-in-While.ends.start is c.in_ok-ends-in-While.ensures.exit
     c.in_ok-ends-in-While.ensures.start c.in_ok-ends-in-While.ensures.adds c.in_ok-statement-in-While.ensures
     c.in_ok-start_exit-in-While.ensures
@@ -81,20 +83,21 @@ statement-returns-in_ok-start_exit-in-While t c =
 pub statement-returns-in_ok-start_exit-in-Do : goal.statement-returns-in_ok-start_exit-in-Do
 statement-returns-in_ok-start_exit-in-Do t c =
     let is : statement_of c.args.s.now ≡ typed.Do c.in-Do.n (statement_of c.deref-in-Do.result.now)
-    (expression_of c.in-Do.e) = search (rules, the_lemmas) in
-    do-arm (context_of c.args.site.now) c.in-Do.n (expression_of c.in-Do.e) (statement_of c.deref-in-Do.result.now)
-    (exits_of c.args.exits) (after_of c.args.after) c.in_ok-ends-in-Do.ends.exit c.in_ok-ends-in-Do.ends.start
-    c.in_ok-test-in-Do.test is c.in_ok-ends-in-Do.ensures.exit c.in_ok-ends-in-Do.ensures.start
-    c.in_ok-test-in-Do.ensures c.in_ok-ends-in-Do.ensures.adds c.in_ok-statement-in-Do.ensures
-    c.in_ok-close_do-in-Do.ensures c.in_ok-start_exit-in-Do.ensures
+    (expression_of c.deref-in-Do-2.result.now) = search (rules, the_lemmas) in
+    do-arm (context_of c.args.site.now) c.in-Do.n (expression_of c.deref-in-Do-2.result.now)
+    (statement_of c.deref-in-Do.result.now) (exits_of c.args.exits) (after_of c.args.after)
+    c.in_ok-ends-in-Do.ends.exit c.in_ok-ends-in-Do.ends.start c.in_ok-test-in-Do.test is
+    c.in_ok-ends-in-Do.ensures.exit c.in_ok-ends-in-Do.ensures.start c.in_ok-test-in-Do.ensures
+    c.in_ok-ends-in-Do.ensures.adds c.in_ok-statement-in-Do.ensures c.in_ok-close_do-in-Do.ensures
+    c.in_ok-start_exit-in-Do.ensures
 
 pub statement-returns-in_ok-start_exit-in-For : goal.statement-returns-in_ok-start_exit-in-For
 statement-returns-in_ok-start_exit-in-For t c =
     let is : statement_of c.args.s.now ≡ typed.For c.in-For.n (first_of c.in-For.first)
-    (option_map expression_of c.in-For.test) (option_map expression_of c.in-For.step)
+    (option_map boxed_of c.in-For.test) (option_map boxed_of c.in-For.step)
     (statement_of c.deref-in-For.result.now) = search (rules, the_lemmas) in
     since c.in_ok-place-in-For.ensures (for-arm (context_of c.args.site.now) c.in-For.n (first_of c.in-For.first)
-    (option_map expression_of c.in-For.test) (option_map expression_of c.in-For.step)
+    (option_map boxed_of c.in-For.test) (option_map boxed_of c.in-For.step)
     (statement_of c.deref-in-For.result.now) (exits_of c.args.exits) (after_of c.args.after)
     c.in_ok-ends-in-For.ends.exit c.in_ok-ends-in-For.ends.start c.in_ok-place-in-For.named c.again-to.result is
     c.in_ok-ends-in-For.ensures.exit c.in_ok-ends-in-For.ensures.start c.again-to.ensures
@@ -103,26 +106,26 @@ statement-returns-in_ok-start_exit-in-For t c =
 
 pub statement-returns-then-is_empty : goal.statement-returns-then-is_empty
 statement-returns-then-is_empty t c =
-    let is : statement_of c.args.s.now ≡ typed.Switch c.in-Switch.n (expression_of c.in-Switch.e)
+    let is : statement_of c.args.s.now ≡ typed.Switch c.in-Switch.n (expression_of c.deref-in-Switch.result.now)
     c.as_slice-in-Switch.result.now (statements_of c.in-Switch.body.items) = search (rules, the_lemmas, statements_are)
     in
     let none : length c.in-Switch.body.items ≡ 0 = search rules in
     let count : c.len.result ≡ length c.in-Switch.body.items = search rules in
-    switch-none (context_of c.args.site.now) c.in-Switch.n (expression_of c.in-Switch.e)
+    switch-none (context_of c.args.site.now) c.in-Switch.n (expression_of c.deref-in-Switch.result.now)
     c.as_slice-in-Switch.result.now c.in-Switch.body.items (exits_of c.args.exits) (after_of c.args.after)
     c.in_ok-ways-in-Switch.ways.exit c.len.result is none count c.in_ok-ways-in-Switch.ensures.exit
     c.in_ok-ways-in-Switch.ensures.adds c.in_ok-start_exit-in-Switch.ensures
 
 pub statement-returns-in_ok-start_exit-in-Switch-2 : goal.statement-returns-in_ok-start_exit-in-Switch-2
 statement-returns-in_ok-start_exit-in-Switch-2 t c =
-    let is : statement_of c.args.s.now ≡ typed.Switch c.in-Switch.n (expression_of c.in-Switch.e)
+    let is : statement_of c.args.s.now ≡ typed.Switch c.in-Switch.n (expression_of c.deref-in-Switch.result.now)
     c.as_slice-in-Switch.result.now (statements_of c.as_slice-in-Switch-4.result.now) =
     search (rules, the_lemmas, statements_are) in
     let first-same : c.as_slice-in-Switch-2.result.now ≡ c.in_ok-ways-in-Switch.ways.starts.items = search rules in
     let row-same : c.as_slice-in-Switch-3.result.now ≡ c.in_ok-ways-in-Switch.ways.starts.items = search rules in
     let some : 0 < length c.as_slice-in-Switch-4.result.now = search rules in
     let count : c.len.result ≡ length c.as_slice-in-Switch-4.result.now = search rules in
-    switch-some (context_of c.args.site.now) c.in-Switch.n (expression_of c.in-Switch.e)
+    switch-some (context_of c.args.site.now) c.in-Switch.n (expression_of c.deref-in-Switch.result.now)
     c.as_slice-in-Switch.result.now c.as_slice-in-Switch-4.result.now c.in_ok-ways-in-Switch.ways.starts.items
     c.as_slice-in-Switch-2.result.now c.as_slice-in-Switch-3.result.now
     (exits_of c.args.exits) (after_of c.args.after) c.in_ok-ways-in-Switch.ways.exit c.len.result is some count

@@ -1,7 +1,0 @@
-use Rattle.std.proofs.Common.{◌≡◌, [], length}
-use Rattle.puzzle_board.specs.Boards.{standing}
-use Rattle.puzzle_tests.proofs.solving.board_of.Given as goal
-
-abbrev pub invariant-loop-piece : goal.invariant-loop-piece
-invariant-loop-piece l =
-    record { stands : standing l.board ≡ []; counted : length l.board.pieces ≡ l.piece-index }
