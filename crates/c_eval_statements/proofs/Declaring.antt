@@ -1,21 +1,13 @@
 -- What the declaration of an item leaves.
-use Rattle.std.proofs.Common.{◌≡◌, ℕ, List, ◌∷◌, Option, ap, sym, ◌∙◌}
+use Rattle.std.proofs.Common.{◌≡◌, ℕ, List, ◌∷◌, ap, sym, ◌∙◌}
 use Rattle.pcc_base.specs.Outcome.{Listing, Static}
 use Rattle.c_tree.specs.declared.types.IntegerType.{IntegerType}
-use Rattle.c_tree.specs.Evaluation.{own_array, text_then_zeros, type_at, zeroed}
-use Rattle.c_tree.specs.Program.{Array, Elements, Expression, Scalar, Text}
-use Rattle.c_tree.specs.Store.{State, Gives, array_named, visited, with_array, with_local, zero_of}
-use Rattle.c_tasks.specs.Steps.{Configuration, first_value, go_on}
+use Rattle.c_tree.specs.Evaluation.{own_array, text_then_zeros, zeroed}
+use Rattle.c_tree.specs.Program.{Array, Elements, Expression, Text}
+use Rattle.c_tree.specs.Store.{State, Gives, array_named, visited, with_array}
+use Rattle.c_tasks.specs.Steps.{Configuration, go_on}
 use Rattle.c_tasks.specs.Tasks.{Fills}
 use Rattle.c_eval.specs.Changes.{item_done}
-
--- a local
-pub local_declared : (l : Listing) (n local : ℕ) (value : Option Expression) (c : Configuration) (s t : State)
-    → t ≡ with_local local (zero_of (type_at c.function local)) (visited l n s)
-    → item_done l (Scalar n local value) c s
-    ≡ Gives (go_on c.function (first_value local (type_at c.function local) value c.tasks) c.values c.places) t
-local_declared l n local value c s t e = ap (λ (x : State). Gives
-    (go_on c.function (first_value local (type_at c.function local) value c.tasks) c.values c.places) x) (sym e)
 
 -- an array with first elements
 pub array_declared : (l : Listing) (n k : ℕ) (element : IntegerType) (es : List Expression) (c : Configuration)

@@ -5,8 +5,8 @@ use Rattle.c_tree.specs.Store.{Gives, visited, with_local, zero_of}
 use Rattle.c_tree.specs.Evaluation.{type_at}
 use Rattle.c_tasks.specs.Steps.{Configuration, first_value, go_on}
 use Rattle.c_eval.specs.Left.{left_of}
-use Rattle.c_eval_statements.proofs.Declaring.{local_declared}
-use Rattle.c_eval_statements.proofs.items.declare_local.Goals as goal
+use Rattle.c_eval_locals.proofs.Declaring.{local_declared}
+use Rattle.c_eval_locals.proofs.locals.declare_local.Goals as goal
 
 pub returns : goal.returns
 returns c = λ l s n.
