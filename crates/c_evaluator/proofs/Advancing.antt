@@ -14,10 +14,11 @@ use Rattle.c_eval_statements.specs.Passing.{passed}
 use Rattle.c_eval.specs.Streaming.{GetTold, InputCounts, OutCounts, PutTold}
 use Rattle.c_eval.specs.declared.end.EvalEnd.{EvalEnd}
 use Rattle.c_eval.specs.declared.end.EvalEnd.TheVariants.{Ended, NoMemory}
-use Rattle.c_evaluator.specs.Performs.{Fits, IsTurn}
+use Rattle.c_eval_turns.specs.Turns.{IsTurn}
+use Rattle.c_evaluator.specs.Performs.{Fits}
 use Rattle.c_evaluator.specs.Standing.{Advanced, Meets, SameCounts, Standing, Steps, Stops, Streams, Tells}
 use Rattle.c_evaluator.specs.Standing.{before_task}
-use Rattle.c_evaluator.specs.declared.next.Turn.{Turn}
+use Rattle.c_eval_turns.specs.declared.next.Turn.{Turn}
 use Rattle.c_evaluator.proofs.Going.{next_step}
 use Rattle.c_evaluator.proofs.Stepping.{meets_turn, steps_passed, stops_quiet}
 use Rattle.c_evaluator.proofs.Streaming.{steps_get, steps_put, stops_get, stops_put}

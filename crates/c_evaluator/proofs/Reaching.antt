@@ -25,7 +25,7 @@ use Rattle.c_eval.specs.declared.task.Task.TheVariants as tasks
 use Rattle.c_evaluator.specs.AtOnce.{IsApplied, IsLocalNumber, IsNumber, Reaches, Shortened}
 use Rattle.c_evaluator.specs.Performs.{Fits}
 use Rattle.c_evaluator.specs.Standing.{Advanced, Meets, Ran, Standing, Steps as Stepping, Stops, before_task}
-use Rattle.c_evaluator.specs.declared.next.Turn.{Turn}
+use Rattle.c_eval_turns.specs.declared.next.Turn.{Turn}
 use Rattle.c_evaluator.proofs.Going.{next_step}
 use Rattle.c_evaluator.proofs.Stepping.{moved, same_counts, same_tells}
 use Rattle.c_evaluator.proofs.Turning.{Walks, walks_meets, walks_more, walks_stops}

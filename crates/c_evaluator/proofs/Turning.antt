@@ -15,12 +15,13 @@ use Rattle.c_tasks.proofs.Serving.{is_served}
 use Rattle.c_store.specs.Kept.{Kept, over}
 use Rattle.c_eval.specs.Changes.{Comes, done, doing}
 use Rattle.c_eval.specs.declared.end.EvalEnd.{EvalEnd}
-use Rattle.c_evaluator.specs.Performs.{Begun, Fits, IsReady, IsTurn}
+use Rattle.c_eval_turns.specs.Turns.{Begun, IsReady, IsTurn}
+use Rattle.c_evaluator.specs.Performs.{Fits}
 use Rattle.c_evaluator.specs.Runs.{EvalCounts}
 use Rattle.c_evaluator.specs.Standing.{BothTell, EndsAt, LeadsOn, Meets, Ran, SameCounts, Standing, Steps}
 use Rattle.c_evaluator.specs.Standing.{Stops, Streams, Tells, Turned, Turns, before_task}
-use Rattle.c_evaluator.specs.declared.next.Turn.{Turn}
-use Rattle.c_evaluator.specs.declared.next.Turn.TheVariants.{Call, Loop}
+use Rattle.c_eval_turns.specs.declared.next.Turn.{Turn}
+use Rattle.c_eval_turns.specs.declared.next.Turn.TheVariants.{Call, Loop}
 use Rattle.c_evaluator.proofs.Going.{ahead_step, next_step, ran_on, ran_stops}
 use Rattle.c_evaluator.proofs.Stepping.{moved, quiet_counts, same_counts, same_tells}
 

@@ -6,10 +6,8 @@
 
 mod at_once;
 mod evaluate;
-mod next;
 mod run;
 mod steps;
-mod turns;
 
 pub use c_eval::EvalEnd;
 pub use evaluate::eval;

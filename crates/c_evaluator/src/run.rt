@@ -10,11 +10,10 @@ ghost use Rattle.c_tasks.specs.Tasks.{Ahead, Evaluates};
 ghost use Rattle.c_tree.specs.Erased.{expression_of, program_of};
 
 use crate::at_once::shorten;
-use crate::next::{Next, Turn};
 use crate::steps::perform;
-use crate::turns::begin;
 use c_eval::{EvalEnd, Evaluation, Task, Way, streams};
 use c_eval_statements::passing;
+use c_eval_turns::{Next, Turn, begin};
 use c_store::Store;
 use c_tree::{Expression, Program};
 use pcc_outside::{Sink, Source};

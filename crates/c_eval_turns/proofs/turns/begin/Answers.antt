@@ -1,8 +1,8 @@
 use Rattle.std.proofs.Common.{sym, ◌∙◌}
 use Rattle.c_tree.specs.Erased.{function_of}
 use Rattle.c_eval.specs.Left.{left_of}
-use Rattle.c_evaluator.proofs.Performing.{call_begun}
-use Rattle.c_evaluator.proofs.turns.begin.Goals as goal
+use Rattle.c_eval_turns.proofs.Calling.{call_begun}
+use Rattle.c_eval_turns.proofs.turns.begin.Goals as goal
 
 pub returns-in_ok-call-in-Call : goal.returns-in_ok-call-in-Call
 returns-in_ok-call-in-Call c = rw c.in-Call.is (λ p task turn. call_begun p c.args.rest turn.0 c.in-Call.count
