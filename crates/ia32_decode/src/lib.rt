@@ -1,7 +1,7 @@
 //! Reading instructions: in go bytes, out comes the instruction whose spelling begins them.
 //!
 //! It is found exactly where there is one, by the definition of spelling of `ia32_insn`. The opcode says what
-//! follows it (`one_byte`, `two_byte`), the fields are read (`fields`), and the opcode makes an instruction of
+//! follows it (`one_byte`, `two_byte`), the fields are read (`ia32_fields`), and the opcode makes an instruction of
 //! them (`rows`).
 #![tactic(auto)]
 
@@ -9,8 +9,6 @@ ghost use Rattle.std.specs.Prelude.{◌≡◌, ◌≤◌, IfSome, IfNone};
 ghost use Rattle.ia32_insn.specs.Spelling.{Begins, NoneBegins};
 ghost use Rattle.ia32_insn.specs.Reading.{read_insn};
 
-mod fields;
-mod numbers;
 mod one_byte;
 mod rows;
 mod two_byte;

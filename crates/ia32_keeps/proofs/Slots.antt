@@ -12,8 +12,8 @@ use Rattle.flow_graph.specs.Graphs.{Flow, FitsOp, HasWidth, IsFlow, IsPlaced}
 use Rattle.flow_graph.specs.Liveness.{defined}
 use Rattle.ia32_shows.specs.Placements.{in_slots}
 use Rattle.ia32_rows.specs.Rows.{AllApart, AreApart, IsSlot}
-use Rattle.liveness.proofs.Placed.{op-fits}
-use Rattle.liveness.proofs.SameWay.{used-within}
+use Rattle.live_searches.proofs.Placed.{op-fits}
+use Rattle.live_searches.proofs.Using.{used-within}
 use Rattle.graph_states.proofs.Lists.{every-at}
 use Rattle.ia32_effects.specs.Laws.{ArePlacesApart}
 use Rattle.ia32_keeps.specs.Supports.{AreSlots, HoldsWidth, IsPlaceFor, IsSpared, SlotsSupport}

@@ -1,15 +1,14 @@
 -- What is noted of a point is where it leads.
-use Rattle.std.proofs.Common.{ℕ, ◌≡◌, ◌<◌, ◌⊎◌, inl, inr, ◌↔◌, List, length, get_or, Option, Some, sym, subst, ◌∙◌}
+use Rattle.std.proofs.Common.{ℕ, ◌≡◌, ◌⊎◌, inl, inr, ◌↔◌, List, Option, Some, sym, ◌∙◌}
 use Rattle.std.specs.List.{slice_get}
 use Rattle.flow_graph.specs.declared.op.Op.{Op}
 use Rattle.flow_graph.specs.Graphs.{Flow, IsPlaced, points_of}
 use Rattle.flow_graph.specs.Liveness.{IsBehind, IsSuccessor}
 use Rattle.liveness.specs.declared.ways.Way.{Way}
 use Rattle.liveness.specs.declared.ways.Way.TheVariants.{Next, Block, Either, Nowhere}
-use Rattle.liveness.specs.Index.{ArePredecessors}
-use Rattle.liveness.specs.Lists.{Adds, list_at}
+use Rattle.live_searches.specs.Lists.{Adds}
 use Rattle.liveness.specs.Ways.{Leads, way_of}
-use Rattle.liveness.proofs.Adding.{adds-none, adds-same, adds-then, has-item}
+use Rattle.live_searches.proofs.Adding.{adds-none, adds-same, adds-then}
 use Rattle.liveness.proofs.SameWay.{successor-way}
 
 -- a point with its op and its way
@@ -78,11 +77,3 @@ pub told-nowhere : (flow : Flow) (from : ℕ) (a : List (List ℕ)) → Going fl
 told-nowhere flow from a g =
     adds-none a (λ x q. (x ≡ from) × IsSuccessor flow from q)
     (λ x q s. (successor-way flow from g.op Nowhere g.placed g.has g.same q).0 s.1)
-
--- a point among those noted of another leads to it
-pub noted-leads : (flow : Flow) (predecessors : List (List ℕ)) (items : List ℕ) (to i : ℕ)
-    → ArePredecessors flow predecessors → items ≡ list_at predecessors to → i < length items
-    → IsSuccessor flow (get_or items i 0) to
-noted-leads flow predecessors items to i are same h =
-    (are.leads (get_or items i 0) to).0
-    (i, subst (λ (xs : List ℕ). slice_get xs i ≡ Some (get_or items i 0)) same (has-item items i 0 h))

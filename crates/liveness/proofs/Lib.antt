@@ -1,14 +1,5 @@
-pub mod Adding
 pub mod Distancing
 pub mod Edges
 pub mod Listing
-pub mod Marking
-pub mod Placed
-pub mod Reaching
 pub mod SameWay
-pub mod Searching
-pub mod Starting
-pub mod Stepping
-pub mod Using
 pub mod Variables
-pub mod Walks

@@ -1,23 +1,19 @@
--- An op leads where its way does, and what it names is there.
-use Rattle.std.proofs.Common.{ℕ, ◌≡◌, ◌↔◌, ◌<◌, List, [], ◌∷◌, ◌++◌, map, length, Option, Some, None, sym, subst}
+-- An op leads where its way does, and the blocks that its way names are there.
+use Rattle.std.proofs.Common.{ℕ, ◌≡◌, ◌↔◌, ◌<◌, List, length, Some, sym, subst}
 use Rattle.std.proofs.Common.{◌∙◌}
-use Rattle.std.specs.List.{AllByRecursion, slice_get}
+use Rattle.std.specs.List.{slice_get}
 use Rattle.std.proofs.lemmas.Option.{same_Some}
-use Rattle.pcc_base.specs.declared.run.Width.{Width}
-use Rattle.pcc_base.specs.declared.run.Width.TheVariants.{One, Two}
 use Rattle.flow_graph.specs.declared.op.Op.{Op}
 use Rattle.flow_graph.specs.declared.op.Op.TheVariants.{Const, Copy, Wide, Low, Low16, Neg, Not, Add, Sub, Mul, And, Or}
 use Rattle.flow_graph.specs.declared.op.Op.TheVariants.{Xor, Shl, Sar, Div, Rem, Set, Frame, Static, Load, Store, Get}
 use Rattle.flow_graph.specs.declared.op.Op.TheVariants.{Put, Clear, Param, Call, Putchar, Getchar, Exit, Same, Mark}
 use Rattle.flow_graph.specs.declared.op.Op.TheVariants.{Turn, Jump, Branch, Return}
-use Rattle.flow_graph.specs.Graphs.{Flow, FitsOp, HasWidth, IsFlow, IsMet, IsPlaced, two, two_if_any}
-use Rattle.flow_graph.specs.Liveness.{IsSuccessor, IsUsedAt, LeadsTo, if_any, uses}
-use Rattle.flow_graph.proofs.Points.{every-in}
+use Rattle.flow_graph.specs.Graphs.{Flow, FitsOp, IsFlow, IsPlaced}
+use Rattle.flow_graph.specs.Liveness.{IsSuccessor, LeadsTo}
 use Rattle.liveness.specs.declared.ways.Way.{Way}
 use Rattle.liveness.specs.declared.ways.Way.TheVariants.{Next, Block, Either, Nowhere}
 use Rattle.liveness.specs.Ways.{Leads, way_of}
-use Rattle.liveness.proofs.Adding.{has-within}
-use Rattle.liveness.proofs.Placed.{op-fits}
+use Rattle.live_searches.proofs.Placed.{op-fits}
 
 -- an op leads where its way does
 pub same-way : (flow : Flow) (point next : ℕ) (op : Op) → LeadsTo flow point next op ↔ Leads flow point next (way_of op)
@@ -129,72 +125,3 @@ pub goes-within : (flow : Flow) (homes : List ℕ) (point : ℕ) (op : Op) (way 
     → IsPlaced flow point → slice_get flow.ops point ≡ Some op → way ≡ way_of op → WayFits flow way
 goes-within flow homes point op way is placed has same =
     subst (WayFits flow) (sym same) (way-fits flow op (op-fits flow homes is point placed op has))
-
--- a variable of this width is there
-width-within : (flow : Flow) (v : ℕ) (w : Width) → HasWidth flow v w → v < length flow.widths
-width-within flow v w e = has-within flow.widths v w e
-
--- a call's words are variables that are there
-words-within : (flow : Flow) (vs : List ℕ) → AllByRecursion (IsMet flow) (map two vs)
-    → AllByRecursion (λ v. v < length flow.widths) vs
-words-within flow [] h = tt
-words-within flow (v ∷ vs) h = (width-within flow v Two h.0, words-within flow vs h.1)
-
--- so are the words of a call with a result
-call-within : (flow : Flow) (d : Option ℕ) (vs : List ℕ) → AllByRecursion (IsMet flow) (two_if_any d ++ map two vs)
-    → AllByRecursion (λ v. v < length flow.widths) vs
-call-within flow None vs h = words-within flow vs h
-call-within flow (Some d) vs h = words-within flow vs h.1
-
--- so is what a return gives
-returned-within : (flow : Flow) (a : Option ℕ) → AllByRecursion (IsMet flow) (two_if_any a)
-    → AllByRecursion (λ v. v < length flow.widths) (if_any a)
-returned-within flow None h = tt
-returned-within flow (Some a) h = (width-within flow a Two h.0, tt)
-
--- the variables that an op uses are there, where it fits
-pub uses-within : (flow : Flow) (op : Op) → FitsOp flow op → AllByRecursion (λ v. v < length flow.widths) (uses op)
-uses-within flow (Const d n) fits = tt
-uses-within flow (Copy d s) fits = (width-within flow s fits.0.0 fits.0.2, tt)
-uses-within flow (Wide d s) fits = (width-within flow s One fits.1.0, tt)
-uses-within flow (Low d s) fits = (width-within flow s Two fits.1.0, tt)
-uses-within flow (Low16 d s) fits = (width-within flow s Two fits.1.0, tt)
-uses-within flow (Neg d a) fits = (width-within flow a Two fits.1.0, tt)
-uses-within flow (Not d a) fits = (width-within flow a Two fits.1.0, tt)
-uses-within flow (Add d a b) fits = (width-within flow a Two fits.1.0, (width-within flow b Two fits.1.1.0, tt))
-uses-within flow (Sub d a b) fits = (width-within flow a Two fits.1.0, (width-within flow b Two fits.1.1.0, tt))
-uses-within flow (Mul d a b) fits = (width-within flow a Two fits.1.0, (width-within flow b Two fits.1.1.0, tt))
-uses-within flow (And d a b) fits = (width-within flow a Two fits.1.0, (width-within flow b Two fits.1.1.0, tt))
-uses-within flow (Or d a b) fits = (width-within flow a Two fits.1.0, (width-within flow b Two fits.1.1.0, tt))
-uses-within flow (Xor d a b) fits = (width-within flow a Two fits.1.0, (width-within flow b Two fits.1.1.0, tt))
-uses-within flow (Shl d a c) fits = (width-within flow a Two fits.1.0, (width-within flow c One fits.1.1.0, tt))
-uses-within flow (Sar d a c) fits = (width-within flow a Two fits.1.0, (width-within flow c One fits.1.1.0, tt))
-uses-within flow (Div d a b) fits = (width-within flow a Two fits.1.0, (width-within flow b Two fits.1.1.0, tt))
-uses-within flow (Rem d a b) fits = (width-within flow a Two fits.1.0, (width-within flow b Two fits.1.1.0, tt))
-uses-within flow (Set how d a b) fits = (width-within flow a Two fits.1.0, (width-within flow b Two fits.1.1.0, tt))
-uses-within flow (Frame d k) fits = tt
-uses-within flow (Static d k) fits = tt
-uses-within flow (Load bits d p i) fits = (width-within flow p Two fits.1.0, (width-within flow i Two fits.1.1.0, tt))
-uses-within flow (Store bits p i s) fits =
-    (width-within flow p Two fits.0, (width-within flow i Two fits.1.0, (width-within flow s Two fits.1.1.0, tt)))
-uses-within flow (Get bits d k) fits = tt
-uses-within flow (Put bits k s) fits = (width-within flow s Two fits.0, tt)
-uses-within flow (Clear k) fits = tt
-uses-within flow (Param d k) fits = tt
-uses-within flow (Call d f arguments) fits = call-within flow d arguments fits
-uses-within flow (Putchar d s) fits = (width-within flow s Two fits.1.0, tt)
-uses-within flow (Getchar d) fits = tt
-uses-within flow (Exit s) fits = (width-within flow s Two fits.0, tt)
-uses-within flow (Same a b) fits = (width-within flow a Two fits.0, (width-within flow b Two fits.1.0, tt))
-uses-within flow (Mark s) fits = tt
-uses-within flow Turn fits = tt
-uses-within flow (Jump x) fits = tt
-uses-within flow (Branch how a b x y) fits = (width-within flow a Two fits.0, (width-within flow b Two fits.1.0, tt))
-uses-within flow (Return a) fits = returned-within flow a fits
-
--- a variable that a point uses is there
-pub used-within : (flow : Flow) (homes : List ℕ) → IsFlow flow homes → (v point : ℕ) → IsUsedAt flow v point
-    → v < length flow.widths
-used-within flow homes is v point (placed, op, has, used) =
-    every-in (λ w. w < length flow.widths) v (uses op)
-    (uses-within flow op (op-fits flow homes is point placed op has)) used

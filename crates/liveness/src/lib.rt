@@ -4,12 +4,8 @@
 #![tactic(auto)]
 
 mod distances;
-mod lists;
 mod live_sets;
-mod marks;
 mod predecessors;
-mod search;
-mod uses;
 mod ways;
 
 pub use distances::{Distances, next_use};

@@ -18,7 +18,7 @@ use Rattle.flow_graph.specs.declared.op.Op.{Op}
 use Rattle.flow_graph.specs.Graphs.{Flow, IsFlow, IsPlaced, has_point}
 use Rattle.flow_graph.specs.Liveness.{defined}
 use Rattle.flow_graph.specs.Lives.{AreLive, IsAscending, Lives, at_point}
-use Rattle.liveness.proofs.Placed.{op-fits, placed-within}
+use Rattle.live_searches.proofs.Placed.{op-fits, placed-within}
 use Rattle.liveness.proofs.Variables.{before-within}
 use Rattle.puzzle_board.specs.declared.piece.Kind.{Kind}
 use Rattle.puzzle_board.specs.declared.piece.Kind.TheVariants.{Z}

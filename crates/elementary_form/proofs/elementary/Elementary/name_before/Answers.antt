@@ -1,6 +1,6 @@
 use Rattle.std.proofs.Common.{sym, subst, arith}
 use Rattle.flow_graph.specs.Graphs.{IsPlaced}
-use Rattle.liveness.proofs.Placed.{placed-within}
+use Rattle.live_searches.proofs.Placed.{placed-within}
 use Rattle.elementary_form.specs.SplitForms.{Form}
 use Rattle.elementary_form.proofs.elementary.Elementary.name_before.Goals as goal
 
