@@ -1,5 +1,5 @@
 //! Values on the heap. Where memory is wanting, a caller that holds no other value besides has nothing to drop, so
-//! these take along what stands beside.
+//! what stands beside is taken along.
 
 ghost use Rattle.std.specs.Prelude.{◌≡◌, IfOk};
 
@@ -11,17 +11,4 @@ pub fn boxed<T: Drop, U: Drop>(alloc: Global, value: T, beside: U) -> Result<(Bo
     ensures { IfOk result (λ pair. (pair.0.value ≡ value) × (pair.1 ≡ beside)) }
 {
     Ok((Box::new(alloc, value)?, beside))
-}
-
-/// Two values on the heap.
-pub fn boxed_both<T: Drop, U: Drop>(
-    alloc: Global,
-    first: T,
-    second: U,
-) -> Result<(Box<T>, Box<U>), NoMemory>
-    ensures { IfOk result (λ pair. (pair.0.value ≡ first) × (pair.1.value ≡ second)) }
-{
-    let (second, first) = boxed(alloc, second, first)?;
-    let (first, second) = boxed(alloc, first, second)?;
-    Ok((first, second))
 }

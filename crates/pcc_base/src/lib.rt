@@ -18,7 +18,7 @@ mod steps;
 mod wrapping;
 
 pub use fault::{Fault, FaultKind};
-pub use heap::{boxed, boxed_both};
+pub use heap::boxed;
 pub use keyword::Keyword;
 pub use memory::NoMemory;
 pub use name::Name;
