@@ -1,14 +1,12 @@
--- Stacks in vectors, and rows of arguments.
+-- Stacks in vectors, and rows of arguments, elements and statements from a place on.
 use Rattle.std.proofs.Common.{◌≡◌, ℕ, zero, suc, ◌+◌, ◌<◌, ◌≤◌, ◌-◌, length, arith, List, [], ◌∷◌, ◌++◌, refl, sym}
 use Rattle.std.proofs.Common.{ap, ◌∙◌}
 use Rattle.std.specs.Prelude.{map, reverse, drop, take, slice_get, get_or, Option, Some, None}
 use Rattle.std.proofs.lemmas.List.{reverse-append, map-append, take_all, length-drop, drop_more, drop_all, drop-map}
 use Rattle.std.proofs.lemmas.List.{take-map, length-map, length-reverse}
-use Rattle.c_tree.specs.Erased.{expression_of, arguments_of}
-use Rattle.c_tree.specs.Program.{Arguments, Argument, NoMore}
+use Rattle.c_tree.specs.Erased.{expression_of}
+use Rattle.c_tree.specs.Program.{Argument, NoMore}
 use Rattle.c_tree.specs.declared.expression.Expression as built
-use Rattle.c_tree.specs.declared.expression.Expression.{Row_of-Expression, end_of-Expression, more_of-Expression}
-use Rattle.c_tree.specs.declared.expression.Expression.{items-the_row-Expression}
 use Rattle.c_tree.specs.Erased.{statement_of, statements_of, row_of, local_of}
 use Rattle.c_tree.specs.declared.program.Local.{Local}
 use Rattle.c_tree.specs.declared.types.ValueType.{ValueType}
@@ -29,11 +27,6 @@ use Rattle.c_eval.specs.Views.{stack_of, arguments_from, arguments_list, element
 pub pushed : {A B : Type 0} (of : A → B) (xs : List A) (x : A) → stack_of of (xs ++ x ∷ []) ≡ of x ∷ stack_of of xs
 pushed {A} {B} of xs x = ap (λ (ys : List B). reverse ys) (map-append of xs (x ∷ []))
     ∙ reverse-append (map of xs) (of x ∷ [])
-
--- a row of arguments as a list
-pub row_is : {m : _} (row : Row_of-Expression m) → arguments_of row ≡ arguments_list (items-the_row-Expression m row)
-row_is end_of-Expression = refl
-row_is (more_of-Expression e rest) = ap (λ (es : Arguments). Argument (expression_of e) es) (row_is rest)
 
 -- a row of statements as a list
 pub statements_are : {m : _} (row : Row_of-Statement m) → row_of row ≡ statements_of (items-the_row-Statement m row)

@@ -1,17 +1,14 @@
-//! The evaluation of typed programs, without a call of the evaluator for a call of the program.
+//! What is left to do of a program while it is evaluated, without a call of the evaluator for a call of the program.
 //!
-//! In: a typed program, and its tasks in the order in which they are done. Out: what each step of the source meaning
-//! leaves. `specs/Views.antt` has what tasks and stacks in memory stand for, and each step is that of
-//! `specs/Steps.antt` of `c_tasks`.
+//! In: a typed program, and its tasks in the order in which they are done. Out: what is left of them, with the values
+//! and places that wait. `specs/Views.antt` has what tasks and stacks in memory stand for, and `specs/Changes.antt`
+//! what the steps of `specs/Steps.antt` of `c_tasks` leave.
 #![tactic(auto)]
 
 mod end;
 mod evaluation;
-pub mod expressions;
-pub mod stores;
 pub mod streams;
 mod task;
-pub mod values;
 
 pub use end::EvalEnd;
 pub use evaluation::Evaluation;

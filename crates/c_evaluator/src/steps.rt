@@ -15,7 +15,8 @@ ghost use Rattle.c_tree.specs.Program as typed;
 ghost use Rattle.c_tree.specs.Store.{State, Gives};
 ghost use Rattle.pcc_base.specs.Outcome.{Listing};
 
-use c_eval::{EvalEnd, Evaluation, StatementPart, Task, expressions, stores, values};
+use c_eval::{EvalEnd, Evaluation, StatementPart, Task};
+use c_eval_expressions::{expressions, stores, values};
 use c_eval_statements::{calls, items, passing, statements};
 use c_eval_turns::{Next, Turn};
 use c_store::Store;

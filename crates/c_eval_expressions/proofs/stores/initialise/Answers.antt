@@ -1,5 +1,5 @@
 use Rattle.std.proofs.Common.{rules}
-use Rattle.c_eval.proofs.stores.initialise.Goals as goal
+use Rattle.c_eval_expressions.proofs.stores.initialise.Goals as goal
 
 -- src/stores.rt:146:1
 pub returns : goal.returns

@@ -8,8 +8,7 @@ ghost use Rattle.c_tasks.specs.Tasks.{Ahead, AppliesBinary, Evaluates};
 ghost use Rattle.c_tree.specs.Erased.{expression_of, place_of};
 ghost use Rattle.c_tree.specs.Store.{State, Gives};
 
-use crate::evaluation::Evaluation;
-use crate::task::Task;
+use c_eval::{Evaluation, Task};
 use c_store::{Place as Found, Store, Value};
 use c_tree::{BinaryOp, Expression, Place, ValueType};
 use pcc_base::NoMemory;
@@ -94,7 +93,7 @@ fn begin_access<'a>(left: &mut Evaluation<'a>, e: &'a Expression) -> Result<(), 
 }
 
 /// An expression is taken apart, or its value is known; `false` and nothing done for `getchar`.
-#[tactic(auto, using(crate::proofs::Stacking::row_is))]
+#[tactic(auto, using(crate::proofs::Rows::row_is))]
 pub fn take_apart<'a>(
     left: &mut Evaluation<'a>,
     store: &Store,

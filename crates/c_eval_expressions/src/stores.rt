@@ -12,8 +12,7 @@ ghost use Rattle.c_tree.specs.Program.{Program};
 ghost use Rattle.c_tree.specs.Store.{State, Gives};
 ghost use Rattle.pcc_base.specs.Outcome.{Listing};
 
-use crate::end::EvalEnd;
-use crate::evaluation::Evaluation;
+use c_eval::{EvalEnd, Evaluation};
 use c_store::{Store, Value};
 use c_tree::{BinaryOp, StepOp, ValueType};
 use pcc_base::Trap;

@@ -10,9 +10,7 @@ ghost use Rattle.c_tree.specs.Program.{Program};
 ghost use Rattle.c_tree.specs.Store.{State, Gives, Ends};
 ghost use Rattle.pcc_base.specs.Outcome.{Listing, Ended};
 
-use crate::end::EvalEnd;
-use crate::evaluation::Evaluation;
-use crate::task::Task;
+use c_eval::{EvalEnd, Evaluation, Task};
 use c_store::Value;
 use c_tree::{BinaryOp, Expression, IntegerType, UnaryOp, ValueType};
 use pcc_base::NoMemory;
