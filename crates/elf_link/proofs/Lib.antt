@@ -1,6 +1,5 @@
 pub mod Lists
-pub mod Holding
-pub mod Numbered
+pub mod Alone
 pub mod RoutineItems
 pub mod Placing
 pub mod Finishing

@@ -1,42 +1,15 @@
 -- Linked programs: the sections of all functions and the static objects in one image.
-use Rattle.std.specs.Prelude.{◌≡◌, ◌⊎◌, ◌<◌, ◌≤◌, ℕ, ◌+◌, ◌^◌, ⊤, List, [], ◌∷◌, length, map, slice_get, slice_index}
-use Rattle.std.specs.Prelude.{slice_index_or, Some}
-pub use Rattle.pcc_base.specs.Objects.{object_of}
+use Rattle.std.specs.Prelude.{◌≡◌, ◌<◌, ◌≤◌, ℕ, ◌+◌, ◌^◌, List, length, map, slice_get, slice_index, Some}
 use Rattle.ia32_insn.specs.declared.item.Item.{Item}
 use Rattle.ia32_insn.specs.declared.item.Item.TheVariants as item
-use Rattle.ia32_insn.specs.Items.{Symbols, Places, Object, IsOrder, IsText, text_start, data_bytes, elements_size}
+use Rattle.ia32_insn.specs.Items.{Symbols, Places, Object, IsOrder, IsText, text_start, data_bytes}
 use Rattle.ia32_asm.specs.declared.section.Section.{Section}
 use Rattle.ia32_asm.specs.declared.section.Relocation.{Relocation}
-use Rattle.ia32_asm.specs.declared.section.Target.{Target}
-use Rattle.ia32_asm.specs.declared.section.Target.TheVariants as target
 use Rattle.ia32_asm.specs.Sections.{Stands, IsSection}
+use Rattle.elf_addresses.specs.Parts.{sections_size, function_of, order_of, IsThere, CanHold}
 use Rattle.elf_link.specs.declared.linked.Linked.{Linked}
 
--- the bytes of all sections, and of all static objects with their headers
-abbrev pub sections_size : List Section → ℕ
-sections_size [] = 0
-sections_size (s ∷ sections) = length s.bytes.items + sections_size sections
-
-abbrev pub objects_size : List Object → ℕ
-objects_size [] = 0
-objects_size (object ∷ objects) = 4 + elements_size object + objects_size objects
-
--- the number of the function that a section's symbol names, and those of sections in their order
-abbrev pub function_of : Section → ℕ
-function_of section = (slice_index_or section.symbols.items 0 (record { function = 0; offset = 0 })).function
-
-abbrev pub order_of : List Section → List ℕ
-order_of sections = map function_of sections
-
 -- ---- what can be linked
-
--- the target is one of so many functions, or of so many objects
-abbrev pub IsThere : ℕ → ℕ → Target → Type 0
-IsThere functions objects (target.Function f) = f < functions
-IsThere functions objects (target.Object k) = k < objects
-IsThere functions objects (target.Stub s) = ⊤
-IsThere functions objects target.Check = ⊤
-IsThere functions objects target.Depth = ⊤
 
 -- it has a symbol, and each relocation names what is there, and lies inside the bytes; so does each point
 pub record FitsIn (functions objects : ℕ) (section : Section) : Type 0 where
@@ -46,11 +19,6 @@ pub record FitsIn (functions objects : ℕ) (section : Section) : Type 0 where
   pub inside : (j : ℕ) (r : Relocation) → slice_get section.relocations.items j ≡ Some r
       → r.at + 4 ≤ length section.bytes.items
   pub points : (p : ℕ) → slice_index section.points.items p ≤ length section.bytes.items
-
--- objects of elements of 1, 2 or 4 bytes, whose bytes are at most 2^24
-pub record CanHold (objects : List Object) : Type 0 where
-  pub widths : (k : ℕ) (o : Object) → slice_get objects k ≡ Some o → (o.width ≡ 1) ⊎ ((o.width ≡ 2) ⊎ (o.width ≡ 4))
-  pub size : objects_size objects ≤ 0x01000000
 
 -- The sections are those of the functions from 0 on, each once, in any order.
 pub record CanLink (sections : List Section) (objects : List Object) (main : ℕ) : Type 0 where

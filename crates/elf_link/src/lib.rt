@@ -5,12 +5,10 @@
 //! the objects (`specs/Linking.antt`, `IsLinked`). `specs/Laid.antt` has inner words only.
 #![tactic(auto)]
 
-mod addresses;
 mod data;
 mod linked;
 mod linking;
 mod points;
-mod routines;
 mod text;
 
 pub use linked::Linked;

@@ -19,7 +19,7 @@ use Rattle.ia32_asm.specs.declared.section.Target.{Target}
 use Rattle.ia32_asm.specs.declared.section.Target.TheVariants as target
 use Rattle.ia32_asm.specs.Sections.{HasLabel, IsSpelled, Stands, items_size, object_target, target_of}
 use Rattle.ia32_asm.proofs.Laying.{items_size-append}
-use Rattle.elf_link.specs.Linking.{IsThere}
+use Rattle.elf_addresses.specs.Parts.{IsThere}
 use Rattle.ia32_shows.specs.Placements.{Placement}
 use Rattle.ia32_shows.specs.Sites.{IsInFrame}
 use Rattle.ia32_rows.specs.Rows.{block_rows, entry_label, headers, loop_label, place_after, place_before, point_row}

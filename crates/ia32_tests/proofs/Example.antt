@@ -14,9 +14,10 @@ use Rattle.ia32_insn.specs.Items.{IsOrder, Object, round_up, elements_size}
 use Rattle.ia32_asm.specs.declared.section.Section.{Section}
 use Rattle.ia32_asm.specs.declared.section.Symbol.{Symbol}
 use Rattle.ia32_asm.specs.Sections.{CanAssemble, IsSection, items_size, target_of}
-use Rattle.elf_link.specs.Linking.{FitsIn, CanHold, CanLink, function_of, object_of, order_of}
+use Rattle.elf_addresses.specs.Parts.{CanHold, function_of, object_of, order_of}
+use Rattle.elf_link.specs.Linking.{FitsIn, CanLink}
 use Rattle.elf_link.proofs.RoutineItems.{plainly_can, word_to, returned}
-use Rattle.elf_link.proofs.Numbered.{number-alone, order-alone}
+use Rattle.elf_link.proofs.Alone.{number-alone, order-alone}
 use Rattle.elf_link.proofs.Placing.{named_target, follow_inside}
 
 abbrev pub example_items : List Item

@@ -9,7 +9,7 @@ use Rattle.c_tree.specs.Program.{Program}
 use Rattle.elf_image.specs.Layout.{Fits, image_bytes}
 use Rattle.elf_image.specs.Segments.{parts_of}
 use Rattle.elf_link.specs.declared.linked.Linked.{Linked}
-use Rattle.elf_link.specs.Linking.{order_of}
+use Rattle.elf_addresses.specs.Parts.{order_of}
 use Rattle.flow_graph.specs.Graphs.{Flow, IsPlaced}
 use Rattle.flow_graph.specs.States.{GraphProgram}
 use Rattle.graph_states.proofs.Lists.{all-at}

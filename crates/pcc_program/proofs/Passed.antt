@@ -6,7 +6,8 @@ use Rattle.std.proofs.lemmas.List.Elements.{All-cons, All-head, All-nil, All-tai
 use Rattle.pcc_base.specs.Bytes.{AreBytes}
 use Rattle.c_tree.specs.Program.{Program}
 use Rattle.elf_link.specs.declared.linked.Linked.{Linked}
-use Rattle.elf_link.specs.Linking.{AreSections, CanLink, IsLinked, order_of, sections_size}
+use Rattle.elf_addresses.specs.Parts.{order_of, sections_size}
+use Rattle.elf_link.specs.Linking.{AreSections, CanLink, IsLinked}
 use Rattle.flow_graph.specs.Graphs.{Flow}
 use Rattle.flow_graph.specs.States.{GraphProgram}
 use Rattle.graph_states.proofs.Lists.{all-at}

@@ -15,7 +15,8 @@ use Rattle.c_typing.specs.Typed.{arrays_bytes, object_bytes}
 use Rattle.flow_graph.specs.Graphs.{Flow}
 use Rattle.flow_graph.specs.States.{GraphProgram}
 use Rattle.elf_link.specs.declared.linked.Linked.{Linked}
-use Rattle.elf_link.specs.Linking.{CanHold, IsLinked, objects_size}
+use Rattle.elf_addresses.specs.Parts.{CanHold, objects_size}
+use Rattle.elf_link.specs.Linking.{IsLinked}
 use Rattle.ia32_frames.specs.Frames.{frame_placement}
 use Rattle.ia32_insn.specs.declared.item.Item.TheVariants as item
 use Rattle.ia32_insn.specs.Items.{IsText, Places, elements_size}

@@ -9,7 +9,7 @@ use Rattle.std.proofs.lemmas.Slice.Zip.{AllZip-long}
 use Rattle.c_tree.specs.Objects.{data_object}
 use Rattle.c_tree.specs.Program.{Function, Program, StaticObject}
 use Rattle.elf_link.specs.declared.linked.Linked.{Linked}
-use Rattle.elf_link.specs.Linking.{order_of}
+use Rattle.elf_addresses.specs.Parts.{order_of}
 use Rattle.flow_graph.specs.Graphs.{Flow, IsPlaced}
 use Rattle.flow_graph.specs.States.{GraphProgram}
 use Rattle.graph_states.proofs.Lists.{every-at}

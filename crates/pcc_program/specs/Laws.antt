@@ -6,7 +6,8 @@ use Rattle.c_tree.specs.Program.{Program}
 use Rattle.elf_image.specs.Layout.{image_bytes}
 use Rattle.elf_image.specs.Segments.{parts_of}
 use Rattle.elf_link.specs.declared.linked.Linked.{Linked}
-use Rattle.elf_link.specs.Linking.{IsLinked, order_of}
+use Rattle.elf_addresses.specs.Parts.{order_of}
+use Rattle.elf_link.specs.Linking.{IsLinked}
 use Rattle.flow_graph.specs.States.{GraphProgram}
 use Rattle.ia32_asm.specs.declared.section.Section.{Section}
 use Rattle.ia32_frames.specs.declared.frame.Frame.{Frame}

@@ -8,7 +8,7 @@ use Rattle.byteorder.specs.Endian.{little_bytes}
 use Rattle.byteorder.specs.Numbers.{length-bytes_low_first}
 use Rattle.pcc_base.specs.Bytes.{zeros}
 use Rattle.ia32_insn.specs.Items.{Object, data_bytes, element_bytes, elements_size, object_bytes, round_up}
-use Rattle.elf_link.specs.Linking.{objects_size}
+use Rattle.elf_addresses.specs.Parts.{objects_size}
 
 length-elements : (width : ℕ) (zs : List ℤ) → length (flat_map (λ (z : ℤ). little_bytes width (cast_unsigned w32 z)) zs)
     ≡ width * length zs

@@ -8,7 +8,7 @@ use Rattle.pcc_base.specs.Objects.{IsObject, Object}
 use Rattle.flow_graph.specs.Graphs.{Flow, empty_flow}
 use Rattle.flow_graph.specs.Sizes.{most_words}
 use Rattle.flow_graph.specs.States.{flow_at}
-use Rattle.elf_link.specs.Linking.{objects_size}
+use Rattle.elf_addresses.specs.Parts.{objects_size}
 use Rattle.ia32_insn.specs.declared.item.Item.{Item}
 use Rattle.ia32_insn.specs.Items.{data_bytes, elements_size, round_up, text_start}
 use Rattle.ia32_frames.specs.Frames.{frame_placement}

@@ -5,7 +5,7 @@ use Rattle.flow_graph.specs.Graphs.{Flow}
 use Rattle.flow_graph.specs.Sizes.{most_words}
 use Rattle.flow_graph.specs.States.{GraphProgram}
 use Rattle.flow_graph.specs.WellFormed.{IsGraph}
-use Rattle.elf_link.specs.Linking.{objects_size}
+use Rattle.elf_addresses.specs.Parts.{objects_size}
 use Rattle.ia32_insn.specs.declared.item.Item.{Item}
 use Rattle.ia32_rows.specs.Rows.{selected}
 use Rattle.ia32_frames.specs.Frames.{frame_bytes, frame_placement}

@@ -1,11 +1,11 @@
 -- The address of one more section.
 use Rattle.std.proofs.Common.{◌+◌, ℕ, arith, ap, ◌∙◌, sym, Some, drop, length}
 use Rattle.std.proofs.lemmas.List.{length-map}
-use Rattle.elf_link.specs.Linking.{function_of, order_of, sections_size}
-use Rattle.elf_link.specs.Laid.{addresses_from}
-use Rattle.elf_link.proofs.Holding.{read_at, left_at}
-use Rattle.elf_link.proofs.Numbered.{filled-more, filled-all, next-of, number-at, length-put}
-use Rattle.elf_link.proofs.addresses.functions_from.Goals as goal
+use Rattle.elf_addresses.specs.Parts.{function_of, order_of, sections_size}
+use Rattle.elf_addresses.specs.Placed.{addresses_from}
+use Rattle.elf_addresses.proofs.Holding.{read_at, left_at}
+use Rattle.elf_addresses.proofs.Numbered.{filled-more, filled-all, next-of, number-at, length-put}
+use Rattle.elf_addresses.proofs.addresses.functions_from.Goals as goal
 
 pub function_of-requires : goal.function_of-requires
 function_of-requires c =

@@ -1,10 +1,10 @@
 ghost use Rattle.std.specs.Prelude.{◌≡◌, ◌<◌, ◌≤◌, ◌+◌, ◌^◌, ℕ, IfOk, Some, length, map, slice_get, vec_len};
 ghost use Rattle.ia32_insn.specs.Items.{IsOrder, elements_size, object_addresses};
 ghost use Rattle.ia32_asm.specs.Sections.{target_address, word_for};
-ghost use Rattle.elf_link.specs.Linking.{CanHold, IsThere, function_of, object_of, objects_size, order_of};
-ghost use Rattle.elf_link.specs.Linking.{sections_size};
+ghost use Rattle.elf_addresses.specs.Parts.{CanHold, IsThere, function_of, object_of, objects_size, order_of};
+ghost use Rattle.elf_addresses.specs.Parts.{sections_size};
 ghost use Rattle.ia32_asm.specs.declared.section.Section.{Section};
-ghost use Rattle.elf_link.specs.Laid.{AreAddresses, AreNumbered, addresses_from, symbols_of};
+ghost use Rattle.elf_addresses.specs.Placed.{AreAddresses, AreNumbered, addresses_from, symbols_of};
 
 use elf_image::{STACK_BYTES, TEXT_ADDRESS};
 use ia32_asm::{Relocation, Section, Target};
@@ -12,9 +12,10 @@ use ia32_insn::Stub;
 use pcc_base::{DataObject, NoMemory};
 use std::alloc::Global;
 
-/// The bytes of the start and of the routines, in the order of the text.
-pub(crate) const START_BYTES: u32 = 29;
+/// The bytes of the start, which the text begins with.
+pub const START_BYTES: u32 = 29;
 
+/// The bytes of the routines, in the order of the text.
 const PUTCHAR_BYTES: u32 = 29;
 
 const GETCHAR_BYTES: u32 = 33;
@@ -31,15 +32,22 @@ const WORD_BYTES: u32 = 4;
 
 /// Where everything stands that code names, and the end of the stack.
 #[derive(Debug, Drop)]
-pub(crate) struct Addresses {
+pub struct Addresses {
+    /// Of each function, by its number.
     pub functions: Vec<u32>,
     /// Of element 0 of each static object.
     pub objects: Vec<u32>,
+    /// Of the depth word.
     pub depth: u32,
+    /// Of the routine `putchar`.
     pub putchar: u32,
+    /// Of the routine `getchar`.
     pub getchar: u32,
+    /// Of the routine `exit`.
     pub exit: u32,
+    /// Of the trap of a failed check.
     pub check: u32,
+    /// The end of the stack.
     pub stack: u32,
 }
 
@@ -69,7 +77,7 @@ impl Addresses {
 
     /// The word that a relocation awaits in a section at an address: the target's address, or its distance
     /// from the end of the word.
-    pub(crate) fn word(&self, relocation: &Relocation, section: u32) -> u32
+    pub fn word(&self, relocation: &Relocation, section: u32) -> u32
         requires there { IsThere (length self.now.functions.items) (length self.now.objects.items)
             relocation.now.target }
         requires room { section + relocation.now.at + 4 < 2 ^ 32 }
@@ -85,7 +93,7 @@ impl Addresses {
 }
 
 /// The bytes of an object's elements, in whole words.
-pub(crate) fn elements_size(object: &DataObject) -> u32
+pub fn elements_size(object: &DataObject) -> u32
     requires size { elements_size (object_of object.now) ≤ 16777216 }
     requires width { 1 ≤ object.now.width }
     ensures { result ≡ elements_size (object_of object.now) }
@@ -94,7 +102,7 @@ pub(crate) fn elements_size(object: &DataObject) -> u32
 }
 
 /// The number of the function that a section's symbol names.
-pub(crate) fn function_of(section: &Section) -> usize
+pub fn function_of(section: &Section) -> usize
     requires { 0 < length section.now.symbols.items }
     ensures { result ≡ function_of section.now }
 {
@@ -148,7 +156,7 @@ fn objects_from(
 }
 
 /// Where everything stands.
-pub(crate) fn addresses_of(
+pub fn addresses_of(
     alloc: Global,
     sections: &Vec<Section>,
     objects: &Vec<DataObject>,

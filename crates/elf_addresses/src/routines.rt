@@ -22,12 +22,7 @@ const INPUT: i32 = 0;
 const OUTPUT: i32 = 1;
 
 /// The start: the stack's end to ESP, 1 to the depth word, the call of `main`, and `exit` with its result.
-pub(crate) fn start_items(
-    alloc: Global,
-    stack: u32,
-    depth: u32,
-    main: u32,
-) -> Result<Vec<Item>, NoMemory>
+pub fn start_items(alloc: Global, stack: u32, depth: u32, main: u32) -> Result<Vec<Item>, NoMemory>
     ensures { IfOk result (λ items. items.items ≡ start_items stack depth main) }
 {
     let depth_word = Mem {
@@ -46,7 +41,7 @@ pub(crate) fn start_items(
 }
 
 /// `putchar`: `write` of the lowest byte of the argument word, which is also the result.
-pub(crate) fn putchar_items(alloc: Global) -> Result<Vec<Item>, NoMemory>
+pub fn putchar_items(alloc: Global) -> Result<Vec<Item>, NoMemory>
     ensures { IfOk result (λ items. items.items ≡ putchar_items) }
 {
     let argument = Mem {
@@ -68,7 +63,7 @@ pub(crate) fn putchar_items(alloc: Global) -> Result<Vec<Item>, NoMemory>
 }
 
 /// `getchar`: `read` of one byte to a word of 0 on the stack, and the word or, at the input's end, -1.
-pub(crate) fn getchar_items(alloc: Global) -> Result<Vec<Item>, NoMemory>
+pub fn getchar_items(alloc: Global) -> Result<Vec<Item>, NoMemory>
     ensures { IfOk result (λ items. items.items ≡ getchar_items) }
 {
     Ok(vec![in alloc;
@@ -88,7 +83,7 @@ pub(crate) fn getchar_items(alloc: Global) -> Result<Vec<Item>, NoMemory>
 }
 
 /// `exit` with the argument word.
-pub(crate) fn exit_items(alloc: Global) -> Result<Vec<Item>, NoMemory>
+pub fn exit_items(alloc: Global) -> Result<Vec<Item>, NoMemory>
     ensures { IfOk result (λ items. items.items ≡ exit_items) }
 {
     let argument = Mem {
@@ -104,7 +99,7 @@ pub(crate) fn exit_items(alloc: Global) -> Result<Vec<Item>, NoMemory>
 }
 
 /// The trap of a failed check.
-pub(crate) fn check_items(alloc: Global) -> Result<Vec<Item>, NoMemory>
+pub fn check_items(alloc: Global) -> Result<Vec<Item>, NoMemory>
     ensures { IfOk result (λ items. items.items ≡ check_items) }
 {
     Ok(vec![in alloc; Item::Plain(Insn::Ud2)]?)

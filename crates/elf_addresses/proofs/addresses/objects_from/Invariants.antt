@@ -1,8 +1,8 @@
 -- The addresses so far, and those of the objects that are left.
 use Rattle.std.proofs.Common.{◌≡◌, ◌+◌, ◌++◌, drop, map}
 use Rattle.ia32_insn.specs.Items.{object_addresses}
-use Rattle.elf_link.specs.Linking.{object_of, objects_size}
-use Rattle.elf_link.proofs.addresses.objects_from.Given as goal
+use Rattle.elf_addresses.specs.Parts.{object_of, objects_size}
+use Rattle.elf_addresses.proofs.addresses.objects_from.Given as goal
 
 abbrev pub invariant-loop-object : goal.invariant-loop-object
 invariant-loop-object l =

@@ -1,9 +1,9 @@
 -- The addresses so far, and those of the sections that are left.
 use Rattle.std.proofs.Common.{◌≡◌, ◌+◌, drop, length}
-use Rattle.elf_link.specs.Linking.{order_of, sections_size}
-use Rattle.elf_link.specs.Laid.{addresses_from}
-use Rattle.elf_link.proofs.Numbered.{IsFilled}
-use Rattle.elf_link.proofs.addresses.functions_from.Given as goal
+use Rattle.elf_addresses.specs.Parts.{order_of, sections_size}
+use Rattle.elf_addresses.specs.Placed.{addresses_from}
+use Rattle.elf_addresses.proofs.Numbered.{IsFilled}
+use Rattle.elf_addresses.proofs.addresses.functions_from.Given as goal
 
 abbrev pub invariant-loop-section : goal.invariant-loop-section
 invariant-loop-section l =

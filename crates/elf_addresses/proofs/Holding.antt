@@ -6,7 +6,7 @@ use Rattle.std.proofs.lemmas.List.{drop_more}
 use Rattle.std.proofs.lemmas.Option.{same_Some, slice_get-map, slice_get_read}
 use Rattle.pcc_base.specs.declared.object.DataObject.{DataObject}
 use Rattle.ia32_insn.specs.Items.{Object, elements_size}
-use Rattle.elf_link.specs.Linking.{CanHold, object_of, objects_size}
+use Rattle.elf_addresses.specs.Parts.{CanHold, object_of, objects_size}
 
 -- an element that was read is there
 pub read_at : {X : Type 0} (items same : List X) (k : ℕ) (x : X) → same ≡ items → k < length items → x ≡ get_or same k x

@@ -1,7 +1,7 @@
 -- Each object is small.
 use Rattle.std.proofs.Common.{arith}
-use Rattle.elf_link.proofs.Holding.{held_at}
-use Rattle.elf_link.proofs.addresses.objects_from.Goals as goal
+use Rattle.elf_addresses.proofs.Holding.{held_at}
+use Rattle.elf_addresses.proofs.addresses.objects_from.Goals as goal
 
 pub elements_size-requires-clause-size : goal.elements_size-requires-clause-size
 elements_size-requires-clause-size c =
