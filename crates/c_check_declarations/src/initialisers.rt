@@ -62,10 +62,7 @@ fn first_of(alloc: Global, values: Vec<Tree>) -> Result<Option<Box<Tree>>, NoMem
 }
 
 /// The value of a scalar, of which there is one at most.
-fn scalar(
-    alloc: Global,
-    values: Judged<Vec<Tree>>,
-) -> Result<Judged<Option<Box<Tree>>>, NoMemory>
+fn scalar(alloc: Global, values: Judged<Vec<Tree>>) -> Result<Judged<Option<Box<Tree>>>, NoMemory>
     ensures { IfOk result (λ j. (c : Checked (List Typed)) (before after : List Note)
         → IsSaid AreTrees c values before after
         → IsSaid IsTreeIfAny (if_fits c (λ es. fits (first_of es))) j before after) }

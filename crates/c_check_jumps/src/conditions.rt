@@ -216,7 +216,11 @@ fn returned_value(of: ValueType, at: Span, value: Option<Operand>) -> Judged<Opt
 }
 
 /// A returned value that was judged.
-fn returned_tree(of: ValueType, at: Span, part: Judged<Option<Operand>>) -> Judged<Option<Box<Tree>>>
+fn returned_tree(
+    of: ValueType,
+    at: Span,
+    part: Judged<Option<Operand>>,
+) -> Judged<Option<Box<Tree>>>
     requires { IfFits part IsOperandWhere }
     ensures { (c : Checked (Option Typed)) (before after : List Note) → IsSaid IsOperandIfAny c part before after
         → IsSaid IsTreeIfAny (if_fits c (returned of at)) result before after }

@@ -148,7 +148,10 @@ fn and_labels(
 }
 
 /// A value and labels.
-fn selected_parts(value: Judged<Box<Tree>>, labels: Judged<Vec<Label>>) -> Judged<(Box<Tree>, Vec<Label>)>
+fn selected_parts(
+    value: Judged<Box<Tree>>,
+    labels: Judged<Vec<Label>>,
+) -> Judged<(Box<Tree>, Vec<Label>)>
     ensures { (c : Checked Typed) (d : Checked (List TypedLabel)) (before between after : List Note)
         → IsSaid IsTree c value before between → IsSaid AreLabels d labels between after
         → IsSaid AreSelected (pair c d) result before after }
@@ -217,7 +220,10 @@ fn first_items(part: Judged<Vec<Item>>) -> Judged<First>
 }
 
 /// A first part and a test.
-fn start(first: Judged<First>, test: Judged<Option<Box<Tree>>>) -> Judged<(First, Option<Box<Tree>>)>
+fn start(
+    first: Judged<First>,
+    test: Judged<Option<Box<Tree>>>,
+) -> Judged<(First, Option<Box<Tree>>)>
     ensures { (a : Checked TypedFirst) (b : Checked (Option Typed)) (before between after : List Note)
         → IsSaid IsFirst a first before between → IsSaid IsTreeIfAny b test between after
         → IsSaid AreStart (pair a b) result before after }

@@ -54,7 +54,10 @@ pub fn block(
 // ---- a condition, and what it decides on
 
 /// A condition and a statement behind it.
-fn tested_parts(test: Judged<Box<Tree>>, part: Judged<Vec<Statement>>) -> Judged<(Box<Tree>, Statement)>
+fn tested_parts(
+    test: Judged<Box<Tree>>,
+    part: Judged<Vec<Statement>>,
+) -> Judged<(Box<Tree>, Statement)>
     ensures { (c : Checked Typed) (a : Checked (List TypedStatement)) (before between after : List Note)
         → IsSaid IsTree c test before between → IsSaid AreListed a part between after
         → IsSaid AreTested (pair c (alone a)) result before after }
@@ -167,7 +170,9 @@ pub fn first_branch(head: TestHead, part: Judged<Vec<Statement>>) -> Branch
 }
 
 /// Three parts in turn.
-fn in_turn(parts: Judged<((Box<Tree>, Statement), Statement)>) -> Judged<(Box<Tree>, (Statement, Statement))>
+fn in_turn(
+    parts: Judged<((Box<Tree>, Statement), Statement)>,
+) -> Judged<(Box<Tree>, (Statement, Statement))>
     ensures { (a : Checked Typed) (b c : Checked TypedStatement) (before after : List Note)
         → IsSaid (λ p q. AreTested p.0 q.0 × IsStatement p.1 q.1) (pair (pair a b) c) parts before after
         → IsSaid AreBranches (pair a (pair b c)) result before after }
@@ -249,7 +254,10 @@ fn said_behind(
 }
 
 /// A statement and the condition behind it.
-fn repeated_parts(part: Judged<Vec<Statement>>, test: Judged<Box<Tree>>) -> Judged<(Statement, Box<Tree>)>
+fn repeated_parts(
+    part: Judged<Vec<Statement>>,
+    test: Judged<Box<Tree>>,
+) -> Judged<(Statement, Box<Tree>)>
     ensures { (a : Checked (List TypedStatement)) (c : Checked Typed) (before between after : List Note)
         → IsSaid AreListed a part before between → IsSaid IsTree c test between after
         → IsSaid AreRepeated (pair (alone a) c) result before after }

@@ -45,10 +45,7 @@ fn for_parameter(parameter: Option<ValueType>, at: Span, part: Judged<Operand>) 
 }
 
 /// One more tree behind others.
-fn pushed(
-    mut values: Vec<Expression>,
-    tree: Box<Expression>,
-) -> Result<Vec<Expression>, NoMemory>
+fn pushed(mut values: Vec<Expression>, tree: Box<Expression>) -> Result<Vec<Expression>, NoMemory>
     ensures { IfOk result (λ v. v.items ≡ values.items ++ tree.value ∷ []) }
 {
     values.push(Box::into_inner(tree))?;

@@ -77,5 +77,8 @@ pub fn text(
     let number = scopes.object_number(&entity)?;
     let note = text_note(alloc, pieces)?;
     notes.push(note)?;
-    fitting(alloc, Expression::Start(IntegerType::Char, ArrayRef::Static(number)))
+    fitting(
+        alloc,
+        Expression::Start(IntegerType::Char, ArrayRef::Static(number)),
+    )
 }

@@ -34,7 +34,6 @@ use c_tree::{BinaryOp, Expression, IntegerType, Place, StepOp, ValueType};
 use pcc_base::{Fault, FaultKind, NoMemory, Span};
 use std::alloc::Global;
 
-
 /// A tree that is no constant expression, where a row fits.
 fn fits_plain(alloc: Global, tree: Expression) -> Result<Judged<Operand>, NoMemory>
     requires { has_constant_form (expression_of tree) ≡ false }

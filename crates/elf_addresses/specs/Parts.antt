@@ -1,5 +1,6 @@
 -- The parts of an image: sections and static objects, with their sizes and numbers.
-use Rattle.std.specs.Prelude.{◌≡◌, ◌⊎◌, ◌<◌, ◌≤◌, ℕ, ◌+◌, ⊤, List, [], ◌∷◌, length, map, slice_get, slice_index_or, Some}
+use Rattle.std.specs.Prelude.{◌≡◌, ◌⊎◌, ◌<◌, ◌≤◌, ℕ, ◌+◌, ⊤, List, [], ◌∷◌, length, map, slice_get, Some}
+use Rattle.std.specs.Prelude.{slice_index_or}
 pub use Rattle.pcc_base.specs.Objects.{object_of}
 use Rattle.ia32_insn.specs.Items.{Object, elements_size}
 use Rattle.ia32_asm.specs.declared.section.Section.{Section}

@@ -10,6 +10,11 @@ use Rattle.c_expressions.proofs.named.number.Goals as goal
 pub returns : goal.returns
 returns c =
     let whole = ap (Constant Int) (to_z-of_z w32 c.args.value (record { sfits = c.ranges.value.sfits })) in
-    let is : boxed_of c.in_ok-new.field-0 ≡ Constant Int c.args.value = ap expression_of c.in_ok-new.ensures.ok ∙ whole in
-    (is, (subst (λ e. IsConstant e c.of_number.result) (whole ∙ sym is) c.of_number.ensures,
-    subst IsIntegral (sym is) (λ h. refl)))
+    let same = ap expression_of c.in_ok-new.ensures.ok in
+    let is : boxed_of c.in_ok-new.field-0 ≡ Constant Int c.args.value = same ∙ whole in (
+      is,
+      (
+        subst (λ e. IsConstant e c.of_number.result) (whole ∙ sym is) c.of_number.ensures,
+        subst IsIntegral (sym is) (λ h. refl),
+      ),
+    )
