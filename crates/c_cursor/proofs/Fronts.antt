@@ -1,6 +1,6 @@
 -- What stands at the front of a list of tokens.
 use Rattle.std.proofs.Common.{◌≡◌, List, ◌∷◌, Some, refl}
-use Rattle.c_lexer.specs.declared.token.Token.{Token}
+use Rattle.c_tokens.specs.declared.token.Token.{Token}
 use Rattle.c_syntax.specs.declared.operator.SpecifierWord.{SpecifierWord}
 use Rattle.c_grammar.specs.Taking.{specifier_of, take_specifiers}
 use Rattle.c_cursor.specs.Rows.{BeginsWithSpecifier}

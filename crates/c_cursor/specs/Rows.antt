@@ -1,6 +1,6 @@
 -- Rows of tokens of one kind, at the front of a list of tokens.
 use Rattle.std.specs.Prelude.{◌≡◌, ◌<◌, ◌≤◌, List, [], ◌∷◌, length, Option, Some, None}
-use Rattle.c_lexer.specs.declared.token.Token.{Token}
+use Rattle.c_tokens.specs.declared.token.Token.{Token}
 use Rattle.c_syntax.specs.declared.expression.Specifier.{Specifier}
 use Rattle.c_grammar.specs.Taking.{take_specifiers, with_front}
 

@@ -12,8 +12,8 @@ use crate::tables::{
     NO_LEVEL, assign_of, begins_expression, binary_of, is_mark, is_word, level_of, specifier_of,
     step_of, unary_of,
 };
-use c_lexer::{Punct, Token};
 use c_syntax::{AssignOp, BinaryOp, StepOp, UnaryOp};
+use c_tokens::{Punct, Token};
 use pcc_base::{Fault, FaultKind, Keyword, Refusal, Span};
 use std::alloc::Global;
 

@@ -7,8 +7,8 @@ ghost use Rattle.c_cursor.specs.Rows.{IsFront, IsRow};
 
 use crate::cursor::Cursor;
 use crate::tables::specifier_of;
-use c_lexer::{Punct, TokenKind};
 use c_syntax::{Pointer, Specifier, TextPiece};
+use c_tokens::{Punct, TokenKind};
 use pcc_base::{Keyword, Name, NoMemory, Span};
 use std::alloc::Global;
 

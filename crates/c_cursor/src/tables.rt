@@ -6,8 +6,8 @@ ghost use Rattle.c_grammar.specs.Taking.{is_mark, is_word, of_mark, unary_of_mar
 ghost use Rattle.c_grammar.specs.Taking.{binary_of_mark, specifier_of, at_level};
 ghost use Rattle.c_grammar.specs.Heads.{begins};
 
-use c_lexer::{Punct, TokenKind};
 use c_syntax::{AssignOp, BinaryOp, SpecifierWord, StepOp, UnaryOp};
+use c_tokens::{Punct, TokenKind};
 use pcc_base::Keyword;
 
 /// A level above those of all operators.

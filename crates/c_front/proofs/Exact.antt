@@ -7,11 +7,11 @@ use Rattle.pcc_base.specs.declared.keyword.Keyword.{Keyword}
 use Rattle.pcc_base.specs.declared.fault.Fault.{Fault}
 use Rattle.pcc_base.specs.declared.fault.FaultKind.{FaultKind}
 use Rattle.pcc_base.specs.declared.fault.FaultKind.TheVariants.{Syntax, Unsupported, TooDeep}
-use Rattle.c_lexer.specs.declared.token.Token.{Token}
-use Rattle.c_lexer.specs.Pieces.{Piece, NoneBegins}
-use Rattle.c_lexer.specs.Tokens.{HasTokens, HasFault, BeginsWith, Reached, Leads, behind, tokens_of, start_of}
-use Rattle.c_lexer.proofs.OnePiece.{begins_once}
-use Rattle.c_lexer.proofs.OneReading.{none_at_end, one_list, tokens_or_fault}
+use Rattle.c_tokens.specs.declared.token.Token.{Token}
+use Rattle.c_tokens.specs.Pieces.{Piece, NoneBegins}
+use Rattle.c_tokens.specs.Tokens.{HasTokens, HasFault, BeginsWith, Reached, Leads, behind, tokens_of, start_of}
+use Rattle.c_tokens.proofs.OnePiece.{begins_once}
+use Rattle.c_tokens.proofs.OneReading.{none_at_end, one_list, tokens_or_fault}
 use Rattle.c_grammar.specs.Marks.{word}
 use Rattle.c_grammar.specs.Statements.{ExternalTree}
 use Rattle.c_grammar.specs.Grammar.{Tree}

@@ -1,7 +1,7 @@
 -- A raw tree has no keyword outside the profile.
 use Rattle.std.proofs.Common.{◌≡◌, List, [], ◌∷◌, ◌++◌, Option, Some, None, false, refl}
 use Rattle.pcc_base.specs.declared.span.Span.{Span}
-use Rattle.c_lexer.specs.declared.token.Token.{Token}
+use Rattle.c_tokens.specs.declared.token.Token.{Token}
 use Rattle.c_syntax.specs.declared.operator.SpecifierWord.{SpecifierWord}
 use Rattle.c_syntax.specs.declared.operator.SpecifierWord.TheVariants as specifier
 use Rattle.c_syntax.specs.declared.expression.Specifier.{Specifier}

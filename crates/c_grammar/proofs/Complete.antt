@@ -5,11 +5,11 @@ use Rattle.std.proofs.Common.{Option, Some, None, ltb, leb, refl, ap, sym, ◌�
 use Rattle.std.proofs.Common.{◌⊎◌}
 use Rattle.std.proofs.lemmas.Bool.{lt-ltb, le-leb}
 use Rattle.pcc_base.specs.declared.span.Span.{Span}
-use Rattle.c_lexer.specs.declared.token.Token.{Token}
-use Rattle.c_lexer.specs.declared.token.TokenKind.{TokenKind}
-use Rattle.c_lexer.specs.declared.token.TokenKind.TheVariants as kinds
-use Rattle.c_lexer.specs.declared.token.Punct.{Punct}
-use Rattle.c_lexer.specs.declared.token.Punct.TheVariants as marks
+use Rattle.c_tokens.specs.declared.token.Token.{Token}
+use Rattle.c_tokens.specs.declared.token.TokenKind.{TokenKind}
+use Rattle.c_tokens.specs.declared.token.TokenKind.TheVariants as kinds
+use Rattle.c_tokens.specs.declared.token.Punct.{Punct}
+use Rattle.c_tokens.specs.declared.token.Punct.TheVariants as marks
 use Rattle.c_syntax.specs.declared.operator.BinaryOp.{BinaryOp}
 use Rattle.c_syntax.specs.declared.operator.BinaryOp.TheVariants as binary
 use Rattle.c_syntax.specs.declared.operator.SpecifierWord.{SpecifierWord}

@@ -1,6 +1,6 @@
 -- One more token of a row.
 use Rattle.std.proofs.Common.{◌≡◌, List, [], ◌∷◌, ◌++◌, refl, ap, sym, ◌∙◌, append_assoc}
-use Rattle.c_lexer.specs.declared.token.Token.{Token}
+use Rattle.c_tokens.specs.declared.token.Token.{Token}
 use Rattle.c_grammar.specs.Taking.{with_front, prefixed}
 
 -- a row that goes on with one more

@@ -4,7 +4,7 @@ use Rattle.std.specs.Prelude.{Option, Some, None, if◌then◌else◌}
 use Rattle.std.specs.List.{AllByRecursion}
 use Rattle.pcc_base.specs.declared.span.Span.{Span}
 use Rattle.pcc_base.specs.Names.{IsName}
-use Rattle.c_lexer.specs.declared.token.Token.{Token}
+use Rattle.c_tokens.specs.declared.token.Token.{Token}
 use Rattle.c_syntax.specs.declared.expression.Identifier.{Identifier}
 use Rattle.c_grammar.specs.Declarations.{ItemTree, DeclarationTree, ParameterTree}
 use Rattle.c_grammar.specs.DeclarationTokens.{AreApart, IsDeclaration, declaration_tokens, declarator_tokens, followed}

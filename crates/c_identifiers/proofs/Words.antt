@@ -6,12 +6,12 @@ use Rattle.std.proofs.lemmas.Bool.Decides.{nat_tests}
 use Rattle.std.proofs.lemmas.List.Elements.{All-cons, All-nil}
 use Rattle.pcc_base.specs.declared.span.Span.{Span}
 use Rattle.pcc_base.specs.Names.{IsDigit, IsNameByte, IsName}
-use Rattle.c_lexer.specs.declared.token.Token.{Token}
-use Rattle.c_lexer.specs.declared.token.TokenKind.TheVariants as kinds
-use Rattle.c_lexer.specs.Bytes.{is_letter, is_word_byte}
-use Rattle.c_lexer.specs.Literals.{AllPass}
-use Rattle.c_lexer.specs.Pieces.{Piece, Space, Comment, Skipped, Spelled, IsPiece, IsWordText}
-use Rattle.c_lexer.specs.Tokens.{HasTokens, Reached, Leads, behind, start_of, tokens_of}
+use Rattle.c_tokens.specs.declared.token.Token.{Token}
+use Rattle.c_tokens.specs.declared.token.TokenKind.TheVariants as kinds
+use Rattle.c_tokens.specs.Bytes.{is_letter, is_word_byte}
+use Rattle.c_tokens.specs.Literals.{AllPass}
+use Rattle.c_tokens.specs.Pieces.{Piece, Space, Comment, Skipped, Spelled, IsPiece, IsWordText}
+use Rattle.c_tokens.specs.Tokens.{HasTokens, Reached, Leads, behind, start_of, tokens_of}
 use Rattle.c_grammar.specs.Grammar.{unit_tokens}
 use Rattle.c_grammar.specs.Statements.{ExternalTree}
 use Rattle.c_sources.specs.Laws.{AreUnitsOf}

@@ -1,13 +1,12 @@
 ghost use Rattle.std.specs.Prelude.{◌≡◌, ◌⊎◌, ◌<◌, ◌≤◌, ◌+◌, ◌^◌, ◌++◌, length, IfOk, IfErr};
 ghost use Rattle.pcc_base.specs.declared.refusal.Limit.TheVariants.{Tokens};
 ghost use Rattle.pcc_base.specs.declared.refusal.Refusal.TheVariants.{Limit as AboveLimit, NoMemory as Refused};
-ghost use Rattle.c_lexer.specs.Tokens.{HasTokens, fresh_after, place_after, tokens_of};
-ghost use Rattle.c_lexer.specs.Scans.{IsRefused, piece_of};
+ghost use Rattle.c_tokens.specs.Tokens.{HasTokens, fresh_after, tokens_of};
+ghost use Rattle.c_tokens.specs.Scans.{IsRefused, piece_of};
 
-use crate::faults::fault_of;
-use crate::recent::Recent;
-use crate::scanner::{Scanned, scan};
-use crate::token::Token;
+use crate::scanner::scan;
+use c_pieces::advance;
+use c_tokens::{Recent, Scanned, Token, fault_of};
 use pcc_base::{Fault, Limit, Refusal, Span};
 use std::alloc::Global;
 
@@ -76,26 +75,6 @@ fn keep(tokens: &mut Vec<Token>, scanned: Scanned, at: Span, most: usize) -> Res
             }
         }
     }
-}
-
-/// The place behind these bytes, the first of which stands at the given place: a newline begins a line.
-pub fn advance(at: Span, bytes: &[u8]) -> Span
-    requires line { at.line + length bytes.now < 2 ^ 32 }
-    requires col { at.col + length bytes.now < 2 ^ 32 }
-    ensures place { result ≡ place_after at bytes.now }
-    ensures line { result.line ≤ at.line + length bytes.now }
-    ensures col { result.col ≤ at.col + length bytes.now }
-{
-    let mut place = at;
-    for byte in bytes {
-        if *byte == b'\n' {
-            place.line += 1;
-            place.col = 1;
-        } else {
-            place.col += 1;
-        }
-    }
-    place
 }
 
 /// Whether a line may be skipped behind a piece with these bytes, where one might be before it (`fresh`).

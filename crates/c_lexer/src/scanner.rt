@@ -1,27 +1,10 @@
-ghost use Rattle.std.specs.Prelude.{◌≡◌, ◌<◌, ◌↔◌, ◌||◌, ◌==◌, length, IsTrue};
-ghost use Rattle.pcc_base.specs.Ascii.{apostrophe, double_quote};
-ghost use Rattle.c_lexer.specs.Bytes.{is_digit, is_letter, is_space};
-ghost use Rattle.c_lexer.specs.Literals.{StartsNumber};
-ghost use Rattle.c_lexer.specs.Scans.{IsScan};
+ghost use Rattle.std.specs.Prelude.{◌<◌, length};
+ghost use Rattle.c_tokens.specs.Scans.{IsScan};
 
-use crate::marks::mark_at;
-use crate::numbers::number_at;
-use crate::quotes::quote_at;
-use crate::recent::Recent;
-use crate::skips::{hash_at, slash_at, space_at};
-use crate::token::TokenKind;
-use crate::words::word_at;
+use c_pieces::{hash_at, mark_at, number_at, slash_at, space_at};
+use c_tokens::{Recent, Scanned, is_letter, is_quote, is_space, quote_at, starts_number, word_at};
 use pcc_base::NoMemory;
 use std::alloc::Global;
-
-/// A piece of a text.
-#[derive(Drop)]
-pub enum Scanned {
-    Space,
-    Comment,
-    Skipped,
-    Token(TokenKind),
-}
 
 /// The length of the piece that begins the rest of a text, and the piece; None where none begins. The
 /// only refusal is want of memory.
@@ -54,45 +37,4 @@ pub(crate) fn scan(
         return Ok(hash_at(fresh, rest));
     }
     Ok(mark_at(rest))
-}
-
-/// Whether a preprocessing number begins the rest of a text (C99 6.4.8).
-pub fn starts_number(rest: &[u8]) -> bool
-    ensures { IsTrue result ↔ StartsNumber rest.now }
-{
-    if rest.is_empty() {
-        return false;
-    }
-    if is_digit(rest[0]) {
-        return true;
-    }
-    rest[0] == b'.' && rest.len() > 1 && is_digit(rest[1])
-}
-
-/// Whether the byte begins a character constant or a string literal (C99 6.4.4.4, 6.4.5).
-pub fn is_quote(byte: u8) -> bool
-    ensures { result ≡ (byte == apostrophe || byte == double_quote) }
-{
-    byte == b'\'' || byte == b'"'
-}
-
-/// Whether the byte begins an identifier or a keyword (C99 6.4.2.1).
-fn is_letter(byte: u8) -> bool
-    ensures { result ≡ is_letter byte }
-{
-    byte.is_ascii_alphabetic() || byte == b'_'
-}
-
-/// Whether the byte is a digit (C99 6.4.2.1).
-fn is_digit(byte: u8) -> bool
-    ensures { result ≡ is_digit byte }
-{
-    byte.is_ascii_digit()
-}
-
-/// Whether the byte is white space (C99 6.4).
-fn is_space(byte: u8) -> bool
-    ensures { result ≡ is_space byte }
-{
-    byte == b' ' || (b'\t' <= byte && byte <= b'\r')
 }

@@ -1,6 +1,6 @@
 -- Values in braces.
 use Rattle.std.specs.Prelude.{List, [], ◌∷◌}
-use Rattle.c_lexer.specs.declared.token.Token.{Token}
+use Rattle.c_tokens.specs.declared.token.Token.{Token}
 use Rattle.c_grammar.specs.Chains.{Reads, then_read, chained}
 use Rattle.c_grammar.specs.Reading.{Readers, Values}
 use Rattle.c_grammar.specs.DeclarationReading.{brace_step}

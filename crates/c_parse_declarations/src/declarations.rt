@@ -12,8 +12,8 @@ use crate::initialisers::maybe_value;
 use crate::lists::ItemList;
 use crate::parts::some_specifiers;
 use c_cursor::{Cursor, Height, push};
-use c_lexer::Punct;
 use c_syntax::{Declaration, Declarator, Item, Specifier};
+use c_tokens::Punct;
 use pcc_base::{FaultKind, Refusal};
 
 /// `item : declarator ('=' initialiser)?`, behind the declarator

@@ -10,8 +10,8 @@ ghost use Rattle.c_parse_declarations.specs.Parts.{parameters_listed};
 use crate::lists::ParameterList;
 use crate::parts::{array_behind, maybe_array, some_specifiers, take_name};
 use c_cursor::{Cursor, Height, push};
-use c_lexer::Punct;
 use c_syntax::{Declarator, DeclaratorPart, Parameter, ParametersPart};
+use c_tokens::Punct;
 use pcc_base::{FaultKind, Refusal, Span};
 
 /// `parameter : specifiers pointer? ident? ('[' conditional? ']')?`

@@ -13,9 +13,9 @@ ghost use Rattle.c_parse_declarations.specs.Braces.{read_values};
 
 use c_cursor::{Cursor, Height};
 use c_expression_nodes::{Values, one_more, one_value};
-use c_lexer::Punct;
 use c_parse_expressions::{Rule, ValuesTurn, tree_below};
 use c_syntax::{Initialiser, InitialiserPart};
+use c_tokens::Punct;
 use pcc_base::{FaultKind, Refusal, Span};
 
 /// Takes a `,` that is not the last before a `}`.

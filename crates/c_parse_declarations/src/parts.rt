@@ -9,9 +9,9 @@ ghost use Rattle.c_cursor.specs.Rows.{IsRow};
 ghost use Rattle.c_parse_declarations.specs.Parts.{AreSpecifiers, NoSpecifiers};
 
 use c_cursor::{Cursor, Height};
-use c_lexer::{Punct, TokenKind};
 use c_parse_expressions::{Rule, tree_of};
 use c_syntax::{ArrayPart, Expression, Identifier, Specifier};
+use c_tokens::{Punct, TokenKind};
 use pcc_base::{FaultKind, NoMemory, Refusal, Span};
 
 /// A tree of the rule, where this mark does not come at once.

@@ -1,7 +1,7 @@
 -- The levels of operators: one that has no operator here is passed over.
 use Rattle.std.proofs.Common.{◌≡◌, ◌<◌, ◌≤◌, ◌+◌, ◌-◌, ℕ, zero, suc, List, Some, None, sym, ◌∙◌, ap, subst, arith}
 use Rattle.pcc_base.specs.declared.refusal.Refusal.{Refusal}
-use Rattle.c_lexer.specs.declared.token.Token.{Token}
+use Rattle.c_tokens.specs.declared.token.Token.{Token}
 use Rattle.c_grammar.specs.Expressions.{Expr}
 use Rattle.c_grammar.specs.Chains.{Done, Reads, chained, then_read}
 use Rattle.c_grammar.specs.Taking.{take_binary}

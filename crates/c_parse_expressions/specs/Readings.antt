@@ -1,7 +1,7 @@
 -- What the parser's functions answer, by the readers of the grammar.
 use Rattle.std.specs.Prelude.{◌≡◌, ℕ, ◌<◌, ◌≤◌, List, length, map, Some, Result, Ok, Err, ◌-◌}
 use Rattle.pcc_base.specs.declared.refusal.Refusal.{Refusal}
-use Rattle.c_lexer.specs.declared.token.Token.{Token}
+use Rattle.c_tokens.specs.declared.token.Token.{Token}
 use Rattle.c_grammar.specs.Expressions.{Expr, exprs_of, expr_of}
 use Rattle.c_grammar.specs.ExpressionTokens.{expr_height, exprs_height}
 use Rattle.c_grammar.specs.Chains.{Step, Done, Goes, Reads}

@@ -16,8 +16,8 @@ use c_cursor::{Cursor, Height, fault_at};
 use c_expression_nodes::{
     Found, assignment_node, binary_node, cast_node, conditional_node, prefix_node, unary_node,
 };
-use c_lexer::Punct;
 use c_syntax::{AssignOp, BinaryOp, Expression, StepOp, UnaryOp};
+use c_tokens::Punct;
 use pcc_base::{FaultKind, Refusal, Span};
 
 /// The level of the loosest operators of `binary`.

@@ -20,8 +20,8 @@ use c_expression_nodes::{
     Found, Values, call_node, identifier_node, index_node, number_node, one_more, one_value,
     parenthesised_node, postfix_node, text_node,
 };
-use c_lexer::{Punct, TokenKind};
 use c_syntax::{Identifier, TextPiece};
+use c_tokens::{Punct, TokenKind};
 use pcc_base::{FaultKind, Name, NoMemory, Refusal, Span};
 
 /// `postfix : primary ('[' expression ']' | '++' | '--')*`

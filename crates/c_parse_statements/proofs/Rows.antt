@@ -4,8 +4,8 @@ use Rattle.std.proofs.Common.{refl, ◌∙◌, subst}
 use Rattle.pcc_base.specs.declared.span.Span.{Span}
 use Rattle.pcc_base.specs.declared.refusal.Refusal.{Refusal}
 use Rattle.pcc_base.specs.declared.refusal.Refusal.TheVariants.{Fault, Limit, NoMemory}
-use Rattle.c_lexer.specs.declared.token.Token.{Token}
-use Rattle.c_lexer.specs.declared.token.Punct.TheVariants as marks
+use Rattle.c_tokens.specs.declared.token.Token.{Token}
+use Rattle.c_tokens.specs.declared.token.Punct.TheVariants as marks
 use Rattle.c_syntax.specs.declared.statement.Label.{Label}
 use Rattle.c_syntax.specs.declared.statement.Statement.{Statement}
 use Rattle.c_grammar.specs.Statements.{LabelTree, label_of, Stmt, stmt_of}

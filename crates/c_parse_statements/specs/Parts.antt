@@ -4,9 +4,9 @@ use Rattle.std.specs.Prelude.{◌≡◌, ℕ, ◌-◌, ◌<◌, List, [], ◌∷
 use Rattle.pcc_base.specs.declared.span.Span.{Span}
 use Rattle.pcc_base.specs.declared.keyword.Keyword.TheVariants as words
 use Rattle.pcc_base.specs.declared.refusal.Refusal.{Refusal}
-use Rattle.c_lexer.specs.declared.token.Token.{Token}
-use Rattle.c_lexer.specs.declared.token.Punct.{Punct}
-use Rattle.c_lexer.specs.declared.token.Punct.TheVariants as marks
+use Rattle.c_tokens.specs.declared.token.Token.{Token}
+use Rattle.c_tokens.specs.declared.token.Punct.{Punct}
+use Rattle.c_tokens.specs.declared.token.Punct.TheVariants as marks
 use Rattle.c_syntax.specs.declared.expression.Specifier.{Specifier}
 use Rattle.c_syntax.specs.declared.statement.Label.{Label}
 use Rattle.c_syntax.specs.declared.statement.Statement.{Statement}

@@ -9,8 +9,8 @@ ghost use Rattle.c_parse_statements.specs.Parts.{below_node, boxed_of};
 use crate::nodes::{boxed, return_node, simple_node};
 use crate::parts::take_clause;
 use c_cursor::{Cursor, Height};
-use c_lexer::Punct;
 use c_syntax::Statement;
+use c_tokens::Punct;
 use pcc_base::{FaultKind, Keyword, Refusal, Span};
 
 /// `'break' ';'`, behind the word

@@ -7,9 +7,9 @@ ghost use Rattle.c_parse_statements.specs.Parts.{IsLabelTurn, labels_of};
 
 use crate::parts::LabelList;
 use c_cursor::{Cursor, Height, push};
-use c_lexer::Punct;
 use c_parse_expressions::{Rule, tree_of};
 use c_syntax::Label;
+use c_tokens::Punct;
 use pcc_base::{FaultKind, Keyword, Refusal};
 
 /// `label?`, with `label : 'case' conditional ':' | 'default' ':'`, of at most this height

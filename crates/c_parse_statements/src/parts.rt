@@ -15,10 +15,10 @@ ghost use Rattle.c_parse_statements.specs.Parts.{read_for_tests, read_switch_hea
 ghost use Rattle.c_parse_statements.specs.Parts.{tests_of};
 
 use c_cursor::{Cursor, Height, begins_expression, fault_at};
-use c_lexer::{Punct, TokenKind};
 use c_parse_declarations::{declaration, maybe};
 use c_parse_expressions::{Rule, tree_of};
 use c_syntax::{Declaration, Expression, Label, Statement};
+use c_tokens::{Punct, TokenKind};
 use pcc_base::{FaultKind, Keyword, Refusal, Span};
 
 /// `'(' expression ')'`

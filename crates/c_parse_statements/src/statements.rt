@@ -21,9 +21,9 @@ use crate::parts::{
     Condition, StatementList, do_tail, for_head, no_item_height, parenthesised, switch_head,
 };
 use c_cursor::{Cursor, Height};
-use c_lexer::Punct;
 use c_parse_declarations::declaration;
 use c_syntax::Statement;
+use c_tokens::Punct;
 use pcc_base::{FaultKind, Keyword, Refusal, Span};
 
 /// A statement below a node of this height; where there is none, the refusal is that of a block's item.

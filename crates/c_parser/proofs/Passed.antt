@@ -1,6 +1,6 @@
 -- The search for a keyword outside the profile.
 use Rattle.std.proofs.Common.{◌≡◌, List, [], ◌∷◌, ◌++◌, append_assoc, ap, sym, ◌∙◌}
-use Rattle.c_lexer.specs.declared.token.Token.{Token}
+use Rattle.c_tokens.specs.declared.token.Token.{Token}
 use Rattle.c_parser.specs.Refusals.{IsInside, NoneUnsupported}
 use Rattle.c_parser.specs.Passing.{Passed}
 

@@ -1,6 +1,6 @@
 -- What is read whole is the raw tree, and where nothing is read there is none.
 use Rattle.std.proofs.Common.{◌≡◌, ℕ, ◌+◌, ◌≤◌, List, [], Some, None, ap, sym, ◌∙◌, arith}
-use Rattle.c_lexer.specs.declared.token.Token.{Token}
+use Rattle.c_tokens.specs.declared.token.Token.{Token}
 use Rattle.c_grammar.specs.Statements.{ExternalTree}
 use Rattle.c_grammar.specs.Grammar.{Tree}
 use Rattle.c_grammar.specs.StatementReading.{Below, below_of, read_unit}

@@ -1,6 +1,6 @@
 -- How far the search for a keyword outside the profile has come.
 use Rattle.std.specs.Prelude.{◌≡◌, List, ◌++◌}
-use Rattle.c_lexer.specs.declared.token.Token.{Token}
+use Rattle.c_tokens.specs.declared.token.Token.{Token}
 use Rattle.c_parser.specs.Refusals.{NoneUnsupported}
 
 -- no token before these is a keyword outside the profile

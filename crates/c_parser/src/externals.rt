@@ -9,10 +9,10 @@ ghost use Rattle.c_cursor.specs.Readings.{IsRead, IsPartRead};
 ghost use Rattle.c_parse_statements.specs.Parts.{below_node};
 
 use c_cursor::{Cursor, Height, push};
-use c_lexer::Punct;
 use c_parse_declarations::{declaration_behind, declarator, some_specifiers};
 use c_parse_statements::statement_below;
 use c_syntax::{Declarator, DeclaratorPart, External, RawUnit, Specifier};
+use c_tokens::Punct;
 use pcc_base::Refusal;
 
 /// Whether a declarator with this part is a function's.

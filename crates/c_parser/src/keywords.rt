@@ -1,10 +1,10 @@
 //! The keywords of C99 outside the profile.
 
 ghost use Rattle.std.specs.Prelude.{◌≡◌, true, IfSome, IfNone};
-ghost use Rattle.c_lexer.specs.declared.token.TokenKind.TheVariants as kinds;
+ghost use Rattle.c_tokens.specs.declared.token.TokenKind.TheVariants as kinds;
 ghost use Rattle.c_parser.specs.Refusals.{is_outside, IsInside, NoneUnsupported, FirstUnsupported};
 
-use c_lexer::{Token, TokenKind};
+use c_tokens::{Token, TokenKind};
 use pcc_base::{Keyword, Span};
 
 /// Whether no rule of the grammar uses this keyword.

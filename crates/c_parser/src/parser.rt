@@ -1,5 +1,5 @@
 ghost use Rattle.std.specs.Prelude.{◌≤◌, ℕ, List, IfOk, IfErr};
-ghost use Rattle.c_lexer.specs.declared.token.Token.{Token};
+ghost use Rattle.c_tokens.specs.declared.token.Token.{Token};
 ghost use Rattle.c_grammar.specs.Grammar.{Tree};
 ghost use Rattle.c_grammar.specs.Statements.{unit_of};
 ghost use Rattle.c_parser.specs.Refusals.{IsRefused, NoneUnsupported, NoTree};
@@ -7,8 +7,8 @@ ghost use Rattle.c_parser.specs.Refusals.{IsRefused, NoneUnsupported, NoTree};
 use crate::externals::unit;
 use crate::keywords::first_outside;
 use c_cursor::{Cursor, Height};
-use c_lexer::Token;
 use c_syntax::RawUnit;
+use c_tokens::Token;
 use pcc_base::{Fault, FaultKind, Refusal, Span};
 use std::alloc::Global;
 

@@ -4,7 +4,7 @@ use Rattle.std.specs.Prelude.{◌⊎◌, Option, Some, None, slice_get}
 use Rattle.pcc_base.specs.declared.fault.Fault.{Fault}
 use Rattle.pcc_base.specs.declared.refusal.Limit.{Limit}
 use Rattle.pcc_base.specs.declared.refusal.Limit.TheVariants as limits
-use Rattle.c_lexer.specs.declared.token.Token.{Token}
+use Rattle.c_tokens.specs.declared.token.Token.{Token}
 use Rattle.c_grammar.specs.Statements.{ExternalTree}
 use Rattle.c_tree.specs.Program.{Function, Program}
 use Rattle.c_typing.specs.Typed.{IsAbove, IsAccepted, IsLeastFault}

@@ -2,7 +2,7 @@
 
 ghost use Rattle.std.specs.Prelude.{◌≡◌, ◌≤◌, ℕ, List, map, slice_get, Some, IfOk};
 ghost use Rattle.pcc_base.specs.declared.refusal.Limit.TheVariants as limits;
-ghost use Rattle.c_lexer.specs.declared.token.Token.{Token};
+ghost use Rattle.c_tokens.specs.declared.token.Token.{Token};
 ghost use Rattle.c_grammar.specs.Statements.{unit_of};
 ghost use Rattle.c_typing.specs.Typed.{IsAbove};
 ghost use Rattle.c_check_programs.specs.Answers.{IsRefusal};

@@ -8,7 +8,7 @@ use Rattle.std.proofs.lemmas.Int.{SFits-int_wrap, ints}
 use Rattle.pcc_base.specs.declared.span.Span.{Span}
 use Rattle.pcc_base.specs.declared.fault.FaultKind.TheVariants as kinds
 use Rattle.pcc_base.specs.Objects.{FitsBytes}
-use Rattle.c_lexer.specs.declared.token.Token.{Token}
+use Rattle.c_tokens.specs.declared.token.Token.{Token}
 use Rattle.c_syntax.specs.declared.operator.BinaryOp as raw
 use Rattle.c_syntax.specs.declared.operator.BinaryOp.TheVariants as raw_binary
 use Rattle.c_syntax.specs.declared.operator.UnaryOp as raw_one

@@ -5,9 +5,9 @@ use Rattle.std.specs.List.{AllByRecursion, AllPairs}
 use Rattle.std.proofs.lemmas.List.Elements.{All-from_recursion}
 use Rattle.std.proofs.lemmas.List.Kept.{AllPairs-cons}
 use Rattle.pcc_base.specs.declared.span.Span.{Span}
-use Rattle.c_lexer.specs.declared.token.Token.{Token}
-use Rattle.c_lexer.specs.Pieces.{Piece, Space, Comment, Skipped, Spelled}
-use Rattle.c_lexer.specs.Tokens.{Reached, Leads, behind, tokens_of, place_after, start_of, HasTokens}
+use Rattle.c_tokens.specs.declared.token.Token.{Token}
+use Rattle.c_tokens.specs.Pieces.{Piece, Space, Comment, Skipped, Spelled}
+use Rattle.c_tokens.specs.Tokens.{Reached, Leads, behind, tokens_of, place_after, start_of, HasTokens}
 use Rattle.c_sources.proofs.Spans.{AtLeast, Past, later, past_least, past_later, past_differs, after_past}
 
 abbrev pub Apart : Token → Token → Type 0

@@ -5,12 +5,12 @@ use Rattle.std.specs.Prelude.{ℤ, pos, ◌-ℤ◌, nat_lt, take, if◌then◌el
 use Rattle.std.specs.List.{AllByRecursion}
 use Rattle.byteorder.specs.Endian.{twos_complement}
 use Rattle.pcc_base.specs.declared.span.Span.{Span}
-use Rattle.c_lexer.specs.declared.token.Token.{Token}
-use Rattle.c_lexer.specs.declared.token.TokenKind.{TokenKind}
-use Rattle.c_lexer.specs.declared.token.TokenKind.TheVariants as kinds
-use Rattle.c_lexer.specs.Literals.{IsCharacterConstant}
-use Rattle.c_lexer.specs.Pieces.{Piece, Space, Comment, Skipped, Spelled, IsPiece}
-use Rattle.c_lexer.specs.Tokens.{Reached, Leads, behind, tokens_of, start_of, HasTokens}
+use Rattle.c_tokens.specs.declared.token.Token.{Token}
+use Rattle.c_tokens.specs.declared.token.TokenKind.{TokenKind}
+use Rattle.c_tokens.specs.declared.token.TokenKind.TheVariants as kinds
+use Rattle.c_tokens.specs.Literals.{IsCharacterConstant}
+use Rattle.c_tokens.specs.Pieces.{Piece, Space, Comment, Skipped, Spelled, IsPiece}
+use Rattle.c_tokens.specs.Tokens.{Reached, Leads, behind, tokens_of, start_of, HasTokens}
 use Rattle.c_typing.specs.Laws.{IsInt, HasIntIfAny}
 
 abbrev pub HaveInts : List Token → Type 0

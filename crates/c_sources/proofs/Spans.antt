@@ -3,7 +3,7 @@ use Rattle.std.proofs.Common.{◌≡◌, ℕ, ◌+◌, ◌<◌, ◌≤◌, arith
 use Rattle.std.specs.Prelude.{◌==◌, if◌then◌else◌}
 use Rattle.pcc_base.specs.Ascii.{newline}
 use Rattle.pcc_base.specs.declared.span.Span.{Span}
-use Rattle.c_lexer.specs.Tokens.{place_after}
+use Rattle.c_tokens.specs.Tokens.{place_after}
 
 -- a place that isn't before another one of the same file, and one behind it
 pub record AtLeast (p q : Span) : Type 0 where

@@ -1,7 +1,7 @@
 -- Files that were lexed and parsed are what typing asks for.
 use Rattle.std.specs.Prelude.{ℕ, suc, List, [], ◌∷◌}
-use Rattle.c_lexer.specs.declared.token.Token.{Token}
-use Rattle.c_lexer.specs.Tokens.{HasTokens}
+use Rattle.c_tokens.specs.declared.token.Token.{Token}
+use Rattle.c_tokens.specs.Tokens.{HasTokens}
 use Rattle.c_grammar.specs.Grammar.{Tree}
 use Rattle.c_grammar.specs.Statements.{ExternalTree}
 use Rattle.c_typing.specs.Laws.{AreSources}

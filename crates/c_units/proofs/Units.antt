@@ -1,7 +1,7 @@
 -- The raw trees of texts are those of each text, and their tokens are those of the texts.
 use Rattle.std.proofs.Common.{arith, ◌≡◌, refl, subst, ℕ, suc, List, [], ◌∷◌, length, length-append}
 use Rattle.std.specs.Prelude.{flat_map}
-use Rattle.c_lexer.specs.declared.token.Token.{Token}
+use Rattle.c_tokens.specs.declared.token.Token.{Token}
 use Rattle.c_grammar.specs.Grammar.{unit_tokens}
 use Rattle.c_grammar.specs.Statements.{ExternalTree}
 use Rattle.c_front.specs.Accepted.{HaveTokens, HaveTrees, total}

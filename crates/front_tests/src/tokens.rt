@@ -2,7 +2,8 @@
 
 use crate::expected::{expect_refusal, expect_shown};
 use crate::texts::{push_name, push_shown};
-use c_lexer::{Token, TokenKind, lex};
+use c_lexer::lex;
+use c_tokens::{Token, TokenKind};
 use pcc_base::{Fault, FaultKind, Limit, Name, Refusal, Span};
 use std::alloc::{AllocError, Global};
 use std::process::Abort;

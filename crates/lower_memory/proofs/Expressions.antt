@@ -4,7 +4,7 @@ use Rattle.std.proofs.Common.{w32, List, [], ◌∷◌, ◌++◌, length, length
 use Rattle.std.specs.Prelude.{ℤ, FitsSigned, Option, Some, None, if◌then◌else◌}
 use Rattle.std.proofs.lemmas.Int.{ints}
 use Rattle.pcc_base.specs.declared.span.Span.{Span}
-use Rattle.c_lexer.specs.declared.token.Token.{Token}
+use Rattle.c_tokens.specs.declared.token.Token.{Token}
 use Rattle.c_syntax.specs.declared.operator.BinaryOp as raw
 use Rattle.c_syntax.specs.declared.operator.BinaryOp.TheVariants as raw_binary
 use Rattle.c_syntax.specs.declared.operator.UnaryOp as raw_one

@@ -10,7 +10,7 @@ use Rattle.pcc_base.specs.declared.run.Trap.{Trap}
 use Rattle.pcc_base.specs.declared.run.Trap.TheVariants.{Divide, Check}
 use Rattle.pcc_base.specs.declared.run.Stop.{Stop}
 use Rattle.pcc_base.specs.declared.run.Stop.TheVariants.{Instruction, Access, Flags, Call}
-use Rattle.c_lexer.specs.Spellings.{keyword_text}
+use Rattle.c_tokens.specs.Spellings.{keyword_text}
 use Rattle.pcc_listing.specs.Lines.{address_text}
 use Rattle.pcc_words.specs.Asked as commands
 use Rattle.pcc_words.specs.Asked.{map_name}

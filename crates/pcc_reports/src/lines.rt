@@ -30,7 +30,7 @@ ghost use Rattle.pcc_words.specs.Words.{meaning};
 ghost use Rattle.pcc_listing.specs.Lines.{address_text};
 
 use crate::report::{Named, Report};
-use c_lexer::spelling;
+use c_tokens::spelling;
 use pcc_base::{Fault, FaultKind, NoMemory, Stop, Trap};
 use pcc_listing::{push_address, push_number};
 use pcc_words::Command;

@@ -3,9 +3,9 @@ use Rattle.std.proofs.Common.{◌≡◌, ◌++◌, arith, refl, length, inl, inr
 use Rattle.std.proofs.lemmas.Bool.Decides.{nat_tests}
 use Rattle.std.proofs.lemmas.List.{nil_from_length}
 use Rattle.std.proofs.lemmas.Result.{err_from_is_err_and}
-use Rattle.c_lexer.specs.Tokens.{place_after, tokens_of}
-use Rattle.c_lexer.specs.Scans.{piece_of}
-use Rattle.c_lexer.proofs.Leading.{Stands, stands_more, counted_more}
+use Rattle.c_tokens.specs.Tokens.{place_after, tokens_of}
+use Rattle.c_tokens.specs.Scans.{piece_of}
+use Rattle.c_tokens.proofs.Leading.{Stands, stands_more, counted_more}
 use Rattle.c_lexer.proofs.lexer.lex.Goals as goal
 
 pub returns-in_err-keep-clause-refused : goal.returns-in_err-keep-clause-refused

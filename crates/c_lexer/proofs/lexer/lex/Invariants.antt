@@ -1,6 +1,6 @@
 -- The tokens so far are those of the pieces so far; the place of what is left fits.
 use Rattle.std.proofs.Common.{◌≤◌, ◌+◌, length}
-use Rattle.c_lexer.proofs.Leading.{Stands}
+use Rattle.c_tokens.proofs.Leading.{Stands}
 use Rattle.c_lexer.proofs.lexer.lex.Given as goal
 
 abbrev pub invariant-loop-rest : goal.invariant-loop-rest

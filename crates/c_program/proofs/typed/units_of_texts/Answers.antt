@@ -1,7 +1,7 @@
 -- There are as many lists of tokens as texts.
 use Rattle.std.proofs.Common.{◌≡◌, ℕ, List, Vec, Global, length, map, ap, arith}
 use Rattle.std.proofs.lemmas.List.{length-map}
-use Rattle.c_lexer.specs.declared.token.Token.{Token}
+use Rattle.c_tokens.specs.declared.token.Token.{Token}
 use Rattle.c_front.specs.declared.lexed.Lexed.{Lexed}
 use Rattle.c_front.proofs.Reading.{tokens_same}
 use Rattle.c_program.proofs.typed.units_of_texts.Goals as goal

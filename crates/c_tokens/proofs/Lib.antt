@@ -1,0 +1,17 @@
+pub mod Closing
+pub mod DigitFronts
+pub mod FirstBytes
+pub mod Fronts
+pub mod Leading
+pub mod LiteralReading
+pub mod MarkPieces
+pub mod NumberPieces
+pub mod OnePiece
+pub mod OneReading
+pub mod OneSpelling
+pub mod OneValue
+pub mod PieceStarts
+pub mod QuotePieces
+pub mod Rows
+pub mod SkipPieces
+pub mod WordPieces

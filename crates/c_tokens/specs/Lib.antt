@@ -1,0 +1,9 @@
+pub mod Bytes
+pub mod Spellings
+pub mod Literals
+pub mod Characters
+pub mod Pieces
+pub mod Tokens
+pub mod Scans
+pub mod Radixes
+pub mod Directives
