@@ -1,6 +1,6 @@
 use Rattle.std.proofs.Common.{rules, sym, ◌∙◌}
-use Rattle.c_cursor.proofs.Fronts.{begins_at}
-use Rattle.c_cursor.proofs.cursor.begins_with_specifier.Goals as goal
+use Rattle.c_casts.proofs.Fronts.{begins_at}
+use Rattle.c_casts.proofs.casts.begins_with_specifier.Goals as goal
 
 pub returns-in-Some-specifier_of-clause-yes : goal.returns-in-Some-specifier_of-clause-yes
 returns-in-Some-specifier_of-clause-yes c =

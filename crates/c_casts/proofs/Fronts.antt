@@ -3,7 +3,7 @@ use Rattle.std.proofs.Common.{◌≡◌, List, ◌∷◌, Some, refl}
 use Rattle.c_lexer.specs.declared.token.Token.{Token}
 use Rattle.c_syntax.specs.declared.operator.SpecifierWord.{SpecifierWord}
 use Rattle.c_grammar.specs.Taking.{specifier_of, take_specifiers}
-use Rattle.c_cursor.specs.Rows.{BeginsWithSpecifier}
+use Rattle.c_casts.specs.Fronts.{BeginsWithSpecifier}
 
 -- a specifier at the front
 pub begins_at : (ts : List Token) (t : Token) (us : List Token) (w : SpecifierWord) → ts ≡ t ∷ us
