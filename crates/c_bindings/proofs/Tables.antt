@@ -6,26 +6,14 @@ use Rattle.std.proofs.Common.{true≢false, ◌-◌, ◌≤◌}
 use Rattle.std.specs.Prelude.{nat_eq}
 use Rattle.std.specs.Cmp.Lexicographic.{pointwise}
 use Rattle.std.specs.Map.{lookup, KeepsOthers}
-use Rattle.std.proofs.lemmas.Slice.Eq.{bytes_eq-Decides}
 use Rattle.std.specs.Prelude.{option_map, IfSome, IsSome}
 use Rattle.std.proofs.lemmas.List.{reverse-append, reverse-reverse, length-reverse}
 use Rattle.std.proofs.lemmas.Option.{none-some, same_Some, get_or_from_slice_get, slice_get_within}
 use Rattle.c_typing.specs.Library.{same_name}
 use Rattle.c_typing.specs.Names.{binding_of}
-use Rattle.c_scopes.specs.declared.names.Entry.{Entry}
-use Rattle.c_scopes.specs.Bindings.{binding_from, innermost_first, of_binding, of_entry, place_of, AreChained}
-
--- ---- names
-
-pub same_is : (a b : List ℕ) → same_name a b ≡ true → a ≡ b
-same_is a b e = (bytes_eq-Decides a b).0 e
-
-pub same_self : (a : List ℕ) → same_name a a ≡ true
-same_self a = (bytes_eq-Decides a a).1 refl
-
-pub false_if : (b : Bool) → (b ≡ true → ⊥) → b ≡ false
-false_if true never = absurd (never refl)
-false_if false never = refl
+use Rattle.c_meanings.proofs.Names.{same_is, same_self, false_if}
+use Rattle.c_bindings.specs.declared.names.Entry.{Entry}
+use Rattle.c_bindings.specs.Bindings.{binding_from, innermost_first, of_binding, of_entry, place_of, AreChained}
 
 -- ---- a table of which one name was changed
 

@@ -1,7 +1,7 @@
 //! What a program names: functions and objects of static storage (C99 6.2.2 and 6.2.4).
 
 ghost use Rattle.std.specs.Prelude.{◌≡◌, IfOk};
-ghost use Rattle.c_scopes.specs.Views.{entity_of};
+ghost use Rattle.c_meanings.specs.Views.{entity_of};
 
 use pcc_base::NoMemory;
 use std::alloc::Global;

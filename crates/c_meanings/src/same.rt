@@ -3,7 +3,7 @@
 ghost use Rattle.std.specs.Prelude.{◌≡◌};
 ghost use Rattle.c_typing.specs.Library.{same_entity};
 ghost use Rattle.c_typing.specs.Types.{same_pointed, same_type, same_value, same_values};
-ghost use Rattle.c_scopes.specs.Views.{declared_of, entity_of};
+ghost use Rattle.c_meanings.specs.Views.{declared_of, entity_of};
 
 use crate::entity::Entity;
 use crate::meaning::Declared;

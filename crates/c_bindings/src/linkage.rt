@@ -1,18 +1,24 @@
 //! Linkage (C99 6.2.2).
 
 ghost use Rattle.std.specs.Prelude.{◌≡◌, option_map, IfOk, Some};
-ghost use Rattle.c_typing.specs.Library.{external};
+ghost use Rattle.c_typing.specs.Library.{external, OfFile};
 ghost use Rattle.c_typing.specs.Names.{as_before, entity_seen, is_function, is_other};
-ghost use Rattle.c_scopes.specs.Views.{declared_of, entity_of, meaning_of};
+ghost use Rattle.c_meanings.specs.Views.{declared_of, entity_of, meaning_of};
 
-use crate::entity::{Entity, LibraryFunction};
-use crate::meaning::{Declared, Meaning};
-use crate::same::same_entity;
+use c_meanings::{Declared, Entity, LibraryFunction, Meaning, same_entity};
 use pcc_base::NoMemory;
 use std::alloc::Global;
 
+/// What a name of internal linkage names: one thing in the file at this position.
+pub fn internal(alloc: Global, file: u32, name: &[u8]) -> Result<Entity, NoMemory>
+    ensures { IfOk result (λ e. entity_of e ≡ OfFile file name.now) }
+{
+    let bytes = name.to_vec(alloc)?;
+    Ok(Entity::OfFile(file, bytes))
+}
+
 /// What a name of external linkage names: the three names are the library's in every file.
-pub(crate) fn external(alloc: Global, name: &[u8]) -> Result<Entity, NoMemory>
+pub fn external(alloc: Global, name: &[u8]) -> Result<Entity, NoMemory>
     ensures { IfOk result (λ e. entity_of e ≡ external name.now) }
 {
     if name == b"putchar".as_slice() {
@@ -28,7 +34,7 @@ pub(crate) fn external(alloc: Global, name: &[u8]) -> Result<Entity, NoMemory>
 }
 
 /// The thing that a name means, where it has linkage or static storage.
-pub(crate) fn entity_meant(meaning: Option<&Meaning>) -> Option<&Entity>
+pub fn entity_meant(meaning: Option<&Meaning>) -> Option<&Entity>
     ensures { option_map (λ e. entity_of e.now) result
         ≡ entity_seen (option_map (λ m. meaning_of m.now) meaning.entry) }
 {
@@ -43,11 +49,7 @@ pub(crate) fn entity_meant(meaning: Option<&Meaning>) -> Option<&Entity>
 }
 
 /// What a name names already, and otherwise something of external linkage (C99 6.2.2p4).
-pub(crate) fn as_before(
-    alloc: Global,
-    name: &[u8],
-    meaning: Option<&Meaning>,
-) -> Result<Entity, NoMemory>
+pub fn as_before(alloc: Global, name: &[u8], meaning: Option<&Meaning>) -> Result<Entity, NoMemory>
     ensures { IfOk result (λ e. entity_of e
         ≡ as_before name.now (option_map (λ m. meaning_of m.now) meaning.entry)) }
 {
@@ -62,7 +64,7 @@ pub(crate) fn as_before(
 }
 
 /// Whether a thing is another one than what is seen.
-pub(crate) fn is_other(entity: &Entity, seen: Option<&Entity>) -> bool
+pub fn is_other(entity: &Entity, seen: Option<&Entity>) -> bool
     ensures { result ≡ is_other (entity_of entity.now) (option_map (λ e. entity_of e.now) seen.entry) }
 {
     match seen {
@@ -72,7 +74,7 @@ pub(crate) fn is_other(entity: &Entity, seen: Option<&Entity>) -> bool
 }
 
 /// Whether a declared type is a function's.
-pub(crate) fn is_function(declared: &Declared) -> bool
+pub fn is_function(declared: &Declared) -> bool
     ensures { result ≡ is_function (declared_of declared.now) }
 {
     match declared {

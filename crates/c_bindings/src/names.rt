@@ -5,12 +5,12 @@ ghost use Rattle.std.specs.Prelude.{IfNone, IfOk, IfSome, IsSome, OnOk};
 ghost use Rattle.std.specs.Cmp.Lexicographic.{pointwise};
 ghost use Rattle.std.specs.Map.{KeepsOthers};
 ghost use Rattle.indexmap.specs.IndexMap.{get_by};
-ghost use Rattle.c_scopes.specs.declared.names.Entry.{Entry};
+ghost use Rattle.c_bindings.specs.declared.names.Entry.{Entry};
 ghost use Rattle.c_typing.specs.Names.{binding_of};
-ghost use Rattle.c_scopes.specs.Bindings.{of_binding, of_entry};
-ghost use Rattle.c_scopes.specs.Views.{meaning_of};
+ghost use Rattle.c_bindings.specs.Bindings.{of_binding, of_entry};
+ghost use Rattle.c_meanings.specs.Views.{meaning_of};
 
-use crate::meaning::Meaning;
+use c_meanings::Meaning;
 use indexmap::IndexMap;
 use pcc_base::NoMemory;
 use std::alloc::Global;
@@ -18,16 +18,16 @@ use std::marker::Model;
 
 /// A name that is declared, how many scopes are around its own, and the place of the binding that it hides.
 #[derive(Drop)]
-pub(crate) struct Entry {
+pub struct Entry {
     name: Vec<u8>,
-    pub(crate) depth: u32,
-    pub(crate) meaning: Meaning,
+    pub depth: u32,
+    pub meaning: Meaning,
     hidden: Option<usize>,
 }
 
 /// The names that are seen, seen as their bindings, the innermost first.
 #[derive(Drop)]
-pub(crate) struct Names {
+pub struct Names {
     /// In the order of their declarations.
     entries: Vec<Entry>,
     /// Where the innermost binding of each name stands among them.
@@ -43,7 +43,7 @@ impl Model for Names {
 
     ghost Value = { List Binding };
 
-    ghost use Rattle.c_scopes.specs.Bindings.{innermost_first, place_of, AreChained};
+    ghost use Rattle.c_bindings.specs.Bindings.{innermost_first, place_of, AreChained};
 
     ghost view = { λ n. innermost_first n.entries.items };
 
@@ -92,7 +92,8 @@ fn put_back(places: &mut IndexMap<Vec<u8>, usize>, name: Vec<u8>, hidden: Option
 }
 
 impl Names {
-    pub(crate) fn new(alloc: Global) -> Names
+    /// No name is seen.
+    pub fn new(alloc: Global) -> Names
         ensures { result ≡ [] }
     {
         Names {
@@ -101,14 +102,15 @@ impl Names {
         }
     }
 
-    pub(crate) fn len(&self) -> usize
+    /// How many bindings are seen.
+    pub fn len(&self) -> usize
         ensures { result ≡ length self.now }
     {
         self.entries.len()
     }
 
     /// The innermost binding of a name.
-    pub(crate) fn find(&self, name: &[u8]) -> Option<&Entry>
+    pub fn find(&self, name: &[u8]) -> Option<&Entry>
         ensures { option_map (λ e. of_entry e.now) result
             ≡ option_map of_binding (binding_of self.now name.now) }
     {
@@ -119,7 +121,7 @@ impl Names {
     }
 
     /// Binds a name, which hides what it meant before.
-    pub(crate) fn bind(
+    pub fn bind(
         &mut self,
         alloc: Global,
         name: &[u8],
@@ -157,7 +159,7 @@ impl Names {
     }
 
     /// Forgets bindings until so many are left.
-    pub(crate) fn forget_until(&mut self, count: usize)
+    pub fn forget_until(&mut self, count: usize)
         ensures { self.new ≡ drop (length self.old - count) self.old }
     {
         'names: while self.len() > count {

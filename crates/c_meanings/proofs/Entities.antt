@@ -4,11 +4,11 @@ use Rattle.std.specs.Prelude.{nat_eq}
 use Rattle.std.proofs.lemmas.Grind.{common_steps}
 use Rattle.std.proofs.lemmas.Slice.Eq.{bytes_eq-Decides}
 use Rattle.c_typing.specs.Library.{same_entity, same_name}
-use Rattle.c_scopes.specs.declared.entity.LibraryFunction.TheVariants.{Putchar, Getchar, Exit}
-use Rattle.c_scopes.specs.declared.entity.Entity.{Entity}
-use Rattle.c_scopes.specs.declared.entity.Entity.TheVariants.{Library, Shared, OfFile, At}
-use Rattle.c_scopes.specs.contracts.entity.EntityPartialEq.TheImpl.{ghosts}
-use Rattle.c_scopes.specs.Views.{entity_of}
+use Rattle.c_meanings.specs.declared.entity.LibraryFunction.TheVariants.{Putchar, Getchar, Exit}
+use Rattle.c_meanings.specs.declared.entity.Entity.{Entity}
+use Rattle.c_meanings.specs.declared.entity.Entity.TheVariants.{Library, Shared, OfFile, At}
+use Rattle.c_meanings.specs.contracts.entity.EntityPartialEq.TheImpl.{ghosts}
+use Rattle.c_meanings.specs.Views.{entity_of}
 
 both_ways : (a b : Bool) → (a ≡ true → b ≡ true) → (b ≡ true → a ≡ true) → a ≡ b
 both_ways true b f g = sym (f refl)

@@ -2,8 +2,8 @@ use Rattle.std.proofs.Common.{rules, ◌≡◌, List, ℕ, length, ap, sym, ◌�
 use Rattle.std.specs.Prelude.{nat_eq}
 use Rattle.std.specs.Cmp.Lexicographic.{pointwise}
 use Rattle.std.specs.Map.{lookup}
-use Rattle.c_scopes.proofs.Tables.{bind_keeps}
-use Rattle.c_scopes.proofs.names.Names.bind.Goals as goal
+use Rattle.c_bindings.proofs.Tables.{bind_keeps}
+use Rattle.c_bindings.proofs.names.Names.bind.Goals as goal
 
 pub invariant_of-self-in-Ok : goal.invariant_of-self-in-Ok
 invariant_of-self-in-Ok c =

@@ -1,9 +1,9 @@
 use Rattle.std.proofs.Common.{ap, sym, ◌∙◌, arith}
 use Rattle.std.specs.Prelude.{option_copied, option_map}
 use Rattle.c_typing.specs.Names.{binding_of}
-use Rattle.c_scopes.specs.Bindings.{of_binding}
-use Rattle.c_scopes.proofs.Tables.{found_entry, found_within, found_none}
-use Rattle.c_scopes.proofs.names.Names.find.Goals as goal
+use Rattle.c_bindings.specs.Bindings.{of_binding}
+use Rattle.c_bindings.proofs.Tables.{found_entry, found_within, found_none}
+use Rattle.c_bindings.proofs.names.Names.find.Goals as goal
 
 pub index-requires : goal.index-requires
 index-requires c = omega (

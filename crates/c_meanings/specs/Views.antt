@@ -4,18 +4,18 @@ use Rattle.std.specs.List.{list_any}
 use Rattle.c_typing.specs.Library as library
 use Rattle.c_typing.specs.Names as names
 use Rattle.c_typing.specs.Types as types
-use Rattle.c_scopes.specs.declared.entity.LibraryFunction.{LibraryFunction}
-use Rattle.c_scopes.specs.declared.entity.LibraryFunction.TheVariants as functions
-use Rattle.c_scopes.specs.declared.entity.Entity.{Entity}
-use Rattle.c_scopes.specs.declared.entity.Entity.TheVariants as entities
-use Rattle.c_scopes.specs.declared.meaning.Signature.{Signature}
-use Rattle.c_scopes.specs.declared.meaning.Meaning.{Meaning}
-use Rattle.c_scopes.specs.declared.meaning.Meaning.TheVariants as meanings
-use Rattle.c_scopes.specs.declared.meaning.Declared.{Declared}
-use Rattle.c_scopes.specs.declared.meaning.Declared.TheVariants as kinds
-use Rattle.c_scopes.specs.declared.meaning.Outer.{Outer}
-use Rattle.c_scopes.specs.declared.meaning.Storage.{Storage}
-use Rattle.c_scopes.specs.declared.meaning.Storage.TheVariants as storages
+use Rattle.c_meanings.specs.declared.entity.LibraryFunction.{LibraryFunction}
+use Rattle.c_meanings.specs.declared.entity.LibraryFunction.TheVariants as functions
+use Rattle.c_meanings.specs.declared.entity.Entity.{Entity}
+use Rattle.c_meanings.specs.declared.entity.Entity.TheVariants as entities
+use Rattle.c_meanings.specs.declared.meaning.Signature.{Signature}
+use Rattle.c_meanings.specs.declared.meaning.Meaning.{Meaning}
+use Rattle.c_meanings.specs.declared.meaning.Meaning.TheVariants as meanings
+use Rattle.c_meanings.specs.declared.meaning.Declared.{Declared}
+use Rattle.c_meanings.specs.declared.meaning.Declared.TheVariants as kinds
+use Rattle.c_meanings.specs.declared.meaning.Outer.{Outer}
+use Rattle.c_meanings.specs.declared.meaning.Storage.{Storage}
+use Rattle.c_meanings.specs.declared.meaning.Storage.TheVariants as storages
 
 abbrev pub library_of : LibraryFunction → library.LibraryFunction
 library_of functions.Putchar = library.Putchar

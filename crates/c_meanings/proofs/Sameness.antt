@@ -14,7 +14,7 @@ use Rattle.c_typing.specs.Library.{same_entity, same_function, same_name, same_p
 use Rattle.c_typing.specs.Types.{same_integer, same_value, same_values, same_pointed, same_type}
 use Rattle.c_typing.specs.Types.{Declared, DeclaredValue}
 use Rattle.c_typing.specs.Types.{DeclaredArray, DeclaredFunction}
-use Rattle.c_scopes.proofs.Tables.{same_is, same_self}
+use Rattle.c_meanings.proofs.Names.{same_is, same_self}
 
 -- ---- the tests of the code
 

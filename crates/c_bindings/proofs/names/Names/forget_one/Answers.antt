@@ -1,6 +1,6 @@
 use Rattle.std.proofs.Common.{ap, sym, ◌∙◌}
-use Rattle.c_scopes.proofs.Tables.{forget_keeps, last_is_there}
-use Rattle.c_scopes.proofs.names.Names.forget_one.Goals as goal
+use Rattle.c_bindings.proofs.Tables.{forget_keeps, last_is_there}
+use Rattle.c_bindings.proofs.names.Names.forget_one.Goals as goal
 
 pub put_back-requires : goal.put_back-requires
 put_back-requires c = let q = c.in-Some.ensures.some in
