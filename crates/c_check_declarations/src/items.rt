@@ -25,7 +25,7 @@ ghost use Rattle.c_typing.specs.Statements.{
   typed_items,
 };
 ghost use Rattle.c_typing.specs.Types.{is_static};
-ghost use Rattle.c_scopes.specs.Views.{declared_of, entity_of, storage_of};
+ghost use Rattle.c_meanings.specs.Views.{declared_of, entity_of, storage_of};
 ghost use Rattle.c_expressions.specs.Said.{IsSaid};
 ghost use Rattle.c_check_declarators.specs.Answers.{IsObject, value_answered};
 ghost use Rattle.c_check_declarations.specs.Answers.{
@@ -45,8 +45,9 @@ use c_check_declarators::{
     object_declared, specifiers_at,
 };
 use c_expressions::{Contents, Notes};
+use c_meanings::{Declared, Entity, Storage};
 use c_operands::Judged;
-use c_scopes::{Declared, Entity, Scopes, Storage};
+use c_scopes::Scopes;
 use c_syntax::{Declaration, Identifier, InitialiserPart, Item as RawItem};
 use c_tree::{Expression, Initialiser, IntegerType, Item, ValueType};
 use pcc_base::{Fault, FaultKind, NoMemory};

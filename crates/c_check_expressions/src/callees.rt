@@ -1,7 +1,7 @@
 //! Calls, by what the called name means (C99 6.5.2.2).
 
 ghost use Rattle.std.specs.Prelude.{◌≡◌, List, IfOk, length, option_map, slice_get};
-ghost use Rattle.c_scopes.specs.Views.{meaning_of};
+ghost use Rattle.c_meanings.specs.Views.{meaning_of};
 ghost use Rattle.c_tree.specs.Program.{Arguments as TypedArguments};
 ghost use Rattle.c_typing.specs.Checked.{faults_in, Checked, Fails, Note};
 ghost use Rattle.c_typing.specs.Expressions.{arguments_for, called, have_types, Given};
@@ -16,8 +16,9 @@ use c_expressions::arguments::Arguments;
 use c_expressions::calls::{
     array_called, function_call, local_called, not_called, number_called, undeclared,
 };
+use c_meanings::Meaning;
 use c_operands::{Judged, Operand};
-use c_scopes::{Meaning, Scopes};
+use c_scopes::Scopes;
 use c_syntax::Identifier;
 use c_tree::ValueType;
 use pcc_base::{Fault, NoMemory};

@@ -12,9 +12,10 @@ ghost use Rattle.c_check_programs.specs.Answers.{AreJudged, IsRefusal};
 ghost use Rattle.c_check_programs.specs.Outlines.{IsOutline, IsOutlineOf, IsUnfinished, unfinished};
 
 use c_expressions::{Note, Notes};
+use c_meanings::Entity;
 use c_numbering::{Described, Known, defined, describe, has_main, least_missing, numbered};
 use c_operands::Judged;
-use c_scopes::{Entity, Numbers};
+use c_scopes::Numbers;
 use c_tree::Function;
 use pcc_base::{Fault, FaultKind, NoMemory, Refusal, Span};
 use std::alloc::Global;

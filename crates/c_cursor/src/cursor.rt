@@ -5,13 +5,13 @@ ghost use Rattle.c_grammar.specs.Taking.{take_mark, take_word, take_unary, take_
 ghost use Rattle.c_grammar.specs.Taking.{take_specifiers};
 ghost use Rattle.c_grammar.specs.Reading.{Readers, read_cast, read_unary};
 ghost use Rattle.c_cursor.specs.Readings.{IsTaken};
-ghost use Rattle.c_cursor.specs.Rows.{BeginsWithSpecifier};
+ghost use Rattle.c_casts.specs.Fronts.{BeginsWithSpecifier};
 ghost use Rattle.c_cursor.specs.Places.{next_place, kind_without_height};
 
 use crate::tables::{
-    NO_LEVEL, assign_of, begins_expression, binary_of, is_mark, is_word, level_of, specifier_of,
-    step_of, unary_of,
+    NO_LEVEL, assign_of, begins_expression, binary_of, is_word, level_of, step_of, unary_of,
 };
+use c_casts::{begins_with_specifier, cast_at, is_mark};
 use c_syntax::{AssignOp, BinaryOp, StepOp, UnaryOp};
 use c_tokens::{Punct, Token};
 use pcc_base::{Fault, FaultKind, Keyword, Refusal, Span};
@@ -25,20 +25,6 @@ pub struct Cursor<'a> {
     pub rest: &'a [Token],
     /// The place behind the last token.
     pub end: Span,
-}
-
-/// Whether a specifier stands at the front.
-fn begins_with_specifier(tokens: &[Token]) -> bool
-    ensures yes { OnTrue result (BeginsWithSpecifier tokens.now) }
-    ensures no { OnFalse result (take_specifiers tokens.now ≡ ([], tokens.now)) }
-{
-    let Some((first, _)) = tokens.split_first() else {
-        return false;
-    };
-    match specifier_of(&first.kind) {
-        Some(_) => true,
-        None => false,
-    }
 }
 
 impl Cursor<'_> {
@@ -81,12 +67,9 @@ impl Cursor<'_> {
         ensures stays { IfNone result (self.new.rest.now ≡ self.old.rest.now) }
         ensures shorter { IfSome result (λ _. length self.new.rest.now < length self.old.rest.now) }
     {
-        let (first, others) = self.rest.split_first()?;
-        if is_mark(&first.kind, Punct::LeftParen) && begins_with_specifier(others) {
-            self.rest = others;
-            return Some(first.at);
-        }
-        None
+        let (at, others) = cast_at(self.rest)?;
+        self.rest = others;
+        Some(at)
     }
 
     /// Takes this word, where it is the next token.

@@ -1,28 +1,17 @@
-//! Which operator or specifier a token is.
+//! Which operator or word a token is.
 
 ghost use Rattle.std.specs.Prelude.{◌≡◌, ◌<◌, ℕ, None};
 ghost use Rattle.c_grammar.specs.ExpressionTokens.{binary_level};
-ghost use Rattle.c_grammar.specs.Taking.{is_mark, is_word, of_mark, unary_of_mark, step_of_mark, assign_of_mark};
-ghost use Rattle.c_grammar.specs.Taking.{binary_of_mark, specifier_of, at_level};
+ghost use Rattle.c_grammar.specs.Taking.{is_word, of_mark, unary_of_mark, step_of_mark, assign_of_mark};
+ghost use Rattle.c_grammar.specs.Taking.{binary_of_mark, at_level};
 ghost use Rattle.c_grammar.specs.Heads.{begins};
 
-use c_syntax::{AssignOp, BinaryOp, SpecifierWord, StepOp, UnaryOp};
+use c_syntax::{AssignOp, BinaryOp, StepOp, UnaryOp};
 use c_tokens::{Punct, TokenKind};
 use pcc_base::Keyword;
 
 /// A level above those of all operators.
 pub(crate) const NO_LEVEL: usize = 14;
-
-/// Whether a token is this mark.
-pub fn is_mark(kind: &TokenKind, mark: Punct) -> bool
-    ensures { result ≡ is_mark mark kind.now }
-{
-    match kind {
-        TokenKind::Mark(found) => mark == *found,
-        TokenKind::Word(_) | TokenKind::Ident(_) | TokenKind::Number(_) | TokenKind::Text(_) =>
-            false,
-    }
-}
 
 /// Whether a token is this word.
 pub fn is_word(kind: &TokenKind, word: Keyword) -> bool
@@ -187,25 +176,6 @@ pub(crate) fn level_of(kind: &TokenKind) -> usize
     match operator_of(kind) {
         Some(op) => binary_level(op),
         None => NO_LEVEL,
-    }
-}
-
-/// The specifier that a token is (C99 6.7).
-pub(crate) fn specifier_of(kind: &TokenKind) -> Option<SpecifierWord>
-    ensures { result ≡ specifier_of kind.now }
-{
-    match kind {
-        TokenKind::Word(Keyword::Auto) => Some(SpecifierWord::Auto),
-        TokenKind::Word(Keyword::Register) => Some(SpecifierWord::Register),
-        TokenKind::Word(Keyword::Static) => Some(SpecifierWord::Static),
-        TokenKind::Word(Keyword::Extern) => Some(SpecifierWord::Extern),
-        TokenKind::Word(Keyword::Const) => Some(SpecifierWord::Const),
-        TokenKind::Word(Keyword::Void) => Some(SpecifierWord::Void),
-        TokenKind::Word(Keyword::Char) => Some(SpecifierWord::Char),
-        TokenKind::Word(Keyword::Short) => Some(SpecifierWord::Short),
-        TokenKind::Word(Keyword::Int) => Some(SpecifierWord::Int),
-        TokenKind::Word(Keyword::Signed) => Some(SpecifierWord::Signed),
-        _ => None,
     }
 }
 

@@ -13,7 +13,7 @@ use Rattle.c_grammar.specs.Reading.{Readers, readers, read_cast, cast_behind}
 use Rattle.c_grammar.proofs.Reading.{readers-none, cast_reads}
 use Rattle.c_grammar.specs.Reading.{read_arguments, arguments_from}
 use Rattle.c_cursor.specs.Readings.{Refused}
-use Rattle.c_cursor.specs.Rows.{BeginsWithSpecifier}
+use Rattle.c_casts.specs.Fronts.{BeginsWithSpecifier}
 use Rattle.c_expression_nodes.specs.declared.found.Found.{Found}
 use Rattle.c_parse_expressions.specs.declared.expression.Rule.{Rule}
 use Rattle.c_parse_expressions.specs.declared.expression.Rule.TheVariants as rules_of

@@ -6,17 +6,10 @@
 //! refusal is want of memory.
 #![tactic(auto)]
 
-mod entity;
 mod library;
-mod linkage;
-mod meaning;
-mod names;
 mod numbers;
 mod outers;
-mod same;
 mod scopes;
 
-pub use entity::{Entity, LibraryFunction};
-pub use meaning::{Declared, Meaning, Outer, Signature, Storage};
 pub use numbers::{Numbers, number};
 pub use scopes::{Mark, Scopes};

@@ -1,30 +1,20 @@
 //! What is declared outside functions.
 
-ghost use Rattle.std.specs.Prelude.{◌≡◌, ◌∷◌, ◌++◌, [], ◌||◌, ◌&&◌, map, not, slice_get, Some, OnOk};
+ghost use Rattle.std.specs.Prelude.{◌≡◌, ◌∷◌, ◌++◌, [], map, not, slice_get, Some, OnOk};
 ghost use Rattle.std.specs.List.{list_any};
 ghost use Rattle.indexmap.specs.IndexMap.{get_by};
 ghost use Rattle.c_typing.specs.Names as typing;
 ghost use Rattle.c_typing.specs.Names.{clashes};
 ghost use Rattle.c_typing.specs.Types.{same_type};
 ghost use Rattle.c_scopes.specs.Outers.{is_entity, IsSummed};
-ghost use Rattle.c_scopes.specs.Views.{declared_of, entity_of, outer_of};
+ghost use Rattle.c_meanings.specs.Views.{declared_of, entity_of, outer_of};
 
-use crate::entity::Entity;
-use crate::meaning::Outer;
-use crate::same::same_type;
+use c_bindings::{Seen, is_against, with_one_more};
+use c_meanings::{Entity, Outer, same_type};
 use indexmap::IndexMap;
 use pcc_base::NoMemory;
 use std::alloc::Global;
 use std::marker::Model;
-
-/// What is known of all declarations of one thing: the place of the first one, whether another one has another type,
-/// and whether one of them is whole.
-#[derive(Clone, Copy)]
-pub(crate) struct Seen {
-    first: usize,
-    mixed: bool,
-    whole: bool,
-}
 
 /// Whether a declaration differs in type from the first one of its thing, which stands at this place.
 fn differs(list: &[Outer], first: usize, outer: &Outer) -> bool
@@ -35,25 +25,6 @@ fn differs(list: &[Outer], first: usize, outer: &Outer) -> bool
         Some(other) => !same_type(&other.declared, &outer.declared),
         None => false,
     }
-}
-
-/// What is known with one more declaration, which differs in type from the first one or not, and is whole or not.
-fn with_one_more(seen: Seen, apart: bool, whole: bool) -> Seen
-    ensures { result ≡ record { first = seen.first; mixed = seen.mixed || apart; whole = seen.whole || whole } }
-{
-    Seen {
-        first: seen.first,
-        mixed: seen.mixed || apart,
-        whole: seen.whole || whole,
-    }
-}
-
-/// Whether a declaration clashes with what is known, where it differs in type from the first one or not, and is whole
-/// or not.
-fn is_against(seen: Seen, apart: bool, whole: bool) -> bool
-    ensures { result ≡ ((seen.mixed || apart) || (whole && seen.whole)) }
-{
-    seen.mixed || apart || (whole && seen.whole)
 }
 
 /// What is known of all declarations of one thing with one more of them.
@@ -98,7 +69,7 @@ impl Model for Outers {
 
     ghost Value = { List typing.Outer };
 
-    ghost use Rattle.c_scopes.specs.Views.{outer_of};
+    ghost use Rattle.c_meanings.specs.Views.{outer_of};
     ghost use Rattle.c_scopes.specs.Outers.{SumsUp};
 
     ghost view = { λ o. map outer_of (reverse o.list.items) };

@@ -34,15 +34,13 @@ ghost use Rattle.c_typing.specs.Names.{
   Scope,
 };
 ghost use Rattle.c_typing.specs.Files.{with_outer};
-ghost use Rattle.c_scopes.specs.Views as views;
+ghost use Rattle.c_meanings.specs.Views as views;
 
-use crate::entity::Entity;
 use crate::library::{bind_functions, declare_functions};
-use crate::linkage::{as_before, entity_meant, external, is_function, is_other};
-use crate::meaning::{Declared, Meaning, Outer, Storage};
-use crate::names::Names;
 use crate::numbers::{Numbers, number};
 use crate::outers::Outers;
+use c_bindings::{Names, as_before, entity_meant, external, internal, is_function, is_other};
+use c_meanings::{Declared, Entity, Meaning, Outer, Storage};
 use c_tree::{IntegerType, Local, LocalArray, ValueType};
 use pcc_base::{Name, NoMemory};
 use std::alloc::Global;
@@ -318,10 +316,7 @@ impl Scopes {
             (views.declared_of declared.now) name.now) }
     {
         match storage {
-            Storage::Static => {
-                let bytes = name.as_bytes().to_vec(alloc)?;
-                Ok(Entity::OfFile(self.file, bytes))
-            }
+            Storage::Static => internal(alloc, self.file, name.as_bytes()),
             Storage::Extern => as_before(alloc, name.as_bytes(), self.meaning(name)),
             Storage::Unsaid => {
                 if is_function(declared) {

@@ -1,6 +1,6 @@
 use Rattle.std.proofs.lemmas.Result.{IfOk-weaker}
 use Rattle.c_grammar.specs.Declarations.{value_of}
-use Rattle.c_scopes.specs.Views as views
+use Rattle.c_meanings.specs.Views as views
 use Rattle.c_check_declarators.specs.Views.{specified_of}
 use Rattle.c_check_outside.proofs.StaticObjects.{if_allowed_said}
 use Rattle.c_check_outside.proofs.objects.object_if_allowed.Goals as goal

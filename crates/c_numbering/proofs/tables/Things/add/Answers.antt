@@ -1,4 +1,4 @@
-use Rattle.c_scopes.specs.Views.{entity_of}
+use Rattle.c_meanings.specs.Views.{entity_of}
 use Rattle.c_numbering.proofs.Things.{one_more}
 use Rattle.c_numbering.proofs.tables.Things.add.Goals as goal
 
