@@ -1,8 +1,2 @@
-pub mod Advancing
-pub mod Going
-pub mod Performing
-pub mod Reaching
 pub mod Starting
-pub mod Stepping
-pub mod Streaming
 pub mod Turning

@@ -12,10 +12,11 @@ use Rattle.c_tasks.proofs.Starting.{starts}
 use Rattle.c_store.specs.Kept.{Kept, over}
 use Rattle.c_eval.specs.declared.end.EvalEnd.{EvalEnd}
 use Rattle.c_eval.specs.declared.end.EvalEnd.TheVariants.{Ended, NoMemory}
-use Rattle.c_evaluator.specs.Performs.{Fits}
-use Rattle.c_evaluator.specs.Runs.{EvalTold, outcome_in}
-use Rattle.c_evaluator.specs.Standing.{EndsAt, Ran, Standing, Streams}
-use Rattle.c_evaluator.proofs.Advancing.{at}
+use Rattle.c_eval_tasks.specs.Performs.{Fits}
+use Rattle.c_eval_tasks.specs.Runs.{EvalTold, outcome_in}
+use Rattle.c_eval_tasks.specs.Standing.{Ran, Standing, Streams}
+use Rattle.c_evaluator.specs.Whole.{EndsAt}
+use Rattle.c_eval_tasks.proofs.Advancing.{at}
 
 -- the first tasks fit
 pub first_fits : (p : Program) (f : Function) (c : Configuration) → c ≡ go_on f (first_tasks p) [] [] → Fits c

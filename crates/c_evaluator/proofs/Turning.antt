@@ -1,8 +1,7 @@
--- Steps up to a turn, and turns.
+-- Turns.
 use Rattle.std.proofs.Common.{◌≡◌, ◌≤◌, ◌-◌, ℕ, List, [], ◌∷◌, length, refl, sym, subst, ◌∙◌, Ok, Err}
 use Rattle.std.specs.Prelude.{Result}
 use Rattle.pcc_base.specs.Outcome.{nothing_listed}
-use Rattle.pcc_outside.specs.Streams.{SinkCounts}
 use Rattle.c_tree.specs.Evaluation.{first_state}
 use Rattle.c_tree.specs.Program.{NoMore, Program}
 use Rattle.c_tree.specs.Store.{State, Gives}
@@ -16,83 +15,21 @@ use Rattle.c_store.specs.Kept.{Kept, over}
 use Rattle.c_eval.specs.Changes.{Comes, done, doing}
 use Rattle.c_eval.specs.declared.end.EvalEnd.{EvalEnd}
 use Rattle.c_eval_turns.specs.Turns.{Begun, IsReady, IsTurn}
-use Rattle.c_evaluator.specs.Performs.{Fits}
-use Rattle.c_evaluator.specs.Runs.{EvalCounts}
-use Rattle.c_evaluator.specs.Standing.{BothTell, EndsAt, LeadsOn, Meets, Ran, SameCounts, Standing, Steps}
-use Rattle.c_evaluator.specs.Standing.{Stops, Streams, Tells, Turned, Turns, before_task}
+use Rattle.c_eval_tasks.specs.Performs.{Fits}
+use Rattle.c_eval_tasks.specs.Standing.{BothTell, LeadsOn, Meets, Ran, SameCounts, Standing, Stops, Tells, before_task}
+use Rattle.c_evaluator.specs.Whole.{EndsAt, Turned, Turns}
 use Rattle.c_eval_turns.specs.declared.next.Turn.{Turn}
 use Rattle.c_eval_turns.specs.declared.next.Turn.TheVariants.{Call, Loop}
-use Rattle.c_evaluator.proofs.Going.{ahead_step, next_step, ran_on, ran_stops}
-use Rattle.c_evaluator.proofs.Stepping.{moved, quiet_counts, same_counts, same_tells}
+use Rattle.c_eval_tasks.proofs.Going.{ahead_step, next_step, ran_on, ran_stops}
+use Rattle.c_eval_tasks.proofs.Stepping.{moved, quiet_counts, same_counts, same_tells}
+use Rattle.c_eval_tasks.proofs.Walking.{both_then, counts_then, ends_then, tells_then}
 
--- what is known of the way so far, in steps without a turn and in turns
-pub record Walks (p : Program) (old new : Standing) : Type 0 where
-  pub tells : Tells old.streams new.streams
-  pub counted : SameCounts old.streams new.streams
-  pub fits : Fits new.config
-  pub on : BothTell old.streams → (rest : ℕ) → LeadsOn p rest rest old new
-
+-- what is known of the way so far, in turns
 pub record Runs (p : Program) (turns rest : ℕ) (old new : Standing) : Type 0 where
   pub tells : Tells old.streams new.streams
   pub counted : SameCounts old.streams new.streams
   pub fits : Fits new.config
   pub on : BothTell old.streams → LeadsOn p turns rest old new
-
--- ---- one thing after another
-
-tells_then : (a b d : Streams) → Tells a b → Tells b d → Tells a d
-tells_then a b d f g = record { input = λ h. g.input (f.input h); out = λ h. g.out (f.out h) }
-
-counts_then : (a b d : Streams) → SameCounts a b → SameCounts b d → SameCounts a d
-counts_then a b d f g = record { faults = g.faults ∙ f.faults; counts = g.counts ∙ f.counts }
-
-both_then : (a b : Streams) → Tells a b → BothTell a → BothTell b
-both_then a b f h = (f.input h.0, f.out h.1)
-
-ends_then : (a b : Streams) (faults : ℕ) (counts : SinkCounts) (end : EvalEnd) → SameCounts a b
-    → EvalCounts b.faults faults b.counts counts end → EvalCounts a.faults faults a.counts counts end
-ends_then a b faults counts end f h =
-    subst (λ (c : SinkCounts). EvalCounts a.faults faults c counts end) f.counts
-    (subst (λ (n : ℕ). EvalCounts n faults b.counts counts end) f.faults h)
-
--- ---- steps up to a turn
-
-pub walks_none : (p : Program) (now : Standing) → Fits now.config → Walks p now now
-walks_none p now fits = record {
-  tells = same_tells now.streams;
-  counted = same_counts now.streams;
-  fits = fits;
-  on = λ both rest turns left taken r. r;
-}
-
-pub walks_more : (p : Program) (a b d : Standing) → Walks p a b → Steps p b d → Walks p a d
-walks_more p a b d w s = record {
-  tells = tells_then a.streams b.streams d.streams w.tells s.tells;
-  counted = counts_then a.streams b.streams d.streams w.counted s.counted;
-  fits = s.fits;
-  on = λ both rest turns left taken r. s.on (both_then a.streams b.streams w.tells both) rest turns left taken
-      (w.on both rest turns left taken r);
-}
-
-pub walks_meets : (p : Program) (turn : Turn) (a b d : Standing) → Walks p a b → Meets p turn b d → Meets p turn a d
-walks_meets p turn a b d w m = record {
-  tells = tells_then a.streams b.streams d.streams w.tells m.tells;
-  counted = counts_then a.streams b.streams d.streams w.counted m.counted;
-  task = m.task;
-  is_turn = m.is_turn;
-  ahead = m.ahead;
-  fits = m.fits;
-  on = λ both rest turns left taken r. m.on (both_then a.streams b.streams w.tells both) rest turns left taken
-      (w.on both rest turns left taken r);
-}
-
-pub walks_stops : (p : Program) (end : EvalEnd) (a b d : Standing) → Walks p a b → Stops p end b d → Stops p end a d
-walks_stops p end a b d w s = record {
-  tells = tells_then a.streams b.streams d.streams w.tells s.tells;
-  counted = ends_then a.streams b.streams d.streams.faults d.streams.counts end w.counted s.counted;
-  ends = λ both rest turns left taken r. s.ends (both_then a.streams b.streams w.tells both) rest turns left taken
-      (w.on both rest turns left taken r);
-}
 
 -- ---- a turn
 

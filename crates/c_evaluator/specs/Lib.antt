@@ -1,4 +1,1 @@
-pub mod AtOnce
-pub mod Runs
-pub mod Performs
-pub mod Standing
+pub mod Whole

@@ -1,9 +1,9 @@
 //! The evaluation of a program (C99 5.1.2.3).
 
-ghost use Rattle.c_evaluator.specs.Runs.{EvalCounts, EvalTold};
+ghost use Rattle.c_eval_tasks.specs.Runs.{EvalCounts, EvalTold};
 ghost use Rattle.std.specs.Prelude.{IfOk, option_map};
 ghost use Rattle.c_eval.specs.Left.{left_of};
-ghost use Rattle.c_evaluator.specs.Standing.{Started};
+ghost use Rattle.c_evaluator.specs.Whole.{Started};
 ghost use Rattle.c_tree.specs.Erased.{program_of};
 
 use crate::run::run;

@@ -1,13 +1,12 @@
 //! The evaluation of typed programs from their start to their end.
 //!
 //! In: a typed program, an input and an output that are lent, and a number of turns. Out: how the program ended, with
-//! the bytes that it writes on the output. The answer is that of the source meaning, `specs/Runs.antt`.
+//! the bytes that it writes on the output. The answer is that of the source meaning (`specs/Runs.antt` of
+//! `c_eval_tasks`).
 #![tactic(auto)]
 
-mod at_once;
 mod evaluate;
 mod run;
-mod steps;
 
 pub use c_eval::EvalEnd;
 pub use evaluate::eval;

@@ -4,7 +4,7 @@ use Rattle.std.specs.Prelude.{◌⊎◌}
 use Rattle.pcc_base.specs.Counts.{Rose}
 use Rattle.pcc_base.specs.Outcome as outcome
 use Rattle.c_tree.specs.Program.{Program}
-use Rattle.c_evaluator.specs.Runs as evaluations
+use Rattle.c_eval_tasks.specs.Runs as evaluations
 use Rattle.pcc_reports.specs.Causes.{HasCause}
 use Rattle.pcc_reports.specs.Outside.{Files, Work}
 use Rattle.pcc_reports.specs.Reports.{end_status, status_of}

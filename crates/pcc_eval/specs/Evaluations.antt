@@ -4,7 +4,7 @@ use Rattle.pcc_base.specs.Outcome as outcome
 use Rattle.c_tree.specs.Program.{Program}
 use Rattle.c_eval.specs.declared.end.EvalEnd.{EvalEnd}
 use Rattle.c_eval.specs.declared.end.EvalEnd.TheVariants as evaluation
-use Rattle.c_evaluator.specs.Runs as evaluations
+use Rattle.c_eval_tasks.specs.Runs as evaluations
 use Rattle.pcc_reports.specs.Outside.{Files, SameStreams, Work}
 use Rattle.pcc_reports.specs.declared.report.Report.{Report}
 use Rattle.pcc_reports.specs.declared.report.Report.TheVariants as reports

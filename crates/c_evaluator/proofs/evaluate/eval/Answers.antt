@@ -1,6 +1,6 @@
 use Rattle.c_eval.specs.Left.{left_of}
 use Rattle.c_tree.specs.Erased.{program_of}
-use Rattle.c_evaluator.specs.Standing.{standing, streams_of}
+use Rattle.c_eval_tasks.specs.Standing.{standing, streams_of}
 use Rattle.c_evaluator.proofs.Starting.{eval_told, first_fits, none_told, wanting_told}
 use Rattle.c_evaluator.proofs.evaluate.eval.Goals as goal
 

@@ -1,7 +1,7 @@
 use Rattle.c_eval.specs.Left.{left_of}
 use Rattle.c_tree.specs.Erased.{program_of}
-use Rattle.c_evaluator.specs.Standing.{standing}
-use Rattle.c_evaluator.proofs.Turning.{walks_stops}
+use Rattle.c_eval_tasks.specs.Standing.{standing}
+use Rattle.c_eval_tasks.proofs.Walking.{walks_stops}
 use Rattle.c_evaluator.proofs.run.next_turn.Goals as goal
 
 pub returns-in-Err : goal.returns-in-Err

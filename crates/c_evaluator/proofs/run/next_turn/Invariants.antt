@@ -1,8 +1,8 @@
 use Rattle.c_tree.specs.Erased.{program_of}
 use Rattle.c_tasks.specs.Weights.{weights}
 use Rattle.c_eval.specs.Left.{left_of}
-use Rattle.c_evaluator.specs.Standing.{standing}
-use Rattle.c_evaluator.proofs.Turning.{Walks}
+use Rattle.c_eval_tasks.specs.Standing.{standing}
+use Rattle.c_eval_tasks.proofs.Walking.{Walks}
 use Rattle.c_evaluator.proofs.run.next_turn.Given as goal
 
 -- the steps so far

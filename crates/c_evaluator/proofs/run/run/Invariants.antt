@@ -1,6 +1,6 @@
 use Rattle.c_tree.specs.Erased.{program_of}
 use Rattle.c_eval.specs.Left.{left_of}
-use Rattle.c_evaluator.specs.Standing.{standing}
+use Rattle.c_eval_tasks.specs.Standing.{standing}
 use Rattle.c_evaluator.proofs.Turning.{Runs}
 use Rattle.c_evaluator.proofs.run.run.Given as goal
 

@@ -1,7 +1,7 @@
 use Rattle.std.proofs.lemmas.Result.{err_from_is_err_and}
 use Rattle.c_eval.specs.Left.{left_of}
 use Rattle.c_tree.specs.Erased.{program_of}
-use Rattle.c_evaluator.specs.Standing.{Meets, standing}
+use Rattle.c_eval_tasks.specs.Standing.{Meets, standing}
 use Rattle.c_evaluator.proofs.Turning.{stops_at, turn_ready, turned}
 use Rattle.c_evaluator.proofs.run.run_turn.Goals as goal
 

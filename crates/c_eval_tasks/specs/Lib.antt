@@ -1,0 +1,4 @@
+pub mod AtOnce
+pub mod Runs
+pub mod Performs
+pub mod Standing
