@@ -1,8 +1,9 @@
 //! Texts of maps and of their parts, by hand.
 
 use flow_graph::Words;
+use map_text::print_lines;
 use pcc_base::{Name, NoMemory, Width};
-use pcc_listing::{Line, Named, Standing, print_lines, push_address, push_number};
+use pcc_listing::{Line, Named, Standing, push_address, push_number};
 use std::alloc::Global;
 use std::rc::Rc;
 use std::test::Fail;

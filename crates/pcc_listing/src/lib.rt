@@ -2,7 +2,7 @@
 //!
 //! The definitions, in `specs/`: the lines of a map, their text and its rules (`Lines.antt`), and what a
 //! map shows of the machine at the statements that it marks (`Marks.antt`). `one_map` says that a text is
-//! that of one map at most. `print_lines` writes the text of lines (`Views.antt` says which lines).
+//! that of one map at most. `push_line` writes the text of a line (`Views.antt` says which line).
 #![tactic(auto)]
 
 mod digits;
@@ -11,4 +11,4 @@ mod lines;
 
 pub use digits::{push_address, push_number};
 pub use laws::{one_map, worked_example};
-pub use lines::{Line, Named, Standing, print_lines};
+pub use lines::{Line, Named, Standing, push_line};

@@ -1,6 +1,6 @@
-//! The lines of a map, and its text.
+//! The lines of a map, and the text of each.
 
-ghost use Rattle.std.specs.Prelude.{◌≡◌, ◌∷◌, [], ◌++◌, IfOk, OnOk, codes, decimal, flat_map, map};
+ghost use Rattle.std.specs.Prelude.{◌≡◌, ◌∷◌, [], ◌++◌, OnOk, codes, decimal, flat_map, map};
 ghost use Rattle.flow_graph.specs.declared.op.Op.TheVariants as op;
 ghost use Rattle.pcc_listing.specs.Lines.{
   ArrayLine,
@@ -13,7 +13,6 @@ ghost use Rattle.pcc_listing.specs.Lines.{
   argument_text,
   if_any_text,
   line_text,
-  lines_text,
   named_text,
   newline,
   op_text,
@@ -25,7 +24,6 @@ ghost use Rattle.pcc_listing.specs.Views.{line_of, named_of, standing_of};
 use crate::digits::{push_address, push_number};
 use flow_graph::Words;
 use pcc_base::{Name, NoMemory, Width};
-use std::alloc::Global;
 
 /// A variable of a function, and how many bytes below EBP its slot is.
 #[derive(Clone, Copy, Debug, PartialEq, Eq)]
@@ -301,8 +299,8 @@ fn push_before(out: &mut Vec<u8>, standings: &[Standing]) -> Result<(), NoMemory
     Ok(())
 }
 
-/// Puts a line at the end.
-fn push_line(out: &mut Vec<u8>, line: &Line) -> Result<(), NoMemory>
+/// Puts a line at the end. The only refusal is want of memory.
+pub fn push_line(out: &mut Vec<u8>, line: &Line) -> Result<(), NoMemory>
     ensures { OnOk result (out.new.items ≡ out.old.items ++ line_text (line_of line.now)) }
 {
     match line {
@@ -346,17 +344,4 @@ fn push_line(out: &mut Vec<u8>, line: &Line) -> Result<(), NoMemory>
         Line::Before(standings) => push_before(out, standings)?,
     }
     Ok(())
-}
-
-/// The text of a map with these lines. The only refusal is want of memory.
-pub fn print_lines(alloc: Global, lines: &Vec<Line>) -> Result<Vec<u8>, NoMemory>
-    ensures { IfOk result (λ text. text.items ≡ lines_text (map line_of lines.now.items)) }
-{
-    let mut out = Vec::new(alloc);
-    out.extend_from_slice(b"pcc map 1\n")?;
-    for line in lines {
-        push_line(&mut out, line)?;
-    }
-    out.extend_from_slice(b"end\n")?;
-    Ok(out)
 }

@@ -15,8 +15,8 @@ use ia32_frames::frames_support;
 use ia32_sizes::selected_is_code;
 use lower::lower;
 use map_lines::map_lines;
+use map_text::print_lines;
 use pcc_base::NoMemory;
-use pcc_listing::print_lines;
 use program_code::graphs_have_frames;
 use std::alloc::Global;
 

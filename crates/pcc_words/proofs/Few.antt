@@ -4,8 +4,8 @@ use Rattle.std.proofs.Common.{bytes_eq, nat_lt, if◌then◌else◌, arith}
 use Rattle.std.proofs.lemmas.Bool.Decides.{nat_tests}
 use Rattle.clap.specs.Words.{Kinds, Row, Text, all_of, fault_of, first_of, subcommand_of}
 use Rattle.pcc_words.specs.App.{app}
-use Rattle.pcc_words.specs.Asked.{Command, Compile, Run, Eval, Solve, ManyFiles, Usage, HasFewSources, asked_by}
-use Rattle.pcc_words.specs.Asked.{asked_in, asked_unless, clashes, command_of, compile_asked, compile_command}
+use Rattle.pcc_words.specs.Asked.{Command, Compile, ManyFiles, Usage, HasFewSources, asked_by}
+use Rattle.pcc_words.specs.Asked.{asked_in, asked_unless, clashes, command_of, compile_asked}
 use Rattle.pcc_words.specs.Asked.{eval_asked, eval_command, file_count_limit, number_of, run_asked, run_command}
 use Rattle.pcc_words.specs.Asked.{solve_asked}
 

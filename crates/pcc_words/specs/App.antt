@@ -21,23 +21,22 @@ sources = record (new_rule (codes "SRC")) {
   required = true;
 }
 
--- `--steps N`, a number of 64 bits
-abbrev pub steps : Rule
-steps = record (new_rule (codes "N")) {
-  long = Some (codes "steps");
+-- an option that has a number of 64 bits, and one where it isn't there
+abbrev pub number : Text → Text → Rule
+number option standard = record (new_rule (codes "N")) {
+  long = Some option;
   action = Some Set;
-  defaults = codes "1000000000" ∷ [];
+  defaults = standard ∷ [];
   parser = Some (Unsigned 0 18446744073709551615);
 }
 
--- `--turns N`, a number of 64 bits
+-- `--steps N`
+abbrev pub steps : Rule
+steps = number (codes "steps") (codes "1000000000")
+
+-- `--turns N`
 abbrev pub turns : Rule
-turns = record (new_rule (codes "N")) {
-  long = Some (codes "turns");
-  action = Some Set;
-  defaults = codes "100000000" ∷ [];
-  parser = Some (Unsigned 0 18446744073709551615);
-}
+turns = number (codes "turns") (codes "100000000")
 
 abbrev pub compile : App
 compile = with_rule (with_rule (new_app (codes "compile")) name) sources

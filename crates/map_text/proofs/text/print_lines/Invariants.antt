@@ -1,7 +1,7 @@
 use Rattle.std.proofs.Common.{◌≡◌, ◌++◌, flat_map, map, take}
 use Rattle.pcc_listing.specs.Lines.{line_text}
 use Rattle.pcc_listing.specs.Views.{line_of}
-use Rattle.pcc_listing.proofs.lines.print_lines.Given as goal
+use Rattle.map_text.proofs.text.print_lines.Given as goal
 
 -- the lines so far have their texts
 abbrev pub invariant-loop-line : goal.invariant-loop-line
