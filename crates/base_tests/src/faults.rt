@@ -1,5 +1,6 @@
 //! The number and the name of a kind of fault.
 
+use crate::expected::expect;
 use pcc_base::{FaultKind, Keyword};
 
 #[test]
@@ -12,7 +13,6 @@ fn prints(rt: HostRuntime) {
         (FaultKind::BadBoard, 25, "BadBoard"),
     ];
     for (kind, number, name) in rows {
-        assert_eq!(rt; kind.number(), number, "the number of {name}");
-        assert_eq!(rt; kind.name(), name);
+        expect(&rt, &(kind.number(), kind.name()), &(number, name), name);
     }
 }

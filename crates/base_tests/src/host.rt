@@ -2,6 +2,7 @@
 
 ghost use Rattle.std.specs.Prelude.{◌≡◌, IfOk};
 
+use crate::expected::expect;
 use pcc_outside::{
     Failed, FileStore, HostFiles, HostInput, HostOutput, ReadRefusal, Sink, Source, WriteRefusal,
 };
@@ -50,12 +51,13 @@ fn files(rt: HostRuntime) -> io::Result<()> {
     let name = "host_files.tmp";
     let long: Vec<u8> = vec![in alloc; 5; 70000]?;
     let mut files = HostFiles::new(&rt);
-    assert_eq!(rt; files.write(name, b"longer than what comes next"), Ok(()));
+    let first = files.write(name, b"longer than what comes next");
+    expect(&rt, &first, &Ok(()), "the first text");
     for bytes in [b"".as_slice(), b"text".as_slice(), long.as_slice()] {
-        assert_eq!(rt; files.write(name, bytes), Ok(()));
+        expect(&rt, &files.write(name, bytes), &Ok(()), bytes.len());
         for most in [bytes.len(), 100_000] {
             let read = files.read(alloc, name, most).expect(&rt, "the whole file");
-            assert_eq!(rt; read.as_slice(), bytes);
+            expect(&rt, &read.as_slice(), &bytes, most);
         }
     }
     let refusals = [
@@ -68,13 +70,11 @@ fn files(rt: HostRuntime) -> io::Result<()> {
         (".", 10, ReadRefusal::Failed),
     ];
     for (name, most, refusal) in refusals {
-        assert_eq!(rt;
-            files.read(alloc, name, most).err(),
-            Some(refusal),
-            "{name} {most}"
-        );
+        let found = (name, most, files.read(alloc, name, most).err());
+        expect(&rt, &found, &(name, most, Some(refusal)), "a read");
     }
-    assert_eq!(rt; files.write(".", b"text"), Err(WriteRefusal::Failed));
+    let refused = Err(WriteRefusal::Failed);
+    expect(&rt, &files.write(".", b"text"), &refused, "a folder");
     fs::remove_file(&rt, name)
 }
 
@@ -84,17 +84,13 @@ fn input(rt: HostRuntime) -> io::Result<()> {
     fs::write(&rt, name, "ab")?;
     let mut input = HostInput::new(fs::open(&rt, name)?);
     for answer in [Some(b'a'), Some(b'b'), None, None] {
-        assert_eq!(rt; input.next_byte(), Ok(answer));
+        expect(&rt, &input.next_byte(), &Ok(answer), "a byte or the end");
     }
     fs::remove_file(&rt, name)?;
-    assert_eq!(rt;
-        HostInput::new(fs::open(&rt, ".")?).next_byte(),
-        Err(Failed)
-    );
-    assert_eq!(rt;
-        HostInput::new(Stalled { interruptions: 3 }).next_byte(),
-        Ok(None)
-    );
+    let folder = HostInput::new(fs::open(&rt, ".")?).next_byte();
+    let stalled = HostInput::new(Stalled { interruptions: 3 }).next_byte();
+    expect(&rt, &folder, &Err(Failed), "a folder");
+    expect(&rt, &stalled, &Ok(None), "a reader that stalls");
     Ok(())
 }
 
@@ -103,18 +99,19 @@ fn input(rt: HostRuntime) -> io::Result<()> {
 fn output(rt: HostRuntime) -> io::Result<()> {
     let name = "host_output.tmp";
     let mut output = HostOutput::new(fs::create(&rt, name)?);
-    assert_eq!(rt; output.put_all(b"one"), Ok(()));
-    assert_eq!(rt; fs::read(&rt, name)?.as_slice(), b"one".as_slice());
-    assert_eq!(rt; output.put_all(b"two"), Ok(()));
-    assert_eq!(rt; fs::read(&rt, name)?.as_slice(), b"onetwo".as_slice());
+    for (bytes, all) in [("one", "one"), ("two", "onetwo")] {
+        expect(&rt, &output.put_all(bytes.as_bytes()), &Ok(()), bytes);
+        expect(&rt, &fs::read(&rt, name)?.as_slice(), &all.as_bytes(), all);
+    }
     fs::remove_file(&rt, name)?;
     let mut full = HostOutput::new(OpenOptions::new().write(true).open(&rt, "/dev/full")?);
-    assert_eq!(rt; full.put_all(b"one"), Err(WriteRefusal::Failed));
+    let failed = Err(WriteRefusal::Failed);
+    expect(&rt, &full.put_all(b"one"), &failed, "a device that is full");
     let mut stalled = HostOutput::new(Stalled { interruptions: 3 });
-    assert_eq!(rt; stalled.put_all(b"one"), Err(WriteRefusal::Failed));
-    assert_eq!(rt; stalled.put_all(b""), Ok(()));
+    let answers = (stalled.put_all(b"one"), stalled.put_all(b""));
+    expect(&rt, &answers, &(failed, Ok(())), "a writer that stalls");
     let mut standard = (HostOutput::new(rt.stdout()), HostOutput::new(rt.stderr()));
-    assert_eq!(rt; standard.0.put_all(b""), Ok(()));
-    assert_eq!(rt; standard.1.put_all(b""), Ok(()));
+    let answers = (standard.0.put_all(b""), standard.1.put_all(b""));
+    expect(&rt, &answers, &(Ok(()), Ok(())), "the standard streams");
     Ok(())
 }

@@ -1,5 +1,6 @@
 //! Numbers cut to 8, 16 and 32 bits: what gcc gives for the casts to int8_t, int16_t and int32_t.
 
+use crate::expected::expect;
 use pcc_base::{wrap8, wrap16, wrap32, wrapped_once};
 
 #[test]
@@ -16,9 +17,8 @@ fn casts(rt: HostRuntime) {
         (i64::MIN, 0, 0, 0),
     ];
     for (n, byte, short, word) in rows {
-        assert_eq!(rt; wrap8(n), byte, "8 bits of {n}");
-        assert_eq!(rt; wrap16(n), short, "16 bits of {n}");
-        assert_eq!(rt; wrap32(n), word, "32 bits of {n}");
+        let cut = (wrap8(n), wrap16(n), wrap32(n));
+        expect(&rt, &cut, &(byte, short, word), n);
     }
     wrapped_once();
 }

@@ -3,6 +3,7 @@
 ghost use Rattle.std.specs.Prelude.{◌≡◌, ◌+◌, [], ◌∷◌, length, IfOk, OnOk};
 ghost use Rattle.index_lists.specs.Lists.{nodes_of};
 
+use crate::expected::expect;
 use index_lists::IndexLists;
 use pcc_base::{NoMemory, Steps};
 use std::alloc::Global;
@@ -36,9 +37,9 @@ fn expect_row<L: Ledger>(rt: &impl Abort, alloc: Global, blank: Blank) -> Result
     let mut steps = Steps::<L>::new(blank);
     let lists = edited(alloc, &mut steps)?;
     let first = lists.nodes_in(alloc, 0, &mut steps)?;
-    assert_eq!(rt; first.as_slice(), [2, 3].as_slice());
+    expect(rt, &first.as_slice(), &[2, 3].as_slice(), "the first list");
     let second = lists.nodes_in(alloc, 1, &mut steps)?;
-    assert_eq!(rt; second.len(), 0);
+    expect(rt, &second.len(), &0, "the second list");
     Ok(())
 }
 

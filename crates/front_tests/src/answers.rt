@@ -1,61 +1,55 @@
 //! Each row of the tables, checked.
 
+use crate::expected::expect_refusal;
 use crate::rows::{Row, answer, read};
 use crate::{declarations, expressions, statements, typed};
 use pcc_base::{Fault, FaultKind, Limit, Refusal, Span};
-use std::alloc::{AllocError, Global};
+use std::alloc::Global;
 use std::process::Abort;
-use std::test::Fail;
 
 /// Where the `@` of a row stands, and why its program is refused, if it is.
-fn answer_of(alloc: Global, text: &str) -> Result<(Span, Option<Refusal>), AllocError> {
-    let Row { files, at } = read(alloc, text)?;
-    Ok((at, answer(alloc, files.as_slice())))
-}
-
-fn expect_answer(rt: &impl Abort, found: Option<Refusal>, wanted: Option<Refusal>, text: &str) {
-    assert_eq!(rt; found, wanted, "{text}");
+fn answer_of(rt: &impl Abort, alloc: Global, text: &str) -> (Span, Option<Refusal>) {
+    let Row { files, at } = read(alloc, text).expect(rt, text);
+    (at, answer(alloc, files.as_slice()))
 }
 
 /// The program of each row has this least fault, at the place of its `@`.
-fn expect_faults(rt: &impl Abort, alloc: Global, rows: &[(&str, FaultKind)]) -> Result<(), Fail> {
+fn expect_faults(rt: &impl Abort, alloc: Global, rows: &[(&str, FaultKind)]) {
     for (text, kind) in rows {
-        let (at, found) = answer_of(alloc, text)?;
+        let (at, found) = answer_of(rt, alloc, text);
         let fault = Fault { kind: *kind, at };
-        expect_answer(rt, found, Some(Refusal::Fault(fault)), text);
+        expect_refusal(rt, found, Some(Refusal::Fault(fault)), text);
     }
-    Ok(())
 }
 
 #[test]
-fn faults(rt: HostRuntime) -> Result<(), Fail> {
+fn faults(rt: HostRuntime) {
     let alloc = rt.alloc();
-    expect_faults(&rt, alloc, &declarations::FIRST_ROWS)?;
-    expect_faults(&rt, alloc, &declarations::SPECIFIERS)?;
-    expect_faults(&rt, alloc, &declarations::OBJECTS)?;
-    expect_faults(&rt, alloc, &declarations::PARAMETERS)?;
-    expect_faults(&rt, alloc, &declarations::ARRAY_SIZES)?;
-    expect_faults(&rt, alloc, &declarations::REDECLARATIONS)?;
-    expect_faults(&rt, alloc, &declarations::FILES)?;
-    expect_faults(&rt, alloc, &declarations::INITIALISERS)?;
-    expect_faults(&rt, alloc, &expressions::EXPRESSIONS)?;
-    expect_faults(&rt, alloc, &expressions::CALLS)?;
-    expect_faults(&rt, alloc, &statements::STATEMENTS)?;
-    expect_faults(&rt, alloc, &statements::LEAST)
+    expect_faults(&rt, alloc, &declarations::FIRST_ROWS);
+    expect_faults(&rt, alloc, &declarations::SPECIFIERS);
+    expect_faults(&rt, alloc, &declarations::OBJECTS);
+    expect_faults(&rt, alloc, &declarations::PARAMETERS);
+    expect_faults(&rt, alloc, &declarations::ARRAY_SIZES);
+    expect_faults(&rt, alloc, &declarations::REDECLARATIONS);
+    expect_faults(&rt, alloc, &declarations::FILES);
+    expect_faults(&rt, alloc, &declarations::INITIALISERS);
+    expect_faults(&rt, alloc, &expressions::EXPRESSIONS);
+    expect_faults(&rt, alloc, &expressions::CALLS);
+    expect_faults(&rt, alloc, &statements::STATEMENTS);
+    expect_faults(&rt, alloc, &statements::LEAST);
 }
 
 /// The program of each row is typed, and within the limits.
-fn expect_typed(rt: &impl Abort, alloc: Global, rows: &[&str]) -> Result<(), Fail> {
+fn expect_typed(rt: &impl Abort, alloc: Global, rows: &[&str]) {
     for text in rows {
-        let (_, found) = answer_of(alloc, text)?;
-        expect_answer(rt, found, None, text);
+        let (_, found) = answer_of(rt, alloc, text);
+        expect_refusal(rt, found, None, text);
     }
-    Ok(())
 }
 
 #[test]
-fn typed_programs(rt: HostRuntime) -> Result<(), Fail> {
-    expect_typed(&rt, rt.alloc(), &typed::TYPED)
+fn typed_programs(rt: HostRuntime) {
+    expect_typed(&rt, rt.alloc(), &typed::TYPED);
 }
 
 /// Programs, and the limit that each is above: that on static objects first, then the first function's.
@@ -83,15 +77,14 @@ const LIMITS: [(&str, Limit); 5] = [
 ];
 
 /// The program of each row is above this limit.
-fn expect_limits(rt: &impl Abort, alloc: Global, rows: &[(&str, Limit)]) -> Result<(), Fail> {
+fn expect_limits(rt: &impl Abort, alloc: Global, rows: &[(&str, Limit)]) {
     for (text, limit) in rows {
-        let (_, found) = answer_of(alloc, text)?;
-        expect_answer(rt, found, Some(Refusal::Limit(*limit)), text);
+        let (_, found) = answer_of(rt, alloc, text);
+        expect_refusal(rt, found, Some(Refusal::Limit(*limit)), text);
     }
-    Ok(())
 }
 
 #[test]
-fn limits(rt: HostRuntime) -> Result<(), Fail> {
-    expect_limits(&rt, rt.alloc(), &LIMITS)
+fn limits(rt: HostRuntime) {
+    expect_limits(&rt, rt.alloc(), &LIMITS);
 }

@@ -1,7 +1,13 @@
 //! What the rows of the tables are to give.
 
 use pcc_base::Refusal;
+use std::fmt::Debug;
 use std::process::Abort;
+
+/// What was found is what was wanted, of this text.
+pub fn expect<T: PartialEq + Debug>(rt: &impl Abort, found: &T, wanted: &T, text: &str) {
+    assert_eq!(rt; *found, *wanted, "{text}");
+}
 
 /// A text is refused so, or isn't refused.
 pub fn expect_refusal(
@@ -10,10 +16,10 @@ pub fn expect_refusal(
     wanted: Option<Refusal>,
     text: &str,
 ) {
-    assert_eq!(rt; found, wanted, "{text}");
+    expect(rt, &found, &wanted, text);
 }
 
 /// What a text of a row has, as a text.
 pub fn expect_shown(rt: &impl Abort, found: &str, wanted: &str, text: &str) {
-    assert_eq!(rt; found, wanted, "{text}");
+    expect(rt, &found, &wanted, text);
 }

@@ -7,7 +7,6 @@ use c_tokens::{Token, TokenKind};
 use pcc_base::{Fault, FaultKind, Limit, Name, Refusal, Span};
 use std::alloc::{AllocError, Global};
 use std::process::Abort;
-use std::test::Fail;
 
 /// The most tokens of all files.
 const MOST: usize = 65536;
@@ -77,27 +76,24 @@ const TOKENS: [(&str, &str); 15] = texts! {
 };
 
 /// The tokens of a text, with a space behind each.
-fn shown_tokens(rt: &impl Abort, alloc: Global, text: &str) -> Result<String, Fail> {
-    let Ok(tokens) = lexed(rt, alloc, 0, text, MOST) else {
-        return Err(Fail::new(text));
-    };
+fn shown_tokens(rt: &impl Abort, alloc: Global, text: &str) -> String {
+    let tokens = lexed(rt, alloc, 0, text, MOST).expect(rt, text);
     let mut out = String::new(alloc);
-    push_tokens(alloc, &mut out, &tokens)?;
-    Ok(out)
+    push_tokens(alloc, &mut out, &tokens).expect(rt, text);
+    out
 }
 
 /// The text of each row has these tokens.
-fn expect_tokens(rt: &impl Abort, alloc: Global, rows: &[(&str, &str)]) -> Result<(), Fail> {
+fn expect_tokens(rt: &impl Abort, alloc: Global, rows: &[(&str, &str)]) {
     for (text, shown) in rows {
-        let out = shown_tokens(rt, alloc, text)?;
+        let out = shown_tokens(rt, alloc, text);
         expect_shown(rt, out.as_str(), shown, text);
     }
-    Ok(())
 }
 
 #[test]
-fn tokens_of_texts(rt: HostRuntime) -> Result<(), Fail> {
-    expect_tokens(&rt, rt.alloc(), &TOKENS)
+fn tokens_of_texts(rt: HostRuntime) {
+    expect_tokens(&rt, rt.alloc(), &TOKENS);
 }
 
 /// Texts, and the line, the column and the kind of their first fault.

@@ -1,7 +1,7 @@
 //! Tables of sources, what their trees are, and the faults of those that have none. The expected values are
 //! those of the grammar, by hand.
 
-use crate::expected::{expect_refusal, expect_shown};
+use crate::expected::{expect, expect_refusal, expect_shown};
 use crate::tree_texts::push_unit;
 use c_lexer::lex;
 use c_parser::parse;
@@ -9,7 +9,6 @@ use c_syntax::RawUnit;
 use pcc_base::{Fault, FaultKind, Keyword, Refusal, Span};
 use std::alloc::{AllocError, Global};
 use std::process::Abort;
-use std::test::Fail;
 
 /// The most tokens of all files.
 const MOST: usize = 65536;
@@ -32,22 +31,20 @@ fn parsed(alloc: Global, text: &str) -> Option<Result<RawUnit, Refusal>> {
 }
 
 /// How many external declarations the source has, and its tree as a text.
-fn shown_tree(alloc: Global, source: &str) -> Result<(usize, String), Fail> {
-    let unit = match parsed(alloc, source) {
-        Some(Ok(unit)) => unit,
-        Some(Err(_)) | None => return Err(Fail::new(source)),
+fn shown_tree(rt: &impl Abort, alloc: Global, source: &str) -> (usize, String) {
+    let Some(Ok(unit)) = parsed(alloc, source) else {
+        panic!(rt; "{source}: no tree");
     };
     let mut out = String::new(alloc);
-    push_unit(alloc, &mut out, &unit)?;
-    Ok((unit.externals.len(), out))
+    push_unit(alloc, &mut out, &unit).expect(rt, source);
+    (unit.externals.len(), out)
 }
 
 /// Why the source, which has tokens, has no tree, or nothing where it has one.
-fn refusal_of(alloc: Global, source: &str) -> Result<Option<Refusal>, Fail> {
+fn refusal_of(rt: &impl Abort, alloc: Global, source: &str) -> Option<Refusal> {
     match parsed(alloc, source) {
-        Some(Ok(_)) => Ok(None),
-        Some(Err(refusal)) => Ok(Some(refusal)),
-        None => Err(Fail::new(source)),
+        Some(unit) => unit.err(),
+        None => panic!(rt; "{source}: no tokens"),
     }
 }
 
@@ -91,17 +88,16 @@ const TREES: [(&str, &str); 13] = sources! {
 };
 
 /// The source of each row has this tree.
-fn expect_trees(rt: &impl Abort, alloc: Global, rows: &[(&str, &str)]) -> Result<(), Fail> {
+fn expect_trees(rt: &impl Abort, alloc: Global, rows: &[(&str, &str)]) {
     for (source, shown) in rows {
-        let (_, out) = shown_tree(alloc, source)?;
+        let (_, out) = shown_tree(rt, alloc, source);
         expect_shown(rt, out.as_str(), shown, source);
     }
-    Ok(())
 }
 
 #[test]
-fn trees_of_sources(rt: HostRuntime) -> Result<(), Fail> {
-    expect_trees(&rt, rt.alloc(), &TREES)
+fn trees_of_sources(rt: HostRuntime) {
+    expect_trees(&rt, rt.alloc(), &TREES);
 }
 
 /// A program that counts lines, words and bytes.
@@ -148,13 +144,12 @@ int main(void)
 ";
 
 #[test]
-fn word_counter(rt: HostRuntime) -> Result<(), Fail> {
-    let (externals, out) = shown_tree(rt.alloc(), WORD_COUNTER)?;
-    assert_eq!(rt; externals, 6);
+fn word_counter(rt: HostRuntime) {
+    let (externals, out) = shown_tree(&rt, rt.alloc(), WORD_COUNTER);
     let shown = out.as_str();
-    assert!(rt; shown.starts_with("declare putchar;declare getchar;declare counts;number{"));
-    assert!(rt; shown.ends_with("text([[c Less 2] ? ' ' : '\n'],)}}}{return 0}}"));
-    Ok(())
+    let begun = shown.starts_with("declare putchar;declare getchar;declare counts;number{");
+    let ended = shown.ends_with("text([[c Less 2] ? ' ' : '\n'],)}}}{return 0}}");
+    expect(&rt, &(externals, begun, ended), &(6, true, true), shown);
 }
 
 /// Sources, and the column and the kind of their faults.
@@ -181,21 +176,16 @@ const FAULTS: [(&str, (u32, FaultKind)); 19] = sources! {
 };
 
 /// The source of each row has this fault.
-fn expect_faults(
-    rt: &impl Abort,
-    alloc: Global,
-    rows: &[(&str, (u32, FaultKind))],
-) -> Result<(), Fail> {
+fn expect_faults(rt: &impl Abort, alloc: Global, rows: &[(&str, (u32, FaultKind))]) {
     for (source, (col, kind)) in rows {
         let wanted = fault_at(*col, *kind);
-        expect_refusal(rt, refusal_of(alloc, source)?, Some(wanted), source);
+        expect_refusal(rt, refusal_of(rt, alloc, source), Some(wanted), source);
     }
-    Ok(())
 }
 
 #[test]
-fn faults_of_sources(rt: HostRuntime) -> Result<(), Fail> {
-    expect_faults(&rt, rt.alloc(), &FAULTS)
+fn faults_of_sources(rt: HostRuntime) {
+    expect_faults(&rt, rt.alloc(), &FAULTS);
 }
 
 /// Five parts of a source, how often the second and the fourth stand in it, and the column where it is too deep,
@@ -244,19 +234,19 @@ fn nested(
 }
 
 /// The source of each row is too deep at its column, or has a tree where that is 0.
-fn expect_nests(rt: &impl Abort, alloc: Global, rows: &[Nest]) -> Result<(), Fail> {
+fn expect_nests(rt: &impl Abort, alloc: Global, rows: &[Nest]) {
     for (parts, opened, closed, col) in rows {
-        let text = nested(alloc, parts, *opened, *closed)?;
+        let text = nested(alloc, parts, *opened, *closed).expect(rt, "a source");
         let wanted = match *col {
             0 => None,
             col => Some(fault_at(col, FaultKind::TooDeep)),
         };
-        expect_refusal(rt, refusal_of(alloc, text.as_str())?, wanted, text.as_str());
+        let found = refusal_of(rt, alloc, text.as_str());
+        expect_refusal(rt, found, wanted, text.as_str());
     }
-    Ok(())
 }
 
 #[test]
-fn deep_sources(rt: HostRuntime) -> Result<(), Fail> {
-    expect_nests(&rt, rt.alloc(), &NESTS)
+fn deep_sources(rt: HostRuntime) {
+    expect_nests(&rt, rt.alloc(), &NESTS);
 }

@@ -1,11 +1,11 @@
 //! `int main(void){int x=10;return SUM;}` for a few sums, with the value that C gives, or None where the file has no
 //! typed program.
 
+use crate::expected::expect;
 use crate::rows::{Row, read, typed};
 use c_tree::{BinaryOp, Expression, Program, Statement};
 use std::alloc::Global;
 use std::process::Abort;
-use std::test::Fail;
 
 /// The value of a sum or product where each local is 10.
 fn value_of(e: &Expression) -> i32 {
@@ -43,19 +43,18 @@ const SUMS: [(&str, Option<i32>); 5] = [
 ];
 
 /// The typed program of each source returns the value, or there is none.
-fn expect_sums(rt: &impl Abort, alloc: Global, rows: &[(&str, Option<i32>)]) -> Result<(), Fail> {
+fn expect_sums(rt: &impl Abort, alloc: Global, rows: &[(&str, Option<i32>)]) {
     for (text, value) in rows {
-        let Row { files, .. } = read(alloc, text)?;
+        let Row { files, .. } = read(alloc, text).expect(rt, text);
         let found = match typed(alloc, files.as_slice()) {
             Ok(program) => returned(&program),
             Err(_) => None,
         };
-        assert_eq!(rt; found, *value, "{text}");
+        expect(rt, &found, value, text);
     }
-    Ok(())
 }
 
 #[test]
-fn sums(rt: HostRuntime) -> Result<(), Fail> {
-    expect_sums(&rt, rt.alloc(), &SUMS)
+fn sums(rt: HostRuntime) {
+    expect_sums(&rt, rt.alloc(), &SUMS);
 }

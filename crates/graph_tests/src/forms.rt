@@ -3,6 +3,7 @@
 ghost use Rattle.elementary_form.specs.SplitForms.{FixedOperandsDie, placed_count};
 ghost use Rattle.std.specs.Prelude.{◌<◌};
 
+use crate::expected::expect;
 use elementary_form::split;
 use flow_graph::{Graph, Op};
 use liveness::live;
@@ -26,16 +27,8 @@ fn expect_names(
     assert_eq!(rt; form.graph().points(), graph.points());
     assert_eq!(rt; rows.len(), 3);
     for point in 0..3 {
-        assert_eq!(rt;
-            form.name_before(point, 0),
-            rows[point as usize].0,
-            "before {point}"
-        );
-        assert_eq!(rt;
-            form.name_after(point, 0),
-            rows[point as usize].1,
-            "after {point}"
-        );
+        let names = (form.name_before(point, 0), form.name_after(point, 0));
+        expect(rt, &names, &rows[point as usize], point);
     }
     Ok(())
 }

@@ -1,17 +1,18 @@
 //! A small graph, built, read back and changed: the order of its points is that of the calls, by hand.
 
 use crate::building::{add_var, append, empty_graph};
+use crate::expected;
 use flow_graph::{Graph, LiveSets, Op, Words};
 use std::process::Abort;
 
 /// A point or a variable, where there is one, is that.
 fn expect(rt: &impl Abort, what: &str, got: Option<u32>, want: Option<u32>) {
-    assert_eq!(rt; got, want, "{what}");
+    expected::expect(rt, &got, &want, what);
 }
 
 /// These points or variables are those.
 fn expect_all(rt: &impl Abort, what: &str, got: &[u32], want: &[u32]) {
-    assert_eq!(rt; *got, *want, "{what}");
+    expected::expect(rt, &got, &want, what);
 }
 
 /// Two ops, read back.
@@ -46,7 +47,8 @@ fn is_mark_of(op: &Op, statement: u32) -> bool {
 fn point_removed(rt: HostRuntime) {
     let mut graph = empty_graph(&rt, rt.alloc());
     let point = append(&rt, &mut graph, 0, Op::Mark(4));
-    assert!(rt; is_mark_of(graph.op(point), 4));
+    let is_mark = is_mark_of(graph.op(point), 4);
+    expected::expect(&rt, &is_mark, &true, "the op");
     graph.remove(point);
     expect(&rt, "how many points", Some(graph.points()), Some(1));
 }

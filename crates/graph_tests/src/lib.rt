@@ -10,6 +10,8 @@
 #[cfg(test)]
 mod building;
 #[cfg(test)]
+mod expected;
+#[cfg(test)]
 mod forms;
 #[cfg(test)]
 mod graphs;

@@ -3,6 +3,7 @@
 ghost use Rattle.std.specs.Prelude.{◌<◌, length};
 
 use crate::building::{add_block, add_var, append, empty_graph};
+use crate::expected::expect;
 use flow_graph::{Comparison, Graph, LiveSets, Op};
 use liveness::{live, next_use};
 use std::alloc::Global;
@@ -14,7 +15,7 @@ fn expect_live_at(rt: &impl Abort, alloc: Global, sets: &LiveSets, point: u32, r
     requires after { point < length sets.now.after }
 {
     let shown = format!(in alloc; "{:?} {:?}", sets.before(point), sets.after(point));
-    assert_eq!(rt; shown.expect(rt, "a row").as_str(), row, "at {point}");
+    expect(rt, &shown.expect(rt, "a row").as_str(), &row, point);
 }
 
 /// The variables before and after each point of a graph, in their Debug form, are these.
@@ -35,7 +36,8 @@ fn expect_distances(
 ) {
     let distances = next_use(alloc, graph).expect(rt, "distances");
     for (point, var, distance) in rows {
-        assert_eq!(rt; distances.at(*point, *var), *distance, "{var} at {point}");
+        let found = (*point, *var, distances.at(*point, *var));
+        expect(rt, &found, &(*point, *var, *distance), "a distance");
     }
 }
 

@@ -2,11 +2,10 @@
 
 ghost use Rattle.std.specs.Prelude.{◌≡◌, length, IfOk};
 
+use crate::expected::expect;
 use pcc_base::NoMemory;
 use puzzle_board::{Columns, Place, PointMap, Spot};
 use std::alloc::Global;
-use std::process::Abort;
-use std::test::Fail;
 
 /// Three points and two variables: variable 1 in a slot, variable 0 in a column, and both elsewhere after the point.
 fn filled(alloc: Global) -> Result<PointMap, NoMemory>
@@ -28,26 +27,20 @@ fn filled(alloc: Global) -> Result<PointMap, NoMemory>
     Ok(map)
 }
 
-fn expect_filled(rt: &impl Abort, alloc: Global) -> Result<(), Fail> {
-    let map = filled(alloc)?;
-    let cells = Place::Cells(Spot {
-        area: 2,
-        columns: Columns::Low,
-    });
-    assert_eq!(rt; map.before(1, 0), Some(cells));
-    assert_eq!(rt; map.before(1, 1), Some(Place::Slot(-20)));
-    assert_eq!(rt; map.before(0, 1), None);
-    assert_eq!(rt; map.after(1, 0), Some(cells));
-    assert_eq!(rt; map.after(1, 1), None);
-    assert_eq!(rt; map.spilled(1), [1].as_slice());
-    assert_eq!(rt; map.slot(1), Some(-20));
-    assert_eq!(rt; map.slot(0), None);
-    assert_eq!(rt; map.frame(), 20);
-    Ok(())
-}
-
 /// What was set is read, and nothing else.
 #[test]
-fn map_of_points(rt: HostRuntime) -> Result<(), Fail> {
-    expect_filled(&rt, rt.alloc())
+fn map_of_points(rt: HostRuntime) {
+    let map = filled(rt.alloc()).expect(&rt, "a map");
+    let cells = Some(Place::Cells(Spot {
+        area: 2,
+        columns: Columns::Low,
+    }));
+    let slot = Some(Place::Slot(-20));
+    let before = (map.before(1, 0), map.before(1, 1), map.before(0, 1));
+    expect(&rt, &before, &(cells, slot, None), "before");
+    let after = (map.after(1, 0), map.after(1, 1));
+    expect(&rt, &after, &(cells, None), "after");
+    expect(&rt, &map.spilled(1), &[1].as_slice(), "spilled");
+    let frame = (map.slot(1), map.slot(0), map.frame());
+    expect(&rt, &frame, &(Some(-20), None, 20), "slots and frame");
 }

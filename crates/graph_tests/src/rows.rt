@@ -1,11 +1,11 @@
 //! Boards that were solved by hand.
 
+use crate::expected::expect;
 use crate::solving::{spilled_at, spots, takes};
 use pcc_base::{NoMemory, Width};
 use puzzle_board::{Area, Column, Columns, Kind, Piece, Spot};
 use std::alloc::Global;
 use std::process::Abort;
-use std::test::Fail;
 
 const BB: Area = Area {
     low: Column::Both,
@@ -93,75 +93,77 @@ fn areas_of(alloc: Global, spots: &[Option<Spot>]) -> Result<Vec<u32>, NoMemory>
     Ok(areas)
 }
 
-/// Each board is solved, and its pieces stand in these areas.
-fn expect_solved(
-    rt: &impl Abort,
-    alloc: Global,
-    rows: &[(&[Area], &[Piece], &[u32])],
-) -> Result<(), Fail> {
-    for (areas, pieces, want) in rows {
-        let found = match spots(rt, alloc, areas, pieces)? {
-            Some(found) => areas_of(alloc, &found)?,
-            None => Vec::new(alloc),
-        };
-        assert_eq!(rt; found.as_slice(), *want);
+/// The area of each piece on the solved board, or nothing where it isn't solvable.
+fn areas_found(rt: &impl Abort, alloc: Global, areas: &[Area], pieces: &[Piece]) -> Vec<u32> {
+    match spots(rt, alloc, areas, pieces).expect(rt, "memory") {
+        Some(found) => areas_of(alloc, &found).expect(rt, "memory"),
+        None => Vec::new(alloc),
     }
-    Ok(())
+}
+
+/// Each board is solved, and its pieces stand in these areas.
+#[test]
+fn solves(rt: HostRuntime) {
+    for (row, (areas, pieces, want)) in SOLVED.iter().enumerate() {
+        let found = areas_found(&rt, rt.alloc(), areas, pieces);
+        expect(&rt, &found.as_slice(), want, row);
+    }
 }
 
 /// No board is solved.
-fn expect_none(rt: &impl Abort, alloc: Global, rows: &[(&[Area], &[Piece])]) -> Result<(), Fail> {
-    for (areas, pieces) in rows {
-        assert!(rt; spots(rt, alloc, areas, pieces)?.is_none());
+#[test]
+fn knows_that_there_is_none(rt: HostRuntime) {
+    for (row, (areas, pieces)) in UNSOLVABLE.iter().enumerate() {
+        let found = spots(&rt, rt.alloc(), areas, pieces).expect(&rt, "memory");
+        expect(&rt, &found.is_none(), &true, row);
     }
-    Ok(())
-}
-
-#[test]
-fn solves(rt: HostRuntime) -> Result<(), Fail> {
-    expect_solved(&rt, rt.alloc(), &SOLVED)
-}
-
-#[test]
-fn knows_that_there_is_none(rt: HostRuntime) -> Result<(), Fail> {
-    expect_none(&rt, rt.alloc(), &UNSOLVABLE)
 }
 
 /// A wide X and a wide Z share an area, and of the six Y two stand in each other area.
 #[test]
-fn shares_an_area(rt: HostRuntime) -> Result<(), Fail> {
+fn shares_an_area(rt: HostRuntime) {
     let pieces = [X2, Z2, Y1, Y1, Y1, Y1, Y1, Y1];
-    let found = spots(&rt, rt.alloc(), &[BB, BB, BB, BB], &pieces)?;
-    let areas = match found {
-        Some(found) => areas_of(rt.alloc(), &found)?,
-        None => Vec::new(rt.alloc()),
-    };
-    assert_eq!(rt; areas.len(), 8);
-    assert_eq!(rt; areas[0], areas[1]);
-    assert!(rt; areas.iter().skip(2).all(|area| *area != areas[0]));
-    Ok(())
+    let areas = areas_found(&rt, rt.alloc(), &[BB, BB, BB, BB], &pieces);
+    expect(&rt, &areas.len(), &8, "how many");
+    let mut wide = 0;
+    for (piece, area) in areas.iter().enumerate() {
+        if piece == 0 {
+            wide = *area;
+        }
+        expect(&rt, &(*area == wide), &(piece < 2), piece);
+    }
 }
 
 /// Two narrow Y fit in an area, and neither three nor a million do, which is known within 160 steps.
 #[test]
-fn knows_of_a_million(rt: HostRuntime) -> Result<(), Fail> {
-    assert!(rt; takes(rt.alloc(), 2)?);
-    assert!(rt; !takes(rt.alloc(), 3)?);
-    assert!(rt; !takes(rt.alloc(), 1_000_000)?);
-    Ok(())
+fn knows_of_a_million(rt: HostRuntime) {
+    for (pieces, want) in [(2, true), (3, false), (1_000_000, false)] {
+        let found = takes(rt.alloc(), pieces).ok();
+        expect(&rt, &found, &Some(want), pieces);
+    }
 }
+
+/// A table: on each line the distances, the spill order, and what is spilled.
+macro_rules! spills {
+    ($([$($distance:expr),*] => [$($variable:literal),*] [$($spilled:literal),*];)*) => {
+        [$((&[$($distance),*], &[$($variable),*], &[$($spilled),*])),*]
+    };
+}
+
+const SPILLS: [(&[Option<u32>], &[u32], &[u32]); 3] = spills! {
+    [Some(3), Some(9), Some(9), Some(1), Some(2), Some(4), Some(5), Some(6), Some(7)] =>
+        [1, 2, 8, 7, 6, 5, 0, 4, 3] [1];
+    [Some(3), Some(9), Some(9), Some(1), Some(2), Some(4), Some(5), Some(6)] =>
+        [1, 2, 7, 6, 5, 0, 4, 3] [];
+    [Some(9), None, Some(0), None] => [1, 3, 0, 2] [];
+};
 
 /// The furthest next use is spilled first, of equal ones the smaller variable, and only as many as don't fit.
 #[test]
-fn spills_the_furthest(rt: HostRuntime) -> Result<(), Fail> {
-    let distances = [3, 9, 9, 1, 2, 4, 5, 6, 7].map(Some);
-    let (order, removed) = spilled_at(&rt, rt.alloc(), &distances)?;
-    assert_eq!(rt; order.as_slice(), [1, 2, 8, 7, 6, 5, 0, 4, 3].as_slice());
-    assert_eq!(rt; removed.as_slice(), [1].as_slice());
-    let (order, removed) = spilled_at(&rt, rt.alloc(), &distances[..8])?;
-    assert_eq!(rt; order.as_slice(), [1, 2, 7, 6, 5, 0, 4, 3].as_slice());
-    assert_eq!(rt; removed.len(), 0);
-    let (order, _) = spilled_at(&rt, rt.alloc(), &[Some(9), None, Some(0), None])?;
-    assert_eq!(rt; order.as_slice(), [1, 3, 0, 2].as_slice());
-    Ok(())
+fn spills_the_furthest(rt: HostRuntime) {
+    for (row, (distances, order, removed)) in SPILLS.iter().enumerate() {
+        let found = spilled_at(&rt, rt.alloc(), distances).expect(&rt, "memory");
+        let found = (found.0.as_slice(), found.1.as_slice());
+        expect(&rt, &found, &(*order, *removed), row);
+    }
 }

@@ -1,11 +1,11 @@
 //! Every board of at most two areas and three pieces, compared with a plain search over bits.
 
+use crate::expected::expect;
 use crate::solving::spots;
 use pcc_base::Width;
 use puzzle_board::{Area, Column, Columns, Kind, Piece, Spot};
 use std::alloc::Global;
 use std::process::Abort;
-use std::test::Fail;
 
 /// The kinds and widths of pieces.
 const CLASSES: [(Kind, Width); 6] = [
@@ -100,42 +100,42 @@ fn is_legal(free: [u8; 2], pieces: &[Piece], spots: &[Option<Spot>]) -> bool {
 }
 
 /// The solver agrees with the search on these pieces.
-fn agrees(
+fn expect_agreement(
     rt: &impl Abort,
     alloc: Global,
     free: [u8; 2],
     areas: &[Area],
     pieces: &[Piece],
-) -> Result<bool, Fail> {
+) {
     let want = has_place(free, pieces, 0);
-    Ok(match spots(rt, alloc, areas, pieces)? {
+    let agrees = match spots(rt, alloc, areas, pieces).expect(rt, "memory") {
         Some(found) => want && is_legal(free, pieces, &found),
         None => !want,
-    })
+    };
+    expect(
+        rt,
+        &(free, pieces, agrees),
+        &(free, pieces, true),
+        "a board",
+    );
 }
 
 /// The solver agrees with the search on up to three pieces.
-fn agrees_on_pieces(
-    rt: &impl Abort,
-    alloc: Global,
-    free: [u8; 2],
-    areas: &[Area],
-) -> Result<(), Fail> {
-    assert!(rt; agrees(rt, alloc, free, areas, &[])?);
+fn agrees_on_pieces(rt: &impl Abort, alloc: Global, free: [u8; 2], areas: &[Area]) {
+    expect_agreement(rt, alloc, free, areas, &[]);
     for (first, a) in CLASSES.iter().enumerate() {
         let one = piece(*a);
-        assert!(rt; agrees(rt, alloc, free, areas, &[one])?);
+        expect_agreement(rt, alloc, free, areas, &[one]);
         for (second, b) in CLASSES.iter().enumerate() {
             let two = piece(*b);
             if second >= first {
-                assert!(rt; agrees(rt, alloc, free, areas, &[one, two])?);
+                expect_agreement(rt, alloc, free, areas, &[one, two]);
                 for c in CLASSES.iter().skip(second) {
-                    assert!(rt; agrees(rt, alloc, free, areas, &[one, two, piece(*c)])?);
+                    expect_agreement(rt, alloc, free, areas, &[one, two, piece(*c)]);
                 }
             }
         }
     }
-    Ok(())
 }
 
 /// A piece of a variable.
@@ -148,13 +148,12 @@ fn piece(class: (Kind, Width)) -> Piece {
 }
 
 #[test]
-fn agrees_with_a_plain_search(rt: HostRuntime) -> Result<(), Fail> {
-    agrees_on_pieces(&rt, rt.alloc(), [0, 0], &[])?;
+fn agrees_with_a_plain_search(rt: HostRuntime) {
+    agrees_on_pieces(&rt, rt.alloc(), [0, 0], &[]);
     for low in 0..16 {
-        agrees_on_pieces(&rt, rt.alloc(), [low, 0], &[area(low)])?;
+        agrees_on_pieces(&rt, rt.alloc(), [low, 0], &[area(low)]);
         for high in 0..16 {
-            agrees_on_pieces(&rt, rt.alloc(), [low, high], &[area(low), area(high)])?;
+            agrees_on_pieces(&rt, rt.alloc(), [low, high], &[area(low), area(high)]);
         }
     }
-    Ok(())
 }

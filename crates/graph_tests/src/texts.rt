@@ -2,6 +2,7 @@
 
 ghost use Rattle.std.specs.Prelude.{◌≡◌, ◌≤◌, length};
 
+use crate::expected::expect;
 use pcc_base::Steps;
 use puzzle_solver::solve;
 use puzzle_texts::{BoardRefusal, print_placement, read_board};
@@ -9,7 +10,6 @@ use std::alloc::Global;
 use std::marker::Brand;
 use std::process::Abort;
 use std::sync::ledger::{Blank, Ledger};
-use std::test::Fail;
 
 /// The text of the placement of a board by its text. None where there is no placement.
 fn solved_with<L: Ledger>(
@@ -61,28 +61,27 @@ const BAD: [&[u8]; 6] = [
 ];
 
 #[test]
-fn places_what_a_text_has(rt: HostRuntime) -> Result<(), Fail> {
-    for (text, want) in &PLACED {
-        match solved(&rt, rt.alloc(), text) {
-            Ok(Some(found)) => assert_eq!(rt; found.as_slice(), *want),
-            Ok(None) | Err(_) => assert!(rt; false),
-        }
+fn places_what_a_text_has(rt: HostRuntime) {
+    for (row, (text, want)) in PLACED.iter().enumerate() {
+        let Ok(Some(found)) = solved(&rt, rt.alloc(), text) else {
+            panic!(rt; "no placement in row {row}");
+        };
+        expect(&rt, &found.as_slice(), want, row);
     }
-    Ok(())
 }
 
 #[test]
-fn knows_texts_of_none(rt: HostRuntime) -> Result<(), Fail> {
-    for text in &NONE {
-        assert!(rt; matches!(solved(&rt, rt.alloc(), text), Ok(None)));
+fn knows_texts_of_none(rt: HostRuntime) {
+    for (row, text) in NONE.iter().enumerate() {
+        let none = matches!(solved(&rt, rt.alloc(), text), Ok(None));
+        expect(&rt, &none, &true, row);
     }
-    Ok(())
 }
 
 #[test]
-fn refuses_texts_of_no_board(rt: HostRuntime) -> Result<(), Fail> {
-    for text in &BAD {
-        assert!(rt; matches!(solved(&rt, rt.alloc(), text), Err(BoardRefusal::BadBoard)));
+fn refuses_texts_of_no_board(rt: HostRuntime) {
+    for (row, text) in BAD.iter().enumerate() {
+        let refused = matches!(solved(&rt, rt.alloc(), text), Err(BoardRefusal::BadBoard));
+        expect(&rt, &refused, &true, row);
     }
-    Ok(())
 }

@@ -1,6 +1,7 @@
 //! Each value is what a processor gave for the instruction, run by a C program with inline assembly. A quotient
 //! that is `None` raised the divide error.
 
+use crate::expected::expect;
 use ia32_arithmetic::{
     alu, complement, divide, divide_signed, holds, negation, product, shift, sign_extend8,
     sign_extend16, sign_word, with_low16,
@@ -43,12 +44,8 @@ const OPERATIONS: [((AluOp, u32, u32), (u32, Bits)); 10] = results! {
 
 /// The operation of each row has this result, with these flags.
 fn expect_operations(rt: &impl Abort, rows: &[((AluOp, u32, u32), (u32, Bits))]) {
-    for ((op, a, b), (value, bits)) in rows {
-        assert_eq!(rt;
-            alu(*op, *a, *b),
-            (*value, flags(*bits)),
-            "{a:#x} and {b:#x}"
-        );
+    for (row, ((op, a, b), (value, bits))) in rows.iter().enumerate() {
+        expect(rt, &alu(*op, *a, *b), &(*value, flags(*bits)), row);
     }
 }
 
@@ -75,7 +72,7 @@ const WORDS: [(u32, [u32; 5]); 3] = results! {
 
 /// What is made of a word is this.
 fn expect_made(rt: &impl Abort, a: u32, made: u32, expected: u32) {
-    assert_eq!(rt; made, expected, "of {a:#x}");
+    expect(rt, &made, &expected, a);
 }
 
 /// The word of each row is shifted so.
@@ -131,32 +128,14 @@ const SIGNED: [Division; 7] = results! {
     (7, 0) => None;
 };
 
-/// The quotient and the remainder are those of the row.
-fn expect_division(rt: &impl Abort, made: Option<(u32, u32)>, row: &Division) {
-    let ((dividend, divisor), expected) = row;
-    assert_eq!(rt; made, *expected, "{dividend:#x} by {divisor:#x}");
-}
-
-/// The quotient of each row, without signs, is this.
-fn expect_unsigned(rt: &impl Abort, rows: &[Division]) {
-    for row in rows {
-        let (dividend, divisor) = row.0;
-        expect_division(rt, divide(dividend, divisor), row);
-    }
-}
-
-/// The quotient of each row, with signs, is this.
-fn expect_signed(rt: &impl Abort, rows: &[Division]) {
-    for row in rows {
-        let (dividend, divisor) = row.0;
-        expect_division(rt, divide_signed(dividend, divisor), row);
-    }
-}
-
 #[test]
 fn quotients(rt: HostRuntime) {
-    expect_unsigned(&rt, &UNSIGNED);
-    expect_signed(&rt, &SIGNED);
+    for (row, ((dividend, divisor), wanted)) in UNSIGNED.iter().enumerate() {
+        expect(&rt, &divide(*dividend, *divisor), wanted, row);
+    }
+    for (row, ((dividend, divisor), wanted)) in SIGNED.iter().enumerate() {
+        expect(&rt, &divide_signed(*dividend, *divisor), wanted, row);
+    }
 }
 
 /// The conditions of the rows below, in their order.
@@ -186,25 +165,31 @@ const CONDITIONS: [(Bits, [u8; 14]); 5] = results! {
     [1, 0, 1, 0] => [0, 1, 1, 0, 0, 1, 1, 0, 1, 0, 1, 0, 1, 0];
 };
 
-/// The condition has this answer under these flags.
-fn expect_holds(rt: &impl Abort, cond: Cond, known: Option<Flags>, expected: Option<bool>) {
-    assert_eq!(rt; holds(cond, known), expected, "{cond:?}");
+/// The condition has this answer under these flags, in the row of this number.
+fn expect_holds(
+    rt: &impl Abort,
+    cond: Cond,
+    known: Option<Flags>,
+    expected: Option<bool>,
+    row: usize,
+) {
+    expect(rt, &(cond, holds(cond, known)), &(cond, expected), row);
 }
 
 /// Under these flags those conditions hold, and the conditions on parity and those on unknown flags have no answer.
-fn expect_answers(rt: &impl Abort, known: Flags, expected: &[u8]) {
+fn expect_answers(rt: &impl Abort, known: Flags, expected: &[u8], row: usize) {
     for (cond, bit) in ORDER.iter().zip(expected.iter()) {
-        expect_holds(rt, *cond, Some(known), Some(*bit == 1));
-        expect_holds(rt, *cond, None, None);
+        expect_holds(rt, *cond, Some(known), Some(*bit == 1), row);
+        expect_holds(rt, *cond, None, None, row);
     }
-    expect_holds(rt, Cond::P, Some(known), None);
-    expect_holds(rt, Cond::Np, Some(known), None);
+    expect_holds(rt, Cond::P, Some(known), None, row);
+    expect_holds(rt, Cond::Np, Some(known), None, row);
 }
 
 /// Under the flags of each row those conditions hold.
 fn expect_conditions(rt: &impl Abort, rows: &[(Bits, [u8; 14])]) {
-    for (known, expected) in rows {
-        expect_answers(rt, flags(*known), expected);
+    for (row, (known, expected)) in rows.iter().enumerate() {
+        expect_answers(rt, flags(*known), expected, row);
     }
 }
 

@@ -8,6 +8,7 @@ mod jumps;
 mod moves;
 mod none;
 
+use crate::expected::expect;
 use ia32_decode::decode;
 use ia32_insn::{Insn, Mem};
 use ia32_regs::Reg32;
@@ -21,8 +22,19 @@ const PLACE: Mem = Mem {
 };
 
 /// The bytes of each row are a spelling of its instruction.
-fn expect_rows(rt: &impl Abort, rows: &[(&[u8], Insn)]) {
+fn expect_rows(rt: &impl Abort, rows: &[(&[u8], Insn)], table: &str) {
     for (bytes, insn) in rows {
-        assert_eq!(rt; decode(bytes), Some((*insn, bytes.len())));
+        expect(rt, &decode(bytes), &Some((*insn, bytes.len())), table);
     }
+}
+
+/// The tables of spellings.
+#[test]
+fn spellings(rt: HostRuntime) {
+    expect_rows(&rt, &arithmetic::ROWS, "arithmetic");
+    expect_rows(&rt, &bytes::ROWS, "bytes");
+    expect_rows(&rt, &jumps::ROWS, "jumps");
+    expect_rows(&rt, &moves::ROWS, "moves");
+    addresses::expect_places(&rt, &addresses::ROWS);
+    none::expect_none(&rt, &none::ROWS);
 }

@@ -3,6 +3,7 @@
 ghost use Rattle.std.specs.Prelude.{◌≡◌, ◌<◌, length};
 ghost use Rattle.flow_graph.specs.Graphs.{with_op, FitsOp, IsEnded};
 
+use crate::expected::expect;
 use flow_graph::{Comparison, Graph, Op, Words};
 use ia32_frames::{Frame, frames_support, offsets_are_below};
 use ia32_functions::select_function;
@@ -15,7 +16,6 @@ use ia32_insn::{AluOp, Cond, Mem};
 use ia32_regs::Reg32::{Eax, Ebp, Ebx, Edi, Esi, Esp};
 use pcc_base::Width;
 use std::process::Abort;
-use std::test::Fail;
 
 /// The memory at a distance from the address in a register.
 macro_rules! at {
@@ -88,13 +88,13 @@ const ITEMS: [Item; 46] = [
 ];
 
 #[test]
-fn call_clear_and_branch(rt: HostRuntime) -> Result<(), Fail> {
-    let words = Words::new(vec![in rt.alloc(); 0]?);
-    let mut graph = Graph::new(rt.alloc())?;
+fn call_clear_and_branch(rt: HostRuntime) {
+    let words = [0].to_vec(rt.alloc()).expect(&rt, "a word");
+    let mut graph = Graph::new(rt.alloc()).expect(&rt, "a graph");
     graph.add_var(Width::Two).expect(&rt, "a variable");
     graph.add_array(2, 3).expect(&rt, "an array");
     graph.add_block().expect(&rt, "a block");
-    append(&rt, &mut graph, 0, Op::Call(Some(0), 3, words));
+    append(&rt, &mut graph, 0, Op::Call(Some(0), 3, Words::new(words)));
     append(&rt, &mut graph, 0, Op::Clear(0));
     append(&rt, &mut graph, 0, Op::Branch(Comparison::Lt, 0, 0, 1, 0));
     append(&rt, &mut graph, 1, Op::Return(None));
@@ -109,6 +109,5 @@ fn call_clear_and_branch(rt: HostRuntime) -> Result<(), Fail> {
         frame.variables.as_slice(),
     )
     .expect(&rt, "the items");
-    assert_eq!(rt; items.as_slice(), ITEMS.as_slice());
-    Ok(())
+    expect(&rt, &items.as_slice(), &ITEMS.as_slice(), "items");
 }

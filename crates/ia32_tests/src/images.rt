@@ -1,9 +1,10 @@
 //! The file of a small image, byte by byte, and what is read of it and of other bytes.
 
+use crate::expected::expect;
 use elf_image::{Image, ImageRefusal, read_image, write_image};
 use pcc_base::NoMemory;
 use std::alloc::Global;
-use std::test::Fail;
+use std::process::Abort;
 
 /// The headers of the image below, field by field (ELF, "ELF Header" and "Program Header").
 const HEADERS: [u8; 116] = [
@@ -20,7 +21,7 @@ const HEADERS: [u8; 116] = [
 ];
 
 /// The file of the instruction `hlt` and four bytes of data.
-fn halting(alloc: Global) -> Result<Vec<u8>, NoMemory> {
+fn halting_file(alloc: Global) -> Result<Vec<u8>, NoMemory> {
     let image = Image {
         entry: 0x0804_8000,
         text: [0xf4u8].to_vec(alloc)?,
@@ -29,60 +30,67 @@ fn halting(alloc: Global) -> Result<Vec<u8>, NoMemory> {
     write_image(alloc, &image)
 }
 
-#[test]
-fn writes_the_headers_and_pads(rt: HostRuntime) -> Result<(), Fail> {
-    let file = halting(rt.alloc())?;
-    assert_eq!(rt; file.len(), 4096 + 4096 + 4);
-    assert!(rt; file.starts_with(&HEADERS));
-    assert_eq!(rt; file[4096], 0xf4);
-    Ok(())
+/// The same file.
+fn halting(rt: &impl Abort, alloc: Global) -> Vec<u8> {
+    halting_file(alloc).expect(rt, "the file")
 }
 
 #[test]
-fn reads_what_is_written(rt: HostRuntime) -> Result<(), Fail> {
-    let file = halting(rt.alloc())?;
-    let loaded = read_image(rt.alloc(), &file)?;
-    assert_eq!(rt; loaded.entry, 0x0804_8000);
-    let want = [
-        (0x0804_8000u32, 1u32, [true, false, true]),
-        (0x0804_9000, 4 + 67_112_960, [true, true, false]),
-    ];
-    assert_eq!(rt; loaded.segments.len(), want.len());
-    for (segment, (addr, size, flags)) in loaded.segments.iter().zip(want.iter()) {
-        assert_eq!(rt; segment.addr, *addr);
-        assert_eq!(rt; segment.size, *size);
-        assert_eq!(rt; [segment.read, segment.write, segment.exec], *flags);
+fn writes_the_headers_and_pads(rt: HostRuntime) {
+    let file = halting(&rt, rt.alloc());
+    expect(&rt, &file.len(), &(4096 + 4096 + 4), "the length");
+    expect(&rt, &file.starts_with(&HEADERS), &true, "the headers");
+    expect(&rt, &file.get(4096), &Some(&0xf4), "the text");
+}
+
+/// Where the segments of the image stand, how many bytes they have, and whether these are read, written and run.
+const SEGMENTS: [(u32, u32, (bool, bool, bool)); 2] = [
+    (0x0804_8000, 1, (true, false, true)),
+    (0x0804_9000, 4 + 67_112_960, (true, true, false)),
+];
+
+#[test]
+fn reads_what_is_written(rt: HostRuntime) {
+    let file = halting(&rt, rt.alloc());
+    let loaded = read_image(rt.alloc(), &file).expect(&rt, "an image");
+    expect(&rt, &loaded.entry, &0x0804_8000, "the entry");
+    expect(&rt, &loaded.segments.len(), &SEGMENTS.len(), "how many");
+    for (segment, wanted) in loaded.segments.iter().zip(SEGMENTS.iter()) {
+        let rights = (segment.read, segment.write, segment.exec);
+        let found = (segment.addr, segment.size, rights);
+        expect(&rt, &found, wanted, "a segment");
     }
-    Ok(())
 }
 
-#[test]
-fn refuses_what_loads_nothing(rt: HostRuntime) -> Result<(), Fail> {
-    let file = halting(rt.alloc())?;
-    // how long the file is made, and which of its bytes is made 9
-    let others = [
-        (0, None),
-        (51, None),
-        (115, None),
-        (8195, None),
-        (8196, Some(4)),
-        (8196, Some(16)),
-        (8196, Some(45)),
-        (8196, Some(63)),
-        (8196, Some(70)),
-    ];
-    for (len, changed) in others {
-        let mut other = file.clone()?;
-        other.resize(len, 0)?;
-        if let Some(place) = changed {
-            if let Some(byte) = other.get_mut(place) {
-                *byte = 9;
-            }
+/// How long the file is made, and which of its bytes is made 9.
+const OTHERS: [(usize, Option<usize>); 9] = [
+    (0, None),
+    (51, None),
+    (115, None),
+    (8195, None),
+    (8196, Some(4)),
+    (8196, Some(16)),
+    (8196, Some(45)),
+    (8196, Some(63)),
+    (8196, Some(70)),
+];
+
+/// The file of this length, in which the byte of that number, if any, is 9, is no image.
+fn is_refused(alloc: Global, len: usize, changed: Option<usize>) -> Result<bool, NoMemory> {
+    let mut other = halting_file(alloc)?;
+    other.resize(len, 0)?;
+    if let Some(place) = changed {
+        if let Some(byte) = other.get_mut(place) {
+            *byte = 9;
         }
-        assert!(rt;
-            matches!(read_image(rt.alloc(), &other), Err(ImageRefusal::NotImage)),
-            "{len}, {changed:?}"
-        );
     }
-    Ok(())
+    Ok(matches!(read_image(alloc, &other), Err(ImageRefusal::NotImage)))
+}
+
+#[test]
+fn refuses_what_loads_nothing(rt: HostRuntime) {
+    for (row, (len, changed)) in OTHERS.iter().enumerate() {
+        let refused = is_refused(rt.alloc(), *len, *changed).ok();
+        expect(&rt, &refused, &Some(true), row);
+    }
 }

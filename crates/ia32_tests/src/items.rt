@@ -1,5 +1,6 @@
 //! The section of a small function, as GNU as lays it out.
 
+use crate::expected::expect;
 use ia32_asm::{Relocation, Symbol, Target, assemble};
 use ia32_insn::{Cond, Insn, Item};
 use ia32_regs::Reg32;
@@ -45,9 +46,20 @@ fn jumps_call_and_address(rt: HostRuntime) -> Result<(), Fail> {
         function: 4,
         offset: 0,
     }];
-    assert_eq!(rt; section.bytes.as_slice(), BYTES.as_slice());
-    assert_eq!(rt; section.relocations.as_slice(), RELOCATIONS.as_slice());
-    assert_eq!(rt; section.symbols.as_slice(), symbols.as_slice());
-    assert_eq!(rt; section.points.as_slice(), [0, 0, 0, 22].as_slice());
+    expect(&rt, &section.bytes.as_slice(), &BYTES.as_slice(), "bytes");
+    let relocations = section.relocations.as_slice();
+    expect(&rt, &relocations, &RELOCATIONS.as_slice(), "relocations");
+    expect(
+        &rt,
+        &section.symbols.as_slice(),
+        &symbols.as_slice(),
+        "symbols",
+    );
+    expect(
+        &rt,
+        &section.points.as_slice(),
+        &[0, 0, 0, 22].as_slice(),
+        "points",
+    );
     Ok(())
 }

@@ -20,6 +20,8 @@ mod arithmetic;
 #[cfg(test)]
 mod decoding;
 #[cfg(test)]
+mod expected;
+#[cfg(test)]
 mod functions;
 #[cfg(test)]
 mod images;

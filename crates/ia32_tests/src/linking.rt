@@ -1,5 +1,6 @@
 //! The image of a small function, as GNU as and ld lay it out.
 
+use crate::expected::expect;
 use elf_link::link;
 use ia32_asm::assemble;
 use ia32_insn::{Insn, Item, Rm32};
@@ -30,11 +31,18 @@ fn one_function(rt: HostRuntime) -> Result<(), Fail> {
         0x8b, 0x5c, 0x24, 4, 0xb8, 1, 0, 0, 0, 0xcd, 0x80, 0x0f, 0x0b,
     ];
     let data_bytes: [u8; 12] = [0, 0, 0, 0, 2, 0, 0, 0, 65, 0xff, 0, 0];
-    assert_eq!(rt; linked.image.entry, 0x0804_8000);
-    assert_eq!(rt; linked.image.text.as_slice(), text.as_slice());
-    assert_eq!(rt; linked.image.data_bytes.as_slice(), data_bytes.as_slice());
-    assert_eq!(rt; linked.objects.as_slice(), [0x0804_9008].as_slice());
-    assert_eq!(rt; linked.points.len(), 1);
+    expect(&rt, &linked.image.entry, &0x0804_8000, "the entry");
+    expect(
+        &rt,
+        &linked.image.text.as_slice(),
+        &text.as_slice(),
+        "the text",
+    );
+    let data = linked.image.data_bytes.as_slice();
+    expect(&rt, &data, &data_bytes.as_slice(), "the data");
+    let addresses = linked.objects.as_slice();
+    expect(&rt, &addresses, &[0x0804_9008].as_slice(), "the objects");
+    expect(&rt, &linked.points.len(), &1, "the points");
     Ok(())
 }
 
@@ -56,14 +64,16 @@ fn two_functions(rt: HostRuntime) -> Result<(), Fail> {
     let objects: Vec<DataObject> = Vec::new(rt.alloc());
     let linked = link(rt.alloc(), &sections, &objects, 0)?;
     // the call of the start has its distance from byte 20 on: 9 bytes are left of the start, and 6 of function 1
-    assert_eq!(rt;
-        &linked.image.text[15..20],
-        [0xe8u8, 15, 0, 0, 0].as_slice()
+    let text = linked.image.text.as_slice();
+    let start = [0xe8u8, 15, 0, 0, 0];
+    let functions = [0xb8u8, 5, 0, 0, 0, 0xc3, 0xb8, 3, 0, 0, 0, 0xc3];
+    expect(&rt, &text.get(15..20), &Some(start.as_slice()), "the call");
+    expect(
+        &rt,
+        &text.get(29..41),
+        &Some(functions.as_slice()),
+        "the functions",
     );
-    assert_eq!(rt;
-        &linked.image.text[29..41],
-        [0xb8u8, 5, 0, 0, 0, 0xc3, 0xb8, 3, 0, 0, 0, 0xc3].as_slice()
-    );
-    assert_eq!(rt; linked.points.len(), 2);
+    expect(&rt, &linked.points.len(), &2, "the points");
     Ok(())
 }

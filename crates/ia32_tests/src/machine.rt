@@ -2,6 +2,7 @@
 
 ghost use Rattle.std.specs.Prelude.{◌≤◌, length};
 
+use crate::expected::expect;
 use elf_image::{Loaded, Segment};
 use ia32_machine::{Machine, MachineEnd, StepEnd, Stop};
 use pcc_base::{NoMemory, Trap};
@@ -106,19 +107,6 @@ fn machine(alloc: Global, text: &[u8], size: u32, write: bool) -> Result<Machine
     )
 }
 
-/// How the text ends within 1000 steps, in a segment of 4096 bytes, with an input and an output.
-fn end_with(
-    rt: &impl Abort,
-    alloc: Global,
-    text: &[u8],
-    write: bool,
-    input: &mut MemSource,
-    out: &mut MemSink,
-) -> Result<MachineEnd, NoMemory> {
-    assert!(rt; text.len() <= 4096);
-    Ok(machine(alloc, text, 4096, write)?.run(input, out, 1000))
-}
-
 /// How the exit ends within the budget.
 fn exit_within(alloc: Global, budget: u64) -> Result<MachineEnd, NoMemory> {
     let mut input = SureSource::new(Vec::new(alloc));
@@ -135,12 +123,11 @@ const BUDGETS: [(u64, MachineEnd); 4] = [
 ];
 
 #[test]
-fn spends_the_budget(rt: HostRuntime) -> Result<(), Fail> {
+fn spends_the_budget(rt: HostRuntime) {
     for (budget, want) in &BUDGETS {
-        let end = exit_within(rt.alloc(), *budget)?;
-        assert_eq!(rt; end, *want, "after {budget}");
+        let end = exit_within(rt.alloc(), *budget).ok();
+        expect(&rt, &end, &Some(*want), *budget);
     }
-    Ok(())
 }
 
 /// A segment of the exit, and one of this size in its middle.
@@ -174,8 +161,9 @@ fn loads_segments_that_do_not_overlap(rt: HostRuntime) -> Result<(), Fail> {
     let mut machine = Machine::load(rt.alloc(), &loaded)?;
     let mut input = SureSource::new(Vec::new(rt.alloc()));
     let end = machine.run(&mut input, &mut SureSink::new(), 1000);
-    assert_eq!(rt; end, MachineEnd::Ended(44));
-    assert!(rt; !exit_around(rt.alloc(), 1)?.is_loadable(rt.alloc())?);
+    expect(&rt, &end, &MachineEnd::Ended(44), "the end");
+    let loadable = exit_around(rt.alloc(), 1)?.is_loadable(rt.alloc())?;
+    expect(&rt, &loadable, &false, "segments that overlap");
     Ok(())
 }
 
@@ -208,22 +196,6 @@ const ENDS: [(&[u8], MachineEnd); 16] = [
     ),
 ];
 
-/// The text of each row ends so, where nothing is read or written.
-fn expect_ends(rt: &impl Abort, alloc: Global, rows: &[(&[u8], MachineEnd)]) -> Result<(), Fail> {
-    for (text, want) in rows {
-        let mut input = MemSource::new(Vec::new(alloc), Vec::new(alloc));
-        let mut out = MemSink::new(alloc, Vec::new(alloc));
-        let end = end_with(rt, alloc, text, true, &mut input, &mut out)?;
-        assert_eq!(rt; end, *want, "with {text:?}");
-    }
-    Ok(())
-}
-
-#[test]
-fn ends_by_its_instructions(rt: HostRuntime) -> Result<(), Fail> {
-    expect_ends(&rt, rt.alloc(), &ENDS)
-}
-
 /// A text and whether it may be written, the input and its calls that fail, the calls of the output that fail, the
 /// end, and what was written.
 type Transfer = (
@@ -254,30 +226,52 @@ const TRANSFERS: [Transfer; 8] = transfers! {
     WRITE_PAST_END false NOTHING NONE NONE => MachineEnd::Stopped(Stop::Access(0x0804_8FFF), 0x0804_8014), NOTHING;
 };
 
-/// The text of each row ends so, with just that written.
-fn expect_transfers(rt: &impl Abort, alloc: Global, rows: &[Transfer]) -> Result<(), Fail> {
-    for (text, write, bytes, reads, writes, want, written) in rows {
-        let mut input = MemSource::new(bytes.to_vec(alloc)?, reads.to_vec(alloc)?);
-        let mut out = MemSink::new(alloc, writes.to_vec(alloc)?);
-        let end = end_with(rt, alloc, text, *write, &mut input, &mut out)?;
-        assert_eq!(rt; end, *want, "with {text:?}");
-        assert_eq!(rt; out.taken(), *written, "with {text:?}");
+/// How the text ends within 1000 steps, in a segment of 4096 bytes, and its output.
+fn end_of(
+    rt: &impl Abort,
+    alloc: Global,
+    transfer: &Transfer,
+) -> Result<(MachineEnd, MemSink), NoMemory> {
+    let (text, write) = (transfer.0, transfer.1);
+    assert!(rt; text.len() <= 4096);
+    let mut input = MemSource::new(transfer.2.to_vec(alloc)?, transfer.3.to_vec(alloc)?);
+    let mut out = MemSink::new(alloc, transfer.4.to_vec(alloc)?);
+    let end = machine(alloc, text, 4096, write)?.run(&mut input, &mut out, 1000);
+    Ok((end, out))
+}
+
+/// The text of the row of that number ends so, with just that written.
+fn expect_transfer(rt: &impl Abort, alloc: Global, transfer: &Transfer, row: usize) {
+    let (end, out) = end_of(rt, alloc, transfer).expect(rt, "a machine");
+    expect(rt, &end, &transfer.5, row);
+    expect(rt, &out.taken(), &transfer.6, row);
+}
+
+/// Where nothing is read or written, each text ends so.
+#[test]
+fn ends_by_its_instructions(rt: HostRuntime) {
+    for (row, &(text, want)) in ENDS.iter().enumerate() {
+        let transfer = (text, true, NOTHING, NONE, NONE, want, NOTHING);
+        expect_transfer(&rt, rt.alloc(), &transfer, row);
     }
-    Ok(())
 }
 
 #[test]
-fn reads_and_writes(rt: HostRuntime) -> Result<(), Fail> {
-    expect_transfers(&rt, rt.alloc(), &TRANSFERS)
+fn reads_and_writes(rt: HostRuntime) {
+    for (row, transfer) in TRANSFERS.iter().enumerate() {
+        expect_transfer(&rt, rt.alloc(), transfer, row);
+    }
 }
 
 #[test]
-fn makes_one_step(rt: HostRuntime) -> Result<(), Fail> {
-    let mut machine = machine(rt.alloc(), &[0x90, 0xF4], 2, true)?;
+fn makes_one_step(rt: HostRuntime) {
+    let text = [0x90, 0xF4];
+    let mut machine = machine(rt.alloc(), &text, 2, true).expect(&rt, "a machine");
     let mut input = SureSource::new(Vec::new(rt.alloc()));
     let mut sink = SureSink::new();
-    assert_eq!(rt; machine.step(&mut input, &mut sink), StepEnd::Going);
+    let first = machine.step(&mut input, &mut sink);
+    expect(&rt, &first, &StepEnd::Going, "the first step");
+    let second = machine.step(&mut input, &mut sink);
     let end = StepEnd::End(MachineEnd::Stopped(Stop::Instruction, 0x0804_8001));
-    assert_eq!(rt; machine.step(&mut input, &mut sink), end);
-    Ok(())
+    expect(&rt, &second, &end, "the second step");
 }

@@ -1,10 +1,12 @@
 //! Texts of maps and of their parts, by hand.
 
+use crate::expected::expect;
 use flow_graph::Words;
 use map_text::print_lines;
 use pcc_base::{Name, NoMemory, Width};
 use pcc_listing::{Line, Named, Standing, push_address, push_number};
 use std::alloc::Global;
+use std::process::Abort;
 use std::rc::Rc;
 use std::test::Fail;
 
@@ -19,28 +21,31 @@ const ADDRESSES: [(u32, &str); 4] = [
 
 /// Decimal numbers have no zeros in front; addresses have eight digits of lower case.
 #[test]
-fn digits(rt: HostRuntime) -> Result<(), Fail> {
+fn digits(rt: HostRuntime) {
     let alloc = rt.alloc();
     for (number, text) in NUMBERS {
         let mut out = Vec::new(alloc);
-        push_number(&mut out, number)?;
-        assert_eq!(rt; out.as_slice(), text.as_bytes());
+        push_number(&mut out, number).expect(&rt, "a number");
+        expect(&rt, &out.as_slice(), &text.as_bytes(), text);
     }
     for (address, text) in ADDRESSES {
         let mut out = Vec::new(alloc);
-        push_address(&mut out, address)?;
-        assert_eq!(rt; out.as_slice(), text.as_bytes());
+        push_address(&mut out, address).expect(&rt, "an address");
+        expect(&rt, &out.as_slice(), &text.as_bytes(), text);
     }
-    Ok(())
+}
+
+/// The map of the lines has this text.
+fn expect_text(rt: &impl Abort, alloc: Global, lines: &Vec<Line>, text: &str) {
+    let printed = print_lines(alloc, lines).expect(rt, "a text");
+    expect(rt, &printed.as_slice(), &text.as_bytes(), "the map");
 }
 
 /// A map without lines has its first line and its end.
 #[test]
-fn no_lines(rt: HostRuntime) -> Result<(), Fail> {
+fn no_lines(rt: HostRuntime) {
     let alloc = rt.alloc();
-    let text = print_lines(alloc, &Vec::new(alloc))?;
-    assert_eq!(rt; text.as_slice(), b"pcc map 1\nend\n".as_slice());
-    Ok(())
+    expect_text(&rt, alloc, &Vec::new(alloc), "pcc map 1\nend\n");
 }
 
 /// What a map of the lines below says.
@@ -85,9 +90,18 @@ fn call(point: u32, address: u32, to: Option<u32>, function: u32, arguments: Wor
     }
 }
 
-fn name(alloc: Global, text: &[u8]) -> Result<Name, NoMemory> {
+fn name_of(alloc: Global, text: &[u8]) -> Result<Name, NoMemory> {
     let bytes = text.to_vec(alloc)?;
     Ok(Name::new(Rc::new(alloc, bytes)?))
+}
+
+fn name(rt: &impl Abort, alloc: Global, text: &[u8]) -> Name {
+    name_of(alloc, text).expect(rt, "a name")
+}
+
+/// The variables of these numbers.
+fn words(rt: &impl Abort, alloc: Global, numbers: &[u32]) -> Words {
+    Words::new(numbers.to_vec(alloc).expect(rt, "words"))
 }
 
 /// Lines of each kind.
@@ -95,10 +109,10 @@ fn name(alloc: Global, text: &[u8]) -> Result<Name, NoMemory> {
 fn each_kind(rt: HostRuntime) -> Result<(), Fail> {
     let alloc = rt.alloc();
     let standings = vec![in alloc; standing(0, 20), standing(2, 28)]?;
-    let main = name(alloc, b"main")?;
-    let x1 = name(alloc, b"x1")?;
-    let base = name(alloc, b"p")?;
-    let index = name(alloc, b"p")?;
+    let main = name(&rt, alloc, b"main");
+    let x1 = name(&rt, alloc, b"x1");
+    let base = name(&rt, alloc, b"p");
+    let index = name(&rt, alloc, b"p");
     let lines = vec![in alloc;
         Line::Object {
             number: 0,
@@ -131,18 +145,11 @@ fn each_kind(rt: HostRuntime) -> Result<(), Fail> {
             statement: 1
         },
         Line::Before(standings),
-        call(
-            4,
-            0x0804_8020,
-            Some(3),
-            1,
-            Words::new(vec![in alloc; 0, 2]?)
-        ),
+        call(4, 0x0804_8020, Some(3), 1, words(&rt, alloc, &[0, 2])),
         Line::Before(Vec::new(alloc)),
-        call(5, 0x0804_8030, None, 0, Words::new(Vec::new(alloc))),
+        call(5, 0x0804_8030, None, 0, words(&rt, alloc, &[])),
         Line::Before(Vec::new(alloc)),
     ]?;
-    let text = print_lines(alloc, &lines)?;
-    assert_eq!(rt; text.as_slice(), TEXT.as_bytes());
+    expect_text(&rt, alloc, &lines, TEXT);
     Ok(())
 }

@@ -2,6 +2,7 @@
 
 ghost use Rattle.std.specs.Prelude.{◌≤◌, length};
 
+use crate::expected::expect;
 use elf_image::Segment;
 use ia32_memory::Memory;
 use pcc_base::NoMemory;
@@ -37,27 +38,25 @@ fn two_segments(alloc: Global) -> Result<Memory, NoMemory> {
 
 /// At the address there is this byte, if any.
 fn expect_byte(rt: &impl Abort, memory: &Memory, address: u32, byte: Option<u8>) {
-    assert_eq!(rt; memory.load8(address), byte, "{address:#x}");
+    expect(rt, &memory.load8(address), &byte, address);
 }
 
 /// At the address there is this half, if any.
 fn expect_half(rt: &impl Abort, memory: &Memory, address: u32, half: Option<u16>) {
-    assert_eq!(rt; memory.load16(address), half, "{address:#x}");
+    expect(rt, &memory.load16(address), &half, address);
 }
 
 /// At the address there is this word, if any.
 fn expect_word(rt: &impl Abort, memory: &Memory, address: u32, word: Option<u32>) {
-    assert_eq!(rt; memory.load32(address), word, "{address:#x}");
+    expect(rt, &memory.load32(address), &word, address);
 }
 
 /// From the address on there are these bytes.
 fn expect_bytes(rt: &impl Abort, memory: &mut Memory, address: u32, bytes: &[u8])
     requires few { length bytes.now ≤ 8 }
 {
-    assert!(rt;
-        memory.bytes_at(address, bytes.len() as u32) == Some(bytes),
-        "other bytes from {address:#x} on"
-    );
+    let found = memory.bytes_at(address, bytes.len() as u32);
+    expect(rt, &found, &Some(bytes), address);
 }
 
 /// An address, and the byte, the half and the word there.
@@ -83,15 +82,21 @@ fn loads(rt: HostRuntime) {
         expect_half(&rt, &memory, *address, *half);
         expect_word(&rt, &memory, *address, *word);
     }
-    assert!(rt; memory.code_at(TEXT + 3) == Some(&[0x92, 0x90, 0, 0, 0]));
-    assert!(rt; memory.code_at(DATA).is_none());
+    let code = [0x92, 0x90, 0, 0, 0];
+    expect(
+        &rt,
+        &memory.code_at(TEXT + 3),
+        &Some(code.as_slice()),
+        "code",
+    );
+    expect(&rt, &memory.code_at(DATA), &None, "no code");
     expect_bytes(&rt, &mut memory, TEXT + 1, &[0x56, 0x34, 0x92]);
-    assert!(rt; memory.bytes_at(TEXT + 1, 8).is_none());
+    expect(&rt, &memory.bytes_at(TEXT + 1, 8), &None, "too many bytes");
 }
 
 /// A store was made where a word is wanted, and the data begin with it, or with what they began with.
 fn expect_stored(rt: &impl Abort, memory: &Memory, stored: bool, want: Option<u32>) {
-    assert_eq!(rt; stored, want.is_some());
+    expect(rt, &stored, &want.is_some(), "a store");
     expect_word(rt, memory, DATA, Some(want.unwrap_or(0x201)));
 }
 
@@ -114,11 +119,7 @@ const STORES: [(u32, [Option<u32>; 3]); 7] = [
 fn expect_stores(rt: &impl Abort, alloc: Global, address: u32, wants: &[Option<u32>; 3]) {
     let [byte, half, word] = *wants;
     let mut memory = two_segments(alloc).expect(rt, "two segments");
-    assert_eq!(rt;
-        memory.may_store(address, 4),
-        word.is_some(),
-        "{address:#x}"
-    );
+    expect(rt, &memory.may_store(address, 4), &word.is_some(), address);
     let stored = memory.store8(address, 0x55);
     expect_stored(rt, &memory, stored, byte);
     memory = two_segments(alloc).expect(rt, "two segments");
@@ -168,7 +169,8 @@ fn expect_zeros(rt: &impl Abort, memory: &Memory) {
 /// A word can be stored at each place, and then it stands at each.
 fn expect_words_stored(rt: &impl Abort, memory: &mut Memory) {
     for place in PLACES {
-        assert!(rt; memory.store32(DATA + place, 0x0a0b_0c0d), "{place:#x}");
+        let stored = memory.store32(DATA + place, 0x0a0b_0c0d);
+        expect(rt, &stored, &true, place);
     }
     for place in PLACES {
         expect_word(rt, memory, DATA + place, Some(0x0a0b_0c0d));

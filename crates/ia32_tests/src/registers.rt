@@ -2,6 +2,7 @@
 
 ghost use Rattle.std.specs.Prelude.{◌≡◌};
 
+use crate::expected::expect;
 use ia32_regs::{Reg8, Reg32, RegFile};
 use std::process::Abort;
 
@@ -17,26 +18,26 @@ const BYTES: [(Reg32, Reg8, u32); 8] = [
     (Reg32::Ebx, Reg8::Bh, 0x1122_5544),
 ];
 
-/// The register holds this word.
-fn expect_word(rt: &impl Abort, registers: &RegFile, register: Reg32, word: u32) {
-    assert_eq!(rt; registers.get32(register), word);
+/// The register holds this word, in the row of that number.
+fn expect_word(rt: &impl Abort, registers: &RegFile, register: Reg32, word: u32, row: usize) {
+    expect(rt, &registers.get32(register), &word, row);
 }
 
 /// A store to the byte changes its own register so, and no other.
-fn expect_byte_of(rt: &impl Abort, wide: Reg32, narrow: Reg8, expected: u32) {
+fn expect_byte_of(rt: &impl Abort, wide: Reg32, narrow: Reg8, expected: u32, row: usize) {
     let mut registers = RegFile::new();
     registers.set32(wide, 0x1122_3344);
     registers.set32(Reg32::Esi, 7);
     registers.set8(narrow, 0x55);
-    expect_word(rt, &registers, wide, expected);
-    assert_eq!(rt; registers.get8(narrow), 0x55);
-    expect_word(rt, &registers, Reg32::Esi, 7);
-    expect_word(rt, &registers, Reg32::Edi, 0);
+    expect_word(rt, &registers, wide, expected, row);
+    expect(rt, &registers.get8(narrow), &0x55, row);
+    expect_word(rt, &registers, Reg32::Esi, 7, row);
+    expect_word(rt, &registers, Reg32::Edi, 0, row);
 }
 
 #[test]
 fn bytes_of_their_registers(rt: HostRuntime) {
-    for (wide, narrow, expected) in &BYTES {
-        expect_byte_of(&rt, *wide, *narrow, *expected);
+    for (row, (wide, narrow, expected)) in BYTES.iter().enumerate() {
+        expect_byte_of(&rt, *wide, *narrow, *expected, row);
     }
 }

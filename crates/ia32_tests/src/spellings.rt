@@ -2,13 +2,13 @@
 
 ghost use Rattle.std.specs.List.{AllByRecursion};
 
+use crate::expected::expect;
 use ia32_decode::decode;
 use ia32_encode::encode;
 use ia32_insn::{AluOp, Cond, Insn, Mem, Rm8, Rm32, ShiftOp};
 use ia32_regs::Reg8::{Ah, Al, Bh, Bl, Ch, Cl, Dh, Dl};
 use ia32_regs::Reg32::{Eax, Ebp, Ebx, Ecx, Edi, Edx, Esi, Esp};
 use std::process::Abort;
-use std::test::Fail;
 
 /// The memory operand of a base and a displacement.
 macro_rules! at {
@@ -38,7 +38,7 @@ macro_rules! absolute {
     };
 }
 
-/// AllByRecursion form of a memory operand, with displacements about the bounds of a byte.
+/// Every form of a memory operand, with displacements about the bounds of a byte.
 const MEMORY_OPERANDS: [(&[u8], Insn); 23] = spellings! {
     0x89 0x0B => Insn::Mov(Rm32::Mem(at!(Ebx, 0)), Ecx); // mov dword ptr [ebx], ecx
     0x89 0x4B 0x08 => Insn::Mov(Rm32::Mem(at!(Ebx, 8)), Ecx); // mov dword ptr [ebx+8], ecx
@@ -178,33 +178,20 @@ const OTHERS: [(&[u8], Insn); 39] = spellings! {
 };
 
 /// The bytes of each row are those of its instruction; that they spell it shows that it has a spelling.
-fn expect_rows(rt: &impl Abort, rows: &[(&[u8], Insn)]) -> Result<(), Fail> {
+fn expect_rows(rt: &impl Abort, rows: &[(&[u8], Insn)], table: &str) {
     for (bytes, insn) in rows {
         let Some((spelt, _)) = decode(bytes) else {
-            return Err(Fail::new("the bytes spell nothing"));
+            panic!(rt; "bytes that spell nothing, in place of {insn:?}");
         };
-        assert_eq!(rt; spelt, *insn);
-        assert_eq!(rt; encode(&spelt).as_slice(), *bytes);
+        expect(rt, &spelt, insn, table);
+        expect(rt, &encode(&spelt).as_slice(), bytes, table);
     }
-    Ok(())
 }
 
 #[test]
-fn memory_operands(rt: HostRuntime) -> Result<(), Fail> {
-    expect_rows(&rt, &MEMORY_OPERANDS)
-}
-
-#[test]
-fn moves(rt: HostRuntime) -> Result<(), Fail> {
-    expect_rows(&rt, &MOVES)
-}
-
-#[test]
-fn arithmetic(rt: HostRuntime) -> Result<(), Fail> {
-    expect_rows(&rt, &ARITHMETIC)
-}
-
-#[test]
-fn others(rt: HostRuntime) -> Result<(), Fail> {
-    expect_rows(&rt, &OTHERS)
+fn bytes_of_instructions(rt: HostRuntime) {
+    expect_rows(&rt, &MEMORY_OPERANDS, "memory operands");
+    expect_rows(&rt, &MOVES, "moves");
+    expect_rows(&rt, &ARITHMETIC, "arithmetic");
+    expect_rows(&rt, &OTHERS, "others");
 }

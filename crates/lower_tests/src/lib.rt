@@ -14,6 +14,8 @@ mod calls;
 #[cfg(test)]
 mod code;
 #[cfg(test)]
+mod expected;
+#[cfg(test)]
 mod lowered;
 #[cfg(test)]
 mod machine;

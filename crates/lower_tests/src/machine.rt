@@ -37,7 +37,7 @@ impl<T: Drop> From<AllocFailed<T>> for End {
 }
 
 /// What a variable holds. No array is the number 0.
-#[derive(Clone, Copy, Debug, PartialEq, Eq)]
+#[derive(Clone, Copy, PartialEq, Eq)]
 pub enum Value {
     Number(i32),
     /// The static object of this number.

@@ -1,5 +1,6 @@
 //! Each row of the tables, checked.
 
+use crate::expected::expect;
 use crate::lowered::{Outcome, evaluated, graphs_of_program, program_of_text, ran};
 use crate::machine::End;
 use crate::programs;
@@ -8,7 +9,6 @@ use lower::Graphs;
 use pcc_base::NoMemory;
 use std::alloc::Global;
 use std::process::Abort;
-use std::test::Fail;
 
 /// Numbers of turns, among which are some in which most programs don't end.
 const TURNS: [u64; 7] = [0, 1, 2, 3, 4, 7, 12];
@@ -28,7 +28,7 @@ fn expect_same(
 ) -> Result<Outcome, NoMemory> {
     let meant = evaluated(alloc, program, input, turns)?;
     let made = ran(alloc, graphs, input, turns)?;
-    assert_eq!(rt; made, meant, "in {turns} turns: {text}");
+    expect(rt, &(turns, &made), &(turns, &meant), text);
     Ok(made)
 }
 
@@ -48,50 +48,55 @@ fn expect_turns(
 }
 
 /// The outcome of a program, the same by its source's meaning and by its graphs.
-fn outcome_of(rt: &impl Abort, alloc: Global, text: &str, input: &str) -> Result<Outcome, Fail> {
-    let program = program_of_text(alloc, programs::BEFORE, text)?;
+fn outcome_of(
+    rt: &impl Abort,
+    alloc: Global,
+    text: &str,
+    input: &str,
+) -> Result<Outcome, NoMemory> {
+    let Ok(program) = program_of_text(alloc, programs::BEFORE, text) else {
+        panic!(rt; "{text}: refused");
+    };
     let graphs = graphs_of_program(alloc, &program)?;
-    let outcome = expect_turns(rt, alloc, text, &program, &graphs, input.as_bytes())?;
-    Ok(outcome)
+    expect_turns(rt, alloc, text, &program, &graphs, input.as_bytes())
 }
 
 /// The program of each row does what stands in it.
-fn expect(rt: &impl Abort, alloc: Global, rows: &[(&str, &str, &str, End)]) -> Result<(), Fail> {
+fn expect_rows(rt: &impl Abort, alloc: Global, rows: &[(&str, &str, &str, End)]) {
     for (text, input, written, end) in rows {
-        let outcome = outcome_of(rt, alloc, text, input)?;
-        assert_eq!(rt; outcome.end, *end, "{text}");
-        assert_eq!(rt; outcome.written.as_slice(), written.as_bytes(), "{text}");
+        let outcome = outcome_of(rt, alloc, text, input).expect(rt, text);
+        let found = (outcome.end, outcome.written.as_slice());
+        expect(rt, &found, &(*end, written.as_bytes()), text);
     }
-    Ok(())
 }
 
 #[test]
-fn expressions(rt: HostRuntime) -> Result<(), Fail> {
+fn expressions(rt: HostRuntime) {
     let alloc = rt.alloc();
-    expect(&rt, alloc, &programs::OPERATORS)?;
-    expect(&rt, alloc, &programs::CONVERSIONS)?;
-    expect(&rt, alloc, &programs::CONDITIONS)?;
-    expect(&rt, alloc, &programs::ASSIGNMENTS)
+    expect_rows(&rt, alloc, &programs::OPERATORS);
+    expect_rows(&rt, alloc, &programs::CONVERSIONS);
+    expect_rows(&rt, alloc, &programs::CONDITIONS);
+    expect_rows(&rt, alloc, &programs::ASSIGNMENTS);
 }
 
 #[test]
-fn statements(rt: HostRuntime) -> Result<(), Fail> {
+fn statements(rt: HostRuntime) {
     let alloc = rt.alloc();
-    expect(&rt, alloc, &programs::LOOPS)?;
-    expect(&rt, alloc, &programs::SWITCHES)?;
-    expect(&rt, alloc, &programs::CALLS)
+    expect_rows(&rt, alloc, &programs::LOOPS);
+    expect_rows(&rt, alloc, &programs::SWITCHES);
+    expect_rows(&rt, alloc, &programs::CALLS);
 }
 
 #[test]
-fn objects(rt: HostRuntime) -> Result<(), Fail> {
+fn objects(rt: HostRuntime) {
     let alloc = rt.alloc();
-    expect(&rt, alloc, &programs::ARRAYS)?;
-    expect(&rt, alloc, &programs::POINTERS)?;
-    expect(&rt, alloc, &programs::STATICS)?;
-    expect(&rt, alloc, &programs::OUTSIDE)
+    expect_rows(&rt, alloc, &programs::ARRAYS);
+    expect_rows(&rt, alloc, &programs::POINTERS);
+    expect_rows(&rt, alloc, &programs::STATICS);
+    expect_rows(&rt, alloc, &programs::OUTSIDE);
 }
 
 #[test]
-fn traps(rt: HostRuntime) -> Result<(), Fail> {
-    expect(&rt, rt.alloc(), &programs::TRAPS)
+fn traps(rt: HostRuntime) {
+    expect_rows(&rt, rt.alloc(), &programs::TRAPS);
 }

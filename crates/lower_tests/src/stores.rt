@@ -1,5 +1,6 @@
 //! What a store answers after a row of calls, by hand from C99 6.2.4, 6.3.1.3, 6.5.2.2 and 6.7.8.
 
+use crate::expected::expect;
 use c_store::{ArrayName, Place, Store, Value};
 use c_tree::{
     ArrayRef, Function, IntegerType, Local, LocalArray, Program, StaticObject, ValueType,
@@ -8,7 +9,6 @@ use pcc_base::{Name, NoMemory};
 use std::alloc::Global;
 use std::process::Abort;
 use std::rc::Rc;
-use std::test::Fail;
 
 const NULL: Value = Value::Pointer {
     array: ArrayName::Null,
@@ -80,11 +80,12 @@ fn program(alloc: Global) -> Result<Program, NoMemory> {
 /// A call of the function, for which there is room and memory.
 fn enter(rt: &impl Abort, store: &mut Store, function: &Function, arguments: &[Value]) {
     assert!(rt; !store.is_full());
-    assert!(rt; store.enter(function, arguments).is_ok());
+    let entered = store.enter(function, arguments).is_ok();
+    expect(rt, &entered, &true, "a call");
 }
 
 fn expect_local(rt: &impl Abort, store: &Store, local: u32, value: Value, when: &str) {
-    assert_eq!(rt; store.local(local), value, "{when}");
+    expect(rt, &store.local(local), &value, when);
 }
 
 fn expect_element(
@@ -95,11 +96,11 @@ fn expect_element(
     element: Option<i32>,
     when: &str,
 ) {
-    assert_eq!(rt; store.element(array, index), element, "{when}");
+    expect(rt, &store.element(array, index), &element, when);
 }
 
 fn expect_array(rt: &impl Abort, store: &Store, array: ArrayName, elements: &[i32], when: &str) {
-    assert_eq!(rt; store.elements(array), elements, "{when}");
+    expect(rt, &store.elements(array), &elements, when);
 }
 
 /// Locals: an argument in its type, and 0 or null; a value that stays, and that its declaration ends.
@@ -120,9 +121,12 @@ fn expect_locals(rt: &impl Abort, store: &mut Store) {
 
 /// Elements: those of a static object, and of an array up to its end.
 fn expect_elements(rt: &impl Abort, store: &mut Store, array: ArrayName) {
-    assert_eq!(rt; store.load(Place::Object(0)), Some(Value::Number(5)));
-    assert!(rt; store.store(Place::Element { array, index: 1 }, Value::Number(9)));
-    assert!(rt; store.store_at(array, 0, Value::Number(3)));
+    let five = Some(Value::Number(5));
+    expect(rt, &store.load(Place::Object(0)), &five, "an object");
+    let last = store.store(Place::Element { array, index: 1 }, Value::Number(9));
+    let first = store.store_at(array, 0, Value::Number(3));
+    let behind = store.store(Place::Element { array, index: 2 }, Value::Number(9));
+    expect(rt, &(last, first, behind), &(true, true, false), "stores");
     for (index, element, which) in [
         (0, Some(3), "the first"),
         (1, Some(9), "the last"),
@@ -131,7 +135,6 @@ fn expect_elements(rt: &impl Abort, store: &mut Store, array: ArrayName) {
     ] {
         expect_element(rt, store, array, index, element, which);
     }
-    assert!(rt; !store.store(Place::Element { array, index: 2 }, Value::Number(9)));
     expect_element(rt, store, ArrayName::Null, 0, None, "of no array");
 }
 
@@ -140,7 +143,8 @@ fn expect_first(rt: &impl Abort, store: &mut Store, function: &Function) -> Arra
     enter(rt, store, function, &[Value::Number(200)]);
     expect_locals(rt, store);
     let outer = store.array_of(ArrayRef::Frame(1));
-    assert_eq!(rt; outer, ArrayName::InFrame { array: 1, depth: 1 });
+    let wanted = ArrayName::InFrame { array: 1, depth: 1 };
+    expect(rt, &outer, &wanted, "the array");
     expect_elements(rt, store, outer);
     outer
 }
@@ -151,7 +155,8 @@ fn expect_inner(rt: &impl Abort, store: &mut Store, function: &Function, outer: 
     let inner = store.array_of(ArrayRef::Frame(1));
     expect_element(rt, store, inner, 1, Some(0), "of the inner call");
     expect_element(rt, store, outer, 1, Some(9), "of the outer call");
-    assert!(rt; store.set_element(outer, 0, 4));
+    let set = store.set_element(outer, 0, 4);
+    expect(rt, &set, &true, "an element of the outer call");
     store.set_text(0, 1);
     let text = store.array_of(ArrayRef::Frame(0));
     expect_array(rt, store, text, &[72, 105, 0], "the text");
@@ -164,7 +169,7 @@ fn expect_zeros(rt: &impl Abort, store: &mut Store, function: &Function) {
     enter(rt, store, function, &[]);
     let text = store.array_of(ArrayRef::Frame(0));
     expect_array(rt, store, text, &[0, 0, 0], "no text again");
-    assert_eq!(rt; store.depth(), 2);
+    expect(rt, &store.depth(), &2, "the depth");
     store.leave();
 }
 
@@ -182,13 +187,12 @@ fn expect_calls(rt: &impl Abort, store: &mut Store, function: &Function) {
 
 /// The row of calls on a store of the program.
 #[test]
-fn store(rt: HostRuntime) -> Result<(), Fail> {
+fn store(rt: HostRuntime) {
     let alloc = rt.alloc();
-    let program = program(alloc)?;
+    let program = program(alloc).expect(&rt, "a program");
     let store = Store::new(alloc, &program);
     drop(program);
-    let mut store = store?;
-    let function = function(alloc)?;
+    let mut store = store.expect(&rt, "a store");
+    let function = function(alloc).expect(&rt, "a function");
     expect_calls(&rt, &mut store, &function);
-    Ok(())
 }

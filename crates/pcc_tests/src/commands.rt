@@ -2,13 +2,14 @@
 
 use crate::programs::Row;
 use crate::runs::{
-    Answer, expect_answer, expect_commands, expect_runs, failing, files_with, put, run_line,
+    Answer, expect, expect_answer, expect_commands, expect_runs, files_with, no_files, put,
+    run_line,
 };
 use elf_image::{Image, TEXT_ADDRESS, write_image};
 use pcc_outside::{HostFiles, MemFiles};
-use std::alloc::Global;
-use std::fs;
-use std::test::Fail;
+use std::alloc::{AllocError, Global};
+use std::process::Abort;
+use std::{fs, io};
 
 /// A source with the lines that `gcc -E` leaves.
 const WITH_MARKERS: &str =
@@ -54,8 +55,13 @@ const SMALL: [Row; 9] = [
 
 /// A source is compiled and its image is run.
 #[test]
-fn compiles_and_runs_small(rt: HostRuntime) -> Result<(), Fail> {
-    expect_runs(&rt, rt.alloc(), &SMALL)
+fn compiles_and_runs_small(rt: HostRuntime) {
+    expect_runs(&rt, rt.alloc(), &SMALL);
+}
+
+/// Files in memory with the source of a program that ends with status 44, whose call with this number fails.
+fn small_files(rt: &impl Abort, alloc: Global, failing_call: u64) -> MemFiles {
+    files_with(rt, alloc, "int main(void){return 300;}", failing_call)
 }
 
 /// Command lines over one source, in their order: nothing on the output, the status and the line.
@@ -87,13 +93,13 @@ const LINES: [(&str, &str, u8, &str); 13] = [
 
 /// Each command line has its status and its line.
 #[test]
-fn refuses_words_and_names(rt: HostRuntime) -> Result<(), Fail> {
+fn refuses_words_and_names(rt: HostRuntime) {
     let alloc = rt.alloc();
-    let mut files = files_with(alloc, "int main(void){return 300;}", 0)?;
-    expect_commands(&rt, alloc, &mut files, &LINES)?;
+    let mut files = small_files(&rt, alloc, 0);
+    expect_commands(&rt, alloc, &mut files, &LINES);
     let map = files.content("a.map").unwrap_or(b"");
-    assert!(rt; map.starts_with(b"pcc map 1\n") && map.ends_with(b"end\n"));
-    Ok(())
+    let is_map = map.starts_with(b"pcc map 1\n") && map.ends_with(b"end\n");
+    expect(&rt, &is_map, &true, "the map");
 }
 
 const COMMANDS: &str = "\n  pcc run [--steps N] IMAGE ";
@@ -123,21 +129,17 @@ const USAGES: [(&str, &str, &str); 15] = [
 
 /// Words that mean no command are told what is wrong with them and the commands; help that is asked for is told alone.
 #[test]
-fn tells_usage(rt: HostRuntime) -> Result<(), Fail> {
+fn tells_usage(rt: HostRuntime) {
     let alloc = rt.alloc();
-    let mut files = files_with(alloc, "int main(void){return 300;}", 0)?;
+    let mut files = small_files(&rt, alloc, 0);
     for &(line, wrong, more) in &USAGES {
-        let answer = run_line(alloc, line, &mut files, 0)?;
+        let answer = run_line(&rt, alloc, line, &mut files, 0);
         let text = std::str::from_utf8(answer.err.taken()).unwrap_or("");
-        assert!(rt;
-            text.starts_with("usage\n") && text.ends_with('\n'),
-            "{line}"
-        );
-        assert!(rt; text.contains(wrong) && text.contains(more), "{line}");
-        assert_eq!(rt; answer.status, 2, "{line}");
-        assert!(rt; answer.out.taken().is_empty(), "{line}");
+        let lines = text.starts_with("usage\n") && text.ends_with('\n');
+        let parts = text.contains(wrong) && text.contains(more);
+        expect(&rt, &(lines, parts, answer.status), &(true, true, 2), line);
+        expect(&rt, &answer.out.taken().is_empty(), &true, line);
     }
-    Ok(())
 }
 
 /// Sources beside `a.c`, and their texts.
@@ -148,35 +150,36 @@ const SOURCES: [(&str, &str); 4] = [
     ("byte.c", "int f(void)\n{return @;}"),
 ];
 
-/// Sources in an order, the status and the line.
-const ORDERS: [(&str, u8, &str); 7] = [
-    ("a.c a.c", 1, "a.c:1:5: 8 Redeclared\n"),
-    ("a.c x.c byte.c", 6, "no file x.c\n"),
-    ("x.c y.c", 6, "no file x.c\n"),
-    ("a.c byte.c", 1, "byte.c:2:9: 1 BadByte\n"),
-    ("syntax.c byte.c", 1, "byte.c:2:9: 1 BadByte\n"),
-    ("a.c syntax.c goto.c", 1, "syntax.c:2:21: 5 Syntax\n"),
-    ("goto.c syntax.c", 1, "goto.c:1:13: 6 Unsupported goto\n"),
-];
+/// A table: on each line sources in an order, the status and the line.
+macro_rules! orders {
+    ($($sources:literal $status:literal $line:literal;)*) => {
+        [$((concat!("compile -o p ", $sources), "", $status, $line)),*]
+    };
+}
+
+const ORDERS: [(&str, &str, u8, &str); 7] = orders! {
+    "a.c a.c" 1 "a.c:1:5: 8 Redeclared\n";
+    "a.c x.c byte.c" 6 "no file x.c\n";
+    "x.c y.c" 6 "no file x.c\n";
+    "a.c byte.c" 1 "byte.c:2:9: 1 BadByte\n";
+    "syntax.c byte.c" 1 "byte.c:2:9: 1 BadByte\n";
+    "a.c syntax.c goto.c" 1 "syntax.c:2:21: 5 Syntax\n";
+    "goto.c syntax.c" 1 "goto.c:1:13: 6 Unsupported goto\n";
+};
 
 /// Sources are read in their order, then lexed in it, and then parsed in it.
 #[test]
-fn refuses_several_sources(rt: HostRuntime) -> Result<(), Fail> {
+fn refuses_several_sources(rt: HostRuntime) {
     let alloc = rt.alloc();
-    let mut files = files_with(alloc, "int main(void){return 300;}", 0)?;
+    let mut files = small_files(&rt, alloc, 0);
     for &(name, text) in &SOURCES {
-        put(&mut files, name, text.as_bytes())?;
+        put(&rt, &mut files, name, text.as_bytes());
     }
-    for &(sources, status, err) in &ORDERS {
-        let line = format!(in alloc; "compile -o p {sources}")?;
-        let answer = run_line(alloc, line.as_str(), &mut files, 0)?;
-        expect_answer(&rt, &answer, "", status, err, sources);
-        assert!(rt;
-            files.content("p").is_none() && files.content("p.map").is_none(),
-            "{sources}"
-        );
+    for row in &ORDERS {
+        expect_commands(&rt, alloc, &mut files, &[*row]);
+        let nothing = files.content("p").is_none() && files.content("p.map").is_none();
+        expect(&rt, &nothing, &true, row.0);
     }
-    Ok(())
 }
 
 /// The number of the call that fails, the status and the line, and whether there is a map then.
@@ -189,25 +192,29 @@ const FAILING_CALLS: [(u64, u8, &str, bool); 4] = [
 
 /// The call of the store that fails is named, and what was written before it stands.
 #[test]
-fn names_faults(rt: HostRuntime) -> Result<(), Fail> {
+fn names_faults(rt: HostRuntime) {
     let alloc = rt.alloc();
     for &(call, status, err, map_stands) in &FAILING_CALLS {
-        let mut files = files_with(alloc, "int main(void){return 300;}", call)?;
-        let answer = run_line(alloc, "compile -o a a.c", &mut files, 0)?;
-        expect_answer(&rt, &answer, "", status, err, "compile");
-        assert_eq!(rt; files.content("a.map").is_some(), map_stands, "{call}");
+        let mut files = small_files(&rt, alloc, call);
+        expect_commands(
+            &rt,
+            alloc,
+            &mut files,
+            &[("compile -o a a.c", "", status, err)],
+        );
+        let map = (call, files.content("a.map").is_some());
+        expect(&rt, &map, &(call, map_stands), "a map, by the call");
     }
-    let mut files = files_with(alloc, "int main(void){return 300;}", 0)?;
-    let refused = run_line(alloc, "run a", &mut files, 1)?;
+    let mut files = small_files(&rt, alloc, 0);
+    let refused = run_line(&rt, alloc, "run a", &mut files, 1);
     expect_answer(&rt, &refused, "", 5, "", "run");
-    Ok(())
 }
 
 /// Solves the board of a file with this text.
-fn solve_text(alloc: Global, board: &str) -> Result<Answer, Fail> {
-    let mut files = MemFiles::new(alloc, failing(alloc, 0)?);
-    put(&mut files, "b", board.as_bytes())?;
-    run_line(alloc, "solve b", &mut files, 0)
+fn solve_text(rt: &impl Abort, alloc: Global, board: &str) -> Answer {
+    let mut files = no_files(rt, alloc, 0);
+    put(rt, &mut files, "b", board.as_bytes());
+    run_line(rt, alloc, "solve b", &mut files, 0)
 }
 
 const BAD: &str = "b: 25 BadBoard\n";
@@ -236,37 +243,37 @@ const BOARDS: [(&str, u8, &str, &str); 8] = [
 
 /// Each text of a board has its placement on the output, or `none`, and any other file its fault.
 #[test]
-fn solves_boards(rt: HostRuntime) -> Result<(), Fail> {
+fn solves_boards(rt: HostRuntime) {
     let alloc = rt.alloc();
     for &(board, status, out, err) in &BOARDS {
-        let answer = solve_text(alloc, board)?;
+        let answer = solve_text(&rt, alloc, board);
         expect_answer(&rt, &answer, out, status, err, board);
     }
     // The wide pieces share an area, since the others need all columns of the rest.
-    let full = solve_text(alloc, "areas bb bb bb bb\npieces X2 Z2 Y1 Y1 Y1 Y1 Y1 Y1\n")?;
+    let board = "areas bb bb bb bb\npieces X2 Z2 Y1 Y1 Y1 Y1 Y1 Y1\n";
+    let full = solve_text(&rt, alloc, board);
     let lines = full.out.taken();
-    assert_eq!(rt; full.status, 0);
-    assert!(rt; lines.starts_with(b"0 X2 "));
-    assert_eq!(rt; lines.get(5), lines.get(16));
-    Ok(())
+    let begun = lines.starts_with(b"0 X2 ");
+    expect(&rt, &(full.status, begun), &(0, true), "the full board");
+    expect(&rt, &lines.get(5), &lines.get(16), "its areas");
 }
 
 /// A small image: ESP is set to the end of the stack, and the program exits with status 44.
-fn small_image(alloc: Global) -> Result<Vec<u8>, Fail> {
+fn small_image(rt: &impl Abort, alloc: Global) -> Vec<u8> {
     let text = [
         0xBC, 0x04, 0xA0, 0x04, 0x0C, 0x90, 0xBB, 0x2C, 0x01, 0x00, 0x00, 0xB8, 0x01, 0x00, 0x00,
         0x00, 0xCD, 0x80,
     ];
     let image = Image {
         entry: TEXT_ADDRESS,
-        text: Vec::from_slice(alloc, text.as_slice())?,
-        data_bytes: Vec::from_slice(alloc, &[0; 4])?,
+        text: text.to_vec(alloc).expect(rt, "a text"),
+        data_bytes: [0; 4].to_vec(alloc).expect(rt, "data"),
     };
-    Ok(write_image(alloc, &image)?)
+    write_image(alloc, &image).expect(rt, "an image")
 }
 
 /// The image with these bytes from an offset of the file on.
-fn with_bytes(alloc: Global, image: &[u8], at: usize, bytes: &[u8]) -> Result<Vec<u8>, Fail> {
+fn with_bytes(alloc: Global, image: &[u8], at: usize, bytes: &[u8]) -> Result<Vec<u8>, AllocError> {
     let mut changed = Vec::from_slice(alloc, image)?;
     for (offset, byte) in bytes.iter().enumerate() {
         if let Some(place) = changed.get_mut(at.saturating_add(offset)) {
@@ -313,34 +320,32 @@ const CHANGED_BYTES: [(usize, &[u8], u8, &str); 20] = [
 
 /// A changed image is refused, or stops where it no longer has a step.
 #[test]
-fn runs_changed_images(rt: HostRuntime) -> Result<(), Fail> {
+fn runs_changed_images(rt: HostRuntime) {
     let alloc = rt.alloc();
-    let mut files = MemFiles::new(alloc, failing(alloc, 0)?);
-    let image = small_image(alloc)?;
+    let mut files = no_files(&rt, alloc, 0);
+    let image = small_image(&rt, alloc);
     for &(at, bytes, status, err) in &CHANGED_BYTES {
-        let changed = with_bytes(alloc, image.as_slice(), at, bytes)?;
-        put(&mut files, "b", changed.as_slice())?;
-        expect_commands(&rt, alloc, &mut files, &[("run b", "", status, err)])?;
+        let changed = with_bytes(alloc, image.as_slice(), at, bytes).expect(&rt, "an image");
+        put(&rt, &mut files, "b", changed.as_slice());
+        expect_commands(&rt, alloc, &mut files, &[("run b", "", status, err)]);
     }
-    Ok(())
 }
 
 /// An image without its last byte is refused, and so is a header without its last one.
 #[test]
-fn refuses_images_that_end_too_early(rt: HostRuntime) -> Result<(), Fail> {
+fn refuses_images_that_end_too_early(rt: HostRuntime) {
     let alloc = rt.alloc();
-    let mut files = MemFiles::new(alloc, failing(alloc, 0)?);
-    let image = small_image(alloc)?;
+    let mut files = no_files(&rt, alloc, 0);
+    let image = small_image(&rt, alloc);
     for count in [51, image.len().saturating_sub(1)] {
-        put(&mut files, "b", image.get(..count).unwrap_or(b""))?;
+        put(&rt, &mut files, "b", image.get(..count).unwrap_or(b""));
         expect_commands(
             &rt,
             alloc,
             &mut files,
             &[("run b", "", 7, "not an image\n")],
-        )?;
+        );
     }
-    Ok(())
 }
 
 /// Commands over files of the system: nothing on the output, the status and the line.
@@ -360,9 +365,9 @@ const REAL_LINES: [(&str, &str, u8, &str); 6] = [
 
 /// The same over files of the system, in the folder where the test runs.
 #[test]
-fn compiles_and_runs_real_files(rt: HostRuntime) -> Result<(), Fail> {
+fn compiles_and_runs_real_files(rt: HostRuntime) -> io::Result<()> {
     fs::write(&rt, "pcc_test.c", "int main(void){return 300;}")?;
-    expect_commands(&rt, rt.alloc(), &mut HostFiles::new(&rt), &REAL_LINES)?;
+    expect_commands(&rt, rt.alloc(), &mut HostFiles::new(&rt), &REAL_LINES);
     for name in ["pcc_test.c", "pcc_test.map", "pcc_test"] {
         fs::remove_file(&rt, name)?;
     }

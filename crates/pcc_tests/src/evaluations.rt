@@ -4,21 +4,19 @@ use crate::programs::{
     ARITHMETIC, ARRAYS, CALLS, OPERATORS, POINTERS, Row, STATEMENTS, WORD_COUNTER, WORDS,
 };
 use crate::runs::{
-    expect_answer, expect_commands, expect_runs, files_with, input_of, put, run_line, run_over,
+    expect_answer, expect_commands, expect_runs, files_with, input_of, put, run_over,
 };
 use std::alloc::Global;
 use std::process::Abort;
-use std::test::Fail;
 
 /// The program of each row is evaluated.
-fn expect_evaluations(rt: &impl Abort, alloc: Global, rows: &[Row]) -> Result<(), Fail> {
+fn expect_evaluations(rt: &impl Abort, alloc: Global, rows: &[Row]) {
     for (source, input, out, status, line) in rows {
-        let mut files = files_with(alloc, source, 0)?;
-        let input = input_of(alloc, input, 0)?;
-        let answer = run_over(alloc, "eval a.c", &mut files, input, 0)?;
+        let mut files = files_with(rt, alloc, source, 0);
+        let input = input_of(rt, alloc, input, 0);
+        let answer = run_over(rt, alloc, "eval a.c", &mut files, input, 0);
         expect_answer(rt, &answer, out, *status, line, source);
     }
-    Ok(())
 }
 
 /// The tables of programs.
@@ -33,19 +31,17 @@ const TABLES: [&[Row]; 7] = [
 ];
 
 #[test]
-fn evaluates(rt: HostRuntime) -> Result<(), Fail> {
+fn evaluates(rt: HostRuntime) {
     for rows in TABLES {
-        expect_evaluations(&rt, rt.alloc(), rows)?;
+        expect_evaluations(&rt, rt.alloc(), rows);
     }
-    Ok(())
 }
 
 #[test]
-fn compiles_and_runs(rt: HostRuntime) -> Result<(), Fail> {
+fn compiles_and_runs(rt: HostRuntime) {
     for rows in TABLES {
-        expect_runs(&rt, rt.alloc(), rows)?;
+        expect_runs(&rt, rt.alloc(), rows);
     }
-    Ok(())
 }
 
 /// A frame of exactly the limit, and static objects of exactly theirs.
@@ -67,8 +63,8 @@ const LARGEST: [Row; 2] = [
 ];
 
 #[test]
-fn runs_the_largest(rt: HostRuntime) -> Result<(), Fail> {
-    expect_runs(&rt, rt.alloc(), &LARGEST)
+fn runs_the_largest(rt: HostRuntime) {
+    expect_runs(&rt, rt.alloc(), &LARGEST);
 }
 
 /// An endless loop is evaluated for so many turns, and its image is run for so many steps.
@@ -80,10 +76,10 @@ const BUDGETS: [(&str, &str, u8, &str); 4] = [
 ];
 
 #[test]
-fn stops_at_budgets(rt: HostRuntime) -> Result<(), Fail> {
+fn stops_at_budgets(rt: HostRuntime) {
     let alloc = rt.alloc();
-    let mut files = files_with(alloc, "int main(void){for(;;)putchar('x');}", 0)?;
-    expect_commands(&rt, alloc, &mut files, &BUDGETS)
+    let mut files = files_with(&rt, alloc, "int main(void){for(;;)putchar('x');}", 0);
+    expect_commands(&rt, alloc, &mut files, &BUDGETS);
 }
 
 /// A function that another file defines.
@@ -98,25 +94,23 @@ const TWO_FILES: [(&str, &str, u8, &str); 7] = [
 ];
 
 #[test]
-fn links_files(rt: HostRuntime) -> Result<(), Fail> {
+fn links_files(rt: HostRuntime) {
     let alloc = rt.alloc();
     let first = "int f(int n); int main(void){return f(20);}";
-    let mut files = files_with(alloc, first, 0)?;
-    put(&mut files, "b.c", b"int f(int n){return n*2+1;}")?;
-    expect_commands(&rt, alloc, &mut files, &TWO_FILES)
+    let mut files = files_with(&rt, alloc, first, 0);
+    put(&rt, &mut files, "b.c", b"int f(int n){return n*2+1;}");
+    expect_commands(&rt, alloc, &mut files, &TWO_FILES);
 }
 
 /// An input whose second call fails is told, by `eval` as by `run`.
 #[test]
-fn names_input_faults(rt: HostRuntime) -> Result<(), Fail> {
+fn names_input_faults(rt: HostRuntime) {
     let alloc = rt.alloc();
-    let mut files = files_with(alloc, WORD_COUNTER, 0)?;
-    let compiled = run_line(alloc, "compile -o a a.c", &mut files, 0)?;
-    expect_answer(&rt, &compiled, "", 0, "", "compile");
+    let mut files = files_with(&rt, alloc, WORD_COUNTER, 0);
+    expect_commands(&rt, alloc, &mut files, &[("compile -o a a.c", "", 0, "")]);
     for words in ["eval a.c", "run a"] {
-        let input = input_of(alloc, "one two\nthree\n", 2)?;
-        let answer = run_over(alloc, words, &mut files, input, 0)?;
+        let input = input_of(&rt, alloc, "one two\nthree\n", 2);
+        let answer = run_over(&rt, alloc, words, &mut files, input, 0);
         expect_answer(&rt, &answer, "", 4, "read fault input\n", words);
     }
-    Ok(())
 }

@@ -1,7 +1,6 @@
 //! The whole text of a map, beside the image as GNU objdump disassembles it.
 
-use crate::runs::{files_with, run_line};
-use std::test::Fail;
+use crate::runs::{expect, expect_commands, files_with};
 
 /// A local that is declared, assigned, written and returned.
 const PROGRAM: &str = "int main(void){int x=70; x=x+1; putchar(x); return x+229;}";
@@ -84,21 +83,27 @@ const PLACES: [(usize, &[u8], &str); 5] = [
     ),
 ];
 
+/// The commands: the words, the output, the status and the line.
+const LINES: [(&str, &str, u8, &str); 2] = [
+    ("compile -o a a.c", "", 0, ""),
+    ("run a", "G", 0, "exit 44\n"),
+];
+
 #[test]
-fn maps_the_image(rt: HostRuntime) -> Result<(), Fail> {
+fn maps_the_image(rt: HostRuntime) {
     let alloc = rt.alloc();
-    let mut files = files_with(alloc, PROGRAM, 0)?;
-    let compiled = run_line(alloc, "compile -o a a.c", &mut files, 0)?;
-    assert_eq!(rt; compiled.status, 0);
+    let mut files = files_with(&rt, alloc, PROGRAM, 0);
+    expect_commands(&rt, alloc, &mut files, &LINES);
     let map = files.content("a.map").unwrap_or(b"");
-    assert_eq!(rt; std::str::from_utf8(map).unwrap_or(""), MAP);
+    expect(
+        &rt,
+        &std::str::from_utf8(map).unwrap_or(""),
+        &MAP,
+        "the map",
+    );
     let image = files.content("a").unwrap_or(b"");
     for (at, bytes, spelling) in PLACES {
         let text = image.get(at..).unwrap_or(b"");
-        assert!(rt; text.starts_with(bytes), "{spelling}");
+        expect(&rt, &text.starts_with(bytes), &true, spelling);
     }
-    let ran = run_line(alloc, "run a", &mut files, 0)?;
-    assert_eq!(rt; ran.err.taken(), b"exit 44\n".as_slice());
-    assert_eq!(rt; ran.out.taken(), b"G".as_slice());
-    Ok(())
 }

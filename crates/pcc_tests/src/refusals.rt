@@ -1,34 +1,25 @@
 //! Sources that are refused: `compile` and `eval` tell the same fault or limit, and nothing is written.
 
-use crate::runs::{expect_answer, expect_commands, files_with, run_line};
-use std::alloc::Global;
+use crate::runs::{expect, expect_commands, files_with};
+use std::alloc::{AllocError, Global};
 use std::process::Abort;
-use std::test::Fail;
 
 /// The source is refused with this status and this line.
-fn expect_refusal(
-    rt: &impl Abort,
-    alloc: Global,
-    source: &str,
-    status: u8,
-    line: &str,
-) -> Result<(), Fail> {
-    let mut files = files_with(alloc, source, 0)?;
+fn expect_refusal(rt: &impl Abort, alloc: Global, source: &str, status: u8, line: &str) {
+    let mut files = files_with(rt, alloc, source, 0);
     for words in ["compile -o a a.c", "eval a.c"] {
-        let answer = run_line(alloc, words, &mut files, 0)?;
-        expect_answer(rt, &answer, "", status, line, words);
+        expect_commands(rt, alloc, &mut files, &[(words, "", status, line)]);
     }
-    assert!(rt; files.content("a").is_none(), "{line}");
-    assert!(rt; files.content("a.map").is_none(), "{line}");
-    Ok(())
+    for name in ["a", "a.map"] {
+        expect(rt, &files.content(name), &None, line);
+    }
 }
 
 /// The source of each row is refused.
-fn expect_refusals(rt: &impl Abort, alloc: Global, rows: &[(&str, u8, &str)]) -> Result<(), Fail> {
+fn expect_refusals(rt: &impl Abort, alloc: Global, rows: &[(&str, u8, &str)]) {
     for (source, status, line) in rows {
-        expect_refusal(rt, alloc, source, *status, line)?;
+        expect_refusal(rt, alloc, source, *status, line);
     }
-    Ok(())
 }
 
 /// Texts without tokens or a tree.
@@ -97,49 +88,53 @@ const TREES: [(&str, u8, &str); 8] = [
 ];
 
 #[test]
-fn refuses_sources(rt: HostRuntime) -> Result<(), Fail> {
+fn refuses_sources(rt: HostRuntime) {
     let alloc = rt.alloc();
-    expect_refusals(&rt, alloc, &TEXTS)?;
-    expect_refusals(&rt, alloc, &TREES)
+    expect_refusals(&rt, alloc, &TEXTS);
+    expect_refusals(&rt, alloc, &TREES);
 }
 
-/// A text, so many times over.
-fn repeated(alloc: Global, text: &str, count: u32) -> Result<String, Fail> {
+/// These texts, each so many times over.
+fn repeated(alloc: Global, parts: &[(&str, u32)]) -> Result<String, AllocError> {
     let mut all = String::new(alloc);
-    for _ in 0..count {
-        all.push_str(text)?;
+    for (text, count) in parts {
+        for _ in 0..*count {
+            all.push_str(text)?;
+        }
     }
     Ok(all)
 }
 
 #[test]
-fn refuses_long_sources(rt: HostRuntime) -> Result<(), Fail> {
+fn refuses_long_sources(rt: HostRuntime) {
     let alloc = rt.alloc();
-    let semicolons = repeated(alloc, ";", 65_537)?;
-    expect_refusal(
-        &rt,
-        alloc,
-        semicolons.as_str(),
-        3,
-        "limit 20 Tokens 65537\n",
-    )?;
-    let left = repeated(alloc, "(", 300)?;
-    let deep = format!(in alloc; "int main(void){{return {left}")?;
-    expect_refusal(&rt, alloc, deep.as_str(), 1, "a.c:1:275: 7 TooDeep\n")
+    let semicolons = repeated(alloc, &[(";", 65_537)]).expect(&rt, "a source");
+    let line = "limit 20 Tokens 65537\n";
+    expect_refusal(&rt, alloc, semicolons.as_str(), 3, line);
+    let parts = [("int main(void){return ", 1), ("(", 300)];
+    let deep = repeated(alloc, &parts).expect(&rt, "a source");
+    expect_refusal(&rt, alloc, deep.as_str(), 1, "a.c:1:275: 7 TooDeep\n");
 }
 
-/// Commands over a source whose tree has the greatest height.
+/// The parts of a source whose tree has the greatest height.
+const DEEP_PARTS: [(&str, u32); 5] = [
+    ("int main(void){return ", 1),
+    ("(", 252),
+    ("0", 1),
+    (")", 252),
+    (";}", 1),
+];
+
+/// Commands over it.
 const DEEPEST: [(&str, &str, u8, &str); 2] = [
     ("eval a.c", "", 0, "exit 0\n"),
     ("compile -o a a.c", "", 0, ""),
 ];
 
 #[test]
-fn accepts_the_deepest(rt: HostRuntime) -> Result<(), Fail> {
+fn accepts_the_deepest(rt: HostRuntime) {
     let alloc = rt.alloc();
-    let left = repeated(alloc, "(", 252)?;
-    let right = repeated(alloc, ")", 252)?;
-    let source = format!(in alloc; "int main(void){{return {left}0{right};}}")?;
-    let mut files = files_with(alloc, source.as_str(), 0)?;
-    expect_commands(&rt, alloc, &mut files, &DEEPEST)
+    let source = repeated(alloc, &DEEP_PARTS).expect(&rt, "a source");
+    let mut files = files_with(&rt, alloc, source.as_str(), 0);
+    expect_commands(&rt, alloc, &mut files, &DEEPEST);
 }

@@ -1,14 +1,15 @@
+use crate::expected::expect;
 use ia32_decode::decode;
 use ia32_insn::{Insn, Mem};
 use ia32_regs::Reg32::{self, Eax, Ebp, Ebx, Ecx, Edi, Edx, Esi, Esp};
 use std::process::Abort;
 
 /// The base, the index and the displacement of a memory operand.
-type Place = (Option<Reg32>, Option<(Reg32, u8)>, i32);
+pub type Place = (Option<Reg32>, Option<(Reg32, u8)>, i32);
 
 /// Spellings of LEA ECX: each base without an index, each index and scale with a base and without one, and the
 /// two together, with displacements of every size. Where a SIB byte names no index, its scale doesn't matter.
-const ROWS: [(&[u8], Place); 141] = spellings! {
+pub const ROWS: [(&[u8], Place); 141] = spellings! {
     0x8D 0x08 => (Some(Eax), None, 0);
     0x8D 0x48 0x08 => (Some(Eax), None, 8);
     0x8D 0x48 0x80 => (Some(Eax), None, -128);
@@ -153,18 +154,14 @@ const ROWS: [(&[u8], Place); 141] = spellings! {
 };
 
 /// The bytes of each row are a spelling of LEA ECX of its operand.
-fn expect_places(rt: &impl Abort, rows: &[(&[u8], Place)]) {
-    for (bytes, (base, index, disp)) in rows {
+pub fn expect_places(rt: &impl Abort, rows: &[(&[u8], Place)]) {
+    for (row, (bytes, (base, index, disp))) in rows.iter().enumerate() {
         let operand = Mem {
             base: *base,
             index: *index,
             disp: *disp,
         };
-        assert_eq!(rt; decode(bytes), Some((Insn::Lea(Ecx, operand), bytes.len())));
+        let insn = Insn::Lea(Ecx, operand);
+        expect(rt, &decode(bytes), &Some((insn, bytes.len())), row);
     }
-}
-
-#[test]
-fn addressing_forms(rt: HostRuntime) {
-    expect_places(&rt, &ROWS);
 }

@@ -1,9 +1,9 @@
-use super::{PLACE, expect_rows};
+use super::PLACE;
 use ia32_insn::{AluOp, Insn, Rm32, ShiftOp};
 use ia32_regs::Reg32::{Eax, Ebp, Ebx, Ecx, Edi, Edx, Esi, Esp};
 
 /// Arithmetic, logic and shifts.
-const ROWS: [(&[u8], Insn); 75] = spellings! {
+pub const ROWS: [(&[u8], Insn); 75] = spellings! {
     0x01 0xF9 => Insn::Alu(AluOp::Add, Rm32::Reg(Ecx), Edi);
     0x01 0x44 0xB3 0xF8 => Insn::Alu(AluOp::Add, Rm32::Mem(PLACE), Eax);
     0x03 0xE3 => Insn::Alu(AluOp::Add, Rm32::Reg(Esp), Ebx);
@@ -80,8 +80,3 @@ const ROWS: [(&[u8], Insn); 75] = spellings! {
     0xC1 0xFD 0x1F => Insn::ShiftImm(ShiftOp::Sar, Rm32::Reg(Ebp), 31);
     0xC1 0x7C 0xB3 0xF8 0x03 => Insn::ShiftImm(ShiftOp::Sar, Rm32::Mem(PLACE), 3);
 };
-
-#[test]
-fn arithmetic_and_shifts(rt: HostRuntime) {
-    expect_rows(&rt, &ROWS);
-}

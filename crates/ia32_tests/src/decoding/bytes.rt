@@ -1,10 +1,10 @@
-use super::{PLACE, expect_rows};
+use super::PLACE;
 use ia32_insn::{Insn, Rm8, Rm32};
 use ia32_regs::Reg8::{Ah, Al, Bh, Bl, Ch, Cl, Dh, Dl};
 use ia32_regs::Reg32::{Eax, Ebp, Ebx, Ecx, Edi, Edx, Esi, Esp};
 
 /// Moves of one byte and of two, and moves that extend them.
-const ROWS: [(&[u8], Insn); 66] = spellings! {
+pub const ROWS: [(&[u8], Insn); 66] = spellings! {
     0x88 0xD0 => Insn::Mov8(Rm8::Reg(Al), Dl);
     0x88 0xD1 => Insn::Mov8(Rm8::Reg(Cl), Dl);
     0x88 0xD2 => Insn::Mov8(Rm8::Reg(Dl), Dl);
@@ -72,8 +72,3 @@ const ROWS: [(&[u8], Insn); 66] = spellings! {
     0x0F 0xBF 0x74 0xB3 0xF8 => Insn::MovSx16(Esi, Rm32::Mem(PLACE));
     0x0F 0xBF 0xF0 => Insn::MovSx16(Esi, Rm32::Reg(Eax));
 };
-
-#[test]
-fn bytes_and_halves(rt: HostRuntime) {
-    expect_rows(&rt, &ROWS);
-}

@@ -1,10 +1,10 @@
-use super::{PLACE, expect_rows};
+use super::PLACE;
 use ia32_insn::{Cond, Insn, Rm8, Rm32};
 use ia32_regs::Reg8::{Ah, Al, Bh, Bl, Ch, Cl, Dh, Dl};
 use ia32_regs::Reg32::{Eax, Ebp, Ebx, Ecx, Edi, Edx, Esi, Esp};
 
 /// The stack, calls, jumps, conditions and the rest.
-const ROWS: [(&[u8], Insn); 83] = spellings! {
+pub const ROWS: [(&[u8], Insn); 83] = spellings! {
     0x50 => Insn::Push(Rm32::Reg(Eax));
     0x51 => Insn::Push(Rm32::Reg(Ecx));
     0x52 => Insn::Push(Rm32::Reg(Edx));
@@ -89,8 +89,3 @@ const ROWS: [(&[u8], Insn); 83] = spellings! {
     0x0F 0x0B => Insn::Ud2;
     0x90 => Insn::Nop;
 };
-
-#[test]
-fn stack_and_jumps(rt: HostRuntime) {
-    expect_rows(&rt, &ROWS);
-}

@@ -1,9 +1,9 @@
-use super::{PLACE, expect_rows};
+use super::PLACE;
 use ia32_insn::{Insn, Rm32};
 use ia32_regs::Reg32::{Eax, Ebp, Ebx, Ecx, Edi, Edx, Esi, Esp};
 
 /// Moves of four bytes, exchanges and LEA.
-const ROWS: [(&[u8], Insn); 47] = spellings! {
+pub const ROWS: [(&[u8], Insn); 47] = spellings! {
     0x89 0xD0 => Insn::Mov(Rm32::Reg(Eax), Edx);
     0x89 0xD1 => Insn::Mov(Rm32::Reg(Ecx), Edx);
     0x89 0xD2 => Insn::Mov(Rm32::Reg(Edx), Edx);
@@ -52,8 +52,3 @@ const ROWS: [(&[u8], Insn); 47] = spellings! {
     0x87 0xD9 => Insn::Xchg(Rm32::Reg(Ecx), Ebx);
     0x8D 0x54 0xB3 0xF8 => Insn::Lea(Edx, PLACE);
 };
-
-#[test]
-fn moves(rt: HostRuntime) {
-    expect_rows(&rt, &ROWS);
-}
