@@ -1,10 +1,10 @@
 -- Steps that lead from one configuration to another, for what is done at once of an expression.
-use Rattle.std.proofs.Common.{◌≡◌, ◌<◌, ℕ, ℤ, false, List, [], ◌∷◌, refl, sym, ap, subst, ◌∙◌, arith, inl, inr, Ok, Err}
+use Rattle.std.proofs.Common.{◌≡◌, ◌<◌, ℕ, ℤ, false, [], ◌∷◌, refl, sym, ap, subst, ◌∙◌, arith, inl, inr, Ok, Err}
 use Rattle.std.specs.Prelude.{Option, Some, None, Result}
 use Rattle.pcc_base.specs.Outcome.{nothing_listed}
-use Rattle.c_tree.specs.Evaluation.{Found, InLocal, first_state}
-use Rattle.c_tree.specs.Operators.{Computed, Computes, numbers_value}
-use Rattle.c_tree.specs.Program.{Expression, Assign, Binary, Constant, Function, LocalPlace, Program, Read, Step}
+use Rattle.c_tree.specs.Evaluation.{InLocal, first_state}
+use Rattle.c_tree.specs.Operators.{Computed}
+use Rattle.c_tree.specs.Program.{Expression, Assign, Binary, Constant, LocalPlace, Program, Read, Step}
 use Rattle.c_tree.specs.Store.{Held, HoldsNumber, State, Gives, and_then, converted, held}
 use Rattle.c_tree.specs.Evaluation.{computed}
 use Rattle.c_tree.specs.declared.expression.BinaryOp.{BinaryOp}
@@ -24,7 +24,7 @@ use Rattle.c_eval.specs.declared.task.Task as memory
 use Rattle.c_eval.specs.declared.task.Task.TheVariants as tasks
 use Rattle.c_eval_tasks.specs.AtOnce.{IsApplied, IsLocalNumber, IsNumber, Reaches, Shortened}
 use Rattle.c_eval_tasks.specs.Performs.{Fits}
-use Rattle.c_eval_tasks.specs.Standing.{Advanced, Meets, Ran, Standing, Steps as Stepping, Stops, before_task}
+use Rattle.c_eval_tasks.specs.Standing.{Advanced, Standing, Steps as Stepping, before_task}
 use Rattle.c_eval_turns.specs.declared.next.Turn.{Turn}
 use Rattle.c_eval_tasks.proofs.Going.{next_step}
 use Rattle.c_eval_tasks.proofs.Stepping.{moved, same_counts, same_tells}
