@@ -6,7 +6,8 @@ use Rattle.std.specs.Prelude.{Bool}
 use Rattle.c_tree.specs.Program.{Expression, First, Statement, If, While, Do, For}
 use Rattle.flow_graph.specs.declared.op.Op.TheVariants as op
 use Rattle.lower_builder.specs.Built.{Built, Adds}
-use Rattle.lower_items.specs.Fronts.{do_end, do_front, for_front, if_front, tested_front, while_front}
+use Rattle.lower_items.specs.Fronts.{for_front, if_front, tested_front, while_front}
+use Rattle.lower_loops.specs.Fronts.{do_end, do_front}
 use Rattle.lower_code.specs.Walks.{AddsIf}
 use Rattle.lower_code.proofs.Alike.{alike}
 use Rattle.lower_code.proofs.Whole.{do-whole, if-none, if-some, loop-whole}

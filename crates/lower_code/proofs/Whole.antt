@@ -5,7 +5,8 @@ use Rattle.std.specs.Prelude.{Bool, if◌then◌else◌}
 use Rattle.c_tree.specs.Program.{Expression}
 use Rattle.flow_graph.specs.declared.op.Op.TheVariants as op
 use Rattle.lower_builder.specs.Built.{Built, Adds}
-use Rattle.lower_items.specs.Fronts.{do_end, do_front, if_front, tested_front}
+use Rattle.lower_items.specs.Fronts.{if_front, tested_front}
+use Rattle.lower_loops.specs.Fronts.{do_end, do_front}
 use Rattle.lower_lines.specs.Expressions.{test_blocks_of}
 use Rattle.lower_lines.specs.Lines.{Line, Start, Emit}
 use Rattle.lower_lines.specs.Parts.{Part, Tests}

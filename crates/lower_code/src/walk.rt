@@ -13,10 +13,11 @@ use c_tree::Statement;
 use flow_graph::Op;
 use lower_builder::{Lines, plus};
 use lower_items::{
-    again, close_do, close_for, evaluated, go, is_nothing, item, open_do, open_for, open_if,
-    open_while, return_value, start_second,
+    close_for, evaluated, go, is_nothing, item, open_for, open_if, open_while, return_value,
+    start_second,
 };
 use lower_labels::{next_after, start_labelled};
+use lower_loops::{again, close_do, open_do};
 use lower_moves::Site;
 use lower_runs::{After, Ahead, Exits, go_onward, start_exit};
 use pcc_base::NoMemory;

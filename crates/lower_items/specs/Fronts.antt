@@ -7,6 +7,7 @@ use Rattle.lower_lines.specs.Parts.{Part, Tests}
 use Rattle.lower_lines.specs.Statements.{After, dead, dead_blocks, exit_blocks, exit_of, first_blocks, first_lines}
 use Rattle.lower_lines.specs.Statements.{returned_lines, second_block, test_if_any}
 use Rattle.lower_lines.specs.Variables.{Context}
+use Rattle.lower_loops.specs.Fronts.{loop_front}
 
 -- an `if` up to the start of its first way, where the second one has a block that is named ahead
 abbrev pub if_front : ℕ → Part → Bool → ℕ → ℕ → After → List Line
@@ -14,10 +15,6 @@ if_front n e nothing second block after =
     let first = block + exit_blocks after in
     Emit (op.Mark n) ∷ (e.lines (suc first) 0 (Tests first (second_block nothing (exit_of block after) second))
     ++ Start first ∷ [])
-
--- a loop up to its turn
-abbrev pub loop_front : ℕ → List Line
-loop_front start = Emit (op.Jump start) ∷ Start start ∷ Emit op.Turn ∷ []
 
 -- a loop behind its mark, up to its body
 abbrev pub tested_front : Context → Option Expression → ℕ → After → List Line
@@ -31,13 +28,6 @@ while_front c n test block after = Emit (op.Mark n) ∷ tested_front c test bloc
 abbrev pub for_front : Context → ℕ → First → Option Expression → ℕ → After → List Line
 for_front c n first test block after = Emit (op.Mark n) ∷ (first_lines c first block
     ++ tested_front c test (block + first_blocks c first) after)
-
-abbrev pub do_front : ℕ → ℕ → List Line
-do_front n start = Emit (op.Mark n) ∷ loop_front start
-
--- the test of a `do`
-abbrev pub do_end : Part → ℕ → ℕ → ℕ → ℕ → List Line
-do_end e test start exit block = Start test ∷ e.lines block 0 (Tests start exit)
 
 -- a `return`
 abbrev pub returned_whole : Context → ℕ → Option Expression → ℕ → After → List Line

@@ -10,6 +10,5 @@ mod parts;
 
 pub use items::{first_part, item};
 pub use parts::{
-    Ends, again, close_do, close_for, evaluated, go, is_nothing, open_do, open_for, open_if,
-    open_while, return_value, start_second,
+    close_for, evaluated, go, is_nothing, open_for, open_if, open_while, return_value, start_second,
 };

@@ -4,8 +4,7 @@ ghost use Rattle.std.specs.Prelude.{◌≡◌, ◌+◌, ◌∷◌, [], suc, IfOk
 ghost use Rattle.c_tree.specs.Erased.{boxed_of, expression_of, first_of, statement_of, statements_of};
 ghost use Rattle.flow_graph.specs.declared.op.Op.TheVariants as op;
 ghost use Rattle.lower_builder.specs.Built.{Adds};
-ghost use Rattle.lower_items.specs.Fronts.{do_end, do_front, for_front, if_front, returned_whole};
-ghost use Rattle.lower_items.specs.Fronts.{loop_front, while_front};
+ghost use Rattle.lower_items.specs.Fronts.{for_front, if_front, returned_whole, while_front};
 ghost use Rattle.lower_lines.specs.Expressions.{part_of, test_blocks_of};
 ghost use Rattle.lower_lines.specs.Lines.{Emit, Start};
 ghost use Rattle.lower_lines.specs.Statements.{after_blocks, after_lines, continue_block, dead, dead_blocks};
@@ -22,6 +21,7 @@ use c_tree::{Expression, First, Statement};
 use flow_graph::Op;
 use lower_builder::Lines;
 use lower_emit::{emit, returned};
+use lower_loops::{Ends, start_loop};
 use lower_moves::{Site, Wanted};
 use lower_runs::{After, Ahead, start_dead, take_dead, take_exit};
 use pcc_base::NoMemory;
@@ -97,8 +97,7 @@ pub fn return_value(
     let dead = take_dead(lines, after)?;
     lines.emit(Op::Mark(n))?;
     give(lines, site, value)?;
-    start_dead(lines, dead, after)?;
-    Ok(())
+    start_dead(lines, dead, after)
 }
 
 /// An `if` up to the start of its first way (C99 6.8.4.1): the block behind the statement. `second` is that of the
@@ -142,28 +141,6 @@ pub fn start_second(
     lines.start(second)
 }
 
-/// Where a loop goes: behind it, and to its start.
-#[derive(Clone, Copy)]
-pub struct Ends {
-    pub exit: u32,
-    pub start: u32,
-}
-
-/// The start of a loop, where its turn is (C99 6.8.5).
-fn start_loop(lines: &mut Lines, after: After) -> Result<Ends, NoMemory>
-    ensures exit { IfOk result (λ ends. ends.exit ≡ exit_of lines.old.next (after_of after)) }
-    ensures start { IfOk result (λ ends. ends.start ≡ lines.old.next + exit_blocks (after_of after)) }
-    ensures adds { IfOk result (λ _. Adds lines.old lines.new (exit_blocks (after_of after) + 1)
-        (loop_front (lines.old.next + exit_blocks (after_of after)))) }
-{
-    let exit = take_exit(lines, after)?;
-    let start = lines.take_blocks(1)?;
-    lines.emit(Op::Jump(start))?;
-    lines.start(start)?;
-    lines.emit(Op::Turn)?;
-    Ok(Ends { exit, start })
-}
-
 /// The test of a loop, before its body.
 fn test(lines: &mut Lines, site: &Site<'_>, e: &Expression, exit: u32) -> Result<(), NoMemory>
     ensures { OnOk result (Adds lines.old lines.new
@@ -172,8 +149,7 @@ fn test(lines: &mut Lines, site: &Site<'_>, e: &Expression, exit: u32) -> Result
 {
     let body = lines.take_blocks(1)?;
     emit(lines, site, 0, Wanted::Tests(body, exit), e)?;
-    lines.start(body)?;
-    Ok(())
+    lines.start(body)
 }
 
 /// The test of a loop, if it has one.
@@ -242,16 +218,6 @@ pub fn open_for(
     Ok(ends)
 }
 
-/// Where `continue` goes: to what comes after the body, and where nothing does, to the start.
-pub fn again(step: &Option<Box<Expression>>, start: u32, named: u32) -> u32
-    ensures { result ≡ continue_block (option_map boxed_of step.now) start named }
-{
-    match step {
-        None => start,
-        Some(_) => named,
-    }
-}
-
 /// What comes after the body of a `for`, which was named ahead, if anything does.
 pub fn close_for(
     lines: &mut Lines,
@@ -276,38 +242,7 @@ pub fn close_for(
             ahead.settle(place, named, block);
             lines.start(block)?;
             emit(lines, site, 0, Wanted::Dropped, e)?;
-            lines.emit(Op::Jump(start))?;
-            Ok(())
+            lines.emit(Op::Jump(start))
         }
     }
-}
-
-/// A `do` up to its body (C99 6.8.5.2): its start, behind which is the block of its test.
-pub fn open_do(lines: &mut Lines, n: u32, after: After) -> Result<Ends, NoMemory>
-    ensures exit { IfOk result (λ ends. ends.exit ≡ exit_of lines.old.next (after_of after)) }
-    ensures start { IfOk result (λ ends. ends.start ≡ lines.old.next + exit_blocks (after_of after)) }
-    ensures adds { IfOk result (λ _. Adds lines.old lines.new (exit_blocks (after_of after) + 2)
-        (do_front n (lines.old.next + exit_blocks (after_of after)))) }
-{
-    lines.emit(Op::Mark(n))?;
-    let ends = start_loop(lines, after)?;
-    lines.take_blocks(1)?;
-    Ok(ends)
-}
-
-/// The test of a `do`, behind its body.
-pub fn close_do(
-    lines: &mut Lines,
-    site: &Site<'_>,
-    e: &Expression,
-    test: u32,
-    ends: Ends,
-) -> Result<(), NoMemory>
-    ensures { OnOk result (Adds lines.old lines.new
-        (test_blocks_of (part_of (context_of site.now) (expression_of e.now)))
-        (do_end (part_of (context_of site.now) (expression_of e.now)) test ends.start ends.exit lines.old.next)) }
-{
-    lines.start(test)?;
-    emit(lines, site, 0, Wanted::Tests(ends.start, ends.exit), e)?;
-    Ok(())
 }
