@@ -82,16 +82,10 @@ fn loads(rt: HostRuntime) {
         expect_half(&rt, &memory, *address, *half);
         expect_word(&rt, &memory, *address, *word);
     }
-    let code = [0x92, 0x90, 0, 0, 0];
-    expect(
-        &rt,
-        &memory.code_at(TEXT + 3),
-        &Some(code.as_slice()),
-        "code",
-    );
-    expect(&rt, &memory.code_at(DATA), &None, "no code");
+    assert!(rt; memory.code_at(TEXT + 3) == Some(&[0x92, 0x90, 0, 0, 0]));
+    assert!(rt; memory.code_at(DATA).is_none());
     expect_bytes(&rt, &mut memory, TEXT + 1, &[0x56, 0x34, 0x92]);
-    expect(&rt, &memory.bytes_at(TEXT + 1, 8), &None, "too many bytes");
+    assert!(rt; memory.bytes_at(TEXT + 1, 8).is_none());
 }
 
 /// A store was made where a word is wanted, and the data begin with it, or with what they began with.
