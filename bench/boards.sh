@@ -7,7 +7,7 @@
 # with one another.
 . "$(dirname "$(readlink -f "$0")")/start.sh"
 
-below='pcc_base index_lists puzzle_board puzzle_bounds puzzle_solver spiller'
+below='pcc_base index_lists puzzle_board puzzle_solver'
 mkdir -p "$room/crates/boards/src" && cd "$room" && git init -q . || exit 1
 for crate in $below; do
     (cd "$top/crates" && tar c --exclude=out --exclude=must-fail "$crate") | tar x -C crates || exit 1
@@ -23,8 +23,7 @@ cat >crates/boards/src/main.rt <<'PROGRAM'
 
 use pcc_base::{NoMemory, Steps, Width};
 use puzzle_board::{Area, Board, Column, Kind, Piece};
-use puzzle_solver::solve;
-use spiller::fit;
+use puzzle_solver::{fit, solve};
 use std::alloc::Global;
 use std::io;
 use std::marker::Brand;

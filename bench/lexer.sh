@@ -4,12 +4,12 @@
 . "$(dirname "$(readlink -f "$0")")/start.sh"
 
 mkdir -p "$room/crates/lexing/src" && cd "$room" && git init -q . || exit 1
-for crate in pcc_base c_tokens c_pieces c_lexer; do
+for crate in pcc_base c_tokens c_lexer; do
     (cd "$top/crates" && tar c --exclude=out --exclude=must-fail "$crate") | tar x -C crates || exit 1
 done
 cp "$top/HANDLES" . || exit 1
-grep -E '^(pcc_base|c_tokens|c_pieces|c_lexer):' "$top/crates.txt" >crates.txt
-echo 'lexing: pcc_base c_tokens c_pieces c_lexer' >>crates.txt
+grep -E '^(pcc_base|c_tokens|c_lexer):' "$top/crates.txt" >crates.txt
+echo 'lexing: pcc_base c_tokens c_lexer' >>crates.txt
 
 cat >crates/lexing/src/main.rt <<'PROGRAM'
 //! Reads a file, and prints how long its tokens take.

@@ -8,3 +8,6 @@ pub mod Points
 pub mod Putting
 pub mod Solving
 pub mod Standing
+pub mod OneMore
+pub mod Ordered
+pub mod Fixing

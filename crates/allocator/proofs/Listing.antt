@@ -11,9 +11,9 @@ use Rattle.flow_graph.proofs.Ascending.{ascending-push}
 use Rattle.liveness.specs.Distances.{AreDistances, distance_at}
 use Rattle.elementary_form.proofs.Naming.{in-either, in-left, in-right}
 use Rattle.puzzle_board.specs.declared.piece.Piece.{Piece}
-use Rattle.spiller.specs.declared.order.Candidate.{Candidate}
-use Rattle.puzzle_points.specs.Order.{AreInOrder, Precedes}
-use Rattle.puzzle_points.proofs.OneMore.{every-here}
+use Rattle.puzzle_solver.specs.declared.order.Candidate.{Candidate}
+use Rattle.allocator.specs.Order.{AreInOrder, Precedes}
+use Rattle.allocator.proofs.OneMore.{every-here}
 use Rattle.allocator.specs.Spills.{AreCandidates, AreListed, HasDistance, HasPiece, IsNewAt, variables_of}
 
 -- ---- pieces by their numbers

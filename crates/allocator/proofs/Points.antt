@@ -27,9 +27,9 @@ use Rattle.elementary_form.specs.PointMaps.{InSlot, IsLegalPoint, SpilledInSlots
 use Rattle.elementary_form.specs.PointMaps.{place_before, same_columns, same_spot, spot_on, standing_at, standings_of}
 use Rattle.elementary_form.specs.PointMaps.{unspilled}
 use Rattle.elementary_form.proofs.Naming.{equal-test, in-test, test-in, true-false}
-use Rattle.puzzle_points.specs.PointPuzzles.{pair_of}
-use Rattle.puzzle_points.proofs.Fixing.{fixed-defined, fixed-dies, fixed-used}
-use Rattle.puzzle_points.proofs.OneMore.{ascending-result}
+use Rattle.allocator.specs.PointPuzzles.{pair_of}
+use Rattle.allocator.proofs.Fixing.{fixed-defined, fixed-dies, fixed-used}
+use Rattle.allocator.proofs.OneMore.{ascending-result}
 use Rattle.allocator.specs.Sides.{ArePut, is_lower, is_upper, with_fixed}
 use Rattle.allocator.specs.Slots.{slot_in}
 use Rattle.allocator.specs.Solutions.{ArePlaces, AreSpots, standing_by}

@@ -18,7 +18,7 @@ use Rattle.puzzle_board.specs.declared.place.Place.{Place}
 use Rattle.puzzle_board.specs.Places.{Entry, IsRising, PlaceMap, entries_at, place_in, with_after, with_before}
 use Rattle.puzzle_board.specs.Places.{with_place}
 use Rattle.puzzle_board.proofs.Sides.{rising-with}
-use Rattle.puzzle_points.specs.Order.{AreInOrder, Precedes}
+use Rattle.allocator.specs.Order.{AreInOrder, Precedes}
 use Rattle.allocator.specs.Sides.{ArePut, ChangesPoint, is_lower, is_upper, with_kind}
 use Rattle.allocator.proofs.Listing.{order-at}
 

@@ -21,10 +21,10 @@ use Rattle.puzzle_board.specs.Boards.{spot_in, without_variable}
 use Rattle.puzzle_board.specs.Classes.{IsAmong}
 use Rattle.puzzle_board.specs.Placements.{IsLegalPlacement, Standing}
 use Rattle.puzzle_solver.specs.Solved.{IsSolved, is_removed}
-use Rattle.spiller.specs.declared.order.Candidate.{Candidate}
-use Rattle.spiller.specs.Orders.{IsSpillOrder}
-use Rattle.spiller.specs.Prefixes.{IsShortest, without_variables}
-use Rattle.puzzle_points.specs.PointPuzzles.{puzzle_of, unplaced_states}
+use Rattle.puzzle_solver.specs.declared.order.Candidate.{Candidate}
+use Rattle.puzzle_solver.specs.Orders.{IsSpillOrder}
+use Rattle.puzzle_solver.specs.Prefixes.{IsShortest, without_variables}
+use Rattle.allocator.specs.PointPuzzles.{puzzle_of, unplaced_states}
 use Rattle.allocator.specs.Solutions.{AreSpots, spots_of, standing_by}
 use Rattle.allocator.specs.Spills.{AreCandidates, HasPiece, variables_of}
 

@@ -4,3 +4,5 @@ pub mod Slots
 pub mod Solutions
 pub mod Sides
 pub mod Progress
+pub mod PointPuzzles
+pub mod Order

@@ -9,10 +9,10 @@ use Rattle.flow_graph.specs.Liveness.{AfterUse, IsDistance, IsUsedAt}
 use Rattle.flow_graph.specs.Lives.{Lives}
 use Rattle.puzzle_board.specs.declared.piece.Piece.{Piece}
 use Rattle.elementary_form.specs.PointBoards.{point_pieces}
-use Rattle.spiller.specs.declared.order.Candidate.{Candidate}
-use Rattle.spiller.specs.Orders.{IsSpillOrder}
-use Rattle.spiller.specs.Prefixes.{IsShortest}
-use Rattle.puzzle_points.specs.PointPuzzles.{point_puzzle}
+use Rattle.puzzle_solver.specs.declared.order.Candidate.{Candidate}
+use Rattle.puzzle_solver.specs.Orders.{IsSpillOrder}
+use Rattle.puzzle_solver.specs.Prefixes.{IsShortest}
+use Rattle.allocator.specs.PointPuzzles.{point_puzzle}
 
 -- the distance of a variable at a point; none where no path from there reaches a use
 abbrev pub HasDistance : Flow → ℕ → ℕ → Option ℕ → Type 0

@@ -12,11 +12,11 @@ use crate::frame::bytes_of_arrays;
 use crate::places::{places_of, put_fixed, put_pieces};
 use crate::slots::spill_all;
 use crate::solution::solve_point;
+use crate::{fixed_result, fixed_use, pieces_of};
 use elementary_form::Elementary;
 use liveness::Distances;
 use pcc_base::NoMemory;
 use puzzle_board::PointMap;
-use puzzle_points::{fixed_result, fixed_use, pieces_of};
 use std::alloc::Global;
 
 /// Allocates a point of a block. So many slots were given.

@@ -1,13 +1,13 @@
 //! The variables of a point that may be spilled.
 
 ghost use Rattle.std.specs.Prelude.{◌<◌, ◌+◌, IfOk, OnOk, length, take};
-ghost use Rattle.puzzle_points.specs.Order.{AreInOrder};
+ghost use Rattle.allocator.specs.Order.{AreInOrder};
 ghost use Rattle.allocator.specs.Spills.{AreListed, IsNewAt};
 
 use liveness::Distances;
 use pcc_base::NoMemory;
 use puzzle_board::Piece;
-use spiller::Candidate;
+use puzzle_solver::Candidate;
 use std::alloc::Global;
 
 /// Whether the piece is of another variable than the one before it.

@@ -1,11 +1,11 @@
 -- The accepted program of texts is ready.
-use Rattle.c_declared_first.proofs.Files.{locals_declared_first}
+use Rattle.c_accepted.proofs.DeclaredFirstFiles.{locals_declared_first}
 use Rattle.c_sound.proofs.Sound.{typed_is_well_typed}
 use Rattle.c_typing.specs.Typed.{arrays_bytes, large_frame, most_arrays}
-use Rattle.c_identifiers.proofs.Files.{programs_have_names}
-use Rattle.c_units.proofs.Units.{units_are_few, units_are_sources, units_have_names}
-use Rattle.lower_limits.proofs.Bounds.{below-limit, frames-below}
-use Rattle.lower_memory.proofs.Files.{sources_are_in_memory}
+use Rattle.c_sound.proofs.IdentifiersFiles.{programs_have_names}
+use Rattle.c_front.proofs.Units.{units_are_few, units_are_sources, units_have_names}
+use Rattle.c_accepted.proofs.Bounds.{below-limit, frames-below}
+use Rattle.c_accepted.proofs.Files.{sources_are_in_memory}
 use Rattle.c_accepted.specs.Ready.{ProgramsAreReady}
 
 pub programs_are_ready : ProgramsAreReady

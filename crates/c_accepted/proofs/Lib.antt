@@ -1,1 +1,12 @@
 pub mod Accepted
+pub mod Bounds
+pub mod Worked
+pub mod Expressions
+pub mod Items
+pub mod Statements
+pub mod Files
+pub mod DeclaredFirstExpressions
+pub mod DeclaredFirstFiles
+mod Grammar
+pub mod DeclaredFirstItems
+pub mod DeclaredFirstStatements

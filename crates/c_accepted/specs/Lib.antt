@@ -1,1 +1,4 @@
 pub mod Ready
+pub mod Laws
+pub mod MemoryLaws
+pub mod DeclaredFirstLaws

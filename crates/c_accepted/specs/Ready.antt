@@ -5,10 +5,10 @@ use Rattle.c_tree.specs.Program.{Function, Program}
 use Rattle.c_tree.specs.Sizes.{frame_bound, size_of}
 use Rattle.c_tree.specs.WellTyped.{WellTyped}
 use Rattle.c_typing.specs.Typed.{IsAccepted, arrays_bytes}
-use Rattle.c_identifiers.specs.Named.{IsNamed}
-use Rattle.c_units.specs.Units.{WithUnits}
+use Rattle.c_sound.specs.Named.{IsNamed}
+use Rattle.c_front.specs.Units.{WithUnits}
 use Rattle.lower_lines.specs.Words.{IsInMemory}
-use Rattle.lower_settled.specs.Declared.{IsDeclaredFirst}
+use Rattle.lower_programs.specs.Declared.{IsDeclaredFirst}
 
 -- a frame is within its limit
 abbrev pub IsSmallFrame : Function → Type 0

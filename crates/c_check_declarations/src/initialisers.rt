@@ -30,7 +30,7 @@ ghost use Rattle.c_check_declarations.specs.Letters.{letters_fault};
 ghost use Rattle.c_check_declarators.specs.Views.{object_of};
 
 use c_check_declarators::{ObjectType, letters_in, text_length};
-use c_check_values::{constants, no_values, trees};
+use c_check_labels::{constants, no_values, trees};
 use c_expressions::texts::{text_entity, text_note, text_values};
 use c_expressions::{Contents, Notes, first_piece};
 use c_operands::Judged;

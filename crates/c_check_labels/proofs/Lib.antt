@@ -1,1 +1,3 @@
 mod Sorted
+mod GivenValues
+mod Pushes

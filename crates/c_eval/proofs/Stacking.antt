@@ -18,9 +18,9 @@ use Rattle.c_tree.specs.declared.statement.Statement.{items-the_row-Statement}
 use Rattle.c_store.specs.Values.{held_of}
 use Rattle.c_store.specs.declared.value.Value.{Value}
 use Rattle.c_tree.specs.Store.{Held}
-use Rattle.c_tasks.specs.Laws.{ArgumentsAreLast}
-use Rattle.c_tasks.specs.Steps.{statements_from}
-use Rattle.c_tasks.specs.Tasks.{below_by, put_before}
+use Rattle.c_eval_laws.specs.TasksLaws.{ArgumentsAreLast}
+use Rattle.c_eval_laws.specs.Steps.{statements_from}
+use Rattle.c_eval_laws.specs.Tasks.{below_by, put_before}
 use Rattle.c_eval.specs.Views.{stack_of, arguments_from, arguments_list, elements_from}
 
 -- what is pushed is the first

@@ -10,14 +10,14 @@ use Rattle.c_tree.specs.Program.{Cast, Comma, Putchar, Exit}
 use Rattle.c_tree.specs.Program.{Function}
 use Rattle.c_tree.specs.Program.{Declare, Empty, Evaluate, Block, If, While, Do, For, Switch, Break, Continue, Return}
 use Rattle.c_tree.specs.Store.{Held, HoldsNumber, State, Gives, Ends, visited}
-use Rattle.c_tasks.specs.Steps.{Configuration, Stepped, expression_step, place_step, task_step}
-use Rattle.c_tasks.specs.Steps.{before_loop, go_on, first_value, from_label, item_step, statement_step}
+use Rattle.c_eval_laws.specs.Steps.{Configuration, Stepped, expression_step, place_step, task_step}
+use Rattle.c_eval_laws.specs.Steps.{before_loop, go_on, first_value, from_label, item_step, statement_step}
 use Rattle.c_eval.specs.Views.{task_of}
 use Rattle.c_eval.specs.declared.task.Task as memory
 use Rattle.c_eval.specs.declared.end.EvalEnd.{EvalEnd}
 use Rattle.c_eval.specs.declared.end.EvalEnd.TheVariants.{Ended, Trapped, TurnsSpent, ReadFault, WriteFault, NoMemory}
-use Rattle.c_tasks.specs.Tasks.{Task, Evaluates, Drops, ReturnsValue, Way, Ahead, Returning, Follows, ReturnsTo, below}
-use Rattle.c_tasks.specs.Tasks.{below_by}
+use Rattle.c_eval_laws.specs.Tasks.{Task, Evaluates, Drops, ReturnsValue, Way, Ahead, Returning, Follows, ReturnsTo, below}
+use Rattle.c_eval_laws.specs.Tasks.{below_by}
 
 -- tasks are to be done before all others, in order
 abbrev pub doing : Task → Configuration → Configuration

@@ -6,8 +6,8 @@ use Rattle.pcc_outside.specs.Streams.{SinkCounts}
 use Rattle.c_tree.specs.Evaluation.{low_byte}
 use Rattle.c_tree.specs.Program.{Getchar, Program}
 use Rattle.c_tree.specs.Store.{State, Gives}
-use Rattle.c_tasks.specs.Steps.{Configuration}
-use Rattle.c_tasks.specs.Tasks.{Puts, top}
+use Rattle.c_eval_laws.specs.Steps.{Configuration}
+use Rattle.c_eval_laws.specs.Tasks.{Puts, top}
 use Rattle.c_eval.specs.declared.end.EvalEnd.{EvalEnd}
 use Rattle.c_eval.specs.declared.end.EvalEnd.TheVariants.{ReadFault, WriteFault, NoMemory}
 use Rattle.c_eval.specs.Changes.{done, expression_done}

@@ -1,11 +1,11 @@
--- What tasks and stacks in memory stand for, in the words of `c_tasks`.
+-- What tasks and stacks in memory stand for, in the words of `c_eval_laws`.
 use Rattle.std.specs.Prelude.{ℕ, ℤ, Bool, List, [], ◌∷◌, map, reverse, drop, Option, Some, None, suc}
 use Rattle.c_tree.specs.Erased.{expression_of, place_of, item_of, statement_of, statements_of, function_of}
 use Rattle.c_tree.specs.declared.expression.Expression as built
 use Rattle.c_tree.specs.Program.{Expression, Arguments, NoMore, Argument, Statement}
 use Rattle.c_tree.specs.Program.{While, For, Do, If, Switch}
 use Rattle.c_tree.specs.Evaluation.{is_case, is_default}
-use Rattle.c_tasks.specs.Tasks as tasks
+use Rattle.c_eval_laws.specs.Tasks as tasks
 use Rattle.c_eval.specs.declared.task.Task.{Task}
 use Rattle.c_eval.specs.declared.task.Task.TheVariants as memory
 use Rattle.c_eval.specs.declared.task.StatementPart.{StatementPart}

@@ -7,20 +7,20 @@ ghost use Rattle.c_eval.specs.Changes.{doing, doing_both, doing_three, doing_fou
 ghost use Rattle.c_eval.specs.Changes.{passing_over, returning_to, without_value, without_values, without_place};
 ghost use Rattle.c_eval.specs.Changes.{TaskTaken};
 ghost use Rattle.c_store.specs.Values.{found_of, held_of};
-ghost use Rattle.c_tasks.specs.Tasks.{put_before, top, top_place};
-ghost use Rattle.c_tasks.specs.Steps.{go_on};
+ghost use Rattle.c_eval_laws.specs.Tasks.{put_before, top, top_place};
+ghost use Rattle.c_eval_laws.specs.Steps.{go_on};
 ghost use Rattle.c_tree.specs.Erased.{function_of};
 ghost use Rattle.c_tree.specs.Evaluation.{type_at};
 
 use crate::task::{Task, Way};
+use c_eval_laws::arguments_are_last;
 use c_store::{Place, Value};
-use c_tasks::arguments_are_last;
 use c_tree::{Function, ValueType};
 use pcc_base::NoMemory;
 use std::alloc::Global;
 
 /// What is left to do: the function whose body it is in, how the tasks are gone through, the tasks, and the values and
-/// places that were found: by `left_of` a configuration of `specs/Steps.antt` of `c_tasks`.
+/// places that were found: by `left_of` a configuration of `specs/Steps.antt` of `c_eval_laws`.
 #[derive(Drop)]
 pub struct Evaluation<'a> {
     function: &'a Function,

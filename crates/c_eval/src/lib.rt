@@ -2,7 +2,7 @@
 //!
 //! In: a typed program, and its tasks in the order in which they are done. Out: what is left of them, with the values
 //! and places that wait. `specs/Views.antt` has what tasks and stacks in memory stand for, and `specs/Changes.antt`
-//! what the steps of `specs/Steps.antt` of `c_tasks` leave.
+//! what the steps of `specs/Steps.antt` of `c_eval_laws` leave.
 #![tactic(auto)]
 
 mod end;

@@ -4,7 +4,7 @@ ghost use Rattle.std.specs.Prelude.{◌≡◌, IfOk};
 ghost use Rattle.c_eval.specs.Changes.{holding, without_value};
 ghost use Rattle.c_eval.specs.Left.{left_of};
 ghost use Rattle.c_eval.specs.Streaming.{GetTold, InputCounts, OutCounts, PutTold};
-ghost use Rattle.c_tasks.specs.Tasks.{Ahead};
+ghost use Rattle.c_eval_laws.specs.Tasks.{Ahead};
 ghost use Rattle.c_tree.specs.Store.{Held};
 
 use crate::end::EvalEnd;

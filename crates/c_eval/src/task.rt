@@ -5,7 +5,7 @@ use c_tree::{
 };
 
 /// Something that is left to do; what it takes from the stacks and leaves there stands behind the same words of
-/// `specs/Tasks.antt` of `c_tasks`. Rows of trees stand with the place of the next one.
+/// `specs/Tasks.antt` of `c_eval_laws`. Rows of trees stand with the place of the next one.
 #[derive(Clone, Copy)]
 pub enum Task<'a> {
     /// An expression.

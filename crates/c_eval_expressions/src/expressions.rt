@@ -4,7 +4,7 @@ ghost use Rattle.std.specs.Prelude.{◌≡◌, IfOk};
 ghost use Rattle.c_eval.specs.Left.{left_of};
 ghost use Rattle.c_eval.specs.Changes.{IsAccess, IsOnOperands, TakenApart, doing_three, expression_done, place_done};
 ghost use Rattle.c_store.specs.Kept.{over};
-ghost use Rattle.c_tasks.specs.Tasks.{Ahead, AppliesBinary, Evaluates};
+ghost use Rattle.c_eval_laws.specs.Tasks.{Ahead, AppliesBinary, Evaluates};
 ghost use Rattle.c_tree.specs.Erased.{expression_of, place_of};
 ghost use Rattle.c_tree.specs.Store.{State, Gives};
 

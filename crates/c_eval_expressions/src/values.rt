@@ -3,8 +3,8 @@
 ghost use Rattle.std.specs.Prelude.{◌≡◌, IfOk};
 ghost use Rattle.c_eval.specs.Changes.{Comes, done};
 ghost use Rattle.c_eval.specs.Left.{left_of};
-ghost use Rattle.c_tasks.specs.Tasks as tasks;
-ghost use Rattle.c_tasks.specs.Tasks.{Ahead};
+ghost use Rattle.c_eval_laws.specs.Tasks as tasks;
+ghost use Rattle.c_eval_laws.specs.Tasks.{Ahead};
 ghost use Rattle.c_tree.specs.Erased.{expression_of};
 ghost use Rattle.c_tree.specs.Program.{Program};
 ghost use Rattle.c_tree.specs.Store.{State, Gives, Ends};

@@ -4,7 +4,7 @@ use Rattle.pcc_base.specs.Outcome.{Listing}
 use Rattle.c_tree.specs.Evaluation.{type_at}
 use Rattle.c_tree.specs.Program.{Expression, Scalar}
 use Rattle.c_tree.specs.Store.{State, Gives, visited, with_local, zero_of}
-use Rattle.c_tasks.specs.Steps.{Configuration, first_value, go_on}
+use Rattle.c_eval_laws.specs.Steps.{Configuration, first_value, go_on}
 use Rattle.c_eval.specs.Changes.{item_done}
 
 -- a local

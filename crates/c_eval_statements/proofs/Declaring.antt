@@ -5,8 +5,8 @@ use Rattle.c_tree.specs.declared.types.IntegerType.{IntegerType}
 use Rattle.c_tree.specs.Evaluation.{own_array, text_then_zeros, zeroed}
 use Rattle.c_tree.specs.Program.{Array, Elements, Expression, Text}
 use Rattle.c_tree.specs.Store.{State, Gives, array_named, visited, with_array}
-use Rattle.c_tasks.specs.Steps.{Configuration, go_on}
-use Rattle.c_tasks.specs.Tasks.{Fills}
+use Rattle.c_eval_laws.specs.Steps.{Configuration, go_on}
+use Rattle.c_eval_laws.specs.Tasks.{Fills}
 use Rattle.c_eval.specs.Changes.{item_done}
 
 -- an array with first elements

@@ -9,8 +9,8 @@ use Rattle.c_tree.specs.declared.types.ValueType.TheVariants.{Integer}
 use Rattle.c_tree.specs.Evaluation.{element_written, own_array}
 use Rattle.c_tree.specs.Program.{Expression, Program}
 use Rattle.c_tree.specs.Store.{State, Gives, Ends, and_then, array_named, in_type}
-use Rattle.c_tasks.specs.Steps.{Configuration, go_on}
-use Rattle.c_tasks.specs.Tasks.{Fills, FillsElement, below, top}
+use Rattle.c_eval_laws.specs.Steps.{Configuration, go_on}
+use Rattle.c_eval_laws.specs.Tasks.{Fills, FillsElement, below, top}
 use Rattle.c_eval.specs.Changes.{done}
 
 pub filled_past : (p : Program) (l : Listing) (k i : ℕ) (element : IntegerType) (es : List Expression)

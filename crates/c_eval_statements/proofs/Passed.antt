@@ -4,9 +4,9 @@ use Rattle.c_tree.specs.Evaluation.{Found}
 use Rattle.c_tree.specs.Program.{Function, Statement}
 use Rattle.c_tree.specs.Program.{Declare, Empty, Evaluate, Block, If, While, Do, For, Switch, Break, Continue, Return}
 use Rattle.c_tree.specs.Store.{Held, State, Gives}
-use Rattle.c_tasks.specs.Steps.{go_on, pass_over, passing_step}
-use Rattle.c_tasks.specs.Tasks.{Task, LoopBody, DoBody, SwitchBody, ReturnsTo, Way, Ahead, Breaking, Continuing}
-use Rattle.c_tasks.specs.Tasks.{Returning}
+use Rattle.c_eval_laws.specs.Steps.{go_on, pass_over, passing_step}
+use Rattle.c_eval_laws.specs.Tasks.{Task, LoopBody, DoBody, SwitchBody, ReturnsTo, Way, Ahead, Breaking, Continuing}
+use Rattle.c_eval_laws.specs.Tasks.{Returning}
 use Rattle.c_eval_statements.specs.Passing.{IsPlain, IsOther, values_returned}
 use Rattle.c_store.specs.Kept.{returned}
 use Rattle.c_eval.specs.Views.{part_task, task_of}

@@ -1,8 +1,8 @@
 -- Tasks that are passed over by `break`, `continue` and `return`.
 use Rattle.std.specs.Prelude.{List, ◌∷◌, pos}
 use Rattle.c_tree.specs.Store.{Held, HoldsNumber, State}
-use Rattle.c_tasks.specs.Steps.{Configuration, Stepped, passing_step}
-use Rattle.c_tasks.specs.Tasks.{Task, LoopBody, DoBody, SwitchBody, ReturnsTo, Way, Returning}
+use Rattle.c_eval_laws.specs.Steps.{Configuration, Stepped, passing_step}
+use Rattle.c_eval_laws.specs.Tasks.{Task, LoopBody, DoBody, SwitchBody, ReturnsTo, Way, Returning}
 use Rattle.c_eval.specs.declared.task.StatementPart.TheVariants as parts
 use Rattle.c_eval.specs.declared.task.Task as memory
 use Rattle.c_eval.specs.declared.task.Task.TheVariants as tasks

@@ -6,8 +6,8 @@ ghost use Rattle.c_eval_statements.specs.Passing.{IsOther, giving_returned, pass
 ghost use Rattle.c_eval.specs.Views.{part_task, task_of};
 ghost use Rattle.c_eval.specs.declared.task.StatementPart.TheVariants as parts;
 ghost use Rattle.c_store.specs.Kept.{over};
-ghost use Rattle.c_tasks.specs.Tasks as tasks;
-ghost use Rattle.c_tasks.specs.Tasks.{Continuing};
+ghost use Rattle.c_eval_laws.specs.Tasks as tasks;
+ghost use Rattle.c_eval_laws.specs.Tasks.{Continuing};
 ghost use Rattle.c_tree.specs.Erased.{function_of, statement_of};
 ghost use Rattle.c_tree.specs.Store.{State, Gives};
 

@@ -2,8 +2,8 @@
 use Rattle.std.proofs.Common.{◌≡◌, sym, ap, subst, ◌∙◌, Ok, Err}
 use Rattle.c_tree.specs.Program.{Getchar, Program}
 use Rattle.c_tree.specs.Store.{Held}
-use Rattle.c_tasks.specs.Steps.{Configuration}
-use Rattle.c_tasks.specs.Tasks.{Task, Ahead, Evaluates, Puts}
+use Rattle.c_eval_laws.specs.Steps.{Configuration}
+use Rattle.c_eval_laws.specs.Tasks.{Task, Ahead, Evaluates, Puts}
 use Rattle.c_store.specs.Kept.{Kept}
 use Rattle.c_eval.specs.Changes.{doing, holding, without_value}
 use Rattle.c_eval.specs.Streaming.{GetTold, InputCounts, OutCounts, PutTold}

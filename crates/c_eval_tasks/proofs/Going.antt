@@ -7,12 +7,12 @@ use Rattle.pcc_base.specs.Outcome as outcome
 use Rattle.c_tree.specs.Evaluation.{outcome_at}
 use Rattle.c_tree.specs.Program.{Program}
 use Rattle.c_tree.specs.Store.{State, Gives as GivesNext, Ends}
-use Rattle.c_bounds.specs.Laws.{GoesOn}
-use Rattle.c_tasks.specs.Steps.{Configuration, Stepped, passing_step, step}
-use Rattle.c_tasks.specs.Tasks.{Task, Ahead, Breaking, Continuing, Returning, Way}
-use Rattle.c_tasks.specs.Weights.{is_turn, takes_turn}
-use Rattle.c_tasks.proofs.Corollaries.{steps_end, steps_go_on}
-use Rattle.c_tasks.proofs.Going.{rest_goes_on}
+use Rattle.c_eval_laws.specs.Laws.{GoesOn}
+use Rattle.c_eval_laws.specs.Steps.{Configuration, Stepped, passing_step, step}
+use Rattle.c_eval_laws.specs.Tasks.{Task, Ahead, Breaking, Continuing, Returning, Way}
+use Rattle.c_eval_laws.specs.Weights.{is_turn, takes_turn}
+use Rattle.c_eval_laws.proofs.Corollaries.{steps_end, steps_go_on}
+use Rattle.c_eval_laws.proofs.Going.{rest_goes_on}
 use Rattle.c_store.specs.Kept.{Kept, over}
 use Rattle.c_eval.specs.Changes.{Comes, done, doing}
 use Rattle.c_eval_statements.specs.Passing.{passed}

@@ -10,12 +10,12 @@ use Rattle.c_tree.specs.declared.program.Function as memory_function
 use Rattle.c_tree.specs.Program.{Arguments, NoMore, Function, Item, Scalar, Array, Program, Statement}
 use Rattle.c_tree.specs.Program.{Declare, Empty, Evaluate, Block, If, While, Do, For, Switch, Break, Continue, Return}
 use Rattle.c_tree.specs.Store.{HoldsNumber, State, Gives}
-use Rattle.c_tasks.specs.Steps.{Configuration}
-use Rattle.c_tasks.specs.Tasks.{Task, Ahead, Declares, Drops, Executes, Passes, ReturnsTo}
-use Rattle.c_tasks.specs.Tasks.{Way}
-use Rattle.c_tasks.specs.Stacks.{StacksFit}
-use Rattle.c_tasks.proofs.Serving.{is_served}
-use Rattle.c_tasks.specs.Weights.{is_there, is_turn}
+use Rattle.c_eval_laws.specs.Steps.{Configuration}
+use Rattle.c_eval_laws.specs.Tasks.{Task, Ahead, Declares, Drops, Executes, Passes, ReturnsTo}
+use Rattle.c_eval_laws.specs.Tasks.{Way}
+use Rattle.c_eval_laws.specs.Stacks.{StacksFit}
+use Rattle.c_eval_laws.proofs.Serving.{is_served}
+use Rattle.c_eval_laws.specs.Weights.{is_there, is_turn}
 use Rattle.c_store.specs.Kept.{Kept, over}
 use Rattle.c_eval.specs.Changes.{IsLoop, after_start, doing, done, holding, item_done, seen, statement_done}
 use Rattle.c_eval.specs.Changes.{without_values}

@@ -11,11 +11,11 @@ use Rattle.c_tree.specs.declared.expression.BinaryOp.{BinaryOp}
 use Rattle.c_tree.specs.declared.expression.StepOp.{StepOp}
 use Rattle.c_tree.specs.declared.types.IntegerType.{IntegerType}
 use Rattle.c_tree.specs.declared.types.ValueType.{ValueType}
-use Rattle.c_tasks.specs.Laws.{WentOn}
-use Rattle.c_tasks.specs.Steps.{Configuration, go_on}
-use Rattle.c_tasks.specs.Tasks.{Task, Ahead, AppliesBinary, Evaluates, Loads, LoadsOld, Locates, Steps, Stores, Way}
-use Rattle.c_tasks.specs.Weights.{takes_turn, weights}
-use Rattle.c_tasks.proofs.Corollaries.{steps_go_on}
+use Rattle.c_eval_laws.specs.TasksLaws.{WentOn}
+use Rattle.c_eval_laws.specs.Steps.{Configuration, go_on}
+use Rattle.c_eval_laws.specs.Tasks.{Task, Ahead, AppliesBinary, Evaluates, Loads, LoadsOld, Locates, Steps, Stores, Way}
+use Rattle.c_eval_laws.specs.Weights.{takes_turn, weights}
+use Rattle.c_eval_laws.proofs.Corollaries.{steps_go_on}
 use Rattle.c_store.specs.Kept.{Kept, over}
 use Rattle.c_eval.specs.Changes.{at_place, doing, holding}
 use Rattle.c_eval.specs.Views.{task_of}

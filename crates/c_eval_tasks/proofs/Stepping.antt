@@ -4,12 +4,12 @@ use Rattle.pcc_base.specs.Outcome.{nothing_listed}
 use Rattle.c_tree.specs.Evaluation.{first_state}
 use Rattle.c_tree.specs.Program.{Program}
 use Rattle.c_tree.specs.Store.{State, Gives}
-use Rattle.c_tasks.specs.Laws.{WentOn}
-use Rattle.c_tasks.specs.Steps.{Configuration, Stepped}
+use Rattle.c_eval_laws.specs.TasksLaws.{WentOn}
+use Rattle.c_eval_laws.specs.Steps.{Configuration, Stepped}
 use Rattle.pcc_outside.specs.Streams.{SinkCounts}
-use Rattle.c_tasks.specs.Tasks.{Task, Ahead}
-use Rattle.c_tasks.specs.Weights.{takes_turn}
-use Rattle.c_tasks.proofs.Corollaries.{steps_go_on}
+use Rattle.c_eval_laws.specs.Tasks.{Task, Ahead}
+use Rattle.c_eval_laws.specs.Weights.{takes_turn}
+use Rattle.c_eval_laws.proofs.Corollaries.{steps_go_on}
 use Rattle.c_store.specs.Kept.{Kept, over}
 use Rattle.c_eval.specs.Changes.{Comes, done, doing}
 use Rattle.c_eval_statements.specs.Passing.{passed}

@@ -7,12 +7,12 @@ use Rattle.pcc_outside.specs.Streams.{SinkCounts}
 use Rattle.c_tree.specs.Evaluation.{low_byte, outcome_at}
 use Rattle.c_tree.specs.Program.{Expression, Getchar, Program}
 use Rattle.c_tree.specs.Store.{Held, State, Gives}
-use Rattle.c_bounds.specs.Laws.{GoesOn}
-use Rattle.c_tasks.specs.Stacks.{StacksFit}
-use Rattle.c_tasks.specs.Steps.{Configuration, go_on, rest_of}
-use Rattle.c_tasks.specs.Tasks.{Task, Evaluates, Puts, Way, Ahead, below, top}
-use Rattle.c_tasks.proofs.Corollaries.{steps_go_on}
-use Rattle.c_tasks.proofs.Going.{rest_goes_on}
+use Rattle.c_eval_laws.specs.Laws.{GoesOn}
+use Rattle.c_eval_laws.specs.Stacks.{StacksFit}
+use Rattle.c_eval_laws.specs.Steps.{Configuration, go_on, rest_of}
+use Rattle.c_eval_laws.specs.Tasks.{Task, Evaluates, Puts, Way, Ahead, below, top}
+use Rattle.c_eval_laws.proofs.Corollaries.{steps_go_on}
+use Rattle.c_eval_laws.proofs.Going.{rest_goes_on}
 use Rattle.c_store.specs.Kept.{Kept, over}
 use Rattle.c_eval.specs.Changes.{doing, holding, without_value}
 use Rattle.c_eval.specs.Streaming.{GetTold, InputCounts, OutCounts, PutTold, taking}

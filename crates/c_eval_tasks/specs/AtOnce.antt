@@ -6,9 +6,9 @@ use Rattle.c_tree.specs.Operators.{Computes, numbers_value}
 use Rattle.c_tree.specs.Program.{Expression, Function, Program}
 use Rattle.c_tree.specs.Store.{Held, HoldsNumber, State, held}
 use Rattle.c_tree.specs.declared.expression.BinaryOp.{BinaryOp}
-use Rattle.c_tasks.specs.Steps.{Configuration, go_on, rest_of}
-use Rattle.c_tasks.specs.Tasks.{Task, Ahead, Evaluates}
-use Rattle.c_tasks.specs.Weights.{weights}
+use Rattle.c_eval_laws.specs.Steps.{Configuration, go_on, rest_of}
+use Rattle.c_eval_laws.specs.Tasks.{Task, Ahead, Evaluates}
+use Rattle.c_eval_laws.specs.Weights.{weights}
 use Rattle.c_store.specs.Kept.{Kept, over}
 use Rattle.c_eval.specs.Changes.{doing}
 use Rattle.c_eval.specs.Views.{task_of}

@@ -3,10 +3,10 @@ use Rattle.std.specs.Prelude.{◌≡◌, Bool, true, false, List, length, Result
 use Rattle.pcc_base.specs.Outcome.{Visit, nothing_listed}
 use Rattle.c_tree.specs.Program.{Program, Getchar, Statement, While, Do, For}
 use Rattle.c_tree.specs.Store.{State, Gives}
-use Rattle.c_tasks.specs.Steps.{Configuration}
-use Rattle.c_tasks.specs.Stacks.{StacksFit}
-use Rattle.c_tasks.specs.Tasks.{Task, Evaluates, Puts}
-use Rattle.c_tasks.specs.Weights.{is_turn}
+use Rattle.c_eval_laws.specs.Steps.{Configuration}
+use Rattle.c_eval_laws.specs.Stacks.{StacksFit}
+use Rattle.c_eval_laws.specs.Tasks.{Task, Evaluates, Puts}
+use Rattle.c_eval_laws.specs.Weights.{is_turn}
 use Rattle.c_store.specs.Kept.{Kept, over}
 use Rattle.c_eval.specs.Changes.{Comes, done}
 use Rattle.c_eval.specs.declared.end.EvalEnd.{EvalEnd}

@@ -6,9 +6,9 @@ use Rattle.pcc_outside.specs.declared.sink.Sink as sink
 use Rattle.pcc_outside.specs.declared.source.Source as source
 use Rattle.c_tree.specs.Program.{Program}
 use Rattle.c_tree.specs.Store.{State}
-use Rattle.c_tasks.specs.Steps.{Configuration, rest_of}
-use Rattle.c_tasks.specs.Tasks.{Task, Ahead}
-use Rattle.c_tasks.specs.Weights.{weights}
+use Rattle.c_eval_laws.specs.Steps.{Configuration, rest_of}
+use Rattle.c_eval_laws.specs.Tasks.{Task, Ahead}
+use Rattle.c_eval_laws.specs.Weights.{weights}
 use Rattle.c_store.specs.Kept.{Kept, over}
 use Rattle.c_eval.specs.Changes.{doing}
 use Rattle.c_eval.specs.declared.end.EvalEnd.{EvalEnd}

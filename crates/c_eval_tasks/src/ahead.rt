@@ -6,7 +6,7 @@ ghost use Rattle.c_eval.specs.Left.{left_of};
 ghost use Rattle.c_eval.specs.Views.{task_of};
 ghost use Rattle.c_eval_tasks.specs.Performs.{Fits};
 ghost use Rattle.c_eval_tasks.specs.Standing.{Advanced, before_task, standing};
-ghost use Rattle.c_tasks.specs.Tasks.{Ahead, Evaluates};
+ghost use Rattle.c_eval_laws.specs.Tasks.{Ahead, Evaluates};
 ghost use Rattle.c_tree.specs.Erased.{expression_of, program_of};
 
 use crate::at_once::shorten;

@@ -3,7 +3,7 @@
 ghost use Rattle.std.specs.Prelude.{◌≡◌, IfOk};
 ghost use Rattle.c_eval.specs.Left.{left_of};
 ghost use Rattle.c_eval_tasks.specs.AtOnce.{IsApplied, IsLocalNumber, IsNumber, Shortened};
-ghost use Rattle.c_tasks.specs.Tasks.{Ahead};
+ghost use Rattle.c_eval_laws.specs.Tasks.{Ahead};
 ghost use Rattle.c_tree.specs.Erased.{expression_of};
 
 use c_eval::{Evaluation, Task};

@@ -4,8 +4,8 @@ use Rattle.pcc_base.specs.Outcome.{nothing_listed}
 use Rattle.c_tree.specs.Erased.{function_of, statement_of}
 use Rattle.c_tree.specs.Program.{Program, NoMore}
 use Rattle.c_tree.specs.Store.{State, Gives}
-use Rattle.c_tasks.specs.Steps.{Configuration}
-use Rattle.c_tasks.specs.Tasks.{Task, Passes}
+use Rattle.c_eval_laws.specs.Steps.{Configuration}
+use Rattle.c_eval_laws.specs.Tasks.{Task, Passes}
 use Rattle.c_store.specs.Kept.{Kept, over}
 use Rattle.c_eval.specs.Changes.{Comes, IsLoop, done}
 use Rattle.c_eval.specs.Views.{part_task}

@@ -3,7 +3,7 @@
 ghost use Rattle.std.specs.Prelude.{◌≡◌};
 ghost use Rattle.c_eval.specs.Left.{left_of};
 ghost use Rattle.c_eval_turns.specs.Turns.{Begun, IsReady, IsTurn};
-ghost use Rattle.c_tasks.specs.Tasks.{Ahead, Task};
+ghost use Rattle.c_eval_laws.specs.Tasks.{Ahead, Task};
 ghost use Rattle.c_tree.specs.Program as typed;
 
 use crate::next::Turn;

@@ -6,9 +6,9 @@ use Rattle.pcc_base.specs.Outcome as outcome
 use Rattle.c_tree.specs.Evaluation.{call_within, first_state, outcome_at, outcome_of, run_function}
 use Rattle.c_tree.specs.Program.{Function, Program}
 use Rattle.c_tree.specs.Store.{State}
-use Rattle.c_tasks.specs.Steps.{Configuration, first_tasks, go_on, rest_of}
-use Rattle.c_tasks.proofs.Serving.{start_fits}
-use Rattle.c_tasks.proofs.Starting.{starts}
+use Rattle.c_eval_laws.specs.Steps.{Configuration, first_tasks, go_on, rest_of}
+use Rattle.c_eval_laws.proofs.Serving.{start_fits}
+use Rattle.c_eval_laws.proofs.Starting.{starts}
 use Rattle.c_store.specs.Kept.{Kept, over}
 use Rattle.c_eval.specs.declared.end.EvalEnd.{EvalEnd}
 use Rattle.c_eval.specs.declared.end.EvalEnd.TheVariants.{Ended, NoMemory}

@@ -5,12 +5,12 @@ use Rattle.pcc_base.specs.Outcome.{nothing_listed}
 use Rattle.c_tree.specs.Evaluation.{first_state}
 use Rattle.c_tree.specs.Program.{NoMore, Program}
 use Rattle.c_tree.specs.Store.{State, Gives}
-use Rattle.c_tasks.specs.Laws.{WentOn}
-use Rattle.c_tasks.specs.Stacks.{StacksFit}
-use Rattle.c_tasks.specs.Steps.{Configuration, Stepped}
-use Rattle.c_tasks.specs.Tasks.{Task, Ahead, Passes, Way}
-use Rattle.c_tasks.proofs.Corollaries.{steps_go_on}
-use Rattle.c_tasks.proofs.Serving.{is_served}
+use Rattle.c_eval_laws.specs.TasksLaws.{WentOn}
+use Rattle.c_eval_laws.specs.Stacks.{StacksFit}
+use Rattle.c_eval_laws.specs.Steps.{Configuration, Stepped}
+use Rattle.c_eval_laws.specs.Tasks.{Task, Ahead, Passes, Way}
+use Rattle.c_eval_laws.proofs.Corollaries.{steps_go_on}
+use Rattle.c_eval_laws.proofs.Serving.{is_served}
 use Rattle.c_store.specs.Kept.{Kept, over}
 use Rattle.c_eval.specs.Changes.{Comes, done, doing}
 use Rattle.c_eval.specs.declared.end.EvalEnd.{EvalEnd}

@@ -1,7 +1,7 @@
 -- How an evaluation goes on: up to a turn, over turns, and from its start to its end.
 use Rattle.std.specs.Prelude.{◌≡◌, ◌<◌, ◌-◌, ℕ, [], slice_get, Option, Some, None, Result, Ok, Err}
 use Rattle.c_tree.specs.Program.{Function, Program}
-use Rattle.c_tasks.specs.Steps.{Configuration, first_tasks, go_on}
+use Rattle.c_eval_laws.specs.Steps.{Configuration, first_tasks, go_on}
 use Rattle.c_eval.specs.declared.end.EvalEnd.{EvalEnd}
 use Rattle.c_eval_tasks.specs.Runs.{EvalCounts}
 use Rattle.c_eval_tasks.specs.Performs.{Fits}

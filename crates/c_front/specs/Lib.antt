@@ -1,3 +1,5 @@
 pub mod Accepted
 pub mod Refusals
 pub mod SoFar
+pub mod Laws
+pub mod Units

@@ -1,11 +1,14 @@
 //! The tokens and the raw trees of source files, or why one has none, and where.
 //!
 //! `lex_files` gives the tokens of each file, `parse_files` its raw tree (`specs/Accepted.antt`); files are refused
-//! only for the reasons of `specs/Refusals.antt`, the first fault first.
+//! only for the reasons of `specs/Refusals.antt`, the first fault first. The raw trees of texts
+//! (`specs/Units.antt`) are what typing asks for (`specs/Laws.antt`).
 #![tactic(auto)]
 
+mod laws;
 mod lexed;
 mod parsed;
 
+pub use laws::{units_are_sources, units_have_names};
 pub use lexed::{Lexed, lex_files};
 pub use parsed::parse_files;

@@ -4,8 +4,8 @@ ghost use Rattle.pcc_base.specs.declared.refusal.Refusal.TheVariants.{Limit as A
 ghost use Rattle.c_tokens.specs.Tokens.{HasTokens, fresh_after, tokens_of};
 ghost use Rattle.c_tokens.specs.Scans.{IsRefused, piece_of};
 
+use crate::advance;
 use crate::scanner::scan;
-use c_pieces::advance;
 use c_tokens::{Recent, Scanned, Token, fault_of};
 use pcc_base::{Fault, Limit, Refusal, Span};
 use std::alloc::Global;

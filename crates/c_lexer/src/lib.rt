@@ -1,12 +1,20 @@
-//! The tokens of a text: in go the bytes of a source file, out comes its list of tokens, or the first
-//! place where it has none.
+//! The tokens of a text: in go the bytes of a source file, out comes its list of tokens, or the first place where
+//! it has none.
 //!
-//! `lex` gives exactly the token list of `specs/Tokens.antt` in `c_tokens`, which is a relation on whole texts: a text
-//! is a sequence of pieces (`specs/Pieces.antt` there), each the longest that begins there.
+//! `lex` gives exactly the token list of `specs/Tokens.antt` in `c_tokens`, which is a relation on whole texts: a
+//! text is a sequence of pieces (`specs/Pieces.antt` there), each the longest that begins there. `marks`, `numbers`
+//! and `skips` read those that hold no bytes of their own, and `place` goes behind a piece.
 #![tactic(auto)]
 
 mod lexer;
+mod marks;
+mod numbers;
+mod place;
 mod scanner;
+mod skips;
 
-pub use c_pieces::advance;
 pub use lexer::lex;
+pub use marks::mark_at;
+pub use numbers::number_at;
+pub use place::advance;
+pub use skips::{hash_at, slash_at, space_at};

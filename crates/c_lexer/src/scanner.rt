@@ -1,7 +1,7 @@
 ghost use Rattle.std.specs.Prelude.{◌<◌, length};
 ghost use Rattle.c_tokens.specs.Scans.{IsScan};
 
-use c_pieces::{hash_at, mark_at, number_at, slash_at, space_at};
+use crate::{hash_at, mark_at, number_at, slash_at, space_at};
 use c_tokens::{Recent, Scanned, is_letter, is_quote, is_space, quote_at, starts_number, word_at};
 use pcc_base::NoMemory;
 use std::alloc::Global;

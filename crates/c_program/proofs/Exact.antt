@@ -15,7 +15,7 @@ use Rattle.c_front.specs.Refusals.{FirstFaulty, HaveLexicalFault, HaveManyTokens
 use Rattle.c_front.proofs.Exact.{lexical_or_limit, no_lexical, stand_fewer, tokens_once, trees_once, trees_or_fault}
 use Rattle.c_program.specs.Answers.{Exceed, Excess, ManyTokens, LargeArrays, LargeFrame, HaveFault, HaveLargeFrame}
 use Rattle.c_program.specs.Answers.{HaveTypedProgram, end_of}
-use Rattle.c_units.specs.Units.{HaveUnits, WithUnits}
+use Rattle.c_front.specs.Units.{HaveUnits, WithUnits}
 
 -- texts have one raw tree each
 units_once : (texts : List (List ℕ)) (a b : List (List ExternalTree)) → HaveUnits texts a → HaveUnits texts b → a ≡ b

@@ -9,8 +9,8 @@ use Rattle.c_grammar.specs.Statements.{ExternalTree}
 use Rattle.c_tree.specs.Program.{Function, Program}
 use Rattle.c_tree.specs.Sizes.{frame_bound}
 use Rattle.c_typing.specs.Typed.{IsAbove, arrays_bytes, large_frame, limit_of, most_arrays, most_frame}
-use Rattle.c_declares.specs.Laws.{FunctionsAreNamed}
-use Rattle.c_declares.specs.Names.{defined_names}
+use Rattle.c_sound.specs.DeclaresLaws.{FunctionsAreNamed}
+use Rattle.c_sound.specs.Names.{defined_names}
 use Rattle.c_program.specs.Answers.{HaveLargeFrame}
 
 -- this function, at this place of the list from so many on, has a frame of so many bytes

@@ -9,7 +9,7 @@ use Rattle.c_tree.specs.Program.{Function, Program}
 use Rattle.c_tree.specs.Sizes.{frame_bound}
 use Rattle.c_front.specs.Refusals.{FirstFaulty, HaveLexicalFault, HaveManyTokens, WithTokens, first_place}
 use Rattle.c_typing.specs.Typed.{IsAbove, IsAccepted, IsLeastFault, Typed, limit_of}
-use Rattle.c_units.specs.Units.{WithUnits}
+use Rattle.c_front.specs.Units.{WithUnits}
 use Rattle.c_program.specs.declared.refused.Refused.{Refused}
 use Rattle.c_program.specs.declared.refused.Refused.TheVariants as refusals
 

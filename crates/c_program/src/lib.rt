@@ -2,10 +2,12 @@
 //!
 //! `typed_program` gives exactly the program of `specs/Answers.antt`, through tokens, raw trees and typing, or the
 //! fault that the texts have, or the limit that they are above, that on frames with the function's name; texts have one
-//! such answer (`one_answer`). The only other refusal is want of memory.
+//! such answer (`one_answer`). The only other refusal is want of memory. `names` has the names of the functions that files
+//! define.
 #![tactic(auto)]
 
 mod laws;
+mod names;
 mod refused;
 mod typed;
 

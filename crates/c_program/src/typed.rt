@@ -6,16 +6,15 @@ ghost use Rattle.c_tree.specs.Erased.{program_of};
 ghost use Rattle.c_tree.specs.Sizes.{function_size};
 ghost use Rattle.c_tree.specs.WellTyped.{WellTyped};
 ghost use Rattle.c_grammar.specs.Statements.{unit_of};
-ghost use Rattle.c_units.specs.Units.{HaveUnits};
+ghost use Rattle.c_front.specs.Units.{HaveUnits};
 ghost use Rattle.c_program.specs.Answers.{AreRefused, HaveTypedProgram, end_of};
 
 use crate::refused::{Refused, without_program, without_trees};
-use c_front::{lex_files, parse_files};
+use c_front::{lex_files, parse_files, units_are_sources};
 use c_lexer::advance;
 use c_syntax::RawUnit;
 use c_tree::Program;
 use c_types::check;
-use c_units::units_are_sources;
 use pcc_base::Span;
 use std::alloc::Global;
 

@@ -19,3 +19,12 @@ pub mod UnitsPlaces
 pub mod Sound
 pub mod Ranges
 pub mod Ranged
+pub mod Spans
+pub mod Apart
+pub mod Ints
+pub mod Sources
+pub mod Declaring
+pub mod Files
+pub mod Words
+pub mod Scoped
+pub mod IdentifiersFiles

@@ -1,0 +1,5 @@
+pub mod Laws
+pub mod DeclaresLaws
+pub mod Names
+pub mod IdentifiersLaws
+pub mod Named

@@ -241,7 +241,7 @@ after_switch Continues s = Gives Continues s
 after_switch (Returns value) s = Gives (Returns value) s
 
 -- A `while` or `for`: each test takes a turn. It goes over a bound above the turns: what still goes has then no turn
--- left, and every such bound makes the same of it (proved in `c_bounds`).
+-- left, and every such bound makes the same of it (proved in `c_eval_laws`).
 abbrev pub loop : ℕ → (State → Evaluated Bool) → Runs → Runs → Runs
 loop zero test body after s = Ends Goes s
 loop (suc bound) test body after s =
@@ -390,7 +390,7 @@ run_function calls bound listing (Some f) arguments s =
     enter f arguments (execute_from within f.body 0) s
 
 -- Calls within calls go over a bound above the turns: what still goes has then no turn left, and every such bound makes
--- the same of it (proved in `c_bounds`).
+-- the same of it (proved in `c_eval_laws`).
 abbrev pub call_within : ℕ → Program → Listing → Calls
 call_within zero program listing f arguments s = Ends Goes s
 call_within (suc bound) program listing f arguments s =

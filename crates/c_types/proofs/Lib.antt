@@ -1,2 +1,4 @@
 pub mod Scoped
 pub mod OneAnswer
+pub mod Outlining
+pub mod Making

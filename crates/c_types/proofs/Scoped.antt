@@ -9,7 +9,7 @@ use Rattle.c_typing.specs.Files.{typed_units}
 use Rattle.c_typing.specs.Names.{Scope}
 use Rattle.c_operands.specs.declared.judged.Judged.{Judged}
 use Rattle.c_expressions.specs.Said.{IsSaid}
-use Rattle.c_check_programs.specs.Answers.{AreFunctions}
+use Rattle.c_types.specs.Answers.{AreFunctions}
 
 -- what is known before the first file
 pub scoped : (units : List (List ExternalTree)) (s t : Scope) (a : Judged (Vec Function Global))

@@ -3,7 +3,7 @@
 use std::fmt::{Debug, Display};
 use std::process::Abort;
 
-/// What was found is what was wanted, in the row, at the point or in the part that the last argument names.
+/// What was found is what was wanted, in the row or part, or at the point or call, that the last argument names.
 pub fn expect<T: PartialEq + Debug, D: Display + Copy>(
     rt: &impl Abort,
     found: &T,

@@ -1,10 +1,11 @@
-//! Tests of the public calls of `flow_graph` (`graphs`), `liveness` (`live_points`) and `elementary_form` (`forms`),
-//! whose graphs are built by the steps in `building`; and of `puzzle_board`, `puzzle_solver`, `spiller` and
-//! `puzzle_texts`: rows worked by hand (`rows`), every small board compared with a plain search (`search`), boards and
-//! placements as texts (`texts`), and a map of points (`maps`).
+//! Tests of the public calls of `pcc_base` (`numbers`, `faults`), `pcc_outside` (`memory`, `host`) and
+//! `index_lists` (`list_rows`); of `flow_graph` (`graphs`), `liveness` (`live_points`) and `elementary_form`
+//! (`forms`), whose graphs are built by the steps in `building`; and of `puzzle_board`, `puzzle_solver` and
+//! `puzzle_texts`: rows worked by hand (`rows`), every small board compared with a plain search (`search`), boards
+//! and placements as texts (`texts`), and a map of points (`maps`).
 //!
-//! They stand in a crate of their own since a crate with tests is proved a second time; this one needs only
-//! what those crates promise.
+//! They stand in a crate of their own since a crate with tests is proved a second time; this one needs only what
+//! those crates promise.
 #![tactic(auto)]
 
 #[cfg(test)]
@@ -12,13 +13,23 @@ mod building;
 #[cfg(test)]
 mod expected;
 #[cfg(test)]
+mod faults;
+#[cfg(test)]
 mod forms;
 #[cfg(test)]
 mod graphs;
 #[cfg(test)]
+mod host;
+#[cfg(test)]
+mod list_rows;
+#[cfg(test)]
 mod live_points;
 #[cfg(test)]
 mod maps;
+#[cfg(test)]
+mod memory;
+#[cfg(test)]
+mod numbers;
 #[cfg(test)]
 mod rows;
 #[cfg(test)]

@@ -3,7 +3,7 @@
 ghost use Rattle.std.specs.Prelude.{◌≡◌, ◌==◌, ◌&&◌, ◌%◌};
 ghost use Rattle.ia32_insn.specs.Items.{near};
 ghost use Rattle.ia32_regs.specs.Registers.{number32, number8};
-ghost use Rattle.ia32_shows.specs.Placements.{below};
+ghost use Rattle.ia32_rows.specs.Placements.{below};
 ghost use Rattle.ia32_rows.specs.Rows.{is_in, working, target_of, has_operand, low_byte};
 ghost use Rattle.ia32_emit.specs.Locations.{distance, place_of};
 

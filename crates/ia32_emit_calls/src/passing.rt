@@ -8,8 +8,8 @@ ghost use Rattle.ia32_regs.specs.declared.names.Reg32.TheVariants as reg;
 ghost use Rattle.ia32_rows.specs.Rows.{putchar_row, getchar_row, exit_row, argument_word, param_row, deepen};
 ghost use Rattle.ia32_rows.specs.Rows.{undeepen, write_any, leave};
 ghost use Rattle.ia32_rows.specs.Rows.{return_row, prologue};
-ghost use Rattle.ia32_shows.specs.Filling.{fill};
-ghost use Rattle.ia32_shows.specs.Placements.{below};
+ghost use Rattle.ia32_rows.specs.Filling.{fill};
+ghost use Rattle.ia32_rows.specs.Placements.{below};
 ghost use Rattle.ia32_emit.specs.Locations.{distance, place_of};
 
 use ia32_emit::{

@@ -9,7 +9,7 @@ use Rattle.std.proofs.lemmas.Option.{none-some, same_Some}
 use Rattle.flow_graph.specs.Sizes.{array_bytes}
 use Rattle.graph_states.proofs.Lists.{every-at}
 use Rattle.ia32_rows.specs.Rows.{AllApart, AreApart, IsSlot}
-use Rattle.ia32_keeps.specs.Supports.{AreArraysApart, IsSlotApart, size_of}
+use Rattle.ia32_programs.specs.Supports.{AreArraysApart, IsSlotApart, size_of}
 use Rattle.ia32_frames.specs.Frames.{arrays_from, frame_bytes, slot_at}
 use Rattle.ia32_frames.specs.Laws.{FramesHaveSlots, OffsetsAreBelow}
 

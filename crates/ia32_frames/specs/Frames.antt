@@ -4,7 +4,7 @@ use Rattle.std.specs.Prelude.{ℕ, ◌+◌, ◌-◌, ◌*◌, ℤ, pos, neg_ℤ,
 use Rattle.std.specs.List.{range_with_len}
 use Rattle.flow_graph.specs.Graphs.{Flow}
 use Rattle.flow_graph.specs.Sizes.{array_bytes}
-use Rattle.ia32_shows.specs.Placements.{Placement, in_slots}
+use Rattle.ia32_rows.specs.Placements.{Placement, in_slots}
 
 -- the bytes of the frame
 abbrev pub frame_bytes : Flow → ℕ

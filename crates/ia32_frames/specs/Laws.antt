@@ -2,7 +2,7 @@
 use Rattle.std.specs.Prelude.{◌≡◌, ℕ, List, map}
 use Rattle.flow_graph.specs.Graphs.{Flow, IsFlow}
 use Rattle.ia32_emit.specs.Locations.{slots_of}
-use Rattle.ia32_keeps.specs.Supports.{AreSlots, Supports}
+use Rattle.ia32_programs.specs.Supports.{AreSlots, Supports}
 use Rattle.ia32_frames.specs.Frames.{frame_arrays, frame_bytes, frame_placement, frame_slots, offset_of}
 
 -- The slots and arrays of a graph's frame are apart from each other, and in it.

@@ -2,7 +2,7 @@
 
 ghost use Rattle.ia32_frames.specs.Laws.{FramesHaveSlots, FramesSupport, OffsetsAreBelow};
 
-use ia32_keeps::slots_support;
+use ia32_programs::slots_support;
 
 /// The slots and arrays of a graph's frame are apart, so that the graph can have code over them.
 pub fn frames_support()

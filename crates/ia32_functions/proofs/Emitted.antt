@@ -13,10 +13,10 @@ use Rattle.flow_graph.specs.declared.op.Op.{Op}
 use Rattle.flow_graph.specs.declared.op.Op.TheVariants as op
 use Rattle.flow_graph.specs.Graphs.{Flow, IsArray, IsIn}
 use Rattle.flow_graph.specs.Sizes.{words_of}
-use Rattle.ia32_shows.specs.Placements.{Placement, below}
+use Rattle.ia32_rows.specs.Placements.{Placement, below}
 use Rattle.ia32_rows.specs.Rows.{headers, loop_label, point_row, row}
 use Rattle.ia32_rows.proofs.ItemKinds.{every-get}
-use Rattle.ia32_keeps.specs.Supports.{AreArraysIn, IsArrayIn}
+use Rattle.ia32_programs.specs.Supports.{AreArraysIn, IsArrayIn}
 use Rattle.ia32_sizes.proofs.Sums.{words-most}
 use Rattle.ia32_functions.specs.Room.{HasRoom}
 

@@ -1,8 +1,8 @@
 -- A graph and its placement, as the code holds them.
 use Rattle.std.specs.Prelude.{ℕ, slice_get, option_map, unwrap_or}
-use Rattle.ia32_places.specs.Places.{Place, InSlot}
+use Rattle.ia32_regs.specs.Places.{Place, InSlot}
 use Rattle.flow_graph.specs.Graphs.{Flow}
-use Rattle.ia32_shows.specs.Placements.{Placement, in_slots}
+use Rattle.ia32_rows.specs.Placements.{Placement, in_slots}
 use Rattle.ia32_emit.specs.Locations.{slots_of}
 use Rattle.ia32_functions.specs.declared.site.Site.{Site}
 

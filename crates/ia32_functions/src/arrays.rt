@@ -8,9 +8,9 @@ ghost use Rattle.ia32_insn.specs.declared.insn.Insn.TheVariants as insn;
 ghost use Rattle.ia32_insn.specs.declared.item.Item.TheVariants as item;
 ghost use Rattle.ia32_insn.specs.declared.operand.Rm32.TheVariants as rm;
 ghost use Rattle.ia32_regs.specs.declared.names.Reg32.TheVariants.{Esi, Edi};
-ghost use Rattle.ia32_shows.specs.Placements.{below};
+ghost use Rattle.ia32_rows.specs.Placements.{below};
 ghost use Rattle.ia32_rows.specs.Rows.{clear_row, headers, size_of};
-ghost use Rattle.ia32_keeps.specs.Supports.{AreArraysIn};
+ghost use Rattle.ia32_programs.specs.Supports.{AreArraysIn};
 ghost use Rattle.ia32_emit.specs.Locations.{distance};
 ghost use Rattle.ia32_functions.specs.Sites.{flow_of, placement_of};
 

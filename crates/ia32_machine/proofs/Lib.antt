@@ -4,3 +4,4 @@ pub mod Calls
 pub mod Performs
 pub mod Runs
 pub mod Table
+pub mod Kept

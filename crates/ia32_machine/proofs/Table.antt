@@ -5,7 +5,7 @@ use Rattle.std.proofs.Math.ListN.{set}
 use Rattle.std.proofs.lemmas.List.Elements.{All-push, All-set}
 use Rattle.ia32_insn.specs.declared.insn.Insn.{Insn}
 use Rattle.ia32_insn.specs.State.{State, Area, code_at}
-use Rattle.ia32_code.specs.Code.{KeepsCode}
+use Rattle.ia32_machine.specs.Code.{KeepsCode}
 use Rattle.ia32_machine.specs.Performs.{FetchTold}
 use Rattle.ia32_machine.specs.Table.{IsSpelled, IsFound, IsDecoded, AreDecoded, IsFoundAt}
 use Rattle.ia32_machine.specs.declared.decoded.Decoded.{Decoded}

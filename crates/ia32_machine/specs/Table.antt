@@ -2,7 +2,7 @@
 use Rattle.std.specs.Prelude.{◌≡◌, ◌≢◌, ℕ, ◌+◌, ◌%◌, ◌^◌, List, Some, All}
 use Rattle.ia32_insn.specs.State.{Area, code_at}
 use Rattle.ia32_insn.specs.Spelling.{Begins}
-use Rattle.ia32_code.specs.Code.{IsFixed}
+use Rattle.ia32_machine.specs.Code.{IsFixed}
 use Rattle.ia32_machine.specs.declared.decoded.Decoded.{Decoded}
 
 -- the code at its address begins with the instruction, and goes on at the address behind it

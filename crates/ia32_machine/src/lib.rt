@@ -1,10 +1,12 @@
 //! The machine that runs images: this compiler's part of IA-32, with the system calls of Linux on i386.
 //!
-//! In go the segments of an image, an input and a place for output; out comes how the run ended. A run
-//! of some number of steps has exactly the outcome that the definition of a step gives
-//! (`ia32_insn`, `specs/Runs.antt`), from the first state of the image (`specs/First.antt`).
+//! In go the segments of an image, an input and a place for output; out comes how the run ended. A run of some
+//! number of steps has exactly the outcome that the definition of a step gives (`ia32_insn`, `specs/Runs.antt`),
+//! from the first state of the image (`specs/First.antt`). No instruction changes code that may not be written
+//! (`code`).
 #![tactic(auto)]
 
+mod code;
 mod decoded;
 mod ends;
 mod instruction;
@@ -12,6 +14,7 @@ mod laws;
 mod machine;
 mod system_calls;
 
+pub use code::{instruction_keeps_code, store_keeps_code};
 pub use ends::{MachineEnd, StepEnd};
 pub use laws::one_first;
 pub use machine::Machine;

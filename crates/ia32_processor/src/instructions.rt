@@ -15,7 +15,7 @@ ghost use Rattle.ia32_processor.specs.Answers.{answer_of, does, Leaves, LeavesWi
 
 use crate::halt::Halt;
 use crate::processor::Processor;
-use ia32_arithmetic::{
+use crate::{
     alu, complement, divide, divide_signed, holds, negation, product, shift, sign_extend8,
     sign_extend16, sign_word,
 };

@@ -4,7 +4,7 @@ ghost use Rattle.ia32_processor.specs.Answers.{answer_of, Leaves};
 
 use crate::halt::Halt;
 use crate::processor::Processor;
-use ia32_arithmetic::with_low16;
+use crate::with_low16;
 use ia32_insn::{Mem, Rm8, Rm32};
 use ia32_regs::Reg32;
 

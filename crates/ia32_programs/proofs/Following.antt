@@ -10,20 +10,20 @@ use Rattle.flow_graph.specs.WellFormed.{IsState}
 use Rattle.graph_states.proofs.Calls.{back-kept}
 use Rattle.graph_states.proofs.Keeping.{step_keeps_state}
 use Rattle.graph_states.proofs.Values.{op-at}
-use Rattle.ia32_shows.specs.Follows.{ComesTo, Follows, is_nop}
-use Rattle.ia32_shows.specs.Placements.{Code}
-use Rattle.ia32_shows.specs.Shows.{Shows}
-use Rattle.ia32_shows.proofs.Steps.{comes-then}
-use Rattle.ia32_standing.specs.Laws.{IsSelected}
-use Rattle.ia32_standing.proofs.Follows.{steps-follow}
-use Rattle.ia32_standing.proofs.Points.{rows-stand}
-use Rattle.ia32_standing.proofs.Returns.{calls-return, calls-stand}
-use Rattle.ia32_entries.specs.Called.{Called}
-use Rattle.ia32_entries.specs.Calls.{ComesCalled}
-use Rattle.ia32_entries.proofs.Calling.{call-comes}
-use Rattle.ia32_entries.proofs.Entry.{entry-comes}
-use Rattle.ia32_entries.proofs.Ready.{entries-are-ready}
-use Rattle.ia32_entries.proofs.Returning.{return-follows}
+use Rattle.ia32_rows.specs.Follows.{ComesTo, Follows, is_nop}
+use Rattle.ia32_rows.specs.Placements.{Code}
+use Rattle.ia32_rows.specs.Shows.{Shows}
+use Rattle.ia32_rows.proofs.Steps.{comes-then}
+use Rattle.ia32_programs.specs.StandingLaws.{IsSelected}
+use Rattle.ia32_programs.proofs.Follows.{steps-follow}
+use Rattle.ia32_programs.proofs.Points.{rows-stand}
+use Rattle.ia32_programs.proofs.Returns.{calls-return, calls-stand}
+use Rattle.ia32_programs.specs.Called.{Called}
+use Rattle.ia32_programs.specs.Calls.{ComesCalled}
+use Rattle.ia32_programs.proofs.EntriesCalling.{call-comes}
+use Rattle.ia32_programs.proofs.Entry.{entry-comes}
+use Rattle.ia32_programs.proofs.Ready.{entries-are-ready}
+use Rattle.ia32_programs.proofs.Returning.{return-follows}
 use Rattle.ia32_programs.specs.Right.{ProgramsFollow}
 
 -- an op is followed from this state

@@ -1,6 +1,6 @@
 -- Selected code does what its program does.
-use Rattle.ia32_shows.proofs.Along.{whole_runs}
-use Rattle.ia32_starts.proofs.Ready.{objects-start}
+use Rattle.ia32_rows.proofs.Along.{whole_runs}
+use Rattle.ia32_programs.proofs.StartsReady.{objects-start}
 use Rattle.ia32_programs.specs.Right.{ProgramsAreRight}
 use Rattle.ia32_programs.proofs.Following.{programs-follow}
 

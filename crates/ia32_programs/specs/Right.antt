@@ -1,7 +1,7 @@
 -- That the code of a program is right, over any placements that support its graphs.
-use Rattle.ia32_shows.specs.Follows.{FollowsAll, IsRightCode}
-use Rattle.ia32_shows.specs.Placements.{Code}
-use Rattle.ia32_standing.specs.Laws.{IsSelected}
+use Rattle.ia32_rows.specs.Follows.{FollowsAll, IsRightCode}
+use Rattle.ia32_rows.specs.Placements.{Code}
+use Rattle.ia32_programs.specs.StandingLaws.{IsSelected}
 
 -- From every state that shows one of the program the machine follows the program's step, at every op.
 abbrev pub ProgramsFollow : Type 0

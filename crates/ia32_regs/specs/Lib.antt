@@ -1,2 +1,4 @@
 pub mod Registers
 pub mod Words
+pub mod Places
+pub mod Worked

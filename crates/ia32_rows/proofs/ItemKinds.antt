@@ -8,7 +8,7 @@ use Rattle.ia32_regs.specs.declared.names.Reg32.{Reg32}
 use Rattle.ia32_regs.specs.declared.names.Reg32.TheVariants.{Eax, Edx, Esi, Edi}
 use Rattle.ia32_regs.specs.declared.names.Reg8.TheVariants.{Cl}
 use Rattle.ia32_regs.specs.Registers.{number32, number8}
-use Rattle.ia32_places.specs.Places.{Place, InWord, InByte, InSlot}
+use Rattle.ia32_regs.specs.Places.{Place, InWord, InByte, InSlot}
 use Rattle.ia32_insn.specs.declared.operand.Mem.{Mem}
 use Rattle.ia32_insn.specs.declared.operand.Rm32.{Rm32}
 use Rattle.ia32_insn.specs.declared.operand.Rm32.TheVariants as rm
@@ -33,9 +33,9 @@ use Rattle.flow_graph.specs.declared.op.Op.TheVariants as op
 use Rattle.flow_graph.specs.Graphs.{Flow}
 use Rattle.flow_graph.specs.Meaning.{bytes_of}
 use Rattle.flow_graph.proofs.Points.{every-map}
-use Rattle.ia32_shows.proofs.Spelled.{IsCommon, common-begins}
-use Rattle.ia32_shows.specs.Follows.{is_nop}
-use Rattle.ia32_shows.specs.Placements.{Placement, below}
+use Rattle.ia32_rows.proofs.Spelled.{IsCommon, common-begins}
+use Rattle.ia32_rows.specs.Follows.{is_nop}
+use Rattle.ia32_rows.specs.Placements.{Placement, below}
 use Rattle.ia32_rows.specs.Moves.{has_operand, target_of, working, read, write, operate, number_row, copy_row}
 use Rattle.ia32_rows.specs.Moves.{operation, commuting, pass}
 use Rattle.ia32_rows.specs.Computing.{multiply, multiplying, changing, low_byte, extend, widening, lowering}

@@ -13,8 +13,8 @@ use Rattle.ia32_insn.specs.Items.{plain}
 use Rattle.flow_graph.specs.declared.op.Op.TheVariants as op
 use Rattle.flow_graph.specs.Graphs.{Flow, IsIn, Stands, points_of, following}
 use Rattle.flow_graph.proofs.Points.{choose}
-use Rattle.ia32_shows.specs.Placements.{Placement}
-use Rattle.ia32_shows.proofs.Steps.{IsAt, at-front, at-back, items-split}
+use Rattle.ia32_rows.specs.Placements.{Placement}
+use Rattle.ia32_rows.proofs.Steps.{IsAt, at-front, at-back, items-split}
 use Rattle.ia32_rows.specs.Rows.{entry_label, row, prologue, headers, point_row, point_rows}
 use Rattle.ia32_rows.specs.Rows.{block_rows, selected}
 

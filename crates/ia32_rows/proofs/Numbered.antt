@@ -12,7 +12,7 @@ use Rattle.flow_graph.specs.declared.op.Op.{Op}
 use Rattle.flow_graph.specs.declared.op.Op.TheVariants as op
 use Rattle.flow_graph.specs.Graphs.{Flow, IsIn, IsDistinct, IsEnded, IsFlow, LastIsEnd, points_of, without}
 use Rattle.flow_graph.proofs.Points.{every-in, every-map, every-without, distinct-without, choose}
-use Rattle.ia32_shows.specs.Placements.{Placement}
+use Rattle.ia32_rows.specs.Placements.{Placement}
 use Rattle.ia32_rows.specs.Once.{LabelsStandOnce, PointsArePlaced, PointsStandOnce}
 use Rattle.ia32_rows.specs.Rows.{entry_label, headers, loop_label, row, prologue, point_rows, block_rows, selected}
 use Rattle.ia32_rows.proofs.ItemKinds.{IsOther, IsRowItem, other-is, row-is}

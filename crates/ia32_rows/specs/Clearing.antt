@@ -8,7 +8,7 @@ use Rattle.ia32_insn.specs.declared.insn.Insn.TheVariants as insn
 use Rattle.ia32_insn.specs.declared.item.Item.{Item}
 use Rattle.ia32_insn.specs.declared.item.Item.TheVariants as item
 use Rattle.ia32_insn.specs.Items.{near, plain}
-use Rattle.ia32_shows.specs.Placements.{below}
+use Rattle.ia32_rows.specs.Placements.{below}
 
 -- the bytes of an array's elements, up to the end of their last word, where these are the bytes of one and their number
 abbrev pub size_of : ℕ × ℕ → ℕ

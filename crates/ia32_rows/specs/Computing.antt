@@ -6,7 +6,7 @@ use Rattle.ia32_regs.specs.declared.names.Reg32.TheVariants.{Eax, Ecx, Edx, Ebx,
 use Rattle.ia32_regs.specs.declared.names.Reg8.{Reg8}
 use Rattle.ia32_regs.specs.declared.names.Reg8.TheVariants.{Al, Cl, Dl, Bl}
 use Rattle.ia32_regs.specs.Registers.{number32, number8}
-use Rattle.ia32_places.specs.Places.{Place, InWord, InByte, InSlot}
+use Rattle.ia32_regs.specs.Places.{Place, InWord, InByte, InSlot}
 use Rattle.ia32_insn.specs.declared.operand.Rm32.{Rm32}
 use Rattle.ia32_insn.specs.declared.operand.Rm32.TheVariants as rm
 use Rattle.ia32_insn.specs.declared.operand.Rm8.TheVariants as rm8
@@ -21,7 +21,7 @@ use Rattle.ia32_insn.specs.declared.item.Item.TheVariants as item
 use Rattle.ia32_insn.specs.Items.{plain}
 use Rattle.flow_graph.specs.declared.op.Comparison.{Comparison}
 use Rattle.flow_graph.specs.declared.op.Comparison.TheVariants.{Eq, Ne, Lt, Le, Gt, Ge}
-use Rattle.ia32_shows.specs.Placements.{below}
+use Rattle.ia32_rows.specs.Placements.{below}
 use Rattle.ia32_rows.specs.Moves.{copy_row, operate, read, target_of, working, write}
 
 -- ---- products

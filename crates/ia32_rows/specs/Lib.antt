@@ -6,3 +6,17 @@ pub mod Clearing
 pub mod Rows
 pub mod Once
 pub mod Worked
+pub mod Filling
+pub mod Follows
+pub mod Jumps
+pub mod Paths
+pub mod Placements
+pub mod Shows
+pub mod Sites
+pub mod ShowsWorked
+pub mod Effects
+pub mod Contains
+pub mod Laws
+pub mod Unary
+pub mod Products
+pub mod CallsLaws

@@ -5,14 +5,14 @@ use Rattle.std.specs.Int.{w32, cast_unsigned}
 use Rattle.ia32_regs.specs.declared.names.Reg32.{Reg32}
 use Rattle.ia32_regs.specs.declared.names.Reg32.TheVariants.{Esi, Edi}
 use Rattle.ia32_regs.specs.Registers.{number32, number8}
-use Rattle.ia32_places.specs.Places.{Place, InWord, InByte, InSlot}
+use Rattle.ia32_regs.specs.Places.{Place, InWord, InByte, InSlot}
 use Rattle.ia32_insn.specs.declared.operand.Rm32.TheVariants as rm
 use Rattle.ia32_insn.specs.declared.operand.Rm8.TheVariants as rm8
 use Rattle.ia32_insn.specs.declared.insn.AluOp.{AluOp}
 use Rattle.ia32_insn.specs.declared.insn.Insn.TheVariants as insn
 use Rattle.ia32_insn.specs.declared.item.Item.{Item}
 use Rattle.ia32_insn.specs.Items.{plain}
-use Rattle.ia32_shows.specs.Placements.{below}
+use Rattle.ia32_rows.specs.Placements.{below}
 
 -- ---- registers and places
 

@@ -3,7 +3,7 @@ use Rattle.std.specs.Prelude.{◌≡◌, ◌↔◌, ℕ, List, slice_get, Some}
 use Rattle.ia32_insn.specs.declared.item.Item.{Item}
 use Rattle.ia32_insn.specs.declared.item.Item.TheVariants as item
 use Rattle.flow_graph.specs.Graphs.{Flow, IsFlow, IsPlaced}
-use Rattle.ia32_shows.specs.Placements.{Placement}
+use Rattle.ia32_rows.specs.Placements.{Placement}
 use Rattle.ia32_rows.specs.Rows.{selected}
 
 -- of a number such an item stands at one place at most

@@ -4,7 +4,7 @@
 use Rattle.std.specs.Prelude.{◌+◌, ◌*◌, ◌%◌, ◌^◌, ℕ, pos, List, [], ◌∷◌, ◌++◌, length, Option, Some, None}
 use Rattle.std.specs.Int.{w32, cast_signed}
 use Rattle.ia32_regs.specs.declared.names.Reg32.TheVariants.{Eax, Ebx, Esp, Ebp, Esi, Edi}
-use Rattle.ia32_places.specs.Places.{Place}
+use Rattle.ia32_regs.specs.Places.{Place}
 use Rattle.ia32_insn.specs.declared.operand.Mem.{Mem}
 use Rattle.ia32_insn.specs.declared.operand.Rm32.TheVariants as rm
 use Rattle.ia32_insn.specs.declared.insn.AluOp.TheVariants as alu
@@ -14,8 +14,8 @@ use Rattle.ia32_insn.specs.declared.item.Item.{Item}
 use Rattle.ia32_insn.specs.declared.item.Item.TheVariants as item
 use Rattle.ia32_insn.specs.declared.item.Stub.TheVariants as stub
 use Rattle.ia32_insn.specs.Items.{near, plain}
-use Rattle.ia32_shows.specs.Filling.{fill}
-use Rattle.ia32_shows.specs.Placements.{below}
+use Rattle.ia32_rows.specs.Filling.{fill}
+use Rattle.ia32_rows.specs.Placements.{below}
 use Rattle.ia32_rows.specs.Moves.{pass, read, target_of, write}
 
 -- ---- routines

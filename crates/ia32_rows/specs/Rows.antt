@@ -4,7 +4,7 @@ use Rattle.std.specs.Prelude.{◌≤◌, ◌⊎◌, ◌+◌, ⊤, ℕ, suc, List
 use Rattle.std.specs.Prelude.{slice_index_or, Some, None, option_map, unwrap_or}
 use Rattle.std.specs.List.{AllByRecursion}
 use Rattle.ia32_regs.specs.declared.names.Reg32.TheVariants.{Eax, Edx}
-use Rattle.ia32_places.specs.Places.{Place, InSlot}
+use Rattle.ia32_regs.specs.Places.{Place, InSlot}
 use Rattle.ia32_insn.specs.declared.insn.AluOp.TheVariants as alu
 use Rattle.ia32_insn.specs.declared.insn.Insn.TheVariants as insn
 use Rattle.ia32_insn.specs.declared.insn.ShiftOp.TheVariants as shift
@@ -14,7 +14,7 @@ use Rattle.ia32_insn.specs.Items.{plain}
 use Rattle.flow_graph.specs.declared.op.Op.{Op}
 use Rattle.flow_graph.specs.declared.op.Op.TheVariants as op
 use Rattle.flow_graph.specs.Graphs.{Flow}
-use Rattle.ia32_shows.specs.Placements.{Placement}
+use Rattle.ia32_rows.specs.Placements.{Placement}
 pub use Rattle.ia32_rows.specs.Moves.{scratch, is_in, read, write, operate, working, has_operand, target_of}
 pub use Rattle.ia32_rows.specs.Moves.{number_row, copy_row, operation, commuting, pass}
 pub use Rattle.ia32_rows.specs.Computing.{multiply, multiplying, changing, low_byte, extend, widening, lowering}

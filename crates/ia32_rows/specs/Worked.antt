@@ -2,7 +2,7 @@
 use Rattle.std.specs.Prelude.{◌≡◌, pos, negsuc, List, [], ◌∷◌, slice_get, Some, None}
 use Rattle.ia32_regs.specs.declared.names.Reg32.TheVariants.{Eax, Ecx, Edx, Ebx, Esp, Ebp, Esi, Edi}
 use Rattle.ia32_regs.specs.declared.names.Reg8.TheVariants.{Al, Bl, Bh, Cl}
-use Rattle.ia32_places.specs.Places.{Place, InWord, InByte, InSlot}
+use Rattle.ia32_regs.specs.Places.{Place, InWord, InByte, InSlot}
 use Rattle.ia32_insn.specs.declared.operand.Rm32.TheVariants as rm
 use Rattle.ia32_insn.specs.declared.operand.Rm8.TheVariants as rm8
 use Rattle.ia32_insn.specs.declared.insn.AluOp.TheVariants as alu
@@ -16,7 +16,7 @@ use Rattle.flow_graph.specs.declared.op.Bits.TheVariants.{Eight, Sixteen, Thirty
 use Rattle.flow_graph.specs.declared.op.Comparison.TheVariants.{Lt}
 use Rattle.flow_graph.specs.declared.op.Op.{Op}
 use Rattle.flow_graph.specs.declared.op.Op.TheVariants as op
-use Rattle.ia32_shows.specs.Placements.{Placement, below, in_slots}
+use Rattle.ia32_rows.specs.Placements.{Placement, below, in_slots}
 use Rattle.ia32_rows.specs.Rows.{headers, row}
 
 -- the items of an op at point 7 of a graph of one block, with a frame array of five elements of two bytes

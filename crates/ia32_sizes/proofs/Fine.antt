@@ -10,7 +10,7 @@ use Rattle.ia32_regs.specs.Registers.{number32, number8}
 use Rattle.ia32_regs.specs.declared.names.Reg32.{Reg32}
 use Rattle.ia32_regs.specs.declared.names.Reg32.TheVariants.{Eax, Ecx, Edx, Ebx, Esp, Ebp, Esi, Edi}
 use Rattle.ia32_regs.specs.declared.names.Reg8.TheVariants.{Al, Cl}
-use Rattle.ia32_places.specs.Places.{Place, InWord, InByte, InSlot, IsGeneral}
+use Rattle.ia32_regs.specs.Places.{Place, InWord, InByte, InSlot, IsGeneral}
 use Rattle.ia32_insn.specs.declared.operand.Mem.{Mem}
 use Rattle.ia32_insn.specs.declared.operand.Rm32.{Rm32}
 use Rattle.ia32_insn.specs.declared.operand.Rm32.TheVariants as rm
@@ -29,7 +29,7 @@ use Rattle.flow_graph.specs.declared.op.Bits.TheVariants.{Eight, Sixteen, Thirty
 use Rattle.flow_graph.specs.Meaning.{bytes_of}
 use Rattle.graph_states.proofs.Numbers.{signed-fits}
 use Rattle.ia32_encode.specs.Parts.{IsInRange, IsIndex, IsIndexed}
-use Rattle.ia32_shows.specs.Placements.{below}
+use Rattle.ia32_rows.specs.Placements.{below}
 use Rattle.ia32_rows.specs.Rows.{scratch, read, write, operate, working, has_operand, target_of, number_row, copy_row}
 use Rattle.ia32_rows.specs.Rows.{operation, commuting, pass, multiply, multiplying, changing, low_byte, extend}
 use Rattle.ia32_rows.specs.Rows.{widening}

@@ -9,7 +9,7 @@ use Rattle.std.proofs.lemmas.Option.{same_Some}
 use Rattle.std.proofs.lemmas.List.{length-map}
 use Rattle.ia32_regs.specs.declared.names.Reg32.{Reg32}
 use Rattle.ia32_regs.specs.declared.names.Reg32.TheVariants.{Eax, Edx, Esp, Esi, Edi}
-use Rattle.ia32_places.specs.Places.{Place}
+use Rattle.ia32_regs.specs.Places.{Place}
 use Rattle.ia32_insn.specs.declared.operand.Mem.{Mem}
 use Rattle.ia32_insn.specs.declared.operand.Rm32.TheVariants as rm
 use Rattle.ia32_insn.specs.declared.insn.AluOp.TheVariants as alu
@@ -31,8 +31,8 @@ use Rattle.flow_graph.proofs.Points.{every-map}
 use Rattle.ia32_encode.specs.Parts.{IsInRange, IsIndex, IsIndexed}
 use Rattle.ia32_asm.specs.Sections.{Stands, items_size}
 use Rattle.ia32_asm.proofs.Laying.{items_size-append}
-use Rattle.ia32_shows.specs.Filling.{fill}
-use Rattle.ia32_shows.specs.Placements.{below}
+use Rattle.ia32_rows.specs.Filling.{fill}
+use Rattle.ia32_rows.specs.Placements.{below}
 use Rattle.ia32_rows.specs.Rows.{items_between, read, target_of, write, number_row, copy_row, operation, commuting}
 use Rattle.ia32_rows.specs.Rows.{multiplying, changing, widening, lowering, halving, shifting, dividing, comparing}
 use Rattle.ia32_rows.specs.Rows.{cond_of}

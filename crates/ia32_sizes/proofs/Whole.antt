@@ -4,7 +4,7 @@ use Rattle.std.proofs.Common.{◌≡◌, ℕ, zero, suc, ◌+◌, ◌*◌, ◌/�
 use Rattle.std.proofs.Common.{None, refl, sym, ap, subst, inl, inr, arith, length-append}
 use Rattle.std.specs.Prelude.{◌⊎◌, ◌==◌, slice_get, slice_index_or, sum_by, unwrap_or}
 use Rattle.std.proofs.lemmas.Option.{same_Some, slice_get_within, get_or_from_slice_get}
-use Rattle.ia32_places.specs.Places.{Place, InWord, InByte, InSlot}
+use Rattle.ia32_regs.specs.Places.{Place, InWord, InByte, InSlot}
 use Rattle.ia32_insn.specs.declared.item.Item.{Item}
 use Rattle.ia32_insn.specs.declared.item.Item.TheVariants as item
 use Rattle.flow_graph.specs.declared.op.Op.{Op}
@@ -20,16 +20,16 @@ use Rattle.ia32_asm.specs.declared.section.Target.TheVariants as target
 use Rattle.ia32_asm.specs.Sections.{HasLabel, IsSpelled, Stands, items_size, object_target, target_of}
 use Rattle.ia32_asm.proofs.Laying.{items_size-append}
 use Rattle.elf_addresses.specs.Parts.{IsThere}
-use Rattle.ia32_shows.specs.Placements.{Placement}
-use Rattle.ia32_shows.specs.Sites.{IsInFrame}
+use Rattle.ia32_rows.specs.Placements.{Placement}
+use Rattle.ia32_rows.specs.Sites.{IsInFrame}
 use Rattle.ia32_rows.specs.Rows.{block_rows, entry_label, headers, loop_label, place_after, place_before, point_row}
 use Rattle.ia32_rows.specs.Rows.{point_rows, prologue, row, selected}
 use Rattle.ia32_rows.proofs.ItemKinds.{either-way, every-get, every-join}
 use Rattle.ia32_rows.proofs.Laid.{row-in-graph}
 use Rattle.ia32_rows.proofs.Numbered.{all_points, few-points, flow-distinct, labels-once, points-once, points-placed}
 use Rattle.ia32_rows.proofs.Numbered.{some-points}
-use Rattle.ia32_effects.specs.Contains.{IsPlaceIn}
-use Rattle.ia32_keeps.specs.Supports.{AreArraysIn, IsArrayIn, Supports}
+use Rattle.ia32_rows.specs.Contains.{IsPlaceIn}
+use Rattle.ia32_programs.specs.Supports.{AreArraysIn, IsArrayIn, Supports}
 use Rattle.ia32_sizes.specs.Sizes.{BlocksAreFew, IsCodeIn, SelectedIsCode, most_bytes}
 use Rattle.ia32_sizes.proofs.Fine.{IsNear, fits-below, fits-near}
 use Rattle.ia32_sizes.proofs.Rows.{IsFitRow, IsGood, LabelsStand, prologue-good, row-fits}

@@ -7,9 +7,9 @@ use Rattle.flow_graph.specs.Sizes.{most_words, words_of}
 use Rattle.flow_graph.specs.WellFormed.{IsGraph}
 use Rattle.ia32_asm.specs.declared.section.Target.{Target}
 use Rattle.ia32_asm.specs.Sections.{CanAssemble, Stands, items_size, target_of}
-use Rattle.ia32_shows.specs.Placements.{Placement}
+use Rattle.ia32_rows.specs.Placements.{Placement}
 use Rattle.ia32_rows.specs.Rows.{selected}
-use Rattle.ia32_keeps.specs.Supports.{Supports}
+use Rattle.ia32_programs.specs.Supports.{Supports}
 use Rattle.elf_addresses.specs.Parts.{IsThere}
 
 -- 800 for each point, 8 for each argument word that the ops pass, and 16 for each frame array

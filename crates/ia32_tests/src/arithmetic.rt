@@ -2,11 +2,11 @@
 //! that is `None` raised the divide error.
 
 use crate::expected::expect;
-use ia32_arithmetic::{
+use ia32_insn::{AluOp, Cond, Flags, ShiftOp};
+use ia32_processor::{
     alu, complement, divide, divide_signed, holds, negation, product, shift, sign_extend8,
     sign_extend16, sign_word, with_low16,
 };
-use ia32_insn::{AluOp, Cond, Flags, ShiftOp};
 use std::process::Abort;
 
 /// CF, ZF, SF and OF.

@@ -4,9 +4,11 @@
 //! every input and number of turns. The only refusal is want of memory, and numbers above 32 bits count as it.
 #![tactic(auto)]
 
+mod function;
 mod graphs;
 mod objects;
 mod program;
 
+pub use function::graph;
 pub use graphs::Graphs;
 pub use program::lower;

@@ -16,18 +16,16 @@ ghost use Rattle.lower_lines.specs.Lowering.{
 };
 ghost use Rattle.lower_lines.specs.Programs.{lowered};
 ghost use Rattle.lower_lines.specs.Words.{IsInMemory};
-ghost use Rattle.lower_settled.specs.Declared.{IsDeclaredFirst};
-ghost use Rattle.lower_settled.specs.Laws.{HaveLiveness, NothingLiveFirst};
+ghost use Rattle.lower_programs.specs.Declared.{IsDeclaredFirst};
+ghost use Rattle.lower_programs.specs.SettledLaws.{HaveLiveness, NothingLiveFirst};
 
+use crate::function::graph;
 use crate::graphs::Graphs;
 use crate::objects::objects_of;
 use c_tree::Program;
 use flow_graph::{Graph, never_stuck};
-use lower_bounds::{graphs_are_small, marks_hold, objects_hold, shapes_hold};
-use lower_fits::graphs_are_there;
-use lower_graphs::graph;
-use lower_programs::all_programs_lower;
-use lower_settled::{first_points_hold, liveness_holds};
+use lower_lines::{graphs_are_small, marks_hold, objects_hold, shapes_hold};
+use lower_programs::{all_programs_lower, first_points_hold, graphs_are_there, liveness_holds};
 use pcc_base::NoMemory;
 use std::alloc::Global;
 

@@ -13,8 +13,8 @@ use Rattle.flow_graph.proofs.Growth.{Grows, fits_op-grows, keeps-same}
 use Rattle.lower_lines.specs.Following.{Closes}
 use Rattle.lower_lines.specs.Lines.{Line, Start, Emit, emitted, graph_of_lines, open_after, ops_in, points_from}
 use Rattle.lower_lines.specs.Lines.{points_in, starts_in}
-use Rattle.lower_steps.proofs.Standing.{closes-parts, here-open, here_after, not-started, open-append}
-use Rattle.lower_steps.proofs.Standing.{open-started, ops-append, points-append, starts-append}
+use Rattle.lower_lines.proofs.Standing.{closes-parts, here-open, here_after, not-started, open-append}
+use Rattle.lower_lines.proofs.Standing.{open-started, ops-append, points-append, starts-append}
 use Rattle.lower_builder.specs.Graphs.{AllFit, AreClosed, CanFollow, graph_behind, last_behind}
 
 -- ---- lists

@@ -7,11 +7,11 @@ use Rattle.c_tree.specs.declared.statement.Label.{Label}
 use Rattle.flow_graph.specs.declared.op.Comparison.TheVariants.{Eq}
 use Rattle.flow_graph.specs.declared.op.Op.TheVariants as op
 use Rattle.lower_builder.specs.Built.{Built, Adds}
-use Rattle.lower_items.proofs.Resting.{Rests}
+use Rattle.lower_code.proofs.Resting.{Rests}
 use Rattle.lower_lines.specs.Lines.{Line, Emit, Start}
 use Rattle.lower_lines.specs.Statements.{Case, case_of, cases_of, comparing, comparing_blocks, labelled_before}
 use Rattle.lower_lines.specs.Variables.{Context, ForScratch, temporary}
-use Rattle.lower_fills.proofs.Chained.{behind}
+use Rattle.lower_leaves.proofs.Chained.{behind}
 
 -- one block for each case but the last
 pub behind-count : (cases : List Case) → length cases - 1 ≡ comparing_blocks cases

@@ -5,3 +5,4 @@ mod Comparisons
 pub mod Ordered
 mod Switched
 pub mod Whole
+pub mod Resting

@@ -6,13 +6,13 @@ use Rattle.c_tree.specs.Erased.{statement_of, statements_of}
 use Rattle.c_tree.specs.declared.statement.Statement.{Statement}
 use Rattle.lower_builder.specs.Built.{Built, Adds}
 use Rattle.lower_code.specs.Walks.{AddsIf}
-use Rattle.lower_items.proofs.Resting.{Rests}
+use Rattle.lower_code.proofs.Resting.{Rests}
 use Rattle.lower_lines.specs.Lines.{Line}
 use Rattle.lower_lines.specs.Statements.{After, Exits, Labelled, Run, run_of, runs_of, sequence_blocks, sequence_lines}
 use Rattle.lower_lines.specs.Statements.{started, towards}
 use Rattle.lower_lines.specs.Variables.{Context}
 use Rattle.lower_pieces.proofs.Joined.{counted, lined, nothing, two}
-use Rattle.lower_fills.proofs.Chained.{next-to}
+use Rattle.lower_leaves.proofs.Chained.{next-to}
 
 -- ---- the statements from a place on, behind others
 

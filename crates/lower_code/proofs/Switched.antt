@@ -9,7 +9,7 @@ use Rattle.c_tree.specs.Program as typed
 use Rattle.flow_graph.specs.declared.op.Op.TheVariants as op
 use Rattle.lower_builder.specs.Built.{Built, Adds}
 use Rattle.lower_code.specs.Walks.{AddsIf, has_start, switch_blocks, switch_front}
-use Rattle.lower_labels.specs.Starts.{starts_at}
+use Rattle.lower_loops.specs.Starts.{starts_at}
 use Rattle.lower_code.proofs.Alike.{alike}
 use Rattle.lower_code.proofs.Comparisons.{blocks-same}
 use Rattle.lower_code.proofs.Ordered.{runs}
@@ -23,7 +23,7 @@ use Rattle.lower_lines.specs.Statements.{labelled_from, opening, opening_blocks,
 use Rattle.lower_lines.specs.Statements.{sequence_lines, started, towards}
 use Rattle.lower_lines.specs.Variables.{Context}
 use Rattle.lower_pieces.proofs.Joined.{counted, lined, taken, two}
-use Rattle.lower_fills.proofs.Chained.{behind, next-to, same-next}
+use Rattle.lower_leaves.proofs.Chained.{behind, next-to, same-next}
 
 -- ---- up to the body
 

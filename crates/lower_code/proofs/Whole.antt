@@ -5,7 +5,7 @@ use Rattle.std.specs.Prelude.{Bool, if◌then◌else◌}
 use Rattle.c_tree.specs.Program.{Expression}
 use Rattle.flow_graph.specs.declared.op.Op.TheVariants as op
 use Rattle.lower_builder.specs.Built.{Built, Adds}
-use Rattle.lower_items.specs.Fronts.{if_front, tested_front}
+use Rattle.lower_code.specs.Fronts.{if_front, tested_front}
 use Rattle.lower_loops.specs.Fronts.{do_end, do_front}
 use Rattle.lower_lines.specs.Expressions.{test_blocks_of}
 use Rattle.lower_lines.specs.Lines.{Line, Start, Emit}
@@ -16,7 +16,7 @@ use Rattle.lower_lines.specs.Statements.{if_run, loop_lines, second_block, secon
 use Rattle.lower_lines.specs.Statements.{test_blocks_if_any, test_if_any}
 use Rattle.lower_lines.specs.Variables.{Context}
 use Rattle.lower_pieces.proofs.Joined.{counted, lined, two}
-use Rattle.lower_fills.proofs.Chained.{behind}
+use Rattle.lower_leaves.proofs.Chained.{behind}
 
 -- the start of the block behind a statement, by its number
 pub exit-same : (c : Context) (block : ℕ) (after : After) → exit_lines c (exit_of block after) after

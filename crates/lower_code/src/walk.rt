@@ -3,21 +3,20 @@
 ghost use Rattle.std.specs.Prelude.{◌≡◌, OnOk};
 ghost use Rattle.c_tree.specs.Erased.{statement_of, statements_of};
 ghost use Rattle.lower_code.specs.Walks.{AddsIf};
-ghost use Rattle.lower_labels.specs.Starts.{starts_at};
+ghost use Rattle.lower_loops.specs.Starts.{starts_at};
 ghost use Rattle.lower_lines.specs.Statements.{run_of, runs_of, sequence_blocks, sequence_lines};
 ghost use Rattle.lower_moves.specs.Sites.{context_of};
 ghost use Rattle.lower_runs.specs.Views.{after_of, exits_of};
 
 use crate::switches::{open_body, open_switch};
-use c_tree::Statement;
-use flow_graph::Op;
-use lower_builder::{Lines, plus};
-use lower_items::{
+use crate::{
     close_for, evaluated, go, is_nothing, item, open_for, open_if, open_while, return_value,
     start_second,
 };
-use lower_labels::{next_after, start_labelled};
-use lower_loops::{again, close_do, open_do};
+use c_tree::Statement;
+use flow_graph::Op;
+use lower_builder::{Lines, plus};
+use lower_loops::{again, close_do, next_after, open_do, start_labelled};
 use lower_moves::Site;
 use lower_runs::{After, Ahead, Exits, go_onward, start_exit};
 use pcc_base::NoMemory;

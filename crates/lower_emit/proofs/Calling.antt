@@ -17,7 +17,7 @@ use Rattle.lower_lines.specs.Parts.{Wanted, Part, operand}
 use Rattle.lower_lines.specs.Variables.{Context, Spot}
 use Rattle.lower_pieces.specs.Views.{AddsOperand, AddsPart}
 use Rattle.lower_pieces.proofs.Joined.{counted, lined, two}
-use Rattle.lower_operands.specs.Rows.{arguments_list, parameter_type, passed_as}
+use Rattle.lower_rows.specs.Rows.{arguments_list, parameter_type, passed_as}
 use Rattle.lower_emit.specs.Passing.{passed_from}
 use Rattle.lower_emit.proofs.Joining.{passed-there}
 

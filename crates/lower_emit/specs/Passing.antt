@@ -5,7 +5,7 @@ use Rattle.c_tree.specs.Program.{Local}
 use Rattle.lower_lines.specs.Expressions.{all_passed, parts_of}
 use Rattle.lower_lines.specs.Parts.{Part}
 use Rattle.lower_lines.specs.Variables.{Context}
-use Rattle.lower_operands.specs.Rows.{arguments_list}
+use Rattle.lower_rows.specs.Rows.{arguments_list}
 
 abbrev pub passed_from : Context → List Local → List built.Expression → ℕ → List Part
 passed_from c parameters arguments place =

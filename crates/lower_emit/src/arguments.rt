@@ -4,7 +4,7 @@ ghost use Rattle.std.specs.Prelude.{◌≡◌, slice_get};
 ghost use Rattle.c_tree.specs.Erased.{expression_of};
 ghost use Rattle.lower_lines.specs.Expressions.{all_simple, parameters_of, part_of};
 ghost use Rattle.lower_moves.specs.Sites.{context_of};
-ghost use Rattle.lower_operands.specs.Rows.{passed_as};
+ghost use Rattle.lower_rows.specs.Rows.{passed_as};
 ghost use Rattle.lower_emit.specs.Passing.{passed_from};
 
 use c_tree::{Expression, ValueType};

@@ -16,7 +16,7 @@ ghost use Rattle.lower_moves.specs.Views.{plain, wanted_of};
 ghost use Rattle.lower_pieces.specs.Views.{AddsOperand, AddsPart};
 ghost use Rattle.lower_rows.specs.Finding.{Finds};
 ghost use Rattle.lower_rows.specs.Ways.{ways_end};
-ghost use Rattle.lower_operands.specs.Rows.{arguments_list, number_op, passed_as};
+ghost use Rattle.lower_rows.specs.Rows.{arguments_list, number_op, passed_as};
 ghost use Rattle.lower_emit.specs.Operating.{operating, operating_blocks};
 
 use crate::arguments::all_simple;
@@ -25,15 +25,12 @@ use flow_graph::Words;
 use lower_builder::{Lines, plus};
 use lower_leaves::{constant, if_stays, local, local_operand, object, start};
 use lower_moves::{Site, Spot, Wanted, null_pointer};
-use lower_operands::{
-    NumberOp, byte_set, exit_with, getchar, load_old, narrow_made, number_made, put, renew, store,
-    stored,
-};
 use lower_pieces::{applied, end_truth};
 use lower_rows::{
-    Found, Ways, call_made, element_at, end_ways, is_simple, join, number_type, open_ways,
-    own_blocks, parameter_type, part_type, passed_type, push_words, read_found, set_local,
-    set_object, stands, start_joined, step_found,
+    Found, NumberOp, Ways, byte_set, call_made, element_at, end_ways, exit_with, getchar,
+    is_simple, join, load_old, narrow_made, number_made, number_type, open_ways, own_blocks,
+    parameter_type, part_type, passed_type, push_words, put, read_found, renew, set_local,
+    set_object, stands, start_joined, step_found, store, stored,
 };
 use pcc_base::NoMemory;
 

@@ -5,7 +5,7 @@ use Rattle.std.specs.Int.{w8, int_wrap}
 use Rattle.std.specs.List.{AllZip}
 use Rattle.std.specs.Prelude.{slice_get, slice_index_or, slice_set, IsSomeAnd}
 use Rattle.pcc_base.specs.Outcome.{Number}
-use Rattle.c_bounds.specs.Bounds.{state_of}
+use Rattle.c_eval_laws.specs.Bounds.{state_of}
 use Rattle.c_tree.specs.declared.types.IntegerType.{IntegerType}
 use Rattle.c_tree.specs.declared.types.IntegerType.TheVariants.{Char, Short, Int}
 use Rattle.c_tree.specs.declared.types.ValueType.{ValueType}
@@ -26,9 +26,9 @@ use Rattle.lower_lines.specs.Parts.{Wanted, Dropped, Own, ToLocal, Tests, Part, 
 use Rattle.lower_lines.specs.Relation.{IsOf, ShowCalls, Shows}
 use Rattle.lower_lines.specs.Shown.{first_variable}
 use Rattle.lower_lines.specs.Variables.{Spot, levels_of, local_spot, local_variables, typed_spot}
-use Rattle.lower_relation.proofs.Changes.{kept-by-change, kept-none, numbers-set}
-use Rattle.lower_relation.proofs.Locals.{length-slice_set}
-use Rattle.lower_steps.proofs.Steps.{one-step}
+use Rattle.lower_lines.proofs.Changes.{kept-by-change, kept-none, numbers-set}
+use Rattle.lower_lines.proofs.Locals.{length-slice_set}
+use Rattle.lower_lines.proofs.Steps.{one-step}
 use Rattle.lower_expressions.proofs.Atoms.{chars-lower}
 use Rattle.lower_expressions.proofs.Binary.{Fits, compound-lowers, turns-fall}
 use Rattle.lower_expressions.proofs.Converting.{as_type, begins-again, behind-number, behind-part, in_type-fits}

@@ -21,9 +21,9 @@ use Rattle.lower_lines.specs.Parts.{Wanted}
 use Rattle.lower_lines.specs.Relation.{HoldsAt, IsOf, Keeps}
 use Rattle.lower_lines.specs.Shown.{first_variable}
 use Rattle.lower_lines.specs.Variables.{Spot, levels_of, local_spot, typed_spot}
-use Rattle.lower_relation.proofs.Changes.{bytes-taken, kept-none, locals-held}
-use Rattle.lower_relation.proofs.Locals.{same-some}
-use Rattle.lower_steps.proofs.Steps.{const-step, getchar-end, getchar-step, one-step}
+use Rattle.lower_lines.proofs.Changes.{bytes-taken, kept-none, locals-held}
+use Rattle.lower_lines.proofs.Locals.{same-some}
+use Rattle.lower_lines.proofs.Steps.{const-step, getchar-end, getchar-step, one-step}
 use Rattle.lower_expressions.proofs.Made.{number-made}
 use Rattle.lower_expressions.specs.Laws.{CharsLower, ConstantsLower, GetcharLowers}
 

@@ -4,7 +4,7 @@ use Rattle.std.proofs.Common.{Option, Some, None, refl, sym, ap, ◌∙◌, subs
 use Rattle.std.proofs.Math.Nat.{le-max_right}
 use Rattle.std.specs.Prelude.{if◌then◌else◌}
 use Rattle.pcc_base.specs.Outcome.{End, Trapped}
-use Rattle.c_bounds.proofs.Agreeing.{trees_keep}
+use Rattle.c_eval_laws.proofs.Agreeing.{trees_keep}
 use Rattle.c_tree.specs.declared.expression.BinaryOp.{BinaryOp}
 use Rattle.c_tree.specs.declared.expression.BinaryOp.TheVariants.{Multiply, Divide, Remainder, Add, Subtract, ShiftLeft}
 use Rattle.c_tree.specs.declared.expression.BinaryOp.TheVariants.{ShiftRight, Less, Greater, LessOrEqual}
@@ -34,9 +34,9 @@ use Rattle.lower_lines.specs.Operators.{applied, branching, comparison_of, compu
 use Rattle.lower_lines.specs.Parts.{Wanted, Dropped, Own, ToLocal, Tests, Part, made, operand, target, tested}
 use Rattle.lower_lines.specs.Relation.{Shows}
 use Rattle.lower_lines.specs.Variables.{Spot, levels_of, local_variables}
-use Rattle.lower_relation.proofs.Changes.{kept-none}
-use Rattle.lower_relation.proofs.Locals.{same-some}
-use Rattle.lower_steps.proofs.Steps.{branch-step}
+use Rattle.lower_lines.proofs.Changes.{kept-none}
+use Rattle.lower_lines.proofs.Locals.{same-some}
+use Rattle.lower_lines.proofs.Steps.{branch-step}
 use Rattle.lower_expressions.proofs.Atoms.{with-older}
 use Rattle.lower_expressions.proofs.Going.{stand-back, stand-front}
 use Rattle.lower_expressions.proofs.Made.{number-made, start-stands}

@@ -5,8 +5,8 @@ use Rattle.std.proofs.Math.Nat.{le-max_left, le-max_right}
 use Rattle.std.specs.List.{AllZip}
 use Rattle.std.specs.Prelude.{slice_get}
 use Rattle.pcc_base.specs.Outcome.{Value, Number}
-use Rattle.c_bounds.specs.Bounds.{state_of}
-use Rattle.c_bounds.proofs.Agreeing.{trees_keep}
+use Rattle.c_eval_laws.specs.Bounds.{state_of}
+use Rattle.c_eval_laws.proofs.Agreeing.{trees_keep}
 use Rattle.c_tree.specs.declared.types.IntegerType.{IntegerType}
 use Rattle.c_tree.specs.declared.types.ValueType.{ValueType}
 use Rattle.c_tree.specs.declared.types.ValueType.TheVariants.{Void, Integer, Pointer}
@@ -27,8 +27,8 @@ use Rattle.lower_lines.specs.Lines.{Line, Emit}
 use Rattle.lower_lines.specs.Parts.{Wanted, Dropped, Own, ToLocal, Tests, Part, made, target, tested}
 use Rattle.lower_lines.specs.Relation.{IsOf, Keeps}
 use Rattle.lower_lines.specs.Variables.{levels_of, local_variables}
-use Rattle.lower_steps.proofs.Points.{ops-stand}
-use Rattle.lower_steps.proofs.Steps.{no-result-step, result-step}
+use Rattle.lower_lines.proofs.Points.{ops-stand}
+use Rattle.lower_lines.proofs.Steps.{no-result-step, result-step}
 use Rattle.lower_expressions.proofs.Binary.{Fits, compound-lowers}
 use Rattle.lower_expressions.proofs.Converting.{begins-again}
 use Rattle.lower_expressions.proofs.Going.{Goes, stand-back, stand-front}

@@ -1,5 +1,5 @@
 -- `?:` of any type, the unary `+` and a cast to void, whatever is wanted of them.
-use Rattle.c_bounds.specs.Bounds.{state_of}
+use Rattle.c_eval_laws.specs.Bounds.{state_of}
 use Rattle.c_tree.specs.Evaluation.{evaluate}
 use Rattle.c_tree.specs.Operators.{is_true, unary_value}
 use Rattle.c_tree.specs.Program.{Function, int}
@@ -29,8 +29,8 @@ use Rattle.lower_lines.specs.Following.{at_start, behind, context_of}
 use Rattle.lower_lines.specs.Lines.{Emit, Line, Start}
 use Rattle.lower_lines.specs.Parts.{Dropped, Own, Part, Tests, ToLocal, Wanted}
 use Rattle.lower_lines.specs.Variables.{levels_of, local_variables}
-use Rattle.lower_relation.proofs.Changes.{kept-none}
-use Rattle.lower_steps.proofs.Steps.{jump-step}
+use Rattle.lower_lines.proofs.Changes.{kept-none}
+use Rattle.lower_lines.proofs.Steps.{jump-step}
 use Rattle.std.proofs.Common.{Bool, List, [], append-nil, append_assoc, arith, false, max, refl, subst, suc, sym}
 use Rattle.std.proofs.Common.{true, ℕ, ◌++◌, ◌+◌, ◌∙◌, ◌∷◌, ◌≡◌, ◌≢◌, ◌≤◌}
 use Rattle.std.proofs.Math.Nat.{le-max_left, le-max_right}

@@ -4,7 +4,7 @@ use Rattle.std.proofs.Common.{refl, sym, ap, subst, arith, append-nil, append_as
 use Rattle.std.specs.List.{Contains}
 use Rattle.std.specs.Ordering.{int_eq}
 use Rattle.std.specs.Prelude.{if◌then◌else◌}
-use Rattle.c_bounds.specs.Bounds.{state_of}
+use Rattle.c_eval_laws.specs.Bounds.{state_of}
 use Rattle.c_tree.specs.declared.expression.UnaryOp.TheVariants.{Not}
 use Rattle.c_tree.specs.declared.types.IntegerType.TheVariants.{Int}
 use Rattle.c_tree.specs.declared.types.ValueType.{ValueType}
@@ -23,7 +23,7 @@ use Rattle.lower_lines.specs.Lines.{Line, Start, Emit, starts_in}
 use Rattle.lower_lines.specs.Parts.{Wanted, Dropped, Own, ToLocal, Tests, Part, target, truth}
 use Rattle.lower_lines.specs.Relation.{IsOf}
 use Rattle.lower_lines.specs.Variables.{levels_of, local_variables}
-use Rattle.lower_relation.proofs.Changes.{kept-none}
+use Rattle.lower_lines.proofs.Changes.{kept-none}
 use Rattle.lower_expressions.proofs.Binary.{Fits, compound-lowers, turns-fall}
 use Rattle.lower_expressions.proofs.Going.{Goes, stand-back, stand-front}
 use Rattle.lower_expressions.proofs.Leading.{IsTruth, IsValue, LeadsTo, choose-leads, follows-lead, leads-behind}

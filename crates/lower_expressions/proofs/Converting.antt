@@ -5,7 +5,7 @@ use Rattle.std.specs.Int.{w8, w16, int_wrap}
 use Rattle.std.specs.Prelude.{slice_get, IsSomeAnd}
 use Rattle.pcc_base.specs.Outcome.{Number}
 use Rattle.pcc_base.specs.declared.run.Width.TheVariants.{One}
-use Rattle.c_bounds.specs.Bounds.{state_of}
+use Rattle.c_eval_laws.specs.Bounds.{state_of}
 use Rattle.c_tree.specs.declared.types.IntegerType.{IntegerType}
 use Rattle.c_tree.specs.declared.types.IntegerType.TheVariants.{Char, Short, Int}
 use Rattle.c_tree.specs.declared.types.ValueType.{ValueType}
@@ -26,9 +26,9 @@ use Rattle.lower_lines.specs.Parts.{Wanted, Dropped, Own, ToLocal, Tests, Part, 
 use Rattle.lower_lines.specs.Parts.{operand}
 use Rattle.lower_lines.specs.Relation.{IsOf, Keeps, Shows}
 use Rattle.lower_lines.specs.Variables.{ForByte, Spot, levels_of, local_variables, temporary}
-use Rattle.lower_relation.proofs.Changes.{kept-by-change, kept-none, temporaries-free}
-use Rattle.lower_relation.proofs.Locals.{get-set_same}
-use Rattle.lower_steps.proofs.Steps.{one-step}
+use Rattle.lower_lines.proofs.Changes.{kept-by-change, kept-none, temporaries-free}
+use Rattle.lower_lines.proofs.Locals.{get-set_same}
+use Rattle.lower_lines.proofs.Steps.{one-step}
 use Rattle.lower_expressions.proofs.Binary.{Fits, compound-lowers, turns-fall, works-follow}
 use Rattle.lower_expressions.proofs.Going.{stand-back, stand-front}
 use Rattle.lower_expressions.proofs.Levels.{levels-one}

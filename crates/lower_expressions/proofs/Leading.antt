@@ -4,7 +4,7 @@ use Rattle.std.proofs.Common.{refl, sym, ap, ◌∙◌, subst, arith, append_ass
 use Rattle.std.specs.List.{Contains}
 use Rattle.std.specs.Prelude.{if◌then◌else◌}
 use Rattle.pcc_base.specs.Outcome.{Visit}
-use Rattle.c_bounds.specs.Bounds.{state_of}
+use Rattle.c_eval_laws.specs.Bounds.{state_of}
 use Rattle.c_tree.specs.declared.types.IntegerType.TheVariants.{Int}
 use Rattle.c_tree.specs.declared.types.ValueType.{ValueType}
 use Rattle.c_tree.specs.Evaluation.{truth_value}
@@ -20,9 +20,9 @@ use Rattle.lower_lines.specs.Lines.{Line, Start, Emit, starts_in}
 use Rattle.lower_lines.specs.Parts.{Wanted, Dropped, Own, ToLocal, Tests, target}
 use Rattle.lower_lines.specs.Relation.{Keeps, Shows}
 use Rattle.lower_lines.specs.Variables.{levels_of, local_variables}
-use Rattle.lower_relation.proofs.Changes.{kept-twice}
-use Rattle.lower_steps.proofs.Points.{starts-stand}
-use Rattle.lower_steps.proofs.Steps.{jump-step}
+use Rattle.lower_lines.proofs.Changes.{kept-twice}
+use Rattle.lower_lines.proofs.Points.{starts-stand}
+use Rattle.lower_lines.proofs.Steps.{jump-step}
 use Rattle.lower_expressions.proofs.Atoms.{constants-lower}
 use Rattle.lower_expressions.proofs.Converting.{begins-again, lowers-fit}
 use Rattle.lower_expressions.proofs.Going.{Goes, goes-end, goes-then, stand-back, stand-front}

@@ -4,7 +4,7 @@ use Rattle.std.proofs.Common.{max, refl, sym, ◌∙◌, subst, arith, append-ni
 use Rattle.std.proofs.Math.Nat.{le-max_left, le-max_right}
 use Rattle.std.specs.List.{Contains}
 use Rattle.std.specs.Prelude.{if◌then◌else◌}
-use Rattle.c_bounds.specs.Bounds.{state_of}
+use Rattle.c_eval_laws.specs.Bounds.{state_of}
 use Rattle.c_tree.specs.declared.types.ValueType.TheVariants.{Void}
 use Rattle.c_tree.specs.Evaluation.{evaluate, truth_value}
 use Rattle.c_tree.specs.Operators.{is_true}
@@ -21,8 +21,8 @@ use Rattle.lower_lines.specs.Lines.{Line, Start, Emit, starts_in}
 use Rattle.lower_lines.specs.Parts.{Wanted, Dropped, Own, ToLocal, Tests, Part}
 use Rattle.lower_lines.specs.Relation.{Shows}
 use Rattle.lower_lines.specs.Variables.{levels_of, local_variables}
-use Rattle.lower_relation.proofs.Changes.{kept-none}
-use Rattle.lower_steps.proofs.Steps.{jump-step}
+use Rattle.lower_lines.proofs.Changes.{kept-none}
+use Rattle.lower_lines.proofs.Steps.{jump-step}
 use Rattle.lower_expressions.proofs.Binary.{Fits, compound-lowers, turns-fall}
 use Rattle.lower_expressions.proofs.Going.{Goes, stand-back, stand-front}
 use Rattle.lower_expressions.proofs.Leading.{IsTruth, LeadsTo, choose-leads, follows-lead, leads-behind}

@@ -29,9 +29,9 @@ use Rattle.lower_lines.specs.Relation.{Keeps, ShowCalls, Shows}
 use Rattle.lower_lines.specs.Shown.{first_variable, local_widths, type_widths}
 use Rattle.lower_lines.specs.Variables.{Context, ForNumber, ForScratch, Spot, levels_of, levels_widths, local_spot}
 use Rattle.lower_lines.specs.Variables.{local_variables, own, temporary, typed_spot, variable_widths}
-use Rattle.lower_relation.proofs.Changes.{kept-by-change, kept-twice, numbers-set, temporaries-free}
-use Rattle.lower_relation.proofs.Locals.{get-set_other, get-set_same, local-within}
-use Rattle.lower_steps.proofs.Steps.{branch-step, const-step}
+use Rattle.lower_lines.proofs.Changes.{kept-by-change, kept-twice, numbers-set, temporaries-free}
+use Rattle.lower_lines.proofs.Locals.{get-set_other, get-set_same, local-within}
+use Rattle.lower_lines.proofs.Steps.{branch-step, const-step}
 use Rattle.lower_expressions.proofs.Going.{Goes, stand-back, stand-front}
 use Rattle.lower_expressions.proofs.Widths.{get-before, get-within, local-width, temporary-width}
 

@@ -19,7 +19,7 @@ use Rattle.lower_lines.specs.Parts.{Own, Part, operand, standing}
 use Rattle.lower_lines.specs.Relation.{HoldsAt, Keeps, Shows}
 use Rattle.lower_lines.specs.Shown.{first_variable}
 use Rattle.lower_lines.specs.Variables.{Spot, levels_of, local_spot, local_variables, own, typed_spot}
-use Rattle.lower_relation.proofs.Changes.{kept-none, locals-held}
+use Rattle.lower_lines.proofs.Changes.{kept-none, locals-held}
 use Rattle.lower_expressions.proofs.Atoms.{held-number}
 use Rattle.lower_expressions.proofs.Going.{Goes}
 use Rattle.lower_expressions.proofs.Made.{some-and}

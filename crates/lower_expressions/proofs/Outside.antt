@@ -20,8 +20,8 @@ use Rattle.lower_lines.specs.Lines.{Start, Emit}
 use Rattle.lower_lines.specs.Parts.{Dropped, Part, made, operand}
 use Rattle.lower_lines.specs.Relation.{Keeps}
 use Rattle.lower_lines.specs.Variables.{levels_of, local_variables}
-use Rattle.lower_relation.proofs.Changes.{bytes-written, kept-none}
-use Rattle.lower_steps.proofs.Steps.{exit-step, putchar-step}
+use Rattle.lower_lines.proofs.Changes.{bytes-written, kept-none}
+use Rattle.lower_lines.proofs.Steps.{exit-step, putchar-step}
 use Rattle.lower_expressions.proofs.Binary.{compound-lowers, trap-ends, turns-fall}
 use Rattle.lower_expressions.proofs.Converting.{behind-number, behind-part, lowers-fit}
 use Rattle.lower_expressions.proofs.Going.{stand-back, stand-front}

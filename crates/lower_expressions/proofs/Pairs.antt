@@ -5,7 +5,7 @@ use Rattle.std.proofs.Common.{Option, Some, None, refl, sym, ap, ◌∙◌, subs
 use Rattle.std.proofs.Math.Nat.{le-max_left, le-max_right}
 use Rattle.std.specs.Prelude.{slice_get}
 use Rattle.pcc_base.specs.Outcome.{Visit}
-use Rattle.c_bounds.specs.Bounds.{state_of}
+use Rattle.c_eval_laws.specs.Bounds.{state_of}
 use Rattle.c_tree.specs.declared.types.IntegerType.{IntegerType}
 use Rattle.c_tree.specs.declared.types.IntegerType.TheVariants.{Char, Short, Int}
 use Rattle.c_tree.specs.declared.types.ValueType.{ValueType}
@@ -23,8 +23,8 @@ use Rattle.lower_lines.specs.Parts.{Part, if_stays, operand, standing}
 use Rattle.lower_lines.specs.Relation.{HoldsAt, Keeps, Shows}
 use Rattle.lower_lines.specs.Shown.{first_variable, type_widths}
 use Rattle.lower_lines.specs.Variables.{Spot, levels_of, local_spot, local_variables, own, typed_spot}
-use Rattle.lower_relation.proofs.Changes.{kept-below, kept-twice, locals-held}
-use Rattle.lower_relation.proofs.Locals.{local-within}
+use Rattle.lower_lines.proofs.Changes.{kept-below, kept-twice, locals-held}
+use Rattle.lower_lines.proofs.Locals.{local-within}
 use Rattle.lower_expressions.proofs.Atoms.{held-number}
 use Rattle.lower_expressions.proofs.Going.{Goes, goes-end, goes-then, stand-back, stand-front}
 use Rattle.lower_expressions.proofs.Made.{some-and}

@@ -5,7 +5,7 @@ use Rattle.std.proofs.Math.Nat.{le-max_left, le-max_right}
 use Rattle.std.specs.List.{All, AllZip}
 use Rattle.std.specs.Prelude.{slice_get}
 use Rattle.pcc_base.specs.Outcome.{Value, Visit}
-use Rattle.c_bounds.specs.Bounds.{state_of}
+use Rattle.c_eval_laws.specs.Bounds.{state_of}
 use Rattle.c_tree.specs.declared.types.IntegerType.{IntegerType}
 use Rattle.c_tree.specs.declared.types.ValueType.{ValueType}
 use Rattle.c_tree.specs.declared.types.ValueType.TheVariants.{Void, Integer, Pointer}
@@ -25,7 +25,7 @@ use Rattle.lower_lines.specs.Lines.{Line}
 use Rattle.lower_lines.specs.Parts.{Part, if_stays, operand, standing}
 use Rattle.lower_lines.specs.Relation.{HoldsAt, IsOf, Keeps, Shows}
 use Rattle.lower_lines.specs.Variables.{Context, Spot, levels_of, local_variables}
-use Rattle.lower_relation.proofs.Changes.{kept-below, kept-none, kept-twice}
+use Rattle.lower_lines.proofs.Changes.{kept-below, kept-none, kept-twice}
 use Rattle.lower_expressions.proofs.Atoms.{with-older}
 use Rattle.lower_expressions.proofs.Binary.{turns-fall}
 use Rattle.lower_expressions.proofs.Converting.{begins-again}

@@ -28,9 +28,9 @@ use Rattle.lower_lines.specs.Relation.{HoldsAt, IsOf}
 use Rattle.lower_lines.specs.Shown.{first_variable, type_widths}
 use Rattle.lower_lines.specs.Variables.{ForScratch, copied, levels_of, local_spot, local_variables, temporary}
 use Rattle.lower_lines.specs.Variables.{typed_spot}
-use Rattle.lower_relation.proofs.Changes.{kept-by-change, kept-none, locals-held, temporaries-free}
-use Rattle.lower_relation.proofs.Locals.{get-set_other, get-set_same, local-within, same-some}
-use Rattle.lower_steps.proofs.Steps.{branch-step, const-step, copy-step}
+use Rattle.lower_lines.proofs.Changes.{kept-by-change, kept-none, locals-held, temporaries-free}
+use Rattle.lower_lines.proofs.Locals.{get-set_other, get-set_same, local-within, same-some}
+use Rattle.lower_lines.proofs.Steps.{branch-step, const-step, copy-step}
 use Rattle.lower_expressions.proofs.Atoms.{held-number, with-older}
 use Rattle.lower_expressions.proofs.Going.{Goes, stand-back, stand-front}
 use Rattle.lower_expressions.proofs.Made.{number-made, start-stands, variable-there}

@@ -7,7 +7,7 @@ use Rattle.std.specs.Ordering.{int_eq}
 use Rattle.std.specs.Prelude.{slice_get, if◌then◌else◌}
 use Rattle.pcc_base.specs.Outcome.{Number}
 use Rattle.pcc_base.specs.declared.run.Width.TheVariants.{Two}
-use Rattle.c_bounds.specs.Bounds.{state_of}
+use Rattle.c_eval_laws.specs.Bounds.{state_of}
 use Rattle.c_tree.specs.declared.expression.BinaryOp.{BinaryOp}
 use Rattle.c_tree.specs.declared.expression.StepOp.{StepOp}
 use Rattle.c_tree.specs.declared.expression.StepOp.TheVariants.{PreIncrement, PreDecrement, PostIncrement}
@@ -36,9 +36,9 @@ use Rattle.lower_lines.specs.Parts.{number_test, tested_blocks}
 use Rattle.lower_lines.specs.Relation.{IsOf, Shows}
 use Rattle.lower_lines.specs.Variables.{ForScratch, Spot, copied, levels_of, local_spot, local_variables, own}
 use Rattle.lower_lines.specs.Variables.{temporary}
-use Rattle.lower_relation.proofs.Changes.{kept-below, kept-by-change, kept-none, locals-held, temporaries-free}
-use Rattle.lower_relation.proofs.Locals.{get-set_other, get-set_same}
-use Rattle.lower_steps.proofs.Steps.{branch-step, const-step}
+use Rattle.lower_lines.proofs.Changes.{kept-below, kept-by-change, kept-none, locals-held, temporaries-free}
+use Rattle.lower_lines.proofs.Locals.{get-set_other, get-set_same}
+use Rattle.lower_lines.proofs.Steps.{branch-step, const-step}
 use Rattle.lower_expressions.proofs.Assigning.{assigned-lowers, assigning, local-lowers, local-of}
 use Rattle.lower_expressions.proofs.Atoms.{constants-lower}
 use Rattle.lower_expressions.proofs.Binary.{Fits, after_both, binary-lowers, compound-lowers, turns-fall}

@@ -26,8 +26,8 @@ use Rattle.lower_lines.specs.Lines.{Line, Emit}
 use Rattle.lower_lines.specs.Parts.{Wanted, Part, made, operand}
 use Rattle.lower_lines.specs.Relation.{IsOf, Keeps}
 use Rattle.lower_lines.specs.Variables.{Spot, levels_of, local_variables}
-use Rattle.lower_relation.proofs.Changes.{kept-none, kept-twice}
-use Rattle.lower_steps.proofs.Steps.{one-step}
+use Rattle.lower_lines.proofs.Changes.{kept-none, kept-twice}
+use Rattle.lower_lines.proofs.Steps.{one-step}
 use Rattle.lower_expressions.proofs.Atoms.{with-older}
 use Rattle.lower_expressions.proofs.Going.{Goes, goes-end, goes-then, stand-back, stand-front}
 use Rattle.lower_expressions.proofs.Levels.{levels-one}

@@ -9,7 +9,7 @@ use Rattle.lower_lines.specs.Shown.{first_variable, local_widths, type_widths}
 use Rattle.lower_lines.specs.Variables.{Context, Role, ForArray, ForNumber, ForOld, ForScratch, ForByte, level_widths}
 use Rattle.lower_lines.specs.Variables.{levels_of, levels_widths, local_variables, role_place, temporary}
 use Rattle.lower_lines.specs.Variables.{variable_widths}
-use Rattle.lower_relation.proofs.Locals.{same-some}
+use Rattle.lower_lines.proofs.Locals.{same-some}
 
 pub get-behind : {X : Type 0} (xs ys : List X) (k : ℕ) → slice_get (xs ++ ys) (length xs + k) ≡ slice_get ys k
 get-behind [] ys k = let e : 0 + k ≡ k = omega arith in ap (slice_get ys) e

@@ -32,9 +32,9 @@ use Rattle.lower_lines.specs.Operators.{computing}
 use Rattle.lower_lines.specs.Relation.{Keeps, Shows}
 use Rattle.lower_lines.specs.Variables.{ForByte, ForScratch, Spot, levels_of, local_variables}
 use Rattle.lower_lines.specs.Variables.{temporary}
-use Rattle.lower_relation.proofs.Changes.{kept-by-change, kept-none, temporaries-free}
-use Rattle.lower_relation.proofs.Locals.{get-set_other, get-set_same}
-use Rattle.lower_steps.proofs.Steps.{copy-step, divide-step, divide-traps, one-step, set-step, two-step}
+use Rattle.lower_lines.proofs.Changes.{kept-by-change, kept-none, temporaries-free}
+use Rattle.lower_lines.proofs.Locals.{get-set_other, get-set_same}
+use Rattle.lower_lines.proofs.Steps.{copy-step, divide-step, divide-traps, one-step, set-step, two-step}
 use Rattle.lower_expressions.proofs.Going.{Goes, stand-back, stand-front}
 use Rattle.lower_expressions.proofs.Made.{MayTake, variable-there}
 use Rattle.lower_expressions.proofs.Pairs.{IsPlaced, goes-both}

@@ -4,7 +4,7 @@ use Rattle.std.specs.Prelude.{length, map, take, slice_get, slice_index_or, Opti
 use Rattle.std.specs.Prelude.{IsSomeAnd}
 use Rattle.std.specs.List.{All, AllZip, Contains}
 use Rattle.pcc_base.specs.Outcome.{End, Listing, Outcome, Value, Visit, after_visits}
-use Rattle.c_bounds.specs.Bounds.{CallsKeep}
+use Rattle.c_eval_laws.specs.Bounds.{CallsKeep}
 use Rattle.c_tree.specs.declared.types.IntegerType.{IntegerType}
 use Rattle.c_tree.specs.declared.types.IntegerType.TheVariants.{Short, Int}
 use Rattle.c_tree.specs.declared.types.ValueType.{ValueType}

@@ -3,7 +3,7 @@
 use Rattle.std.specs.Prelude.{◌≡◌, ◌≤◌, ℕ, Bool, false, List, ◌++◌, [], ◌∷◌, slice_get, Some}
 use Rattle.std.specs.List.{All}
 use Rattle.pcc_base.specs.Outcome.{Listing}
-use Rattle.c_bounds.specs.Laws.{within}
+use Rattle.c_eval_laws.specs.Laws.{within}
 use Rattle.c_tree.specs.declared.types.ValueType.{ValueType}
 use Rattle.c_tree.specs.Evaluation.{call_within, evaluate, evaluate_all, execute, execute_from, locate, type_at}
 use Rattle.c_tree.specs.Program.{Arguments, Expression, Local, Function, Place, Program, Statement, Statements}

@@ -13,3 +13,5 @@ pub mod Following
 pub mod Words
 pub mod Laws
 pub mod Worked
+pub mod RelationLaws
+pub mod BoundsLaws

@@ -1,0 +1,11 @@
+pub mod Ways
+pub mod Laws
+pub mod CallsLaws
+pub mod VisitsLaws
+pub mod Flows
+pub mod Settled
+pub mod LiveLaws
+pub mod FitsLaws
+pub mod Declared
+pub mod SettledLaws
+pub mod Lowered

@@ -22,7 +22,7 @@ use Rattle.lower_moves.specs.Views.{plain}
 use Rattle.lower_pieces.specs.Views.{AddsOperand, AddsPart}
 use Rattle.lower_pieces.proofs.Joined.{counted, lined, operand-none, operand-none-spot, two}
 use Rattle.lower_rows.specs.Kinds.{number_type}
-use Rattle.lower_operands.specs.Rows.{applied_part}
+use Rattle.lower_rows.specs.Rows.{applied_part}
 use Rattle.lower_rows.proofs.Known.{local-of}
 
 -- lines that take no block, and lines behind them

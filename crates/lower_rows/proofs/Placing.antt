@@ -24,7 +24,7 @@ use Rattle.lower_moves.specs.declared.spot.Spot as memory
 use Rattle.lower_pieces.specs.Views.{AddsOperand, AddsPart}
 use Rattle.lower_pieces.proofs.Joined.{counted, lined, two}
 use Rattle.lower_rows.specs.Finding.{Finds, InLocal, InObject, AtElement}
-use Rattle.lower_operands.specs.Rows.{element_at, element_lines, renewing, stepping}
+use Rattle.lower_rows.specs.Rows.{element_at, element_lines, renewing, stepping}
 use Rattle.lower_rows.specs.declared.found.Found.TheVariants as found
 use Rattle.lower_rows.proofs.Known.{stands-known}
 use Rattle.lower_rows.proofs.Naming.{local-free, next-to}

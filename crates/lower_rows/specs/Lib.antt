@@ -1,3 +1,4 @@
 pub mod Kinds
 pub mod Finding
 pub mod Ways
+pub mod Rows

@@ -11,7 +11,7 @@ ghost use Rattle.lower_lines.specs.Parts.{made, target};
 ghost use Rattle.lower_moves.specs.Sites.{context_of};
 ghost use Rattle.lower_moves.specs.Spots.{spot_of};
 ghost use Rattle.lower_moves.specs.Views.{wanted_of};
-ghost use Rattle.lower_operands.specs.Rows.{parameter_type, passed_type};
+ghost use Rattle.lower_rows.specs.Rows.{parameter_type, passed_type};
 
 use c_tree::{IntegerType, Local, ValueType};
 use flow_graph::{Op, Words};

@@ -14,15 +14,15 @@ ghost use Rattle.lower_moves.specs.Sites.{context_of};
 ghost use Rattle.lower_moves.specs.Spots.{spot_of};
 ghost use Rattle.lower_moves.specs.Views.{plain, wanted_of};
 ghost use Rattle.lower_pieces.specs.Views.{AddsPart};
-ghost use Rattle.lower_operands.specs.Rows.{applied_part};
+ghost use Rattle.lower_rows.specs.Rows.{applied_part};
 ghost use Rattle.lower_rows.specs.Kinds.{value_in};
 
 use crate::kinds::number_type;
+use crate::{byte_set, narrow_made, put, stored};
 use c_tree::{BinaryOp, IntegerType, StepOp, ValueType};
 use lower_builder::{Lines, plus};
 use lower_leaves::{constant, local, local_operand, object};
 use lower_moves::{Site, Spot, Wanted, delivered};
-use lower_operands::{byte_set, narrow_made, put, stored};
 use lower_pieces::applied;
 use pcc_base::NoMemory;
 

@@ -13,17 +13,17 @@ ghost use Rattle.lower_moves.specs.Spots.{spot_of};
 ghost use Rattle.lower_moves.specs.Views.{wanted_of};
 ghost use Rattle.lower_pieces.specs.Views.{AddsPart};
 ghost use Rattle.lower_rows.specs.Finding.{Finds};
-ghost use Rattle.lower_operands.specs.Rows.{element_at, element_lines, stepping};
+ghost use Rattle.lower_rows.specs.Rows.{element_at, element_lines, stepping};
 
 use crate::found::Found;
 use crate::kinds::number_type;
 use crate::names::{step_local, step_object, step_op};
+use crate::{element_sum, load_old, loaded, renewed};
 use c_tree::{IntegerType, StepOp, ValueType};
 use flow_graph::Op;
 use lower_builder::{Lines, plus};
 use lower_leaves::{local, object};
 use lower_moves::{Site, Spot, Wanted, converted, delivered};
-use lower_operands::{element_sum, load_old, loaded, renewed};
 use pcc_base::NoMemory;
 
 /// The value of a place that was found.

@@ -16,15 +16,15 @@ use Rattle.flow_graph.specs.States.{flow_at, op_of}
 use Rattle.flow_graph.specs.WellFormed.{IsGraph}
 use Rattle.lower_lines.specs.Lowering.{first_statement}
 use Rattle.lower_lines.specs.Shown.{declared_before, local_widths}
-use Rattle.ia32_shows.specs.Paths.{IsAt}
-use Rattle.ia32_shows.specs.Placements.{Code, Placement, in_slots, placement_of, point_address}
-use Rattle.ia32_standing.specs.Laws.{MarksAreNops}
-use Rattle.ia32_places.specs.Places.{InSlot}
+use Rattle.ia32_rows.specs.Paths.{IsAt}
+use Rattle.ia32_rows.specs.Placements.{Code, Placement, in_slots, placement_of, point_address}
+use Rattle.ia32_programs.specs.StandingLaws.{MarksAreNops}
+use Rattle.ia32_regs.specs.Places.{InSlot}
 use Rattle.pcc_listing.specs.Maps.{MapFunction, MapPoint, Standing, points_of}
 use Rattle.pcc_listing.specs.Marks.{MarkAt, marks_from, marks_of}
-use Rattle.program_map.specs.Belongs.{IsCallOf, IsFunctionOf, IsMapOf, IsMarkOf, IsPointOf, arrays_at}
-use Rattle.program_map.specs.ProgramMap.{Homes, all_points, frame_bytes, function_over, functions_over, points_over}
-use Rattle.program_map.specs.ProgramMap.{standings_from, variables_before}
+use Rattle.map_laws.specs.Belongs.{IsCallOf, IsFunctionOf, IsMapOf, IsMarkOf, IsPointOf, arrays_at}
+use Rattle.map_laws.specs.ProgramMap.{Homes, all_points, frame_bytes, function_over, functions_over, points_over}
+use Rattle.map_laws.specs.ProgramMap.{standings_from, variables_before}
 use Rattle.map_laws.specs.Laws.{IsOverSlots, MapBelongs, map_in}
 use Rattle.map_laws.proofs.Blocks.{all-distinct, in-placed, placed-in}
 use Rattle.map_laws.proofs.Functions.{element-at, function-at, functions-many}

@@ -7,7 +7,7 @@ use Rattle.std.specs.Prelude.{◌⊎◌, flat_map, slice_get, slice_index_or}
 use Rattle.std.proofs.lemmas.Option.{same_Some}
 use Rattle.flow_graph.specs.Graphs.{Flow, IsDistinct, IsFlow, IsIn, IsPlaced, Stands, points_of}
 use Rattle.flow_graph.proofs.Points.{every-in}
-use Rattle.program_map.specs.ProgramMap.{all_points}
+use Rattle.map_laws.specs.ProgramMap.{all_points}
 
 -- ---- lists
 

@@ -7,9 +7,9 @@ use Rattle.std.proofs.lemmas.Option.{none-some, same_Some, slice_get_within}
 use Rattle.c_tree.specs.Program.{Function}
 use Rattle.flow_graph.specs.Graphs.{Flow, IsIn, IsPlaced}
 use Rattle.pcc_listing.specs.Maps.{Map, MapFunction, MapObject, MapPoint}
-use Rattle.program_map.specs.Belongs.{arrays_at, objects_at}
-use Rattle.program_map.specs.ProgramMap.{Homes, all_points, frame_bytes, function_over, functions_over, points_over}
-use Rattle.program_map.specs.ProgramMap.{program_map, variables_over}
+use Rattle.map_laws.specs.Belongs.{arrays_at, objects_at}
+use Rattle.map_laws.specs.ProgramMap.{Homes, all_points, frame_bytes, function_over, functions_over, points_over}
+use Rattle.map_laws.specs.ProgramMap.{program_map, variables_over}
 use Rattle.map_laws.specs.Laws.{MapBySameAddresses}
 use Rattle.map_laws.proofs.Blocks.{placed-in}
 use Rattle.map_laws.proofs.Points.{points-same}

@@ -8,3 +8,13 @@ pub mod Marking
 pub mod Belonging
 pub mod Rules
 pub mod Listing
+pub mod Among
+pub mod Between
+pub mod Found
+pub mod Memory
+pub mod Frames
+pub mod Arrays
+pub mod VisitsVariables
+pub mod Values
+pub mod Marks
+pub mod Visits

@@ -15,11 +15,11 @@ use Rattle.flow_graph.specs.declared.op.Op.TheVariants as op
 use Rattle.flow_graph.specs.Graphs.{Flow}
 use Rattle.lower_lines.specs.Lowering.{first_statement}
 use Rattle.lower_lines.specs.Shown.{IsPartOf, locals_at, numbers_of}
-use Rattle.ia32_shows.specs.Placements.{Placement, placement_of, point_address}
+use Rattle.ia32_rows.specs.Placements.{Placement, placement_of, point_address}
 use Rattle.pcc_listing.specs.Maps.{Map, MapFunction, MapPoint, MapVariable, Standing, points_of}
 use Rattle.pcc_listing.specs.Marks.{MarkAt, listed_by, locals_before, mark_at, marked, marks_from, marks_of, name_in}
 use Rattle.pcc_listing.specs.Marks.{part_named, part_of, variables_in, variables_of}
-use Rattle.program_map.specs.Belongs.{IsFunctionOf, IsPointOf, local_variables, temporary}
+use Rattle.map_laws.specs.Belongs.{IsFunctionOf, IsPointOf, local_variables, temporary}
 use Rattle.map_laws.specs.Laws.{MapListsLocals}
 use Rattle.map_laws.proofs.Functions.{element-at}
 use Rattle.map_laws.proofs.Marking.{all-both}

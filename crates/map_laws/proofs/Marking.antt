@@ -14,8 +14,8 @@ use Rattle.lower_lines.specs.Lowering as lowering
 use Rattle.lower_lines.specs.Lowering.{marks_in}
 use Rattle.pcc_listing.specs.Maps.{MapFunction, MapPoint, points_of}
 use Rattle.pcc_listing.specs.Marks.{MarkAt, mark_at, marks_from}
-use Rattle.program_map.specs.ProgramMap.{Homes, all_points, function_over, functions_over, op_points, points_over}
-use Rattle.program_map.specs.ProgramMap.{standings_from, variables_before}
+use Rattle.map_laws.specs.ProgramMap.{Homes, all_points, function_over, functions_over, op_points, points_over}
+use Rattle.map_laws.specs.ProgramMap.{standings_from, variables_before}
 use Rattle.map_laws.proofs.Blocks.{distinct-both, distinct-parts, every-from, in-back, in-either, in-front}
 
 -- ---- of a function

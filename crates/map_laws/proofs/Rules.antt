@@ -30,19 +30,19 @@ use Rattle.lower_lines.specs.Shown.{declared_before, local_widths}
 use Rattle.ia32_insn.specs.Items.{data_bytes, data_memory, data_start, object_addresses, round_up, stack_end}
 use Rattle.ia32_insn.specs.Items.{text_start}
 use Rattle.ia32_insn.specs.Items as items
-use Rattle.ia32_shows.specs.Paths.{IsAt}
-use Rattle.ia32_shows.specs.Placements.{Code, Placement, objects_of, point_address}
+use Rattle.ia32_rows.specs.Paths.{IsAt}
+use Rattle.ia32_rows.specs.Placements.{Code, Placement, objects_of, point_address}
 use Rattle.ia32_rows.specs.Rows.{IsSlot}
-use Rattle.ia32_keeps.specs.Supports.{AreArraysIn, IsArrayIn, size_of}
-use Rattle.ia32_keeps.proofs.Objects.{object-in}
-use Rattle.ia32_standing.specs.Laws.{PointsStand}
+use Rattle.ia32_programs.specs.Supports.{AreArraysIn, IsArrayIn, size_of}
+use Rattle.ia32_programs.proofs.Objects.{object-in}
+use Rattle.ia32_programs.specs.StandingLaws.{PointsStand}
 use Rattle.pcc_listing.specs.Maps.{AreElements, IsMap, IsMapArray, IsMapFunction, IsMapObject, IsMapOp, IsMapPoint}
 use Rattle.pcc_listing.specs.Maps.{IsMapVariable, IsStanding, Map, MapArray, MapFunction, MapObject, MapPoint}
 use Rattle.pcc_listing.specs.Maps.{MapVariable}
 use Rattle.pcc_listing.specs.Maps.{flow_of, points_of}
-use Rattle.program_map.specs.Belongs.{arrays_at, local_variables, objects_at, temporary, typed_variables}
-use Rattle.program_map.specs.ProgramMap.{Homes, all_points, frame_bytes, function_over, functions_over, points_over}
-use Rattle.program_map.specs.ProgramMap.{standings_from, variables_before, variables_over}
+use Rattle.map_laws.specs.Belongs.{arrays_at, local_variables, objects_at, temporary, typed_variables}
+use Rattle.map_laws.specs.ProgramMap.{Homes, all_points, frame_bytes, function_over, functions_over, points_over}
+use Rattle.map_laws.specs.ProgramMap.{standings_from, variables_before, variables_over}
 use Rattle.map_laws.specs.Laws.{IsNamedFunction, IsOverSlots, MapKeepsRules, map_in}
 use Rattle.map_laws.proofs.Belonging.{IsFunction, enough-slots, few-before, flow-is, graph-of}
 use Rattle.map_laws.proofs.Blocks.{all-distinct, placed-in}

@@ -8,12 +8,12 @@ use Rattle.std.proofs.lemmas.Option.{none-some}
 use Rattle.pcc_base.specs.declared.run.Width.{Width}
 use Rattle.pcc_base.specs.declared.run.Width.TheVariants.{One, Two}
 use Rattle.flow_graph.specs.Lives.{IsAscending}
-use Rattle.ia32_shows.specs.Placements.{Placement}
+use Rattle.ia32_rows.specs.Placements.{Placement}
 use Rattle.ia32_rows.specs.Rows.{AllApart, AreApart, IsSlot}
-use Rattle.ia32_places.specs.Places.{Place, InSlot}
+use Rattle.ia32_regs.specs.Places.{Place, InSlot}
 use Rattle.pcc_listing.specs.Maps.{IsStanding, MapVariable, Standing, TakesWidth}
-use Rattle.program_map.specs.Belongs.{AreDistinct}
-use Rattle.program_map.specs.ProgramMap.{standings_from}
+use Rattle.map_laws.specs.Belongs.{AreDistinct}
+use Rattle.map_laws.specs.ProgramMap.{standings_from}
 
 -- the variables count up
 pub variables-range : (k : ℕ) (slots : List ℕ) → map (λ (s : Standing). s.variable) (standings_from k slots)

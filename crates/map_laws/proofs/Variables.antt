@@ -20,8 +20,8 @@ use Rattle.flow_graph.specs.Graphs.{Flow}
 use Rattle.lower_lines.specs.Shown.{HasLocal, IsInteger, IsPartOf, IsPointer, local_widths, type_widths}
 use Rattle.pcc_listing.specs.Maps.{MapVariable, Named, NamesScalar, NamesArray, NamesIndex, Temporary}
 use Rattle.pcc_listing.specs.Marks.{begins_local, locals_before, name_in, part_named}
-use Rattle.program_map.specs.Belongs.{local_variables, temporary, typed_variables}
-use Rattle.program_map.specs.ProgramMap.{variables_over}
+use Rattle.map_laws.specs.Belongs.{local_variables, temporary, typed_variables}
+use Rattle.map_laws.specs.ProgramMap.{variables_over}
 
 abbrev pub width_of : MapVariable → Width
 width_of v = v.width

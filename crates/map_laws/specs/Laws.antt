@@ -8,13 +8,13 @@ use Rattle.c_tree.specs.WellTyped.{WellTyped}
 use Rattle.flow_graph.specs.Graphs.{Flow, IsPlaced}
 use Rattle.lower_lines.specs.Lowering.{HasObjects, HaveMarks, HaveShapes, MarksOnce}
 use Rattle.lower_lines.specs.Shown.{ListsLocals}
-use Rattle.ia32_shows.specs.Placements.{Code, in_slots, placement_of, point_address}
-use Rattle.ia32_keeps.specs.Supports.{AreSlots}
-use Rattle.ia32_standing.specs.Laws.{IsSelected}
+use Rattle.ia32_rows.specs.Placements.{Code, in_slots, placement_of, point_address}
+use Rattle.ia32_programs.specs.Supports.{AreSlots}
+use Rattle.ia32_programs.specs.StandingLaws.{IsSelected}
 use Rattle.pcc_listing.specs.Maps.{Map, IsMap}
 use Rattle.pcc_listing.specs.Marks.{listed}
-use Rattle.program_map.specs.Belongs.{IsMapOf}
-use Rattle.program_map.specs.ProgramMap.{Homes, frame_bytes, program_map}
+use Rattle.map_laws.specs.Belongs.{IsMapOf}
+use Rattle.map_laws.specs.ProgramMap.{Homes, frame_bytes, program_map}
 
 -- The code of a program's graphs, selected over slots: the graphs have the shapes of its functions and the marks of its
 -- statements, and each function has a slot for each of its variables and a place for each frame array.

@@ -1,1 +1,4 @@
 pub mod Laws
+pub mod Belongs
+pub mod ProgramMap
+pub mod VisitsLaws

@@ -21,7 +21,7 @@ use Rattle.flow_graph.specs.declared.op.Op.{Op}
 use Rattle.flow_graph.specs.declared.op.Op.TheVariants as op
 use Rattle.flow_graph.specs.Graphs.{Flow}
 use Rattle.ia32_emit.specs.Locations.{distance, slots_of}
-use Rattle.ia32_places.specs.Places.{InSlot}
+use Rattle.ia32_regs.specs.Places.{InSlot}
 use Rattle.lower_lines.specs.Shown.{local_widths, type_widths}
 use Rattle.pcc_listing.specs.Maps.{MapFunction, MapPoint, MapVariable, Standing}
 use Rattle.pcc_listing.specs.Lines.{ArrayLine, FunctionLine, Line, ObjectLine, array_lines, function_lines, numbered}
@@ -29,8 +29,8 @@ use Rattle.pcc_listing.specs.Lines.{object_lines, point_lines, variable_lines}
 use Rattle.pcc_listing.specs.Maps.{points_of}
 use Rattle.pcc_listing.specs.Views.{standing_of}
 use Rattle.pcc_listing.specs.declared.lines.Standing as stood
-use Rattle.program_map.specs.Belongs.{arrays_at, local_variables, objects_at, temporary, typed_variables}
-use Rattle.program_map.specs.ProgramMap.{Homes, function_over, op_points, points_over, standings_from, variables_before}
+use Rattle.map_laws.specs.Belongs.{arrays_at, local_variables, objects_at, temporary, typed_variables}
+use Rattle.map_laws.specs.ProgramMap.{Homes, function_over, op_points, points_over, standings_from, variables_before}
 use Rattle.map_laws.proofs.Variables.{locals-widths, width_of}
 use Rattle.map_lines.specs.Shown.{AreBelow, points_at}
 use Rattle.map_lines.proofs.Lists.{drop-there, numbered-both, one-put}

@@ -7,3 +7,5 @@ pub mod Solving
 pub mod Told
 pub mod Wanting
 pub mod Written
+pub mod Status
+pub mod EvalTold

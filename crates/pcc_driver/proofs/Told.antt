@@ -2,7 +2,7 @@
 use Rattle.std.proofs.Common.{◌≡◌, ℕ, List, subst}
 use Rattle.pcc_reports.specs.Outside.{SameFiles, Work}
 use Rattle.pcc_reports.specs.declared.report.Report.{Report}
-use Rattle.pcc_eval.specs.Evaluations.{EvalTold, SourcesTold}
+use Rattle.pcc_driver.specs.Evaluations.{EvalTold, SourcesTold}
 use Rattle.pcc_words.specs.Asked.{Eval}
 use Rattle.pcc_driver.specs.Answers.{CommandTold}
 

@@ -26,7 +26,7 @@ use Rattle.pcc_reports.specs.declared.report.Named.{Named}
 use Rattle.pcc_reports.specs.declared.report.Named.TheVariants.{Map, Image, Board}
 use Rattle.pcc_reports.specs.declared.report.Report.{Report}
 use Rattle.pcc_reports.specs.declared.report.Report.TheVariants as reports
-use Rattle.pcc_eval.specs.Evaluations.{EvalTold, SourcesTold}
+use Rattle.pcc_driver.specs.Evaluations.{EvalTold, SourcesTold}
 use Rattle.pcc_driver.specs.Headline.{IsCompiled}
 use Rattle.pcc_driver.specs.Solutions.{IsSolution}
 

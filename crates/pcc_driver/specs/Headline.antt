@@ -2,7 +2,7 @@
 use Rattle.std.specs.Prelude.{◌≡◌, ◌≢◌, ℕ, List, Some}
 use Rattle.c_tree.specs.Program.{Program}
 use Rattle.c_program.specs.Answers.{HaveTypedProgram}
-use Rattle.lower_settled.specs.Laws.{NothingLiveFirst}
+use Rattle.lower_programs.specs.SettledLaws.{NothingLiveFirst}
 use Rattle.pcc_headline.specs.Products.{IsImageOf}
 use Rattle.pcc_listing.specs.Lines.{map_text}
 use Rattle.pcc_listing.specs.Maps.{Map}

@@ -3,3 +3,4 @@ pub mod Headline
 pub mod Products
 pub mod Promises
 pub mod Solutions
+pub mod Evaluations

@@ -2,7 +2,7 @@
 use Rattle.std.specs.Prelude.{ℕ, List}
 use Rattle.c_tree.specs.Program.{Program}
 use Rattle.c_program.specs.Answers.{HaveTypedProgram}
-use Rattle.lower_settled.specs.Declared.{IsDeclaredFirst}
+use Rattle.lower_programs.specs.Declared.{IsDeclaredFirst}
 use Rattle.pcc_headline.specs.Products as compiled
 
 -- the texts of a map and an image for sources, whose program declares each local before it is named

@@ -6,7 +6,7 @@ use Rattle.ia32_insn.specs.State.{State}
 use Rattle.ia32_insn.specs.Runs.{Runs, no_visits}
 use Rattle.ia32_machine.specs.First.{First}
 use Rattle.c_program.specs.Answers.{Excess, Exceed}
-use Rattle.pcc_eval.specs.Evaluations.{EvalStatus}
+use Rattle.pcc_driver.specs.Evaluations.{EvalStatus}
 use Rattle.pcc_driver.specs.Answers.{IsNoImage}
 use Rattle.puzzle_texts.specs.Reading.{IsNoBoard}
 use Rattle.pcc_words.specs.Asked.{Command, Compile, Run, Eval, Solve, ManyFiles, Usage}

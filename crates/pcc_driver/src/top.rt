@@ -10,10 +10,10 @@ ghost use Rattle.pcc_words.specs.Words.{meaning};
 ghost use Rattle.pcc_reports.specs.declared.report.Report.{Report};
 
 use crate::compile::compile;
+use crate::eval;
 use crate::run::run;
 use crate::solve::solve;
 use pcc_base::NoMemory;
-use pcc_eval::eval;
 use pcc_outside::{FileStore, Sink, Source};
 use pcc_reports::{Report, finish, finish_wanting};
 use pcc_words::{Command, command_of};

@@ -4,14 +4,14 @@ use Rattle.pcc_base.specs.Outcome.{AreKnown}
 use Rattle.c_tree.specs.Program.{Program}
 use Rattle.c_tree.specs.Evaluation.{source_outcome}
 use Rattle.elf_image.specs.Layout.{Fits}
-use Rattle.image_start.specs.Begins.{parts_of_text}
+use Rattle.pcc_headline.specs.Begins.{parts_of_text}
 use Rattle.lower_lines.specs.Shown.{ListsLocals, variables_shown}
-use Rattle.lower_settled.specs.Lowered.{AreLowered}
-use Rattle.ia32_shows.specs.Follows.{IsRightCode, ShowsVisits}
-use Rattle.ia32_shows.specs.Placements.{Code, IsCode, objects_of}
+use Rattle.lower_programs.specs.Lowered.{AreLowered}
+use Rattle.ia32_rows.specs.Follows.{IsRightCode, ShowsVisits}
+use Rattle.ia32_rows.specs.Placements.{Code, IsCode, objects_of}
 use Rattle.pcc_listing.specs.Maps.{Map, IsMap}
 use Rattle.pcc_listing.specs.Marks.{listed, visits_of}
-use Rattle.program_map.specs.Belongs.{IsMapOf}
+use Rattle.map_laws.specs.Belongs.{IsMapOf}
 use Rattle.pcc_headline.specs.Products.{IsImageOf, image_of}
 
 -- What the passes make of a program: the graphs that it is lowered to; their code, which does what they do, in a

@@ -1,2 +1,3 @@
 pub mod Laws
 pub mod Products
+pub mod Begins

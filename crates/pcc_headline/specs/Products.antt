@@ -5,17 +5,17 @@ use Rattle.pcc_base.specs.Bytes.{AreBytes}
 use Rattle.pcc_base.specs.Outcome.{Outcome}
 use Rattle.c_tree.specs.Program.{Program}
 use Rattle.c_tree.specs.Evaluation.{source_outcome}
-use Rattle.lower_settled.specs.Lowered.{AreLowered}
+use Rattle.lower_programs.specs.Lowered.{AreLowered}
 use Rattle.elf_image.specs.Layout.{image_bytes}
-use Rattle.image_start.specs.Begins.{parts_of_text}
+use Rattle.pcc_headline.specs.Begins.{parts_of_text}
 use Rattle.ia32_insn.specs.State.{State}
 use Rattle.ia32_insn.specs.Runs.{Runs}
 use Rattle.ia32_machine.specs.First.{First}
-use Rattle.ia32_shows.specs.Placements.{Code, IsCode, objects_of}
+use Rattle.ia32_rows.specs.Placements.{Code, IsCode, objects_of}
 use Rattle.pcc_listing.specs.Lines.{map_text}
 use Rattle.pcc_listing.specs.Maps.{Map, IsMap}
 use Rattle.pcc_listing.specs.Marks.{visits_of, listed}
-use Rattle.program_map.specs.Belongs.{IsMapOf}
+use Rattle.map_laws.specs.Belongs.{IsMapOf}
 
 -- m steps of the image with these bytes have this outcome, with the visits that the map shows
 abbrev pub ImageOutcome : List ℕ → Map → List ℕ → ℕ → Outcome → Type 0

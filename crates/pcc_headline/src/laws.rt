@@ -2,7 +2,7 @@
 
 ghost use Rattle.pcc_headline.specs.Laws.{CompiledDoesAs};
 
-use image_start::text_begins;
+use crate::text_begins;
 
 /// Where the code of a program's graphs is right and the map is that of the code, the image of the code's text does
 /// what the program does, as the map shows it.

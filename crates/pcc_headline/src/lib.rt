@@ -1,10 +1,13 @@
-//! What a compiled program is worth: its image does what the program does, for every input and number of turns, as its
-//! map shows it.
+//! What a compiled program is worth: its image does what the program does, for every input and number of turns, as
+//! its map shows it.
 //!
-//! No code: `specs/Products.antt` says what an image and a map of a program are, and a law puts together what each pass
-//! promises.
+//! No code: `specs/Products.antt` says what an image and a map of a program are, and a law puts together what each
+//! pass promises. `start` has the first state of the image of a text (`specs/Begins.antt`): what the linker lays
+//! out is what the machine begins with.
 #![tactic(auto)]
 
 mod laws;
+mod start;
 
 pub use laws::compiled_does_as;
+pub use start::{image_loads_text, text_begins};

@@ -5,7 +5,7 @@ use Rattle.std.specs.List.{All, AllByRecursion}
 use Rattle.flow_graph.specs.declared.op.Op.{Op}
 use Rattle.flow_graph.specs.declared.op.Op.TheVariants as op
 use Rattle.pcc_base.specs.Names.{IsName}
-use Rattle.ia32_places.specs.Places.{IsPlace}
+use Rattle.ia32_regs.specs.Places.{IsPlace}
 use Rattle.pcc_listing.specs.Maps.{IsNamed, IsNumber, Standing}
 use Rattle.pcc_listing.specs.Lines.{Line, ObjectLine, FunctionLine, ArrayLine, VariableLine, PointLine, BeforeLine}
 

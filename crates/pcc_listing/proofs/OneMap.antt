@@ -13,7 +13,7 @@ use Rattle.pcc_base.specs.declared.run.Width.{Width}
 use Rattle.pcc_base.specs.declared.run.Width.TheVariants.{One, Two}
 use Rattle.pcc_listing.proofs.LineRules.{AreLines, IsAnyNumber, IsLine, IsOpText, IsStandingText}
 use Rattle.pcc_listing.proofs.OneText.{text-one}
-use Rattle.ia32_places.specs.Places.{IsPlace, Place, InWord, InByte, InSlot}
+use Rattle.ia32_regs.specs.Places.{IsPlace, Place, InWord, InByte, InSlot}
 use Rattle.pcc_listing.specs.Maps.{Map, MapObject, MapFunction, MapArray, MapVariable, MapPoint, Standing, IsMap}
 use Rattle.pcc_listing.specs.Maps.{IsMapFunction, IsMapPoint, IsListed, IsMapObject, IsMapArray, IsMapVariable, IsMapOp}
 use Rattle.pcc_listing.specs.Maps.{IsNumber, IsStanding, Named, flow_of, points_of}

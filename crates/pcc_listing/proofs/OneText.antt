@@ -8,7 +8,7 @@ use Rattle.pcc_base.specs.declared.run.Width.{Width}
 use Rattle.pcc_base.specs.declared.run.Width.TheVariants.{One, Two}
 use Rattle.flow_graph.specs.declared.op.Op.{Op}
 use Rattle.flow_graph.specs.declared.op.Op.TheVariants as op
-use Rattle.ia32_places.specs.Places.{Place}
+use Rattle.ia32_regs.specs.Places.{Place}
 use Rattle.pcc_listing.specs.Maps.{Standing, Named, IsNumber}
 use Rattle.pcc_base.specs.Names.{IsDigit, IsNameByte}
 use Rattle.pcc_listing.specs.Lines.{Line, ObjectLine, FunctionLine, ArrayLine, VariableLine, PointLine, BeforeLine}

@@ -8,7 +8,7 @@ use Rattle.ia32_regs.specs.declared.names.Reg32.TheVariants.{Eax, Ecx, Edx, Ebx,
 use Rattle.ia32_regs.specs.declared.names.Reg8.{Reg8}
 use Rattle.ia32_regs.specs.declared.names.Reg8.TheVariants.{Al, Cl, Dl, Bl, Ah, Ch, Dh, Bh}
 use Rattle.pcc_listing.specs.Lines.{register_text, byte_text, place_text}
-use Rattle.ia32_places.specs.Places.{Place, InWord, InByte, InSlot, IsPlace}
+use Rattle.ia32_regs.specs.Places.{Place, InWord, InByte, InSlot, IsPlace}
 use Rattle.pcc_listing.proofs.Fields.{fixed-one, number-at}
 
 -- the register whose name ends in these two bytes

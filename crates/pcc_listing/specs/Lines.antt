@@ -15,7 +15,7 @@ use Rattle.flow_graph.specs.declared.op.Comparison.{Comparison}
 use Rattle.flow_graph.specs.declared.op.Comparison.TheVariants.{Eq, Ne, Lt, Le, Gt, Ge}
 use Rattle.flow_graph.specs.declared.op.Op.{Op}
 use Rattle.flow_graph.specs.declared.op.Op.TheVariants as op
-use Rattle.ia32_places.specs.Places.{Place, InWord, InByte, InSlot}
+use Rattle.ia32_regs.specs.Places.{Place, InWord, InByte, InSlot}
 use Rattle.pcc_listing.specs.Maps.{Map, MapObject, MapFunction, MapArray, MapVariable, MapPoint, Standing, Named}
 use Rattle.pcc_listing.specs.Maps.{NamesScalar, NamesArray, NamesIndex, Temporary, points_of}
 

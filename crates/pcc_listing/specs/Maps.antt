@@ -6,7 +6,7 @@ use Rattle.std.specs.List.{All}
 use Rattle.pcc_base.specs.Names.{IsName}
 use Rattle.pcc_base.specs.declared.run.Width.{Width}
 use Rattle.pcc_base.specs.declared.run.Width.TheVariants.{One, Two}
-use Rattle.ia32_places.specs.Places.{Place, InWord, InByte, InSlot, IsPlace}
+use Rattle.ia32_regs.specs.Places.{Place, InWord, InByte, InSlot, IsPlace}
 use Rattle.flow_graph.specs.declared.op.Op.{Op}
 use Rattle.flow_graph.specs.declared.op.Op.TheVariants as op
 use Rattle.flow_graph.specs.Graphs.{Flow, FitsOp, IsDistinct}

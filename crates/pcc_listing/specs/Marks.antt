@@ -13,7 +13,7 @@ use Rattle.ia32_regs.specs.declared.names.Reg32.TheVariants.{Ebp}
 use Rattle.ia32_insn.specs.State.{State, Area, has_bytes}
 use Rattle.flow_graph.specs.declared.op.Op.{Op}
 use Rattle.flow_graph.specs.declared.op.Op.TheVariants.{Mark}
-use Rattle.ia32_places.specs.Places.{Place, InWord, InByte, InSlot}
+use Rattle.ia32_regs.specs.Places.{Place, InWord, InByte, InSlot}
 use Rattle.pcc_listing.specs.Maps.{Map, MapFunction, MapVariable, MapPoint, Standing, Named, NamesScalar, NamesArray}
 use Rattle.pcc_listing.specs.Maps.{NamesIndex, Temporary, points_of}
 

@@ -1,7 +1,7 @@
 -- Which line each line in memory is.
 use Rattle.std.specs.Prelude.{map}
 use Rattle.flow_graph.specs.declared.op.Op.TheVariants as op
-use Rattle.ia32_places.specs.Places.{InSlot}
+use Rattle.ia32_regs.specs.Places.{InSlot}
 use Rattle.pcc_listing.specs.Maps as maps
 use Rattle.pcc_listing.specs.Maps.{NamesScalar, NamesArray, NamesIndex}
 use Rattle.pcc_listing.specs.Lines.{Line, ObjectLine, FunctionLine, ArrayLine, VariableLine, PointLine, BeforeLine}

@@ -9,7 +9,7 @@ use Rattle.ia32_regs.specs.declared.names.Reg8.TheVariants.{Ch}
 use Rattle.ia32_insn.specs.State.{State}
 use Rattle.flow_graph.specs.declared.op.Op.TheVariants.{Call, Mark}
 use Rattle.pcc_base.specs.declared.run.Width.{Width}
-use Rattle.ia32_places.specs.Places.{Place, InWord, InByte, InSlot}
+use Rattle.ia32_regs.specs.Places.{Place, InWord, InByte, InSlot}
 use Rattle.pcc_listing.specs.Maps.{Map, MapPoint, MapVariable, Standing, Named, NamesScalar, NamesArray, NamesIndex}
 use Rattle.pcc_listing.specs.Maps.{Temporary}
 

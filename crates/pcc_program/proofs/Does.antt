@@ -18,24 +18,24 @@ use Rattle.ia32_frames.specs.declared.frame.Frame.{Frame}
 use Rattle.ia32_frames.specs.Frames.{frame_bytes, frame_placement}
 use Rattle.ia32_frames.specs.Laws.{FramesHaveSlots, FramesSupport, OffsetsAreBelow}
 use Rattle.ia32_insn.specs.Items.{data_bytes}
-use Rattle.ia32_keeps.specs.Supports.{AreSlots}
+use Rattle.ia32_programs.specs.Supports.{AreSlots}
 use Rattle.ia32_programs.specs.Right.{ProgramsAreRight}
-use Rattle.ia32_shows.specs.Placements.{Code, in_slots, no_placement, objects_of, placement_of, point_address}
+use Rattle.ia32_rows.specs.Placements.{Code, in_slots, no_placement, objects_of, placement_of, point_address}
 use Rattle.ia32_sizes.specs.Sizes.{SelectedIsCode}
-use Rattle.ia32_standing.specs.Laws.{IsSelected}
-use Rattle.image_start.specs.Begins.{parts_of_text}
-use Rattle.lower_visits.specs.Laws.{VisitsAreKnown}
+use Rattle.ia32_programs.specs.StandingLaws.{IsSelected}
+use Rattle.pcc_headline.specs.Begins.{parts_of_text}
+use Rattle.lower_programs.specs.VisitsLaws.{VisitsAreKnown}
 use Rattle.map_laws.specs.Laws.{IsOverSlots, MapBelongs, MapBySameAddresses, MapKeepsRules, MapListsLocals, map_in}
 use Rattle.map_lines.specs.Shown.{address_in, homes_of}
-use Rattle.map_visits.specs.Laws.{MapShowsVisits}
+use Rattle.map_laws.specs.VisitsLaws.{MapShowsVisits}
 use Rattle.pcc_headline.specs.Laws.{CompiledDoesAs, IsCompiled}
 use Rattle.pcc_headline.specs.Products.{IsImageOf, image_of}
 use Rattle.pcc_listing.specs.Maps.{Map}
 use Rattle.pcc_listing.specs.Marks.{listed}
-use Rattle.program_code.specs.Code.{HasFrame, HaveFrames, IsFramedCode, framed_items}
-use Rattle.program_code.specs.Laws.{FramedIsSelected, GraphsHaveFrames}
-use Rattle.program_code.proofs.Data.{length-data}
-use Rattle.program_map.specs.ProgramMap.{Homes, program_map}
+use Rattle.pcc_program.specs.Code.{HasFrame, HaveFrames, IsFramedCode, framed_items}
+use Rattle.pcc_program.specs.CodeLaws.{FramedIsSelected, GraphsHaveFrames}
+use Rattle.pcc_program.proofs.Data.{length-data}
+use Rattle.map_laws.specs.ProgramMap.{Homes, program_map}
 use Rattle.pcc_program.specs.Laws.{AreLinked, linked_map}
 use Rattle.pcc_program.proofs.Mapped.{frame-at, has-slots, placement-is}
 use Rattle.pcc_program.proofs.Placed.{framed, length-mapped, linked_code, objects-small, point-entry, same-objects}

@@ -6,3 +6,6 @@ mod Numbered
 mod Passed
 mod Placed
 mod Shows
+pub mod Data
+pub mod Framed
+mod Frames

@@ -17,7 +17,7 @@ use Rattle.elf_addresses.specs.Parts.{CanHold, IsThere, function_of, order_of, s
 use Rattle.elf_link.specs.Linking.{AreSections, CanLink, FitsIn}
 use Rattle.elf_link.proofs.Placing.{follow_inside}
 use Rattle.ia32_sizes.specs.Sizes.{NamesThere, most_bytes}
-use Rattle.program_code.specs.Code.{framed_items}
+use Rattle.pcc_program.specs.Code.{framed_items}
 use Rattle.pcc_program.specs.Passes.{AreSectionsFrom, IsSectionOf}
 
 -- ---- what a section names

@@ -10,10 +10,10 @@ use Rattle.ia32_frames.specs.declared.frame.Frame.{Frame}
 use Rattle.ia32_frames.specs.Frames.{frame_arrays, frame_bytes, frame_placement, frame_slots, offset_of}
 use Rattle.ia32_frames.specs.Frames.{slot_at}
 use Rattle.ia32_frames.specs.Laws.{FramesHaveSlots, OffsetsAreBelow}
-use Rattle.ia32_keeps.specs.Supports.{AreSlots}
-use Rattle.ia32_shows.specs.Placements.{in_slots}
+use Rattle.ia32_programs.specs.Supports.{AreSlots}
+use Rattle.ia32_rows.specs.Placements.{in_slots}
 use Rattle.map_lines.specs.Shown.{AreBelow, homes_of}
-use Rattle.program_map.specs.ProgramMap.{Homes}
+use Rattle.map_laws.specs.ProgramMap.{Homes}
 use Rattle.pcc_program.specs.Passes.{IsFrameOf}
 
 -- the frame of a graph that has these homes

@@ -17,11 +17,11 @@ use Rattle.ia32_frames.specs.Frames.{frame_bytes, frame_placement}
 use Rattle.ia32_frames.specs.Laws.{FramesSupport}
 use Rattle.ia32_insn.specs.declared.item.Item.{Item}
 use Rattle.ia32_sizes.specs.Sizes.{SelectedIsCode}
-use Rattle.lower_settled.specs.Lowered.{AreLowered}
+use Rattle.lower_programs.specs.Lowered.{AreLowered}
 use Rattle.map_lines.specs.Shown.{CanShowAll, address_in, homes_of}
-use Rattle.program_map.specs.ProgramMap.{program_map}
-use Rattle.program_code.specs.Code.{HasFrame, HaveFrames, framed_items}
-use Rattle.program_code.proofs.Data.{length-data}
+use Rattle.map_laws.specs.ProgramMap.{program_map}
+use Rattle.pcc_program.specs.Code.{HasFrame, HaveFrames, framed_items}
+use Rattle.pcc_program.proofs.Data.{length-data}
 use Rattle.pcc_program.specs.Laws.{AreLinked}
 use Rattle.pcc_program.specs.Passes.{AreSectionsFrom, IsFrameOf}
 use Rattle.pcc_program.specs.Programs.{IsCompilable}

@@ -21,8 +21,8 @@ use Rattle.ia32_frames.specs.Frames.{frame_placement}
 use Rattle.ia32_insn.specs.declared.item.Item.TheVariants as item
 use Rattle.ia32_insn.specs.Items.{IsText, Places, elements_size}
 use Rattle.ia32_asm.specs.Sections.{Stands}
-use Rattle.ia32_shows.specs.Placements.{Code, address_in, point_address}
-use Rattle.program_code.specs.Code.{IsFramedCode, framed_items}
+use Rattle.ia32_rows.specs.Placements.{Code, address_in, point_address}
+use Rattle.pcc_program.specs.Code.{IsFramedCode, framed_items}
 
 -- ---- objects
 

@@ -17,7 +17,7 @@ use Rattle.ia32_asm.specs.declared.section.Section.{Section}
 use Rattle.ia32_frames.specs.declared.frame.Frame.{Frame}
 use Rattle.ia32_frames.specs.Frames.{frame_arrays, frame_bytes, frame_placement, frame_slots, offset_of}
 use Rattle.ia32_insn.specs.Items.{Object, data_start, elements_size, object_addresses}
-use Rattle.ia32_keeps.specs.Supports.{AreSlots}
+use Rattle.ia32_programs.specs.Supports.{AreSlots}
 use Rattle.ia32_rows.specs.Rows.{IsSlot}
 use Rattle.lower_lines.specs.Lowering.{array_of, first_statement}
 use Rattle.map_lines.specs.Shown.{AreBelow, CanShow, CanShowAll}

@@ -11,12 +11,12 @@ use Rattle.elf_link.specs.Linking.{IsLinked}
 use Rattle.flow_graph.specs.States.{GraphProgram}
 use Rattle.ia32_asm.specs.declared.section.Section.{Section}
 use Rattle.ia32_frames.specs.declared.frame.Frame.{Frame}
-use Rattle.lower_settled.specs.Lowered.{AreLowered}
+use Rattle.lower_programs.specs.Lowered.{AreLowered}
 use Rattle.map_lines.specs.Shown.{CanShowAll, address_in, homes_of}
 use Rattle.pcc_headline.specs.Products.{IsImageOf}
 use Rattle.pcc_listing.specs.Maps.{Map}
-use Rattle.program_code.specs.Code.{framed_items}
-use Rattle.program_map.specs.ProgramMap.{program_map}
+use Rattle.pcc_program.specs.Code.{framed_items}
+use Rattle.map_laws.specs.ProgramMap.{program_map}
 use Rattle.pcc_program.specs.Passes.{AreSectionsFrom, IsFrameOf}
 use Rattle.pcc_program.specs.Programs.{IsCompilable}
 

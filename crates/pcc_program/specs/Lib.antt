@@ -1,3 +1,5 @@
 pub mod Laws
 pub mod Passes
 pub mod Programs
+pub mod Code
+pub mod CodeLaws

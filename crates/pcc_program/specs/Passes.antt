@@ -6,7 +6,7 @@ use Rattle.ia32_asm.specs.Sections.{IsSection}
 use Rattle.ia32_frames.specs.declared.frame.Frame.{Frame}
 use Rattle.ia32_frames.specs.Frames.{frame_arrays, frame_bytes, frame_slots, offset_of}
 use Rattle.ia32_sizes.specs.Sizes.{most_bytes}
-use Rattle.program_code.specs.Code.{framed_items}
+use Rattle.pcc_program.specs.Code.{framed_items}
 
 -- the frame of a graph, as the code holds it: offsets from EBP
 pub record IsFrameOf (flow : Flow) (frame : Frame) : Type 0 where

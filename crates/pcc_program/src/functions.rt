@@ -4,7 +4,7 @@ ghost use Rattle.std.specs.Prelude.{ℕ, ◌≡◌, ◌<◌, ◌≤◌, ◌+◌,
 ghost use Rattle.std.specs.List.{All, AllZip};
 ghost use Rattle.ia32_frames.specs.Frames.{frame_bytes};
 ghost use Rattle.ia32_sizes.specs.Sizes.{most_bytes};
-ghost use Rattle.program_code.specs.Code.{HasFrame};
+ghost use Rattle.pcc_program.specs.Code.{HasFrame};
 ghost use Rattle.pcc_program.specs.Passes.{AreSectionsFrom, IsFrameOf, IsSectionOf};
 
 use flow_graph::Graph;

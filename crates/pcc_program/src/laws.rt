@@ -2,14 +2,15 @@
 
 ghost use Rattle.pcc_program.specs.Laws.{LinkedCanShow, LinkedDoesAs};
 
+use crate::{framed_is_selected, graphs_have_frames};
 use ia32_frames::{frames_support, offsets_are_below};
 use ia32_programs::programs_are_right;
 use ia32_sizes::selected_is_code;
-use lower_visits::visits_are_known;
-use map_laws::{map_belongs, map_by_same_addresses, map_keeps_rules, map_lists_locals};
-use map_visits::visits_are_shown;
+use lower_programs::visits_are_known;
+use map_laws::{
+    map_belongs, map_by_same_addresses, map_keeps_rules, map_lists_locals, visits_are_shown,
+};
 use pcc_headline::compiled_does_as;
-use program_code::{framed_is_selected, graphs_have_frames};
 
 /// What was linked of a program has a map whose lines can be made, and its image does what the program does, as this
 /// map shows it.

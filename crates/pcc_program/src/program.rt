@@ -6,6 +6,7 @@ ghost use Rattle.pcc_headline.specs.Products.{AreProducts};
 ghost use Rattle.pcc_program.specs.Programs.{IsCompilable};
 
 use crate::functions::{frames_of, sections_of};
+use crate::graphs_have_frames;
 use crate::laws::linked_does_as;
 use crate::ranges::are_bytes;
 use c_tree::Program;
@@ -17,7 +18,6 @@ use lower::lower;
 use map_lines::map_lines;
 use map_text::print_lines;
 use pcc_base::NoMemory;
-use program_code::graphs_have_frames;
 use std::alloc::Global;
 
 /// What is made of a program: the text of its map, and the bytes of its image.

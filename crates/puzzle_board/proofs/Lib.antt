@@ -8,3 +8,7 @@ pub mod Fronts
 pub mod Spans
 pub mod Calls
 pub mod Sides
+pub mod Changes
+pub mod Necessary
+pub mod Prices
+pub mod Totals

@@ -5,3 +5,5 @@ pub mod Worked
 pub mod Classes
 pub mod Stored
 pub mod Places
+pub mod Bounds
+pub mod Worth

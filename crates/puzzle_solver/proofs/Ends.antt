@@ -13,8 +13,8 @@ use Rattle.puzzle_board.specs.declared.piece.State.TheVariants.{Unplaced, At, Re
 use Rattle.puzzle_board.specs.Boards.{IsBoard, Puzzle, free_areas, is_piece, pieces_of, remaining, remaining_in}
 use Rattle.puzzle_board.specs.Boards.{same_letter, same_width, standing, standing_in, unplaced, unplaced_in}
 use Rattle.puzzle_board.specs.Placements.{IsSolvable, clear_all}
-use Rattle.puzzle_bounds.specs.Bounds.{IsBounded, counts_of}
-use Rattle.puzzle_bounds.proofs.Necessary.{solvable_is_bounded}
+use Rattle.puzzle_board.specs.Bounds.{IsBounded, counts_of}
+use Rattle.puzzle_board.proofs.Necessary.{solvable_is_bounded}
 use Rattle.puzzle_solver.specs.declared.counts.AreaCounts.{AreaCounts}
 use Rattle.puzzle_solver.specs.declared.counts.PieceCounts.{PieceCounts}
 use Rattle.puzzle_solver.specs.Columns.{IsWaiting}

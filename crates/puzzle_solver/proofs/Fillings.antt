@@ -11,8 +11,8 @@ use Rattle.puzzle_board.specs.declared.piece.Kind.{Kind}
 use Rattle.puzzle_board.specs.declared.piece.Kind.TheVariants.{X, Y, Z}
 use Rattle.puzzle_board.specs.Areas.{place_of_kind, same_kind}
 use Rattle.puzzle_board.specs.Boards.{IsAreaOf, Puzzle, area_count, free_areas, piece_count, same_letter, same_width}
-use Rattle.puzzle_bounds.specs.Worth.{after_wide, both_price, lower_price, upper_price, worth}
-use Rattle.puzzle_bounds.proofs.Changes.{worth-wide}
+use Rattle.puzzle_board.specs.Worth.{after_wide, both_price, lower_price, upper_price, worth}
+use Rattle.puzzle_board.proofs.Changes.{worth-wide}
 use Rattle.puzzle_solver.specs.Filling.{Filled, IsFilled, left_by, one}
 use Rattle.puzzle_solver.specs.Solved.{IsFirstPlaced}
 use Rattle.puzzle_solver.proofs.Onward.{onward-more, onward-none}

@@ -5,3 +5,5 @@ pub mod Ready
 pub mod RoomWorths
 pub mod Rooms
 pub mod Worths
+pub mod Spilling
+pub mod Orders

@@ -11,7 +11,7 @@ use Rattle.puzzle_board.specs.Boards.{IsPlaceable, IsUnplacedOf, Puzzle, free_ar
 use Rattle.puzzle_board.specs.Boards.{same_width, with_spot}
 use Rattle.puzzle_board.specs.Placements.{clear_at, fits_at}
 use Rattle.puzzle_board.proofs.Standings.{clear_all-placed}
-use Rattle.puzzle_bounds.proofs.Changes.{pieces_of-placed}
+use Rattle.puzzle_board.proofs.Changes.{pieces_of-placed}
 use Rattle.puzzle_solver.specs.Solved.{IsFirstPlaced, IsOnward, is_removed}
 
 pub onward-none : (board : Puzzle) → IsOnward board board

@@ -3,7 +3,7 @@ use Rattle.std.proofs.Common.{arith}
 use Rattle.puzzle_board.specs.declared.area.AreaKind.TheVariants.{E, U1, L1, U0, L0}
 use Rattle.puzzle_board.specs.declared.piece.Kind.TheVariants.{X, Y, Z}
 use Rattle.puzzle_board.specs.Boards.{Puzzle}
-use Rattle.puzzle_bounds.specs.Bounds.{IsBounded}
+use Rattle.puzzle_board.specs.Bounds.{IsBounded}
 use Rattle.puzzle_solver.specs.declared.counts.AreaCounts.{AreaCounts}
 use Rattle.puzzle_solver.specs.declared.counts.PieceCounts.{PieceCounts}
 use Rattle.puzzle_solver.specs.declared.wide.Plan.{Plan}

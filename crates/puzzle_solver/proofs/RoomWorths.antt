@@ -9,8 +9,8 @@ use Rattle.puzzle_board.specs.declared.area.Column.{Column}
 use Rattle.puzzle_board.specs.declared.piece.Kind.{Kind}
 use Rattle.puzzle_board.specs.declared.piece.Kind.TheVariants.{X, Y, Z}
 use Rattle.puzzle_board.specs.Areas.{fits_column, kind_of}
-use Rattle.puzzle_bounds.specs.Worth.{both_price, lower_price, upper_price, worth}
-use Rattle.puzzle_bounds.proofs.Prices.{all_columns, all_columns-at, all_letters, all_letters-at}
+use Rattle.puzzle_board.specs.Worth.{both_price, lower_price, upper_price, worth}
+use Rattle.puzzle_board.proofs.Prices.{all_columns, all_columns-at, all_letters, all_letters-at}
 use Rattle.puzzle_board.specs.Boards.{Puzzle, free_areas, standing}
 use Rattle.puzzle_board.proofs.Kept.{length-clear_all}
 use Rattle.puzzle_solver.specs.Columns.{IsRoom, IsWaiting, columns, columns_from, room}

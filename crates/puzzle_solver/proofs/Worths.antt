@@ -7,9 +7,9 @@ use Rattle.puzzle_board.specs.declared.area.AreaKind.TheVariants.{E, U1, L1, C, 
 use Rattle.puzzle_board.specs.declared.area.AreaKind.TheVariants.{LowerNone, Full}
 use Rattle.puzzle_board.specs.Areas.{kind_of}
 use Rattle.puzzle_board.specs.Boards.{Puzzle, free_areas}
-use Rattle.puzzle_bounds.specs.Bounds.{both_of, lower_of, upper_of}
-use Rattle.puzzle_bounds.specs.Worth.{both_price, lower_price, upper_price, worth}
-use Rattle.puzzle_bounds.proofs.Prices.{worth-total}
+use Rattle.puzzle_board.specs.Bounds.{both_of, lower_of, upper_of}
+use Rattle.puzzle_board.specs.Worth.{both_price, lower_price, upper_price, worth}
+use Rattle.puzzle_board.proofs.Prices.{worth-total}
 use Rattle.puzzle_solver.specs.declared.counts.AreaCounts.{AreaCounts}
 use Rattle.puzzle_solver.specs.declared.counts.PieceCounts.{PieceCounts}
 use Rattle.puzzle_solver.specs.Counting.{AreasAre, numbers}

@@ -5,8 +5,8 @@ use Rattle.puzzle_board.specs.declared.area.AreaKind.TheVariants.{E, U1, L1, C, 
 use Rattle.puzzle_board.specs.declared.area.AreaKind.TheVariants.{LowerNone}
 use Rattle.puzzle_board.specs.declared.piece.Kind.TheVariants.{X, Y, Z}
 use Rattle.puzzle_board.specs.Boards.{Puzzle, area_count, free_areas, piece_count, unplaced}
-use Rattle.puzzle_bounds.specs.Bounds.{Counts, both_of, counts_of, lower_of, upper_of}
-use Rattle.puzzle_bounds.specs.Worth.{both_price, lower_price, upper_price, worth}
+use Rattle.puzzle_board.specs.Bounds.{Counts, both_of, counts_of, lower_of, upper_of}
+use Rattle.puzzle_board.specs.Worth.{both_price, lower_price, upper_price, worth}
 use Rattle.puzzle_solver.specs.declared.counts.AreaCounts.{AreaCounts}
 use Rattle.puzzle_solver.specs.declared.counts.PieceCounts.{PieceCounts}
 use Rattle.puzzle_solver.specs.declared.wide.Plan.{Plan}

@@ -8,7 +8,7 @@ use Rattle.puzzle_board.specs.declared.piece.Kind.{Kind}
 use Rattle.puzzle_board.specs.declared.piece.Kind.TheVariants.{X, Y, Z}
 use Rattle.puzzle_board.specs.Areas.{same_kind}
 use Rattle.puzzle_board.specs.Boards.{Puzzle, area_count, free_areas, piece_count, same_letter, same_width}
-use Rattle.puzzle_bounds.specs.Worth.{after_wide, both_price, lower_price, upper_price, worth}
+use Rattle.puzzle_board.specs.Worth.{after_wide, both_price, lower_price, upper_price, worth}
 use Rattle.puzzle_solver.specs.Solved.{IsOnward}
 
 -- the kind of area that a piece of width Two leaves

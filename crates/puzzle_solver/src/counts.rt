@@ -1,5 +1,5 @@
 ghost use Rattle.std.specs.Prelude.{◌≡◌, ◌+◌, ◌*◌, ◌↔◌, IsTrue};
-ghost use Rattle.puzzle_bounds.specs.Bounds.{IsBounded};
+ghost use Rattle.puzzle_board.specs.Bounds.{IsBounded};
 ghost use Rattle.puzzle_solver.specs.Counting.{AreasAre, KeepsCells, KeepsColumns, KeepsWide, PiecesAre, numbers};
 
 use pcc_base::{Steps, Width};

@@ -1,8 +1,8 @@
 ghost use Rattle.std.specs.Prelude.{◌≡◌, ◌+◌, ◌*◌, ◌≤◌, IsSome};
 ghost use Rattle.pcc_base.specs.declared.run.Width.TheVariants.{Two};
 ghost use Rattle.puzzle_board.specs.Boards.{area_count, piece_count};
-ghost use Rattle.puzzle_bounds.specs.Worth.{after_wide};
-ghost use Rattle.puzzle_bounds.specs.Bounds.{IsBounded};
+ghost use Rattle.puzzle_board.specs.Worth.{after_wide};
+ghost use Rattle.puzzle_board.specs.Bounds.{IsBounded};
 ghost use Rattle.puzzle_solver.specs.Solved.{IsOnward};
 ghost use Rattle.puzzle_solver.specs.Counting.{AreasAre, IsPlan, IsReady, PiecesAre, numbers};
 ghost use Rattle.puzzle_solver.specs.Filling.{Filled, IsFilled, left_by};

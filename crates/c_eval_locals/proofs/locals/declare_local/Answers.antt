@@ -3,7 +3,7 @@ use Rattle.c_store.specs.Kept.{over}
 use Rattle.c_tree.specs.Erased.{boxed_of}
 use Rattle.c_tree.specs.Store.{Gives, visited, with_local, zero_of}
 use Rattle.c_tree.specs.Evaluation.{type_at}
-use Rattle.c_tasks.specs.Steps.{Configuration, first_value, go_on}
+use Rattle.c_eval_laws.specs.Steps.{Configuration, first_value, go_on}
 use Rattle.c_eval.specs.Left.{left_of}
 use Rattle.c_eval_locals.proofs.Declaring.{local_declared}
 use Rattle.c_eval_locals.proofs.locals.declare_local.Goals as goal

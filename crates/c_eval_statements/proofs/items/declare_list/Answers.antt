@@ -2,8 +2,8 @@ use Rattle.std.proofs.Common.{rules, ◌≡◌, ◌∙◌, ◌∷◌, ap, map}
 use Rattle.c_store.specs.Kept.{over}
 use Rattle.c_tree.specs.Erased.{expression_of}
 use Rattle.c_tree.specs.Store.{Gives, visited}
-use Rattle.c_tasks.specs.Steps.{Configuration, go_on}
-use Rattle.c_tasks.specs.Tasks.{Fills}
+use Rattle.c_eval_laws.specs.Steps.{Configuration, go_on}
+use Rattle.c_eval_laws.specs.Tasks.{Fills}
 use Rattle.c_eval.specs.Left.{left_of}
 use Rattle.c_eval_statements.proofs.Declaring.{array_declared}
 use Rattle.c_eval_statements.proofs.items.declare_list.Goals as goal

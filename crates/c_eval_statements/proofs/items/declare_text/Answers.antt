@@ -1,7 +1,7 @@
 use Rattle.std.proofs.Common.{rules, ◌≡◌, ◌∙◌, ap}
 use Rattle.c_store.specs.Kept.{over}
 use Rattle.c_tree.specs.Store.{Gives, visited}
-use Rattle.c_tasks.specs.Steps.{Configuration, go_on}
+use Rattle.c_eval_laws.specs.Steps.{Configuration, go_on}
 use Rattle.c_eval.specs.Left.{left_of}
 use Rattle.c_eval_statements.proofs.Declaring.{text_declared}
 use Rattle.c_eval_statements.proofs.items.declare_text.Goals as goal

@@ -2,7 +2,7 @@ use Rattle.std.proofs.Common.{rules, ◌≡◌, ◌∙◌, ap}
 use Rattle.c_store.specs.Kept.{over}
 use Rattle.c_tree.specs.Erased.{function_of}
 use Rattle.c_tree.specs.Store.{Gives}
-use Rattle.c_tasks.specs.Steps.{Configuration, go_on}
+use Rattle.c_eval_laws.specs.Steps.{Configuration, go_on}
 use Rattle.c_eval.specs.Left.{left_of}
 use Rattle.c_eval_statements.specs.Passing.{values_returned}
 use Rattle.c_eval_statements.proofs.Passed.{return_passed}

@@ -2,8 +2,8 @@ use Rattle.std.proofs.Common.{◌≢◌, ◌∙◌, ap, rules, arith}
 use Rattle.std.proofs.lemmas.Result.{err_from_is_err_and}
 use Rattle.c_eval.specs.Left.{left_of}
 use Rattle.c_eval.specs.Views.{task_of}
-use Rattle.c_tasks.specs.Steps.{Configuration}
-use Rattle.c_tasks.specs.Tasks.{Ahead, top}
+use Rattle.c_eval_laws.specs.Steps.{Configuration}
+use Rattle.c_eval_laws.specs.Tasks.{Ahead, top}
 use Rattle.c_tree.specs.Erased.{program_of}
 use Rattle.c_tree.specs.Evaluation.{low_byte}
 use Rattle.c_tree.specs.Store.{Held}

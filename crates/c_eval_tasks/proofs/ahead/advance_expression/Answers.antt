@@ -2,7 +2,7 @@ use Rattle.std.proofs.Common.{Some, None}
 use Rattle.std.proofs.lemmas.Result.{err_from_is_err_and}
 use Rattle.c_eval.specs.Changes.{doing}
 use Rattle.c_eval.specs.Left.{left_of}
-use Rattle.c_tasks.specs.Tasks.{Evaluates}
+use Rattle.c_eval_laws.specs.Tasks.{Evaluates}
 use Rattle.c_tree.specs.Erased.{expression_of, program_of}
 use Rattle.c_eval_tasks.specs.AtOnce.{Shortened}
 use Rattle.c_eval_tasks.specs.Standing.{before_task, standing, streams_of}

@@ -5,7 +5,7 @@ use Rattle.c_tree.specs.Erased.{expression_of, item_of, program_of}
 use Rattle.c_tree.specs.Evaluation.{first_state}
 use Rattle.c_tree.specs.Program.{Expression}
 use Rattle.c_tree.specs.Store.{State}
-use Rattle.c_tasks.specs.Tasks.{Evaluates}
+use Rattle.c_eval_laws.specs.Tasks.{Evaluates}
 use Rattle.c_eval.specs.Changes.{TakenApart, doing}
 use Rattle.c_eval.specs.Left.{left_of}
 use Rattle.c_eval.specs.Views.{arguments_from, task_of}

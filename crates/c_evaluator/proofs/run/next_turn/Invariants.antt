@@ -1,5 +1,5 @@
 use Rattle.c_tree.specs.Erased.{program_of}
-use Rattle.c_tasks.specs.Weights.{weights}
+use Rattle.c_eval_laws.specs.Weights.{weights}
 use Rattle.c_eval.specs.Left.{left_of}
 use Rattle.c_eval_tasks.specs.Standing.{standing}
 use Rattle.c_eval_tasks.proofs.Walking.{Walks}

@@ -3,7 +3,7 @@ use Rattle.std.proofs.Common.{◌≡◌, ℕ, List, sym, subst}
 use Rattle.std.proofs.lemmas.Result.{IfOk-weaker}
 use Rattle.flow_graph.specs.Graphs.{Flow}
 use Rattle.flow_graph.specs.WellFormed.{IsGraph}
-use Rattle.ia32_shows.specs.Placements.{Placement, in_slots}
+use Rattle.ia32_rows.specs.Placements.{Placement, in_slots}
 use Rattle.ia32_rows.specs.Rows.{selected}
 use Rattle.ia32_emit.specs.Locations.{slots_of}
 use Rattle.ia32_sizes.specs.Sizes.{IsCodeIn}

@@ -1,6 +1,6 @@
 -- The comparisons from here on.
 use Rattle.std.proofs.Common.{◌-◌, ◌<◌, drop, length}
-use Rattle.lower_items.proofs.Resting.{Rests}
+use Rattle.lower_code.proofs.Resting.{Rests}
 use Rattle.lower_lines.specs.Statements.{comparing}
 use Rattle.lower_moves.specs.Sites.{context_of}
 use Rattle.lower_code.proofs.switches.compare_some.Given as goal

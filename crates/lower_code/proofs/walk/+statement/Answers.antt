@@ -6,11 +6,11 @@ use Rattle.c_tree.specs.Program as typed
 use Rattle.c_tree.specs.declared.statement.Statement.{Statement}
 use Rattle.c_tree.specs.declared.statement.Statement.TheViews.{the_lemmas}
 use Rattle.lower_code.specs.Walks.{AddsIf}
-use Rattle.lower_labels.specs.Starts.{starts_at}
+use Rattle.lower_loops.specs.Starts.{starts_at}
 use Rattle.lower_code.proofs.Arms.{do-arm, for-arm, if-none-arm, if-some-arm, since, while-arm}
 use Rattle.lower_code.proofs.Switched.{switch-none, switch-some}
 use Rattle.lower_code.proofs.Ordered.{row-first, row-more, row-none}
-use Rattle.lower_items.proofs.Resting.{statements_are}
+use Rattle.lower_code.proofs.Resting.{statements_are}
 use Rattle.lower_lines.specs.Statements.{run_of}
 use Rattle.lower_moves.specs.Sites.{context_of}
 use Rattle.lower_runs.specs.Views.{after_of, exits_of}

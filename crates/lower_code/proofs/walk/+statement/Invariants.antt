@@ -1,6 +1,6 @@
 -- The lines of the statements from here on.
 use Rattle.std.proofs.Common.{◌-◌, drop, length}
-use Rattle.lower_labels.specs.Starts.{starts_at}
+use Rattle.lower_loops.specs.Starts.{starts_at}
 use Rattle.lower_code.proofs.Ordered.{RestsIf, rest_blocks, rest_lines, runs}
 use Rattle.lower_lines.specs.Statements.{sequence_blocks, sequence_lines}
 use Rattle.lower_moves.specs.Sites.{context_of}

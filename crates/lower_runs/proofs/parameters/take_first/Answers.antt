@@ -1,7 +1,7 @@
 use Rattle.std.proofs.Common.{◌∙◌, ◌+◌, ap}
 use Rattle.lower_moves.specs.Sites.{context_of}
 use Rattle.lower_runs.proofs.Words.{stepped}
-use Rattle.lower_fills.proofs.Chained.{same-next}
+use Rattle.lower_leaves.proofs.Chained.{same-next}
 use Rattle.lower_runs.proofs.parameters.take_first.Goals as goal
 
 pub locals-preserved : goal.locals-preserved

@@ -10,7 +10,7 @@ use Rattle.map_laws.proofs.Blocks.{placed-at}
 use Rattle.map_lines.specs.Shown.{body_declares, points_at, variables_at}
 use Rattle.pcc_listing.specs.Lines.{point_lines}
 use Rattle.pcc_listing.specs.Views.{line_of}
-use Rattle.program_map.specs.ProgramMap.{points_over}
+use Rattle.map_laws.specs.ProgramMap.{points_over}
 use Rattle.map_lines.proofs.Counting.{flags-many}
 use Rattle.map_lines.proofs.Lines.{points-put}
 use Rattle.map_lines.proofs.Showing.{mark-within, shown-few, shown-is}

@@ -3,8 +3,8 @@ use Rattle.std.proofs.Common.{refl}
 use Rattle.c_tree.specs.Program.{Program}
 use Rattle.c_tree.specs.Evaluation.{source_outcome}
 use Rattle.ia32_insn.specs.Items.{text_state}
-use Rattle.image_start.specs.Begins.{TextBegins}
-use Rattle.ia32_shows.specs.Placements.{Code, objects_of}
+use Rattle.pcc_headline.specs.Begins.{TextBegins}
+use Rattle.ia32_rows.specs.Placements.{Code, objects_of}
 use Rattle.lower_lines.specs.Shown.{variables_shown}
 use Rattle.pcc_listing.specs.Maps.{Map}
 use Rattle.pcc_listing.specs.Marks.{listed, visits_of}

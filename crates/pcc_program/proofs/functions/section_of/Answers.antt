@@ -5,8 +5,8 @@ use Rattle.ia32_insn.specs.declared.item.Item.{Item}
 use Rattle.ia32_emit.specs.Locations.{slots_of}
 use Rattle.ia32_frames.specs.Frames.{frame_arrays, frame_bytes, frame_slots}
 use Rattle.ia32_rows.specs.Rows.{selected}
-use Rattle.ia32_shows.specs.Placements.{in_slots}
-use Rattle.program_code.specs.Code.{framed_items}
+use Rattle.ia32_rows.specs.Placements.{in_slots}
+use Rattle.pcc_program.specs.Code.{framed_items}
 use Rattle.pcc_program.proofs.Mapped.{arrays-are, slots-are}
 use Rattle.pcc_program.proofs.functions.section_of.Goals as goal
 

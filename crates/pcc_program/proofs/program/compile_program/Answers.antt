@@ -8,10 +8,10 @@ use Rattle.flow_graph.specs.Graphs.{Flow}
 use Rattle.ia32_frames.specs.Frames.{frame_bytes}
 use Rattle.ia32_sizes.specs.Sizes.{most_bytes}
 use Rattle.lower.specs.Graphs.{graphs_of}
-use Rattle.lower_settled.specs.Lowered.{AreLowered}
+use Rattle.lower_programs.specs.Lowered.{AreLowered}
 use Rattle.pcc_headline.specs.Products.{IsImageOf}
 use Rattle.pcc_listing.specs.Lines.{lines_of, lines_text}
-use Rattle.program_code.specs.Code.{HasFrame}
+use Rattle.pcc_program.specs.Code.{HasFrame}
 use Rattle.pcc_program.specs.Laws.{linked_map}
 use Rattle.pcc_program.specs.Passes.{AreSectionsFrom, IsFrameOf}
 use Rattle.pcc_program.proofs.Passed.{image-fits, linked-are, links, map-same, shows-same, small-frames}

@@ -1,5 +1,5 @@
 use Rattle.puzzle_board.specs.Boards.{free_areas}
-use Rattle.puzzle_bounds.proofs.Changes.{wide-fits}
+use Rattle.puzzle_board.proofs.Changes.{wide-fits}
 use Rattle.puzzle_solver.specs.Filling.{left_by}
 use Rattle.puzzle_solver.proofs.Fillings.{filled-one, left-is}
 use Rattle.puzzle_solver.proofs.wide.fill_one.Goals as goal

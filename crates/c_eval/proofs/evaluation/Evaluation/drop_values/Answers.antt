@@ -2,8 +2,8 @@ use Rattle.std.proofs.Common.{rules, ◌≡◌, ◌∙◌, ◌-◌, List, ap, le
 use Rattle.c_store.specs.Values.{held_of}
 use Rattle.c_store.specs.declared.value.Value.{Value}
 use Rattle.c_tree.specs.Store.{Held}
-use Rattle.c_tasks.specs.Steps.{Configuration}
-use Rattle.c_tasks.specs.Tasks.{below_by}
+use Rattle.c_eval_laws.specs.Steps.{Configuration}
+use Rattle.c_eval_laws.specs.Tasks.{below_by}
 use Rattle.c_eval.specs.Left.{left_of}
 use Rattle.c_eval.specs.Views.{stack_of}
 use Rattle.c_eval.proofs.Stacking.{values_below}

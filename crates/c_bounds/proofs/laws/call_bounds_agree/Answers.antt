@@ -1,5 +1,0 @@
-use Rattle.c_bounds.proofs.Calls.{call_bounds_agree}
-use Rattle.c_bounds.proofs.laws.call_bounds_agree.Goals as goal
-
-pub returns : goal.returns
-returns c = call_bounds_agree

@@ -1,2 +1,0 @@
-pub mod Outlining
-pub mod Making

@@ -1,2 +1,0 @@
-mod GivenValues
-mod Pushes

@@ -1,4 +1,0 @@
-pub mod Quiet
-pub mod QuietBodies
-pub mod Outside
-pub mod Files

@@ -1,0 +1,9 @@
+pub mod Bounds
+pub mod Laws
+pub mod Worked
+pub mod TasksLaws
+pub mod Stacks
+pub mod Steps
+pub mod Tasks
+pub mod Weights
+pub mod TasksWorked

@@ -1,4 +1,0 @@
-pub mod Spans
-pub mod Apart
-pub mod Ints
-pub mod Sources

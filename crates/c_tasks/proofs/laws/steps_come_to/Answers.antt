@@ -1,8 +1,0 @@
-use Rattle.c_tasks.proofs.Corollaries.{steps_end, steps_go_on}
-use Rattle.c_tasks.proofs.laws.steps_come_to.Goals as goal
-
-pub returns-clause-on : goal.returns-clause-on
-returns-clause-on c = steps_go_on
-
-pub returns-clause-end : goal.returns-clause-end
-returns-clause-end c = steps_end

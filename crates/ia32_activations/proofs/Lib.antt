@@ -1,4 +1,0 @@
-pub mod Depth
-pub mod Arguments
-pub mod Calling
-pub mod Leaving

@@ -1,4 +1,0 @@
-pub mod Words
-pub mod Laws
-pub mod Ops
-pub mod Worked

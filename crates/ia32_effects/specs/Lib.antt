@@ -1,5 +1,0 @@
-pub mod Effects
-pub mod Contains
-pub mod Laws
-pub mod Unary
-pub mod Products

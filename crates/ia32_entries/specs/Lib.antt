@@ -1,4 +1,0 @@
-pub mod Called
-pub mod Calls
-pub mod Laws
-pub mod Returns

@@ -1,4 +1,0 @@
-pub mod Supports
-pub mod Protected
-pub mod Laws
-pub mod Ops

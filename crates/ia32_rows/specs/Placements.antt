@@ -1,0 +1,66 @@
+-- Where variables, frame arrays and code stand.
+use Rattle.std.specs.Prelude.{◌≡◌, ℕ, pos, neg_ℤ, List, [], length, map, slice_get, slice_index_or, Option, Some, None}
+use Rattle.std.specs.Prelude.{option_map}
+use Rattle.ia32_regs.specs.declared.names.Reg32.TheVariants.{Ebp}
+use Rattle.ia32_regs.specs.Places.{Place, InSlot}
+use Rattle.ia32_insn.specs.declared.operand.Mem.{Mem}
+use Rattle.ia32_insn.specs.declared.item.Item.{Item}
+use Rattle.ia32_insn.specs.Items.{Object, Places, Symbols, IsText}
+use Rattle.flow_graph.specs.States.{GraphProgram}
+
+-- the memory so far below EBP
+abbrev pub below : ℕ → Mem
+below distance = record { base = Some Ebp; index = None; disp = neg_ℤ (pos distance) }
+
+-- A function's frame: its bytes, how far below EBP element 0 of each frame array is, and where each variable stands
+-- before and after each point, if it stands anywhere.
+pub record Placement : Type 0 where
+  pub frame : ℕ
+  pub arrays : List ℕ
+  pub before : ℕ → ℕ → Option Place
+  pub after : ℕ → ℕ → Option Place
+
+-- every variable in a slot of its own, at every point
+abbrev pub in_slots : ℕ → List ℕ → List ℕ → Placement
+in_slots frame arrays slots =
+    record {
+      frame = frame;
+      arrays = arrays;
+      before = λ point variable. option_map InSlot (slice_get slots variable);
+      after = λ point variable. option_map InSlot (slice_get slots variable);
+    }
+
+abbrev pub no_placement : Placement
+no_placement = record { frame = 0; arrays = []; before = λ point variable. None; after = λ point variable. None }
+
+-- The code of a program of graphs: for each function its placement, its items, and where these stand in the text, and
+-- the functions' numbers in the order of the text.
+pub record Code : Type 0 where
+  pub program : GraphProgram
+  pub placements : List Placement
+  pub items : List (List Item)
+  pub order : List ℕ
+  pub places : List Places
+  pub symbols : Symbols
+  pub text : List ℕ
+
+-- the static objects of the program, as its image holds them
+abbrev pub objects_of : GraphProgram → List Object
+objects_of program = map (λ object. record { width = object.width; elements = object.elements }) program.objects
+
+abbrev pub placement_of : Code → ℕ → Placement
+placement_of code function = slice_index_or code.placements function no_placement
+
+-- the address of a point of a function
+abbrev pub address_in : Option Places → ℕ → ℕ
+address_in None point = 0
+address_in (Some places) point = places.points point
+
+abbrev pub point_address : Code → ℕ → ℕ → ℕ
+point_address code function point = address_in (slice_get code.places function) point
+
+-- the items are laid out in the text, function by function
+pub record IsCode (code : Code) : Type 0 where
+  pub text : IsText code.items code.order (objects_of code.program) code.program.main code.places code.symbols code.text
+  pub functions : length code.items ≡ length code.program.functions
+  pub placements : length code.placements ≡ length code.program.functions

@@ -1,5 +1,0 @@
-use Rattle.ia32_shows.proofs.Worked.{none-above, none-beyond-arrays, none-beyond-objects}
-use Rattle.ia32_shows.proofs.laws.arrays_are_there.Goals as goal
-
-pub returns : goal.returns
-returns c = record { above = none-above; arrays = none-beyond-arrays; objects = none-beyond-objects }

@@ -1,5 +1,0 @@
-use Rattle.ia32_shows.proofs.Worked.{waiting-calls, oldest-is-main}
-use Rattle.ia32_shows.proofs.laws.calls_wait.Goals as goal
-
-pub returns : goal.returns
-returns c = record { waiting = waiting-calls; oldest = oldest-is-main }

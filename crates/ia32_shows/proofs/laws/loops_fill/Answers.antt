@@ -1,5 +1,0 @@
-use Rattle.ia32_shows.proofs.Filling.{fill-goes, zeros-load}
-use Rattle.ia32_shows.proofs.laws.loops_fill.Goals as goal
-
-pub returns : goal.returns
-returns c = record { fills = fill-goes; zeros = zeros-load }

@@ -1,5 +1,0 @@
-use Rattle.lower_bounds.proofs.Ordered.{graphs-are-laid-out}
-use Rattle.lower_bounds.proofs.laws.graphs_are_laid_out.Goals as goal
-
-pub returns : goal.returns
-returns c = graphs-are-laid-out

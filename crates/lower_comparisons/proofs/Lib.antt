@@ -1,4 +1,0 @@
-pub mod Choosing
-pub mod Equality
-pub mod Nulls
-pub mod Ordering

@@ -1,9 +1,0 @@
-pub mod Pieces
-pub mod Parts
-pub mod Compound
-pub mod Places
-pub mod Walk
-pub mod Statements
-pub mod Functions
-pub mod Sizes
-pub mod Whole

@@ -1,2 +1,0 @@
-mod Cases
-mod Places

@@ -1,3 +1,0 @@
-pub mod Flows
-pub mod Settled
-pub mod Laws

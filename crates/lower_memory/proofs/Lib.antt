@@ -1,4 +1,0 @@
-pub mod Expressions
-pub mod Items
-pub mod Statements
-pub mod Files

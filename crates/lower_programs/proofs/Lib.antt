@@ -1,0 +1,56 @@
+pub mod Visits
+pub mod Ways
+pub mod Onward
+pub mod Straight
+pub mod Sequences
+pub mod Conditions
+pub mod Loops
+pub mod Looping
+pub mod Declared
+pub mod Comparing
+pub mod Switching
+pub mod Arrays
+pub mod Walk
+pub mod Texts
+pub mod Copying
+pub mod Leaving
+pub mod Numbering
+pub mod Beginning
+pub mod Parameters
+pub mod Passing
+pub mod Calls
+pub mod Programs
+mod Values
+mod Knowing
+mod Trees
+mod VisitsCalls
+pub mod Paths
+pub mod Sets
+pub mod Applied
+pub mod Parts
+pub mod Compound
+pub mod Places
+pub mod Addresses
+pub mod Updates
+pub mod Steps
+pub mod LiveWalk
+pub mod Pieces
+pub mod FitsParts
+pub mod FitsCompound
+pub mod FitsPlaces
+pub mod FitsWalk
+pub mod Statements
+pub mod Functions
+pub mod Sizes
+pub mod Whole
+pub mod Runs
+pub mod LiveConditions
+pub mod LiveLoops
+pub mod Copies
+pub mod Items
+pub mod Switches
+pub mod SettledStatements
+pub mod SettledFunctions
+pub mod Known
+pub mod LiveDeclared
+pub mod First

@@ -1,0 +1,232 @@
+-- The graphs of a typed program in memory are a program of graphs.
+use Rattle.std.proofs.Common.{◌≡◌, ◌<◌, ◌≤◌, ℕ, zero, suc, List, [], ◌∷◌, Some, refl, ap, ◌∙◌}
+use Rattle.std.proofs.Common.{arith, length, map, subst}
+use Rattle.std.specs.Prelude.{slice_get, sum_by}
+use Rattle.std.specs.List.{All, AllByRecursion}
+use Rattle.std.proofs.lemmas.List.Elements.{All-from_recursion, recursion_from_All}
+use Rattle.c_tree.specs.Objects.{data_object}
+use Rattle.c_tree.specs.Program.{Function, LocalArray, Program}
+use Rattle.c_tree.specs.Sizes.{array_bytes, function_size}
+use Rattle.c_tree.specs.WellTyped.{IsMain, IsTypedFunction, WellTyped}
+use Rattle.flow_graph.specs.declared.op.Op.{Op}
+use Rattle.flow_graph.specs.declared.op.Op.TheVariants as op
+use Rattle.flow_graph.specs.Graphs.{Flow, HasFittingOp, NumbersFit, points_of}
+use Rattle.flow_graph.specs.WellFormed.{IsGraph, NamesWithin}
+use Rattle.lower_lines.specs.Laws.{GraphsAreThere}
+use Rattle.lower_lines.specs.Lowering.{array_of}
+use Rattle.lower_lines.specs.Programs.{graph_of_function, lowered}
+use Rattle.lower_lines.specs.Variables.{Context}
+use Rattle.lower_lines.specs.Words.{FunctionHasWords, IsInMemory}
+use Rattle.lower_lines.proofs.Closing.{all-lines-close, function-lays}
+use Rattle.lower_lines.proofs.Few.{points-are-few}
+use Rattle.lower_lines.proofs.Marks.{get-below, marks-hold}
+use Rattle.lower_lines.proofs.Names.{names-are-there}
+use Rattle.lower_lines.proofs.Ordered.{graphs-are-laid-out}
+use Rattle.lower_lines.proofs.Shapes.{blocks-are, function-shape, length-map}
+use Rattle.lower_lines.proofs.Types.{all-at, some-and}
+use Rattle.lower_programs.specs.FitsLaws.{IsGood, Room, SmallNumber}
+use Rattle.lower_programs.proofs.Functions.{function-fits}
+use Rattle.lower_programs.proofs.Sizes.{counts-small, function-small, functions-few, numbers-small}
+
+-- ---- lists
+
+all-from-get : {X : Type 0} (P : X → Type 0) (xs : List X)
+    → ((k : ℕ) (x : X) → slice_get xs k ≡ Some x → P x) → AllByRecursion P xs
+all-from-get P [] h = tt
+all-from-get P (x ∷ xs) h = (h 0 x refl, all-from-get P xs (λ k y e. h (suc k) y e))
+
+all-become : {X : Type 0} (P Q : X → Type 0) (xs : List X) → ((x : X) → P x → Q x) → AllByRecursion P xs
+    → AllByRecursion Q xs
+all-become P Q [] h all = tt
+all-become P Q (x ∷ xs) h all = (h x all.0, all-become P Q xs h all.1)
+
+all-mapped : {X Y : Type 0} (f : X → Y) (P : Y → Type 0) (xs : List X)
+    → ((k : ℕ) (x : X) → slice_get xs k ≡ Some x → P (f x)) → AllByRecursion P (map f xs)
+all-mapped f P [] h = tt
+all-mapped f P (x ∷ xs) h = (h 0 x refl, all-mapped f P xs (λ k y e. h (suc k) y e))
+
+get-there : {X : Type 0} (xs : List X) (k : ℕ) → k < length xs → (x : X) × (slice_get xs k ≡ Some x)
+get-there [] k h = absurd (omega (arith, h))
+get-there (x ∷ xs) zero h = (x, refl)
+get-there (x ∷ xs) (suc k) h = get-there xs k (omega (arith, h))
+
+get-mapped : {X Y : Type 0} (f : X → Y) (xs : List X) (k : ℕ) (x : X) → slice_get xs k ≡ Some x
+    → slice_get (map f xs) k ≡ Some (f x)
+get-mapped f [] k x e = absurd (cc)
+get-mapped f (y ∷ xs) zero x e = ap (λ (z : _). Some (f z)) (same y x e)
+  where
+    same : {A : Type 0} (y x : A) → Some y ≡ Some x → y ≡ x
+    same y x e = cc
+get-mapped f (y ∷ xs) (suc k) x e = get-mapped f xs k x e
+
+-- ---- the numbers of an op
+
+number-fits : (F O : ℕ) (i : Op) → F ≤ 4294967295 → O ≤ 4294967295 → NamesWithin F O i → SmallNumber i
+    → ((s : ℕ) → i ≡ op.Mark s → s < 4294967296) → NumbersFit i
+number-fits F O (op.Const d n) f o names number mark = number
+number-fits F O (op.Copy d s) f o names number mark = tt
+number-fits F O (op.Wide d s) f o names number mark = tt
+number-fits F O (op.Low d s) f o names number mark = tt
+number-fits F O (op.Low16 d s) f o names number mark = tt
+number-fits F O (op.Neg d a) f o names number mark = tt
+number-fits F O (op.Not d a) f o names number mark = tt
+number-fits F O (op.Add d a b) f o names number mark = tt
+number-fits F O (op.Sub d a b) f o names number mark = tt
+number-fits F O (op.Mul d a b) f o names number mark = tt
+number-fits F O (op.And d a b) f o names number mark = tt
+number-fits F O (op.Or d a b) f o names number mark = tt
+number-fits F O (op.Xor d a b) f o names number mark = tt
+number-fits F O (op.Shl d a c) f o names number mark = tt
+number-fits F O (op.Sar d a c) f o names number mark = tt
+number-fits F O (op.Div d a b) f o names number mark = tt
+number-fits F O (op.Rem d a b) f o names number mark = tt
+number-fits F O (op.Set how d a b) f o names number mark = tt
+number-fits F O (op.Frame d k) f o names number mark = tt
+number-fits F O (op.Static d k) f o names number mark = let h : k < O = names in omega (arith, h, o)
+number-fits F O (op.Load bits d p i) f o names number mark = tt
+number-fits F O (op.Store bits p i s) f o names number mark = tt
+number-fits F O (op.Get bits d k) f o names number mark = let h : k < O = names in omega (arith, h, o)
+number-fits F O (op.Put bits k s) f o names number mark = let h : k < O = names in omega (arith, h, o)
+number-fits F O (op.Clear k) f o names number mark = tt
+number-fits F O (op.Param d k) f o names number mark = number
+number-fits F O (op.Call d k arguments) f o names number mark = let h : k < F = names in omega (arith, h, f)
+number-fits F O (op.Putchar d s) f o names number mark = tt
+number-fits F O (op.Getchar d) f o names number mark = tt
+number-fits F O (op.Exit s) f o names number mark = tt
+number-fits F O (op.Same a b) f o names number mark = tt
+number-fits F O (op.Mark s) f o names number mark = mark s refl
+number-fits F O op.Turn f o names number mark = tt
+number-fits F O (op.Jump x) f o names number mark = tt
+number-fits F O (op.Branch how a b x y) f o names number mark = tt
+number-fits F O (op.Return a) f o names number mark = tt
+
+module _ (p : Program) (well : WellTyped p) (memory : IsInMemory p) (k : ℕ) (f : Function)
+    (at : slice_get p.functions k ≡ Some f) where
+  abbrev flow : Flow
+  flow = graph_of_function p f
+
+  abbrev c : Context
+  c = record { program = p; function = f }
+
+  functions : AllByRecursion (IsTypedFunction p) p.functions
+  functions = recursion_from_All (IsTypedFunction p) p.functions well.functions
+
+  typed : IsTypedFunction p f
+  typed = all-at (IsTypedFunction p) p.functions k f functions at
+
+  words : FunctionHasWords f
+  words = all-at FunctionHasWords p.functions k f (recursion_from_All FunctionHasWords p.functions memory.functions) at
+
+  abbrev room : Room
+  room = record {
+    program = p;
+    function = f;
+    flow = flow;
+    widths = refl;
+    arrays = length-map array_of f.arrays;
+  }
+
+  size-small : function_size f ≤ 65536
+  size-small = let s = function-small p.functions k f at in let m = memory.small in omega (arith, s, m)
+
+  arrays-small : sum_by array_bytes f.arrays ≤ 16384
+  arrays-small = let h = words.frame in omega (arith, h)
+
+  good : AllByRecursion (IsGood flow) flow.ops
+  good =
+      function-fits room functions typed (counts-small f.arrays 16384 arrays-small (omega arith)) words.body
+      (let s = size-small in omega (arith, s)) (all-lines-close p well k f at).1 (blocks-are p f)
+
+  marks : (point s : ℕ) → slice_get flow.ops point ≡ Some (op.Mark s) → s < 4294967296
+  marks point s e =
+      let (low, high) = ((marks-hold p well).1 k f flow at (get-mapped (graph_of_function p) p.functions k f at)).only
+      point s e in
+      let n = numbers-small p.functions k f at in
+      let m = memory.small in
+      omega (arith, high, n, m)
+
+  names : AllByRecursion (NamesWithin (length p.functions) (length p.objects)) flow.ops
+  names =
+      let fs = length-map (graph_of_function p) p.functions in
+      let os = length-map data_object p.objects in
+      recursion_from_All (NamesWithin (length p.functions) (length p.objects)) flow.ops
+      (subst (λ (n : ℕ). All (NamesWithin n (length p.objects)) flow.ops) fs
+      (subst (λ (n : ℕ). All (NamesWithin (length (map (graph_of_function p) p.functions)) n) flow.ops) os
+      (names-are-there p well k f at)))
+
+  numbers : AllByRecursion NumbersFit flow.ops
+  numbers = all-from-get NumbersFit flow.ops (λ point i e.
+      number-fits (length p.functions) (length p.objects) i
+      (let n = functions-few p.functions in let m = memory.small in omega (arith, n, m))
+      (let o = memory.few_objects in omega (arith, o))
+      (all-at (NamesWithin (length p.functions) (length p.objects)) flow.ops point i names e)
+      (all-at (IsGood flow) flow.ops point i good e).1
+      (λ s is. marks point s (e ∙ ap Some is)))
+
+  fitting : (homes : List ℕ) → length homes ≡ length flow.ops → (block point : ℕ)
+      → slice_get homes point ≡ Some block → HasFittingOp flow point
+  fitting homes many block point e =
+      let below = get-below homes point block e in
+      let (i, there) = get-there flow.ops point (omega (arith, below, many)) in
+      (i, there, (all-at (IsGood flow) flow.ops point i good there).0)
+
+  few-widths : length flow.widths ≤ 4294967295
+  few-widths =
+      let shape = (function-shape p f (function-lays p f well.functions typed)).frame in
+      let h = words.frame in
+      omega (arith, shape, h)
+
+  few-elements : (arrays : List LocalArray) → AllByRecursion (λ a. a.count ≤ 4294967295) arrays
+      → AllByRecursion (λ array. array.1 ≤ 4294967295) (map array_of arrays)
+  few-elements [] h = tt
+  few-elements (a ∷ arrays) h = (h.0, few-elements arrays h.1)
+
+  graph-there : IsGraph (length (lowered p).functions) (length (lowered p).objects) flow
+  graph-there =
+      let laid = graphs-are-laid-out p well k f at in
+      let few = points-are-few p well k f at in
+      let size = size-small in
+      let many = length-map array_of f.arrays in
+      let declared = words.declared in
+      record {
+        keeps = (
+          laid.homes,
+          record {
+            one_home = laid.one_home;
+            each_block = λ block.
+                let ordered = laid.each_block block in
+                record {
+                  at_home = ordered.at_home;
+                  fits = all-become (λ (q : ℕ). slice_get laid.homes q ≡ Some block) (HasFittingOp flow)
+                      (points_of flow block) (λ q e. fitting laid.homes laid.one_home block q e) ordered.at_home;
+                  once = ordered.once;
+                  ends = ordered.ends;
+                };
+            arrays_fit = laid.arrays_fit;
+            few_elements = few-elements f.arrays
+                (recursion_from_All (λ (a : LocalArray). a.count ≤ 4294967295) f.arrays words.arrays);
+            numbers = numbers;
+            few_variables = few-widths;
+            few_arrays = omega (arith, many, declared, size);
+            few_blocks = let a = few.0 in let b = few.1 in omega (arith, a, b, size);
+            few_points = let a = few.0 in omega (arith, a, size);
+          },
+        );
+        begins = laid.begins;
+        ended = laid.ended;
+        names = names-are-there p well k f at;
+      }
+
+pub graphs-are-there : GraphsAreThere
+graphs-are-there p well memory = record {
+  functions = All-from_recursion (IsGraph (length (lowered p).functions) (length (lowered p).objects))
+      (lowered p).functions (all-mapped (graph_of_function p)
+      (IsGraph (length (lowered p).functions) (length (lowered p).objects)) p.functions
+      (λ k f at. graph-there p well memory k f at));
+  objects = well.objects;
+  main =
+      let (f, at, is) = some-and (slice_get p.functions p.main) IsMain well.main in
+      let below = get-below p.functions p.main f at in
+      let many = length-map (graph_of_function p) p.functions in
+      omega (arith, below, many);
+}

@@ -1,4 +1,0 @@
-pub mod Locals
-pub mod Changes
-pub mod Depths
-pub mod Arrays

@@ -1,3 +1,0 @@
-pub mod Declared
-pub mod Laws
-pub mod Lowered

@@ -1,4 +1,0 @@
-mod Values
-mod Knowing
-mod Trees
-mod Calls

@@ -1,6 +1,0 @@
-pub mod Choosing
-pub mod Standing
-pub mod Passing
-pub mod Calling
-pub mod Types
-pub mod Walking

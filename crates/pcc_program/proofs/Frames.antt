@@ -1,0 +1,77 @@
+-- The frames of a program's graphs are within the limits.
+use Rattle.std.proofs.Common.{◌≡◌, ◌≤◌, ◌+◌, ◌*◌, ℕ, suc, List, [], ◌∷◌, length, Some, arith, refl}
+use Rattle.std.specs.Prelude.{slice_get, sum_by}
+use Rattle.std.specs.List.{All}
+use Rattle.std.proofs.lemmas.List.Elements.{All-cons, All-head, All-nil, All-tail}
+use Rattle.std.proofs.lemmas.List.Sums.{sum_by-cons}
+use Rattle.c_tree.specs.Program.{Function}
+use Rattle.c_tree.specs.Sizes.{function_size}
+use Rattle.flow_graph.specs.Graphs.{Flow}
+use Rattle.flow_graph.specs.WellFormed.{IsGraph}
+use Rattle.lower_lines.specs.Lowering.{HasShape, arrays_in, points_in, words_in}
+use Rattle.lower_lines.specs.Words.{FunctionHasWords}
+use Rattle.ia32_sizes.specs.Sizes.{BlocksAreFew, most_bytes}
+use Rattle.pcc_program.specs.Code.{HasFrame}
+use Rattle.pcc_program.specs.CodeLaws.{GraphsHaveFrames}
+
+one-frame : BlocksAreFew → (functions objects : ℕ) (f : Function) (flow : Flow) → IsGraph functions objects flow
+    → HasShape f flow → FunctionHasWords f → points_in flow ≤ 1310720 → HasFrame functions objects flow
+one-frame few functions objects f flow graph shape words points =
+    let blocks = few functions objects flow graph in
+    record {
+      graph = graph;
+      small = omega (arith, shape.frame, words.frame);
+      labels = omega (arith, blocks, points);
+    }
+
+-- functions and graphs side by side
+all-frames : BlocksAreFew → (functions objects : ℕ) (fs : List Function) (flows : List Flow) → length flows ≡ length fs
+    → ((k : ℕ) (f : Function) (flow : Flow) → slice_get fs k ≡ Some f → slice_get flows k ≡ Some flow → HasShape f flow)
+    → All FunctionHasWords fs → All (IsGraph functions objects) flows → sum_by points_in flows ≤ 1310720
+    → All (HasFrame functions objects) flows
+all-frames few functions objects [] [] many shapes words graphs points = All-nil (HasFrame functions objects)
+all-frames few functions objects [] (flow ∷ flows) many shapes words graphs points = absurd (omega (arith, many))
+all-frames few functions objects (f ∷ fs) [] many shapes words graphs points = absurd (omega (arith, many))
+all-frames few functions objects (f ∷ fs) (flow ∷ flows) many shapes words graphs points =
+    All-cons (HasFrame functions objects) flow flows
+    (one-frame few functions objects f flow (All-head (IsGraph functions objects) flow flows graphs)
+    (shapes 0 f flow refl refl) (All-head FunctionHasWords f fs words)
+    (omega (arith, points, sum_by-cons points_in flow flows)))
+    (all-frames few functions objects fs flows (omega (arith, many)) (λ k g h e i. shapes (suc k) g h e i)
+    (All-tail FunctionHasWords f fs words) (All-tail (IsGraph functions objects) flow flows graphs)
+    (omega (arith, points, sum_by-cons points_in flow flows)))
+
+-- each function counts one at least
+few-functions : (fs : List Function) → length fs ≤ sum_by function_size fs
+few-functions [] = omega arith
+few-functions (f ∷ fs) = omega (arith, few-functions fs, sum_by-cons function_size f fs)
+
+-- the bytes of many graphs, by their points, argument words and arrays
+most_bytes-all : (flows : List Flow) → sum_by most_bytes flows
+    ≡ 800 * sum_by points_in flows + 8 * sum_by words_in flows + 16 * sum_by arrays_in flows
+most_bytes-all [] = refl
+most_bytes-all (flow ∷ flows) =
+    omega (
+      arith,
+      most_bytes-all flows,
+      sum_by-cons most_bytes flow flows,
+      sum_by-cons points_in flow flows,
+      sum_by-cons words_in flow flows,
+      sum_by-cons arrays_in flow flows,
+    )
+
+pub graphs-have-frames : BlocksAreFew → GraphsHaveFrames
+graphs-have-frames blocks program graphs memory shapes small is =
+    record {
+      each = all-frames blocks (length graphs.functions) (length graphs.objects) program.functions graphs.functions
+          shapes.as_many shapes.each memory.functions is.functions (omega (arith, small.points, memory.small));
+      few = omega (arith, few-functions program.functions, memory.small, shapes.as_many);
+      code = omega (
+        arith,
+        most_bytes-all graphs.functions,
+        small.points,
+        small.words,
+        small.arrays,
+        memory.small,
+      );
+    }

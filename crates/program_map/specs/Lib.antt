@@ -1,2 +1,0 @@
-pub mod Belongs
-pub mod ProgramMap

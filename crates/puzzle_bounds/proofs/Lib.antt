@@ -1,4 +1,0 @@
-pub mod Changes
-pub mod Necessary
-pub mod Prices
-pub mod Totals

@@ -1,2 +1,0 @@
-pub mod PointPuzzles
-pub mod Order

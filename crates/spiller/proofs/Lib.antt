@@ -1,2 +1,0 @@
-pub mod Spilling
-pub mod Orders
