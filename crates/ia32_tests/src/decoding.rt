@@ -9,32 +9,55 @@ mod moves;
 mod none;
 
 use crate::expected::expect;
+use crate::rows::{bytes_of, expect_printed};
 use ia32_decode::decode;
-use ia32_insn::{Insn, Mem};
-use ia32_regs::Reg32;
+use std::alloc::Global;
 use std::process::Abort;
 
-/// The memory operand of the rows: [ebx+esi*4-8].
-const PLACE: Mem = Mem {
-    base: Some(Reg32::Ebx),
-    index: Some((Reg32::Esi, 4)),
-    disp: -8,
-};
+/// What `PLACE` stands for in the rows: [ebx+esi*4-8].
+const PLACE: &str = "Mem { base: Some(Ebx), index: Some((Esi, 4)), disp: -8 }";
 
-/// The bytes of each row are a spelling of its instruction.
-fn expect_rows(rt: &impl Abort, rows: &[(&[u8], Insn)], table: &str) {
-    for (bytes, insn) in rows {
-        expect(rt, &decode(bytes), &Some((*insn, bytes.len())), table);
+/// The bytes of the row are a spelling of its instruction.
+fn expect_row(rt: &impl Abort, alloc: Global, row: &str) {
+    let (digits, text) = row.split_once(" => ").expect(rt, row);
+    let bytes = bytes_of(rt, alloc, digits);
+    let (spelt, length) = decode(&bytes).expect(rt, row);
+    expect_printed(rt, alloc, &spelt, text);
+    expect(rt, &length, &bytes.len(), row);
+}
+
+/// The table has so many rows, and each is as `expect_row` says.
+fn expect_rows(rt: &impl Abort, alloc: Global, table: &str, rows: usize) {
+    let whole = table
+        .replace(alloc, "PLACE", PLACE)
+        .expect(rt, "memory for a table");
+    let mut read = 0usize;
+    for row in whole.lines() {
+        expect_row(rt, alloc, row);
+        read = read.wrapping_add(1);
     }
+    expect(rt, &read, &rows, "rows");
+}
+
+/// The table has so many rows, and the bytes before each semicolon spell no instruction.
+fn expect_none(rt: &impl Abort, alloc: Global, table: &str, rows: usize) {
+    let mut read = 0usize;
+    for row in table.lines() {
+        let (digits, _) = row.split_once(';').expect(rt, row);
+        expect(rt, &decode(&bytes_of(rt, alloc, digits)), &None, row);
+        read = read.wrapping_add(1);
+    }
+    expect(rt, &read, &rows, "rows");
 }
 
 /// The tables of spellings.
 #[test]
 fn spellings(rt: HostRuntime) {
-    expect_rows(&rt, &arithmetic::ROWS, "arithmetic");
-    expect_rows(&rt, &bytes::ROWS, "bytes");
-    expect_rows(&rt, &jumps::ROWS, "jumps");
-    expect_rows(&rt, &moves::ROWS, "moves");
-    addresses::expect_places(&rt, &addresses::ROWS);
-    none::expect_none(&rt, &none::ROWS);
+    let alloc = rt.alloc();
+    expect_rows(&rt, alloc, arithmetic::ROWS, 75);
+    expect_rows(&rt, alloc, bytes::ROWS, 66);
+    expect_rows(&rt, alloc, jumps::ROWS, 83);
+    expect_rows(&rt, alloc, moves::ROWS, 47);
+    expect_rows(&rt, alloc, addresses::ROWS, 141);
+    expect_none(&rt, alloc, none::ROWS, 24);
 }

@@ -7,14 +7,6 @@
 //! what those crates promise.
 #![tactic(auto)]
 
-/// A table of spellings: on each line the bytes, and then what they spell.
-#[cfg(test)]
-macro_rules! spellings {
-    ($($($byte:literal)+ => $spelt:expr;)*) => {
-        [$((&[$($byte),+], $spelt)),*]
-    };
-}
-
 #[cfg(test)]
 mod arithmetic;
 #[cfg(test)]
@@ -37,5 +29,7 @@ mod maps;
 mod memory;
 #[cfg(test)]
 mod registers;
+#[cfg(test)]
+mod rows;
 #[cfg(test)]
 mod spellings;

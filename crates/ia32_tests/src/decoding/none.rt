@@ -1,39 +1,27 @@
-use crate::expected::expect;
-use ia32_decode::decode;
-use std::process::Abort;
-
-/// No spelling of this compiler's part of IA-32 begins these: nothing, a first byte alone, fields or numbers
-/// that are cut off, HLT, ADC, SBB, a rotation, TEST with a number, and operands that a row doesn't have.
-pub const ROWS: [&[u8]; 24] = [
-    &[],
-    &[0x0F],
-    &[0x66],
-    &[0x66, 0x89],
-    &[0xF4],
-    &[0x89],
-    &[0x8B, 0x04],
-    &[0x8B, 0x44, 0x24],
-    &[0x8B, 0x05, 0x01, 0x02, 0x03],
-    &[0x8B, 0x84, 0x88, 0x01, 0x02, 0x03],
-    &[0x81, 0xC0, 0xFF, 0xFF, 0xFF],
-    &[0x83, 0xC0],
-    &[0xC1, 0xE0],
-    &[0xB8, 0x01, 0x00],
-    &[0xE9, 0x00, 0x00, 0x00],
-    &[0x74],
-    &[0x0F, 0x84, 0x00, 0x00, 0x00],
-    &[0xCD],
-    &[0x11, 0xC0],
-    &[0x83, 0xD8, 0x01],
-    &[0xC1, 0xC0, 0x04],
-    &[0xF7, 0xC0, 0x01, 0x00, 0x00, 0x00],
-    &[0x8D, 0xC0],
-    &[0xFF, 0xC0],
-];
-
-/// No row spells an instruction.
-pub fn expect_none(rt: &impl Abort, rows: &[&[u8]]) {
-    for (row, bytes) in rows.iter().enumerate() {
-        expect(rt, &decode(bytes), &None, row);
-    }
-}
+/// No spelling of this compiler's part of IA-32 begins these bytes: behind each semicolon stands why.
+pub const ROWS: &str = "\
+; no byte
+0F ; a first byte alone
+66 ; a first byte alone
+66 89 ; no ModRM
+F4 ; HLT
+89 ; no ModRM
+8B 04 ; no SIB
+8B 44 24 ; no displacement
+8B 05 01 02 03 ; a displacement cut off
+8B 84 88 01 02 03 ; a displacement cut off
+81 C0 FF FF FF ; a number cut off
+83 C0 ; no number
+C1 E0 ; no number
+B8 01 00 ; a number cut off
+E9 00 00 00 ; a distance cut off
+74 ; no distance
+0F 84 00 00 00 ; a distance cut off
+CD ; no number
+11 C0 ; ADC
+83 D8 01 ; SBB
+C1 C0 04 ; ROL
+F7 C0 01 00 00 00 ; TEST with a number
+8D C0 ; LEA of a register
+FF C0 ; INC
+";
