@@ -1,62 +1,34 @@
 //! Runs of the whole compiler: over files in memory, and over files of the system.
 
-use crate::programs::Row;
 use crate::runs::{
-    Answer, expect, expect_answer, expect_commands, expect_runs, files_with, no_files, put,
-    run_line,
+    Answer, expect, expect_answer, expect_command, expect_commands, expect_runs, expect_told,
+    files_with, no_files, put, run_line,
 };
+use crate::tables::{cells, rows_of, unfolded};
 use elf_image::{Image, TEXT_ADDRESS, write_image};
 use pcc_outside::{HostFiles, MemFiles};
-use std::alloc::{AllocError, Global};
+use std::alloc::Global;
 use std::process::Abort;
 use std::{fs, io};
 
-/// A source with the lines that `gcc -E` leaves.
-const WITH_MARKERS: &str =
-    "# 0 \"a.c\"\n# 0 \"<built-in>\"\n# 0 \"<command-line>\"\n# 1 \"/usr/include/stdc-predef.h\" 1 3 4
-# 0 \"<command-line>\" 2\n# 1 \"a.c\"\nint main(void){return 7;}";
-
-/// Small programs without an input.
-const SMALL: [Row; 9] = [
-    ("int main(void){return 300;}", "", "", 0, "exit 44\n"),
-    ("int main(void){return 0;}\n", "", "", 0, "exit 0\n"),
-    (
-        "int main(void){return 2147483647;}",
-        "",
-        "",
-        0,
-        "exit 255\n",
-    ),
-    ("int main(void){return 07;}", "", "", 0, "exit 7\n"),
-    (
-        "int main(void){char c=200; return c<0?c+100:1;}",
-        "",
-        "",
-        0,
-        "exit 44\n",
-    ),
-    ("int main(void)<%return 7;%>\n\n", "", "", 0, "exit 7\n"),
-    (WITH_MARKERS, "", "", 0, "exit 7\n"),
-    (
-        "int main(void){int x=70; int y=x+2; putchar(y); putchar(x-1); return y-x;}",
-        "",
-        "HE",
-        0,
-        "exit 2\n",
-    ),
-    (
-        "int main(void){int x=2147483647; x=x+1; return x-1;}",
-        "",
-        "",
-        0,
-        "exit 255\n",
-    ),
-];
+/// Small programs without an input, among them one with the lines that `gcc -E` leaves.
+const SMALL: &str = "\
+9 rows
+int main(void){return 300;} => 0 exit 44$
+int main(void){return 0;}$ => 0 exit 0$
+int main(void){return 2147483647;} => 0 exit 255$
+int main(void){return 07;} => 0 exit 7$
+int main(void){char c=200; return c<0?c+100:1;} => 0 exit 44$
+int main(void)<%return 7;%>$$ => 0 exit 7$
+# 0 \"a.c\"$# 0 \"<built-in>\"$# 0 \"<command-line>\"$# 1 \"/usr/include/stdc-predef.h\" 1 3 4$\
+    # 0 \"<command-line>\" 2$# 1 \"a.c\"$int main(void){return 7;} => 0 exit 7$
+int main(void){int x=70; int y=x+2; putchar(y); putchar(x-1); return y-x;} => 0 exit 2$ => HE
+int main(void){int x=2147483647; x=x+1; return x-1;} => 0 exit 255$";
 
 /// A source is compiled and its image is run.
 #[test]
 fn compiles_and_runs_small(rt: HostRuntime) {
-    expect_runs(&rt, rt.alloc(), &SMALL);
+    expect_runs(&rt, rt.alloc(), SMALL);
 }
 
 /// Files in memory with the source of a program that ends with status 44, whose call with this number fails.
@@ -64,81 +36,71 @@ fn small_files(rt: &impl Abort, alloc: Global, failing_call: u64) -> MemFiles {
     files_with(rt, alloc, "int main(void){return 300;}", failing_call)
 }
 
-/// Command lines over one source, in their order: nothing on the output, the status and the line.
-const LINES: [(&str, &str, u8, &str); 13] = [
-    ("compile -o a a.c", "", 0, ""),
-    ("run a", "", 0, "exit 44\n"),
-    ("run --steps 18446744073709551615 a", "", 0, "exit 44\n"),
-    ("run --steps 0 a", "", 10, "budget 0\n"),
-    ("run --steps=3 a", "", 10, "budget 3\n"),
-    ("run a.map", "", 7, "not an image\n"),
-    ("run b.c", "", 6, "no file b.c\n"),
-    ("solve b.c", "", 6, "no file b.c\n"),
-    ("solve a", "", 1, "a: 25 BadBoard\n"),
-    ("compile -o a b.c", "", 6, "no file b.c\n"),
-    ("compile a.c -o a", "", 0, ""),
-    (
-        "compile -o a 1 2 3 4 5 6 7 8 9 10 11 12 13 14 15 16 a",
-        "",
-        3,
-        "limit 23 Files 17\n",
-    ),
-    (
-        "eval 1 2 3 4 5 6 7 8 9 10 11 12 13 14 15 16 17 18",
-        "",
-        3,
-        "limit 23 Files 18\n",
-    ),
-];
+/// Command lines over one source, in their order: the status and the line, and nothing on the output.
+const LINES: &str = "\
+13 rows
+compile -o a a.c => 0
+run a => 0 exit 44$
+run --steps 18446744073709551615 a => 0 exit 44$
+run --steps 0 a => 10 budget 0$
+run --steps=3 a => 10 budget 3$
+run a.map => 7 not an image$
+run b.c => 6 no file b.c$
+solve b.c => 6 no file b.c$
+solve a => 1 a: 25 BadBoard$
+compile -o a b.c => 6 no file b.c$
+compile a.c -o a => 0
+compile -o a 1 2 3 4 5 6 7 8 9 10 11 12 13 14 15 16 a => 3 limit 23 Files 17$
+eval 1 2 3 4 5 6 7 8 9 10 11 12 13 14 15 16 17 18 => 3 limit 23 Files 18$";
 
 /// Each command line has its status and its line.
 #[test]
 fn refuses_words_and_names(rt: HostRuntime) {
     let alloc = rt.alloc();
     let mut files = small_files(&rt, alloc, 0);
-    expect_commands(&rt, alloc, &mut files, &LINES);
+    expect_commands(&rt, alloc, &mut files, LINES);
     let map = files.content("a.map").unwrap_or(b"");
     let is_map = map.starts_with(b"pcc map 1\n") && map.ends_with(b"end\n");
     expect(&rt, &is_map, &true, "the map");
 }
 
+/// What a telling of usage has of the commands.
 const COMMANDS: &str = "\n  pcc run [--steps N] IMAGE ";
 
-/// What a telling of usage has for words that mean help or nothing: the command line, and two of its parts.
-const USAGES: [(&str, &str, &str); 15] = [
-    ("", "'pcc' requires a subcommand", COMMANDS),
-    ("compile a.c", "-o <NAME>", COMMANDS),
-    ("compile -o a", "<SRC>...", COMMANDS),
-    ("compile -O a a.c", "'-O'", COMMANDS),
-    ("compile -o a.c a.c", "NAME and NAME.map", COMMANDS),
-    ("compile -o a b.c a.map", "NAME and NAME.map", COMMANDS),
-    ("run", "<IMAGE>", COMMANDS),
-    ("run a a", "'a'", COMMANDS),
-    (
-        "run --steps 18446744073709551616 a",
-        "--steps <N>",
-        COMMANDS,
-    ),
-    ("eval --turns x a.c", "invalid value 'x'", COMMANDS),
-    ("solve", "<FILE>", COMMANDS),
-    ("gcc a.c", "'gcc'", COMMANDS),
-    ("--help", "  compile  Compiles C files", "  solve "),
-    ("run --help", "--steps <N>", "[default: 1000000000]"),
-    ("compile -h", "-o <NAME>", "its map is NAME.map"),
-];
+/// What a telling of usage has for words that mean help or nothing: the command line, and two of its parts. The second
+/// one is `COMMANDS` where a row has one alone.
+const USAGES: &str = "\
+15 rows
+ => 'pcc' requires a subcommand
+compile a.c => -o <NAME>
+compile -o a => <SRC>...
+compile -O a a.c => '-O'
+compile -o a.c a.c => NAME and NAME.map
+compile -o a b.c a.map => NAME and NAME.map
+run => <IMAGE>
+run a a => 'a'
+run --steps 18446744073709551616 a => --steps <N>
+eval --turns x a.c => invalid value 'x'
+solve => <FILE>
+gcc a.c => 'gcc'
+--help =>   compile  Compiles C files =>   solve\x20
+run --help => --steps <N> => [default: 1000000000]
+compile -h => -o <NAME> => its map is NAME.map";
 
 /// Words that mean no command are told what is wrong with them and the commands; help that is asked for is told alone.
 #[test]
 fn tells_usage(rt: HostRuntime) {
     let alloc = rt.alloc();
     let mut files = small_files(&rt, alloc, 0);
-    for &(line, wrong, more) in &USAGES {
+    for row in rows_of(&rt, USAGES) {
+        let (line, parts) = cells(&rt, row);
+        let (wrong, more) = parts.split_once(" => ").unwrap_or((parts, COMMANDS));
         let answer = run_line(&rt, alloc, line, &mut files, 0);
         let text = std::str::from_utf8(answer.err.taken()).unwrap_or("");
         let lines = text.starts_with("usage\n") && text.ends_with('\n');
         let parts = text.contains(wrong) && text.contains(more);
-        expect(&rt, &(lines, parts, answer.status), &(true, true, 2), line);
-        expect(&rt, &answer.out.taken().is_empty(), &true, line);
+        expect(&rt, &(lines, parts, answer.status), &(true, true, 2), row);
+        expect(&rt, &answer.out.taken().is_empty(), &true, row);
     }
 }
 
@@ -150,22 +112,16 @@ const SOURCES: [(&str, &str); 4] = [
     ("byte.c", "int f(void)\n{return @;}"),
 ];
 
-/// A table: on each line sources in an order, the status and the line.
-macro_rules! orders {
-    ($($sources:literal $status:literal $line:literal;)*) => {
-        [$((concat!("compile -o p ", $sources), "", $status, $line)),*]
-    };
-}
-
-const ORDERS: [(&str, &str, u8, &str); 7] = orders! {
-    "a.c a.c" 1 "a.c:1:5: 8 Redeclared\n";
-    "a.c x.c byte.c" 6 "no file x.c\n";
-    "x.c y.c" 6 "no file x.c\n";
-    "a.c byte.c" 1 "byte.c:2:9: 1 BadByte\n";
-    "syntax.c byte.c" 1 "byte.c:2:9: 1 BadByte\n";
-    "a.c syntax.c goto.c" 1 "syntax.c:2:21: 5 Syntax\n";
-    "goto.c syntax.c" 1 "goto.c:1:13: 6 Unsupported goto\n";
-};
+/// Commands over sources in an order, the status and the line.
+const ORDERS: &str = "\
+7 rows
+compile -o p a.c a.c => 1 a.c:1:5: 8 Redeclared$
+compile -o p a.c x.c byte.c => 6 no file x.c$
+compile -o p x.c y.c => 6 no file x.c$
+compile -o p a.c byte.c => 1 byte.c:2:9: 1 BadByte$
+compile -o p syntax.c byte.c => 1 byte.c:2:9: 1 BadByte$
+compile -o p a.c syntax.c goto.c => 1 syntax.c:2:21: 5 Syntax$
+compile -o p goto.c syntax.c => 1 goto.c:1:13: 6 Unsupported goto$";
 
 /// Sources are read in their order, then lexed in it, and then parsed in it.
 #[test]
@@ -175,10 +131,10 @@ fn refuses_several_sources(rt: HostRuntime) {
     for &(name, text) in &SOURCES {
         put(&rt, &mut files, name, text.as_bytes());
     }
-    for row in &ORDERS {
-        expect_commands(&rt, alloc, &mut files, &[*row]);
+    for row in rows_of(&rt, ORDERS) {
+        expect_command(&rt, alloc, &mut files, row);
         let nothing = files.content("p").is_none() && files.content("p.map").is_none();
-        expect(&rt, &nothing, &true, row.0);
+        expect(&rt, &nothing, &true, row);
     }
 }
 
@@ -196,12 +152,8 @@ fn names_faults(rt: HostRuntime) {
     let alloc = rt.alloc();
     for &(call, status, err, map_stands) in &FAILING_CALLS {
         let mut files = small_files(&rt, alloc, call);
-        expect_commands(
-            &rt,
-            alloc,
-            &mut files,
-            &[("compile -o a a.c", "", status, err)],
-        );
+        let answer = run_line(&rt, alloc, "compile -o a a.c", &mut files, 0);
+        expect_answer(&rt, &answer, "", status, err, "compile");
         let map = (call, files.content("a.map").is_some());
         expect(&rt, &map, &(call, map_stands), "a map, by the call");
     }
@@ -217,37 +169,27 @@ fn solve_text(rt: &impl Abort, alloc: Global, board: &str) -> Answer {
     run_line(rt, alloc, "solve b", &mut files, 0)
 }
 
-const BAD: &str = "b: 25 BadBoard\n";
-
-/// The text of a board, the status, the output and the line.
-const BOARDS: [(&str, u8, &str, &str); 8] = [
-    (
-        "areas bb bu\npieces X2 Z2 Y1\n",
-        0,
-        "0 X2 0 all\n1 Z2 0 all\n2 Y1 1 low\n",
-        "",
-    ),
-    (
-        "areas bb bb bb bb\npieces X2 Z2 Y1 Y1 Y1 Y1 Y1 Y1 Y1\n",
-        0,
-        "none\n",
-        "",
-    ),
-    ("areas\npieces\n", 0, "", ""),
-    ("areas\npieces X1\n", 0, "none\n", ""),
-    ("areas b\npieces\n", 1, "", BAD),
-    ("areas bb\npieces X3\n", 1, "", BAD),
-    ("areas  bb\npieces\n", 1, "", BAD),
-    ("areas bb\npieces X1", 1, "", BAD),
-];
+/// The text of a board, and what is told of it.
+const BOARDS: &str = "\
+8 rows
+areas bb bu$pieces X2 Z2 Y1$ => 0 => 0 X2 0 all$1 Z2 0 all$2 Y1 1 low$
+areas bb bb bb bb$pieces X2 Z2 Y1 Y1 Y1 Y1 Y1 Y1 Y1$ => 0 => none$
+areas$pieces$ => 0
+areas$pieces X1$ => 0 => none$
+areas b$pieces$ => 1 b: 25 BadBoard$
+areas bb$pieces X3$ => 1 b: 25 BadBoard$
+areas  bb$pieces$ => 1 b: 25 BadBoard$
+areas bb$pieces X1 => 1 b: 25 BadBoard$";
 
 /// Each text of a board has its placement on the output, or `none`, and any other file its fault.
 #[test]
 fn solves_boards(rt: HostRuntime) {
     let alloc = rt.alloc();
-    for &(board, status, out, err) in &BOARDS {
-        let answer = solve_text(&rt, alloc, board);
-        expect_answer(&rt, &answer, out, status, err, board);
+    for row in rows_of(&rt, BOARDS) {
+        let (board, told) = cells(&rt, row);
+        let board = unfolded(alloc, board).expect(&rt, row);
+        let answer = solve_text(&rt, alloc, board.as_str());
+        expect_told(&rt, alloc, &answer, told, row);
     }
     // The wide pieces share an area, since the others need all columns of the rest.
     let board = "areas bb bb bb bb\npieces X2 Z2 Y1 Y1 Y1 Y1 Y1 Y1\n";
@@ -272,51 +214,47 @@ fn small_image(rt: &impl Abort, alloc: Global) -> Vec<u8> {
     write_image(alloc, &image).expect(rt, "an image")
 }
 
-/// The image with these bytes from an offset of the file on.
-fn with_bytes(alloc: Global, image: &[u8], at: usize, bytes: &[u8]) -> Result<Vec<u8>, AllocError> {
-    let mut changed = Vec::from_slice(alloc, image)?;
-    for (offset, byte) in bytes.iter().enumerate() {
-        if let Some(place) = changed.get_mut(at.saturating_add(offset)) {
-            *place = *byte;
+/// The image with a change: an offset, and the bytes from there on as numbers to the base 16.
+fn with_change(rt: &impl Abort, alloc: Global, image: &[u8], change: &str) -> Vec<u8> {
+    let (at, bytes) = change.split_once(" ").expect(rt, change);
+    let mut here: usize = at.parse().expect(rt, change);
+    let mut changed = image.to_vec(alloc).expect(rt, change);
+    for byte in bytes.split(" ") {
+        let number = u8::from_str_radix(byte, 16).expect(rt, change);
+        if let Some(place) = changed.get_mut(here) {
+            *place = number;
         }
+        here = here.saturating_add(1);
     }
-    Ok(changed)
+    changed
 }
 
-/// Bytes of the file of an image, from an offset on, and how a run of it ends.
-const CHANGED_BYTES: [(usize, &[u8], u8, &str); 20] = [
-    (4096, &[0xBC], 0, "exit 44\n"),
-    (4096, &[0xF4], 9, "stopped instruction 0x08048000\n"),
-    (4096 + 5, &[0x0F], 9, "stopped instruction 0x08048005\n"),
-    (4096 + 5, &[0x72], 9, "stopped flags 0x08048005\n"),
-    (4096 + 5, &[0x58], 9, "stopped access 0x0c04a004\n"),
-    (4096 + 17, &[0x81], 9, "stopped call 0x08048010\n"),
-    (4096 + 12, &[4], 9, "stopped call 0x08048010\n"),
-    (4096 + 7, &[45], 0, "exit 45\n"),
-    (4095, &[1], 0, "exit 44\n"),
-    // The entry.
-    (24, &[0; 4], 9, "stopped access 0x00000000\n"),
-    (27, &[9], 9, "stopped access 0x09048000\n"),
-    // The system, and all up to where section headers begin.
-    (7, &[3], 0, "exit 44\n"),
-    (
-        7,
-        b"\x03\0\0\0\0\0\0\0\0\x02\0\x03\0\x01\0\0\0\0\x80\x04\x08\x34\0\0\0\xFF\xFF\xFF\xFF",
-        0,
-        "exit 44\n",
-    ),
-    // The leave to run the text.
-    (76, &[4], 9, "stopped access 0x08048000\n"),
-    (0, &[0], 7, "not an image\n"),
-    // How many program headers there are.
-    (44, &[0, 0], 7, "not an image\n"),
-    (44, &[0xFF, 0xFF], 7, "not an image\n"),
-    // The address of the text, which is that of the data.
-    (60, &[0x00, 0x90, 0x04, 0x08], 7, "not an image\n"),
-    // The sizes in memory of the text and of the data.
-    (72, &[0; 4], 7, "not an image\n"),
-    (104, &[0xFF; 4], 7, "not an image\n"),
-];
+/// Bytes of the file of an image, from an offset on, as numbers to the base 16, and how a run of it ends. The text
+/// begins at 4096. At 24 stands the entry, from 7 on the system and all up to where section headers begin, at 76 the
+/// leave to run the text, at 44 how many program headers there are, at 60 the address of the text, which is then that
+/// of the data, and at 72 and 104 the sizes in memory of the text and of the data.
+const CHANGED_BYTES: &str = "\
+20 rows
+4096 BC => 0 exit 44$
+4096 F4 => 9 stopped instruction 0x08048000$
+4101 0F => 9 stopped instruction 0x08048005$
+4101 72 => 9 stopped flags 0x08048005$
+4101 58 => 9 stopped access 0x0c04a004$
+4113 81 => 9 stopped call 0x08048010$
+4108 04 => 9 stopped call 0x08048010$
+4103 2D => 0 exit 45$
+4095 01 => 0 exit 44$
+24 00 00 00 00 => 9 stopped access 0x00000000$
+27 09 => 9 stopped access 0x09048000$
+7 03 => 0 exit 44$
+7 03 00 00 00 00 00 00 00 00 02 00 03 00 01 00 00 00 00 80 04 08 34 00 00 00 FF FF FF FF => 0 exit 44$
+76 04 => 9 stopped access 0x08048000$
+0 00 => 7 not an image$
+44 00 00 => 7 not an image$
+44 FF FF => 7 not an image$
+60 00 90 04 08 => 7 not an image$
+72 00 00 00 00 => 7 not an image$
+104 FF FF FF FF => 7 not an image$";
 
 /// A changed image is refused, or stops where it no longer has a step.
 #[test]
@@ -324,10 +262,12 @@ fn runs_changed_images(rt: HostRuntime) {
     let alloc = rt.alloc();
     let mut files = no_files(&rt, alloc, 0);
     let image = small_image(&rt, alloc);
-    for &(at, bytes, status, err) in &CHANGED_BYTES {
-        let changed = with_bytes(alloc, image.as_slice(), at, bytes).expect(&rt, "an image");
+    for row in rows_of(&rt, CHANGED_BYTES) {
+        let (change, told) = cells(&rt, row);
+        let changed = with_change(&rt, alloc, image.as_slice(), change);
         put(&rt, &mut files, "b", changed.as_slice());
-        expect_commands(&rt, alloc, &mut files, &[("run b", "", status, err)]);
+        let answer = run_line(&rt, alloc, "run b", &mut files, 0);
+        expect_told(&rt, alloc, &answer, told, row);
     }
 }
 
@@ -339,35 +279,25 @@ fn refuses_images_that_end_too_early(rt: HostRuntime) {
     let image = small_image(&rt, alloc);
     for count in [51, image.len().saturating_sub(1)] {
         put(&rt, &mut files, "b", image.get(..count).unwrap_or(b""));
-        expect_commands(
-            &rt,
-            alloc,
-            &mut files,
-            &[("run b", "", 7, "not an image\n")],
-        );
+        expect_command(&rt, alloc, &mut files, "run b => 7 not an image$");
     }
 }
 
-/// Commands over files of the system: nothing on the output, the status and the line.
-const REAL_LINES: [(&str, &str, u8, &str); 6] = [
-    ("compile -o pcc_test pcc_test.c", "", 0, ""),
-    ("run pcc_test", "", 0, "exit 44\n"),
-    ("run pcc_test.map", "", 7, "not an image\n"),
-    ("run pcc_test.o", "", 6, "no file pcc_test.o\n"),
-    (
-        "compile -o nowhere/a pcc_test.c",
-        "",
-        5,
-        "write fault nowhere/a.map\n",
-    ),
-    ("run .", "", 4, "read fault .\n"),
-];
+/// Commands over files of the system: the status and the line, and nothing on the output.
+const REAL_LINES: &str = "\
+6 rows
+compile -o pcc_test pcc_test.c => 0
+run pcc_test => 0 exit 44$
+run pcc_test.map => 7 not an image$
+run pcc_test.o => 6 no file pcc_test.o$
+compile -o nowhere/a pcc_test.c => 5 write fault nowhere/a.map$
+run . => 4 read fault .$";
 
 /// The same over files of the system, in the folder where the test runs.
 #[test]
 fn compiles_and_runs_real_files(rt: HostRuntime) -> io::Result<()> {
     fs::write(&rt, "pcc_test.c", "int main(void){return 300;}")?;
-    expect_commands(&rt, rt.alloc(), &mut HostFiles::new(&rt), &REAL_LINES);
+    expect_commands(&rt, rt.alloc(), &mut HostFiles::new(&rt), REAL_LINES);
     for name in ["pcc_test.c", "pcc_test.map", "pcc_test"] {
         fs::remove_file(&rt, name)?;
     }

@@ -16,3 +16,5 @@ mod programs;
 mod refusals;
 #[cfg(test)]
 mod runs;
+#[cfg(test)]
+mod tables;

@@ -83,17 +83,17 @@ const PLACES: [(usize, &[u8], &str); 5] = [
     ),
 ];
 
-/// The commands: the words, the output, the status and the line.
-const LINES: [(&str, &str, u8, &str); 2] = [
-    ("compile -o a a.c", "", 0, ""),
-    ("run a", "G", 0, "exit 44\n"),
-];
+/// The commands: the words, the status and the line, and the output.
+const LINES: &str = "\
+2 rows
+compile -o a a.c => 0
+run a => 0 exit 44$ => G";
 
 #[test]
 fn maps_the_image(rt: HostRuntime) {
     let alloc = rt.alloc();
     let mut files = files_with(&rt, alloc, PROGRAM, 0);
-    expect_commands(&rt, alloc, &mut files, &LINES);
+    expect_commands(&rt, alloc, &mut files, LINES);
     let map = files.content("a.map").unwrap_or(b"");
     expect(
         &rt,

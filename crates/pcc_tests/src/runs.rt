@@ -1,7 +1,7 @@
 //! What the tests run: commands over files in memory or of the system, and what each is to answer. Where there is no
 //! memory for it, the test ends there.
 
-use crate::programs::Row;
+use crate::tables::{cells, rows_of, unfolded};
 use pcc_driver::pcc;
 use pcc_outside::{FileStore, MemFiles, MemSink, MemSource};
 use std::alloc::{AllocError, Global};
@@ -104,27 +104,52 @@ pub fn expect_answer(
     expect(rt, &answer.status, &status, of);
 }
 
+/// A command tells what a row says: the status, the line on standard error if there is one, and what stands on the
+/// output if something does.
+pub fn expect_told(rt: &impl Abort, alloc: Global, answer: &Answer, told: &str, of: &str) {
+    let told = unfolded(alloc, told).expect(rt, of);
+    let told = told.as_str();
+    let (told, out) = told.split_once(" => ").unwrap_or((told, ""));
+    let (status, line) = told.split_once(" ").unwrap_or((told, ""));
+    let status: u8 = status.parse().expect(rt, of);
+    expect_answer(rt, answer, out, status, line, of);
+}
+
+/// The source of a program's row, and its input.
+pub fn source_and_input(program: &str) -> (&str, &str) {
+    program.split_once(" <= ").unwrap_or((program, ""))
+}
+
+/// A program with this input is compiled, and its image tells this.
+pub fn expect_run(rt: &impl Abort, alloc: Global, source: &str, input: &str, told: &str) {
+    let mut files = files_with(rt, alloc, source, 0);
+    let compiled = run_line(rt, alloc, "compile -o a a.c", &mut files, 0);
+    expect_answer(rt, &compiled, "", 0, "", source);
+    let input = input_of(rt, alloc, input, 0);
+    let ran = run_over(rt, alloc, "run a", &mut files, input, 0);
+    expect_told(rt, alloc, &ran, told, source);
+}
+
 /// The program of each row is compiled, and its image is run.
-pub fn expect_runs(rt: &impl Abort, alloc: Global, rows: &[Row]) {
-    for (source, input, out, status, line) in rows {
-        let mut files = files_with(rt, alloc, source, 0);
-        let compiled = run_line(rt, alloc, "compile -o a a.c", &mut files, 0);
-        expect_answer(rt, &compiled, "", 0, "", source);
-        let input = input_of(rt, alloc, input, 0);
-        let ran = run_over(rt, alloc, "run a", &mut files, input, 0);
-        expect_answer(rt, &ran, out, *status, line, source);
+pub fn expect_runs(rt: &impl Abort, alloc: Global, table: &str) {
+    for row in rows_of(rt, table) {
+        let (program, told) = cells(rt, row);
+        let program = unfolded(alloc, program).expect(rt, row);
+        let (source, input) = source_and_input(program.as_str());
+        expect_run(rt, alloc, source, input, told);
     }
 }
 
-/// Commands over files with an empty input: the words, the output, the status and the line.
-pub fn expect_commands<F: FileStore>(
-    rt: &impl Abort,
-    alloc: Global,
-    files: &mut F,
-    rows: &[(&str, &str, u8, &str)],
-) {
-    for (words, out, status, line) in rows {
-        let answer = run_line(rt, alloc, words, files, 0);
-        expect_answer(rt, &answer, out, *status, line, words);
+/// The command of a row, over files with an empty input, tells what the row says.
+pub fn expect_command<F: FileStore>(rt: &impl Abort, alloc: Global, files: &mut F, row: &str) {
+    let (words, told) = cells(rt, row);
+    let answer = run_line(rt, alloc, words, files, 0);
+    expect_told(rt, alloc, &answer, told, row);
+}
+
+/// The commands of a table, in their order.
+pub fn expect_commands<F: FileStore>(rt: &impl Abort, alloc: Global, files: &mut F, table: &str) {
+    for row in rows_of(rt, table) {
+        expect_command(rt, alloc, files, row);
     }
 }

@@ -1,147 +1,138 @@
 //! Declarations, files, and their least faults.
 
-use pcc_base::FaultKind;
-
-/// A table: on each line a program, and the kind of its least fault.
-macro_rules! faults {
-    ($($text:literal => $kind:ident;)*) => {
-        [$(($text, FaultKind::$kind)),*]
-    };
-}
-
 /// Each kind that no construct below has.
-pub const FIRST_ROWS: [(&str, FaultKind); 5] = faults! {
-    "@" => NoMain;
-    "int main(void){int a[2]={1,2,@3};return 0;}" => Initialiser;
-    "int main(void){return @x;}" => Undeclared;
-    "int f(int n); int main(void){return @f(20);}" => NoBody;
-    "int x=1; int x; static int y; int main(void){@extern int x; return 0;}" => TypeRule;
-};
+pub const FIRST_ROWS: &str = "\
+5 rows
+@ => NoMain
+int main(void){int a[2]={1,2,@3};return 0;} => Initialiser
+int main(void){return @x;} => Undeclared
+int f(int n); int main(void){return @f(20);} => NoBody
+int x=1; int x; static int y; int main(void){@extern int x; return 0;} => TypeRule";
 
 /// Specifiers (C99 6.7.1 and 6.7.2).
-pub const SPECIFIERS: [(&str, FaultKind); 14] = faults! {
-    "@int int x; int main(void){return 0;}" => TypeRule;
-    "@static x; int main(void){return 0;}" => TypeRule;
-    "@char int x; int main(void){return 0;}" => TypeRule;
-    "@signed void x; int main(void){return 0;}" => TypeRule;
-    "@static extern int x; int main(void){return 0;}" => TypeRule;
-    "@auto int x; int main(void){return 0;}" => TypeRule;
-    "@const register int x; int main(void){return 0;}" => TypeRule;
-    "int f(@static int x); int main(void){return 0;}" => TypeRule;
-    "int f(@auto int x); int main(void){return 0;}" => TypeRule;
-    "int main(void){for(@static int i=0;;)break; return 0;}" => TypeRule;
-    "int main(void){for(@extern int i;;)break; return 0;}" => TypeRule;
-    "int main(void){int @f(int x); return 0;}" => TypeRule;
-    "int main(void){return (@static int)3;}" => TypeRule;
-    "int main(void){return (@int int)3;}" => TypeRule;
-};
+pub const SPECIFIERS: &str = "\
+14 rows
+@int int x; int main(void){return 0;} => TypeRule
+@static x; int main(void){return 0;} => TypeRule
+@char int x; int main(void){return 0;} => TypeRule
+@signed void x; int main(void){return 0;} => TypeRule
+@static extern int x; int main(void){return 0;} => TypeRule
+@auto int x; int main(void){return 0;} => TypeRule
+@const register int x; int main(void){return 0;} => TypeRule
+int f(@static int x); int main(void){return 0;} => TypeRule
+int f(@auto int x); int main(void){return 0;} => TypeRule
+int main(void){for(@static int i=0;;)break; return 0;} => TypeRule
+int main(void){for(@extern int i;;)break; return 0;} => TypeRule
+int main(void){int @f(int x); return 0;} => TypeRule
+int main(void){return (@static int)3;} => TypeRule
+int main(void){return (@int int)3;} => TypeRule";
 
 /// Objects and functions that can't be (C99 6.7.5).
-pub const OBJECTS: [(&str, FaultKind); 15] = faults! {
-    "void @x; int main(void){return 0;}" => TypeRule;
-    "extern void @x; int main(void){return 0;}" => TypeRule;
-    "int main(void){void @x; return 0;}" => TypeRule;
-    "int main(void){void @x[3]; return 0;}" => TypeRule;
-    "int *@p; int main(void){return 0;}" => PointerUse;
-    "extern int *@p; int main(void){return 0;}" => PointerUse;
-    "int main(void){static char *@p; return 0;}" => PointerUse;
-    "int main(void){void *@p; return 0;}" => PointerUse;
-    "int main(void){int *@a[3]; return 0;}" => PointerUse;
-    "int *@f(void); int main(void){return 0;}" => PointerUse;
-    "void *@f(void){} int main(void){return 0;}" => PointerUse;
-    "static int @main(void){return 0;}" => TypeRule;
-    "static int @main(void); int main(void){return 0;}" => TypeRule;
-    "int f(void)=@3; int main(void){return 0;}" => TypeRule;
-    "int f(void)=@{3}; int main(void){return 0;}" => TypeRule;
-};
+pub const OBJECTS: &str = "\
+15 rows
+void @x; int main(void){return 0;} => TypeRule
+extern void @x; int main(void){return 0;} => TypeRule
+int main(void){void @x; return 0;} => TypeRule
+int main(void){void @x[3]; return 0;} => TypeRule
+int *@p; int main(void){return 0;} => PointerUse
+extern int *@p; int main(void){return 0;} => PointerUse
+int main(void){static char *@p; return 0;} => PointerUse
+int main(void){void *@p; return 0;} => PointerUse
+int main(void){int *@a[3]; return 0;} => PointerUse
+int *@f(void); int main(void){return 0;} => PointerUse
+void *@f(void){} int main(void){return 0;} => PointerUse
+static int @main(void){return 0;} => TypeRule
+static int @main(void); int main(void){return 0;} => TypeRule
+int f(void)=@3; int main(void){return 0;} => TypeRule
+int f(void)=@{3}; int main(void){return 0;} => TypeRule";
 
 /// Parameters (C99 6.7.5.3).
-pub const PARAMETERS: [(&str, FaultKind); 14] = faults! {
-    "int f(@void, int x); int main(void){return 0;}" => TypeRule;
-    "int f(void @x); int main(void){return 0;}" => TypeRule;
-    "int f(@void *); int main(void){return 0;}" => PointerUse;
-    "int f(void @a[]); int main(void){return 0;}" => PointerUse;
-    "int f(@void []); int main(void){return 0;}" => PointerUse;
-    "int f(int *@a[]); int main(void){return 0;}" => PointerUse;
-    "int f(@int){return 0;} int main(void){return 0;}" => TypeRule;
-    "int f(int x, @char *){return 0;} int main(void){return 0;}" => TypeRule;
-    "int f(int a, int @a); int main(void){return 0;}" => Redeclared;
-    "int f(int a){int @a; return 0;} int main(void){return 0;}" => Redeclared;
-    "int f(int a@[0]); int main(void){return 0;}" => ArraySize;
-    "int f(int n, int a@[n]); int main(void){return 0;}" => ArraySize;
-    "int f(int a[@n]); int main(void){return 0;}" => Undeclared;
-    "int f(int a[@a]); int main(void){return 0;}" => Undeclared;
-};
+pub const PARAMETERS: &str = "\
+14 rows
+int f(@void, int x); int main(void){return 0;} => TypeRule
+int f(void @x); int main(void){return 0;} => TypeRule
+int f(@void *); int main(void){return 0;} => PointerUse
+int f(void @a[]); int main(void){return 0;} => PointerUse
+int f(@void []); int main(void){return 0;} => PointerUse
+int f(int *@a[]); int main(void){return 0;} => PointerUse
+int f(@int){return 0;} int main(void){return 0;} => TypeRule
+int f(int x, @char *){return 0;} int main(void){return 0;} => TypeRule
+int f(int a, int @a); int main(void){return 0;} => Redeclared
+int f(int a){int @a; return 0;} int main(void){return 0;} => Redeclared
+int f(int a@[0]); int main(void){return 0;} => ArraySize
+int f(int n, int a@[n]); int main(void){return 0;} => ArraySize
+int f(int a[@n]); int main(void){return 0;} => Undeclared
+int f(int a[@a]); int main(void){return 0;} => Undeclared";
 
 /// Sizes of arrays (C99 6.7.5.2).
-pub const ARRAY_SIZES: [(&str, FaultKind); 9] = faults! {
-    "int a@[0]; int main(void){return 0;}" => ArraySize;
-    "int a@[-1]; int main(void){return 0;}" => ArraySize;
-    "int a@[1/0]; int main(void){return 0;}" => ArraySize;
-    "int a@[]; int main(void){return 0;}" => ArraySize;
-    "extern int a@[]; int main(void){return 0;}" => ArraySize;
-    "int main(void){int a@[]=3; return 0;}" => ArraySize;
-    "int main(void){int a@[]=\"x\"; return 0;}" => ArraySize;
-    "int main(void){int n=3; int a@[n]; return 0;}" => ArraySize;
-    "int main(void){int n=3; int a@[\"x\"]; return 0;}" => ArraySize;
-};
+pub const ARRAY_SIZES: &str = "\
+9 rows
+int a@[0]; int main(void){return 0;} => ArraySize
+int a@[-1]; int main(void){return 0;} => ArraySize
+int a@[1/0]; int main(void){return 0;} => ArraySize
+int a@[]; int main(void){return 0;} => ArraySize
+extern int a@[]; int main(void){return 0;} => ArraySize
+int main(void){int a@[]=3; return 0;} => ArraySize
+int main(void){int a@[]=\"x\"; return 0;} => ArraySize
+int main(void){int n=3; int a@[n]; return 0;} => ArraySize
+int main(void){int n=3; int a@[\"x\"]; return 0;} => ArraySize";
 
 /// Names that are declared again (C99 6.2.1, 6.2.7 and 6.9).
-pub const REDECLARATIONS: [(&str, FaultKind); 16] = faults! {
-    "int a[3]; int @a[4]; int main(void){return 0;}" => Redeclared;
-    "int x=1; int @x=2; int main(void){return 0;}" => Redeclared;
-    "int x; char @x; int main(void){return 0;}" => Redeclared;
-    "int x; int @x(void); int main(void){return 0;}" => Redeclared;
-    "int x; static int @x; int main(void){return 0;}" => Redeclared;
-    "static int x; int @x; int main(void){return 0;}" => Redeclared;
-    "int f(void); static int @f(void){return 0;} int main(void){return 0;}" => Redeclared;
-    "int f(void){return 0;} int @f(void){return 0;} int main(void){return 0;}" => Redeclared;
-    "int f(int a); int @f(char a){return 0;} int main(void){return 0;}" => Redeclared;
-    "int main(void){int x; int @x; return 0;}" => Redeclared;
-    "int main(void){static int x; int @x; return 0;}" => Redeclared;
-    "int @putchar(char c); int main(void){return 0;}" => Redeclared;
-    "int @putchar; int main(void){return 0;}" => Redeclared;
-    "static int @putchar(int c); int main(void){return 0;}" => Redeclared;
-    "int @putchar(int c){return 0;} int main(void){return 0;}" => TypeRule;
-    "int @putchar(void){return 0;} int main(void){return 0;}" => Redeclared;
-};
+pub const REDECLARATIONS: &str = "\
+16 rows
+int a[3]; int @a[4]; int main(void){return 0;} => Redeclared
+int x=1; int @x=2; int main(void){return 0;} => Redeclared
+int x; char @x; int main(void){return 0;} => Redeclared
+int x; int @x(void); int main(void){return 0;} => Redeclared
+int x; static int @x; int main(void){return 0;} => Redeclared
+static int x; int @x; int main(void){return 0;} => Redeclared
+int f(void); static int @f(void){return 0;} int main(void){return 0;} => Redeclared
+int f(void){return 0;} int @f(void){return 0;} int main(void){return 0;} => Redeclared
+int f(int a); int @f(char a){return 0;} int main(void){return 0;} => Redeclared
+int main(void){int x; int @x; return 0;} => Redeclared
+int main(void){static int x; int @x; return 0;} => Redeclared
+int @putchar(char c); int main(void){return 0;} => Redeclared
+int @putchar; int main(void){return 0;} => Redeclared
+static int @putchar(int c); int main(void){return 0;} => Redeclared
+int @putchar(int c){return 0;} int main(void){return 0;} => TypeRule
+int @putchar(void){return 0;} int main(void){return 0;} => Redeclared";
 
 /// Several files (C99 6.2.2 and 6.9), and what no file defines.
-pub const FILES: [(&str, FaultKind); 10] = faults! {
-    "int x=1; int main(void){return x;}\nint @x=2;" => Redeclared;
-    "int x=1; int main(void){return x;}\nextern char @x;" => Redeclared;
-    "int x=1; int main(void){return x;}\nint f(void){return @x;}" => Undeclared;
-    "int f(void){return 1;}\nint main(void){return @f();}" => Undeclared;
-    "static int f(void){return 1;}\nint f(void); int main(void){return @f();}" => NoBody;
-    "extern int x; int main(void){return 2+@x;}" => NoBody;
-    "int main(int x){return 0;}\nint f(void){return 1;}@" => NoMain;
-    "void main(void){} @" => NoMain;
-    "int main; @" => NoMain;
-    "int f(void); int g(void){return @f();}" => NoBody;
-};
+pub const FILES: &str = "\
+10 rows
+int x=1; int main(void){return x;}$int @x=2; => Redeclared
+int x=1; int main(void){return x;}$extern char @x; => Redeclared
+int x=1; int main(void){return x;}$int f(void){return @x;} => Undeclared
+int f(void){return 1;}$int main(void){return @f();} => Undeclared
+static int f(void){return 1;}$int f(void); int main(void){return @f();} => NoBody
+extern int x; int main(void){return 2+@x;} => NoBody
+int main(int x){return 0;}$int f(void){return 1;}@ => NoMain
+void main(void){} @ => NoMain
+int main; @ => NoMain
+int f(void); int g(void){return @f();} => NoBody";
 
 /// Initialisers (C99 6.7.8).
-pub const INITIALISERS: [(&str, FaultKind); 22] = faults! {
-    "int x=@f(); int main(void){return 0;}" => Undeclared;
-    "int f(void){return 1;} int x=@f(); int main(void){return 0;}" => Initialiser;
-    "int y; int x=@y; int main(void){return 0;}" => Initialiser;
-    "int x=@1/0; int main(void){return 0;}" => Initialiser;
-    "void v(void){} int x=@v(); int main(void){return 0;}" => Initialiser;
-    "int x=@\"a\"; int main(void){return 0;}" => Initialiser;
-    "int main(void){static int x=@x; return 0;}" => Initialiser;
-    "char s[2]=@\"abc\"; int main(void){return 0;}" => Initialiser;
-    "int main(void){char s[2]={@\"abc\"}; return 0;}" => Initialiser;
-    "int main(void){int a[3]=@\"x\"; return 0;}" => Initialiser;
-    "int main(void){int a[3]=@5; return 0;}" => Initialiser;
-    "int a[2]={1,2,@3}; int main(void){return 0;}" => Initialiser;
-    "int main(void){int x={1,@2}; return 0;}" => Initialiser;
-    "int x={1,@2}; int main(void){return 0;}" => Initialiser;
-    "int main(void){int a[3]={1,@\"x\"}; return 0;}" => PointerUse;
-    "int main(void){int a[3]={@\"x\"}; return 0;}" => PointerUse;
-    "int main(void){char a[3]={@(\"ab\")}; return 0;}" => PointerUse;
-    "int main(void){char a[3]=@(\"ab\"); return 0;}" => Initialiser;
-    "int main(void){int x=@\"x\"; return 0;}" => PointerUse;
-    "int main(void){int *p=@1; return 0;}" => PointerUse;
-    "void v(void){} int main(void){int x=@v(); return 0;}" => TypeRule;
-    "int main(void){int a[1]={1,@y}; return 0;}" => Undeclared;
-};
+pub const INITIALISERS: &str = "\
+22 rows
+int x=@f(); int main(void){return 0;} => Undeclared
+int f(void){return 1;} int x=@f(); int main(void){return 0;} => Initialiser
+int y; int x=@y; int main(void){return 0;} => Initialiser
+int x=@1/0; int main(void){return 0;} => Initialiser
+void v(void){} int x=@v(); int main(void){return 0;} => Initialiser
+int x=@\"a\"; int main(void){return 0;} => Initialiser
+int main(void){static int x=@x; return 0;} => Initialiser
+char s[2]=@\"abc\"; int main(void){return 0;} => Initialiser
+int main(void){char s[2]={@\"abc\"}; return 0;} => Initialiser
+int main(void){int a[3]=@\"x\"; return 0;} => Initialiser
+int main(void){int a[3]=@5; return 0;} => Initialiser
+int a[2]={1,2,@3}; int main(void){return 0;} => Initialiser
+int main(void){int x={1,@2}; return 0;} => Initialiser
+int x={1,@2}; int main(void){return 0;} => Initialiser
+int main(void){int a[3]={1,@\"x\"}; return 0;} => PointerUse
+int main(void){int a[3]={@\"x\"}; return 0;} => PointerUse
+int main(void){char a[3]={@(\"ab\")}; return 0;} => PointerUse
+int main(void){char a[3]=@(\"ab\"); return 0;} => Initialiser
+int main(void){int x=@\"x\"; return 0;} => PointerUse
+int main(void){int *p=@1; return 0;} => PointerUse
+void v(void){} int main(void){int x=@v(); return 0;} => TypeRule
+int main(void){int a[1]={1,@y}; return 0;} => Undeclared";

@@ -1,6 +1,7 @@
 //! What the rows of the tables are to give.
 
-use pcc_base::Refusal;
+use pcc_base::{Fault, Refusal};
+use std::alloc::{AllocError, Global};
 use std::fmt::Debug;
 use std::process::Abort;
 
@@ -9,17 +10,31 @@ pub fn expect<T: PartialEq + Debug>(rt: &impl Abort, found: &T, wanted: &T, of: 
     assert_eq!(rt; *found, *wanted, "{of}");
 }
 
-/// A text is refused so, or isn't refused.
-pub fn expect_refusal(
-    rt: &impl Abort,
-    found: Option<Refusal>,
-    wanted: Option<Refusal>,
-    text: &str,
-) {
-    expect(rt, &found, &wanted, text);
+/// The Debug form of what was found is this text.
+pub fn expect_shown<T: Debug>(rt: &impl Abort, alloc: Global, found: &T, wanted: &str, of: &str) {
+    let shown = format!(in alloc; "{found:?}").expect(rt, of);
+    expect(rt, &shown.as_str(), &wanted, of);
 }
 
-/// What a text of a row has, as a text.
-pub fn expect_shown(rt: &impl Abort, found: &str, wanted: &str, text: &str) {
-    expect(rt, &found, &wanted, text);
+/// A fault as `FILE:LINE:COLUMN KIND`, another refusal in its Debug form, and `none` where there is none.
+fn shown_refusal(alloc: Global, refusal: Option<Refusal>) -> Result<String, AllocError> {
+    match refusal {
+        Some(Refusal::Fault(Fault { kind, at })) => {
+            format!(in alloc; "{}:{}:{} {kind:?}", at.file, at.line, at.col)
+        }
+        Some(other) => format!(in alloc; "{other:?}"),
+        None => String::from_str(alloc, "none"),
+    }
+}
+
+/// Why a text is refused, if it is, is this as a text.
+pub fn expect_refusal(
+    rt: &impl Abort,
+    alloc: Global,
+    found: Option<Refusal>,
+    wanted: &str,
+    of: &str,
+) {
+    let shown = shown_refusal(alloc, found).expect(rt, of);
+    expect(rt, &shown.as_str(), &wanted, of);
 }

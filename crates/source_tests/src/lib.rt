@@ -1,7 +1,8 @@
 //! Tests of what is done with sources: of the public calls of `c_lexer` (`tokens`), `c_parser` (`trees`), `c_tree`
 //! (`types`) and `c_types` (`answers`): the last by small programs with their least fault and its place, programs
 //! that are typed, programs that are above a limit, and what sums are (`values`). A row of these (`rows`) is a
-//! program, each line of it a file, with an `@` before the token at which the fault stands.
+//! program, with a `$` between two files and an `@` before the token at which the fault stands. Each table is one
+//! text (`tables`), since the proof of a test writes out what a table of tuples holds.
 //!
 //! And tests of `lower`: small programs, whose outcome by the source's meaning is that of their graphs and the
 //! expected one. A plain interpreter of graphs stands here (`machine`, `ops`, `calls`, `arrays`), written from the
@@ -44,6 +45,8 @@ mod rows;
 mod statements;
 #[cfg(test)]
 mod stores;
+#[cfg(test)]
+mod tables;
 #[cfg(test)]
 mod texts;
 #[cfg(test)]

@@ -1,9 +1,9 @@
 //! Each row of the tables, checked.
 
-use crate::expected::expect;
+use crate::expected::{expect, expect_shown};
 use crate::lowered::{Outcome, evaluated, graphs_of_program, program_of_text, ran};
-use crate::machine::End;
 use crate::programs;
+use crate::tables::{cells, rows_of};
 use c_tree::Program;
 use lower::Graphs;
 use pcc_base::NoMemory;
@@ -62,41 +62,44 @@ fn outcome_of(
 }
 
 /// The program of each row does what stands in it.
-fn expect_rows(rt: &impl Abort, alloc: Global, rows: &[(&str, &str, &str, End)]) {
-    for (text, input, written, end) in rows {
-        let outcome = outcome_of(rt, alloc, text, input).expect(rt, text);
-        let found = (outcome.end, outcome.written.as_slice());
-        expect(rt, &found, &(*end, written.as_bytes()), text);
+fn expect_rows(rt: &impl Abort, alloc: Global, table: &str) {
+    for row in rows_of(rt, table) {
+        let (left, right) = cells(rt, row);
+        let (text, input) = left.split_once(" <= ").unwrap_or((left, ""));
+        let (written, end) = cells(rt, right);
+        let outcome = outcome_of(rt, alloc, text, input).expect(rt, row);
+        expect_shown(rt, alloc, &outcome.end, end, row);
+        expect(rt, &outcome.written.as_slice(), &written.as_bytes(), row);
     }
 }
 
 #[test]
 fn expressions(rt: HostRuntime) {
     let alloc = rt.alloc();
-    expect_rows(&rt, alloc, &programs::OPERATORS);
-    expect_rows(&rt, alloc, &programs::CONVERSIONS);
-    expect_rows(&rt, alloc, &programs::CONDITIONS);
-    expect_rows(&rt, alloc, &programs::ASSIGNMENTS);
+    expect_rows(&rt, alloc, programs::OPERATORS);
+    expect_rows(&rt, alloc, programs::CONVERSIONS);
+    expect_rows(&rt, alloc, programs::CONDITIONS);
+    expect_rows(&rt, alloc, programs::ASSIGNMENTS);
 }
 
 #[test]
 fn statements(rt: HostRuntime) {
     let alloc = rt.alloc();
-    expect_rows(&rt, alloc, &programs::LOOPS);
-    expect_rows(&rt, alloc, &programs::SWITCHES);
-    expect_rows(&rt, alloc, &programs::CALLS);
+    expect_rows(&rt, alloc, programs::LOOPS);
+    expect_rows(&rt, alloc, programs::SWITCHES);
+    expect_rows(&rt, alloc, programs::CALLS);
 }
 
 #[test]
 fn objects(rt: HostRuntime) {
     let alloc = rt.alloc();
-    expect_rows(&rt, alloc, &programs::ARRAYS);
-    expect_rows(&rt, alloc, &programs::POINTERS);
-    expect_rows(&rt, alloc, &programs::STATICS);
-    expect_rows(&rt, alloc, &programs::OUTSIDE);
+    expect_rows(&rt, alloc, programs::ARRAYS);
+    expect_rows(&rt, alloc, programs::POINTERS);
+    expect_rows(&rt, alloc, programs::STATICS);
+    expect_rows(&rt, alloc, programs::OUTSIDE);
 }
 
 #[test]
 fn traps(rt: HostRuntime) {
-    expect_rows(&rt, rt.alloc(), &programs::TRAPS);
+    expect_rows(&rt, rt.alloc(), programs::TRAPS);
 }

@@ -27,7 +27,7 @@ pub struct Row {
     pub at: Span,
 }
 
-/// Reads a row: each line is a file.
+/// Reads the program of a row: a `$` stands between two files.
 pub fn read(alloc: Global, text: &str) -> Result<Row, AllocError> {
     let mut files = Vec::new(alloc);
     let mut file = Vec::new(alloc);
@@ -36,7 +36,7 @@ pub fn read(alloc: Global, text: &str) -> Result<Row, AllocError> {
     for byte in text.as_bytes() {
         match *byte {
             b'@' => at = here,
-            b'\n' => {
+            b'$' => {
                 files.push(std::mem::replace(&mut file, Vec::new(alloc)))?;
                 here = first_place(here.file.saturating_add(1));
             }

@@ -1,10 +1,11 @@
 //! Tables of texts, their tokens and their faults. The expected values are those of C99 6.4, by hand.
 
-use crate::expected::{expect_refusal, expect_shown};
+use crate::expected::{expect, expect_refusal};
+use crate::tables::{cells, rows_of, unfolded};
 use crate::texts::{push_name, push_shown};
 use c_lexer::lex;
 use c_tokens::{Token, TokenKind};
-use pcc_base::{Fault, FaultKind, Limit, Name, Refusal, Span};
+use pcc_base::{Name, Refusal};
 use std::alloc::{AllocError, Global};
 use std::process::Abort;
 
@@ -49,31 +50,24 @@ fn lexed(
     lex(alloc, file, text.as_bytes(), most)
 }
 
-/// A table: on each line a text, and then what it is to give.
-macro_rules! texts {
-    ($($text:literal => $outcome:expr;)*) => {
-        [$(($text, $outcome)),*]
-    };
-}
-
-/// Texts and their tokens.
-const TOKENS: [(&str, &str); 15] = texts! {
-    "" => "";
-    "int main(void)<%return 7;%>" => "Int main LeftParen Void RightParen LeftBrace Return 7 Semicolon RightBrace ";
-    "a+++b" => "a PlusPlus Plus b ";
-    "a<::>b" => "a LeftBracket RightBracket b ";
-    "x>>=y...z..w" => "x ShiftRightEqual y Ellipsis z Dot Dot w ";
-    "->-- ->>" => "Arrow MinusMinus Arrow Greater ";
-    "'\\377' 'a' '\\0' '\\x41' '\"' '\\''" => "-1 97 0 65 34 39 ";
-    "\"a\\n\" \"b\\\"c\"" => "\"a\n\" \"b\"c\" ";
-    "0 017 0x1F 0Xff 2147483647" => "0 15 31 255 2147483647 ";
-    "# 1 \"a.c\"\nint" => "Int ";
-    " \t# \tpragma once\nx" => "x ";
-    "/* a * / ' */x//y '" => "x ";
-    "/***/x/*/*/y" => "x y ";
-    "_Bool auto_ L u'a'" => "Bool auto_ L u 97 ";
-    "a/b/=c" => "a Slash b SlashEqual c ";
-};
+/// Texts and their tokens, with a space between two.
+const TOKENS: &str = "\
+15 rows
+ =>\x20
+int main(void)<%return 7;%> => Int main LeftParen Void RightParen LeftBrace Return 7 Semicolon RightBrace
+a+++b => a PlusPlus Plus b
+a<::>b => a LeftBracket RightBracket b
+x>>=y...z..w => x ShiftRightEqual y Ellipsis z Dot Dot w
+->-- ->> => Arrow MinusMinus Arrow Greater
+'\\377' 'a' '\\0' '\\x41' '\"' '\\'' => -1 97 0 65 34 39
+\"a\\n\" \"b\\\"c\" => \"a$\" \"b\"c\"
+0 017 0x1F 0Xff 2147483647 => 0 15 31 255 2147483647
+# 1 \"a.c\"$int => Int
+ \t# \tpragma once$x => x
+/* a * / ' */x//y ' => x
+/***/x/*/*/y => x y
+_Bool auto_ L u'a' => Bool auto_ L u 97
+a/b/=c => a Slash b SlashEqual c";
 
 /// The tokens of a text, with a space behind each.
 fn shown_tokens(rt: &impl Abort, alloc: Global, text: &str) -> String {
@@ -84,87 +78,69 @@ fn shown_tokens(rt: &impl Abort, alloc: Global, text: &str) -> String {
 }
 
 /// The text of each row has these tokens.
-fn expect_tokens(rt: &impl Abort, alloc: Global, rows: &[(&str, &str)]) {
-    for (text, shown) in rows {
+fn expect_tokens(rt: &impl Abort, alloc: Global, table: &str) {
+    for folded in rows_of(rt, table) {
+        let row = unfolded(alloc, folded).expect(rt, folded);
+        let (text, shown) = cells(rt, row.as_str());
         let out = shown_tokens(rt, alloc, text);
-        expect_shown(rt, out.as_str(), shown, text);
+        expect(rt, &out.as_str().trim_end(), &shown, folded);
     }
 }
 
 #[test]
 fn tokens_of_texts(rt: HostRuntime) {
-    expect_tokens(&rt, rt.alloc(), &TOKENS);
+    expect_tokens(&rt, rt.alloc(), TOKENS);
 }
 
-/// Texts, and the line, the column and the kind of their first fault.
-const FAULTS: [(&str, (u32, u32, FaultKind)); 21] = texts! {
-    "int main(void){return 1;} /* x" => (1, 27, FaultKind::Unclosed);
-    "int main(void){return 08;}" => (1, 23, FaultKind::BadNumber);
-    "int main(void){return '\\q';}" => (1, 23, FaultKind::BadEscape);
-    "int main(void){return @;}" => (1, 23, FaultKind::BadByte);
-    "%:" => (1, 1, FaultKind::BadByte);
-    "L'x'" => (1, 1, FaultKind::BadByte);
-    "'ab'" => (1, 1, FaultKind::BadEscape);
-    "''" => (1, 1, FaultKind::BadEscape);
-    "'\\400'" => (1, 1, FaultKind::BadEscape);
-    "\"\\x\"" => (1, 1, FaultKind::BadEscape);
-    "\"a\n\"" => (1, 1, FaultKind::Unclosed);
-    "'\\q" => (1, 1, FaultKind::Unclosed);
-    "0x" => (1, 1, FaultKind::BadNumber);
-    "1e+5" => (1, 1, FaultKind::BadNumber);
-    "x .5" => (1, 3, FaultKind::BadNumber);
-    "3u" => (1, 1, FaultKind::BadNumber);
-    "2147483648" => (1, 1, FaultKind::BadNumber);
-    "x /*" => (1, 3, FaultKind::Unclosed);
-    "int # 1 \"a.c\"" => (1, 5, FaultKind::BadByte);
-    "a\n\t#define b" => (2, 2, FaultKind::BadByte);
-    "/*\n*/ # 1" => (2, 4, FaultKind::BadByte);
-};
+/// Texts, and the file, the line, the column and the kind of their first fault.
+const FAULTS: &str = "\
+21 rows
+int main(void){return 1;} /* x => 3:1:27 Unclosed
+int main(void){return 08;} => 3:1:23 BadNumber
+int main(void){return '\\q';} => 3:1:23 BadEscape
+int main(void){return @;} => 3:1:23 BadByte
+%: => 3:1:1 BadByte
+L'x' => 3:1:1 BadByte
+'ab' => 3:1:1 BadEscape
+'' => 3:1:1 BadEscape
+'\\400' => 3:1:1 BadEscape
+\"\\x\" => 3:1:1 BadEscape
+\"a$\" => 3:1:1 Unclosed
+'\\q => 3:1:1 Unclosed
+0x => 3:1:1 BadNumber
+1e+5 => 3:1:1 BadNumber
+x .5 => 3:1:3 BadNumber
+3u => 3:1:1 BadNumber
+2147483648 => 3:1:1 BadNumber
+x /* => 3:1:3 Unclosed
+int # 1 \"a.c\" => 3:1:5 BadByte
+a$\t#define b => 3:2:2 BadByte
+/*$*/ # 1 => 3:2:4 BadByte";
 
-/// The text of each row, as file 3, has this first fault.
-fn expect_faults(rt: &impl Abort, alloc: Global, rows: &[(&str, (u32, u32, FaultKind))]) {
-    for (text, (line, col, kind)) in rows {
-        let at = Span {
-            file: 3,
-            line: *line,
-            col: *col,
-        };
-        let fault = Refusal::Fault(Fault { kind: *kind, at });
-        expect_refusal(rt, lexed(rt, alloc, 3, text, MOST).err(), Some(fault), text);
+/// The text of each row, as this file, is refused so where this many tokens are allowed.
+fn expect_refusals(rt: &impl Abort, alloc: Global, file: u32, most: usize, table: &str) {
+    for folded in rows_of(rt, table) {
+        let row = unfolded(alloc, folded).expect(rt, folded);
+        let (text, shown) = cells(rt, row.as_str());
+        let found = lexed(rt, alloc, file, text, most).err();
+        expect_refusal(rt, alloc, found, shown, folded);
     }
 }
 
 #[test]
 fn faults_of_texts(rt: HostRuntime) {
-    expect_faults(&rt, rt.alloc(), &FAULTS)
+    expect_refusals(&rt, rt.alloc(), 3, MOST, FAULTS);
 }
 
-/// The fault of the mark `@` in the fifth column of the first line.
-const BAD_BYTE: Refusal = Refusal::Fault(Fault {
-    kind: FaultKind::BadByte,
-    at: Span {
-        file: 0,
-        line: 1,
-        col: 5,
-    },
-});
-
-/// Texts of which two tokens are allowed.
-const LIMITS: [(&str, Refusal); 3] = texts! {
-    "; ; ;" => Refusal::Limit(Limit::Tokens(3));
-    "; ; ; @" => Refusal::Limit(Limit::Tokens(3));
-    "; ; @" => BAD_BYTE;
-};
+/// Texts of which two tokens are allowed, and why they are refused.
+const LIMITS: &str = "\
+3 rows
+; ; ; => Limit(Tokens(3))
+; ; ; @ => Limit(Tokens(3))
+; ; @ => 0:1:5 BadByte";
 
 /// The limit on the tokens comes with the third one, and a fault only where there are no more before it.
 #[test]
 fn limits_of_texts(rt: HostRuntime) {
-    for (text, refusal) in LIMITS {
-        expect_refusal(
-            &rt,
-            lexed(&rt, rt.alloc(), 0, text, 2).err(),
-            Some(refusal),
-            text,
-        );
-    }
+    expect_refusals(&rt, rt.alloc(), 0, 2, LIMITS);
 }

@@ -1,13 +1,14 @@
 //! Tables of sources, what their trees are, and the faults of those that have none. The expected values are
 //! those of the grammar, by hand.
 
-use crate::expected::{expect, expect_refusal, expect_shown};
+use crate::expected::{expect, expect_refusal};
+use crate::tables::{cells, rows_of};
 use crate::tree_texts::push_unit;
 use c_lexer::lex;
 use c_parser::parse;
 use c_syntax::RawUnit;
-use pcc_base::{Fault, FaultKind, Keyword, Refusal, Span};
-use std::alloc::{AllocError, Global};
+use pcc_base::{Refusal, Span};
+use std::alloc::Global;
 use std::process::Abort;
 
 /// The most tokens of all files.
@@ -48,56 +49,38 @@ fn refusal_of(rt: &impl Abort, alloc: Global, source: &str) -> Option<Refusal> {
     }
 }
 
-/// A fault in the first line of the only file.
-const fn fault_at(col: u32, kind: FaultKind) -> Refusal {
-    Refusal::Fault(Fault {
-        kind,
-        at: Span {
-            file: 0,
-            line: 1,
-            col,
-        },
-    })
-}
-
-/// A table: on each line a source, and then what it is to give.
-macro_rules! sources {
-    ($($source:literal => $outcome:expr;)*) => {
-        [$(($source, $outcome)),*]
-    };
-}
-
 /// Sources and their trees.
-const TREES: [(&str, &str); 13] = sources! {
-    "" => "";
-    "int f(int n); char *s;" => "declare f;declare s;";
-    "int a[3]={1,2,3,};" => "declare a={1,2,3,};";
-    "int x=a-b-c,y=(int)x,z=f(x);" => "declare x=[[a Subtract b] Subtract c] y=[Cast x] z=f(x,);";
-    "int x=a=b=c?d:e?f:g;" => "declare x=[a Assign [b Assign [c ? d : [e ? f : g]]]];";
-    "int x=a+b*c<<d&&e||f;" => "declare x=[[[[a Add [b Multiply c]] ShiftLeft d] LogicalAnd e] LogicalOr f];";
-    "int x=-*p++[\"a\" \"b\"];" => "declare x=[Minus [Dereference [[p Increment] at 'a''b']]];";
-    "int main(void){if(a)if(b)c;else d;}" => "main{{if a{if b{c}else{d}}}}";
-    "int main(void){if(a){if(b)c;}else d;}" => "main{{if a{{if b{c}}}else{d}}}";
-    "int main(void){if(a)while(b)if(c);else;else;}" => "main{{if a{while b{if c{}else{}}}else{}}}";
-    "int main(void){switch(x){case 1:case 2:f();break;default:return 0;}}" =>
-        "main{{switch x{case 1:case 2:{f()}}{{break}}{default:{return 0}}}}";
-    "int main(void){for(int i=0;i<9;i++)continue;for(;;);}" =>
-        "main{{for declare i=0;[i Less 9];[i Increment]{continue}}{for ;;{}}}";
-    "int main(void){int x;do x=1,y=2;while(0);return;}" =>
-        "main{{declare x;}{do{[[x Assign 1] Comma [y Assign 2]]}0}{return }}";
-};
+const TREES: &str = "\
+13 rows
+ =>\x20
+int f(int n); char *s; => declare f;declare s;
+int a[3]={1,2,3,}; => declare a={1,2,3,};
+int x=a-b-c,y=(int)x,z=f(x); => declare x=[[a Subtract b] Subtract c] y=[Cast x] z=f(x,);
+int x=a=b=c?d:e?f:g; => declare x=[a Assign [b Assign [c ? d : [e ? f : g]]]];
+int x=a+b*c<<d&&e||f; => declare x=[[[[a Add [b Multiply c]] ShiftLeft d] LogicalAnd e] LogicalOr f];
+int x=-*p++[\"a\" \"b\"]; => declare x=[Minus [Dereference [[p Increment] at 'a''b']]];
+int main(void){if(a)if(b)c;else d;} => main{{if a{if b{c}else{d}}}}
+int main(void){if(a){if(b)c;}else d;} => main{{if a{{if b{c}}}else{d}}}
+int main(void){if(a)while(b)if(c);else;else;} => main{{if a{while b{if c{}else{}}}else{}}}
+int main(void){switch(x){case 1:case 2:f();break;default:return 0;}} \
+    => main{{switch x{case 1:case 2:{f()}}{{break}}{default:{return 0}}}}
+int main(void){for(int i=0;i<9;i++)continue;for(;;);} \
+    => main{{for declare i=0;[i Less 9];[i Increment]{continue}}{for ;;{}}}
+int main(void){int x;do x=1,y=2;while(0);return;} \
+    => main{{declare x;}{do{[[x Assign 1] Comma [y Assign 2]]}0}{return }}";
 
 /// The source of each row has this tree.
-fn expect_trees(rt: &impl Abort, alloc: Global, rows: &[(&str, &str)]) {
-    for (source, shown) in rows {
+fn expect_trees(rt: &impl Abort, alloc: Global, table: &str) {
+    for row in rows_of(rt, table) {
+        let (source, shown) = cells(rt, row);
         let (_, out) = shown_tree(rt, alloc, source);
-        expect_shown(rt, out.as_str(), shown, source);
+        expect(rt, &out.as_str(), &shown, row);
     }
 }
 
 #[test]
 fn trees_of_sources(rt: HostRuntime) {
-    expect_trees(&rt, rt.alloc(), &TREES);
+    expect_trees(&rt, rt.alloc(), TREES);
 }
 
 /// A program that counts lines, words and bytes.
@@ -152,101 +135,85 @@ fn word_counter(rt: HostRuntime) {
     expect(&rt, &(externals, begun, ended), &(6, true, true), shown);
 }
 
-/// Sources, and the column and the kind of their faults.
-const FAULTS: [(&str, (u32, FaultKind)); 19] = sources! {
-    "int main(void){return 1 2;}" => (25, FaultKind::Syntax);
-    "int main(void){return 1" => (24, FaultKind::Syntax);
-    "int main(void){" => (16, FaultKind::Syntax);
-    "int" => (4, FaultKind::Syntax);
-    "x;" => (1, FaultKind::Syntax);
-    "int a[3]{}" => (9, FaultKind::Syntax);
-    "int main(void){else;}" => (16, FaultKind::Syntax);
-    "int main(void){if(a);else;else;}" => (27, FaultKind::Syntax);
-    "int main(void){for(;){}}" => (21, FaultKind::Syntax);
-    "int main(void){do;while(0)}" => (27, FaultKind::Syntax);
-    "int main(void){case 1:;}" => (16, FaultKind::Syntax);
-    "int main(void){switch(a){int x;}}" => (26, FaultKind::Syntax);
-    "int main(void){switch(a){case 1:}}" => (33, FaultKind::Syntax);
-    "int main(void){if(a)int x;}" => (21, FaultKind::Syntax);
-    "int main(void){a+b=c;}" => (19, FaultKind::Syntax);
-    "int main(void){a.b;}" => (17, FaultKind::Syntax);
-    "int main(void){int f(void){}}" => (27, FaultKind::Syntax);
-    "int main(void){goto x;}" => (16, FaultKind::Unsupported(Keyword::Goto));
-    "int main(void){1 2;sizeof x;long y;}" => (20, FaultKind::Unsupported(Keyword::Sizeof));
-};
+/// Sources, and the place and the kind of their faults.
+const FAULTS: &str = "\
+19 rows
+int main(void){return 1 2;} => 0:1:25 Syntax
+int main(void){return 1 => 0:1:24 Syntax
+int main(void){ => 0:1:16 Syntax
+int => 0:1:4 Syntax
+x; => 0:1:1 Syntax
+int a[3]{} => 0:1:9 Syntax
+int main(void){else;} => 0:1:16 Syntax
+int main(void){if(a);else;else;} => 0:1:27 Syntax
+int main(void){for(;){}} => 0:1:21 Syntax
+int main(void){do;while(0)} => 0:1:27 Syntax
+int main(void){case 1:;} => 0:1:16 Syntax
+int main(void){switch(a){int x;}} => 0:1:26 Syntax
+int main(void){switch(a){case 1:}} => 0:1:33 Syntax
+int main(void){if(a)int x;} => 0:1:21 Syntax
+int main(void){a+b=c;} => 0:1:19 Syntax
+int main(void){a.b;} => 0:1:17 Syntax
+int main(void){int f(void){}} => 0:1:27 Syntax
+int main(void){goto x;} => 0:1:16 Unsupported(Goto)
+int main(void){1 2;sizeof x;long y;} => 0:1:20 Unsupported(Sizeof)";
 
 /// The source of each row has this fault.
-fn expect_faults(rt: &impl Abort, alloc: Global, rows: &[(&str, (u32, FaultKind))]) {
-    for (source, (col, kind)) in rows {
-        let wanted = fault_at(*col, *kind);
-        expect_refusal(rt, refusal_of(rt, alloc, source), Some(wanted), source);
+fn expect_faults(rt: &impl Abort, alloc: Global, table: &str) {
+    for row in rows_of(rt, table) {
+        let (source, shown) = cells(rt, row);
+        let found = refusal_of(rt, alloc, source);
+        expect_refusal(rt, alloc, found, shown, row);
     }
 }
 
 #[test]
 fn faults_of_sources(rt: HostRuntime) {
-    expect_faults(&rt, rt.alloc(), &FAULTS);
+    expect_faults(&rt, rt.alloc(), FAULTS);
 }
 
-/// Five parts of a source, how often the second and the fourth stand in it, and the column where it is too deep,
-/// or 0 where it isn't.
-type Nest = ([&'static str; 5], usize, usize, u32);
+/// The parts of sources, split by `|`, where one with a `*` stands so many times, and where each source is too deep,
+/// if it is.
+const NESTS: &str = "\
+13 rows
+int main(void){return |(*252|0|)*252|;} => none
+int main(void){return |(*253|0|)*253|;} => 0:1:275 TooDeep
+int main(void){return |(*300 => 0:1:275 TooDeep
+int main(void){return |!*252|a|;} => none
+int main(void){return |!*253|a|;} => 0:1:275 TooDeep
+int main(void){return |a|-a*252|;} => none
+int main(void){return |a|-a*253|;} => 0:1:528 TooDeep
+int main(void)|{*255|}*255 => none
+int main(void)|{*256|}*256 => 0:1:270 TooDeep
+int main(void){|if(a)*253|;|} => none
+int main(void){|if(a)*254|;|} => 0:1:1281 TooDeep
+int x=|(*254|0|)*254|; => none
+int x=|(*255|0|)*255|; => 0:1:261 TooDeep";
 
-/// The beginning of a program, whose end is `;}`.
-const OPEN: &str = "int main(void){return ";
-
-static NESTS: [Nest; 13] = [
-    ([OPEN, "(", "0", ")", ";}"], 252, 252, 0),
-    ([OPEN, "(", "0", ")", ";}"], 253, 253, 275),
-    ([OPEN, "(", "", "", ""], 300, 0, 275),
-    ([OPEN, "!", "a", "", ";}"], 252, 0, 0),
-    ([OPEN, "!", "a", "", ";}"], 253, 0, 275),
-    ([OPEN, "", "a", "-a", ";}"], 0, 252, 0),
-    ([OPEN, "", "a", "-a", ";}"], 0, 253, 528),
-    (["int main(void)", "{", "", "}", ""], 255, 255, 0),
-    (["int main(void)", "{", "", "}", ""], 256, 256, 270),
-    (["int main(void){", "if(a)", ";", "", "}"], 253, 0, 0),
-    (["int main(void){", "if(a)", ";", "", "}"], 254, 0, 1281),
-    (["int x=", "(", "0", ")", ";"], 254, 254, 0),
-    (["int x=", "(", "0", ")", ";"], 255, 255, 261),
-];
-
-/// A text so many times over.
-fn push_repeated(out: &mut String, text: &str, count: usize) -> Result<(), AllocError> {
-    for _ in 0..count {
-        out.push_str(text)?;
-    }
-    Ok(())
-}
-
-/// These parts, of which the second and the fourth stand so many times.
-fn nested(
-    alloc: Global,
-    parts: &[&str; 5],
-    opened: usize,
-    closed: usize,
-) -> Result<String, AllocError> {
+/// The source of these parts, if memory serves.
+fn nested(rt: &impl Abort, alloc: Global, parts: &str) -> String {
     let mut out = String::new(alloc);
-    for (part, count) in parts.iter().zip([1, opened, 1, closed, 1]) {
-        push_repeated(&mut out, part, count)?;
+    for part in parts.split("|") {
+        let (text, count) = part.split_once("*").unwrap_or((part, "1"));
+        let count: usize = count.parse().expect(rt, part);
+        for _ in 0..count {
+            out.push_str(text).expect(rt, part);
+        }
     }
-    Ok(out)
+    out
 }
 
-/// The source of each row is too deep at its column, or has a tree where that is 0.
-fn expect_nests(rt: &impl Abort, alloc: Global, rows: &[Nest]) {
-    for (parts, opened, closed, col) in rows {
-        let text = nested(alloc, parts, *opened, *closed).expect(rt, "a source");
-        let wanted = match *col {
-            0 => None,
-            col => Some(fault_at(col, FaultKind::TooDeep)),
-        };
-        let found = refusal_of(rt, alloc, text.as_str());
-        expect_refusal(rt, found, wanted, text.as_str());
+/// The source of each row is too deep at its place, or has a tree.
+fn expect_nests(rt: &impl Abort, alloc: Global, table: &str) {
+    for row in rows_of(rt, table) {
+        let (parts, shown) = cells(rt, row);
+        let source = nested(rt, alloc, parts);
+        let found = refusal_of(rt, alloc, source.as_str());
+        expect_refusal(rt, alloc, found, shown, row);
     }
 }
 
 #[test]
 fn deep_sources(rt: HostRuntime) {
-    expect_nests(&rt, rt.alloc(), &NESTS);
+    expect_nests(&rt, rt.alloc(), NESTS);
 }

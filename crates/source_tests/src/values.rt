@@ -1,8 +1,9 @@
 //! `int main(void){int x=10;return SUM;}` for a few sums, with the value that C gives, or None where the file has no
 //! typed program.
 
-use crate::expected::expect;
+use crate::expected::expect_shown;
 use crate::rows::{Row, read, typed};
+use crate::tables::{cells, rows_of};
 use c_tree::{BinaryOp, Expression, Program, Statement};
 use std::alloc::Global;
 use std::process::Abort;
@@ -34,27 +35,28 @@ fn returned(program: &Program) -> Option<i32> {
 }
 
 /// A name that isn't declared is no sum.
-const SUMS: [(&str, Option<i32>); 5] = [
-    ("int main(void){int x=10;return x-3-2;}", Some(5)),
-    ("int main(void){int x=10;return x-(3-2);}", Some(9)),
-    ("int main(void){int x=10;return x+3*x;}", Some(40)),
-    ("int main(void){int x=10;return x;}", Some(10)),
-    ("int main(void){int x=10;return y;}", None),
-];
+const SUMS: &str = "\
+5 rows
+int main(void){int x=10;return x-3-2;} => Some(5)
+int main(void){int x=10;return x-(3-2);} => Some(9)
+int main(void){int x=10;return x+3*x;} => Some(40)
+int main(void){int x=10;return x;} => Some(10)
+int main(void){int x=10;return y;} => None";
 
 /// The typed program of each source returns the value, or there is none.
-fn expect_sums(rt: &impl Abort, alloc: Global, rows: &[(&str, Option<i32>)]) {
-    for (text, value) in rows {
-        let Row { files, .. } = read(alloc, text).expect(rt, text);
+fn expect_sums(rt: &impl Abort, alloc: Global, table: &str) {
+    for row in rows_of(rt, table) {
+        let (text, value) = cells(rt, row);
+        let Row { files, .. } = read(alloc, text).expect(rt, row);
         let found = match typed(alloc, files.as_slice()) {
             Ok(program) => returned(&program),
             Err(_) => None,
         };
-        expect(rt, &found, value, text);
+        expect_shown(rt, alloc, &found, value, row);
     }
 }
 
 #[test]
 fn sums(rt: HostRuntime) {
-    expect_sums(&rt, rt.alloc(), &SUMS);
+    expect_sums(&rt, rt.alloc(), SUMS);
 }
