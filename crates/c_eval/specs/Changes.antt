@@ -16,8 +16,8 @@ use Rattle.c_eval.specs.Views.{task_of}
 use Rattle.c_eval.specs.declared.task.Task as memory
 use Rattle.c_eval.specs.declared.end.EvalEnd.{EvalEnd}
 use Rattle.c_eval.specs.declared.end.EvalEnd.TheVariants.{Ended, Trapped, TurnsSpent, ReadFault, WriteFault, NoMemory}
-use Rattle.c_eval_laws.specs.Tasks.{Task, Evaluates, Drops, ReturnsValue, Way, Ahead, Returning, Follows, ReturnsTo, below}
-use Rattle.c_eval_laws.specs.Tasks.{below_by}
+use Rattle.c_eval_laws.specs.Tasks.{Task, Evaluates, Drops, ReturnsValue, Way, Ahead, Returning, Follows, ReturnsTo}
+use Rattle.c_eval_laws.specs.Tasks.{below, below_by}
 
 -- tasks are to be done before all others, in order
 abbrev pub doing : Task → Configuration → Configuration

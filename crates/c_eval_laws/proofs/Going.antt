@@ -17,14 +17,16 @@ use Rattle.c_eval_laws.specs.Bounds.{ComesAfter, Keeps}
 use Rattle.c_eval_laws.specs.Laws.{GoesOn}
 use Rattle.c_eval_laws.proofs.After.{after-same, local-follows}
 use Rattle.c_eval_laws.proofs.Extending.{computed-both, load-both, put-both, switch-both, updated-both}
-use Rattle.c_eval_laws.proofs.Keeping.{body-keeps, do-keeps, either-keeps, loop-keeps, same-keeps, store-keeps, then-keeps}
+use Rattle.c_eval_laws.proofs.Keeping.{body-keeps, do-keeps, either-keeps, loop-keeps, same-keeps, store-keeps}
+use Rattle.c_eval_laws.proofs.Keeping.{then-keeps}
 use Rattle.c_eval_laws.specs.Tasks.{Task, Evaluates, Locates, Points, Loads, LoadsOld, Addresses, AppliesUnary}
-use Rattle.c_eval_laws.specs.Tasks.{AppliesBinary, AndThen, OrElse, Truth, Chooses, Converts, Stores, Updates, Steps, Drops}
-use Rattle.c_eval_laws.specs.Tasks.{Passes, Puts, Exits, Declares, DeclaresAll, Initialises, Fills, FillsElement, Executes}
-use Rattle.c_eval_laws.specs.Tasks.{Follows, Branches, Loops, LoopTest, LoopBody, DoLoops, DoBody, DoTest, Switches}
-use Rattle.c_eval_laws.specs.Tasks.{SwitchBody, ReturnsValue, ReturnsTo, Way, Ahead, Breaking, Continuing, Returning, top}
-use Rattle.c_eval_laws.specs.Tasks.{top_place, below, below_by, behind, calls_of, do_looped, do_looped_again, do_looped_if}
-use Rattle.c_eval_laws.specs.Tasks.{executed, executed_from, finish, looped, looped_again, looped_if, put_before, rest}
+use Rattle.c_eval_laws.specs.Tasks.{AppliesBinary, AndThen, OrElse, Truth, Chooses, Converts, Stores, Updates, Steps}
+use Rattle.c_eval_laws.specs.Tasks.{Drops, Passes, Puts, Exits, Declares, DeclaresAll, Initialises, Fills, FillsElement}
+use Rattle.c_eval_laws.specs.Tasks.{Executes, Follows, Branches, Loops, LoopTest, LoopBody, DoLoops, DoBody, DoTest}
+use Rattle.c_eval_laws.specs.Tasks.{Switches, SwitchBody, ReturnsValue, ReturnsTo, Way, Ahead, Breaking, Continuing}
+use Rattle.c_eval_laws.specs.Tasks.{Returning, top, top_place, below, below_by, behind, calls_of, do_looped}
+use Rattle.c_eval_laws.specs.Tasks.{do_looped_again, do_looped_if, executed, executed_from, finish, looped}
+use Rattle.c_eval_laws.specs.Tasks.{looped_again, looped_if, put_before, rest}
 use Rattle.c_eval_laws.specs.TasksLaws.{RestGoesOn}
 use Rattle.c_eval_laws.proofs.Settling.{calls-keep, trees-keep}
 

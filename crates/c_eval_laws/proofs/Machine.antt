@@ -15,12 +15,13 @@ use Rattle.c_tree.specs.Store.{Held, HoldsNumber, in_type, State, Evaluated, Giv
 use Rattle.c_eval_laws.proofs.Agreeing.{loops_unfold}
 use Rattle.c_eval_laws.proofs.Keeping.{store-keeps}
 use Rattle.c_eval_laws.specs.Tasks.{Task, Evaluates, Locates, Points, Loads, LoadsOld, Addresses, AppliesUnary}
-use Rattle.c_eval_laws.specs.Tasks.{AppliesBinary, AndThen, OrElse, Truth, Chooses, Converts, Stores, Updates, Steps, Drops}
-use Rattle.c_eval_laws.specs.Tasks.{Passes, Puts, Exits, Declares, DeclaresAll, Initialises, Fills, FillsElement, Executes}
-use Rattle.c_eval_laws.specs.Tasks.{Follows, Branches, Loops, LoopTest, LoopBody, DoLoops, DoBody, DoTest, Switches}
-use Rattle.c_eval_laws.specs.Tasks.{SwitchBody, ReturnsValue, ReturnsTo, Way, Ahead, Breaking, Continuing, Returning, top}
-use Rattle.c_eval_laws.specs.Tasks.{top_place, below, calls_of, do_looped, do_looped_again, do_looped_if, executed}
-use Rattle.c_eval_laws.specs.Tasks.{executed_from, finish, looped, looped_again, looped_if, rest, setting_of}
+use Rattle.c_eval_laws.specs.Tasks.{AppliesBinary, AndThen, OrElse, Truth, Chooses, Converts, Stores, Updates, Steps}
+use Rattle.c_eval_laws.specs.Tasks.{Drops, Passes, Puts, Exits, Declares, DeclaresAll, Initialises, Fills, FillsElement}
+use Rattle.c_eval_laws.specs.Tasks.{Executes, Follows, Branches, Loops, LoopTest, LoopBody, DoLoops, DoBody, DoTest}
+use Rattle.c_eval_laws.specs.Tasks.{Switches, SwitchBody, ReturnsValue, ReturnsTo, Way, Ahead, Breaking, Continuing}
+use Rattle.c_eval_laws.specs.Tasks.{Returning, top, top_place, below, calls_of, do_looped, do_looped_again}
+use Rattle.c_eval_laws.specs.Tasks.{do_looped_if, executed, executed_from, finish, looped, looped_again, looped_if}
+use Rattle.c_eval_laws.specs.Tasks.{rest, setting_of}
 use Rattle.c_eval_laws.specs.Steps.{body_if, do_if, from_label, go_on, loop_again, rest_after, rest_of}
 use Rattle.c_eval_laws.specs.Steps.{statements_from, step, task_step, turn_of}
 use Rattle.c_eval_laws.specs.TasksLaws.{Keeps, StepsKeep, TasksStep}

@@ -17,14 +17,14 @@ use Rattle.c_tree.specs.Program.{Statements, Done, Next, Function, Program}
 use Rattle.c_tree.specs.Store.{Held, HoldsNumber, in_type, State, Evaluated, Gives, Ends, and_then, turn_with}
 use Rattle.c_tree.specs.Store.{take_turn}
 use Rattle.c_eval_laws.specs.Tasks.{Task, Evaluates, Locates, Points, Loads, LoadsOld, Addresses, AppliesUnary}
-use Rattle.c_eval_laws.specs.Tasks.{AppliesBinary, AndThen, OrElse, Truth, Chooses, Converts, Stores, Updates, Steps, Drops}
-use Rattle.c_eval_laws.specs.Tasks.{Passes, Puts, Exits, Declares, DeclaresAll, Initialises, Fills, FillsElement, Executes}
-use Rattle.c_eval_laws.specs.Tasks.{Follows, Branches, Loops, LoopTest, LoopBody, DoLoops, DoBody, DoTest, Switches}
-use Rattle.c_eval_laws.specs.Tasks.{SwitchBody, ReturnsValue, ReturnsTo, Way, Ahead, Breaking, Continuing, Returning, top}
-use Rattle.c_eval_laws.specs.Tasks.{top_place, below, below_by, put_before}
-use Rattle.c_eval_laws.specs.Steps.{Configuration, go_on, call_step, arguments_step, expression_step, place_step, item_step}
-use Rattle.c_eval_laws.specs.Steps.{statement_step, from_label, turn_of, body_if, loop_again, do_if}
-use Rattle.c_eval_laws.specs.Steps.{step, task_step}
+use Rattle.c_eval_laws.specs.Tasks.{AppliesBinary, AndThen, OrElse, Truth, Chooses, Converts, Stores, Updates, Steps}
+use Rattle.c_eval_laws.specs.Tasks.{Drops, Passes, Puts, Exits, Declares, DeclaresAll, Initialises, Fills, FillsElement}
+use Rattle.c_eval_laws.specs.Tasks.{Executes, Follows, Branches, Loops, LoopTest, LoopBody, DoLoops, DoBody, DoTest}
+use Rattle.c_eval_laws.specs.Tasks.{Switches, SwitchBody, ReturnsValue, ReturnsTo, Way, Ahead, Breaking, Continuing}
+use Rattle.c_eval_laws.specs.Tasks.{Returning, top, top_place, below, below_by, put_before}
+use Rattle.c_eval_laws.specs.Steps.{Configuration, go_on, call_step, arguments_step, expression_step, place_step}
+use Rattle.c_eval_laws.specs.Steps.{item_step, statement_step, from_label, turn_of, body_if, loop_again, do_if, step}
+use Rattle.c_eval_laws.specs.Steps.{task_step}
 use Rattle.c_eval_laws.specs.Stacks.{With, EachWay, StacksFit, StacksFitAfter}
 use Rattle.c_eval_laws.specs.TasksLaws.{IsServed, StacksStayFit, StartFits}
 

@@ -19,14 +19,14 @@ use Rattle.c_tree.specs.Program.{Statements, Done, Next, Function, Program}
 use Rattle.c_tree.specs.Store.{Held, HoldsNumber, in_type, State, element_at, array_named, with_array, Evaluated, Gives}
 use Rattle.c_tree.specs.Store.{Ends, and_then, turn_with, take_turn}
 use Rattle.c_eval_laws.specs.Tasks.{Task, Evaluates, Locates, Points, Loads, LoadsOld, Addresses, AppliesUnary}
-use Rattle.c_eval_laws.specs.Tasks.{AppliesBinary, AndThen, OrElse, Truth, Chooses, Converts, Stores, Updates, Steps, Drops}
-use Rattle.c_eval_laws.specs.Tasks.{Passes, Puts, Exits, Declares, DeclaresAll, Initialises, Fills, FillsElement, Executes}
-use Rattle.c_eval_laws.specs.Tasks.{Follows, Branches, Loops, LoopTest, LoopBody, DoLoops, DoBody, DoTest, Switches}
-use Rattle.c_eval_laws.specs.Tasks.{SwitchBody, ReturnsValue, ReturnsTo, Way, Ahead, Breaking, Continuing, Returning, top}
-use Rattle.c_eval_laws.specs.Tasks.{top_place, below, below_by, put_before}
-use Rattle.c_eval_laws.specs.Steps.{Configuration, go_on, call_step, arguments_step, expression_step, place_step, item_step}
-use Rattle.c_eval_laws.specs.Steps.{statement_step, statements_from, from_label, body_if, loop_again}
-use Rattle.c_eval_laws.specs.Steps.{do_if, step, task_step}
+use Rattle.c_eval_laws.specs.Tasks.{AppliesBinary, AndThen, OrElse, Truth, Chooses, Converts, Stores, Updates, Steps}
+use Rattle.c_eval_laws.specs.Tasks.{Drops, Passes, Puts, Exits, Declares, DeclaresAll, Initialises, Fills, FillsElement}
+use Rattle.c_eval_laws.specs.Tasks.{Executes, Follows, Branches, Loops, LoopTest, LoopBody, DoLoops, DoBody, DoTest}
+use Rattle.c_eval_laws.specs.Tasks.{Switches, SwitchBody, ReturnsValue, ReturnsTo, Way, Ahead, Breaking, Continuing}
+use Rattle.c_eval_laws.specs.Tasks.{Returning, top, top_place, below, below_by, put_before}
+use Rattle.c_eval_laws.specs.Steps.{Configuration, go_on, call_step, arguments_step, expression_step, place_step}
+use Rattle.c_eval_laws.specs.Steps.{item_step, statement_step, statements_from, from_label, body_if, loop_again, do_if}
+use Rattle.c_eval_laws.specs.Steps.{step, task_step}
 use Rattle.c_eval_laws.specs.Weights.{expression_weight, place_weight, arguments_weight, option_weight}
 use Rattle.c_eval_laws.specs.Weights.{item_weight, items_weight, statement_weight, statements_weight, weight}
 use Rattle.c_eval_laws.specs.Weights.{weights, is_there, is_turn, takes_turn, MovesOn}

@@ -2,10 +2,11 @@
 use Rattle.std.specs.Prelude.{◌≡◌, ℕ, zero, suc, List, [], ◌∷◌, length}
 use Rattle.c_tree.specs.Store.{Gives, Ends}
 use Rattle.c_eval_laws.specs.Tasks.{Task, Evaluates, Locates, Points, Loads, LoadsOld, Addresses, AppliesUnary}
-use Rattle.c_eval_laws.specs.Tasks.{AppliesBinary, AndThen, OrElse, Truth, Chooses, Converts, Stores, Updates, Steps, Drops}
-use Rattle.c_eval_laws.specs.Tasks.{Passes, Puts, Exits, Declares, DeclaresAll, Initialises, Fills, FillsElement, Executes}
-use Rattle.c_eval_laws.specs.Tasks.{Follows, Branches, Loops, LoopTest, LoopBody, DoLoops, DoBody, DoTest, Switches}
-use Rattle.c_eval_laws.specs.Tasks.{SwitchBody, ReturnsValue, ReturnsTo, Way, Ahead, Breaking, Continuing, Returning}
+use Rattle.c_eval_laws.specs.Tasks.{AppliesBinary, AndThen, OrElse, Truth, Chooses, Converts, Stores, Updates, Steps}
+use Rattle.c_eval_laws.specs.Tasks.{Drops, Passes, Puts, Exits, Declares, DeclaresAll, Initialises, Fills, FillsElement}
+use Rattle.c_eval_laws.specs.Tasks.{Executes, Follows, Branches, Loops, LoopTest, LoopBody, DoLoops, DoBody, DoTest}
+use Rattle.c_eval_laws.specs.Tasks.{Switches, SwitchBody, ReturnsValue, ReturnsTo, Way, Ahead, Breaking, Continuing}
+use Rattle.c_eval_laws.specs.Tasks.{Returning}
 use Rattle.c_eval_laws.specs.Steps.{Stepped}
 
 -- so many are there, and of what is left after them this is so

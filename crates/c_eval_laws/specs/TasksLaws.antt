@@ -5,8 +5,8 @@ use Rattle.c_tree.specs.Evaluation.{Found, first_state, low_byte, outcome_at, so
 use Rattle.c_tree.specs.Program.{Arguments, Expression, Item, Place, Statement, Function, Program}
 use Rattle.c_tree.specs.Store.{Held, State, Gives, Ends}
 use Rattle.c_eval_laws.specs.Laws.{GoesOn}
-use Rattle.c_eval_laws.specs.Tasks.{Task, Declares, Evaluates, Executes, Locates, Passes, Way, Ahead, below_by, put_before}
-use Rattle.c_eval_laws.specs.Tasks.{rest, top}
+use Rattle.c_eval_laws.specs.Tasks.{Task, Declares, Evaluates, Executes, Locates, Passes, Way, Ahead, below_by}
+use Rattle.c_eval_laws.specs.Tasks.{put_before, rest, top}
 use Rattle.c_eval_laws.specs.Steps.{Configuration, Stepped, rest_after, rest_of, steps, arguments_step}
 use Rattle.c_eval_laws.specs.Steps.{expression_step, item_step, place_step}
 use Rattle.c_eval_laws.specs.Steps.{first_tasks, statement_step, step, task_step}

@@ -91,9 +91,9 @@ pub fn arguments_are_last()
     ensures { ArgumentsAreLast }
 {}
 
-/// A program with a call, loops, an array and `continue` (`specs/TasksWorked.antt`) takes ten turns, writes `AC` and ends
-/// with the status 1. The machine comes to this outcome in 235 steps, and to no end in 234. With nine turns it comes
-/// to the outcome of a program that still goes.
+/// A program with a call, loops, an array and `continue` (`specs/TasksWorked.antt`) takes ten turns, writes `AC` and
+/// ends with the status 1. The machine comes to this outcome in 235 steps, and to no end in 234. With nine turns it
+/// comes to the outcome of a program that still goes.
 pub fn worked_tasks()
     ensures status { (source_outcome writes_letters nothing_listed [] 10).end ≡ Ended 1 }
     ensures written { (source_outcome writes_letters nothing_listed [] 10).written ≡ 65 ∷ 67 ∷ [] }

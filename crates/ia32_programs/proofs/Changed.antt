@@ -34,8 +34,8 @@ use Rattle.ia32_programs.proofs.Shown.{after-set, alike-waits, elements-kept, ne
 use Rattle.ia32_programs.proofs.Shown.{same-waits}
 use Rattle.ia32_programs.proofs.Zones.{IsCallAt, IsSlotOf, argument-read-of, chain-read-of}
 use Rattle.ia32_programs.proofs.KeepsApart.{element-within, object-read}
-use Rattle.ia32_programs.proofs.Regions.{IsArrayOf, IsPart, IsStatic, array-above, other-array-apart, other-object-apart}
-use Rattle.ia32_programs.proofs.Regions.{part-above, part-apart, region-of, static-ends}
+use Rattle.ia32_programs.proofs.Regions.{IsArrayOf, IsPart, IsStatic, array-above, other-array-apart}
+use Rattle.ia32_programs.proofs.Regions.{other-object-apart, part-above, part-apart, region-of, static-ends}
 
 -- ---- apart from all that is read of calls and of the current variables
 

@@ -31,7 +31,8 @@ use Rattle.ia32_rows.specs.Laws.{Puts}
 use Rattle.ia32_rows.specs.Rows.{changing, widening}
 use Rattle.ia32_rows.proofs.Unary.{complement-puts, extension-puts, negation-puts}
 use Rattle.ia32_programs.specs.Supports.{HoldsWidth, IsSupported, site_of}
-use Rattle.ia32_programs.specs.KeepsOps.{ComplementFollows, ExtensionFollows, NegationFollows, RowAt, after_at, before_at}
+use Rattle.ia32_programs.specs.KeepsOps.{ComplementFollows, ExtensionFollows, NegationFollows, RowAt, after_at}
+use Rattle.ia32_programs.specs.KeepsOps.{before_at}
 use Rattle.ia32_programs.proofs.Shown.{point-supported}
 use Rattle.ia32_programs.proofs.Zones.{shown-in-frame}
 use Rattle.ia32_programs.proofs.Puts.{IsLow, puts-follow}

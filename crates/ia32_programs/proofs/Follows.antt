@@ -15,8 +15,8 @@ use Rattle.ia32_programs.specs.KeepsOps.{RowAt}
 use Rattle.ia32_programs.proofs.Changes.{complement-follows, extension-follows, negation-follows}
 use Rattle.ia32_programs.proofs.Copies.{copy-follows}
 use Rattle.ia32_programs.proofs.Marks.{mark-follows, turn-follows}
-use Rattle.ia32_programs.proofs.Ops.{and-follows, difference-follows, number-follows, op-is, or-follows, product-follows}
-use Rattle.ia32_programs.proofs.Ops.{sum-follows, xor-follows}
+use Rattle.ia32_programs.proofs.Ops.{and-follows, difference-follows, number-follows, op-is, or-follows}
+use Rattle.ia32_programs.proofs.Ops.{product-follows, sum-follows, xor-follows}
 use Rattle.ia32_programs.proofs.Changing.{half-follows, low-follows}
 use Rattle.ia32_programs.proofs.Choosing.{jump-follows}
 use Rattle.ia32_programs.proofs.Counting.{left-shift-follows, right-shift-follows}

@@ -54,7 +54,8 @@ use Rattle.ia32_programs.proofs.Goes.{then-written}
 use Rattle.ia32_programs.proofs.Numbers.{low-half-is}
 use Rattle.ia32_programs.specs.AccessesLaws.{LoadPuts, widened}
 use Rattle.ia32_programs.specs.AccessesOps.{GetFollows}
-use Rattle.ia32_programs.proofs.AccessesAddresses.{HasObject, given-puts, has-object, named-row, object-named, object-within}
+use Rattle.ia32_programs.proofs.AccessesAddresses.{HasObject, given-puts, has-object, named-row, object-named}
+use Rattle.ia32_programs.proofs.AccessesAddresses.{object-within}
 
 -- ---- words of elements
 

@@ -18,7 +18,8 @@ use Rattle.ia32_rows.proofs.Laid.{StandsThere, back-there, behind-there, point-t
 use Rattle.ia32_programs.specs.Supports.{site_of}
 use Rattle.ia32_programs.proofs.Memory.{address-at}
 use Rattle.ia32_programs.proofs.Standing.{blocks-stand}
-use Rattle.ia32_programs.specs.StandingLaws.{EntriesStand, FunctionStands, IsSelected, LabelsStand, PointsStand, RowsStand}
+use Rattle.ia32_programs.specs.StandingLaws.{EntriesStand, FunctionStands, IsSelected, LabelsStand, PointsStand}
+use Rattle.ia32_programs.specs.StandingLaws.{RowsStand}
 use Rattle.ia32_programs.proofs.Functions.{function-stands}
 
 -- ---- items of a site

@@ -21,7 +21,8 @@ use Rattle.ia32_rows.proofs.ItemKinds.{PointsTakeRoom, behind-point, every-join,
 use Rattle.ia32_rows.proofs.Laid.{at-place}
 use Rattle.ia32_programs.specs.Supports.{no_places, site_of}
 use Rattle.ia32_programs.proofs.Memory.{address-at}
-use Rattle.ia32_programs.specs.StandingLaws.{CallsReturn, CallsStand, MarkedStand, MarksSayWhere, place_behind, places_before}
+use Rattle.ia32_programs.specs.StandingLaws.{CallsReturn, CallsStand, MarkedStand, MarksSayWhere, place_behind}
+use Rattle.ia32_programs.specs.StandingLaws.{places_before}
 use Rattle.ia32_programs.proofs.Apart.{all-room}
 use Rattle.ia32_programs.proofs.Points.{laid, point-is-there}
 

@@ -2,9 +2,9 @@ ghost use Rattle.ia32_programs.specs.Words.{ComparisonDecides, LeftShiftIs, Righ
 ghost use Rattle.ia32_programs.specs.Words.{DivisionTraps, DivisionIs};
 ghost use Rattle.ia32_programs.specs.CoresLaws.{LowPuts, HalfPuts, ShiftPuts, PlacesCompare, SetPuts, BranchGoes};
 ghost use Rattle.ia32_programs.specs.CoresLaws.{DivisionStops, QuotientPuts, RemainderPuts, WordPasses};
-ghost use Rattle.ia32_programs.specs.CoresOps.{LowFollows, HalfFollows, LeftShiftFollows, RightShiftFollows, NumbersSetFollow};
-ghost use Rattle.ia32_programs.specs.CoresOps.{QuotientFollows, RemainderFollows, NumbersBranchFollow, JumpFollows};
-ghost use Rattle.ia32_programs.specs.CoresOps.{BlocksStand};
+ghost use Rattle.ia32_programs.specs.CoresOps.{LowFollows, HalfFollows, LeftShiftFollows, RightShiftFollows};
+ghost use Rattle.ia32_programs.specs.CoresOps.{NumbersSetFollow, QuotientFollows, RemainderFollows};
+ghost use Rattle.ia32_programs.specs.CoresOps.{NumbersBranchFollow, JumpFollows, BlocksStand};
 ghost use Rattle.ia32_programs.specs.Worked.{ShiftsAreRows, DivisionsAreRows, ComparisonsAreRows, PartsAreRows};
 
 /// What instructions make of the words of numbers is what the ops make of the numbers: the conditions of comparisons

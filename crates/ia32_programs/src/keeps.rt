@@ -1,11 +1,9 @@
 ghost use Rattle.ia32_programs.specs.Supports.{SlotsSupport};
 ghost use Rattle.ia32_programs.specs.KeepsLaws.{ShownInFrame, ProtectedIsApart, PushedIsApart, MovedShows, SetShows};
 ghost use Rattle.ia32_programs.specs.KeepsLaws.{ArrayShows, OwnArrayShows, ElementShows};
-ghost use Rattle.ia32_programs.specs.KeepsOps.{ExtensionFollows};
-ghost use Rattle.ia32_programs.specs.KeepsOps.{NumberFollows, CopyFollows, SumFollows, DifferenceFollows, AndFollows};
-ghost use Rattle.ia32_programs.specs.KeepsOps.{OrFollows};
-ghost use Rattle.ia32_programs.specs.KeepsOps.{XorFollows, ProductFollows, NegationFollows, ComplementFollows, MarkFollows};
-ghost use Rattle.ia32_programs.specs.KeepsOps.{TurnFollows};
+ghost use Rattle.ia32_programs.specs.KeepsOps.{ExtensionFollows, NumberFollows, CopyFollows, SumFollows};
+ghost use Rattle.ia32_programs.specs.KeepsOps.{DifferenceFollows, AndFollows, OrFollows, XorFollows, ProductFollows};
+ghost use Rattle.ia32_programs.specs.KeepsOps.{NegationFollows, ComplementFollows, MarkFollows, TurnFollows};
 
 /// Slots for all variables, apart from each other and from the frame arrays, support every graph.
 pub fn slots_support()

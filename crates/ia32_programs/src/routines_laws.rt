@@ -1,5 +1,6 @@
 ghost use Rattle.ia32_programs.specs.RoutinesLaws.{CheckTraps, CheckPasses};
-ghost use Rattle.ia32_programs.specs.RoutinesOps.{NumbersSameFollow, ParamFollows, ExitFollows, PutcharFollows, GetcharFollows};
+ghost use Rattle.ia32_programs.specs.RoutinesOps.{NumbersSameFollow, ParamFollows, ExitFollows, PutcharFollows};
+ghost use Rattle.ia32_programs.specs.RoutinesOps.{GetcharFollows};
 
 /// The jump to the trap of a failed check leads there where its condition holds, and else to what follows it.
 pub fn checks_trap()

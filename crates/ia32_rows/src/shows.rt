@@ -3,8 +3,8 @@
 ghost use Rattle.ia32_rows.specs.Filling.{FillGoes, ZerosLoad};
 ghost use Rattle.ia32_rows.specs.Follows.{WholeRuns};
 ghost use Rattle.ia32_rows.specs.Jumps.{BranchLeads, BranchPasses, JumpLeads};
-ghost use Rattle.ia32_rows.specs.ShowsWorked.{InputsAreBytes, NoneAboveTheStack, NoneBeyondTheArrays, NoneBeyondTheObjects};
-ghost use Rattle.ia32_rows.specs.ShowsWorked.{OldestIsMain, WaitingCalls};
+ghost use Rattle.ia32_rows.specs.ShowsWorked.{InputsAreBytes, NoneAboveTheStack, NoneBeyondTheArrays};
+ghost use Rattle.ia32_rows.specs.ShowsWorked.{NoneBeyondTheObjects, OldestIsMain, WaitingCalls};
 
 /// Code that starts as its program does, and follows it step by step, has the program's outcomes in whole runs.
 pub fn whole_runs()

@@ -21,8 +21,9 @@ use Rattle.lower_expressions.proofs.Turned.{turned-follow}
 use Rattle.lower_expressions.specs.PlacesLaws.{KeepsTurns}
 use Rattle.lower_expressions.proofs.ElementsStoring.{IsPlainSpot}
 use Rattle.lower_expressions.proofs.ElementsUpdating.{elements-stepped, elements-updated}
-use Rattle.lower_expressions.specs.ElementsLaws.{IndexesAreStepped, IndexesAreUpdated, IsClear, IsPlain, TargetsAreStepped}
-use Rattle.lower_expressions.specs.ElementsLaws.{TargetsAreUpdated, TurnedAreStepped, TurnedAreUpdated, stepping, updating}
+use Rattle.lower_expressions.specs.ElementsLaws.{IndexesAreStepped, IndexesAreUpdated, IsClear, IsPlain}
+use Rattle.lower_expressions.specs.ElementsLaws.{TargetsAreStepped, TargetsAreUpdated, TurnedAreStepped}
+use Rattle.lower_expressions.specs.ElementsLaws.{TurnedAreUpdated, stepping, updating}
 
 -- a place leaves no more turns than there were
 places-fall : (S : Site) → IsSite S → (place : Place) → KeepsTurns (locate S.calls place)

@@ -49,7 +49,8 @@ use Rattle.lower_expressions.proofs.PlacesReading.{trap-ends}
 use Rattle.lower_expressions.proofs.Writing.{converted-fits}
 use Rattle.lower_expressions.specs.PlacesLaws.{AddressFollows, IsSettled, KeepsTurns}
 use Rattle.lower_expressions.proofs.ElementsStoring.{Finishes, IsPlainSpot, computed-fits, old-apart}
-use Rattle.lower_expressions.specs.ElementsLaws.{ElementsAreStepped, ElementsAreUpdated, IsClear, IsPlain, stepping, updating}
+use Rattle.lower_expressions.specs.ElementsLaws.{ElementsAreStepped, ElementsAreUpdated, IsClear, IsPlain, stepping}
+use Rattle.lower_expressions.specs.ElementsLaws.{updating}
 
 -- ---- where the address stands
 

@@ -39,8 +39,8 @@ use Rattle.lower_expressions.proofs.Operands.{NumberStands, number-operand}
 use Rattle.lower_expressions.proofs.Unary.{follows-behind}
 use Rattle.lower_expressions.proofs.PlacesReading.{targets-follow}
 use Rattle.lower_expressions.proofs.Writing.{store-fits}
-use Rattle.lower_expressions.specs.PlacesLaws.{AddressFollows, ElementsAreAssigned, IsSettled, KeepsTurns, TargetsAreAssigned}
-use Rattle.lower_expressions.specs.PlacesLaws.{assigned}
+use Rattle.lower_expressions.specs.PlacesLaws.{AddressFollows, ElementsAreAssigned, IsSettled, KeepsTurns}
+use Rattle.lower_expressions.specs.PlacesLaws.{TargetsAreAssigned, assigned}
 
 -- ---- the variables of locals hold what the source has
 

@@ -19,8 +19,9 @@ use Rattle.lower_lines.specs.Shown.{first_variable, local_widths, type_widths}
 use Rattle.lower_lines.specs.Variables.{levels_of, levels_widths, local_variables, typed_spot, variable_widths}
 use Rattle.lower_lines.proofs.Locals.{get-set_other, get-set_same, length-slice_set, local-held, local-set}
 use Rattle.lower_lines.proofs.Locals.{local-within, locals-kept, zip-index, zip-set}
-use Rattle.lower_lines.specs.RelationLaws.{BytesAreTaken, BytesAreWritten, KeptBelow, KeptByChange, KeptTwice, LocalsAreHeld}
-use Rattle.lower_lines.specs.RelationLaws.{NumbersAreSet, PointersAreSet, TemporariesAreFree, TurnsAndVisitsAreFree}
+use Rattle.lower_lines.specs.RelationLaws.{BytesAreTaken, BytesAreWritten, KeptBelow, KeptByChange, KeptTwice}
+use Rattle.lower_lines.specs.RelationLaws.{LocalsAreHeld, NumbersAreSet, PointersAreSet, TemporariesAreFree}
+use Rattle.lower_lines.specs.RelationLaws.{TurnsAndVisitsAreFree}
 
 -- the call with other values in its variables
 abbrev changed : graph.Activation → List Value → graph.Activation

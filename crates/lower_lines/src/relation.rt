@@ -1,10 +1,9 @@
 //! Laws of the relation between states: each function's contract is one, and the function does nothing.
 
-ghost use Rattle.lower_lines.specs.RelationLaws.{ArraysAreReached, ArraysAreSet, ArraysAreThere, ArraysFit, KeptByArrays};
-ghost use Rattle.lower_lines.specs.RelationLaws.{BytesAreTaken, BytesAreWritten, KeptBelow};
-ghost use Rattle.lower_lines.specs.RelationLaws.{KeptByChange, KeptTwice, LocalsAreHeld};
-ghost use Rattle.lower_lines.specs.RelationLaws.{NumbersAreSet, PointersAreSet, TemporariesAreFree};
-ghost use Rattle.lower_lines.specs.RelationLaws.{TurnsAndVisitsAreFree};
+ghost use Rattle.lower_lines.specs.RelationLaws.{ArraysAreReached, ArraysAreSet, ArraysAreThere, ArraysFit};
+ghost use Rattle.lower_lines.specs.RelationLaws.{KeptByArrays, BytesAreTaken, BytesAreWritten, KeptBelow, KeptByChange};
+ghost use Rattle.lower_lines.specs.RelationLaws.{KeptTwice, LocalsAreHeld, NumbersAreSet, PointersAreSet};
+ghost use Rattle.lower_lines.specs.RelationLaws.{TemporariesAreFree, TurnsAndVisitsAreFree};
 
 /// A temporary that changes is none of what the source shows.
 pub fn temporaries_are_free()

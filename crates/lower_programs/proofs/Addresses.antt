@@ -27,7 +27,8 @@ use Rattle.lower_lines.proofs.Constructs.{local-type}
 use Rattle.lower_programs.proofs.FitsCompound.{Becomes}
 use Rattle.lower_programs.specs.Flows.{Within}
 use Rattle.lower_programs.proofs.Applied.{Free, LowTarget, Settled, none-agrees}
-use Rattle.lower_programs.proofs.Compound.{Alike, alike-same, operand-then, retyped, settles-as, turned-alike, turned-part}
+use Rattle.lower_programs.proofs.Compound.{Alike, alike-same, operand-then, retyped, settles-as, turned-alike}
+use Rattle.lower_programs.proofs.Compound.{turned-part}
 use Rattle.lower_programs.proofs.Parts.{Held, LivePart, Ready, binary-part}
 use Rattle.lower_programs.proofs.Parts.{local-part, number-in, operand-held, reached-more}
 use Rattle.lower_programs.proofs.Parts.{settled-count, settled-less, settled-then}

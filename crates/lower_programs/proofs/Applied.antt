@@ -28,8 +28,9 @@ use Rattle.lower_lines.specs.Variables.{local_variables, own, temporary}
 use Rattle.lower_programs.specs.Flows.{Within}
 pub use Rattle.lower_programs.specs.Settled.{LowTarget, Settled}
 use Rattle.lower_programs.proofs.Sets.{Agrees, F, Goes, TestFlows, block-is, chosen-flows, chosen-size, chosen_sets}
-use Rattle.lower_programs.proofs.Sets.{copied-flows, ends, flows-then, keeps, made-flows, one-in, pointer-tests, reached}
-use Rattle.lower_programs.proofs.Sets.{starts, swapped, tested-size, tested_sets, two-in, uses-up, ways, writes}
+use Rattle.lower_programs.proofs.Sets.{copied-flows, ends, flows-then, keeps, made-flows, one-in, pointer-tests}
+use Rattle.lower_programs.proofs.Sets.{reached, starts, swapped, tested-size, tested_sets, two-in, uses-up, ways}
+use Rattle.lower_programs.proofs.Sets.{writes}
 
 module _ (c : Context) where
   abbrev L : ℕ

@@ -29,12 +29,15 @@ use Rattle.lower_lines.specs.Words.{HasWords, HaveWords, PlaceHasWords}
 use Rattle.lower_lines.proofs.Marks.{get-below}
 use Rattle.lower_lines.proofs.Types.{all-at, part-type, place-scalar, some-and}
 use Rattle.lower_programs.specs.FitsLaws.{Room}
-use Rattle.lower_programs.proofs.FitsParts.{FitsPart, IsThere, UnaryFits, constant-part, number-part, start-part, unary-part}
-use Rattle.lower_programs.proofs.FitsCompound.{Becomes, and-part', assign-becomes, binary-part, cast-becomes, cast-part'}
-use Rattle.lower_programs.proofs.FitsCompound.{comma-part', conditional-becomes, conditional-part', or-part'}
+use Rattle.lower_programs.proofs.FitsParts.{FitsPart, IsThere, UnaryFits, constant-part, number-part, start-part}
+use Rattle.lower_programs.proofs.FitsParts.{unary-part}
+use Rattle.lower_programs.proofs.FitsCompound.{Becomes, and-part', assign-becomes, binary-part, cast-becomes}
+use Rattle.lower_programs.proofs.FitsCompound.{cast-part', comma-part', conditional-becomes, conditional-part'}
+use Rattle.lower_programs.proofs.FitsCompound.{or-part'}
 use Rattle.lower_programs.proofs.Pieces.{context_in}
-use Rattle.lower_programs.proofs.FitsPlaces.{PlaceFits, address-part, assign-part, call-part, element-address, exit-part}
-use Rattle.lower_programs.proofs.FitsPlaces.{getchar-part, passed-part, read-part, step-part, target-address, update-part}
+use Rattle.lower_programs.proofs.FitsPlaces.{PlaceFits, address-part, assign-part, call-part, element-address}
+use Rattle.lower_programs.proofs.FitsPlaces.{exit-part, getchar-part, passed-part, read-part, step-part, target-address}
+use Rattle.lower_programs.proofs.FitsPlaces.{update-part}
 
 -- ---- numbers
 

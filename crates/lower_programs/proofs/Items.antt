@@ -23,7 +23,8 @@ use Rattle.lower_programs.specs.Flows.{Within}
 use Rattle.lower_programs.specs.Settled.{Settled}
 use Rattle.lower_programs.proofs.Addresses.{assigned-local, becomes-integer}
 use Rattle.lower_programs.proofs.Compound.{settles-as, turned-alike, turned-part}
-use Rattle.lower_programs.proofs.Parts.{LivePart, Ready, constant-part, number-in, operand-held, settled-less, start-part}
+use Rattle.lower_programs.proofs.Parts.{LivePart, Ready, constant-part, number-in, operand-held, settled-less}
+use Rattle.lower_programs.proofs.Parts.{start-part}
 use Rattle.lower_programs.proofs.Sets.{F, flows-then, keeps, last-less, one-in, swapped, wider, writes}
 use Rattle.lower_programs.proofs.LiveConditions.{ready}
 use Rattle.lower_programs.proofs.Copies.{three-in}

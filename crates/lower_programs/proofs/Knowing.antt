@@ -20,7 +20,8 @@ use Rattle.c_tree.specs.Store.{with_array, with_array_in, with_local, with_own, 
 use Rattle.c_tree.specs.WellTyped.{IsInteger}
 use Rattle.lower_lines.specs.Shown.{IsPartOf, IsPointer, ListsLocals, locals_at}
 use Rattle.lower_lines.proofs.Locals.{zip-index, zip-set}
-use Rattle.lower_programs.proofs.Values.{Computing, HasKind, IsFound, IsLeftSo, IsSafe, binary-safe, in-kind, number-kind}
+use Rattle.lower_programs.proofs.Values.{Computing, HasKind, IsFound, IsLeftSo, IsSafe, binary-safe, in-kind}
+use Rattle.lower_programs.proofs.Values.{number-kind}
 
 -- ---- states
 

@@ -47,8 +47,8 @@ use Rattle.lower_lines.proofs.Types.{all-at, part-type, some-and}
 use Rattle.lower_programs.specs.FitsLaws.{Room}
 use Rattle.lower_programs.proofs.FitsCompound.{Becomes, assign-becomes}
 use Rattle.lower_programs.proofs.FitsParts.{FitsPart, number-there, operand-fit, test-part}
-use Rattle.lower_programs.proofs.Pieces.{Fit, blocks_in, byte-holds, context_in, fit-then, levels_in, local-holds, small}
-use Rattle.lower_programs.proofs.Pieces.{temp}
+use Rattle.lower_programs.proofs.Pieces.{Fit, blocks_in, byte-holds, context_in, fit-then, levels_in, local-holds}
+use Rattle.lower_programs.proofs.Pieces.{small, temp}
 use Rattle.lower_programs.proofs.FitsPlaces.{assigned-local}
 use Rattle.lower_programs.proofs.FitsWalk.{expression-fits}
 

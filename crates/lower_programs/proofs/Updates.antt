@@ -25,8 +25,8 @@ use Rattle.lower_lines.specs.Variables.{Context, Spot, local_spot, local_variabl
 use Rattle.lower_lines.proofs.Constructs.{local-type}
 use Rattle.lower_programs.proofs.FitsCompound.{Becomes}
 use Rattle.lower_programs.specs.Flows.{Within}
-use Rattle.lower_programs.proofs.Addresses.{LiveAddress, address-then, assigned-element, assigned-local, assigned-object}
-use Rattle.lower_programs.proofs.Addresses.{becomes-integer, element-read, ready-at, temp-good}
+use Rattle.lower_programs.proofs.Addresses.{LiveAddress, address-then, assigned-element, assigned-local}
+use Rattle.lower_programs.proofs.Addresses.{assigned-object, becomes-integer, element-read, ready-at, temp-good}
 use Rattle.lower_programs.proofs.Applied.{AllFree, Free, computing-flows}
 use Rattle.lower_programs.proofs.Compound.{turned-part}
 use Rattle.lower_programs.proofs.Parts.{LivePart, Ready, above-free, binary-part as both-part, local-part}

@@ -2,7 +2,8 @@ use Rattle.ia32_programs.proofs.Ops.{product-follows}
 use Rattle.ia32_programs.proofs.Changes.{complement-follows, extension-follows, negation-follows}
 use Rattle.ia32_programs.proofs.Copies.{copy-follows}
 use Rattle.ia32_programs.proofs.Marks.{mark-follows, turn-follows}
-use Rattle.ia32_programs.proofs.Ops.{number-follows, sum-follows, difference-follows, and-follows, or-follows, xor-follows}
+use Rattle.ia32_programs.proofs.Ops.{number-follows, sum-follows, difference-follows, and-follows, or-follows}
+use Rattle.ia32_programs.proofs.Ops.{xor-follows}
 use Rattle.ia32_programs.proofs.keeps.rows_follow.Goals as goal
 
 pub returns-clause-number : goal.returns-clause-number
