@@ -8,8 +8,8 @@
 . "$(dirname "$(readlink -f "$0")")/start.sh"
 
 case "$*" in
-'') calls='c_parser c_types' ;;
-reading) calls='c_parser' ;;
+'') calls='c_front c_types' ;;
+reading) calls='c_front' ;;
 *) echo 'usage: bench/front.sh [reading]' >&2; exit 2 ;;
 esac
 
@@ -53,7 +53,7 @@ sed "$typing" >crates/reading/src/main.rt <<'PROGRAM'
 #![tactic(auto)]
 
 use c_lexer::lex;
-use c_parser::parse;
+use c_front::parse;
 @use c_types::check;
 use pcc_base::Span;
 use std::time::Instant;

@@ -11,7 +11,7 @@ use Rattle.flow_graph.proofs.Ascending.{ascending-push}
 use Rattle.liveness.specs.Distances.{AreDistances, distance_at}
 use Rattle.elementary_form.proofs.Naming.{in-either, in-left, in-right}
 use Rattle.puzzle_board.specs.declared.piece.Piece.{Piece}
-use Rattle.puzzle_solver.specs.declared.order.Candidate.{Candidate}
+use Rattle.puzzle_choices.specs.declared.order.Candidate.{Candidate}
 use Rattle.allocator.specs.Order.{AreInOrder, Precedes}
 use Rattle.allocator.proofs.OneMore.{every-here}
 use Rattle.allocator.specs.Spills.{AreCandidates, AreListed, HasDistance, HasPiece, IsNewAt, variables_of}

@@ -20,9 +20,10 @@ use Rattle.puzzle_board.specs.Boards.{Puzzle, remaining, remaining_in, removed_i
 use Rattle.puzzle_board.specs.Boards.{spot_in, without_variable}
 use Rattle.puzzle_board.specs.Classes.{IsAmong}
 use Rattle.puzzle_board.specs.Placements.{IsLegalPlacement, Standing}
-use Rattle.puzzle_solver.specs.Solved.{IsSolved, is_removed}
-use Rattle.puzzle_solver.specs.declared.order.Candidate.{Candidate}
-use Rattle.puzzle_solver.specs.Orders.{IsSpillOrder}
+use Rattle.puzzle_choices.specs.Onward.{is_removed}
+use Rattle.puzzle_solver.specs.Solved.{IsSolved}
+use Rattle.puzzle_choices.specs.declared.order.Candidate.{Candidate}
+use Rattle.puzzle_choices.specs.Orders.{IsSpillOrder}
 use Rattle.puzzle_solver.specs.Prefixes.{IsShortest, without_variables}
 use Rattle.allocator.specs.PointPuzzles.{puzzle_of, unplaced_states}
 use Rattle.allocator.specs.Solutions.{AreSpots, spots_of, standing_by}

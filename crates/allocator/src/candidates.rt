@@ -7,7 +7,7 @@ ghost use Rattle.allocator.specs.Spills.{AreListed, IsNewAt};
 use liveness::Distances;
 use pcc_base::NoMemory;
 use puzzle_board::Piece;
-use puzzle_solver::Candidate;
+use puzzle_choices::Candidate;
 use std::alloc::Global;
 
 /// Whether the piece is of another variable than the one before it.

@@ -10,8 +10,8 @@ use Rattle.c_syntax.specs.declared.operator.UnaryOp.TheVariants as raw_unary
 use Rattle.c_syntax.specs.declared.operator.AssignOp.{AssignOp}
 use Rattle.c_syntax.specs.declared.operator.AssignOp.TheVariants as raw_assign
 use Rattle.c_syntax.specs.declared.expression.Identifier.{Identifier as Ident}
-use Rattle.c_grammar.specs.Expressions as trees
-use Rattle.c_grammar.specs.Expressions.{Expr, Exprs, NoExpr, OneExpr}
+use Rattle.c_syntax.specs.Expressions as trees
+use Rattle.c_syntax.specs.Expressions.{Expr, Exprs, NoExpr, OneExpr}
 use Rattle.c_tree.specs.declared.expression.BinaryOp.{BinaryOp}
 use Rattle.c_tree.specs.declared.expression.StepOp.{StepOp}
 use Rattle.c_tree.specs.declared.expression.UnaryOp.{UnaryOp}

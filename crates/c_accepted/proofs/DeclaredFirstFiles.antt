@@ -9,11 +9,11 @@ use Rattle.std.proofs.lemmas.List.Elements.{All-from_recursion}
 use Rattle.pcc_base.specs.declared.span.Span.{Span}
 use Rattle.pcc_base.specs.declared.fault.FaultKind.TheVariants.{TypeRule}
 use Rattle.c_syntax.specs.declared.expression.Identifier.{Identifier}
-use Rattle.c_grammar.specs.Declarations as parts
-use Rattle.c_grammar.specs.Declarations.{ItemTree, DeclaratorTree, ParameterTree, PartTree}
-use Rattle.c_grammar.specs.Grammar.{IsExternal}
-use Rattle.c_grammar.specs.Statements.{Stmt, ExternalTree, FunctionTree, DeclaredTree}
-use Rattle.c_grammar.specs.StatementTokens.{IsStmt}
+use Rattle.c_syntax.specs.Declarations as parts
+use Rattle.c_syntax.specs.Declarations.{ItemTree, DeclaratorTree, ParameterTree, PartTree}
+use Rattle.c_syntax.specs.Grammar.{IsExternal}
+use Rattle.c_syntax.specs.Statements.{Stmt, ExternalTree, FunctionTree, DeclaredTree}
+use Rattle.c_syntax.specs.StatementTokens.{IsStmt}
 use Rattle.c_tree.specs.declared.types.ValueType.{ValueType}
 use Rattle.c_tree.specs.Program as tree
 use Rattle.c_tree.specs.Program.{Program}

@@ -8,7 +8,7 @@ use Rattle.pcc_base.specs.declared.fault.Fault.{Fault}
 use Rattle.pcc_base.specs.declared.fault.FaultKind.TheVariants as kinds
 use Rattle.pcc_base.specs.declared.fault.FaultKind.TheVariants.{TypeRule}
 use Rattle.c_syntax.specs.declared.expression.Identifier.{Identifier}
-use Rattle.c_grammar.specs.Declarations.{ItemTree, DeclarationTree, ValueTree}
+use Rattle.c_syntax.specs.Declarations.{ItemTree, DeclarationTree, ValueTree}
 use Rattle.c_tree.specs.declared.types.IntegerType.{IntegerType}
 use Rattle.c_tree.specs.declared.types.ValueType.{ValueType}
 use Rattle.c_tree.specs.declared.types.ValueType.TheVariants.{Integer, Pointer}

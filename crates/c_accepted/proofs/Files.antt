@@ -10,16 +10,16 @@ use Rattle.c_tokens.specs.declared.token.Token.{Token}
 use Rattle.c_tokens.specs.declared.token.Punct.TheVariants as marks
 use Rattle.c_syntax.specs.declared.expression.Identifier.{Identifier}
 use Rattle.c_syntax.specs.declared.expression.Specifier.{Specifier}
-use Rattle.c_grammar.specs.ExpressionTokens.{specifiers_tokens, pointer_tokens, IsSpecifiers}
-use Rattle.c_grammar.specs.Declarations as trees
-use Rattle.c_grammar.specs.Declarations.{ItemTree, DeclaratorTree, ParameterTree, PartTree}
-use Rattle.c_grammar.specs.DeclarationTokens.{declarator_tokens, part_tokens, parameter_tokens, separated, followed}
-use Rattle.c_grammar.specs.DeclarationTokens.{maybe_name_tokens, maybe_array_tokens, AreApart, IsPart, IsParameter}
-use Rattle.c_grammar.specs.Marks.{mark}
-use Rattle.c_grammar.specs.Grammar.{external_tokens, unit_tokens, IsBlock, IsExternal}
-use Rattle.c_grammar.specs.Statements as stmts
-use Rattle.c_grammar.specs.Statements.{Stmt, ExternalTree, FunctionTree, DeclaredTree}
-use Rattle.c_grammar.specs.StatementTokens.{stmt_tokens, stmts_tokens, IsStmt}
+use Rattle.c_syntax.specs.ExpressionTokens.{specifiers_tokens, pointer_tokens, IsSpecifiers}
+use Rattle.c_syntax.specs.Declarations as trees
+use Rattle.c_syntax.specs.Declarations.{ItemTree, DeclaratorTree, ParameterTree, PartTree}
+use Rattle.c_syntax.specs.DeclarationTokens.{declarator_tokens, part_tokens, parameter_tokens, separated, followed}
+use Rattle.c_syntax.specs.DeclarationTokens.{maybe_name_tokens, maybe_array_tokens, AreApart, IsPart, IsParameter}
+use Rattle.c_syntax.specs.Marks.{mark}
+use Rattle.c_syntax.specs.Grammar.{external_tokens, unit_tokens, IsBlock, IsExternal}
+use Rattle.c_syntax.specs.Statements as stmts
+use Rattle.c_syntax.specs.Statements.{Stmt, ExternalTree, FunctionTree, DeclaredTree}
+use Rattle.c_syntax.specs.StatementTokens.{stmt_tokens, stmts_tokens, IsStmt}
 use Rattle.c_tree.specs.Program as tree
 use Rattle.c_tree.specs.Program.{Program, Statements}
 use Rattle.c_tree.specs.Sizes.{function_size}

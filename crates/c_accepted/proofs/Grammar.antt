@@ -4,9 +4,9 @@ use Rattle.std.specs.Prelude.{codes, Some, None, unwrap_or}
 use Rattle.std.proofs.lemmas.List.Elements.{recursion_from_All}
 use Rattle.pcc_base.specs.declared.span.Span.{Span}
 use Rattle.c_syntax.specs.declared.operator.SpecifierWord.TheVariants as words
-use Rattle.c_grammar.specs.Expressions.{Identifier, Number}
-use Rattle.c_grammar.specs.Declarations.{Plain, Function}
-use Rattle.c_grammar.specs.Statements.{Declared, Block, If, Return, NoStmt, OneStmt, ExternalTree, FunctionTree}
+use Rattle.c_syntax.specs.Expressions.{Identifier, Number}
+use Rattle.c_syntax.specs.Declarations.{Plain, Function}
+use Rattle.c_syntax.specs.Statements.{Declared, Block, If, Return, NoStmt, OneStmt, ExternalTree, FunctionTree}
 use Rattle.c_tree.specs.Program.{Program}
 use Rattle.c_typing.specs.Typed.{Typed, elaborated}
 use Rattle.lower_programs.specs.Declared.{IsDeclaredFirst}

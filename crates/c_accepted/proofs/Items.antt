@@ -9,13 +9,13 @@ use Rattle.pcc_base.specs.declared.span.Span.{Span}
 use Rattle.pcc_base.specs.declared.fault.FaultKind.TheVariants as kinds
 use Rattle.c_syntax.specs.declared.expression.Identifier.{Identifier}
 use Rattle.c_syntax.specs.declared.expression.TextPiece.{TextPiece}
-use Rattle.c_grammar.specs.Expressions.{NoExpr, OneExpr}
-use Rattle.c_grammar.specs.ExpressionTokens.{expr_tokens, exprs_tokens, specifiers_tokens, pointer_tokens}
-use Rattle.c_grammar.specs.Declarations.{InitialiserTree, Single, Braces, ValueTree, ItemTree, DeclarationTree}
-use Rattle.c_grammar.specs.DeclarationTokens.{initialiser_tokens, value_tokens, item_tokens, declaration_tokens}
-use Rattle.c_grammar.specs.DeclarationTokens.{followed, separated, AreApart, AreItems, IsItem, IsDeclaration}
-use Rattle.c_grammar.specs.DeclarationTokens.{declarator_tokens, part_tokens, maybe_comma_tokens, IsInitialiser}
-use Rattle.c_grammar.specs.DeclarationTokens.{IsMaybeValue}
+use Rattle.c_syntax.specs.Expressions.{NoExpr, OneExpr}
+use Rattle.c_syntax.specs.ExpressionTokens.{expr_tokens, exprs_tokens, specifiers_tokens, pointer_tokens}
+use Rattle.c_syntax.specs.Declarations.{InitialiserTree, Single, Braces, ValueTree, ItemTree, DeclarationTree}
+use Rattle.c_syntax.specs.DeclarationTokens.{initialiser_tokens, value_tokens, item_tokens, declaration_tokens}
+use Rattle.c_syntax.specs.DeclarationTokens.{followed, separated, AreApart, AreItems, IsItem, IsDeclaration}
+use Rattle.c_syntax.specs.DeclarationTokens.{declarator_tokens, part_tokens, maybe_comma_tokens, IsInitialiser}
+use Rattle.c_syntax.specs.DeclarationTokens.{IsMaybeValue}
 use Rattle.c_tree.specs.declared.types.IntegerType.{IntegerType}
 use Rattle.c_tree.specs.declared.types.IntegerType.TheVariants.{Char, Short, Int}
 use Rattle.c_tree.specs.declared.types.ValueType.{ValueType}

@@ -8,13 +8,13 @@ use Rattle.std.proofs.lemmas.List.Sums.{sum_by-cons}
 use Rattle.std.proofs.lemmas.List.Elements.{All-from_recursion}
 use Rattle.pcc_base.specs.declared.span.Span.{Span}
 use Rattle.pcc_base.specs.declared.fault.FaultKind.TheVariants.{CaseLabel}
-use Rattle.c_grammar.specs.Expressions.{Expr}
-use Rattle.c_grammar.specs.ExpressionTokens.{expr_tokens}
-use Rattle.c_grammar.specs.DeclarationTokens.{declaration_tokens, maybe_expr_tokens}
-use Rattle.c_grammar.specs.Statements as trees
-use Rattle.c_grammar.specs.Statements.{LabelTree, Stmt, Stmts, NoStmt, OneStmt}
-use Rattle.c_grammar.specs.StatementTokens.{label_tokens, labels_tokens, stmt_tokens, stmts_tokens, IsStmt, AreItems}
-use Rattle.c_grammar.specs.StatementTokens.{AreCases, IsLabel, IsMaybeExpr}
+use Rattle.c_syntax.specs.Expressions.{Expr}
+use Rattle.c_syntax.specs.ExpressionTokens.{expr_tokens}
+use Rattle.c_syntax.specs.DeclarationTokens.{declaration_tokens, maybe_expr_tokens}
+use Rattle.c_syntax.specs.Statements as trees
+use Rattle.c_syntax.specs.Statements.{LabelTree, Stmt, Stmts, NoStmt, OneStmt}
+use Rattle.c_syntax.specs.StatementTokens.{label_tokens, labels_tokens, stmt_tokens, stmts_tokens, IsStmt, AreItems}
+use Rattle.c_syntax.specs.StatementTokens.{AreCases, IsLabel, IsMaybeExpr}
 use Rattle.c_tree.specs.declared.types.ValueType.{ValueType}
 use Rattle.c_tree.specs.declared.types.ValueType.TheVariants.{Void, Integer, Pointer}
 use Rattle.c_tree.specs.declared.statement.Label.{Label}

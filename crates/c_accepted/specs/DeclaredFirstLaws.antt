@@ -1,8 +1,8 @@
 -- Each local of a typed program is declared before it is named.
 use Rattle.std.specs.Prelude.{List}
 use Rattle.std.specs.List.{AllByRecursion}
-use Rattle.c_grammar.specs.Grammar.{IsExternal}
-use Rattle.c_grammar.specs.Statements.{ExternalTree}
+use Rattle.c_syntax.specs.Grammar.{IsExternal}
+use Rattle.c_syntax.specs.Statements.{ExternalTree}
 use Rattle.c_tree.specs.Program.{Program}
 use Rattle.c_typing.specs.Typed.{Typed}
 use Rattle.lower_programs.specs.Declared.{IsDeclaredFirst}

@@ -1,7 +1,7 @@
 -- Typed programs of files whose tokens are few are ones in memory, as lowering asks for them.
 use Rattle.std.specs.Prelude.{◌≤◌, List, length, flat_map}
-use Rattle.c_grammar.specs.Grammar.{unit_tokens}
-use Rattle.c_grammar.specs.Statements.{ExternalTree}
+use Rattle.c_syntax.specs.Grammar.{unit_tokens}
+use Rattle.c_syntax.specs.Statements.{ExternalTree}
 use Rattle.c_tree.specs.Program.{Program}
 use Rattle.c_typing.specs.Laws.{AreSources}
 use Rattle.c_typing.specs.Typed.{IsAccepted}

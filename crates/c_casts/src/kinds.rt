@@ -1,7 +1,7 @@
 //! Which mark or specifier a token is.
 
 ghost use Rattle.std.specs.Prelude.{◌≡◌};
-ghost use Rattle.c_grammar.specs.Taking.{is_mark, specifier_of};
+ghost use Rattle.c_syntax.specs.Taking.{is_mark, specifier_of};
 
 use c_syntax::SpecifierWord;
 use c_tokens::{Punct, TokenKind};

@@ -1,5 +1,5 @@
 //! In: a list of tokens. Out: whether a specifier stands at its front, or a `(` that begins a cast, which is no
-//! parenthesis of an expression: `read_cast` of `c_grammar` tells them apart so.
+//! parenthesis of an expression: `read_cast` of `c_syntax` tells them apart so.
 #![tactic(auto)]
 
 mod casts;

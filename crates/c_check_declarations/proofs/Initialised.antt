@@ -3,8 +3,8 @@ use Rattle.std.proofs.Common.{◌≡◌, sym, ap, ◌∙◌, subst, ℕ, List, [
 use Rattle.pcc_base.specs.declared.fault.Fault.{Fault}
 use Rattle.pcc_base.specs.declared.fault.FaultKind.{FaultKind}
 use Rattle.pcc_base.specs.declared.span.Span.{Span}
-use Rattle.c_grammar.specs.Expressions.{Expr}
-use Rattle.c_grammar.specs.Declarations.{InitialiserTree, Single}
+use Rattle.c_syntax.specs.Expressions.{Expr}
+use Rattle.c_syntax.specs.Declarations.{InitialiserTree, Single}
 use Rattle.c_tree.specs.Program.{Expression, Initialiser, Item}
 use Rattle.c_tree.specs.declared.statement.Initialiser.{Initialiser as BuiltInitialiser}
 use Rattle.c_tree.specs.declared.statement.Item.{Item as BuiltItem}

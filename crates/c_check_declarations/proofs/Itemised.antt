@@ -5,7 +5,7 @@ use Rattle.std.proofs.Math.Seq.{drop-cons}
 use Rattle.pcc_base.specs.declared.fault.Fault.{Fault}
 use Rattle.c_syntax.specs.declared.expression.Specifier.{Specifier}
 use Rattle.c_syntax.specs.declared.declaration.Item.{Item as RawItem}
-use Rattle.c_grammar.specs.Declarations.{DeclarationTree, ItemTree, item_of}
+use Rattle.c_syntax.specs.Declarations.{DeclarationTree, ItemTree, item_of}
 use Rattle.c_tree.specs.Program.{Item}
 use Rattle.c_tree.specs.declared.statement.Item.{Item as BuiltItem}
 use Rattle.c_typing.specs.Checked.{Checked, Note, also, if_fits, value_in}

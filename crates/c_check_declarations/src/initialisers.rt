@@ -2,8 +2,8 @@
 
 ghost use Rattle.std.specs.Prelude.{◌≡◌, ℤ, List, Some, map, option_map, IfOk};
 ghost use Rattle.pcc_base.specs.declared.span.Span.{Span as Place};
-ghost use Rattle.c_grammar.specs.Declarations.{initialiser_of, value_of};
-ghost use Rattle.c_grammar.specs.Expressions.{expr_of, exprs_of};
+ghost use Rattle.c_syntax.specs.Declarations.{initialiser_of, value_of};
+ghost use Rattle.c_syntax.specs.Expressions.{expr_of, exprs_of};
 ghost use Rattle.c_tree.specs.Erased.{boxed_of, expression_of};
 ghost use Rattle.c_tree.specs.Program.{Expression as Typed, Elements, Text};
 ghost use Rattle.c_typing.specs.Checked.{Checked, Contents as Holding, Note, Values, fits, if_fits};

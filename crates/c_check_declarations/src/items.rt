@@ -1,7 +1,7 @@
 //! Declared items of a block or a `for` (C99 6.7 and 6.8.2).
 
 ghost use Rattle.std.specs.Prelude.{◌≡◌, ◌∷◌, [], List, Option, Some, length, map, option_map, IfOk, OnOk};
-ghost use Rattle.c_grammar.specs.Declarations.{declaration_of, item_of, value_of};
+ghost use Rattle.c_syntax.specs.Declarations.{declaration_of, item_of, value_of};
 ghost use Rattle.c_tree.specs.Program as tree;
 ghost use Rattle.c_tree.specs.Program.{Expression as Typed, Initialiser as TypedFirst};
 ghost use Rattle.c_typing.specs.Checked.{Checked, Contents as Holding, Note, Zeros, also, fits, if_fits, value_in};

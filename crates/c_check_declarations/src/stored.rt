@@ -1,7 +1,7 @@
 //! Objects of static storage (C99 6.7.8 and 6.9.2).
 
 ghost use Rattle.std.specs.Prelude.{◌≡◌, IfOk};
-ghost use Rattle.c_grammar.specs.Declarations.{value_of};
+ghost use Rattle.c_syntax.specs.Declarations.{value_of};
 ghost use Rattle.c_typing.specs.Checked.{Stores};
 ghost use Rattle.c_typing.specs.Initialisers.{contents_for};
 ghost use Rattle.c_typing.specs.Statements.{elements_of, size_of, stored};

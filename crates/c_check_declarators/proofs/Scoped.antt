@@ -4,7 +4,7 @@ use Rattle.std.proofs.Common.{None, ℕ}
 use Rattle.std.proofs.Math.Seq.{take-append_seam}
 use Rattle.std.proofs.lemmas.List.{append-nil, append_assoc}
 use Rattle.c_syntax.specs.declared.expression.Identifier.{Identifier}
-use Rattle.c_grammar.specs.Declarations.{ParameterTree}
+use Rattle.c_syntax.specs.Declarations.{ParameterTree}
 use Rattle.c_tree.specs.declared.types.ValueType.{ValueType}
 use Rattle.c_tree.specs.Program as tree
 use Rattle.c_typing.specs.Checked.{Checked, Fits, Fails, Note, noted, if_fits, value_in}

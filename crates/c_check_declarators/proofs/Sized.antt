@@ -6,12 +6,12 @@ use Rattle.pcc_base.specs.declared.span.Span.{Span}
 use Rattle.pcc_base.specs.declared.fault.Fault.{Fault}
 use Rattle.c_syntax.specs.declared.expression.Specifier.{Specifier}
 use Rattle.c_syntax.specs.declared.declaration.Parameter.{Parameter}
-use Rattle.c_grammar.specs.Declarations.{ArrayTree, Array, DeclaratorTree, ParameterTree, PartTree, ValueTree}
-use Rattle.c_grammar.specs.Declarations.{parameter_of}
+use Rattle.c_syntax.specs.Declarations.{ArrayTree, Array, DeclaratorTree, ParameterTree, PartTree, ValueTree}
+use Rattle.c_syntax.specs.Declarations.{parameter_of}
 use Rattle.c_tree.specs.Program.{Expression as Typed}
 use Rattle.c_tree.specs.Erased.{boxed_of}
 use Rattle.c_tree.specs.declared.types.ValueType.{ValueType}
-use Rattle.c_constants.specs.Constants.{IsConstant}
+use Rattle.c_operands.specs.Constants.{IsConstant}
 use Rattle.c_typing.specs.Checked.{Checked, Note, also, fits, if_fits}
 use Rattle.c_typing.specs.Constants.{constant_value}
 use Rattle.c_typing.specs.Declarators.{at_least_one, count_by_value, object_declared, parameter_allowed}

@@ -4,8 +4,8 @@ use Rattle.std.proofs.Common.{Option, Some, None}
 use Rattle.pcc_base.specs.declared.span.Span.{Span}
 use Rattle.c_syntax.specs.declared.expression.TextPiece.{TextPiece}
 use Rattle.c_syntax.specs.declared.expression.Expression.{Expression}
-use Rattle.c_grammar.specs.Expressions.{Expr, Exprs, expr_of, exprs_of}
-use Rattle.c_grammar.specs.Declarations.{InitialiserTree, Single, Braces, ValueTree}
+use Rattle.c_syntax.specs.Expressions.{Expr, Exprs, expr_of, exprs_of}
+use Rattle.c_syntax.specs.Declarations.{InitialiserTree, Single, Braces, ValueTree}
 use Rattle.c_tree.specs.declared.types.IntegerType.TheVariants.{Char, Short, Int}
 use Rattle.c_tree.specs.declared.types.ValueType.{ValueType}
 use Rattle.c_tree.specs.declared.types.ValueType.TheVariants.{Void, Integer, Pointer}

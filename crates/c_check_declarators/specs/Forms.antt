@@ -1,7 +1,7 @@
 -- Initialisers of arrays, by their form (C99 6.7.8p14 to p16).
 use Rattle.std.specs.Prelude.{List, Option, Some, None}
 use Rattle.c_syntax.specs.declared.expression.TextPiece.{TextPiece}
-use Rattle.c_grammar.specs.Declarations.{InitialiserTree}
+use Rattle.c_syntax.specs.Declarations.{InitialiserTree}
 use Rattle.c_tree.specs.declared.types.ValueType.{ValueType}
 use Rattle.c_tree.specs.declared.types.ValueType.TheVariants.{Void, Integer, Pointer}
 use Rattle.c_typing.specs.Declarators.{ArrayValues, Letters, Listed, NoValues, array_values, other_values}

@@ -1,8 +1,8 @@
 //! The forms of arrays' initialisers (C99 6.7.8p14 to p16).
 
 ghost use Rattle.std.specs.Prelude.{◌≡◌, map, option_map};
-ghost use Rattle.c_grammar.specs.Declarations.{initialiser_of};
-ghost use Rattle.c_grammar.specs.Expressions.{expr_of, exprs_of};
+ghost use Rattle.c_syntax.specs.Declarations.{initialiser_of};
+ghost use Rattle.c_syntax.specs.Expressions.{expr_of, exprs_of};
 ghost use Rattle.c_tree.specs.declared.types.IntegerType.TheVariants.{Char};
 ghost use Rattle.c_typing.specs.Declarators.{array_values, only_text, text_of};
 ghost use Rattle.c_check_declarators.specs.Forms.{letters_in, values_by};

@@ -1,7 +1,7 @@
 //! The parameters of functions (C99 6.7.5.3).
 
 ghost use Rattle.std.specs.Prelude.{◌≡◌, [], List, map, option_map, IfOk, OnOk, if◌then◌else◌};
-ghost use Rattle.c_grammar.specs.Declarations.{maybe_array_of, parameter_of};
+ghost use Rattle.c_syntax.specs.Declarations.{maybe_array_of, parameter_of};
 ghost use Rattle.c_typing.specs.Checked.{Note, also};
 ghost use Rattle.c_typing.specs.Declarators.{
   has_void_base,

@@ -1,7 +1,7 @@
 //! The types that declarators of objects give, with the sizes of arrays (C99 6.7.5.2).
 
 ghost use Rattle.std.specs.Prelude.{◌≡◌, ℕ, List, IfOk, length};
-ghost use Rattle.c_grammar.specs.Declarations.{declarator_of, initialiser_of, maybe_expr_of, value_of};
+ghost use Rattle.c_syntax.specs.Declarations.{declarator_of, initialiser_of, maybe_expr_of, value_of};
 ghost use Rattle.c_tree.specs.Program.{Expression as Typed};
 ghost use Rattle.c_typing.specs.Checked.{Checked, Note, fits, if_fits, or_fails};
 ghost use Rattle.c_typing.specs.Constants.{constant_value};

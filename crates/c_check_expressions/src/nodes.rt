@@ -1,7 +1,7 @@
 //! Nodes of raw expressions, whose parts were judged.
 
 ghost use Rattle.std.specs.Prelude.{◌≡◌, List, IfOk};
-ghost use Rattle.c_grammar.specs.Expressions.{star_of};
+ghost use Rattle.c_syntax.specs.Expressions.{star_of};
 ghost use Rattle.c_tree.specs.Program as typed;
 ghost use Rattle.c_tree.specs.Program.{Expression as Typed};
 ghost use Rattle.c_tree.specs.declared.types.IntegerType.TheVariants.{Int};

@@ -1,7 +1,7 @@
 //! The walk over a raw expression, which judges each part once, in the order of the text.
 
 ghost use Rattle.std.specs.Prelude.{◌≡◌, ◌&&◌, List, IfOk, map};
-ghost use Rattle.c_grammar.specs.Expressions.{expr_of, exprs_of};
+ghost use Rattle.c_syntax.specs.Expressions.{expr_of, exprs_of};
 ghost use Rattle.c_tree.specs.Program.{Expression as Typed};
 ghost use Rattle.c_typing.specs.Checked.{pair, Checked, Note};
 ghost use Rattle.c_typing.specs.Expressions.{

@@ -1,8 +1,8 @@
 //! Whole expressions.
 
 ghost use Rattle.std.specs.Prelude.{IfOk, List, Some};
-ghost use Rattle.c_grammar.specs.Declarations.{maybe_expr_of};
-ghost use Rattle.c_grammar.specs.Expressions.{expr_of};
+ghost use Rattle.c_syntax.specs.Declarations.{maybe_expr_of};
+ghost use Rattle.c_syntax.specs.Expressions.{expr_of};
 ghost use Rattle.c_tree.specs.Program.{Expression as Typed};
 ghost use Rattle.c_typing.specs.Checked.{fits, if_fits, Checked, Note};
 ghost use Rattle.c_typing.specs.Expressions.{typed_expression, typed_if_any};

@@ -2,9 +2,9 @@
 use Rattle.std.proofs.Common.{◌≡◌, refl, sym, ap, ◌∙◌, List, [], ◌∷◌, ◌++◌, Bool, true, false, Option, Some, None}
 use Rattle.std.proofs.lemmas.List.{append_assoc}
 use Rattle.c_syntax.specs.declared.expression.Identifier.{Identifier}
-use Rattle.c_grammar.specs.Declarations.{DeclarationTree, ItemTree, ParameterTree}
-use Rattle.c_grammar.specs.Statements as trees
-use Rattle.c_grammar.specs.Statements.{Stmt, Stmts, NoStmt, OneStmt}
+use Rattle.c_syntax.specs.Declarations.{DeclarationTree, ItemTree, ParameterTree}
+use Rattle.c_syntax.specs.Statements as trees
+use Rattle.c_syntax.specs.Statements.{Stmt, Stmts, NoStmt, OneStmt}
 use Rattle.c_typing.specs.Declarators.{ArrayObject, IntegerObject, ObjectType, PointerObject, object_type}
 use Rattle.c_typing.specs.Files.{at_body, body_of}
 use Rattle.c_typing.specs.Names.{Binding, Scope, entered, left, numbered}

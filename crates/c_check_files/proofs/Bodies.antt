@@ -5,8 +5,8 @@ use Rattle.std.proofs.lemmas.List.{append-nil}
 use Rattle.std.specs.declared.alloc.Global.{Global}
 use Rattle.pcc_base.specs.declared.fault.Fault.{Fault}
 use Rattle.c_syntax.specs.declared.expression.Identifier.{Identifier}
-use Rattle.c_grammar.specs.Declarations.{DeclaratorTree, ParameterTree}
-use Rattle.c_grammar.specs.Statements.{Stmt}
+use Rattle.c_syntax.specs.Declarations.{DeclaratorTree, ParameterTree}
+use Rattle.c_syntax.specs.Statements.{Stmt}
 use Rattle.c_tree.specs.declared.program.Function.{Function as Built}
 use Rattle.c_tree.specs.declared.statement.Statement.{Statement}
 use Rattle.c_tree.specs.Program as tree
@@ -24,8 +24,8 @@ use Rattle.c_operands.specs.declared.judged.Judged.{Judged}
 use Rattle.c_operands.specs.declared.judged.Judged.TheVariants as answers
 use Rattle.c_expressions.specs.Said.{IsSaid}
 use Rattle.c_check_declarators.proofs.Rows.{answered_is, fails_said, then_said}
-use Rattle.c_check_outside.specs.Answers.{IsSignature}
-use Rattle.c_check_jumps.specs.Answers.{AreStatements}
+use Rattle.c_check_files.specs.OutsideAnswers.{IsSignature}
+use Rattle.c_check_statements.specs.Answers.{AreStatements}
 use Rattle.c_check_files.specs.Answers.{AreFunction, IsFunction}
 use Rattle.c_check_files.proofs.Behind.{sees_body}
 

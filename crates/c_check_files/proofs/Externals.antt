@@ -6,8 +6,8 @@ use Rattle.pcc_base.specs.declared.fault.Fault.{Fault}
 use Rattle.c_syntax.specs.declared.expression.Specifier.{Specifier}
 use Rattle.c_syntax.specs.declared.unit.External.{External}
 use Rattle.c_syntax.specs.declared.unit.RawUnit.{RawUnit}
-use Rattle.c_grammar.specs.Declarations.{DeclaratorTree}
-use Rattle.c_grammar.specs.Statements.{FunctionTree, Stmt, external_of, unit_of}
+use Rattle.c_syntax.specs.Declarations.{DeclaratorTree}
+use Rattle.c_syntax.specs.Statements.{FunctionTree, Stmt, external_of, unit_of}
 use Rattle.c_tree.specs.declared.program.Function.{Function as Built}
 use Rattle.c_tree.specs.Erased.{function_of}
 use Rattle.c_tree.specs.Program.{Function}

@@ -1,8 +1,8 @@
 //! Definitions of functions (C99 6.9.1).
 
 ghost use Rattle.std.specs.Prelude.{◌≡◌, ◌∷◌, [], List, Some, length, map, true, IfOk, OnOk};
-ghost use Rattle.c_grammar.specs.Declarations.{declarator_of, parameter_of, part_of};
-ghost use Rattle.c_grammar.specs.Statements.{stmt_of};
+ghost use Rattle.c_syntax.specs.Declarations.{declarator_of, parameter_of, part_of};
+ghost use Rattle.c_syntax.specs.Statements.{stmt_of};
 ghost use Rattle.c_tree.specs.Erased.{statements_of};
 ghost use Rattle.c_tree.specs.Program.{Function as Defined, Statements};
 ghost use Rattle.c_typing.specs.Checked.{Checked, Defines, Fits, Note as Saying, fits, if_fits};
@@ -23,12 +23,12 @@ ghost use Rattle.c_typing.specs.Types.{DeclaredFunction};
 ghost use Rattle.c_meanings.specs.Views as views;
 ghost use Rattle.c_expressions.specs.Said.{IsSaid};
 ghost use Rattle.c_check_declarators.specs.Views.{specified_of};
-ghost use Rattle.c_check_jumps.specs.Answers.{AreStatements};
+ghost use Rattle.c_check_statements.specs.Answers.{AreStatements};
 ghost use Rattle.c_check_files.specs.Answers.{AreFunction, IsFunction};
 
 use crate::copies::{copy_arrays, copy_locals};
+use crate::{declare_function, function_signature};
 use c_check_declarations::{Specified, parameters};
-use c_check_outside::{declare_function, function_signature};
 use c_check_statements::body;
 use c_expressions::{Note, Notes};
 use c_meanings::{Declared, Entity, Signature};

@@ -1,8 +1,8 @@
 //! Files, one behind the other (C99 6.9).
 
 ghost use Rattle.std.specs.Prelude.{◌≡◌, ◌++◌, List, map, IfOk, OnOk};
-ghost use Rattle.c_grammar.specs.Declarations.{declarator_of};
-ghost use Rattle.c_grammar.specs.Statements.{FunctionTree, external_of, stmt_of, unit_of};
+ghost use Rattle.c_syntax.specs.Declarations.{declarator_of};
+ghost use Rattle.c_syntax.specs.Statements.{FunctionTree, external_of, stmt_of, unit_of};
 ghost use Rattle.c_tree.specs.Program.{Function as Defined};
 ghost use Rattle.c_typing.specs.Checked.{Checked, Note, both, fits};
 ghost use Rattle.c_typing.specs.Files.{
@@ -13,13 +13,13 @@ ghost use Rattle.c_typing.specs.Files.{
   typed_units,
 };
 ghost use Rattle.c_expressions.specs.Said.{IsSaid};
-ghost use Rattle.c_check_outside.specs.Answers.{AreNone};
+ghost use Rattle.c_check_files.specs.OutsideAnswers.{AreNone};
 ghost use Rattle.c_check_files.specs.Answers.{AreFunction, AreFunctions};
 
 use crate::definitions::definition;
+use crate::outside_declaration;
 use c_check_declarations::{Position, specifiers_at};
 use c_check_declarators::maybe_behind;
-use c_check_outside::outside_declaration;
 use c_expressions::Notes;
 use c_operands::Judged;
 use c_scopes::Scopes;

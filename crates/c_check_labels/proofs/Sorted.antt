@@ -10,7 +10,7 @@ use Rattle.pcc_base.specs.declared.fault.Fault.{Fault}
 use Rattle.pcc_base.specs.declared.span.Span.{Span}
 use Rattle.c_syntax.specs.declared.statement.Statement.{Statement as Raw}
 use Rattle.c_syntax.specs.declared.statement.Label.{Label as RawLabel}
-use Rattle.c_grammar.specs.Statements.{Case, Default, LabelTree, label_of, stmt_of, stmts_of}
+use Rattle.c_syntax.specs.Statements.{Case, Default, LabelTree, label_of, stmt_of, stmts_of}
 use Rattle.c_tree.specs.declared.statement.Label.{Label}
 use Rattle.c_typing.specs.Checked.{Checked, Fits, Fails, Note, if_fits}
 use Rattle.c_typing.specs.Names.{Scope}

@@ -2,7 +2,7 @@
 
 ghost use Rattle.std.specs.Prelude.{◌≡◌, ℕ, ℤ, [], ◌∷◌, ◌++◌, List, Option, map, not, IfOk};
 ghost use Rattle.std.specs.List.{list_any};
-ghost use Rattle.c_grammar.specs.Statements.{label_of, stmt_of, stmts_of};
+ghost use Rattle.c_syntax.specs.Statements.{label_of, stmt_of, stmts_of};
 ghost use Rattle.pcc_base.specs.declared.fault.FaultKind.TheVariants.{CaseLabel};
 ghost use Rattle.c_tree.specs.Program.{Expression as Typed};
 ghost use Rattle.c_tree.specs.declared.statement.Label.{Label as TypedLabel};

@@ -1,8 +1,8 @@
 //! The values of initialisers (C99 6.7.8): typed trees, or constants.
 
 ghost use Rattle.std.specs.Prelude.{◌≡◌, ℕ, List, Some, map, option_map, IfOk};
-ghost use Rattle.c_constants.specs.Constants.{IsConstant};
-ghost use Rattle.c_grammar.specs.Expressions.{expr_of, exprs_of};
+ghost use Rattle.c_operands.specs.Constants.{IsConstant};
+ghost use Rattle.c_syntax.specs.Expressions.{expr_of, exprs_of};
 ghost use Rattle.c_tree.specs.Program.{Expression as Typed};
 ghost use Rattle.c_tree.specs.Store.{converted};
 ghost use Rattle.c_tree.specs.declared.types.IntegerType.{IntegerType as IntType};
@@ -20,9 +20,8 @@ ghost use Rattle.c_check_labels.specs.Values.{IsPlainTree, row_within};
 
 use c_check_declarators::behind;
 use c_check_expressions::expression;
-use c_constants::Constant;
 use c_expressions::{Notes, first_token};
-use c_operands::{Judged, Operand, assigned};
+use c_operands::{Constant, Judged, Operand, assigned};
 use c_operators::convert;
 use c_scopes::Scopes;
 use c_syntax::Expression;

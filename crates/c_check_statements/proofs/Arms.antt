@@ -9,7 +9,7 @@ use Rattle.c_typing.specs.Names.{Scope, entered, numbered}
 use Rattle.c_typing.specs.Statements.{Around}
 use Rattle.c_operands.specs.declared.judged.Judged.{Judged}
 use Rattle.c_expressions.specs.Said.{IsSaid}
-use Rattle.c_check_jumps.specs.Answers.{AreListed}
+use Rattle.c_check_statements.specs.Answers.{AreListed}
 
 pub at_number : (F : Scope → ℕ → Checked (List Statement)) (s t : Scope) (n : ℕ) (j : Judged (Vec Built Global))
     (before after : List Note) → t ≡ numbered s → n ≡ s.next → IsSaid AreListed (F t n) j before after

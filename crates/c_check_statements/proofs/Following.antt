@@ -7,7 +7,7 @@ use Rattle.std.proofs.Math.Seq.{drop-cons}
 use Rattle.std.proofs.lemmas.List.{append-nil, append_assoc, drop_all}
 use Rattle.pcc_base.specs.declared.fault.Fault.{Fault}
 use Rattle.c_syntax.specs.declared.statement.Statement.{Statement as Raw}
-use Rattle.c_grammar.specs.Statements.{stmt_of, stmts_of}
+use Rattle.c_syntax.specs.Statements.{stmt_of, stmts_of}
 use Rattle.c_tree.specs.declared.statement.Statement.{Statement as Built}
 use Rattle.c_tree.specs.Erased.{statement_of, statements_of}
 use Rattle.c_tree.specs.Program.{Done, Next, Statement, Statements}
@@ -20,8 +20,8 @@ use Rattle.c_operands.specs.declared.judged.Judged.{Judged}
 use Rattle.c_operands.specs.declared.judged.Judged.TheVariants as answers
 use Rattle.c_operands.specs.Parts.{Stands}
 use Rattle.c_expressions.specs.Said.{IsSaid}
-use Rattle.c_check_jumps.specs.Answers.{AreListed, AreStatements}
-use Rattle.c_check_jumps.specs.Together.{joined}
+use Rattle.c_check_statements.specs.Answers.{AreListed, AreStatements}
+use Rattle.c_check_statements.specs.Together.{joined}
 
 -- statements before others
 abbrev pub rejoined : Checked (List Statement) → Checked Statements → Checked Statements

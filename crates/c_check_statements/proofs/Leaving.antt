@@ -1,7 +1,7 @@
 -- A scope is closed: what was seen before it is seen again.
 use Rattle.std.proofs.Common.{◌≡◌, ap, ◌∙◌, ℕ, List, ◌++◌, length}
-use Rattle.c_grammar.specs.Declarations.{DeclarationTree}
-use Rattle.c_grammar.specs.Statements.{Stmt, Stmts}
+use Rattle.c_syntax.specs.Declarations.{DeclarationTree}
+use Rattle.c_syntax.specs.Statements.{Stmt, Stmts}
 use Rattle.c_typing.specs.Names.{Binding, Scope, entered, left}
 use Rattle.c_typing.specs.Statements.{after_declaration, after_statement, after_statements}
 use Rattle.c_typing.specs.Types.{InFor}

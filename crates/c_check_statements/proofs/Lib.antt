@@ -2,3 +2,8 @@ mod Arms
 mod Following
 mod Leaving
 mod NamesGrow
+mod BlockRows
+mod Chains
+mod Ones
+mod QuietRows
+mod Returning

@@ -2,9 +2,9 @@
 use Rattle.std.proofs.Common.{◌≡◌, refl, sym, ap, ◌∙◌, List, [], ◌∷◌, ◌++◌, Bool, true, false, Option, Some, None}
 use Rattle.std.proofs.lemmas.List.{append_assoc}
 use Rattle.c_syntax.specs.declared.expression.Identifier.{Identifier as Ident}
-use Rattle.c_grammar.specs.Declarations.{DeclarationTree, ItemTree}
-use Rattle.c_grammar.specs.Statements as trees
-use Rattle.c_grammar.specs.Statements.{Stmt, Stmts, NoStmt, OneStmt}
+use Rattle.c_syntax.specs.Declarations.{DeclarationTree, ItemTree}
+use Rattle.c_syntax.specs.Statements as trees
+use Rattle.c_syntax.specs.Statements.{Stmt, Stmts, NoStmt, OneStmt}
 use Rattle.c_typing.specs.Declarators.{ObjectType, IntegerObject, PointerObject, ArrayObject, object_type}
 use Rattle.c_typing.specs.Library.{At, Entity}
 use Rattle.c_typing.specs.Names.{Binding, Scope, entered, left, numbered}

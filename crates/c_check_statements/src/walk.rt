@@ -1,7 +1,7 @@
 //! The walk over raw statements, which judges each part once.
 
 ghost use Rattle.std.specs.Prelude.{◌≡◌, [], List, Option, map, IfOk, OnOk};
-ghost use Rattle.c_grammar.specs.Statements.{stmt_of, stmts_of};
+ghost use Rattle.c_syntax.specs.Statements.{stmt_of, stmts_of};
 ghost use Rattle.c_tree.specs.Program as tree;
 ghost use Rattle.c_tree.specs.Program.{
   Done,
@@ -23,12 +23,12 @@ ghost use Rattle.c_typing.specs.Statements.{
 };
 ghost use Rattle.c_expressions.specs.Said.{IsSaid};
 ghost use Rattle.c_check_labels.specs.Values.{IsTree};
-ghost use Rattle.c_check_jumps.specs.Answers.{AreHead, AreListed, AreSelected, AreStatements, AreTested};
-ghost use Rattle.c_check_jumps.specs.Together.{joined};
+ghost use Rattle.c_check_statements.specs.Answers.{AreHead, AreListed, AreSelected, AreStatements, AreTested};
+ghost use Rattle.c_check_statements.specs.Together.{joined};
 ghost use Rattle.c_check_statements.specs.Views.{around_of};
 
 use crate::around::Around;
-use c_check_jumps::{
+use crate::{
     Branch, DoHead, ForHead, Position, SwitchHead, TestHead, block, break_statement,
     continue_statement, declaration, declared, declared_head, do_head, do_loop, empty_statement,
     evaluated, first_branch, for_head, for_loop, if_else, if_only, joined, return_statement,

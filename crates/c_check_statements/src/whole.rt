@@ -1,11 +1,11 @@
 //! Whole bodies.
 
 ghost use Rattle.std.specs.Prelude.{◌≡◌, map, IfOk, OnOk};
-ghost use Rattle.c_grammar.specs.Statements.{stmt_of, stmts_of};
+ghost use Rattle.c_syntax.specs.Statements.{stmt_of, stmts_of};
 ghost use Rattle.c_typing.specs.Files.{body_of, in_function};
 ghost use Rattle.c_typing.specs.Statements.{after_statements, typed_statements};
 ghost use Rattle.c_expressions.specs.Said.{IsSaid};
-ghost use Rattle.c_check_jumps.specs.Answers.{AreStatements};
+ghost use Rattle.c_check_statements.specs.Answers.{AreStatements};
 
 use crate::around::Around;
 use crate::walk::statements;

@@ -1,8 +1,8 @@
 //! Rows of tokens of one kind: specifiers, the words `const`, string literals.
 
 ghost use Rattle.std.specs.Prelude.{◌≡◌, ◌+◌, ◌≤◌, ◌∷◌, ◌++◌, [], length, IfOk, OnOk};
-ghost use Rattle.c_grammar.specs.Expressions.{star_of};
-ghost use Rattle.c_grammar.specs.Taking.{take_specifiers, take_consts, take_texts, take_pointer, with_front};
+ghost use Rattle.c_syntax.specs.Expressions.{star_of};
+ghost use Rattle.c_syntax.specs.Taking.{take_specifiers, take_consts, take_texts, take_pointer, with_front};
 ghost use Rattle.c_cursor.specs.Rows.{IsFront, IsRow};
 
 use crate::cursor::Cursor;

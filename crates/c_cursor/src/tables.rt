@@ -1,10 +1,10 @@
 //! Which operator or word a token is.
 
 ghost use Rattle.std.specs.Prelude.{◌≡◌, ◌<◌, ℕ, None};
-ghost use Rattle.c_grammar.specs.ExpressionTokens.{binary_level};
-ghost use Rattle.c_grammar.specs.Taking.{is_word, of_mark, unary_of_mark, step_of_mark, assign_of_mark};
-ghost use Rattle.c_grammar.specs.Taking.{binary_of_mark, at_level};
-ghost use Rattle.c_grammar.specs.Heads.{begins};
+ghost use Rattle.c_syntax.specs.ExpressionTokens.{binary_level};
+ghost use Rattle.c_syntax.specs.Taking.{is_word, of_mark, unary_of_mark, step_of_mark, assign_of_mark};
+ghost use Rattle.c_syntax.specs.Taking.{binary_of_mark, at_level};
+ghost use Rattle.c_syntax.specs.Heads.{begins};
 
 use c_syntax::{AssignOp, BinaryOp, StepOp, UnaryOp};
 use c_tokens::{Punct, TokenKind};

@@ -15,8 +15,8 @@ use Rattle.c_tree.specs.Evaluation.{type_of}
 use Rattle.c_tree.specs.Program.{Statements, Done, Next}
 use Rattle.c_tree.specs.declared.statement.Statement.{Statement, Row_of-Statement, end_of-Statement, more_of-Statement}
 use Rattle.c_tree.specs.declared.statement.Statement.{items-the_row-Statement}
-use Rattle.c_store.specs.Values.{held_of}
-use Rattle.c_store.specs.declared.value.Value.{Value}
+use Rattle.c_eval.specs.Values.{held_of}
+use Rattle.c_eval.specs.declared.value.Value.{Value}
 use Rattle.c_tree.specs.Store.{Held}
 use Rattle.c_eval_laws.specs.TasksLaws.{ArgumentsAreLast}
 use Rattle.c_eval_laws.specs.Steps.{statements_from}

@@ -1,6 +1,6 @@
 -- What an evaluation in memory has left to do.
 use Rattle.c_tree.specs.Erased.{function_of}
-use Rattle.c_store.specs.Values.{found_of, held_of}
+use Rattle.c_eval.specs.Values.{found_of, held_of}
 use Rattle.c_eval_laws.specs.Steps.{Configuration}
 use Rattle.c_eval.specs.Views.{stack_of, task_of, way_of}
 use Rattle.c_eval.specs.declared.evaluation.Evaluation.{Evaluation}

@@ -6,15 +6,15 @@ ghost use Rattle.c_eval.specs.Views.{task_of, way_of};
 ghost use Rattle.c_eval.specs.Changes.{doing, doing_both, doing_three, doing_four, holding, at_place};
 ghost use Rattle.c_eval.specs.Changes.{passing_over, returning_to, without_value, without_values, without_place};
 ghost use Rattle.c_eval.specs.Changes.{TaskTaken};
-ghost use Rattle.c_store.specs.Values.{found_of, held_of};
+ghost use Rattle.c_eval.specs.Values.{found_of, held_of};
 ghost use Rattle.c_eval_laws.specs.Tasks.{put_before, top, top_place};
 ghost use Rattle.c_eval_laws.specs.Steps.{go_on};
 ghost use Rattle.c_tree.specs.Erased.{function_of};
 ghost use Rattle.c_tree.specs.Evaluation.{type_at};
 
 use crate::task::{Task, Way};
+use crate::{Place, Value};
 use c_eval_laws::arguments_are_last;
-use c_store::{Place, Value};
 use c_tree::{Function, ValueType};
 use pcc_base::NoMemory;
 use std::alloc::Global;

@@ -7,9 +7,9 @@ ghost use Rattle.c_eval.specs.Streaming.{GetTold, InputCounts, OutCounts, PutTol
 ghost use Rattle.c_eval_laws.specs.Tasks.{Ahead};
 ghost use Rattle.c_tree.specs.Store.{Held};
 
+use crate::Value;
 use crate::end::EvalEnd;
 use crate::evaluation::Evaluation;
-use c_store::Value;
 use pcc_outside::{Sink, Source, WriteRefusal};
 
 /// The next byte of the input, or -1 at its end.

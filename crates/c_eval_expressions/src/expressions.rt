@@ -2,34 +2,16 @@
 
 ghost use Rattle.std.specs.Prelude.{◌≡◌, IfOk};
 ghost use Rattle.c_eval.specs.Left.{left_of};
-ghost use Rattle.c_eval.specs.Changes.{IsAccess, IsOnOperands, TakenApart, doing_three, expression_done, place_done};
-ghost use Rattle.c_store.specs.Kept.{over};
-ghost use Rattle.c_eval_laws.specs.Tasks.{Ahead, AppliesBinary, Evaluates};
+ghost use Rattle.c_eval.specs.Changes.{IsAccess, IsOnOperands, TakenApart, expression_done, place_done};
+ghost use Rattle.c_eval.specs.Kept.{over};
+ghost use Rattle.c_eval_laws.specs.Tasks.{Ahead};
 ghost use Rattle.c_tree.specs.Erased.{expression_of, place_of};
 ghost use Rattle.c_tree.specs.Store.{State, Gives};
 
-use c_eval::{Evaluation, Task};
-use c_store::{Place as Found, Store, Value};
+use c_eval::{Evaluation, Place as Found, Store, Task, Value};
+use c_eval_order::begin_binary;
 use c_tree::{BinaryOp, Expression, Place, ValueType};
 use pcc_base::NoMemory;
-
-/// Both operands of an operator are to be evaluated, the left one first, and then the operator (C99 6.5.5 to 6.5.12).
-fn begin_binary<'a>(
-    left: &mut Evaluation<'a>,
-    op: BinaryOp,
-    first: &'a Expression,
-    second: &'a Expression,
-) -> Result<(), NoMemory>
-    ensures { IfOk result (λ _. left_of left.new
-        ≡ doing_three (Evaluates (expression_of first.now)) (Evaluates (expression_of second.now)) (AppliesBinary op)
-        (left_of left.old)) }
-{
-    left.next_three(
-        Task::Evaluates(first),
-        Task::Evaluates(second),
-        Task::AppliesBinary(op),
-    )
-}
 
 /// The operand of an expression, or the first of several, is to be evaluated.
 fn begin_operands<'a>(left: &mut Evaluation<'a>, e: &'a Expression) -> Result<(), NoMemory>

@@ -3,17 +3,16 @@
 ghost use Rattle.std.specs.Prelude.{◌≡◌};
 ghost use Rattle.c_eval.specs.Changes.{Comes, done};
 ghost use Rattle.c_eval.specs.Left.{left_of};
-ghost use Rattle.c_store.specs.Kept.{over};
+ghost use Rattle.c_eval.specs.Kept.{over};
 ghost use Rattle.c_eval_laws.specs.Tasks as tasks;
 ghost use Rattle.c_eval_laws.specs.Tasks.{Ahead};
 ghost use Rattle.c_tree.specs.Operators.{step_op, step_result};
-ghost use Rattle.c_store.specs.Values.{held_of};
+ghost use Rattle.c_eval.specs.Values.{held_of};
 ghost use Rattle.c_tree.specs.Program.{Program};
 ghost use Rattle.c_tree.specs.Store.{State, Gives};
 ghost use Rattle.pcc_base.specs.Outcome.{Listing};
 
-use c_eval::{EvalEnd, Evaluation};
-use c_store::{Store, Value};
+use c_eval::{EvalEnd, Evaluation, Store, Value};
 use c_tree::{BinaryOp, StepOp, ValueType};
 use pcc_base::Trap;
 
@@ -64,34 +63,6 @@ pub fn assign(left: &mut Evaluation<'_>, store: &mut Store, of: ValueType) -> Re
         return Ok(());
     }
     Err(EvalEnd::Trapped(Trap::Check))
-}
-
-/// An operator on what was at a place and a value, whose result is stored there (C99 6.5.16.2).
-pub fn update(
-    left: &mut Evaluation<'_>,
-    store: &mut Store,
-    of: ValueType,
-    op: BinaryOp,
-) -> Result<(), EvalEnd>
-    requires { (left_of left.old).way ≡ Ahead }
-    ensures { (p : Program) (l : Listing) (s : State)
-        → Comes result (done p l (tasks.Updates of op) (left_of left.old) (over s store.old)) (left_of left.new)
-        (over s store.new) }
-{
-    let value = left.take_value();
-    let old = left.take_value();
-    let place = left.take_place();
-    match old.binary(op, value) {
-        Ok(new) => {
-            let new = new.in_type(of);
-            if store.store(place, new) {
-                left.hold(new)?;
-                return Ok(());
-            }
-            Err(EvalEnd::Trapped(Trap::Check))
-        }
-        Err(trap) => Err(EvalEnd::Trapped(trap)),
-    }
 }
 
 /// The operator of `++` and `--` (C99 6.5.2.4 and 6.5.3.1).

@@ -10,8 +10,7 @@ ghost use Rattle.c_tree.specs.Program.{Program};
 ghost use Rattle.c_tree.specs.Store.{State, Gives, Ends};
 ghost use Rattle.pcc_base.specs.Outcome.{Listing, Ended};
 
-use c_eval::{EvalEnd, Evaluation, Task};
-use c_store::Value;
+use c_eval::{EvalEnd, Evaluation, Task, Value};
 use c_tree::{BinaryOp, Expression, IntegerType, UnaryOp, ValueType};
 use pcc_base::NoMemory;
 
@@ -59,32 +58,6 @@ pub fn apply_binary(left: &mut Evaluation<'_>, op: BinaryOp) -> Result<(), EvalE
             Ok(())
         }
         Err(trap) => Err(EvalEnd::Trapped(trap)),
-    }
-}
-
-/// The left side of `&&` gives the whole, or the right side is to be evaluated (C99 6.5.13).
-pub fn and_then<'a>(left: &mut Evaluation<'a>, right: &'a Expression) -> Result<(), NoMemory>
-    requires { (left_of left.old).way ≡ Ahead }
-    ensures { IfOk result (λ _. (p : Program) (l : Listing) (s : State)
-        → done p l (tasks.AndThen (expression_of right.now)) (left_of left.old) s ≡ Gives (left_of left.new) s) }
-{
-    if left.take_value().is_true() {
-        left.next_both(Task::Evaluates(right), Task::Truth)
-    } else {
-        left.hold(Value::truth(false))
-    }
-}
-
-/// The left side of `||` gives the whole, or the right side is to be evaluated (C99 6.5.14).
-pub fn or_else<'a>(left: &mut Evaluation<'a>, right: &'a Expression) -> Result<(), NoMemory>
-    requires { (left_of left.old).way ≡ Ahead }
-    ensures { IfOk result (λ _. (p : Program) (l : Listing) (s : State)
-        → done p l (tasks.OrElse (expression_of right.now)) (left_of left.old) s ≡ Gives (left_of left.new) s) }
-{
-    if left.take_value().is_true() {
-        left.hold(Value::truth(true))
-    } else {
-        left.next_both(Task::Evaluates(right), Task::Truth)
     }
 }
 

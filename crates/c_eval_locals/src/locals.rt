@@ -3,15 +3,14 @@
 ghost use Rattle.std.specs.Prelude.{◌≡◌, ℕ, IfOk, option_map};
 ghost use Rattle.c_eval.specs.Changes.{first_value_comes, item_done};
 ghost use Rattle.c_eval.specs.Left.{left_of};
-ghost use Rattle.c_store.specs.Kept.{over};
+ghost use Rattle.c_eval.specs.Kept.{over};
 ghost use Rattle.c_eval_laws.specs.Tasks.{Ahead};
 ghost use Rattle.c_tree.specs.Erased.{boxed_of};
 ghost use Rattle.c_tree.specs.Program.{Scalar};
 ghost use Rattle.c_tree.specs.Store.{State, Gives, visited};
 ghost use Rattle.pcc_base.specs.Outcome.{Listing};
 
-use c_eval::{Evaluation, Task};
-use c_store::Store;
+use c_eval::{Evaluation, Store, Task};
 use c_tree::{Expression, ValueType};
 use pcc_base::NoMemory;
 

@@ -8,7 +8,7 @@ use Rattle.c_eval_laws.specs.Steps.{go_on, pass_over, passing_step}
 use Rattle.c_eval_laws.specs.Tasks.{Task, LoopBody, DoBody, SwitchBody, ReturnsTo, Way, Ahead, Breaking, Continuing}
 use Rattle.c_eval_laws.specs.Tasks.{Returning}
 use Rattle.c_eval_statements.specs.Passing.{IsPlain, IsOther, values_returned}
-use Rattle.c_store.specs.Kept.{returned}
+use Rattle.c_eval.specs.Kept.{returned}
 use Rattle.c_eval.specs.Views.{part_task, task_of}
 use Rattle.c_eval.specs.declared.task.StatementPart.TheVariants as parts
 use Rattle.c_eval.specs.declared.task.Task as memory

@@ -4,7 +4,7 @@ ghost use Rattle.std.specs.Prelude.{◌≡◌, ◌≤◌, ◌<◌, IfOk, [], len
 ghost use Rattle.c_eval.specs.Changes.{calling, done, holding, without_values};
 ghost use Rattle.c_eval.specs.Left.{left_of};
 ghost use Rattle.c_eval.specs.Views.{arguments_from};
-ghost use Rattle.c_store.specs.Kept.{entered, over};
+ghost use Rattle.c_eval.specs.Kept.{entered, over};
 ghost use Rattle.c_eval_laws.specs.Tasks as tasks;
 ghost use Rattle.c_eval_laws.specs.Tasks.{Ahead, put_before};
 ghost use Rattle.c_tree.specs.Erased.{function_of};
@@ -13,8 +13,7 @@ ghost use Rattle.c_tree.specs.Program.{Program};
 ghost use Rattle.c_tree.specs.Store.{State, Gives, HoldsNumber};
 ghost use Rattle.pcc_base.specs.Outcome.{Listing};
 
-use c_eval::{Evaluation, Task};
-use c_store::{Store, Value};
+use c_eval::{Evaluation, Store, Task, Value};
 use c_tree::{Expression, Function};
 use pcc_base::NoMemory;
 

@@ -4,7 +4,7 @@ ghost use Rattle.std.specs.Prelude.{◌≡◌, ◌<◌, ℕ, IfOk, length, map, 
 ghost use Rattle.c_eval.specs.Changes.{Comes, done, item_done, seen};
 ghost use Rattle.c_eval.specs.Left.{left_of};
 ghost use Rattle.c_eval.specs.Views.{elements_from};
-ghost use Rattle.c_store.specs.Kept.{over};
+ghost use Rattle.c_eval.specs.Kept.{over};
 ghost use Rattle.c_eval_laws.specs.Tasks as tasks;
 ghost use Rattle.c_eval_laws.specs.Tasks.{Ahead};
 ghost use Rattle.c_tree.specs.Erased.{expression_of, initialiser_of, item_of};
@@ -13,9 +13,8 @@ ghost use Rattle.c_tree.specs.declared.types.IntegerType.{IntegerType};
 ghost use Rattle.c_tree.specs.Store.{State, Gives, visited};
 ghost use Rattle.pcc_base.specs.Outcome.{Listing};
 
-use c_eval::{EvalEnd, Evaluation, Task};
+use c_eval::{ArrayName, EvalEnd, Evaluation, Store, Task};
 use c_eval_locals::declare_local;
-use c_store::{ArrayName, Store};
 use c_tree::{Expression, Initialiser, IntegerType, Item, ValueType};
 use pcc_base::{NoMemory, Trap};
 

@@ -5,15 +5,14 @@ ghost use Rattle.c_eval.specs.Left.{left_of};
 ghost use Rattle.c_eval_statements.specs.Passing.{IsOther, giving_returned, passed};
 ghost use Rattle.c_eval.specs.Views.{part_task, task_of};
 ghost use Rattle.c_eval.specs.declared.task.StatementPart.TheVariants as parts;
-ghost use Rattle.c_store.specs.Kept.{over};
+ghost use Rattle.c_eval.specs.Kept.{over};
 ghost use Rattle.c_eval_laws.specs.Tasks as tasks;
 ghost use Rattle.c_eval_laws.specs.Tasks.{Continuing};
 ghost use Rattle.c_tree.specs.Erased.{function_of, statement_of};
 ghost use Rattle.c_tree.specs.Store.{State, Gives};
 
 use crate::statements::go_again;
-use c_eval::{Evaluation, StatementPart, Task, Way};
-use c_store::{Store, Value};
+use c_eval::{Evaluation, StatementPart, Store, Task, Value, Way};
 use c_tree::{Function, Statement};
 use pcc_base::NoMemory;
 

@@ -6,7 +6,7 @@ ghost use Rattle.c_eval.specs.Changes.{IsJump, IsLoop, starting_return, statemen
 ghost use Rattle.c_eval.specs.Left.{left_of};
 ghost use Rattle.c_eval.specs.Views.{has_label, part_task};
 ghost use Rattle.c_eval.specs.declared.task.StatementPart.TheVariants as parts;
-ghost use Rattle.c_store.specs.Values.{held_of};
+ghost use Rattle.c_eval.specs.Values.{held_of};
 ghost use Rattle.c_eval_laws.specs.Steps.{statements_from};
 ghost use Rattle.c_eval_laws.specs.Tasks as tasks;
 ghost use Rattle.c_eval_laws.specs.Tasks.{Ahead, top};
@@ -16,8 +16,7 @@ ghost use Rattle.c_tree.specs.Program.{Program};
 ghost use Rattle.c_tree.specs.Store.{State, Gives, take_turn};
 ghost use Rattle.pcc_base.specs.Outcome.{Listing};
 
-use c_eval::{Evaluation, StatementPart, Task, Way};
-use c_store::Value;
+use c_eval::{Evaluation, StatementPart, Task, Value, Way};
 use c_tree::{Expression, First, Label, Statement, ValueType};
 use pcc_base::NoMemory;
 

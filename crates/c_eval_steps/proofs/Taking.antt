@@ -7,7 +7,7 @@ use Rattle.c_tree.specs.Program.{Program}
 use Rattle.c_tree.specs.Store.{State, Gives, Ends}
 use Rattle.c_eval_laws.specs.Steps.{Configuration}
 use Rattle.c_eval_laws.specs.Tasks.{Task, Ahead, top}
-use Rattle.c_store.specs.Kept.{Kept, over}
+use Rattle.c_eval.specs.Kept.{Kept, over}
 use Rattle.c_eval.specs.Changes.{doing}
 use Rattle.c_eval.specs.declared.end.EvalEnd.{EvalEnd}
 use Rattle.c_eval.specs.declared.end.EvalEnd.TheVariants.{Ended}

@@ -5,11 +5,10 @@ ghost use Rattle.c_eval_tasks.specs.Performs.{Fits};
 ghost use Rattle.c_eval_tasks.specs.Standing.{Advanced, standing};
 ghost use Rattle.c_tree.specs.Erased.{program_of};
 
-use c_eval::{EvalEnd, Evaluation, Way};
+use c_eval::{EvalEnd, Evaluation, Store, Way};
 use c_eval_statements::passing;
 use c_eval_tasks::advance_ahead;
 use c_eval_turns::Turn;
-use c_store::Store;
 use c_tree::Program;
 use pcc_outside::{Sink, Source};
 

@@ -4,7 +4,7 @@ use Rattle.c_tree.specs.Program.{Getchar, Program}
 use Rattle.c_tree.specs.Store.{Held}
 use Rattle.c_eval_laws.specs.Steps.{Configuration}
 use Rattle.c_eval_laws.specs.Tasks.{Task, Ahead, Evaluates, Puts}
-use Rattle.c_store.specs.Kept.{Kept}
+use Rattle.c_eval.specs.Kept.{Kept}
 use Rattle.c_eval.specs.Changes.{doing, holding, without_value}
 use Rattle.c_eval.specs.Streaming.{GetTold, InputCounts, OutCounts, PutTold}
 use Rattle.c_eval.specs.declared.end.EvalEnd.{EvalEnd}

@@ -13,7 +13,7 @@ use Rattle.c_eval_laws.specs.Tasks.{Task, Ahead, Breaking, Continuing, Returning
 use Rattle.c_eval_laws.specs.Weights.{is_turn, takes_turn}
 use Rattle.c_eval_laws.proofs.Corollaries.{steps_end, steps_go_on}
 use Rattle.c_eval_laws.proofs.Going.{rest_goes_on}
-use Rattle.c_store.specs.Kept.{Kept, over}
+use Rattle.c_eval.specs.Kept.{Kept, over}
 use Rattle.c_eval.specs.Changes.{Comes, done, doing}
 use Rattle.c_eval_statements.specs.Passing.{passed}
 use Rattle.c_eval.specs.declared.end.EvalEnd.{EvalEnd}

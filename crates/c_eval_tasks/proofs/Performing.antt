@@ -16,7 +16,7 @@ use Rattle.c_eval_laws.specs.Tasks.{Way}
 use Rattle.c_eval_laws.specs.Stacks.{StacksFit}
 use Rattle.c_eval_laws.proofs.Serving.{is_served}
 use Rattle.c_eval_laws.specs.Weights.{is_there, is_turn}
-use Rattle.c_store.specs.Kept.{Kept, over}
+use Rattle.c_eval.specs.Kept.{Kept, over}
 use Rattle.c_eval.specs.Changes.{IsLoop, after_start, doing, done, holding, item_done, seen, statement_done}
 use Rattle.c_eval.specs.Changes.{without_values}
 use Rattle.c_eval_statements.specs.Passing.{passed}

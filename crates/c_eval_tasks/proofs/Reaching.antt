@@ -16,7 +16,7 @@ use Rattle.c_eval_laws.specs.Steps.{Configuration, go_on}
 use Rattle.c_eval_laws.specs.Tasks.{Task, Ahead, AppliesBinary, Evaluates, Loads, LoadsOld, Locates, Steps, Stores, Way}
 use Rattle.c_eval_laws.specs.Weights.{takes_turn, weights}
 use Rattle.c_eval_laws.proofs.Corollaries.{steps_go_on}
-use Rattle.c_store.specs.Kept.{Kept, over}
+use Rattle.c_eval.specs.Kept.{Kept, over}
 use Rattle.c_eval.specs.Changes.{at_place, doing, holding}
 use Rattle.c_eval.specs.Views.{task_of}
 use Rattle.c_eval.specs.declared.end.EvalEnd.{EvalEnd}

@@ -10,7 +10,7 @@ use Rattle.pcc_outside.specs.Streams.{SinkCounts}
 use Rattle.c_eval_laws.specs.Tasks.{Task, Ahead}
 use Rattle.c_eval_laws.specs.Weights.{takes_turn}
 use Rattle.c_eval_laws.proofs.Corollaries.{steps_go_on}
-use Rattle.c_store.specs.Kept.{Kept, over}
+use Rattle.c_eval.specs.Kept.{Kept, over}
 use Rattle.c_eval.specs.Changes.{Comes, done, doing}
 use Rattle.c_eval_statements.specs.Passing.{passed}
 use Rattle.c_eval.specs.declared.end.EvalEnd.{EvalEnd}

@@ -13,7 +13,7 @@ use Rattle.c_eval_laws.specs.Steps.{Configuration, go_on, rest_of}
 use Rattle.c_eval_laws.specs.Tasks.{Task, Evaluates, Puts, Way, Ahead, below, top}
 use Rattle.c_eval_laws.proofs.Corollaries.{steps_go_on}
 use Rattle.c_eval_laws.proofs.Going.{rest_goes_on}
-use Rattle.c_store.specs.Kept.{Kept, over}
+use Rattle.c_eval.specs.Kept.{Kept, over}
 use Rattle.c_eval.specs.Changes.{doing, holding, without_value}
 use Rattle.c_eval.specs.Streaming.{GetTold, InputCounts, OutCounts, PutTold, taking}
 use Rattle.c_eval.specs.declared.end.EvalEnd.{EvalEnd}

@@ -9,7 +9,7 @@ use Rattle.c_tree.specs.declared.expression.BinaryOp.{BinaryOp}
 use Rattle.c_eval_laws.specs.Steps.{Configuration, go_on, rest_of}
 use Rattle.c_eval_laws.specs.Tasks.{Task, Ahead, Evaluates}
 use Rattle.c_eval_laws.specs.Weights.{weights}
-use Rattle.c_store.specs.Kept.{Kept, over}
+use Rattle.c_eval.specs.Kept.{Kept, over}
 use Rattle.c_eval.specs.Changes.{doing}
 use Rattle.c_eval.specs.Views.{task_of}
 use Rattle.c_eval.specs.declared.task.Task as memory

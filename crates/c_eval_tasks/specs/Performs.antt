@@ -7,7 +7,7 @@ use Rattle.c_eval_laws.specs.Steps.{Configuration}
 use Rattle.c_eval_laws.specs.Stacks.{StacksFit}
 use Rattle.c_eval_laws.specs.Tasks.{Task, Evaluates, Puts}
 use Rattle.c_eval_laws.specs.Weights.{is_turn}
-use Rattle.c_store.specs.Kept.{Kept, over}
+use Rattle.c_eval.specs.Kept.{Kept, over}
 use Rattle.c_eval.specs.Changes.{Comes, done}
 use Rattle.c_eval.specs.declared.end.EvalEnd.{EvalEnd}
 use Rattle.c_eval.specs.declared.task.Task as memory

@@ -9,7 +9,7 @@ use Rattle.c_tree.specs.Store.{State}
 use Rattle.c_eval_laws.specs.Steps.{Configuration, rest_of}
 use Rattle.c_eval_laws.specs.Tasks.{Task, Ahead}
 use Rattle.c_eval_laws.specs.Weights.{weights}
-use Rattle.c_store.specs.Kept.{Kept, over}
+use Rattle.c_eval.specs.Kept.{Kept, over}
 use Rattle.c_eval.specs.Changes.{doing}
 use Rattle.c_eval.specs.declared.end.EvalEnd.{EvalEnd}
 use Rattle.c_eval_tasks.specs.Runs.{EvalCounts, EvalTold, outcome_in}

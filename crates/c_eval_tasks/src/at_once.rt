@@ -6,9 +6,8 @@ ghost use Rattle.c_eval_tasks.specs.AtOnce.{IsApplied, IsLocalNumber, IsNumber, 
 ghost use Rattle.c_eval_laws.specs.Tasks.{Ahead};
 ghost use Rattle.c_tree.specs.Erased.{expression_of};
 
-use c_eval::{Evaluation, Task};
+use c_eval::{Evaluation, Place as Found, Store, Task, Value};
 use c_operators::{binary_number, convert};
-use c_store::{Place as Found, Store, Value};
 use c_tree::{BinaryOp, Expression, Place};
 use pcc_base::NoMemory;
 

@@ -7,7 +7,7 @@ ghost use Rattle.c_eval.specs.Views.{arguments_from, part_task, task_of};
 ghost use Rattle.c_eval.specs.Changes.{doing};
 ghost use Rattle.c_eval.specs.declared.task.StatementPart.TheVariants as parts;
 ghost use Rattle.c_eval_tasks.specs.Performs.{Fits, IsOnStacks, IsPlain, Performed, is_loop};
-ghost use Rattle.c_store.specs.Kept.{over};
+ghost use Rattle.c_eval.specs.Kept.{over};
 ghost use Rattle.c_eval_laws.specs.Tasks as tasks;
 ghost use Rattle.c_eval_laws.specs.Tasks.{Ahead};
 ghost use Rattle.c_tree.specs.Erased.{program_of, statement_of};
@@ -15,11 +15,11 @@ ghost use Rattle.c_tree.specs.Program as typed;
 ghost use Rattle.c_tree.specs.Store.{State, Gives};
 ghost use Rattle.pcc_base.specs.Outcome.{Listing};
 
-use c_eval::{EvalEnd, Evaluation, StatementPart, Task};
+use c_eval::{EvalEnd, Evaluation, StatementPart, Store, Task};
 use c_eval_expressions::{expressions, stores, values};
+use c_eval_order::{and_then, or_else, update};
 use c_eval_statements::{calls, items, passing, statements};
 use c_eval_turns::{Next, Turn};
-use c_store::Store;
 use c_tree::{Expression, Program, Statement};
 use pcc_base::NoMemory;
 
@@ -35,8 +35,8 @@ fn perform_on_stacks<'a>(left: &mut Evaluation<'a>, task: Task<'a>) -> Result<()
         Task::Points => values::point(left),
         Task::Addresses => values::take_address(left),
         Task::AppliesUnary(of, op) => values::apply_unary(left, of, op),
-        Task::AndThen(right) => values::and_then(left, right),
-        Task::OrElse(right) => values::or_else(left, right),
+        Task::AndThen(right) => and_then(left, right),
+        Task::OrElse(right) => or_else(left, right),
         Task::Truth => values::find_truth(left),
         Task::Chooses(of, first, second) => values::choose(left, of, first, second),
         Task::Converts(to) => values::convert(left, to),
@@ -84,7 +84,7 @@ fn perform_plain<'a>(
         Task::Loads => stores::load(left, store),
         Task::LoadsOld => stores::load_old(left, store),
         Task::Stores(of) => stores::assign(left, store, of),
-        Task::Updates(of, op) => stores::update(left, store, of, op),
+        Task::Updates(of, op) => update(left, store, of, op),
         Task::Steps(of, op) => stores::step(left, store, of, op),
         Task::Initialises(local, of) => {
             stores::initialise(left, store, local, of);

@@ -9,7 +9,7 @@ use Rattle.c_tree.specs.Program.{NoMore, Function, Program}
 use Rattle.c_tree.specs.Store.{State, Evaluated, Gives, Ends, take_turn, turn_with}
 use Rattle.c_eval_laws.specs.Steps.{Configuration, call_step}
 use Rattle.c_eval_laws.specs.Tasks.{Task, Passes, below_by, put_before}
-use Rattle.c_store.specs.Kept.{Kept, entered, over}
+use Rattle.c_eval.specs.Kept.{Kept, entered, over}
 use Rattle.c_eval.specs.Changes.{calling, done}
 use Rattle.c_eval_turns.specs.Turns.{Begun}
 

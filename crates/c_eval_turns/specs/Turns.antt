@@ -6,7 +6,7 @@ use Rattle.c_tree.specs.Program.{Program, NoMore}
 use Rattle.c_tree.specs.Store.{State, Gives}
 use Rattle.c_eval_laws.specs.Steps.{Configuration}
 use Rattle.c_eval_laws.specs.Tasks.{Task, Passes}
-use Rattle.c_store.specs.Kept.{Kept, over}
+use Rattle.c_eval.specs.Kept.{Kept, over}
 use Rattle.c_eval.specs.Changes.{Comes, IsLoop, done}
 use Rattle.c_eval.specs.Views.{part_task}
 use Rattle.c_eval.specs.declared.end.EvalEnd.{EvalEnd}

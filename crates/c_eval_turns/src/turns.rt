@@ -7,9 +7,8 @@ ghost use Rattle.c_eval_laws.specs.Tasks.{Ahead, Task};
 ghost use Rattle.c_tree.specs.Program as typed;
 
 use crate::next::Turn;
-use c_eval::{EvalEnd, Evaluation};
+use c_eval::{EvalEnd, Evaluation, Store};
 use c_eval_statements::{calls, statements};
-use c_store::Store;
 use pcc_base::Trap;
 
 /// A turn begins, where so many are left. A call too many traps before it takes one.

@@ -9,7 +9,7 @@ use Rattle.c_tree.specs.Store.{State}
 use Rattle.c_eval_laws.specs.Steps.{Configuration, first_tasks, go_on, rest_of}
 use Rattle.c_eval_laws.proofs.Serving.{start_fits}
 use Rattle.c_eval_laws.proofs.Starting.{starts}
-use Rattle.c_store.specs.Kept.{Kept, over}
+use Rattle.c_eval.specs.Kept.{Kept, over}
 use Rattle.c_eval.specs.declared.end.EvalEnd.{EvalEnd}
 use Rattle.c_eval.specs.declared.end.EvalEnd.TheVariants.{Ended, NoMemory}
 use Rattle.c_eval_tasks.specs.Performs.{Fits}

@@ -11,7 +11,7 @@ use Rattle.c_eval_laws.specs.Steps.{Configuration, Stepped}
 use Rattle.c_eval_laws.specs.Tasks.{Task, Ahead, Passes, Way}
 use Rattle.c_eval_laws.proofs.Corollaries.{steps_go_on}
 use Rattle.c_eval_laws.proofs.Serving.{is_served}
-use Rattle.c_store.specs.Kept.{Kept, over}
+use Rattle.c_eval.specs.Kept.{Kept, over}
 use Rattle.c_eval.specs.Changes.{Comes, done, doing}
 use Rattle.c_eval.specs.declared.end.EvalEnd.{EvalEnd}
 use Rattle.c_eval_turns.specs.Turns.{Begun, IsReady, IsTurn}

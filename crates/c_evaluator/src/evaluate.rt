@@ -7,8 +7,7 @@ ghost use Rattle.c_evaluator.specs.Whole.{Started};
 ghost use Rattle.c_tree.specs.Erased.{program_of};
 
 use crate::run::run;
-use c_eval::{EvalEnd, Evaluation, Task};
-use c_store::Store;
+use c_eval::{EvalEnd, Evaluation, Store, Task};
 use c_tree::Program;
 use pcc_base::NoMemory;
 use pcc_outside::{Sink, Source};

@@ -1,8 +1,8 @@
 -- What values that were read are to the grammar.
 use Rattle.std.specs.Prelude.{ℕ, map}
-use Rattle.c_grammar.specs.Expressions.{exprs_of, expr_of}
-use Rattle.c_grammar.specs.ExpressionTokens.{exprs_height}
-use Rattle.c_grammar.specs.Reading as reading
+use Rattle.c_syntax.specs.Expressions.{exprs_of, expr_of}
+use Rattle.c_syntax.specs.ExpressionTokens.{exprs_height}
+use Rattle.c_syntax.specs.Reading as reading
 use Rattle.c_expression_nodes.specs.declared.found.Values.{Values}
 
 -- several values and the commas between them

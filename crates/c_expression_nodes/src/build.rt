@@ -4,9 +4,9 @@
 //! None is inlined: a tree is as large as its largest node, and the functions that read a nest keep room for none.
 
 ghost use Rattle.std.specs.Prelude.{◌≡◌, ◌≤◌, ◌∷◌, ◌++◌, [], max, map, suc, IfOk};
-ghost use Rattle.c_grammar.specs.Expressions as trees;
-ghost use Rattle.c_grammar.specs.Expressions.{expr_of, exprs_of, star_of};
-ghost use Rattle.c_grammar.specs.ExpressionTokens.{expr_height};
+ghost use Rattle.c_syntax.specs.Expressions as trees;
+ghost use Rattle.c_syntax.specs.Expressions.{expr_of, exprs_of, star_of};
+ghost use Rattle.c_syntax.specs.ExpressionTokens.{expr_height};
 ghost use Rattle.c_expression_nodes.specs.Values.{values_of, height_of_values};
 
 use crate::found::{Found, Values};

@@ -6,7 +6,7 @@ use Rattle.std.specs.Prelude.{Vec}
 use Rattle.std.specs.declared.alloc.Global.{Global}
 use Rattle.pcc_base.specs.declared.fault.Fault.{Fault}
 use Rattle.c_syntax.specs.declared.expression.Expression.{Expression as Raw}
-use Rattle.c_grammar.specs.Expressions.{expr_of, exprs_of}
+use Rattle.c_syntax.specs.Expressions.{expr_of, exprs_of}
 use Rattle.c_tree.specs.declared.expression.Expression.{Expression as Built}
 use Rattle.c_tree.specs.declared.expression.Expression.{Row_of-Expression, end_of-Expression, more_of-Expression}
 use Rattle.c_tree.specs.declared.expression.Expression.{items-the_row-Expression}

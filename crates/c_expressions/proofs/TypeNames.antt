@@ -8,7 +8,7 @@ use Rattle.pcc_base.specs.declared.fault.FaultKind.{FaultKind}
 use Rattle.pcc_base.specs.declared.fault.FaultKind.TheVariants.{PointerUse, TypeRule}
 use Rattle.c_syntax.specs.declared.operator.SpecifierWord.{SpecifierWord}
 use Rattle.c_syntax.specs.declared.operator.SpecifierWord.TheVariants as words
-use Rattle.c_grammar.specs.Expressions.{Star}
+use Rattle.c_syntax.specs.Expressions.{Star}
 use Rattle.c_tree.specs.declared.types.ValueType.{ValueType}
 use Rattle.c_typing.specs.Faults.{fault}
 use Rattle.c_typing.specs.Checked.{noted, or_fails, if_fits}

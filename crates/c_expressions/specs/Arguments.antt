@@ -3,7 +3,7 @@ use Rattle.std.specs.Prelude.{◌≡◌, List, [], ◌∷◌, ◌++◌, map, Vec
 use Rattle.std.specs.declared.alloc.Global.{Global}
 use Rattle.pcc_base.specs.declared.span.Span.{Span}
 use Rattle.c_syntax.specs.declared.expression.Expression.{Expression as Raw}
-use Rattle.c_grammar.specs.Expressions.{expr_of}
+use Rattle.c_syntax.specs.Expressions.{expr_of}
 use Rattle.c_tree.specs.declared.expression.Expression.{Expression as Built}
 use Rattle.c_tree.specs.declared.types.ValueType.{ValueType}
 use Rattle.c_tree.specs.Erased.{expression_of}

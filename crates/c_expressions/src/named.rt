@@ -13,9 +13,8 @@ ghost use Rattle.c_operands.specs.Parts.{Stands};
 ghost use Rattle.c_expressions.specs.Said.{IsSaid};
 
 use crate::notes::Notes;
-use c_constants::Constant;
 use c_meanings::Meaning;
-use c_operands::{Judged, Operand, plain_node};
+use c_operands::{Constant, Judged, Operand, plain_node};
 use c_scopes::Scopes;
 use c_syntax::Identifier;
 use c_tree::{ArrayRef, Expression, IntegerType, Place, ValueType};

@@ -1,7 +1,7 @@
 //! Where expressions begin.
 
 ghost use Rattle.std.specs.Prelude.{◌≡◌};
-ghost use Rattle.c_grammar.specs.Expressions.{expr_of};
+ghost use Rattle.c_syntax.specs.Expressions.{expr_of};
 ghost use Rattle.c_typing.specs.Expressions.{first_piece, first_token};
 
 use c_syntax::{Expression, TextPiece};

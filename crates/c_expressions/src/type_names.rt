@@ -2,7 +2,7 @@
 
 ghost use Rattle.std.specs.Prelude.{◌≡◌, option_map};
 ghost use Rattle.std.specs.List.{list_any};
-ghost use Rattle.c_grammar.specs.Expressions.{star_of};
+ghost use Rattle.c_syntax.specs.Expressions.{star_of};
 ghost use Rattle.c_operands.specs.Parts.{Stands};
 ghost use Rattle.c_typing.specs.Expressions.{first_word, type_name};
 ghost use Rattle.c_typing.specs.Types.{pointed, specified, the_type, times, word_number, words_of, InCast};

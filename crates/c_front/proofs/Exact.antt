@@ -12,11 +12,11 @@ use Rattle.c_tokens.specs.Pieces.{Piece, NoneBegins}
 use Rattle.c_tokens.specs.Tokens.{HasTokens, HasFault, BeginsWith, Reached, Leads, behind, tokens_of, start_of}
 use Rattle.c_tokens.proofs.OnePiece.{begins_once}
 use Rattle.c_tokens.proofs.OneReading.{none_at_end, one_list, tokens_or_fault}
-use Rattle.c_grammar.specs.Marks.{word}
-use Rattle.c_grammar.specs.Statements.{ExternalTree}
-use Rattle.c_grammar.specs.Grammar.{Tree}
-use Rattle.c_grammar.proofs.StatementComplete.{one_tree}
-use Rattle.c_parser.specs.Refusals.{is_outside, NoneUnsupported}
+use Rattle.c_syntax.specs.Marks.{word}
+use Rattle.c_syntax.specs.Statements.{ExternalTree}
+use Rattle.c_syntax.specs.Grammar.{Tree}
+use Rattle.c_syntax.proofs.StatementComplete.{one_tree}
+use Rattle.c_front.specs.ParserRefusals.{is_outside, NoneUnsupported}
 use Rattle.c_front.specs.Accepted.{HasTree, HaveTokens, HaveTrees, total}
 use Rattle.c_front.specs.Refusals.{FaultBehind, FirstFaulty, HaveLexicalFault, HaveManyTokens, IsFaultyIn, StandBefore}
 use Rattle.c_front.proofs.Inside.{unit_inside}

@@ -7,23 +7,23 @@ use Rattle.c_syntax.specs.declared.operator.SpecifierWord.TheVariants as specifi
 use Rattle.c_syntax.specs.declared.expression.Specifier.{Specifier}
 use Rattle.c_syntax.specs.declared.expression.TextPiece.{TextPiece}
 use Rattle.c_syntax.specs.declared.expression.Identifier.{Identifier as Ident}
-use Rattle.c_grammar.specs.Marks.{specifier_word}
-use Rattle.c_grammar.specs.Expressions.{Star, Expr, Exprs, Identifier, Number, Text, Parenthesised, Call, Index}
-use Rattle.c_grammar.specs.Expressions.{Postfix, Prefix, Unary, Cast, Binary, Conditional, Assignment, NoExpr, OneExpr}
-use Rattle.c_grammar.specs.ExpressionTokens.{text_tokens, specifiers_tokens, consts_tokens, pointer_tokens, expr_tokens}
-use Rattle.c_grammar.specs.ExpressionTokens.{exprs_tokens, more_tokens}
-use Rattle.c_grammar.specs.Declarations.{ArrayTree, ParameterTree, PartTree, Plain, Array, Function, InitialiserTree}
-use Rattle.c_grammar.specs.Declarations.{Single, Braces, ValueTree, ItemTree, DeclarationTree, DeclaratorTree}
-use Rattle.c_grammar.specs.DeclarationTokens.{followed, separated, maybe_expr_tokens, array_tokens, maybe_array_tokens}
-use Rattle.c_grammar.specs.DeclarationTokens.{maybe_name_tokens, parameter_tokens, part_tokens, declarator_tokens}
-use Rattle.c_grammar.specs.DeclarationTokens.{maybe_comma_tokens, initialiser_tokens, value_tokens, item_tokens}
-use Rattle.c_grammar.specs.DeclarationTokens.{declaration_tokens}
-use Rattle.c_grammar.specs.Statements.{LabelTree, Case, Default, Stmt, Declared, Labelled, Block, Simple, If, IfElse}
-use Rattle.c_grammar.specs.Statements.{Switch, While, Do, For, ForDeclaration, Break, Continue, Return, Stmts, NoStmt}
-use Rattle.c_grammar.specs.Statements.{OneStmt, ExternalTree, FunctionTree, DeclaredTree}
-use Rattle.c_grammar.specs.StatementTokens.{label_tokens, labels_tokens, in_parens, stmt_tokens, stmts_tokens}
-use Rattle.c_grammar.specs.Grammar.{external_tokens, unit_tokens}
-use Rattle.c_parser.specs.Refusals.{is_outside, NoneUnsupported}
+use Rattle.c_syntax.specs.Marks.{specifier_word}
+use Rattle.c_syntax.specs.Expressions.{Star, Expr, Exprs, Identifier, Number, Text, Parenthesised, Call, Index}
+use Rattle.c_syntax.specs.Expressions.{Postfix, Prefix, Unary, Cast, Binary, Conditional, Assignment, NoExpr, OneExpr}
+use Rattle.c_syntax.specs.ExpressionTokens.{text_tokens, specifiers_tokens, consts_tokens, pointer_tokens, expr_tokens}
+use Rattle.c_syntax.specs.ExpressionTokens.{exprs_tokens, more_tokens}
+use Rattle.c_syntax.specs.Declarations.{ArrayTree, ParameterTree, PartTree, Plain, Array, Function, InitialiserTree}
+use Rattle.c_syntax.specs.Declarations.{Single, Braces, ValueTree, ItemTree, DeclarationTree, DeclaratorTree}
+use Rattle.c_syntax.specs.DeclarationTokens.{followed, separated, maybe_expr_tokens, array_tokens, maybe_array_tokens}
+use Rattle.c_syntax.specs.DeclarationTokens.{maybe_name_tokens, parameter_tokens, part_tokens, declarator_tokens}
+use Rattle.c_syntax.specs.DeclarationTokens.{maybe_comma_tokens, initialiser_tokens, value_tokens, item_tokens}
+use Rattle.c_syntax.specs.DeclarationTokens.{declaration_tokens}
+use Rattle.c_syntax.specs.Statements.{LabelTree, Case, Default, Stmt, Declared, Labelled, Block, Simple, If, IfElse}
+use Rattle.c_syntax.specs.Statements.{Switch, While, Do, For, ForDeclaration, Break, Continue, Return, Stmts, NoStmt}
+use Rattle.c_syntax.specs.Statements.{OneStmt, ExternalTree, FunctionTree, DeclaredTree}
+use Rattle.c_syntax.specs.StatementTokens.{label_tokens, labels_tokens, in_parens, stmt_tokens, stmts_tokens}
+use Rattle.c_syntax.specs.Grammar.{external_tokens, unit_tokens}
+use Rattle.c_front.specs.ParserRefusals.{is_outside, NoneUnsupported}
 
 -- two lists without such a keyword have none together
 both : (a b : List Token) → NoneUnsupported a → NoneUnsupported b → NoneUnsupported (a ++ b)

@@ -7,7 +7,7 @@ use Rattle.pcc_base.specs.declared.refusal.Refusal.{Refusal}
 use Rattle.pcc_base.specs.declared.refusal.Refusal.TheVariants as refusals
 use Rattle.c_tokens.specs.declared.token.Token.{Token}
 use Rattle.c_tokens.specs.Tokens.{HasTokens}
-use Rattle.c_grammar.specs.Statements.{ExternalTree}
+use Rattle.c_syntax.specs.Statements.{ExternalTree}
 use Rattle.c_front.specs.Accepted.{HaveTokens, HasTree, HaveTrees, total}
 use Rattle.c_front.specs.Refusals.{AreUnread, FaultBehind, StandBefore}
 use Rattle.c_front.specs.SoFar.{LexedSoFar, ParsedSoFar, AreUnparsed, IsUnread, IsUnparsed}

@@ -2,8 +2,8 @@
 use Rattle.std.proofs.Common.{arith, ◌≡◌, refl, subst, ℕ, suc, List, [], ◌∷◌, length, length-append}
 use Rattle.std.specs.Prelude.{flat_map}
 use Rattle.c_tokens.specs.declared.token.Token.{Token}
-use Rattle.c_grammar.specs.Grammar.{unit_tokens}
-use Rattle.c_grammar.specs.Statements.{ExternalTree}
+use Rattle.c_syntax.specs.Grammar.{unit_tokens}
+use Rattle.c_syntax.specs.Statements.{ExternalTree}
 use Rattle.c_front.specs.Accepted.{HaveTokens, HaveTrees, total}
 use Rattle.c_sound.specs.Laws.{AreUnitsOf}
 use Rattle.c_sound.proofs.Sources.{texts_are_sources}

@@ -2,8 +2,8 @@
 use Rattle.std.specs.Prelude.{◌≤◌, ℕ, suc, ◌+◌, List, [], ◌∷◌, length, ⊤}
 use Rattle.c_tokens.specs.declared.token.Token.{Token}
 use Rattle.c_tokens.specs.Tokens.{HasTokens}
-use Rattle.c_grammar.specs.Statements.{ExternalTree}
-use Rattle.c_grammar.specs.Grammar.{Tree}
+use Rattle.c_syntax.specs.Statements.{ExternalTree}
+use Rattle.c_syntax.specs.Grammar.{Tree}
 
 -- the tokens of each file, the first of which has this number
 abbrev pub HaveTokens : ℕ → List (List ℕ) → List (List Token) → Type 0

@@ -1,7 +1,7 @@
 -- The raw trees of texts are what typing asks for.
 use Rattle.std.specs.Prelude.{◌≤◌, ℕ, List, flat_map, length}
-use Rattle.c_grammar.specs.Grammar.{unit_tokens}
-use Rattle.c_grammar.specs.Statements.{ExternalTree}
+use Rattle.c_syntax.specs.Grammar.{unit_tokens}
+use Rattle.c_syntax.specs.Statements.{ExternalTree}
 use Rattle.c_typing.specs.Laws.{AreSources}
 use Rattle.c_sound.specs.Named.{AreSpelled}
 use Rattle.c_front.specs.Units.{HaveUnits}

@@ -3,3 +3,5 @@ pub mod Refusals
 pub mod SoFar
 pub mod Laws
 pub mod Units
+pub mod ParserRefusals
+pub mod Passing

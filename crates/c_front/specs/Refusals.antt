@@ -9,8 +9,8 @@ use Rattle.pcc_base.specs.declared.refusal.Refusal.{Refusal}
 use Rattle.pcc_base.specs.declared.refusal.Refusal.TheVariants as refusals
 use Rattle.c_tokens.specs.declared.token.Token.{Token}
 use Rattle.c_tokens.specs.Tokens.{HasTokens, HasFault, BeginsWith}
-use Rattle.c_grammar.specs.Statements.{ExternalTree}
-use Rattle.c_parser.specs.Refusals.{NoneUnsupported, FirstUnsupported, NoTree}
+use Rattle.c_syntax.specs.Statements.{ExternalTree}
+use Rattle.c_front.specs.ParserRefusals.{NoneUnsupported, FirstUnsupported, NoTree}
 use Rattle.c_front.specs.Accepted.{HaveTokens, HasTree, HaveTrees, total}
 
 -- ---- tokens

@@ -1,7 +1,7 @@
 -- The raw trees of texts.
 use Rattle.std.specs.Prelude.{◌≤◌, ℕ, List}
 use Rattle.c_tokens.specs.declared.token.Token.{Token}
-use Rattle.c_grammar.specs.Statements.{ExternalTree}
+use Rattle.c_syntax.specs.Statements.{ExternalTree}
 use Rattle.c_front.specs.Accepted.{HaveTokens, HaveTrees, total}
 
 -- the texts have tokens, at most 65,536 together, and these raw trees, of height at most 256

@@ -1,3 +1,4 @@
 pub mod Operands
 pub mod Together
 pub mod Updates
+pub mod Chosen

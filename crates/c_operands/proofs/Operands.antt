@@ -6,8 +6,8 @@ use Rattle.c_tree.specs.declared.types.ValueType.{ValueType}
 use Rattle.c_tree.specs.Program.{Expression, Binary, Conditional, Cast, value_type}
 use Rattle.c_tree.specs.declared.expression.Expression.{Expression as Built}
 use Rattle.c_tree.specs.Erased.{boxed_of}
-use Rattle.c_constants.specs.declared.constant.Constant.{Constant}
-use Rattle.c_constants.specs.Constants.{IsConstant}
+use Rattle.c_operands.specs.declared.constant.Constant.{Constant}
+use Rattle.c_operands.specs.Constants.{IsConstant}
 use Rattle.c_typing.specs.Constants.{has_constant_form, is_integer_type}
 use Rattle.c_operands.specs.Judged.{IsIntegral}
 

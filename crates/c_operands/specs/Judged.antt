@@ -2,7 +2,7 @@
 use Rattle.std.specs.Prelude.{◌≡◌, ◌∷◌, true, Some, if◌then◌else◌}
 use Rattle.c_tree.specs.Program.{Expression, value_type}
 use Rattle.c_tree.specs.Erased.{boxed_of}
-use Rattle.c_constants.specs.Constants.{IsConstant}
+use Rattle.c_operands.specs.Constants.{IsConstant}
 use Rattle.c_typing.specs.Faults.{least, precedes}
 use Rattle.c_typing.specs.Checked.{Checked, Fits, Fails}
 use Rattle.c_typing.specs.Constants.{has_constant_form, is_integer_type}

@@ -1,3 +1,4 @@
 pub mod Judged
 pub mod Operators
 pub mod Parts
+pub mod Constants

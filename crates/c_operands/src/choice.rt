@@ -3,7 +3,7 @@
 ghost use Rattle.std.specs.Prelude.{◌≡◌, ◌∷◌, true, None, IfOk, IfSome, if◌then◌else◌};
 ghost use Rattle.std.specs.List.{list_any};
 ghost use Rattle.pcc_base.specs.declared.fault.FaultKind.TheVariants as kinds;
-ghost use Rattle.c_constants.specs.Constants.{IsConstant};
+ghost use Rattle.c_operands.specs.Constants.{IsConstant};
 ghost use Rattle.c_tree.specs.Erased.{boxed_of};
 ghost use Rattle.c_tree.specs.Program.{value_type, Expression as Typed, Conditional};
 ghost use Rattle.c_typing.specs.Constants.{is_integer_type, is_null};
@@ -12,9 +12,9 @@ ghost use Rattle.c_typing.specs.Rows.{conditional_row, is_scalar, of_choice, typ
 ghost use Rattle.c_typing.specs.Types.{is_pointer};
 ghost use Rattle.c_operands.specs.Judged.{IsIntegral, IsJudged, IsOperand, IsOperandOf};
 
+use crate::Constant;
 use crate::judged::{Judged, Operand, misfit_three};
 use crate::types::{is_scalar, of_choice};
-use c_constants::Constant;
 use c_tree::{Expression, ValueType};
 use pcc_base::{Fault, NoMemory, Span};
 use std::alloc::Global;

@@ -11,8 +11,8 @@ ghost use Rattle.c_typing.specs.Rows.{types_of};
 ghost use Rattle.c_typing.specs.Types.{is_pointer};
 ghost use Rattle.c_operands.specs.Judged.{IsOperandOf};
 
+use crate::Constant;
 use crate::types::is_pointer;
-use c_constants::Constant;
 use c_tree::{Expression, ValueType};
 use pcc_base::{Fault, FaultKind, NoMemory, Span};
 use std::alloc::Global;

@@ -2,7 +2,7 @@
 
 ghost use Rattle.std.specs.Prelude.{[], ◌∷◌, IfOk, if◌then◌else◌};
 ghost use Rattle.c_tree.specs.Erased.{boxed_of};
-ghost use Rattle.c_constants.specs.Constants.{IsConstant};
+ghost use Rattle.c_operands.specs.Constants.{IsConstant};
 ghost use Rattle.c_tree.specs.Program.{value_type, Expression as Typed, Unary, Cast};
 ghost use Rattle.c_tree.specs.declared.expression.UnaryOp.TheVariants.{Not};
 ghost use Rattle.c_tree.specs.declared.types.IntegerType.TheVariants.{Int};
@@ -10,9 +10,9 @@ ghost use Rattle.c_typing.specs.Checked.{fits};
 ghost use Rattle.c_typing.specs.Rows.{assigned, cast_row, is_scalar, misfit, on_number, selected, tested};
 ghost use Rattle.c_operands.specs.Judged.{IsJudged, IsOperand, IsOperandOf};
 
+use crate::Constant;
 use crate::judged::{Judged, Operand, misfit_one, misfit_two};
 use crate::types::{can_assign, can_cast, is_scalar};
-use c_constants::Constant;
 use c_tree::{Expression, IntegerType, UnaryOp, ValueType};
 use pcc_base::{NoMemory, Span};
 use std::alloc::Global;

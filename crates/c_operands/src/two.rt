@@ -9,9 +9,9 @@ ghost use Rattle.c_operands.specs.Judged.{IsJudged, IsOperand, IsOperandOf};
 ghost use Rattle.c_operands.specs.Operators.{joint_row, result_type};
 ghost use Rattle.c_operands.specs.declared.two.Joint.TheVariants.{Evaluates};
 
+use crate::Constant;
 use crate::judged::{Judged, Operand, misfits};
 use crate::types::{of_conditions, of_difference, of_equality, of_numbers, of_order, of_sum};
-use c_constants::Constant;
 use c_syntax::BinaryOp as RawOp;
 use c_tree::{BinaryOp, Expression, ValueType};
 use pcc_base::{NoMemory, Span};

@@ -7,14 +7,14 @@ use Rattle.pcc_base.specs.declared.refusal.Refusal.TheVariants.{Fault, Limit, No
 use Rattle.c_tokens.specs.declared.token.Token.{Token}
 use Rattle.c_tokens.specs.declared.token.Punct.{Punct}
 use Rattle.c_tokens.specs.declared.token.Punct.TheVariants as marks
-use Rattle.c_grammar.specs.Declarations.{ParameterTree}
-use Rattle.c_grammar.specs.Chains.{Step, Done, Fails, Goes, Reads}
-use Rattle.c_grammar.proofs.Chains.{Continues, continues_start}
-use Rattle.c_grammar.proofs.Chains.{continues_goes, continues_done, continues_fails}
-use Rattle.c_grammar.specs.Taking.{take_mark}
-use Rattle.c_grammar.specs.Reading.{Reader, Readers}
-use Rattle.c_grammar.specs.DeclarationReading.{Listed, list_step, read_more, maybe_from, maybe_before, read_parameter}
-use Rattle.c_grammar.specs.DeclarationReading.{read_parameters, parameters_from}
+use Rattle.c_syntax.specs.Declarations.{ParameterTree}
+use Rattle.c_syntax.specs.Chains.{Step, Done, Fails, Goes, Reads}
+use Rattle.c_syntax.proofs.Chains.{Continues, continues_start}
+use Rattle.c_syntax.proofs.Chains.{continues_goes, continues_done, continues_fails}
+use Rattle.c_syntax.specs.Taking.{take_mark}
+use Rattle.c_syntax.specs.Reading.{Reader, Readers}
+use Rattle.c_syntax.specs.DeclarationReading.{Listed, list_step, read_more, maybe_from, maybe_before, read_parameter}
+use Rattle.c_syntax.specs.DeclarationReading.{read_parameters, parameters_from}
 use Rattle.c_cursor.specs.Readings.{Refused}
 
 pub map_push : {T A : Type 0} (f : T → A) (xs : List T) (x : T) → map f (xs ++ x ∷ []) ≡ map f xs ++ f x ∷ []

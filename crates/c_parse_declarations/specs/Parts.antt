@@ -4,9 +4,9 @@ use Rattle.pcc_base.specs.declared.refusal.Refusal.{Refusal}
 use Rattle.pcc_base.specs.declared.refusal.Refusal.TheVariants.{Fault, Limit, NoMemory}
 use Rattle.c_tokens.specs.declared.token.Token.{Token}
 use Rattle.c_syntax.specs.declared.expression.Specifier.{Specifier}
-use Rattle.c_grammar.specs.Declarations.{ParameterTree, parameter_of, ItemTree, item_of}
-use Rattle.c_grammar.specs.Taking.{take_specifiers}
-use Rattle.c_grammar.specs.DeclarationReading.{Listed}
+use Rattle.c_syntax.specs.Declarations.{ParameterTree, parameter_of, ItemTree, item_of}
+use Rattle.c_syntax.specs.Taking.{take_specifiers}
+use Rattle.c_syntax.specs.DeclarationReading.{Listed}
 use Rattle.c_parse_declarations.specs.declared.lists.ParameterList.{ParameterList}
 use Rattle.c_parse_declarations.specs.declared.lists.ItemList.{ItemList}
 

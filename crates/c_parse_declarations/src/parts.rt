@@ -1,8 +1,8 @@
 //! Parts that stand in several rules.
 
 ghost use Rattle.std.specs.Prelude.{◌<◌, length, IfOk, IfErr};
-ghost use Rattle.c_grammar.specs.Declarations.{maybe_expr_of, array_of, maybe_array_of};
-ghost use Rattle.c_grammar.specs.DeclarationReading.{take_name, maybe_before, array_behind, read_maybe_array};
+ghost use Rattle.c_syntax.specs.Declarations.{maybe_expr_of, array_of, maybe_array_of};
+ghost use Rattle.c_syntax.specs.DeclarationReading.{take_name, maybe_before, array_behind, read_maybe_array};
 ghost use Rattle.c_parse_expressions.specs.Readings.{IsRule, below, reader_of};
 ghost use Rattle.c_cursor.specs.Readings.{IsRead, IsPartRead};
 ghost use Rattle.c_cursor.specs.Rows.{IsRow};

@@ -6,12 +6,12 @@ use Rattle.pcc_base.specs.declared.refusal.Refusal.{Refusal}
 use Rattle.c_tokens.specs.declared.token.Token.{Token}
 use Rattle.c_tokens.specs.declared.token.Punct.TheVariants as marks
 use Rattle.c_syntax.specs.declared.expression.Specifier.{Specifier}
-use Rattle.c_grammar.specs.Expressions.{Star, Expr}
-use Rattle.c_grammar.specs.Chains.{Reads}
-use Rattle.c_grammar.specs.Taking.{take_mark, take_pointer, take_specifiers}
-use Rattle.c_grammar.specs.Reading.{Readers, readers, read_cast, cast_behind}
-use Rattle.c_grammar.proofs.Reading.{readers-none, cast_reads}
-use Rattle.c_grammar.specs.Reading.{read_arguments, arguments_from}
+use Rattle.c_syntax.specs.Expressions.{Star, Expr}
+use Rattle.c_syntax.specs.Chains.{Reads}
+use Rattle.c_syntax.specs.Taking.{take_mark, take_pointer, take_specifiers}
+use Rattle.c_syntax.specs.Reading.{Readers, readers, read_cast, cast_behind}
+use Rattle.c_syntax.proofs.Reading.{readers-none, cast_reads}
+use Rattle.c_syntax.specs.Reading.{read_arguments, arguments_from}
 use Rattle.c_cursor.specs.Readings.{Refused}
 use Rattle.c_casts.specs.Fronts.{BeginsWithSpecifier}
 use Rattle.c_expression_nodes.specs.declared.found.Found.{Found}

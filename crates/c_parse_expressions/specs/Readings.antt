@@ -2,11 +2,11 @@
 use Rattle.std.specs.Prelude.{◌≡◌, ℕ, ◌<◌, ◌≤◌, List, length, map, Some, Result, Ok, Err, ◌-◌}
 use Rattle.pcc_base.specs.declared.refusal.Refusal.{Refusal}
 use Rattle.c_tokens.specs.declared.token.Token.{Token}
-use Rattle.c_grammar.specs.Expressions.{Expr, exprs_of, expr_of}
-use Rattle.c_grammar.specs.ExpressionTokens.{expr_height, exprs_height}
-use Rattle.c_grammar.specs.Chains.{Step, Done, Goes, Reads}
-use Rattle.c_grammar.specs.Reading as reading
-use Rattle.c_grammar.specs.Reading.{Readers, readers}
+use Rattle.c_syntax.specs.Expressions.{Expr, exprs_of, expr_of}
+use Rattle.c_syntax.specs.ExpressionTokens.{expr_height, exprs_height}
+use Rattle.c_syntax.specs.Chains.{Step, Done, Goes, Reads}
+use Rattle.c_syntax.specs.Reading as reading
+use Rattle.c_syntax.specs.Reading.{Readers, readers}
 use Rattle.c_cursor.specs.Readings.{Refused, RefusedStep}
 use Rattle.c_expression_nodes.specs.declared.found.Values.{Values}
 use Rattle.c_expression_nodes.specs.Values.{values_of, height_of_values}

@@ -10,15 +10,15 @@ use Rattle.c_tokens.specs.declared.token.Punct.TheVariants as marks
 use Rattle.c_syntax.specs.declared.expression.Specifier.{Specifier}
 use Rattle.c_syntax.specs.declared.statement.Label.{Label}
 use Rattle.c_syntax.specs.declared.statement.Statement.{Statement}
-use Rattle.c_grammar.specs.Expressions.{Expr, expr_of}
-use Rattle.c_grammar.specs.Declarations.{DeclarationTree, declaration_of, maybe_expr_of}
-use Rattle.c_grammar.specs.Statements.{LabelTree, label_of, Stmt, For, ForDeclaration, stmt_of}
-use Rattle.c_grammar.specs.Chains.{Done, Goes, Reads, then_read}
-use Rattle.c_grammar.specs.Taking.{take_mark, take_word, take_specifiers}
-use Rattle.c_grammar.specs.Reading.{Reader, readers}
-use Rattle.c_grammar.specs.DeclarationReading.{maybe_before}
-use Rattle.c_grammar.specs.StatementReading as reading
-use Rattle.c_grammar.specs.StatementReading.{StmtReader, Below, below_of, label_step, read_condition, read_until}
+use Rattle.c_syntax.specs.Expressions.{Expr, expr_of}
+use Rattle.c_syntax.specs.Declarations.{DeclarationTree, declaration_of, maybe_expr_of}
+use Rattle.c_syntax.specs.Statements.{LabelTree, label_of, Stmt, For, ForDeclaration, stmt_of}
+use Rattle.c_syntax.specs.Chains.{Done, Goes, Reads, then_read}
+use Rattle.c_syntax.specs.Taking.{take_mark, take_word, take_specifiers}
+use Rattle.c_syntax.specs.Reading.{Reader, readers}
+use Rattle.c_syntax.specs.DeclarationReading.{maybe_before}
+use Rattle.c_syntax.specs.StatementReading as reading
+use Rattle.c_syntax.specs.StatementReading.{StmtReader, Below, below_of, label_step, read_condition, read_until}
 use Rattle.c_cursor.specs.Readings.{RefusedStep}
 use Rattle.c_parse_statements.specs.declared.parts.Condition.{Condition}
 use Rattle.c_parse_statements.specs.declared.parts.Clause.{Clause}

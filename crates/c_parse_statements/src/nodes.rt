@@ -4,10 +4,10 @@
 //! none.
 
 ghost use Rattle.std.specs.Prelude.{◌≡◌, ◌∷◌, ◌++◌, [], IfOk, OnOk};
-ghost use Rattle.c_grammar.specs.Expressions.{expr_of};
-ghost use Rattle.c_grammar.specs.Declarations.{declaration_of, maybe_expr_of};
-ghost use Rattle.c_grammar.specs.Statements as trees;
-ghost use Rattle.c_grammar.specs.Statements.{stmt_of, stmts_of};
+ghost use Rattle.c_syntax.specs.Expressions.{expr_of};
+ghost use Rattle.c_syntax.specs.Declarations.{declaration_of, maybe_expr_of};
+ghost use Rattle.c_syntax.specs.Statements as trees;
+ghost use Rattle.c_syntax.specs.Statements.{stmt_of, stmts_of};
 ghost use Rattle.c_parse_statements.specs.Parts.{for_of, labels_of, start_of, statements_of, tests_of};
 
 use crate::parts::{

@@ -6,8 +6,8 @@
 ghost use Rattle.std.specs.Prelude.{◌≡◌};
 ghost use Rattle.pcc_base.specs.declared.fault.Fault.{Fault};
 ghost use Rattle.pcc_base.specs.declared.refusal.Refusal.TheVariants.{Fault as Faulty};
-ghost use Rattle.c_grammar.specs.Declarations.{declaration_of};
-ghost use Rattle.c_grammar.specs.StatementReading.{read_condition};
+ghost use Rattle.c_syntax.specs.Declarations.{declaration_of};
+ghost use Rattle.c_syntax.specs.StatementReading.{read_condition};
 ghost use Rattle.c_cursor.specs.Readings.{IsRead};
 ghost use Rattle.c_parse_statements.specs.Parts.{below_node, clause_of, condition_of, fields_of, for_head_of};
 ghost use Rattle.c_parse_statements.specs.Parts.{read_clause, read_do_tail, read_for_head, read_for_start};

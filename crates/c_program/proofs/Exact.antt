@@ -5,7 +5,7 @@ use Rattle.pcc_base.specs.declared.fault.Fault.{Fault}
 use Rattle.pcc_base.specs.declared.refusal.Limit.{Limit}
 use Rattle.pcc_base.specs.declared.refusal.Limit.TheVariants as limits
 use Rattle.c_tokens.specs.declared.token.Token.{Token}
-use Rattle.c_grammar.specs.Statements.{ExternalTree}
+use Rattle.c_syntax.specs.Statements.{ExternalTree}
 use Rattle.c_tree.specs.Program.{Function, Program}
 use Rattle.c_typing.specs.Typed.{IsAbove, IsAccepted, IsLeastFault}
 use Rattle.c_typing.proofs.OneProgram.{one_typed_program}

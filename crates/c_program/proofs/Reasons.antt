@@ -5,7 +5,7 @@ use Rattle.std.specs.Prelude.{nat_lt, Option, slice_get, option_map}
 use Rattle.std.proofs.lemmas.Option.{same_Some, slice_get-map}
 use Rattle.pcc_base.specs.declared.refusal.Limit.{Limit}
 use Rattle.pcc_base.specs.declared.refusal.Limit.TheVariants as limits
-use Rattle.c_grammar.specs.Statements.{ExternalTree}
+use Rattle.c_syntax.specs.Statements.{ExternalTree}
 use Rattle.c_tree.specs.Program.{Function, Program}
 use Rattle.c_tree.specs.Sizes.{frame_bound}
 use Rattle.c_typing.specs.Typed.{IsAbove, arrays_bytes, large_frame, limit_of, most_arrays, most_frame}

@@ -2,8 +2,8 @@
 //!
 //! `typed_program` gives exactly the program of `specs/Answers.antt`, through tokens, raw trees and typing, or the
 //! fault that the texts have, or the limit that they are above, that on frames with the function's name; texts have one
-//! such answer (`one_answer`). The only other refusal is want of memory. `name_of` gives the names of the functions that
-//! files define.
+//! such answer (`one_answer`). The only other refusal is want of memory. `name_of` gives the names of the functions
+//! that files define.
 #![tactic(auto)]
 
 mod laws;

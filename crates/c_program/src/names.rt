@@ -4,7 +4,7 @@
 //! (`functions_are_named` of `c_sound`). Nothing is refused.
 
 ghost use Rattle.std.specs.Prelude.{◌≡◌, ◌++◌, ℕ, List, filter_map, map, option_map, slice_get, IfNone, IfSome};
-ghost use Rattle.c_grammar.specs.Statements.{external_of, unit_of};
+ghost use Rattle.c_syntax.specs.Statements.{external_of, unit_of};
 ghost use Rattle.c_sound.specs.Names.{defined_name, defined_names};
 
 use c_syntax::{External, RawUnit};

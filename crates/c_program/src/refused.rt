@@ -3,7 +3,7 @@
 ghost use Rattle.std.specs.Prelude.{◌≡◌, ◌≤◌, ℕ, List, map, slice_get, Some, IfOk};
 ghost use Rattle.pcc_base.specs.declared.refusal.Limit.TheVariants as limits;
 ghost use Rattle.c_tokens.specs.declared.token.Token.{Token};
-ghost use Rattle.c_grammar.specs.Statements.{unit_of};
+ghost use Rattle.c_syntax.specs.Statements.{unit_of};
 ghost use Rattle.c_typing.specs.Typed.{IsAbove};
 ghost use Rattle.c_types.specs.Answers.{IsRefusal};
 ghost use Rattle.c_sound.specs.Names.{defined_names};

@@ -5,7 +5,7 @@ ghost use Rattle.std.specs.List.{All, AllByRecursion};
 ghost use Rattle.c_tree.specs.Erased.{program_of};
 ghost use Rattle.c_tree.specs.Sizes.{function_size};
 ghost use Rattle.c_tree.specs.WellTyped.{WellTyped};
-ghost use Rattle.c_grammar.specs.Statements.{unit_of};
+ghost use Rattle.c_syntax.specs.Statements.{unit_of};
 ghost use Rattle.c_front.specs.Units.{HaveUnits};
 ghost use Rattle.c_program.specs.Answers.{AreRefused, HaveTypedProgram, end_of};
 

@@ -10,8 +10,8 @@ use Rattle.pcc_base.specs.declared.fault.FaultKind.{FaultKind}
 use Rattle.pcc_base.specs.declared.fault.FaultKind.TheVariants.{TypeRule, ArgumentCount, PointerUse}
 use Rattle.c_syntax.specs.declared.expression.Identifier.{Identifier as Ident}
 use Rattle.c_syntax.specs.declared.expression.Specifier.{Specifier}
-use Rattle.c_grammar.specs.Expressions as trees
-use Rattle.c_grammar.specs.Expressions.{Star, Expr, Exprs, NoExpr, OneExpr}
+use Rattle.c_syntax.specs.Expressions as trees
+use Rattle.c_syntax.specs.Expressions.{Star, Expr, Exprs, NoExpr, OneExpr}
 use Rattle.c_tree.specs.declared.expression.ArrayRef.TheVariants as refs
 use Rattle.c_tree.specs.declared.types.IntegerType.{IntegerType}
 use Rattle.c_tree.specs.declared.types.IntegerType.TheVariants.{Char, Int}

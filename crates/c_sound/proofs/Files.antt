@@ -5,9 +5,9 @@ use Rattle.pcc_base.specs.declared.span.Span.{Span}
 use Rattle.c_syntax.specs.declared.expression.Identifier.{Identifier}
 use Rattle.c_syntax.specs.declared.expression.Specifier.{Specifier}
 use Rattle.pcc_base.specs.declared.fault.FaultKind.TheVariants.{TypeRule}
-use Rattle.c_grammar.specs.Declarations as trees
-use Rattle.c_grammar.specs.Declarations.{ItemTree, DeclaratorTree, ParameterTree, PartTree}
-use Rattle.c_grammar.specs.Statements.{Stmt, ExternalTree, FunctionTree, DeclaredTree}
+use Rattle.c_syntax.specs.Declarations as trees
+use Rattle.c_syntax.specs.Declarations.{ItemTree, DeclaratorTree, ParameterTree, PartTree}
+use Rattle.c_syntax.specs.Statements.{Stmt, ExternalTree, FunctionTree, DeclaredTree}
 use Rattle.c_tree.specs.Program as tree
 use Rattle.c_tree.specs.Program.{Program}
 use Rattle.c_typing.specs.Types.{Outside, Specified, specified}

@@ -10,22 +10,22 @@ use Rattle.pcc_base.specs.declared.fault.FaultKind.TheVariants as kinds
 use Rattle.pcc_base.specs.declared.fault.FaultKind.TheVariants.{TypeRule}
 use Rattle.c_tokens.specs.declared.token.Token.{Token}
 use Rattle.c_tokens.specs.declared.token.Punct.TheVariants as marks
-use Rattle.c_grammar.specs.Marks.{mark}
+use Rattle.c_syntax.specs.Marks.{mark}
 use Rattle.c_syntax.specs.declared.expression.TextPiece.{TextPiece}
-use Rattle.c_grammar.specs.Expressions as exprs
-use Rattle.c_grammar.specs.Expressions.{Expr, Exprs, NoExpr, OneExpr}
-use Rattle.c_grammar.specs.ExpressionTokens.{expr_tokens, exprs_tokens, IsExpr, specifiers_tokens}
-use Rattle.c_grammar.specs.ExpressionTokens.{pointer_tokens}
-use Rattle.c_grammar.specs.Declarations.{ItemTree, DeclarationTree, DeclaratorTree, InitialiserTree, Single, Braces}
-use Rattle.c_grammar.specs.Declarations.{ValueTree}
-use Rattle.c_grammar.specs.DeclarationTokens.{maybe_expr_tokens, part_tokens, declarator_tokens, maybe_comma_tokens}
-use Rattle.c_grammar.specs.DeclarationTokens.{initialiser_tokens, value_tokens, item_tokens, declaration_tokens}
-use Rattle.c_grammar.specs.DeclarationTokens.{followed}
-use Rattle.c_grammar.specs.DeclarationTokens.{separated, IsInitialiser, IsMaybeValue, IsItem, IsDeclaration}
-use Rattle.c_grammar.specs.DeclarationTokens.{AreApart}
-use Rattle.c_grammar.specs.Statements as trees
-use Rattle.c_grammar.specs.Statements.{Stmt, Stmts, NoStmt, OneStmt, ExternalTree, FunctionTree, DeclaredTree}
-use Rattle.c_grammar.specs.StatementTokens.{labels_tokens, stmt_tokens, stmts_tokens, IsMaybeExpr, IsStmt}
+use Rattle.c_syntax.specs.Expressions as exprs
+use Rattle.c_syntax.specs.Expressions.{Expr, Exprs, NoExpr, OneExpr}
+use Rattle.c_syntax.specs.ExpressionTokens.{expr_tokens, exprs_tokens, IsExpr, specifiers_tokens}
+use Rattle.c_syntax.specs.ExpressionTokens.{pointer_tokens}
+use Rattle.c_syntax.specs.Declarations.{ItemTree, DeclarationTree, DeclaratorTree, InitialiserTree, Single, Braces}
+use Rattle.c_syntax.specs.Declarations.{ValueTree}
+use Rattle.c_syntax.specs.DeclarationTokens.{maybe_expr_tokens, part_tokens, declarator_tokens, maybe_comma_tokens}
+use Rattle.c_syntax.specs.DeclarationTokens.{initialiser_tokens, value_tokens, item_tokens, declaration_tokens}
+use Rattle.c_syntax.specs.DeclarationTokens.{followed}
+use Rattle.c_syntax.specs.DeclarationTokens.{separated, IsInitialiser, IsMaybeValue, IsItem, IsDeclaration}
+use Rattle.c_syntax.specs.DeclarationTokens.{AreApart}
+use Rattle.c_syntax.specs.Statements as trees
+use Rattle.c_syntax.specs.Statements.{Stmt, Stmts, NoStmt, OneStmt, ExternalTree, FunctionTree, DeclaredTree}
+use Rattle.c_syntax.specs.StatementTokens.{labels_tokens, stmt_tokens, stmts_tokens, IsMaybeExpr, IsStmt}
 use Rattle.c_tree.specs.declared.types.IntegerType.{IntegerType}
 use Rattle.c_tree.specs.declared.types.IntegerType.TheVariants.{Char, Short, Int}
 use Rattle.c_tree.specs.declared.types.ValueType.{ValueType}

@@ -9,14 +9,14 @@ use Rattle.std.proofs.lemmas.List.{append-nil, append_assoc}
 use Rattle.pcc_base.specs.declared.span.Span.{Span}
 use Rattle.c_syntax.specs.declared.expression.Identifier.{Identifier}
 use Rattle.c_syntax.specs.declared.expression.TextPiece.{TextPiece}
-use Rattle.c_grammar.specs.Expressions.{Expr, NoExpr, OneExpr}
-use Rattle.c_grammar.specs.Declarations as parts
-use Rattle.c_grammar.specs.Declarations.{ItemTree, DeclarationTree, PartTree, InitialiserTree, Single, Braces}
-use Rattle.c_grammar.specs.Declarations.{ValueTree}
-use Rattle.c_grammar.specs.DeclarationTokens.{IsInitialiser, IsMaybeValue, IsItem, IsDeclaration, AreItems as AreSome}
-use Rattle.c_grammar.specs.Statements as trees
-use Rattle.c_grammar.specs.Statements.{Stmt, Stmts, NoStmt, OneStmt}
-use Rattle.c_grammar.specs.StatementTokens.{IsStmt, AreItems, AreCases}
+use Rattle.c_syntax.specs.Expressions.{Expr, NoExpr, OneExpr}
+use Rattle.c_syntax.specs.Declarations as parts
+use Rattle.c_syntax.specs.Declarations.{ItemTree, DeclarationTree, PartTree, InitialiserTree, Single, Braces}
+use Rattle.c_syntax.specs.Declarations.{ValueTree}
+use Rattle.c_syntax.specs.DeclarationTokens.{IsInitialiser, IsMaybeValue, IsItem, IsDeclaration, AreItems as AreSome}
+use Rattle.c_syntax.specs.Statements as trees
+use Rattle.c_syntax.specs.Statements.{Stmt, Stmts, NoStmt, OneStmt}
+use Rattle.c_syntax.specs.StatementTokens.{IsStmt, AreItems, AreCases}
 use Rattle.c_tree.specs.declared.types.IntegerType.{IntegerType}
 use Rattle.c_tree.specs.declared.types.IntegerType.TheVariants.{Char, Short, Int}
 use Rattle.c_tree.specs.declared.types.ValueType.{ValueType}

@@ -3,14 +3,14 @@ use Rattle.std.proofs.Common.{◌≡◌, ap, sym, subst, List, [], ◌∷◌, �
 use Rattle.std.specs.Prelude.{Some, None, flat_map, unwrap_or}
 use Rattle.std.specs.List.{AllByRecursion}
 use Rattle.c_syntax.specs.declared.expression.Specifier.{Specifier}
-use Rattle.c_grammar.specs.Declarations as trees
-use Rattle.c_grammar.specs.Declarations.{DeclaratorTree, PartTree}
-use Rattle.c_grammar.specs.DeclarationTokens.{IsPart, declarator_tokens, parameter_tokens, part_tokens, separated}
-use Rattle.c_grammar.specs.ExpressionTokens.{pointer_tokens, specifiers_tokens}
-use Rattle.c_grammar.specs.Grammar.{IsBlock, IsExternal, external_tokens, unit_tokens}
-use Rattle.c_grammar.specs.Statements as stmts
-use Rattle.c_grammar.specs.Statements.{Stmt, ExternalTree, FunctionTree, DeclaredTree}
-use Rattle.c_grammar.specs.StatementTokens.{IsStmt, stmt_tokens, stmts_tokens}
+use Rattle.c_syntax.specs.Declarations as trees
+use Rattle.c_syntax.specs.Declarations.{DeclaratorTree, PartTree}
+use Rattle.c_syntax.specs.DeclarationTokens.{IsPart, declarator_tokens, parameter_tokens, part_tokens, separated}
+use Rattle.c_syntax.specs.ExpressionTokens.{pointer_tokens, specifiers_tokens}
+use Rattle.c_syntax.specs.Grammar.{IsBlock, IsExternal, external_tokens, unit_tokens}
+use Rattle.c_syntax.specs.Statements as stmts
+use Rattle.c_syntax.specs.Statements.{Stmt, ExternalTree, FunctionTree, DeclaredTree}
+use Rattle.c_syntax.specs.StatementTokens.{IsStmt, stmt_tokens, stmts_tokens}
 use Rattle.c_tree.specs.Program as tree
 use Rattle.c_tree.specs.Program.{Program}
 use Rattle.c_typing.specs.Types.{Outside, Specified}

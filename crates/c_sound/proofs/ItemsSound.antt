@@ -13,11 +13,11 @@ use Rattle.pcc_base.specs.declared.fault.FaultKind.TheVariants.{ArraySize, TypeR
 use Rattle.pcc_base.specs.declared.fault.FaultKind.TheVariants as kinds
 use Rattle.c_syntax.specs.declared.expression.Identifier.{Identifier}
 use Rattle.c_syntax.specs.declared.expression.TextPiece.{TextPiece}
-use Rattle.c_grammar.specs.Expressions.{Expr, Exprs}
-use Rattle.c_grammar.specs.Declarations as parts
-use Rattle.c_grammar.specs.Declarations.{ItemTree, DeclarationTree, PartTree, InitialiserTree, Single, Braces}
-use Rattle.c_grammar.specs.Declarations.{ValueTree}
-use Rattle.c_grammar.specs.DeclarationTokens.{IsItem as IsItemTree, IsDeclaration}
+use Rattle.c_syntax.specs.Expressions.{Expr, Exprs}
+use Rattle.c_syntax.specs.Declarations as parts
+use Rattle.c_syntax.specs.Declarations.{ItemTree, DeclarationTree, PartTree, InitialiserTree, Single, Braces}
+use Rattle.c_syntax.specs.Declarations.{ValueTree}
+use Rattle.c_syntax.specs.DeclarationTokens.{IsItem as IsItemTree, IsDeclaration}
 use Rattle.c_tree.specs.declared.types.IntegerType.{IntegerType}
 use Rattle.c_tree.specs.declared.types.IntegerType.TheVariants.{Char, Short, Int}
 use Rattle.c_tree.specs.declared.types.ValueType.{ValueType}

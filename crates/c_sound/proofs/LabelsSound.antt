@@ -7,9 +7,9 @@ use Rattle.std.specs.List.{AllByRecursion, list_any}
 use Rattle.std.proofs.lemmas.Bool.Decides.{Decides-int_eq}
 use Rattle.pcc_base.specs.declared.span.Span.{Span}
 use Rattle.pcc_base.specs.declared.fault.FaultKind.TheVariants.{CaseLabel}
-use Rattle.c_grammar.specs.Statements as trees
-use Rattle.c_grammar.specs.Statements.{LabelTree, Stmt, Stmts, NoStmt, OneStmt}
-use Rattle.c_grammar.specs.StatementTokens.{IsStmt, IsPlain, IsCase, AreCases}
+use Rattle.c_syntax.specs.Statements as trees
+use Rattle.c_syntax.specs.Statements.{LabelTree, Stmt, Stmts, NoStmt, OneStmt}
+use Rattle.c_syntax.specs.StatementTokens.{IsStmt, IsPlain, IsCase, AreCases}
 use Rattle.c_tree.specs.declared.statement.Label.{Label}
 use Rattle.c_tree.specs.Program as tree
 use Rattle.c_tree.specs.Program.{Statement, Statements, Expression, First, value_type}

@@ -5,11 +5,11 @@ use Rattle.std.specs.List.{AllByRecursion}
 use Rattle.pcc_base.specs.declared.fault.Fault.{Fault}
 use Rattle.pcc_base.specs.declared.fault.FaultKind.TheVariants.{Redeclared, TypeRule}
 use Rattle.c_syntax.specs.declared.expression.Identifier.{Identifier}
-use Rattle.c_grammar.specs.Declarations as parts
-use Rattle.c_grammar.specs.Declarations.{ItemTree, DeclaratorTree, ParameterTree, PartTree}
-use Rattle.c_grammar.specs.Grammar.{IsExternal}
-use Rattle.c_grammar.specs.Statements.{Stmt, ExternalTree, FunctionTree, DeclaredTree}
-use Rattle.c_grammar.specs.StatementTokens.{IsStmt}
+use Rattle.c_syntax.specs.Declarations as parts
+use Rattle.c_syntax.specs.Declarations.{ItemTree, DeclaratorTree, ParameterTree, PartTree}
+use Rattle.c_syntax.specs.Grammar.{IsExternal}
+use Rattle.c_syntax.specs.Statements.{Stmt, ExternalTree, FunctionTree, DeclaredTree}
+use Rattle.c_syntax.specs.StatementTokens.{IsStmt}
 use Rattle.c_tree.specs.Program as tree
 use Rattle.c_typing.specs.Faults.{fault}
 use Rattle.c_typing.specs.Types.{Outside, Specified, specified, Declared}

@@ -8,7 +8,7 @@ use Rattle.pcc_base.specs.declared.span.Span.{Span}
 use Rattle.pcc_base.specs.declared.fault.Fault.{Fault}
 use Rattle.pcc_base.specs.declared.fault.FaultKind.TheVariants.{Redeclared, TypeRule}
 use Rattle.c_syntax.specs.declared.expression.Identifier.{Identifier}
-use Rattle.c_grammar.specs.Declarations.{ArrayTree, ParameterTree}
+use Rattle.c_syntax.specs.Declarations.{ArrayTree, ParameterTree}
 use Rattle.c_tree.specs.declared.types.ValueType.{ValueType}
 use Rattle.c_tree.specs.declared.types.ValueType.TheVariants.{Void, Integer, Pointer}
 use Rattle.c_tree.specs.Program as tree

@@ -14,11 +14,11 @@ use Rattle.pcc_base.specs.declared.fault.Fault.{Fault}
 use Rattle.c_tokens.specs.declared.token.Token.{Token}
 use Rattle.c_syntax.specs.declared.expression.Identifier.{Identifier as Ident}
 use Rattle.c_syntax.specs.declared.expression.TextPiece.{TextPiece}
-use Rattle.c_grammar.specs.Expressions as trees
-use Rattle.c_grammar.specs.Expressions.{Expr, Exprs, NoExpr, OneExpr}
-use Rattle.c_grammar.specs.ExpressionTokens.{text_tokens, expr_tokens, exprs_tokens, more_tokens, IsText, IsExpr}
-use Rattle.c_grammar.specs.ExpressionTokens.{AreValues}
-use Rattle.c_grammar.specs.ExpressionTokens.{Separate, Follow, specifiers_tokens, pointer_tokens}
+use Rattle.c_syntax.specs.Expressions as trees
+use Rattle.c_syntax.specs.Expressions.{Expr, Exprs, NoExpr, OneExpr}
+use Rattle.c_syntax.specs.ExpressionTokens.{text_tokens, expr_tokens, exprs_tokens, more_tokens, IsText, IsExpr}
+use Rattle.c_syntax.specs.ExpressionTokens.{AreValues}
+use Rattle.c_syntax.specs.ExpressionTokens.{Separate, Follow, specifiers_tokens, pointer_tokens}
 use Rattle.c_tree.specs.declared.types.ValueType.{ValueType}
 use Rattle.c_tree.specs.Program.{Expression, Arguments, NoMore, Argument}
 use Rattle.c_typing.specs.Library.{Entity, Library, Shared, OfFile, At}

@@ -15,11 +15,11 @@ use Rattle.c_syntax.specs.declared.operator.AssignOp.{AssignOp}
 use Rattle.c_syntax.specs.declared.operator.AssignOp.TheVariants as raw_assign
 use Rattle.c_syntax.specs.declared.expression.Identifier.{Identifier}
 use Rattle.c_syntax.specs.declared.expression.Specifier.{Specifier}
-use Rattle.c_grammar.specs.Expressions.{Star, Expr}
-use Rattle.c_grammar.specs.Declarations as parts
-use Rattle.c_grammar.specs.Declarations.{ArrayTree, ItemTree, DeclaratorTree, ParameterTree, PartTree, ValueTree}
-use Rattle.c_grammar.specs.Statements as trees
-use Rattle.c_grammar.specs.Statements.{LabelTree, Stmt, Stmts, NoStmt, OneStmt}
+use Rattle.c_syntax.specs.Expressions.{Star, Expr}
+use Rattle.c_syntax.specs.Declarations as parts
+use Rattle.c_syntax.specs.Declarations.{ArrayTree, ItemTree, DeclaratorTree, ParameterTree, PartTree, ValueTree}
+use Rattle.c_syntax.specs.Statements as trees
+use Rattle.c_syntax.specs.Statements.{LabelTree, Stmt, Stmts, NoStmt, OneStmt}
 use Rattle.c_tree.specs.declared.expression.BinaryOp.{BinaryOp}
 use Rattle.c_tree.specs.declared.expression.StepOp.{StepOp}
 use Rattle.c_tree.specs.declared.expression.UnaryOp.{UnaryOp}

@@ -17,9 +17,9 @@ use Rattle.c_syntax.specs.declared.operator.AssignOp.{AssignOp}
 use Rattle.c_syntax.specs.declared.operator.AssignOp.TheVariants as raw_assign
 use Rattle.c_syntax.specs.declared.expression.Identifier.{Identifier as Ident}
 use Rattle.c_syntax.specs.declared.expression.TextPiece.{TextPiece}
-use Rattle.c_grammar.specs.Expressions as trees
-use Rattle.c_grammar.specs.Expressions.{Expr}
-use Rattle.c_grammar.specs.ExpressionTokens.{expr_tokens, specifiers_tokens, pointer_tokens}
+use Rattle.c_syntax.specs.Expressions as trees
+use Rattle.c_syntax.specs.Expressions.{Expr}
+use Rattle.c_syntax.specs.ExpressionTokens.{expr_tokens, specifiers_tokens, pointer_tokens}
 use Rattle.c_tree.specs.declared.expression.BinaryOp.{BinaryOp}
 use Rattle.c_tree.specs.declared.expression.StepOp.{StepOp}
 use Rattle.c_tree.specs.declared.expression.UnaryOp.{UnaryOp}

@@ -6,14 +6,14 @@ use Rattle.pcc_base.specs.declared.span.Span.{Span}
 use Rattle.pcc_base.specs.Names.{IsName}
 use Rattle.c_tokens.specs.declared.token.Token.{Token}
 use Rattle.c_syntax.specs.declared.expression.Identifier.{Identifier}
-use Rattle.c_grammar.specs.Declarations.{ItemTree, DeclarationTree, ParameterTree}
-use Rattle.c_grammar.specs.DeclarationTokens.{AreApart, IsDeclaration, declaration_tokens, declarator_tokens, followed}
-use Rattle.c_grammar.specs.DeclarationTokens.{item_tokens, maybe_array_tokens, maybe_expr_tokens, maybe_name_tokens}
-use Rattle.c_grammar.specs.DeclarationTokens.{parameter_tokens, part_tokens, separated, value_tokens}
-use Rattle.c_grammar.specs.ExpressionTokens.{expr_tokens, pointer_tokens, specifiers_tokens}
-use Rattle.c_grammar.specs.Statements as trees
-use Rattle.c_grammar.specs.Statements.{Stmt, Stmts, NoStmt, OneStmt}
-use Rattle.c_grammar.specs.StatementTokens.{AreCases, AreItems, IsStmt, labels_tokens, stmt_tokens, stmts_tokens}
+use Rattle.c_syntax.specs.Declarations.{ItemTree, DeclarationTree, ParameterTree}
+use Rattle.c_syntax.specs.DeclarationTokens.{AreApart, IsDeclaration, declaration_tokens, declarator_tokens, followed}
+use Rattle.c_syntax.specs.DeclarationTokens.{item_tokens, maybe_array_tokens, maybe_expr_tokens, maybe_name_tokens}
+use Rattle.c_syntax.specs.DeclarationTokens.{parameter_tokens, part_tokens, separated, value_tokens}
+use Rattle.c_syntax.specs.ExpressionTokens.{expr_tokens, pointer_tokens, specifiers_tokens}
+use Rattle.c_syntax.specs.Statements as trees
+use Rattle.c_syntax.specs.Statements.{Stmt, Stmts, NoStmt, OneStmt}
+use Rattle.c_syntax.specs.StatementTokens.{AreCases, AreItems, IsStmt, labels_tokens, stmt_tokens, stmts_tokens}
 use Rattle.c_tree.specs.Program.{Local, LocalArray}
 use Rattle.c_tree.specs.declared.types.ValueType.{ValueType}
 use Rattle.c_typing.specs.Checked.{value_in}

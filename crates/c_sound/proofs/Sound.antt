@@ -1,6 +1,6 @@
 -- Typed programs of files are well typed.
 use Rattle.std.specs.Prelude.{List}
-use Rattle.c_grammar.specs.Statements.{ExternalTree}
+use Rattle.c_syntax.specs.Statements.{ExternalTree}
 use Rattle.c_typing.specs.Laws.{AreSources, TypedIsWellTyped}
 use Rattle.c_typing.specs.Typed.{numbers_in, notes_of}
 use Rattle.c_typing.proofs.FilesCountUp.{statements_count_up}

@@ -4,8 +4,8 @@ use Rattle.std.specs.Prelude.{flat_map}
 use Rattle.std.specs.List.{AllByRecursion}
 use Rattle.std.proofs.lemmas.List.Elements.{All-from_recursion}
 use Rattle.c_tokens.specs.declared.token.Token.{Token}
-use Rattle.c_grammar.specs.Grammar.{IsExternal, unit_tokens}
-use Rattle.c_grammar.specs.Statements.{ExternalTree}
+use Rattle.c_syntax.specs.Grammar.{IsExternal, unit_tokens}
+use Rattle.c_syntax.specs.Statements.{ExternalTree}
 use Rattle.c_typing.specs.Laws.{HasIntIfAny}
 use Rattle.c_sound.specs.Laws.{AreUnitsOf, TextsAreSources}
 use Rattle.c_sound.proofs.Apart.{AreApart, AreOfFile, OfText, apart_both, files_both, pairs_apart, text_apart}

@@ -8,15 +8,15 @@ use Rattle.pcc_base.specs.declared.span.Span.{Span}
 use Rattle.pcc_base.specs.declared.fault.FaultKind.TheVariants.{TypeRule}
 use Rattle.c_tokens.specs.declared.token.Token.{Token}
 use Rattle.c_syntax.specs.declared.expression.Identifier.{Identifier}
-use Rattle.c_grammar.specs.ExpressionTokens.{specifiers_tokens}
-use Rattle.c_grammar.specs.Declarations as parts
-use Rattle.c_grammar.specs.Declarations.{ItemTree, DeclaratorTree, PartTree, ParameterTree}
-use Rattle.c_grammar.specs.DeclarationTokens.{declarator_tokens, value_tokens, item_tokens, followed, separated, IsItem}
-use Rattle.c_grammar.specs.DeclarationTokens.{AreApart}
-use Rattle.c_grammar.specs.Grammar.{external_tokens, unit_tokens, IsBlock, IsExternal}
-use Rattle.c_grammar.specs.Statements as trees
-use Rattle.c_grammar.specs.Statements.{Stmt, Stmts, NoStmt, OneStmt, ExternalTree, FunctionTree, DeclaredTree}
-use Rattle.c_grammar.specs.StatementTokens.{stmt_tokens, stmts_tokens, IsStmt}
+use Rattle.c_syntax.specs.ExpressionTokens.{specifiers_tokens}
+use Rattle.c_syntax.specs.Declarations as parts
+use Rattle.c_syntax.specs.Declarations.{ItemTree, DeclaratorTree, PartTree, ParameterTree}
+use Rattle.c_syntax.specs.DeclarationTokens.{declarator_tokens, value_tokens, item_tokens, followed, separated, IsItem}
+use Rattle.c_syntax.specs.DeclarationTokens.{AreApart}
+use Rattle.c_syntax.specs.Grammar.{external_tokens, unit_tokens, IsBlock, IsExternal}
+use Rattle.c_syntax.specs.Statements as trees
+use Rattle.c_syntax.specs.Statements.{Stmt, Stmts, NoStmt, OneStmt, ExternalTree, FunctionTree, DeclaredTree}
+use Rattle.c_syntax.specs.StatementTokens.{stmt_tokens, stmts_tokens, IsStmt}
 use Rattle.c_tree.specs.Program as tree
 use Rattle.c_typing.specs.Library.{Entity, Library, Shared, OfFile, At, external}
 use Rattle.c_typing.specs.Types.{Outside, Specified, specified, Storage, Unsaid, Auto, Register, Static, Extern}

@@ -12,8 +12,8 @@ use Rattle.c_tokens.specs.Bytes.{is_letter, is_word_byte}
 use Rattle.c_tokens.specs.Literals.{AllPass}
 use Rattle.c_tokens.specs.Pieces.{Piece, Space, Comment, Skipped, Spelled, IsPiece, IsWordText}
 use Rattle.c_tokens.specs.Tokens.{HasTokens, Reached, Leads, behind, start_of, tokens_of}
-use Rattle.c_grammar.specs.Grammar.{unit_tokens}
-use Rattle.c_grammar.specs.Statements.{ExternalTree}
+use Rattle.c_syntax.specs.Grammar.{unit_tokens}
+use Rattle.c_syntax.specs.Statements.{ExternalTree}
 use Rattle.c_sound.specs.Laws.{AreUnitsOf}
 use Rattle.c_sound.specs.IdentifiersLaws.{IdentifiersHaveNames}
 use Rattle.c_sound.specs.Named.{AreSpelled}

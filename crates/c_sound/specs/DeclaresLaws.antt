@@ -1,7 +1,7 @@
 -- Each array of a typed program is declared by an item of its own, and each function is defined by its definition.
 use Rattle.std.specs.Prelude.{◌≡◌, ◌≤◌, List, length, map}
 use Rattle.std.specs.List.{All}
-use Rattle.c_grammar.specs.Statements.{ExternalTree}
+use Rattle.c_syntax.specs.Statements.{ExternalTree}
 use Rattle.c_tree.specs.Program.{Program}
 use Rattle.c_tree.specs.Sizes.{function_size}
 use Rattle.c_typing.specs.Typed.{Typed}

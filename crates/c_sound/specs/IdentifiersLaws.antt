@@ -1,8 +1,8 @@
 -- The names of typed programs are identifiers.
 use Rattle.std.specs.Prelude.{ℕ, List, flat_map}
 use Rattle.std.specs.List.{AllByRecursion}
-use Rattle.c_grammar.specs.Grammar.{IsExternal, unit_tokens}
-use Rattle.c_grammar.specs.Statements.{ExternalTree}
+use Rattle.c_syntax.specs.Grammar.{IsExternal, unit_tokens}
+use Rattle.c_syntax.specs.Statements.{ExternalTree}
 use Rattle.c_tree.specs.Program.{Program}
 use Rattle.c_typing.specs.Typed.{Typed}
 use Rattle.c_sound.specs.Laws.{AreUnitsOf}

@@ -2,8 +2,8 @@
 use Rattle.std.specs.Prelude.{ℕ, suc, List, [], ◌∷◌}
 use Rattle.c_tokens.specs.declared.token.Token.{Token}
 use Rattle.c_tokens.specs.Tokens.{HasTokens}
-use Rattle.c_grammar.specs.Grammar.{Tree}
-use Rattle.c_grammar.specs.Statements.{ExternalTree}
+use Rattle.c_syntax.specs.Grammar.{Tree}
+use Rattle.c_syntax.specs.Statements.{ExternalTree}
 use Rattle.c_typing.specs.Laws.{AreSources}
 
 -- the text of the file at this position has tokens, and this is their raw tree

@@ -1,6 +1,6 @@
 -- The names of the functions that files define.
 use Rattle.std.specs.Prelude.{ℕ, List, flat_map, filter_map, Option, Some, None}
-use Rattle.c_grammar.specs.Statements.{ExternalTree, FunctionTree, DeclaredTree}
+use Rattle.c_syntax.specs.Statements.{ExternalTree, FunctionTree, DeclaredTree}
 
 -- the name of the function that an external declaration defines, where it is a function's definition (C99 6.9.1)
 abbrev pub defined_name : ExternalTree → Option (List ℕ)

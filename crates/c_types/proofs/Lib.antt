@@ -2,3 +2,11 @@ pub mod Scoped
 pub mod OneAnswer
 pub mod Outlining
 pub mod Making
+pub mod Things
+pub mod Defining
+pub mod Order
+pub mod Walks
+pub mod Quiet
+pub mod QuietBodies
+pub mod Outside
+pub mod NumberedFiles

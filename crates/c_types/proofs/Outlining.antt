@@ -8,7 +8,7 @@ use Rattle.pcc_base.specs.declared.fault.Fault.{Fault}
 use Rattle.pcc_base.specs.declared.fault.FaultKind.TheVariants.{NoMain}
 use Rattle.pcc_base.specs.declared.refusal.Refusal.{Refusal}
 use Rattle.pcc_base.specs.declared.refusal.Refusal.TheVariants as refusals
-use Rattle.c_grammar.specs.Statements.{ExternalTree}
+use Rattle.c_syntax.specs.Statements.{ExternalTree}
 use Rattle.c_tree.specs.declared.program.Function.{Function}
 use Rattle.c_typing.specs.Checked.{Checked, Fits, Fails, Note, faults_in, notes_in}
 use Rattle.c_typing.specs.Faults.{fault, least}
@@ -20,7 +20,7 @@ use Rattle.c_typing.specs.Typed.{judged, no_numbers, numbers_in, faults_of, note
 use Rattle.c_typing.specs.Typed.{is_main, main, no_main, or_else, IsLeastFault}
 use Rattle.c_typing.proofs.FilesAgree.{numbers_change_nothing}
 use Rattle.c_typing.proofs.LeastFault.{least_is_least}
-use Rattle.c_numbering.specs.Tables.{object_described}
+use Rattle.c_types.specs.Tables.{object_described}
 use Rattle.c_operands.specs.declared.judged.Judged.TheVariants as answers
 use Rattle.c_expressions.specs.Said.{IsSaid}
 use Rattle.c_types.specs.Answers.{AreFunctions, AreJudged, IsRefusal}

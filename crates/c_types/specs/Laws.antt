@@ -3,7 +3,7 @@ use Rattle.std.specs.Prelude.{◌≡◌, ◌⊎◌, List}
 use Rattle.pcc_base.specs.declared.span.Span.{Span}
 use Rattle.pcc_base.specs.declared.fault.Fault.{Fault}
 use Rattle.pcc_base.specs.declared.refusal.Limit.{Limit}
-use Rattle.c_grammar.specs.Statements.{ExternalTree}
+use Rattle.c_syntax.specs.Statements.{ExternalTree}
 use Rattle.c_tree.specs.Program.{Program}
 use Rattle.c_typing.specs.Typed.{IsAbove, IsAccepted, IsLeastFault}
 

@@ -6,14 +6,14 @@ use Rattle.pcc_base.specs.declared.fault.Fault.{Fault}
 use Rattle.pcc_base.specs.declared.refusal.Refusal.{Refusal}
 use Rattle.pcc_base.specs.declared.refusal.Refusal.TheVariants as refusals
 use Rattle.std.specs.Prelude.{Option, Some}
-use Rattle.c_grammar.specs.Statements.{ExternalTree}
+use Rattle.c_syntax.specs.Statements.{ExternalTree}
 use Rattle.c_tree.specs.Program as tree
 use Rattle.c_typing.specs.Checked.{Note}
 use Rattle.c_typing.specs.Faults.{least}
 use Rattle.c_typing.specs.Library.{number_among}
 use Rattle.c_typing.specs.Numbering.{missing, numbers_of, static_objects}
 use Rattle.c_typing.specs.Typed.{faults_of, is_main, limit_of, main, no_main, notes_of, or_else}
-use Rattle.c_numbering.specs.Tables.{object_described}
+use Rattle.c_types.specs.Tables.{object_described}
 use Rattle.c_types.specs.declared.outlines.Outline.{Outline}
 
 -- the program that an outline is with these functions

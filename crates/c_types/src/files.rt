@@ -2,7 +2,7 @@
 
 ghost use Rattle.std.specs.Prelude.{◌≡◌, ◌≤◌, length, map, IfErr, IfOk};
 ghost use Rattle.std.specs.List.{All};
-ghost use Rattle.c_grammar.specs.Statements.{unit_of};
+ghost use Rattle.c_syntax.specs.Statements.{unit_of};
 ghost use Rattle.c_tree.specs.Erased.{program_of};
 ghost use Rattle.c_tree.specs.Sizes.{function_size};
 ghost use Rattle.c_tree.specs.WellTyped.{WellTyped};
@@ -12,10 +12,9 @@ ghost use Rattle.c_expressions.specs.Said.{IsSaid};
 ghost use Rattle.c_types.specs.Answers.{AreFunctions, IsRefusal};
 ghost use Rattle.c_types.specs.Outlines.{IsOutline};
 
-use crate::{Plan, finished, planned};
+use crate::{Plan, finished, functions_are_defined_once, planned};
 use c_check_files::units;
 use c_expressions::Notes;
-use c_numbering::functions_are_defined_once;
 use c_operands::Judged;
 use c_scopes::{Numbers, Scopes};
 use c_sound::{arrays_are_declared, typed_is_well_typed};

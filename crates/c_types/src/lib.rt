@@ -5,14 +5,30 @@
 //! of `c_typing` defines them; files have one such answer (`one_answer`). They are judged where nothing has a
 //! number (`planned`), and then where functions and objects have the numbers that are answered (`finished`). No
 //! element is built before the program is known to be within the limits. The only other refusal is want of memory.
+//!
+//! `numbers`, `objects` and `missing` have the numbers of functions and static objects, what the objects hold at first,
+//! and what is missing. In: the notes of all files, in the order of the text (`c_expressions`). Out: what
+//! `specs/Numbering.antt` of `c_typing` says of them. Nothing is built before its size is known. The only refusal is
+//! want of memory. Each function of files that fit is defined once (`specs/NumberingLaws.antt`).
 #![tactic(auto)]
 
 mod files;
+mod known;
 mod laws;
+mod missing;
+mod numbering_laws;
+mod numbers;
+mod objects;
 mod outlines;
 mod programs;
+mod tables;
 
 pub use files::check;
+pub use known::{Known, defined};
 pub use laws::one_answer;
+pub use missing::{has_main, least_missing};
+pub use numbering_laws::functions_are_defined_once;
+pub use numbers::numbered;
+pub use objects::{Described, arrays_bytes, built, describe};
 pub use outlines::{Outline, Plan, planned};
 pub use programs::finished;

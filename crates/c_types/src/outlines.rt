@@ -1,19 +1,19 @@
 //! What files that fit note, as the outline of a program.
 
 ghost use Rattle.std.specs.Prelude.{◌≡◌, List, map, IfErr, IfOk};
-ghost use Rattle.c_grammar.specs.Statements.{ExternalTree};
+ghost use Rattle.c_syntax.specs.Statements.{ExternalTree};
 ghost use Rattle.c_typing.specs.Library.{number_among};
 ghost use Rattle.c_typing.specs.Numbering.{numbers_of, static_objects};
 ghost use Rattle.c_typing.specs.Typed.{main, no_main, no_numbers, numbers_in};
 ghost use Rattle.c_expressions.specs.Notes.{note_of};
 ghost use Rattle.c_expressions.specs.Said.{IfFits};
-ghost use Rattle.c_numbering.specs.Tables.{known_of, object_described, AreDefinedOnce, IsKnownOf};
+ghost use Rattle.c_types.specs.Tables.{known_of, object_described, AreDefinedOnce, IsKnownOf};
 ghost use Rattle.c_types.specs.Answers.{AreJudged, IsRefusal};
 ghost use Rattle.c_types.specs.Outlines.{IsOutline, IsOutlineOf, IsUnfinished, unfinished};
 
+use crate::{Described, Known, defined, describe, has_main, least_missing, numbered};
 use c_expressions::{Note, Notes};
 use c_meanings::Entity;
-use c_numbering::{Described, Known, defined, describe, has_main, least_missing, numbered};
 use c_operands::Judged;
 use c_scopes::Numbers;
 use c_tree::Function;

@@ -2,7 +2,7 @@
 
 ghost use Rattle.std.specs.Prelude.{◌≡◌, List, None, map, IfErr, IfOk};
 ghost use Rattle.pcc_base.specs.declared.span.Span.{Span};
-ghost use Rattle.c_grammar.specs.Statements.{ExternalTree};
+ghost use Rattle.c_syntax.specs.Statements.{ExternalTree};
 ghost use Rattle.c_tree.specs.Erased.{function_of, program_of};
 ghost use Rattle.c_typing.specs.Typed.{checked, limit_of, IsAccepted};
 ghost use Rattle.c_operands.specs.Parts.{Stands};
@@ -10,8 +10,8 @@ ghost use Rattle.c_types.specs.Answers.{AreFunctions, IsRefusal};
 ghost use Rattle.c_types.specs.Outlines.{made, IsOutline, IsTooLarge};
 
 use crate::outlines::Outline;
+use crate::{arrays_bytes, built};
 use c_limits::limit;
-use c_numbering::{arrays_bytes, built};
 use c_operands::Judged;
 use c_tree::{Function, Program};
 use pcc_base::{Limit, NoMemory, Refusal};

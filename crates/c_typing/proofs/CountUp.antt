@@ -5,9 +5,9 @@ use Rattle.std.specs.Prelude.{Option, Some, None}
 use Rattle.std.specs.List.{range_with_len}
 use Rattle.pcc_base.specs.declared.fault.Fault.{Fault}
 use Rattle.c_syntax.specs.declared.expression.Identifier.{Identifier}
-use Rattle.c_grammar.specs.Declarations.{ItemTree, DeclarationTree, ValueTree}
-use Rattle.c_grammar.specs.Statements as trees
-use Rattle.c_grammar.specs.Statements.{Stmt, Stmts, NoStmt, OneStmt}
+use Rattle.c_syntax.specs.Declarations.{ItemTree, DeclarationTree, ValueTree}
+use Rattle.c_syntax.specs.Statements as trees
+use Rattle.c_syntax.specs.Statements.{Stmt, Stmts, NoStmt, OneStmt}
 use Rattle.c_tree.specs.Program as tree
 use Rattle.c_tree.specs.Program.{Item, First, Statement, Statements, Done, Next, Expression, value_type}
 use Rattle.c_tree.specs.WellTyped.{item_number, first_numbers, statement_numbers, statements_numbers}

@@ -5,8 +5,8 @@ use Rattle.pcc_base.specs.declared.span.Span.{Span}
 use Rattle.pcc_base.specs.declared.fault.Fault.{Fault}
 use Rattle.pcc_base.specs.declared.fault.FaultKind.TheVariants.{Undeclared, TypeRule, ArgumentCount, PointerUse}
 use Rattle.c_syntax.specs.declared.expression.Identifier.{Identifier as Ident}
-use Rattle.c_grammar.specs.Expressions as trees
-use Rattle.c_grammar.specs.Expressions.{Expr, Exprs, NoExpr, OneExpr}
+use Rattle.c_syntax.specs.Expressions as trees
+use Rattle.c_syntax.specs.Expressions.{Expr, Exprs, NoExpr, OneExpr}
 use Rattle.c_tree.specs.declared.types.ValueType.{ValueType}
 use Rattle.c_tree.specs.Program as tree
 use Rattle.c_tree.specs.Program.{Expression, Arguments, NoMore, Argument}

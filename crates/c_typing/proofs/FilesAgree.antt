@@ -2,9 +2,9 @@
 use Rattle.std.proofs.Common.{◌≡◌, ℕ, refl, sym, ap, subst, ◌∙◌, Bool, true, false, List, [], ◌∷◌, ◌++◌}
 use Rattle.std.specs.Prelude.{Option, Some, None, is_some}
 use Rattle.c_syntax.specs.declared.expression.Identifier.{Identifier}
-use Rattle.c_grammar.specs.Declarations as trees
-use Rattle.c_grammar.specs.Declarations.{ItemTree, DeclaratorTree, ParameterTree, PartTree, ValueTree}
-use Rattle.c_grammar.specs.Statements.{Stmt, ExternalTree, FunctionTree, DeclaredTree}
+use Rattle.c_syntax.specs.Declarations as trees
+use Rattle.c_syntax.specs.Declarations.{ItemTree, DeclaratorTree, ParameterTree, PartTree, ValueTree}
+use Rattle.c_syntax.specs.Statements.{Stmt, ExternalTree, FunctionTree, DeclaredTree}
 use Rattle.c_tree.specs.declared.types.ValueType.{ValueType}
 use Rattle.c_tree.specs.Program as tree
 use Rattle.c_typing.specs.Types.{Outside, Specified, specified, Storage, Unsaid, Auto, Register, Static, Extern}

@@ -4,7 +4,7 @@ use Rattle.std.specs.Prelude.{Option, Some, None, unwrap_or}
 use Rattle.pcc_base.specs.declared.fault.FaultKind.TheVariants.{NoMain}
 use Rattle.pcc_base.specs.declared.span.Span.{Span}
 use Rattle.pcc_base.specs.declared.fault.Fault.{Fault}
-use Rattle.c_grammar.specs.Statements.{ExternalTree}
+use Rattle.c_syntax.specs.Statements.{ExternalTree}
 use Rattle.c_tree.specs.Program.{Program}
 use Rattle.c_typing.specs.Checked.{Checked, Fits, Fails, faults_in, value_in}
 use Rattle.c_typing.specs.Faults.{fault, least}

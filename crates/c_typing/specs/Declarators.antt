@@ -7,10 +7,10 @@ use Rattle.pcc_base.specs.declared.fault.Fault.{Fault}
 use Rattle.pcc_base.specs.declared.fault.FaultKind.TheVariants.{Redeclared, TypeRule, ArraySize, PointerUse}
 use Rattle.c_syntax.specs.declared.expression.Identifier.{Identifier}
 use Rattle.c_syntax.specs.declared.expression.TextPiece.{TextPiece}
-use Rattle.c_grammar.specs.Expressions as trees
-use Rattle.c_grammar.specs.Expressions.{Star, Expr, Exprs, NoExpr, OneExpr}
-use Rattle.c_grammar.specs.Declarations.{ArrayTree, ParameterTree, PartTree, Plain, Array, Function, DeclaratorTree}
-use Rattle.c_grammar.specs.Declarations.{InitialiserTree, Single, Braces, ValueTree}
+use Rattle.c_syntax.specs.Expressions as trees
+use Rattle.c_syntax.specs.Expressions.{Star, Expr, Exprs, NoExpr, OneExpr}
+use Rattle.c_syntax.specs.Declarations.{ArrayTree, ParameterTree, PartTree, Plain, Array, Function, DeclaratorTree}
+use Rattle.c_syntax.specs.Declarations.{InitialiserTree, Single, Braces, ValueTree}
 use Rattle.c_tree.specs.declared.types.IntegerType.{IntegerType}
 use Rattle.c_tree.specs.declared.types.IntegerType.TheVariants.{Char, Short, Int}
 use Rattle.c_tree.specs.declared.types.ValueType.{ValueType}

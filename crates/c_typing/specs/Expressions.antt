@@ -9,8 +9,8 @@ use Rattle.c_syntax.specs.declared.operator.StepOp.TheVariants as raw_step
 use Rattle.c_syntax.specs.declared.expression.Identifier.{Identifier as Ident}
 use Rattle.c_syntax.specs.declared.expression.Specifier.{Specifier}
 use Rattle.c_syntax.specs.declared.expression.TextPiece.{TextPiece}
-use Rattle.c_grammar.specs.Expressions as trees
-use Rattle.c_grammar.specs.Expressions.{Star, Expr, Exprs, NoExpr, OneExpr}
+use Rattle.c_syntax.specs.Expressions as trees
+use Rattle.c_syntax.specs.Expressions.{Star, Expr, Exprs, NoExpr, OneExpr}
 use Rattle.c_tree.specs.declared.expression.ArrayRef.TheVariants as refs
 use Rattle.c_tree.specs.declared.expression.StepOp.{StepOp}
 use Rattle.c_tree.specs.declared.expression.StepOp.TheVariants.{PreIncrement, PreDecrement, PostIncrement}

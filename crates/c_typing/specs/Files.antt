@@ -5,10 +5,10 @@ use Rattle.pcc_base.specs.declared.span.Span.{Span}
 use Rattle.pcc_base.specs.declared.fault.Fault.{Fault}
 use Rattle.pcc_base.specs.declared.fault.FaultKind.TheVariants.{Redeclared, TypeRule, PointerUse}
 use Rattle.c_syntax.specs.declared.expression.Identifier.{Identifier}
-use Rattle.c_grammar.specs.Declarations as trees
-use Rattle.c_grammar.specs.Declarations.{ItemTree, DeclarationTree, DeclaratorTree, ParameterTree, PartTree, ValueTree}
-use Rattle.c_grammar.specs.Declarations.{InitialiserTree, Single, Braces}
-use Rattle.c_grammar.specs.Statements.{Stmt, Block, Stmts, NoStmt, OneStmt, ExternalTree, FunctionTree, DeclaredTree}
+use Rattle.c_syntax.specs.Declarations as trees
+use Rattle.c_syntax.specs.Declarations.{ItemTree, DeclarationTree, DeclaratorTree, ParameterTree, PartTree, ValueTree}
+use Rattle.c_syntax.specs.Declarations.{InitialiserTree, Single, Braces}
+use Rattle.c_syntax.specs.Statements.{Stmt, Block, Stmts, NoStmt, OneStmt, ExternalTree, FunctionTree, DeclaredTree}
 use Rattle.c_tree.specs.declared.types.ValueType.{ValueType}
 use Rattle.c_tree.specs.declared.types.ValueType.TheVariants.{Void, Integer, Pointer}
 use Rattle.c_tree.specs.Program as tree

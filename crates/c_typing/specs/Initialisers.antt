@@ -4,8 +4,8 @@ use Rattle.std.specs.Prelude.{if◌then◌else◌}
 use Rattle.pcc_base.specs.declared.span.Span.{Span}
 use Rattle.pcc_base.specs.declared.fault.FaultKind.TheVariants as kinds
 use Rattle.c_syntax.specs.declared.expression.TextPiece.{TextPiece}
-use Rattle.c_grammar.specs.Expressions.{Expr, Exprs, NoExpr, OneExpr}
-use Rattle.c_grammar.specs.Declarations.{InitialiserTree, Single, Braces, ValueTree}
+use Rattle.c_syntax.specs.Expressions.{Expr, Exprs, NoExpr, OneExpr}
+use Rattle.c_syntax.specs.Declarations.{InitialiserTree, Single, Braces, ValueTree}
 use Rattle.c_tree.specs.declared.types.IntegerType.{IntegerType}
 use Rattle.c_tree.specs.declared.types.ValueType.{ValueType}
 use Rattle.c_tree.specs.declared.types.ValueType.TheVariants.{Integer}

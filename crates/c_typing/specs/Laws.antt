@@ -7,8 +7,8 @@ use Rattle.pcc_base.specs.declared.fault.Fault.{Fault}
 use Rattle.c_tokens.specs.declared.token.Token.{Token}
 use Rattle.c_tokens.specs.declared.token.TokenKind.{TokenKind}
 use Rattle.c_tokens.specs.declared.token.TokenKind.TheVariants as tokens
-use Rattle.c_grammar.specs.Grammar.{IsExternal, unit_tokens}
-use Rattle.c_grammar.specs.Statements.{ExternalTree}
+use Rattle.c_syntax.specs.Grammar.{IsExternal, unit_tokens}
+use Rattle.c_syntax.specs.Statements.{ExternalTree}
 use Rattle.c_tree.specs.Program.{Program}
 use Rattle.c_tree.specs.WellTyped.{WellTyped, CountUp, functions_numbers}
 use Rattle.c_typing.specs.Checked.{faults_in, notes_in}

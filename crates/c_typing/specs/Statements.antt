@@ -7,10 +7,10 @@ use Rattle.pcc_base.specs.declared.span.Span.{Span}
 use Rattle.pcc_base.specs.declared.fault.Fault.{Fault}
 use Rattle.pcc_base.specs.declared.fault.FaultKind.TheVariants.{Redeclared, TypeRule, Jump, CaseLabel}
 use Rattle.c_syntax.specs.declared.expression.Identifier.{Identifier}
-use Rattle.c_grammar.specs.Expressions.{Expr}
-use Rattle.c_grammar.specs.Declarations.{ItemTree, DeclarationTree, ValueTree}
-use Rattle.c_grammar.specs.Statements as trees
-use Rattle.c_grammar.specs.Statements.{LabelTree, Stmt, Stmts, NoStmt, OneStmt}
+use Rattle.c_syntax.specs.Expressions.{Expr}
+use Rattle.c_syntax.specs.Declarations.{ItemTree, DeclarationTree, ValueTree}
+use Rattle.c_syntax.specs.Statements as trees
+use Rattle.c_syntax.specs.Statements.{LabelTree, Stmt, Stmts, NoStmt, OneStmt}
 use Rattle.c_tree.specs.declared.statement.Label.{Label}
 use Rattle.c_tree.specs.declared.types.IntegerType.{IntegerType}
 use Rattle.c_tree.specs.declared.types.ValueType.{ValueType}

@@ -7,7 +7,7 @@ use Rattle.pcc_base.specs.declared.fault.Fault.{Fault}
 use Rattle.pcc_base.specs.declared.fault.FaultKind.TheVariants.{NoMain}
 use Rattle.pcc_base.specs.declared.refusal.Limit.{Limit}
 use Rattle.pcc_base.specs.declared.refusal.Limit.TheVariants.{Arrays, Frame}
-use Rattle.c_grammar.specs.Statements.{ExternalTree}
+use Rattle.c_syntax.specs.Statements.{ExternalTree}
 use Rattle.c_tree.specs.Program.{int, StaticObject, Function, Program}
 use Rattle.c_tree.specs.Sizes.{bytes_of, frame_bound}
 use Rattle.c_typing.specs.Faults.{fault, least}

@@ -5,7 +5,7 @@ use Rattle.std.specs.List.{list_all}
 use Rattle.c_syntax.specs.declared.operator.SpecifierWord.{SpecifierWord}
 use Rattle.c_syntax.specs.declared.operator.SpecifierWord.TheVariants as words
 use Rattle.c_syntax.specs.declared.expression.Specifier.{Specifier}
-use Rattle.c_grammar.specs.Expressions.{Star}
+use Rattle.c_syntax.specs.Expressions.{Star}
 use Rattle.c_tree.specs.declared.types.IntegerType.{IntegerType}
 use Rattle.c_tree.specs.declared.types.IntegerType.TheVariants.{Char, Short, Int}
 use Rattle.c_tree.specs.declared.types.ValueType.{ValueType}

@@ -10,14 +10,14 @@ use Rattle.c_syntax.specs.declared.operator.SpecifierWord.TheVariants as words
 use Rattle.c_syntax.specs.declared.expression.Identifier.{Identifier as Ident}
 use Rattle.c_syntax.specs.declared.expression.Specifier.{Specifier}
 use Rattle.c_syntax.specs.declared.expression.TextPiece.{TextPiece}
-use Rattle.c_grammar.specs.Expressions.{Star, Expr, Identifier, Number, Text, Call, Index, Postfix, Unary}
-use Rattle.c_grammar.specs.Expressions.{Binary, Assignment, NoExpr, OneExpr}
-use Rattle.c_grammar.specs.Declarations.{ArrayTree, ParameterTree, ParametersTree, PartTree, Plain, Array, Function}
-use Rattle.c_grammar.specs.Declarations.{DeclaratorTree, InitialiserTree, Single, Braces, ValueTree, ItemTree}
-use Rattle.c_grammar.specs.Declarations.{DeclarationTree}
-use Rattle.c_grammar.specs.Statements.{Case, Default, Declared, Labelled, Block, Simple, Switch, While, Break}
-use Rattle.c_grammar.specs.Statements.{Return, Stmts, NoStmt, OneStmt}
-use Rattle.c_grammar.specs.Statements.{ExternalTree, FunctionTree, DeclaredTree}
+use Rattle.c_syntax.specs.Expressions.{Star, Expr, Identifier, Number, Text, Call, Index, Postfix, Unary}
+use Rattle.c_syntax.specs.Expressions.{Binary, Assignment, NoExpr, OneExpr}
+use Rattle.c_syntax.specs.Declarations.{ArrayTree, ParameterTree, ParametersTree, PartTree, Plain, Array, Function}
+use Rattle.c_syntax.specs.Declarations.{DeclaratorTree, InitialiserTree, Single, Braces, ValueTree, ItemTree}
+use Rattle.c_syntax.specs.Declarations.{DeclarationTree}
+use Rattle.c_syntax.specs.Statements.{Case, Default, Declared, Labelled, Block, Simple, Switch, While, Break}
+use Rattle.c_syntax.specs.Statements.{Return, Stmts, NoStmt, OneStmt}
+use Rattle.c_syntax.specs.Statements.{ExternalTree, FunctionTree, DeclaredTree}
 
 -- a column of a file
 abbrev pub at : ℕ → ℕ → Span

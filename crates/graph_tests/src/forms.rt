@@ -3,43 +3,42 @@
 ghost use Rattle.elementary_form.specs.SplitForms.{FixedOperandsDie, placed_count};
 ghost use Rattle.std.specs.Prelude.{◌<◌};
 
+use crate::building::{add_var, append, empty_graph};
 use crate::expected::expect;
 use elementary_form::split;
 use flow_graph::{Graph, Op};
 use liveness::live;
-use pcc_base::Width;
 use std::alloc::Global;
 use std::process::Abort;
-use std::test::Fail;
 
 /// The names of variable 0 before and after points 0 to 2 are these.
 fn expect_names(
     rt: &impl Abort,
     alloc: Global,
     graph: &Graph,
-    rows: &[(Option<u64>, Option<u64>)],
-) -> Result<(), Fail>
+    wanted: [(Option<u64>, Option<u64>); 3],
+)
     requires dies { FixedOperandsDie graph.now }
     requires few { placed_count graph.now < 2147483648 }
 {
-    let sets = live(alloc, graph)?;
-    let form = split(alloc, graph, &sets)?;
-    assert_eq!(rt; form.graph().points(), graph.points());
-    assert_eq!(rt; rows.len(), 3);
-    for point in 0..3 {
-        let names = (form.name_before(point, 0), form.name_after(point, 0));
-        expect(rt, &names, &rows[point as usize], point);
-    }
-    Ok(())
+    let sets = live(alloc, graph).expect(rt, "live sets");
+    let form = split(alloc, graph, &sets).expect(rt, "a form");
+    expect(rt, &form.graph().points(), &graph.points(), "points");
+    let names = [
+        (form.name_before(0, 0), form.name_after(0, 0)),
+        (form.name_before(1, 0), form.name_after(1, 0)),
+        (form.name_before(2, 0), form.name_after(2, 0)),
+    ];
+    expect(rt, &names, &wanted, "names");
 }
 
 /// A variable that is defined at one point and read at the next has a name after the one and another before the other.
 #[test]
-fn names(rt: HostRuntime) -> Result<(), Fail> {
-    let mut graph = Graph::new(rt.alloc())?;
-    graph.add_var(Width::Two)?;
-    graph.append(0, Op::Const(0, 5))?;
-    graph.append(0, Op::Return(Some(0)))?;
-    let rows = [(None, Some(1)), (Some(8589934592), None), (None, None)];
-    expect_names(&rt, rt.alloc(), &graph, rows.as_slice())
+fn names(rt: HostRuntime) {
+    let mut graph = empty_graph(&rt, rt.alloc());
+    add_var(&rt, &mut graph);
+    append(&rt, &mut graph, 0, Op::Const(0, 5));
+    append(&rt, &mut graph, 0, Op::Return(Some(0)));
+    let wanted = [(None, Some(1)), (Some(8589934592), None), (None, None)];
+    expect_names(&rt, rt.alloc(), &graph, wanted);
 }

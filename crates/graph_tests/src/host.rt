@@ -44,74 +44,92 @@ impl Write for Stalled {
     }
 }
 
+/// Names and the most bytes that are read of each, and why that is refused. The file has 70,000 bytes.
+const REFUSALS: [(&str, usize, ReadRefusal); 6] = [
+    ("host_files.tmp", 69999, ReadRefusal::TooLong),
+    ("host_files.tmp", 0, ReadRefusal::TooLong),
+    ("host_missing.tmp", 10, ReadRefusal::Missing),
+    ("host_missing.tmp/below", 10, ReadRefusal::Missing),
+    // a file where a folder would have to be
+    ("host_files.tmp/below", 10, ReadRefusal::Failed),
+    (".", 10, ReadRefusal::Failed),
+];
+
 // 70,000 bytes take several reads. The folder and the missing names are real.
 #[test]
-fn files(rt: HostRuntime) -> io::Result<()> {
+fn files(rt: HostRuntime) {
     let alloc = rt.alloc();
     let name = "host_files.tmp";
-    let long: Vec<u8> = vec![in alloc; 5; 70000]?;
+    let long: Vec<u8> = vec![in alloc; 5; 70000].expect(&rt, "memory");
     let mut files = HostFiles::new(&rt);
     let first = files.write(name, b"longer than what comes next");
     expect(&rt, &first, &Ok(()), "the first text");
-    for bytes in [b"".as_slice(), b"text".as_slice(), long.as_slice()] {
+    for bytes in [b"".as_slice(), b"text", long.as_slice()] {
         expect(&rt, &files.write(name, bytes), &Ok(()), bytes.len());
         for most in [bytes.len(), 100_000] {
             let read = files.read(alloc, name, most).expect(&rt, "the whole file");
             expect(&rt, &read.as_slice(), &bytes, most);
         }
     }
-    let refusals = [
-        (name, 69999, ReadRefusal::TooLong),
-        (name, 0, ReadRefusal::TooLong),
-        ("host_missing.tmp", 10, ReadRefusal::Missing),
-        ("host_missing.tmp/below", 10, ReadRefusal::Missing),
-        // a file where a folder would have to be
-        ("host_files.tmp/below", 10, ReadRefusal::Failed),
-        (".", 10, ReadRefusal::Failed),
-    ];
-    for (name, most, refusal) in refusals {
-        let found = (name, most, files.read(alloc, name, most).err());
-        expect(&rt, &found, &(name, most, Some(refusal)), "a read");
+    for (name, most, refusal) in REFUSALS.iter() {
+        let found = files.read(alloc, name, *most).err();
+        expect(&rt, &found, &Some(*refusal), *name);
     }
     let refused = Err(WriteRefusal::Failed);
     expect(&rt, &files.write(".", b"text"), &refused, "a folder");
-    fs::remove_file(&rt, name)
+    fs::remove_file(&rt, name).expect(&rt, name);
 }
 
 #[test]
-fn input(rt: HostRuntime) -> io::Result<()> {
+fn input(rt: HostRuntime) {
     let name = "host_input.tmp";
-    fs::write(&rt, name, "ab")?;
-    let mut input = HostInput::new(fs::open(&rt, name)?);
-    for answer in [Some(b'a'), Some(b'b'), None, None] {
-        expect(&rt, &input.next_byte(), &Ok(answer), "a byte or the end");
-    }
-    fs::remove_file(&rt, name)?;
-    let folder = HostInput::new(fs::open(&rt, ".")?).next_byte();
+    fs::write(&rt, name, "ab").expect(&rt, name);
+    let mut input = HostInput::new(fs::open(&rt, name).expect(&rt, name));
+    let answers = [
+        input.next_byte(),
+        input.next_byte(),
+        input.next_byte(),
+        input.next_byte(),
+    ];
+    let wanted = [Ok(Some(b'a')), Ok(Some(b'b')), Ok(None), Ok(None)];
+    expect(&rt, &answers, &wanted, "two bytes and the end");
+    fs::remove_file(&rt, name).expect(&rt, name);
+    let folder = HostInput::new(fs::open(&rt, ".").expect(&rt, ".")).next_byte();
     let stalled = HostInput::new(Stalled { interruptions: 3 }).next_byte();
-    expect(&rt, &folder, &Err(Failed), "a folder");
-    expect(&rt, &stalled, &Ok(None), "a reader that stalls");
-    Ok(())
+    expect(
+        &rt,
+        &[folder, stalled],
+        &[Err(Failed), Ok(None)],
+        "a folder, and a reader that stalls",
+    );
 }
 
 // `/dev/full` refuses each byte.
 #[test]
-fn output(rt: HostRuntime) -> io::Result<()> {
+fn output(rt: HostRuntime) {
     let name = "host_output.tmp";
-    let mut output = HostOutput::new(fs::create(&rt, name)?);
+    let mut output = HostOutput::new(fs::create(&rt, name).expect(&rt, name));
     for (bytes, all) in [("one", "one"), ("two", "onetwo")] {
         expect(&rt, &output.put_all(bytes.as_bytes()), &Ok(()), bytes);
-        expect(&rt, &fs::read(&rt, name)?.as_slice(), &all.as_bytes(), all);
+        let written = fs::read(&rt, name).expect(&rt, name);
+        expect(&rt, &written.as_slice(), &all.as_bytes(), all);
     }
-    fs::remove_file(&rt, name)?;
-    let mut full = HostOutput::new(OpenOptions::new().write(true).open(&rt, "/dev/full")?);
-    let failed = Err(WriteRefusal::Failed);
-    expect(&rt, &full.put_all(b"one"), &failed, "a device that is full");
+    fs::remove_file(&rt, name).expect(&rt, name);
+    let full = OpenOptions::new().write(true).open(&rt, "/dev/full");
+    let mut full = HostOutput::new(full.expect(&rt, "/dev/full"));
     let mut stalled = HostOutput::new(Stalled { interruptions: 3 });
-    let answers = (stalled.put_all(b"one"), stalled.put_all(b""));
-    expect(&rt, &answers, &(failed, Ok(())), "a writer that stalls");
-    let mut standard = (HostOutput::new(rt.stdout()), HostOutput::new(rt.stderr()));
-    let answers = (standard.0.put_all(b""), standard.1.put_all(b""));
-    expect(&rt, &answers, &(Ok(()), Ok(())), "the standard streams");
-    Ok(())
+    let failures = [full.put_all(b"one"), stalled.put_all(b"one")];
+    let failed = Err(WriteRefusal::Failed);
+    expect(
+        &rt,
+        &failures,
+        &[failed, failed],
+        "a full device, and a writer that stalls",
+    );
+    let answers = [
+        stalled.put_all(b""),
+        HostOutput::new(rt.stdout()).put_all(b""),
+        HostOutput::new(rt.stderr()).put_all(b""),
+    ];
+    expect(&rt, &answers, &[Ok(()), Ok(()), Ok(())], "nothing");
 }

@@ -10,7 +10,6 @@ use std::alloc::Global;
 use std::marker::Brand;
 use std::process::Abort;
 use std::sync::ledger::{Blank, Ledger};
-use std::test::Fail;
 
 /// Four nodes and two lists; two nodes at the end of a list, one between these, the last out again, and two more nodes.
 fn edited<L: Ledger>(alloc: Global, steps: &mut Steps<L>) -> Result<IndexLists, NoMemory>
@@ -29,22 +28,26 @@ fn edited<L: Ledger>(alloc: Global, steps: &mut Steps<L>) -> Result<IndexLists, 
     Ok(lists)
 }
 
-fn expect_row<L: Ledger>(rt: &impl Abort, alloc: Global, blank: Blank) -> Result<(), Fail>
+/// What stands in each list after the row.
+fn expect_row<L: Ledger>(rt: &impl Abort, alloc: Global, blank: Blank)
     requires name { blank.name ≡ L.name }
     requires parts { blank.parts ≡ L.parts }
     requires one { L.parts ≡ 1 }
 {
     let mut steps = Steps::<L>::new(blank);
-    let lists = edited(alloc, &mut steps)?;
-    let first = lists.nodes_in(alloc, 0, &mut steps)?;
-    expect(rt, &first.as_slice(), &[2, 3].as_slice(), "the first list");
-    let second = lists.nodes_in(alloc, 1, &mut steps)?;
-    expect(rt, &second.len(), &0, "the second list");
-    Ok(())
+    let lists = edited(alloc, &mut steps).expect(rt, "lists");
+    let first = lists.nodes_in(alloc, 0, &mut steps).expect(rt, "nodes");
+    let second = lists.nodes_in(alloc, 1, &mut steps).expect(rt, "nodes");
+    let wanted: (&[u32], &[u32]) = (&[2, 3], &[]);
+    expect(
+        rt,
+        &(first.as_slice(), second.as_slice()),
+        &wanted,
+        "the lists",
+    );
 }
 
-/// What stands in each list after the row.
 #[test]
-fn index_lists(rt: HostRuntime) -> Result<(), Fail> {
-    expect_row::<Brand>(&rt, rt.alloc(), Blank::new(1))
+fn index_lists(rt: HostRuntime) {
+    expect_row::<Brand>(&rt, rt.alloc(), Blank::new(1));
 }

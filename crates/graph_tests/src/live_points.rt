@@ -1,29 +1,19 @@
 //! Live variables and distances at the points of small graphs, by hand.
 
-ghost use Rattle.std.specs.Prelude.{◌<◌, length};
-
 use crate::building::{add_block, add_var, append, empty_graph};
 use crate::expected::expect;
-use flow_graph::{Comparison, Graph, LiveSets, Op};
+use flow_graph::{Comparison, Graph, Op};
 use liveness::{live, next_use};
 use std::alloc::Global;
 use std::process::Abort;
 
-/// The variables before and after a point, in their Debug form, are these.
-fn expect_live_at(rt: &impl Abort, alloc: Global, sets: &LiveSets, point: u32, row: &str)
-    requires before { point < length sets.now.before }
-    requires after { point < length sets.now.after }
-{
-    let shown = format!(in alloc; "{:?} {:?}", sets.before(point), sets.after(point));
-    expect(rt, &shown.expect(rt, "a row").as_str(), &row, point);
-}
-
-/// The variables before and after each point of a graph, in their Debug form, are these.
-fn expect_live(rt: &impl Abort, alloc: Global, graph: &Graph, rows: &[&str]) {
+/// The variables before and after each point of a graph are these.
+fn expect_live(rt: &impl Abort, alloc: Global, graph: &Graph, rows: &[(&[u32], &[u32])]) {
     let sets = live(alloc, graph).expect(rt, "live sets");
     assert_eq!(rt; graph.points() as usize, rows.len());
     for point in 0..graph.points() {
-        expect_live_at(rt, alloc, &sets, point, rows[point as usize]);
+        let found = (sets.before(point), sets.after(point));
+        expect(rt, &found, &rows[point as usize], point);
     }
 }
 
@@ -35,19 +25,24 @@ fn expect_distances(
     rows: &[(u32, u32, Option<u32>)],
 ) {
     let distances = next_use(alloc, graph).expect(rt, "distances");
-    for (point, var, distance) in rows {
-        let found = (*point, *var, distances.at(*point, *var));
-        expect(rt, &found, &(*point, *var, *distance), "a distance");
+    for row in rows {
+        let (point, var, _) = *row;
+        expect(
+            rt,
+            &(point, var, distances.at(point, var)),
+            row,
+            "a distance",
+        );
     }
 }
 
 /// The variables before and after each point of the block with a sum.
-const BLOCK_LIVE: [&str; 5] = [
-    "[] [0]",
-    "[0] [0, 1]",
-    "[0, 1] [0, 2]",
-    "[0, 2] [0]",
-    "[0] []",
+const BLOCK_LIVE: [(&[u32], &[u32]); 5] = [
+    (&[], &[0]),
+    (&[0], &[0, 1]),
+    (&[0, 1], &[0, 2]),
+    (&[0, 2], &[0]),
+    (&[0], &[]),
 ];
 
 /// Distances in the block with a sum.
@@ -79,14 +74,14 @@ fn one_block(rt: HostRuntime) {
 }
 
 /// The variables before and after each point of the loop.
-const LOOP_LIVE: [&str; 7] = [
-    "[] [0]",
-    "[0] [0, 1]",
-    "[0, 1] [0, 1]",
-    "[0, 1] [1, 2]",
-    "[1, 2] [0, 1, 2]",
-    "[0, 1, 2] [0, 1, 2]",
-    "[2] []",
+const LOOP_LIVE: [(&[u32], &[u32]); 7] = [
+    (&[], &[0]),
+    (&[0], &[0, 1]),
+    (&[0, 1], &[0, 1]),
+    (&[0, 1], &[1, 2]),
+    (&[1, 2], &[0, 1, 2]),
+    (&[0, 1, 2], &[0, 1, 2]),
+    (&[2], &[]),
 ];
 
 /// Distances in the loop.

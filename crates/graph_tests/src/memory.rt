@@ -5,17 +5,19 @@ use pcc_outside::{
     Failed, FileStore, MemFiles, MemSink, MemSource, ReadRefusal, Sink, Source, SureSink,
     SureSource, WriteRefusal,
 };
-use std::process::Abort;
 
 // The second call fails and takes nothing.
 #[test]
 fn sink_calls(rt: HostRuntime) {
     let alloc = rt.alloc();
     let mut sink = MemSink::new(alloc, [2].to_vec(alloc).expect(&rt, "a number"));
-    let failed = Err(WriteRefusal::Failed);
-    for (bytes, answer) in [("one", Ok(())), ("two", failed), ("three", Ok(()))] {
-        expect(&rt, &sink.put_all(bytes.as_bytes()), &answer, bytes);
-    }
+    let answers = [
+        sink.put_all(b"one"),
+        sink.put_all(b"two"),
+        sink.put_all(b"three"),
+    ];
+    let wanted = [Ok(()), Err(WriteRefusal::Failed), Ok(())];
+    expect(&rt, &answers, &wanted, "the calls");
     expect(&rt, &sink.taken(), &b"onethree".as_slice(), "what is taken");
 }
 
@@ -25,37 +27,40 @@ fn file_calls(rt: HostRuntime) {
     let alloc = rt.alloc();
     let calls = [2, 5].to_vec(alloc).expect(&rt, "numbers");
     let mut files = MemFiles::new(alloc, calls);
-    expect(&rt, &files.place("a", b"one"), &Ok(()), "a");
+    expect(&rt, &files.place("a", ONE), &Ok(()), "a");
     let read = files.read(alloc, "a", 3).expect(&rt, "call 1");
-    expect(&rt, &read.as_slice(), &b"one".as_slice(), "call 1");
+    expect(&rt, &read.as_slice(), &ONE, "call 1");
     let refusals = [
-        ("a", 3, ReadRefusal::Failed),
-        ("b", 3, ReadRefusal::Missing),
-        ("a", 2, ReadRefusal::TooLong),
+        files.read(alloc, "a", 3).err(),
+        files.read(alloc, "b", 3).err(),
+        files.read(alloc, "a", 2).err(),
     ];
-    for (name, most, refusal) in refusals {
-        let found = (name, most, files.read(alloc, name, most).err());
-        expect(&rt, &found, &(name, most, Some(refusal)), "a read");
+    let wanted = [
+        Some(ReadRefusal::Failed),
+        Some(ReadRefusal::Missing),
+        Some(ReadRefusal::TooLong),
+    ];
+    expect(&rt, &refusals, &wanted, "calls 2 to 4");
+    for (text, answer, left) in WRITES.iter() {
+        let written = files.write("b", text);
+        expect(
+            &rt,
+            &(written, files.content("b")),
+            &(*answer, *left),
+            "a write",
+        );
     }
-    for (text, answer, left) in [
-        ("two", Err(WriteRefusal::Failed), None),
-        ("two", Ok(()), Some("two")),
-        ("three", Ok(()), Some("three")),
-    ] {
-        expect(&rt, &files.write("b", text.as_bytes()), &answer, text);
-        expect_content(&rt, &files, "b", left);
-    }
-    expect_content(&rt, &files, "a", Some("one"));
+    expect(&rt, &files.content("a"), &Some(ONE), "a");
 }
 
-/// The file has this text, where there is one.
-fn expect_content(rt: &impl Abort, files: &MemFiles, name: &str, text: Option<&str>) {
-    let bytes = match text {
-        Some(text) => Some(text.as_bytes()),
-        None => None,
-    };
-    expect(rt, &files.content(name), &bytes, name);
-}
+const ONE: &[u8] = b"one";
+
+/// Texts that are written one after the other, what each write answers, and what the file holds after it.
+const WRITES: [(&[u8], Result<(), WriteRefusal>, Option<&[u8]>); 3] = [
+    (b"two", Err(WriteRefusal::Failed), None),
+    (b"two", Ok(()), Some(b"two")),
+    (b"three", Ok(()), Some(b"three")),
+];
 
 // The second call fails and takes nothing.
 #[test]
@@ -64,18 +69,26 @@ fn source_calls(rt: HostRuntime) {
     let bytes = [7, 8].to_vec(alloc).expect(&rt, "bytes");
     let calls = [2].to_vec(alloc).expect(&rt, "a number");
     let mut source = MemSource::new(bytes, calls);
-    let answers = [Ok(Some(7)), Err(Failed), Ok(Some(8)), Ok(None), Ok(None)];
-    for (i, answer) in answers.iter().enumerate() {
-        expect(&rt, &source.next_byte(), answer, i);
-    }
+    let answers = [
+        source.next_byte(),
+        source.next_byte(),
+        source.next_byte(),
+        source.next_byte(),
+        source.next_byte(),
+    ];
+    let wanted = [Ok(Some(7)), Err(Failed), Ok(Some(8)), Ok(None), Ok(None)];
+    expect(&rt, &answers, &wanted, "the calls");
 }
 
 #[test]
 fn never_refuse(rt: HostRuntime) {
-    let bytes = [7].to_vec(rt.alloc()).expect(&rt, "a byte");
-    let mut source = SureSource::new(bytes);
-    for answer in [Some(7), None, None] {
-        expect(&rt, &source.next_byte(), &Ok(answer), "a byte or the end");
-    }
-    expect(&rt, &SureSink::new().put_all(b"one"), &Ok(()), "a sink");
+    let mut source = SureSource::new([7].to_vec(rt.alloc()).expect(&rt, "a byte"));
+    let answers = [source.next_byte(), source.next_byte(), source.next_byte()];
+    expect(
+        &rt,
+        &answers,
+        &[Ok(Some(7)), Ok(None), Ok(None)],
+        "a byte and the end",
+    );
+    expect(&rt, &SureSink::new().put_all(ONE), &Ok(()), "a sink");
 }

@@ -2,8 +2,8 @@
 
 use crate::expected::expect;
 use crate::solving::{spilled_at, spots, takes};
-use pcc_base::{NoMemory, Width};
-use puzzle_board::{Area, Column, Columns, Kind, Piece, Spot};
+use pcc_base::Width;
+use puzzle_board::{Area, Column, Kind, Piece};
 use std::alloc::Global;
 use std::process::Abort;
 
@@ -82,23 +82,18 @@ const UNSOLVABLE: [(&[Area], &[Piece]); 6] = [
     (&[], &[X1]),
 ];
 
-/// The area of each piece's spot.
-fn areas_of(alloc: Global, spots: &[Option<Spot>]) -> Result<Vec<u32>, NoMemory> {
-    let mut areas = Vec::new(alloc);
-    for spot in spots {
-        if let Some(spot) = spot {
-            areas.push(spot.area)?;
-        }
-    }
-    Ok(areas)
-}
-
-/// The area of each piece on the solved board, or nothing where it isn't solvable.
+/// The area of each piece on the solved board.
 fn areas_found(rt: &impl Abort, alloc: Global, areas: &[Area], pieces: &[Piece]) -> Vec<u32> {
-    match spots(rt, alloc, areas, pieces).expect(rt, "memory") {
-        Some(found) => areas_of(alloc, &found).expect(rt, "memory"),
-        None => Vec::new(alloc),
+    let mut found = Vec::new(alloc);
+    for spot in spots(rt, alloc, areas, pieces)
+        .expect(rt, "a placement")
+        .iter()
+    {
+        found
+            .push(spot.expect(rt, "a spot").area)
+            .expect(rt, "memory");
     }
+    found
 }
 
 /// Each board is solved, and its pieces stand in these areas.
@@ -114,7 +109,7 @@ fn solves(rt: HostRuntime) {
 #[test]
 fn knows_that_there_is_none(rt: HostRuntime) {
     for (row, (areas, pieces)) in UNSOLVABLE.iter().enumerate() {
-        let found = spots(&rt, rt.alloc(), areas, pieces).expect(&rt, "memory");
+        let found = spots(&rt, rt.alloc(), areas, pieces);
         expect(&rt, &found.is_none(), &true, row);
     }
 }
@@ -137,10 +132,13 @@ fn shares_an_area(rt: HostRuntime) {
 /// Two narrow Y fit in an area, and neither three nor a million do, which is known within 160 steps.
 #[test]
 fn knows_of_a_million(rt: HostRuntime) {
-    for (pieces, want) in [(2, true), (3, false), (1_000_000, false)] {
-        let found = takes(rt.alloc(), pieces).ok();
-        expect(&rt, &found, &Some(want), pieces);
-    }
+    let alloc = rt.alloc();
+    let found = [
+        takes(&rt, alloc, 2),
+        takes(&rt, alloc, 3),
+        takes(&rt, alloc, 1_000_000),
+    ];
+    expect(&rt, &found, &[true, false, false], "2, 3 and a million");
 }
 
 /// A table: on each line the distances, the spill order, and what is spilled.
@@ -162,8 +160,8 @@ const SPILLS: [(&[Option<u32>], &[u32], &[u32]); 3] = spills! {
 #[test]
 fn spills_the_furthest(rt: HostRuntime) {
     for (row, (distances, order, removed)) in SPILLS.iter().enumerate() {
-        let found = spilled_at(&rt, rt.alloc(), distances).expect(&rt, "memory");
-        let found = (found.0.as_slice(), found.1.as_slice());
+        let (found, spilled) = spilled_at(&rt, rt.alloc(), distances).expect(&rt, "memory");
+        let found = (found.as_slice(), spilled.as_slice());
         expect(&rt, &found, &(*order, *removed), row);
     }
 }

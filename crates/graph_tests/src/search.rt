@@ -7,16 +7,6 @@ use puzzle_board::{Area, Column, Columns, Kind, Piece, Spot};
 use std::alloc::Global;
 use std::process::Abort;
 
-/// The kinds and widths of pieces.
-const CLASSES: [(Kind, Width); 6] = [
-    (Kind::X, Width::One),
-    (Kind::X, Width::Two),
-    (Kind::Y, Width::One),
-    (Kind::Y, Width::Two),
-    (Kind::Z, Width::One),
-    (Kind::Z, Width::Two),
-];
-
 /// The cells of an area are bits: 1 and 2 the upper and the lower row of the low column, 4 and 8 those of the high one.
 /// The sets of cells that a piece may take.
 fn choices(kind: Kind, width: Width) -> [u8; 2] {
@@ -108,7 +98,7 @@ fn expect_agreement(
     pieces: &[Piece],
 ) {
     let want = has_place(free, pieces, 0);
-    let agrees = match spots(rt, alloc, areas, pieces).expect(rt, "memory") {
+    let agrees = match spots(rt, alloc, areas, pieces) {
         Some(found) => want && is_legal(free, pieces, &found),
         None => !want,
     };
@@ -123,26 +113,32 @@ fn expect_agreement(
 /// The solver agrees with the search on up to three pieces.
 fn agrees_on_pieces(rt: &impl Abort, alloc: Global, free: [u8; 2], areas: &[Area]) {
     expect_agreement(rt, alloc, free, areas, &[]);
-    for (first, a) in CLASSES.iter().enumerate() {
-        let one = piece(*a);
-        expect_agreement(rt, alloc, free, areas, &[one]);
-        for (second, b) in CLASSES.iter().enumerate() {
-            let two = piece(*b);
-            if second >= first {
-                expect_agreement(rt, alloc, free, areas, &[one, two]);
-                for c in CLASSES.iter().skip(second) {
-                    expect_agreement(rt, alloc, free, areas, &[one, two, piece(*c)]);
-                }
+    for a in 0..6 {
+        let first = piece(a);
+        expect_agreement(rt, alloc, free, areas, &[first]);
+        for b in a..6 {
+            let second = piece(b);
+            expect_agreement(rt, alloc, free, areas, &[first, second]);
+            for c in b..6 {
+                expect_agreement(rt, alloc, free, areas, &[first, second, piece(c)]);
             }
         }
     }
 }
 
-/// A piece of a variable.
-fn piece(class: (Kind, Width)) -> Piece {
+/// A piece of one of the three kinds and two widths, in the order X1, X2, Y1, Y2, Z1, Z2.
+fn piece(class: u8) -> Piece {
     Piece {
-        kind: class.0,
-        width: class.1,
+        kind: match class / 2 {
+            0 => Kind::X,
+            1 => Kind::Y,
+            _ => Kind::Z,
+        },
+        width: if class % 2 == 0 {
+            Width::One
+        } else {
+            Width::Two
+        },
         var: 0,
     }
 }

@@ -6,7 +6,8 @@ ghost use Rattle.graph_tests.specs.Narrow.{narrow_of};
 
 use pcc_base::{NoMemory, Steps, Width};
 use puzzle_board::{Area, Board, Column, Kind, Piece, Spot};
-use puzzle_solver::{Candidate, fit, solve, spill_order};
+use puzzle_choices::{Candidate, spill_order};
+use puzzle_solver::{fit, solve};
 use std::alloc::Global;
 use std::marker::Brand;
 use std::process::Abort;
@@ -57,9 +58,9 @@ pub(crate) fn spots(
     alloc: Global,
     areas: &[Area],
     pieces: &[Piece],
-) -> Result<Option<Vec<Option<Spot>>>, NoMemory> {
+) -> Option<Vec<Option<Spot>>> {
     assert!(rt; areas.len() <= 16 && pieces.len() <= 16);
-    spots_with::<Brand>(alloc, areas, pieces, Blank::new(1))
+    spots_with::<Brand>(alloc, areas, pieces, Blank::new(1)).expect(rt, "memory")
 }
 
 /// A board of one empty area and so many pieces Y of width One, each of its own variable.
@@ -99,8 +100,8 @@ fn takes_counted<L: Ledger>(alloc: Global, pieces: u32, blank: Blank) -> Result<
 }
 
 /// Whether an empty area takes so many pieces Y of width One.
-pub(crate) fn takes(alloc: Global, pieces: u32) -> Result<bool, NoMemory> {
-    takes_counted::<Brand>(alloc, pieces, Blank::new(1))
+pub(crate) fn takes(rt: &impl Abort, alloc: Global, pieces: u32) -> bool {
+    takes_counted::<Brand>(alloc, pieces, Blank::new(1)).expect(rt, "memory")
 }
 
 /// Four empty areas, and a piece Y of width One for each of these variables.

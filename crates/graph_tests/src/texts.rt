@@ -29,9 +29,19 @@ fn solved_with<L: Ledger>(
     Ok(Some(print_placement(alloc, &board)?))
 }
 
-fn solved(rt: &impl Abort, alloc: Global, text: &[u8]) -> Result<Option<Vec<u8>>, BoardRefusal> {
-    assert!(rt; text.len() <= 1000);
-    solved_with::<Brand>(alloc, text, Blank::new(1))
+/// Each text of a board gives the text of its placement, or that it has none or is no board.
+fn expect_answers(rt: &impl Abort, alloc: Global, rows: &[(&[u8], &[u8])]) {
+    for (row, (text, want)) in rows.iter().enumerate() {
+        assert!(rt; text.len() <= 1000);
+        let found = solved_with::<Brand>(alloc, text, Blank::new(1));
+        let answer = match &found {
+            Ok(Some(placement)) => placement.as_slice(),
+            Ok(None) => b"no placement",
+            Err(BoardRefusal::BadBoard) => b"no board",
+            Err(_) => b"no memory",
+        };
+        expect(rt, &answer, want, row);
+    }
 }
 
 /// Texts of boards, and those of their placements.
@@ -45,43 +55,35 @@ const PLACED: [(&[u8], &[u8]); 3] = [
 ];
 
 /// Texts of boards without a placement.
-const NONE: [&[u8]; 2] = [
-    b"areas\npieces X1\n",
-    b"areas bb bb bb bb\npieces X2 Z2 Y1 Y1 Y1 Y1 Y1 Y1 Y1\n",
+const NONE: [(&[u8], &[u8]); 2] = [
+    (b"areas\npieces X1\n", b"no placement"),
+    (
+        b"areas bb bb bb bb\npieces X2 Z2 Y1 Y1 Y1 Y1 Y1 Y1 Y1\n",
+        b"no placement",
+    ),
 ];
 
 /// Texts of no board.
-const BAD: [&[u8]; 6] = [
-    b"areas b\npieces\n",
-    b"areas bb\npieces X3\n",
-    b"areas  bb\npieces\n",
-    b"areas bb\npieces X1",
-    b"areas bb\npieces X1\n\n",
-    b"",
+const BAD: [(&[u8], &[u8]); 6] = [
+    (b"areas b\npieces\n", b"no board"),
+    (b"areas bb\npieces X3\n", b"no board"),
+    (b"areas  bb\npieces\n", b"no board"),
+    (b"areas bb\npieces X1", b"no board"),
+    (b"areas bb\npieces X1\n\n", b"no board"),
+    (b"", b"no board"),
 ];
 
 #[test]
 fn places_what_a_text_has(rt: HostRuntime) {
-    for (row, (text, want)) in PLACED.iter().enumerate() {
-        let Ok(Some(found)) = solved(&rt, rt.alloc(), text) else {
-            panic!(rt; "no placement in row {row}");
-        };
-        expect(&rt, &found.as_slice(), want, row);
-    }
+    expect_answers(&rt, rt.alloc(), &PLACED);
 }
 
 #[test]
 fn knows_texts_of_none(rt: HostRuntime) {
-    for (row, text) in NONE.iter().enumerate() {
-        let none = matches!(solved(&rt, rt.alloc(), text), Ok(None));
-        expect(&rt, &none, &true, row);
-    }
+    expect_answers(&rt, rt.alloc(), &NONE);
 }
 
 #[test]
 fn refuses_texts_of_no_board(rt: HostRuntime) {
-    for (row, text) in BAD.iter().enumerate() {
-        let refused = matches!(solved(&rt, rt.alloc(), text), Err(BoardRefusal::BadBoard));
-        expect(&rt, &refused, &true, row);
-    }
+    expect_answers(&rt, rt.alloc(), &BAD);
 }

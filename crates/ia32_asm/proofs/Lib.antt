@@ -8,3 +8,5 @@ pub mod Relocating
 pub mod Resolving
 pub mod Sectioning
 pub mod Assembling
+pub mod Operands
+pub mod SpelledOperands

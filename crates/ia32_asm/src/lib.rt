@@ -3,12 +3,20 @@
 //!
 //! Wherever the section stands, and whatever addresses its targets have, its bytes with the words for
 //! them are a text of the items (`specs/Sections.antt`, `IsSection`). `specs/Pieces.antt` has inner words only.
+//!
+//! `encode` is the encoder. In goes an instruction that has a spelling, out come its bytes: those of the preferred
+//! spelling of `specs/Preferred.antt` of `ia32_insn`, which is a spelling by `specs/Spelling.antt`. No memory is taken.
 #![tactic(auto)]
 
 mod assembly;
+mod fields;
+mod numbers;
 mod offsets;
 mod piece;
+mod rows;
 mod section;
+mod spelling;
 
 pub use assembly::assemble;
 pub use section::{Relocation, Section, Symbol, Target};
+pub use spelling::encode;

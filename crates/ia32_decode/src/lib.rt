@@ -1,14 +1,10 @@
 //! Reading instructions: in go bytes, out comes the instruction whose spelling begins them.
 //!
 //! It is found exactly where there is one, by the definition of spelling of `ia32_insn`. The opcode says what
-//! follows it (`one_byte`, `two_byte`), the fields are read, which are the operand that ModRM, SIB and a
-//! displacement name and immediate numbers (`fields`, as `specs/Reading.antt` of `ia32_insn` has it), and the
-//! opcode makes an instruction of them (`rows`). `numbers` has the registers, conditions and operations by their
-//! numbers.
+//! follows it (`one_byte`, `two_byte`), the fields are read (`ia32_fields`, as `specs/Reading.antt` of `ia32_insn`
+//! has it), and the opcode makes an instruction of them (`rows`).
 #![tactic(auto)]
 
-mod fields;
-mod numbers;
 mod one_byte;
 mod rows;
 mod two_byte;
@@ -17,9 +13,7 @@ ghost use Rattle.std.specs.Prelude.{◌≡◌, ◌≤◌, IfSome, IfNone};
 ghost use Rattle.ia32_insn.specs.Spelling.{Begins, NoneBegins};
 ghost use Rattle.ia32_insn.specs.Reading.{read_insn};
 
-pub use fields::{byte_at, fields8, fields32, signed_at};
 use ia32_insn::Insn;
-pub use numbers::{byte_register_of, condition_of, operation_of, register_of, shift_of};
 
 /// The instruction that begins the bytes, by its opcode.
 #[tactic(auto, unfolding(ia32_insn::specs::Reading::read_insn))]

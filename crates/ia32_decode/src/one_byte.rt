@@ -20,7 +20,8 @@ ghost use Rattle.ia32_insn.specs.Reading.{
   read_opcode,
 };
 
-use crate::{byte_at, fields8, fields32, rows, shift_of, signed_at, two_byte};
+use crate::{rows, two_byte};
+use ia32_fields::{byte_at, fields8, fields32, shift_of, signed_at};
 use ia32_insn::Insn;
 
 /// Nothing follows the opcode.

@@ -7,8 +7,6 @@ ghost use Rattle.ia32_insn.specs.Reading.{
   byte_insn,
   short_insn,
   long_insn,
-  mov_from,
-  mov8_from,
   alu_from,
   lea_from,
   alu_insn,
@@ -21,9 +19,9 @@ ghost use Rattle.ia32_insn.specs.Reading.{
   sixteen_insn,
 };
 
-use crate::{byte_register_of, condition_of, operation_of, register_of, shift_of};
+use ia32_fields::{byte_register_of, condition_of, mov, mov8, operation_of, register_of, shift_of};
 use ia32_insn::{AluOp, Insn, Rm8, Rm32};
-use ia32_regs::{Reg8, Reg32};
+use ia32_regs::Reg32;
 
 /// No fields: PUSH r32, POP r32, NOP, CDQ, RET, LEAVE.
 #[tactic(auto, unfolding(ia32_insn::specs::Reading::lone_insn))]
@@ -76,26 +74,6 @@ pub fn of_long(opcode: u8, number: i32) -> Option<Insn>
         0xE8 => Some(Insn::Call(number)),
         0xE9 => Some(Insn::Jmp(number)),
         _ => None,
-    }
-}
-
-/// MOV r32, r/m32, with the destination in the reg field.
-fn mov(to: Reg32, operand: Rm32) -> Insn
-    ensures { result ≡ mov_from to operand }
-{
-    match operand {
-        Rm32::Reg(source) => Insn::Mov(Rm32::Reg(to), source),
-        Rm32::Mem(memory) => Insn::MovLoad(to, memory),
-    }
-}
-
-/// MOV r8, r/m8, with the destination in the reg field.
-fn mov8(to: Reg8, operand: Rm8) -> Insn
-    ensures { result ≡ mov8_from to operand }
-{
-    match operand {
-        Rm8::Reg(source) => Insn::Mov8(Rm8::Reg(to), source),
-        Rm8::Mem(memory) => Insn::Mov8Load(to, memory),
     }
 }
 

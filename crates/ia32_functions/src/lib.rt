@@ -7,6 +7,5 @@ mod blocks;
 mod function;
 mod ops;
 mod rows;
-mod site;
 
 pub use function::select_function;

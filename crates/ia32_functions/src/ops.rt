@@ -3,12 +3,9 @@
 ghost use Rattle.std.specs.Prelude.{◌≡◌, ◌<◌, ◌^◌, ◌++◌, OnOk};
 ghost use Rattle.flow_graph.specs.Sizes.{words_of};
 ghost use Rattle.ia32_rows.specs.Rows.{loop_label, row};
-ghost use Rattle.ia32_functions.specs.Sites.{flow_of, placement_of};
+ghost use Rattle.ia32_sites.specs.Sites.{flow_of, placement_of};
 
-use crate::rows::{
-    branch, call, clear, commuting, difference, division, load, product, set, shift, store,
-};
-use crate::site::{Site, array_at, at};
+use crate::rows::{call, clear, commuting, difference, division, load, product, set, shift, store};
 use flow_graph::Op;
 use ia32_emit::{emit, emit_copy, emit_number};
 use ia32_emit_accesses::{emit_frame_array, emit_get, emit_put, emit_static};
@@ -18,6 +15,7 @@ use ia32_emit_values::{
 };
 use ia32_insn::{AluOp, Insn, Item, ShiftOp};
 use ia32_regs::Reg32;
+use ia32_sites::{Site, array_at, at, branch};
 use pcc_base::NoMemory;
 
 /// The items of the op of a point.

@@ -2,20 +2,20 @@
 
 ghost use Rattle.std.specs.Prelude.{◌≡◌, ◌<◌, ◌^◌, ◌++◌, OnOk, length, map, option_map, slice_index_or};
 ghost use Rattle.ia32_insn.specs.declared.insn.AluOp.TheVariants as alu;
-ghost use Rattle.ia32_rows.specs.Rows.{branching, call_row, clear_row, commuting, dividing, load_row, loop_label};
+ghost use Rattle.ia32_rows.specs.Rows.{call_row, clear_row, commuting, dividing, load_row, loop_label};
 ghost use Rattle.ia32_rows.specs.Rows.{multiplying, operation, setting, shifting, size_of, store_row};
 ghost use Rattle.ia32_emit.specs.Locations.{slots_of};
-ghost use Rattle.ia32_functions.specs.Sites.{flow_of, place_of_variable};
+ghost use Rattle.ia32_sites.specs.Sites.{flow_of, place_of_variable};
 
 use crate::arrays::emit_clear;
-use crate::site::{Site, all_at, any_at, array_at, array_of, at, loop_label};
 use flow_graph::{Bits, Comparison, Words};
 use ia32_emit::{emit_commuting, emit_operation};
 use ia32_emit_accesses::{emit_load, emit_store};
 use ia32_emit_calls::emit_call;
-use ia32_emit_values::{emit_branch, emit_division, emit_product, emit_set, emit_shift};
+use ia32_emit_values::{emit_division, emit_product, emit_set, emit_shift};
 use ia32_insn::{AluOp, Item, ShiftOp};
 use ia32_regs::Reg32;
+use ia32_sites::{Site, all_at, any_at, array_at, array_of, at, loop_label};
 use pcc_base::NoMemory;
 
 /// An operation on two variables that commute.
@@ -116,22 +116,6 @@ pub fn set(
         (place_of_variable site.now second.now)) }
 {
     emit_set(out, how, at(site, to), at(site, first), at(site, second))
-}
-
-/// To one block where two variables compare so, to the other where they don't.
-pub fn branch(
-    out: &mut Vec<Item>,
-    site: &Site<'_>,
-    how: Comparison,
-    first: &u32,
-    second: &u32,
-    taken: u32,
-    other: u32,
-) -> Result<(), NoMemory>
-    ensures { OnOk result (out.new.items ≡ out.old.items
-        ++ branching how (place_of_variable site.now first.now) (place_of_variable site.now second.now) taken other) }
-{
-    emit_branch(out, how, at(site, first), at(site, second), taken, other)
 }
 
 /// An element of an array to a variable.

@@ -58,7 +58,7 @@ pub(crate) fn perform<I: Source, O: Sink>(
         return Ok(());
     }
     let address = processor.eip();
-    match processor.perform(insn, after) {
+    match ia32_instructions::perform(processor, insn, after) {
         Ok(()) => Ok(()),
         Err(halt) => Err(end_at(address, halt)),
     }

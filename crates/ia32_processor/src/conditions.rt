@@ -5,6 +5,7 @@ use ia32_insn::{Cond, Flags};
 
 /// Whether the condition holds (Intel manual, volume 1, appendix B). `None` where the flags are unknown,
 /// and for P and NP, since PF isn't kept.
+#[inline]
 pub fn holds(cond: Cond, flags: Option<Flags>) -> Option<bool>
     ensures { result ≡ arithmetic.holds cond flags }
 {

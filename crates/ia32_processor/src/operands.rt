@@ -9,7 +9,8 @@ use ia32_insn::{Mem, Rm8, Rm32};
 use ia32_regs::Reg32;
 
 /// The two lowest bytes of a word.
-pub(crate) fn low16(word: u32) -> u16
+#[inline]
+pub fn low16(word: u32) -> u16
     ensures { result ≡ word % 2 ^ 16 }
 {
     (word % 0x1_0000) as u16
@@ -38,7 +39,7 @@ impl Processor {
 
     /// The address of a memory operand (Intel manual, volume 1, section 3.7.5).
     #[inline(always)]
-    pub(crate) fn address_of(&self, m: &Mem) -> u32
+    pub fn address_of(&self, m: &Mem) -> u32
         ensures { result ≡ meaning.address_of m.now self.now }
     {
         let base = self.base_value(m.base);
@@ -49,7 +50,7 @@ impl Processor {
 
     /// The value of an operand of 32 bits.
     #[inline(always)]
-    pub(crate) fn read32(&self, operand: &Rm32) -> Result<u32, Halt>
+    pub fn read32(&self, operand: &Rm32) -> Result<u32, Halt>
         ensures { meaning.read32 operand.now self.now ≡ answer_of self.now result }
     {
         match *operand {
@@ -60,7 +61,7 @@ impl Processor {
 
     /// Changes an operand of 32 bits.
     #[inline(always)]
-    pub(crate) fn write32(&mut self, operand: &Rm32, value: u32) -> Result<(), Halt>
+    pub fn write32(&mut self, operand: &Rm32, value: u32) -> Result<(), Halt>
         ensures { Leaves (meaning.write32 operand.now value self.old) self.old self.new result }
     {
         match *operand {
@@ -73,7 +74,8 @@ impl Processor {
     }
 
     /// The value of an operand of 16 bits.
-    pub(crate) fn read16(&self, operand: &Rm32) -> Result<u16, Halt>
+    #[inline]
+    pub fn read16(&self, operand: &Rm32) -> Result<u16, Halt>
         ensures { meaning.read16 operand.now self.now ≡ answer_of self.now result }
     {
         match *operand {
@@ -83,7 +85,8 @@ impl Processor {
     }
 
     /// Changes an operand of 16 bits.
-    pub(crate) fn write16(&mut self, operand: &Rm32, value: u16) -> Result<(), Halt>
+    #[inline]
+    pub fn write16(&mut self, operand: &Rm32, value: u16) -> Result<(), Halt>
         ensures { Leaves (meaning.write16 operand.now value self.old) self.old self.new result }
     {
         match *operand {
@@ -96,7 +99,8 @@ impl Processor {
     }
 
     /// The value of an operand of 8 bits.
-    pub(crate) fn read8(&self, operand: &Rm8) -> Result<u8, Halt>
+    #[inline]
+    pub fn read8(&self, operand: &Rm8) -> Result<u8, Halt>
         ensures { meaning.read8 operand.now self.now ≡ answer_of self.now result }
     {
         match *operand {
@@ -106,7 +110,8 @@ impl Processor {
     }
 
     /// Changes an operand of 8 bits.
-    pub(crate) fn write8(&mut self, operand: &Rm8, value: u8) -> Result<(), Halt>
+    #[inline]
+    pub fn write8(&mut self, operand: &Rm8, value: u8) -> Result<(), Halt>
         ensures { Leaves (meaning.write8 operand.now value self.old) self.old self.new result }
     {
         match *operand {

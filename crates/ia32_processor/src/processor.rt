@@ -63,6 +63,7 @@ impl Processor {
     }
 
     /// The address of the next instruction.
+    #[inline]
     pub fn eip(&self) -> u32
         ensures value { result ≡ self.now.eip }
         ensures bare { self.now ≡ bare_of self.now }
@@ -71,6 +72,7 @@ impl Processor {
     }
 
     /// The next instruction is at this address.
+    #[inline]
     pub fn set_eip(&mut self, address: u32)
         ensures { self.new ≡ state.at_address address self.old }
     {
@@ -86,20 +88,23 @@ impl Processor {
     }
 
     /// The flags, where they are known.
-    pub(crate) fn flags(&self) -> Option<Flags>
+    #[inline]
+    pub fn flags(&self) -> Option<Flags>
         ensures { result ≡ self.now.flags }
     {
         self.flags
     }
 
     /// The flags become these, or unknown.
-    pub(crate) fn set_flags(&mut self, flags: Option<Flags>)
+    #[inline]
+    pub fn set_flags(&mut self, flags: Option<Flags>)
         ensures { self.new ≡ with_flags flags self.old }
     {
         self.flags = flags;
     }
 
     /// The value of a register of 32 bits.
+    #[inline]
     pub fn word(&self, r: Reg32) -> u32
         ensures { result ≡ word_of r self.now }
     {
@@ -107,6 +112,7 @@ impl Processor {
     }
 
     /// Changes a register of 32 bits.
+    #[inline]
     pub fn set_word(&mut self, r: Reg32, value: u32)
         ensures { self.new ≡ with_word r value self.old }
     {
@@ -114,14 +120,16 @@ impl Processor {
     }
 
     /// The value of a register of 8 bits.
-    pub(crate) fn byte(&self, r: Reg8) -> u8
+    #[inline]
+    pub fn byte(&self, r: Reg8) -> u8
         ensures { result ≡ byte_of r self.now }
     {
         self.registers.get8(r)
     }
 
     /// Changes a register of 8 bits.
-    pub(crate) fn set_byte(&mut self, r: Reg8, value: u8)
+    #[inline]
+    pub fn set_byte(&mut self, r: Reg8, value: u8)
         ensures { self.new ≡ with_byte r value self.old }
     {
         self.registers.set8(r, value);
@@ -145,21 +153,24 @@ impl Processor {
     }
 
     /// The byte at an address.
-    pub(crate) fn load8(&self, address: u32) -> Result<u8, Halt>
+    #[inline]
+    pub fn load8(&self, address: u32) -> Result<u8, Halt>
         ensures { load 1 address self.now ≡ answer_of self.now result }
     {
         self.memory.load8(address).ok_or(denied(address))
     }
 
     /// The number in two bytes, the lowest first.
-    pub(crate) fn load16(&self, address: u32) -> Result<u16, Halt>
+    #[inline]
+    pub fn load16(&self, address: u32) -> Result<u16, Halt>
         ensures { load 2 address self.now ≡ answer_of self.now result }
     {
         self.memory.load16(address).ok_or(denied(address))
     }
 
     /// The number in four bytes, the lowest first.
-    pub(crate) fn load32(&self, address: u32) -> Result<u32, Halt>
+    #[inline]
+    pub fn load32(&self, address: u32) -> Result<u32, Halt>
         ensures { load 4 address self.now ≡ answer_of self.now result }
     {
         self.memory.load32(address).ok_or(denied(address))
@@ -177,7 +188,8 @@ impl Processor {
     }
 
     /// Changes two bytes, the lowest first.
-    pub(crate) fn store16(&mut self, address: u32, value: u16) -> Result<(), Halt>
+    #[inline]
+    pub fn store16(&mut self, address: u32, value: u16) -> Result<(), Halt>
         ensures { Leaves (store 2 address value self.old) self.old self.new result }
     {
         if self.memory.store16(address, value) {
@@ -189,7 +201,7 @@ impl Processor {
 
     /// Changes four bytes, the lowest first.
     #[inline(always)]
-    pub(crate) fn store32(&mut self, address: u32, value: u32) -> Result<(), Halt>
+    pub fn store32(&mut self, address: u32, value: u32) -> Result<(), Halt>
         ensures { Leaves (store 4 address value self.old) self.old self.new result }
     {
         if self.memory.store32(address, value) {

@@ -17,6 +17,7 @@ pub fn shift(op: ShiftOp, a: u32, count: u8) -> u32
 }
 
 /// The lowest 32 bits of the product, signed or not (IMUL).
+#[inline]
 pub fn product(a: u32, b: u32) -> u32
     ensures { result ≡ arithmetic.product a b }
 {
@@ -24,6 +25,7 @@ pub fn product(a: u32, b: u32) -> u32
 }
 
 /// Every bit turned over (NOT).
+#[inline]
 pub fn complement(a: u32) -> u32
     ensures { result ≡ arithmetic.complement a }
 {
@@ -31,6 +33,7 @@ pub fn complement(a: u32) -> u32
 }
 
 /// The difference of 0 and the word (NEG).
+#[inline]
 pub fn negation(a: u32) -> u32
     ensures { result ≡ arithmetic.negation a }
 {
@@ -38,6 +41,7 @@ pub fn negation(a: u32) -> u32
 }
 
 /// The sign bit in every bit (CDQ).
+#[inline]
 pub fn sign_word(a: u32) -> u32
     ensures { result ≡ arithmetic.sign_word a }
 {
@@ -45,6 +49,7 @@ pub fn sign_word(a: u32) -> u32
 }
 
 /// A byte as a signed number, in 32 bits (MOVSX).
+#[inline]
 pub fn sign_extend8(n: u8) -> u32
     ensures { result ≡ arithmetic.extended8 n }
 {
@@ -52,6 +57,7 @@ pub fn sign_extend8(n: u8) -> u32
 }
 
 /// Two bytes as a signed number, in 32 bits (MOVSX).
+#[inline]
 pub fn sign_extend16(n: u16) -> u32
     ensures { result ≡ arithmetic.extended16 n }
 {

@@ -28,7 +28,7 @@ use Rattle.flow_graph.specs.declared.op.Bits.{Bits}
 use Rattle.flow_graph.specs.declared.op.Bits.TheVariants.{Eight, Sixteen, ThirtyTwo}
 use Rattle.flow_graph.specs.Meaning.{bytes_of}
 use Rattle.graph_states.proofs.Numbers.{signed-fits}
-use Rattle.ia32_encode.specs.Parts.{IsInRange, IsIndex, IsIndexed}
+use Rattle.ia32_asm.specs.Parts.{IsInRange, IsIndex, IsIndexed}
 use Rattle.ia32_rows.specs.Placements.{below}
 use Rattle.ia32_rows.specs.Rows.{scratch, read, write, operate, working, has_operand, target_of, number_row, copy_row}
 use Rattle.ia32_rows.specs.Rows.{operation, commuting, pass, multiply, multiplying, changing, low_byte, extend}

@@ -28,7 +28,7 @@ use Rattle.flow_graph.specs.Meaning.{bytes_of}
 use Rattle.flow_graph.specs.Sizes.{words_of}
 use Rattle.flow_graph.specs.WellFormed.{NamesWithin}
 use Rattle.flow_graph.proofs.Points.{every-map}
-use Rattle.ia32_encode.specs.Parts.{IsInRange, IsIndex, IsIndexed}
+use Rattle.ia32_asm.specs.Parts.{IsInRange, IsIndex, IsIndexed}
 use Rattle.ia32_asm.specs.Sections.{Stands, items_size}
 use Rattle.ia32_asm.proofs.Laying.{items_size-append}
 use Rattle.ia32_rows.specs.Filling.{fill}

@@ -14,7 +14,7 @@ use Rattle.flow_graph.specs.Graphs.{LastIsEnd, points_of}
 use Rattle.flow_graph.specs.Sizes.{most_words, words_of}
 use Rattle.flow_graph.specs.WellFormed.{IsGraph, NamesWithin}
 use Rattle.flow_graph.proofs.Points.{every-in}
-use Rattle.ia32_encode.proofs.Spelled.{spelling-indexed}
+use Rattle.ia32_asm.proofs.SpelledOperands.{spelling-indexed}
 use Rattle.ia32_asm.specs.declared.section.Target.{Target}
 use Rattle.ia32_asm.specs.declared.section.Target.TheVariants as target
 use Rattle.ia32_asm.specs.Sections.{HasLabel, IsSpelled, Stands, items_size, object_target, target_of}

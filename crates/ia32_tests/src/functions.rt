@@ -4,25 +4,12 @@ ghost use Rattle.std.specs.Prelude.{◌≡◌, ◌<◌, length};
 ghost use Rattle.flow_graph.specs.Graphs.{with_op, FitsOp, IsEnded};
 
 use crate::expected::expect;
+use crate::rows::expect_printed;
 use flow_graph::{Comparison, Graph, Op, Words};
 use ia32_frames::{Frame, frames_support, offsets_are_below};
 use ia32_functions::select_function;
-use ia32_insn::Insn::{Alu, AluImm, AluLoad, Lea, Leave, Mov, MovImm, MovLoad, Push, Ret};
-use ia32_insn::Item::{
-    self, AddressOf, CallFunction, JumpIf, JumpTo, JumpTrap, Label, Plain, Point,
-};
-use ia32_insn::Rm32::{Mem as Memory, Reg};
-use ia32_insn::{AluOp, Cond, Mem};
-use ia32_regs::Reg32::{Eax, Ebp, Ebx, Edi, Esi, Esp};
 use pcc_base::Width;
 use std::process::Abort;
-
-/// The memory at a distance from the address in a register.
-macro_rules! at {
-    ($register:ident $distance:literal) => {
-        Mem { base: Some($register), index: None, disp: $distance }
-    };
-}
 
 /// Makes a point with this op at the end of a block.
 fn append(rt: &impl Abort, graph: &mut Graph, block: u32, op: Op)
@@ -37,55 +24,56 @@ fn append(rt: &impl Abort, graph: &mut Graph, block: u32, op: Op)
 
 /// Variable 0 stands 20 below EBP. The array has three elements of two bytes, which take two words, from 28 below EBP
 /// on, and their number stands before them. The loop of the first items has the label behind those of the blocks, and
-/// the loop of point 1 the second behind that.
-const ITEMS: [Item; 46] = [
-    Plain(Push(Reg(Ebp))),
-    Plain(Mov(Reg(Ebp), Esp)),
-    Plain(Push(Reg(Ebx))),
-    Plain(Push(Reg(Esi))),
-    Plain(Push(Reg(Edi))),
-    Plain(Lea(Esp, at!(Ebp - 32))),
-    Plain(MovImm(Reg(Esi), 0)),
-    Plain(Lea(Edi, at!(Ebp - 12))),
-    Label(2),
-    Plain(AluImm(AluOp::Sub, Reg(Edi), 4)),
-    Plain(Mov(Memory(at!(Edi 0)), Esi)),
-    Plain(Alu(AluOp::Cmp, Reg(Edi), Esp)),
-    JumpIf(Cond::Ne, 2),
-    Plain(MovImm(Memory(at!(Ebp - 32)), 3)),
-    Label(0),
-    Point(0),
-    AddressOf(Esi, 0xffff_ffff),
-    Plain(AluImm(AluOp::Cmp, Memory(at!(Esi 0)), 4096)),
-    JumpTrap(Some(Cond::Ae)),
-    Plain(AluImm(AluOp::Add, Memory(at!(Esi 0)), 1)),
-    Plain(Push(Memory(at!(Ebp - 20)))),
-    CallFunction(3),
-    Plain(Lea(Esp, at!(Esp 4))),
-    AddressOf(Esi, 0xffff_ffff),
-    Plain(AluImm(AluOp::Sub, Memory(at!(Esi 0)), 1)),
-    Plain(Mov(Memory(at!(Ebp - 20)), Eax)),
-    Point(1),
-    Plain(Lea(Edi, at!(Ebp - 28))),
-    Plain(Lea(Esi, at!(Ebp - 20))),
-    Label(4),
-    Plain(AluImm(AluOp::Sub, Reg(Esi), 4)),
-    Plain(MovImm(Memory(at!(Esi 0)), 0)),
-    Plain(Alu(AluOp::Cmp, Reg(Esi), Edi)),
-    JumpIf(Cond::Ne, 4),
-    Point(2),
-    Plain(MovLoad(Esi, at!(Ebp - 20))),
-    Plain(AluLoad(AluOp::Cmp, Esi, at!(Ebp - 20))),
-    JumpIf(Cond::L, 1),
-    JumpTo(0),
-    Label(1),
-    Point(3),
-    Plain(MovLoad(Ebx, at!(Ebp - 4))),
-    Plain(MovLoad(Esi, at!(Ebp - 8))),
-    Plain(MovLoad(Edi, at!(Ebp - 12))),
-    Plain(Leave),
-    Plain(Ret),
-];
+/// the loop of point 1 the second behind that. Each item stands on a line as `{:?}` prints it; object 4294967295 is the
+/// depth word.
+const ITEMS: &str = "\
+Plain(Push(Reg(Ebp)))
+Plain(Mov(Reg(Ebp), Esp))
+Plain(Push(Reg(Ebx)))
+Plain(Push(Reg(Esi)))
+Plain(Push(Reg(Edi)))
+Plain(Lea(Esp, Mem { base: Some(Ebp), index: None, disp: -32 }))
+Plain(MovImm(Reg(Esi), 0))
+Plain(Lea(Edi, Mem { base: Some(Ebp), index: None, disp: -12 }))
+Label(2)
+Plain(AluImm(Sub, Reg(Edi), 4))
+Plain(Mov(Mem(Mem { base: Some(Edi), index: None, disp: 0 }), Esi))
+Plain(Alu(Cmp, Reg(Edi), Esp))
+JumpIf(Ne, 2)
+Plain(MovImm(Mem(Mem { base: Some(Ebp), index: None, disp: -32 }), 3))
+Label(0)
+Point(0)
+AddressOf(Esi, 4294967295)
+Plain(AluImm(Cmp, Mem(Mem { base: Some(Esi), index: None, disp: 0 }), 4096))
+JumpTrap(Some(Ae))
+Plain(AluImm(Add, Mem(Mem { base: Some(Esi), index: None, disp: 0 }), 1))
+Plain(Push(Mem(Mem { base: Some(Ebp), index: None, disp: -20 })))
+CallFunction(3)
+Plain(Lea(Esp, Mem { base: Some(Esp), index: None, disp: 4 }))
+AddressOf(Esi, 4294967295)
+Plain(AluImm(Sub, Mem(Mem { base: Some(Esi), index: None, disp: 0 }), 1))
+Plain(Mov(Mem(Mem { base: Some(Ebp), index: None, disp: -20 }), Eax))
+Point(1)
+Plain(Lea(Edi, Mem { base: Some(Ebp), index: None, disp: -28 }))
+Plain(Lea(Esi, Mem { base: Some(Ebp), index: None, disp: -20 }))
+Label(4)
+Plain(AluImm(Sub, Reg(Esi), 4))
+Plain(MovImm(Mem(Mem { base: Some(Esi), index: None, disp: 0 }), 0))
+Plain(Alu(Cmp, Reg(Esi), Edi))
+JumpIf(Ne, 4)
+Point(2)
+Plain(MovLoad(Esi, Mem { base: Some(Ebp), index: None, disp: -20 }))
+Plain(AluLoad(Cmp, Esi, Mem { base: Some(Ebp), index: None, disp: -20 }))
+JumpIf(L, 1)
+JumpTo(0)
+Label(1)
+Point(3)
+Plain(MovLoad(Ebx, Mem { base: Some(Ebp), index: None, disp: -4 }))
+Plain(MovLoad(Esi, Mem { base: Some(Ebp), index: None, disp: -8 }))
+Plain(MovLoad(Edi, Mem { base: Some(Ebp), index: None, disp: -12 }))
+Plain(Leave)
+Plain(Ret)
+";
 
 #[test]
 fn call_clear_and_branch(rt: HostRuntime) {
@@ -109,5 +97,9 @@ fn call_clear_and_branch(rt: HostRuntime) {
         frame.variables.as_slice(),
     )
     .expect(&rt, "the items");
-    expect(&rt, &items.as_slice(), &ITEMS.as_slice(), "items");
+    let counts = (items.len(), ITEMS.lines().count());
+    expect(&rt, &counts, &(46, 46), "how many items");
+    for (item, row) in items.iter().zip(ITEMS.lines()) {
+        expect_printed(&rt, rt.alloc(), item, row);
+    }
 }

@@ -2,7 +2,6 @@
 
 use crate::expected::expect;
 use elf_image::{Image, ImageRefusal, read_image, write_image};
-use pcc_base::NoMemory;
 use std::alloc::Global;
 use std::process::Abort;
 
@@ -21,18 +20,13 @@ const HEADERS: [u8; 116] = [
 ];
 
 /// The file of the instruction `hlt` and four bytes of data.
-fn halting_file(alloc: Global) -> Result<Vec<u8>, NoMemory> {
+fn halting(rt: &impl Abort, alloc: Global) -> Vec<u8> {
     let image = Image {
         entry: 0x0804_8000,
-        text: [0xf4u8].to_vec(alloc)?,
-        data_bytes: [0u8; 4].to_vec(alloc)?,
+        text: [0xf4u8].to_vec(alloc).expect(rt, "a text"),
+        data_bytes: [0u8; 4].to_vec(alloc).expect(rt, "data"),
     };
-    write_image(alloc, &image)
-}
-
-/// The same file.
-fn halting(rt: &impl Abort, alloc: Global) -> Vec<u8> {
-    halting_file(alloc).expect(rt, "the file")
+    write_image(alloc, &image).expect(rt, "the file")
 }
 
 #[test]
@@ -62,35 +56,26 @@ fn reads_what_is_written(rt: HostRuntime) {
     }
 }
 
-/// How long the file is made, and which of its bytes is made 9.
-const OTHERS: [(usize, Option<usize>); 9] = [
-    (0, None),
-    (51, None),
-    (115, None),
-    (8195, None),
-    (8196, Some(4)),
-    (8196, Some(16)),
-    (8196, Some(45)),
-    (8196, Some(63)),
-    (8196, Some(70)),
-];
-
-/// The file of this length, in which the byte of that number, if any, is 9, is no image.
-fn is_refused(alloc: Global, len: usize, changed: Option<usize>) -> Result<bool, NoMemory> {
-    let mut other = halting_file(alloc)?;
-    other.resize(len, 0)?;
-    if let Some(place) = changed {
-        if let Some(byte) = other.get_mut(place) {
-            *byte = 9;
-        }
-    }
-    Ok(matches!(read_image(alloc, &other), Err(ImageRefusal::NotImage)))
+/// The bytes, which this length or place is of, are no image.
+fn expect_refused(rt: &impl Abort, alloc: Global, bytes: &[u8], of: usize) {
+    let refused = matches!(read_image(alloc, bytes), Err(ImageRefusal::NotImage));
+    expect(rt, &refused, &true, of);
 }
 
+/// Refused are fronts of the file of these lengths, and the file where one of these bytes is 9.
 #[test]
 fn refuses_what_loads_nothing(rt: HostRuntime) {
-    for (row, (len, changed)) in OTHERS.iter().enumerate() {
-        let refused = is_refused(rt.alloc(), *len, *changed).ok();
-        expect(&rt, &refused, &Some(true), row);
+    let alloc = rt.alloc();
+    for length in [0, 51, 115, 8195] {
+        let mut file = halting(&rt, alloc);
+        file.truncate(length);
+        expect_refused(&rt, alloc, &file, length);
+    }
+    for place in [4, 16, 45, 63, 70] {
+        let mut file = halting(&rt, alloc);
+        if let Some(byte) = file.get_mut(place) {
+            *byte = 9;
+        }
+        expect_refused(&rt, alloc, &file, place);
     }
 }

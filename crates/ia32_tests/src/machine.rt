@@ -1,140 +1,71 @@
-//! How small texts end, by the Intel manual, volume 2, and what system calls take and write.
+//! How small texts end, by the Intel manual, volume 2, and what system calls take and write. An end is told as `{:?}`
+//! prints it, with addresses in decimal: the text begins at 134512640, which is 0x08048000.
 
 ghost use Rattle.std.specs.Prelude.{◌≤◌, length};
 
 use crate::expected::expect;
+use crate::rows::{bytes_of, cells, expect_printed, rows_of};
 use elf_image::{Loaded, Segment};
 use ia32_machine::{Machine, MachineEnd, StepEnd, Stop};
-use pcc_base::{NoMemory, Trap};
 use pcc_outside::{MemSink, MemSource, SureSink, SureSource};
 use std::alloc::Global;
 use std::process::Abort;
-use std::test::Fail;
 
 /// Where the text begins.
 const TEXT: u32 = 0x0804_8000;
 
-// Texts as GNU as assembles them. Below, the segment has 4096 bytes, from 0x08048000 on.
-
 /// MOV EAX, 1; MOV EBX, 300; INT 0x80.
 const EXIT: [u8; 12] = [0xB8, 1, 0, 0, 0, 0xBB, 44, 1, 0, 0, 0xCD, 0x80];
-/// MOV EAX, 0x11223344; MOV AH, 0x55; MOV EBX, EAX; SHR EBX, 8; exit.
-const HIGH_BYTE: &[u8] =
-    b"\xB8\x44\x33\x22\x11\xB4\x55\x89\xC3\xC1\xEB\x08\xB8\x01\x00\x00\x00\xCD\x80";
-/// MOV EAX, 0x11223344; MOV AH, 0x55; MOVZX EBX, AL; exit.
-const LOW_BYTE: &[u8] = b"\xB8\x44\x33\x22\x11\xB4\x55\x0F\xB6\xD8\xB8\x01\x00\x00\x00\xCD\x80";
-/// MOV EAX, 7; CDQ; IDIV EBX.
-const DIVIDE_BY_ZERO: &[u8] = b"\xB8\x07\x00\x00\x00\x99\xF7\xFB";
-/// MOV EAX, 0x80000000; CDQ; MOV EBX, -1; IDIV EBX.
-const QUOTIENT_TOO_LARGE: &[u8] = b"\xB8\x00\x00\x00\x80\x99\xBB\xFF\xFF\xFF\xFF\xF7\xFB";
-/// UD2.
-const CHECK: &[u8] = b"\x0F\x0B";
-/// SETE AL.
-const SET_FIRST: &[u8] = b"\x0F\x94\xC0";
-/// CMP EAX, EAX; SHL EAX, 2; SETE AL.
-const SET_AFTER_SHIFT: &[u8] = b"\x39\xC0\xC1\xE0\x02\x0F\x94\xC0";
-/// MOV EAX, 1; MOV ECX, 33; SHL EAX, CL; MOV EBX, EAX; exit.
-const SHIFT_BY_33: &[u8] =
-    b"\xB8\x01\x00\x00\x00\xB9\x21\x00\x00\x00\xD3\xE0\x89\xC3\xB8\x01\x00\x00\x00\xCD\x80";
-/// MOV ESP, 0x08048800; PUSH ESP; POP EBX; SUB EBX, 0x080487F0; exit.
-const PUSH_ESP: &[u8] =
-    b"\xBC\x00\x88\x04\x08\x54\x5B\x81\xEB\xF0\x87\x04\x08\xB8\x01\x00\x00\x00\xCD\x80";
-/// PUSH ESP, where ESP is 0.
-const PUSH_OUTSIDE: &[u8] = b"\x54";
-/// MOV EBX, [0].
-const LOAD_OUTSIDE: &[u8] = b"\x8B\x1D\x00\x00\x00\x00";
-/// The sum of 4, 3, 2 and 1 by a loop in a function: MOV ESP, 0x08048800; MOV ECX, 4; CALL; exit; ADD EBX,
-/// ECX; SUB ECX, 1; JNE; RET.
-const SUM: &[u8] = &[
-    0xBC, 0x00, 0x88, 0x04, 0x08, 0xB9, 0x04, 0x00, 0x00, 0x00, 0xE8, 0x07, 0x00, 0x00, 0x00, 0xB8,
-    0x01, 0x00, 0x00, 0x00, 0xCD, 0x80, 0x01, 0xCB, 0x83, 0xE9, 0x01, 0x75, 0xF9, 0xC3,
-];
-/// `write` of the three bytes from 0x08048001; MOV EBX, EAX; exit.
-const WRITE: &[u8] = &[
-    0xB8, 0x04, 0x00, 0x00, 0x00, 0xBB, 0x01, 0x00, 0x00, 0x00, 0xB9, 0x01, 0x80, 0x04, 0x08, 0xBA,
-    0x03, 0x00, 0x00, 0x00, 0xCD, 0x80, 0x89, 0xC3, 0xB8, 0x01, 0x00, 0x00, 0x00, 0xCD, 0x80,
-];
-/// `write` of two bytes from the last address on.
-const WRITE_PAST_END: &[u8] =
-    b"\xB8\x04\x00\x00\x00\xBB\x01\x00\x00\x00\xB9\xFF\x8F\x04\x08\xBA\x02\x00\x00\x00\xCD\x80";
-/// `read` of five bytes to 0x08048800; MOV EBX, [ECX]; ADD EBX, EAX; exit.
-const READ: &[u8] = &[
-    0xB8, 0x03, 0x00, 0x00, 0x00, 0xB9, 0x00, 0x88, 0x04, 0x08, 0xBA, 0x05, 0x00, 0x00, 0x00, 0xCD,
-    0x80, 0x8B, 0x19, 0x01, 0xC3, 0xB8, 0x01, 0x00, 0x00, 0x00, 0xCD, 0x80,
-];
-/// HLT, which is no instruction of the machine.
-const HALT: &[u8] = b"\xF4";
-/// INT 0x81.
-const OTHER_INTERRUPT: &[u8] = b"\xCD\x81";
-/// INT 0x80, where EAX is 0.
-const NO_CALL: &[u8] = b"\xCD\x80";
-/// JMP to the segment's end.
-const JUMP_TO_END: &[u8] = b"\xE9\xFB\x0F\x00\x00";
-/// `read` of no byte to 0; MOV EBX, EAX; exit.
-const READ_NOTHING: &[u8] = b"\xB8\x03\x00\x00\x00\xCD\x80\x89\xC3\xB8\x01\x00\x00\x00\xCD\x80";
-
-/// An input, and what is written of no byte.
-const INPUT: &[u8] = b"AB";
-
-const NOTHING: &[u8] = b"";
-
-const WRITTEN: &[u8] = b"\x04\x00\x00";
-/// The numbers of the calls that fail.
-const NONE: &[u64] = &[];
-
-const FIRST: &[u64] = &[1];
 
 /// A machine with one segment of this size, which begins with these bytes.
-fn machine(alloc: Global, text: &[u8], size: u32, write: bool) -> Result<Machine, NoMemory>
+fn machine(rt: &impl Abort, alloc: Global, text: &[u8], size: u32, write: bool) -> Machine
     requires fits { length text.now ≤ size }
     requires small { size ≤ 4096 }
 {
-    let mut segments = Vec::new(alloc);
-    segments.push(Segment {
+    let segment = Segment {
         addr: TEXT,
-        bytes: text.to_vec(alloc)?,
+        bytes: text.to_vec(alloc).expect(rt, "a text"),
         size,
         read: true,
         write,
         exec: true,
-    })?;
-    Machine::load(
-        alloc,
-        &Loaded {
-            entry: TEXT,
-            segments,
-        },
-    )
+    };
+    let loaded = Loaded {
+        entry: TEXT,
+        segments: vec![in alloc; segment].expect(rt, "a segment"),
+    };
+    Machine::load(alloc, &loaded).expect(rt, "a machine")
 }
 
-/// How the exit ends within the budget.
-fn exit_within(alloc: Global, budget: u64) -> Result<MachineEnd, NoMemory> {
+/// How the machine ends within the budget where nothing is to be read.
+fn end_within(alloc: Global, mut machine: Machine, budget: u64) -> MachineEnd {
     let mut input = SureSource::new(Vec::new(alloc));
-    let mut machine = machine(alloc, &EXIT, 12, false)?;
-    Ok(machine.run(&mut input, &mut SureSink::new(), budget))
+    machine.run(&mut input, &mut SureSink::new(), budget)
 }
 
 /// Budgets, and how the exit ends within them.
-const BUDGETS: [(u64, MachineEnd); 4] = [
-    (0, MachineEnd::BudgetSpent),
-    (2, MachineEnd::BudgetSpent),
-    (3, MachineEnd::Ended(44)),
-    (1_000_000, MachineEnd::Ended(44)),
-];
+const BUDGETS: &str = "\
+0 => BudgetSpent
+2 => BudgetSpent
+3 => Ended(44)
+1000000 => Ended(44)";
 
 #[test]
 fn spends_the_budget(rt: HostRuntime) {
-    for (budget, want) in &BUDGETS {
-        let end = exit_within(rt.alloc(), *budget).ok();
-        expect(&rt, &end, &Some(*want), *budget);
+    let alloc = rt.alloc();
+    for row in rows_of(&rt, BUDGETS, 4) {
+        let (budget, wanted) = cells(&rt, row);
+        let machine = machine(&rt, alloc, &EXIT, 12, false);
+        let end = end_within(alloc, machine, budget.parse().expect(&rt, row));
+        expect_printed(&rt, alloc, &end, wanted);
     }
 }
 
 /// A segment of the exit, and one of this size in its middle.
-fn exit_around(alloc: Global, size: u32) -> Result<Loaded, NoMemory> {
+fn exit_around(rt: &impl Abort, alloc: Global, size: u32) -> Loaded {
     let text = Segment {
         addr: TEXT,
-        bytes: EXIT.to_vec(alloc)?,
+        bytes: EXIT.to_vec(alloc).expect(rt, "a text"),
         size: 12,
         read: true,
         write: false,
@@ -148,125 +79,143 @@ fn exit_around(alloc: Global, size: u32) -> Result<Loaded, NoMemory> {
         write: true,
         exec: false,
     };
-    Ok(Loaded {
+    Loaded {
         entry: TEXT,
-        segments: vec![in alloc; text, inner]?,
-    })
+        segments: vec![in alloc; text, inner].expect(rt, "segments"),
+    }
 }
 
 #[test]
-fn loads_segments_that_do_not_overlap(rt: HostRuntime) -> Result<(), Fail> {
-    let loaded = exit_around(rt.alloc(), 0)?;
-    assert!(rt; loaded.is_loadable(rt.alloc())?);
-    let mut machine = Machine::load(rt.alloc(), &loaded)?;
-    let mut input = SureSource::new(Vec::new(rt.alloc()));
-    let end = machine.run(&mut input, &mut SureSink::new(), 1000);
+fn loads_segments_that_do_not_overlap(rt: HostRuntime) {
+    let alloc = rt.alloc();
+    let loaded = exit_around(&rt, alloc, 0);
+    let loadable = loaded.is_loadable(alloc).expect(&rt, "memory");
+    assert!(rt; loadable);
+    let machine = Machine::load(alloc, &loaded).expect(&rt, "a machine");
+    let end = end_within(alloc, machine, 1000);
     expect(&rt, &end, &MachineEnd::Ended(44), "the end");
-    let loadable = exit_around(rt.alloc(), 1)?.is_loadable(rt.alloc())?;
-    expect(&rt, &loadable, &false, "segments that overlap");
-    Ok(())
+    let loadable = exit_around(&rt, alloc, 1).is_loadable(alloc).ok();
+    expect(&rt, &loadable, &Some(false), "segments that overlap");
 }
 
-/// Texts, and how they end.
-const ENDS: [(&[u8], MachineEnd); 16] = [
-    (HIGH_BYTE, MachineEnd::Ended(0x55)),
-    (LOW_BYTE, MachineEnd::Ended(0x44)),
-    (DIVIDE_BY_ZERO, MachineEnd::Trapped(Trap::Divide)),
-    (QUOTIENT_TOO_LARGE, MachineEnd::Trapped(Trap::Divide)),
-    (CHECK, MachineEnd::Trapped(Trap::Check)),
-    (SET_FIRST, MachineEnd::Stopped(Stop::Flags, TEXT)),
-    (
-        SET_AFTER_SHIFT,
-        MachineEnd::Stopped(Stop::Flags, 0x0804_8005),
-    ),
-    (SHIFT_BY_33, MachineEnd::Ended(2)),
-    (PUSH_ESP, MachineEnd::Ended(16)),
-    (
-        PUSH_OUTSIDE,
-        MachineEnd::Stopped(Stop::Access(0xFFFF_FFFC), TEXT),
-    ),
-    (LOAD_OUTSIDE, MachineEnd::Stopped(Stop::Access(0), TEXT)),
-    (SUM, MachineEnd::Ended(10)),
-    (HALT, MachineEnd::Stopped(Stop::Instruction, TEXT)),
-    (OTHER_INTERRUPT, MachineEnd::Stopped(Stop::Call, TEXT)),
-    (NO_CALL, MachineEnd::Stopped(Stop::Call, TEXT)),
-    (
-        JUMP_TO_END,
-        MachineEnd::Stopped(Stop::Access(0x0804_9000), 0x0804_9000),
-    ),
-];
+/// Texts as GNU as assembles them, and how they end in a segment of 4096 bytes that may be written.
+const ENDS: &str = "\
+B8 44 33 22 11 B4 55 89 C3 C1 EB 08 B8 01 00 00 00 CD 80 => \
+    Ended(85) ; MOV EAX, 0x11223344; MOV AH, 0x55; MOV EBX, EAX; SHR EBX, 8; exit
+B8 44 33 22 11 B4 55 0F B6 D8 B8 01 00 00 00 CD 80 => \
+    Ended(68) ; MOV EAX, 0x11223344; MOV AH, 0x55; MOVZX EBX, AL; exit
+B8 07 00 00 00 99 F7 FB => Trapped(Divide) ; MOV EAX, 7; CDQ; IDIV EBX
+B8 00 00 00 80 99 BB FF FF FF FF F7 FB => Trapped(Divide) ; MOV EAX, 0x80000000; CDQ; MOV EBX, -1; IDIV EBX
+0F 0B => Trapped(Check) ; UD2
+0F 94 C0 => Stopped(Flags, 134512640) ; SETE AL
+39 C0 C1 E0 02 0F 94 C0 => Stopped(Flags, 134512645) ; CMP EAX, EAX; SHL EAX, 2; SETE AL
+B8 01 00 00 00 B9 21 00 00 00 D3 E0 89 C3 B8 01 00 00 00 CD 80 => \
+    Ended(2) ; MOV EAX, 1; MOV ECX, 33; SHL EAX, CL; MOV EBX, EAX; exit
+BC 00 88 04 08 54 5B 81 EB F0 87 04 08 B8 01 00 00 00 CD 80 => \
+    Ended(16) ; MOV ESP, 0x08048800; PUSH ESP; POP EBX; SUB EBX, 0x080487F0; exit
+54 => Stopped(Access(4294967292), 134512640) ; PUSH ESP, where ESP is 0
+8B 1D 00 00 00 00 => Stopped(Access(0), 134512640) ; MOV EBX, [0]
+BC 00 88 04 08 B9 04 00 00 00 E8 07 00 00 00 B8 01 00 00 00 CD 80 01 CB 83 E9 01 75 F9 C3 => \
+    Ended(10) ; The sum of 4, 3, 2 and 1 by a loop in a function: MOV ESP, 0x08048800; MOV ECX, 4; CALL; exit; ADD \
+    EBX, ECX; SUB ECX, 1; JNE; RET
+F4 => Stopped(Instruction, 134512640) ; HLT, which is no instruction of the machine
+CD 81 => Stopped(Call, 134512640) ; INT 0x81
+CD 80 => Stopped(Call, 134512640) ; INT 0x80, where EAX is 0
+E9 FB 0F 00 00 => Stopped(Access(134516736), 134516736) ; JMP to the segment's end";
 
-/// A text and whether it may be written, the input and its calls that fail, the calls of the output that fail, the
-/// end, and what was written.
-type Transfer = (
-    &'static [u8],
-    bool,
-    &'static [u8],
-    &'static [u64],
-    &'static [u64],
-    MachineEnd,
-    &'static [u8],
-);
+/// `read` of five bytes to 0x08048800; MOV EBX, [ECX]; ADD EBX, EAX; exit.
+const READ: &str =
+    "B8 03 00 00 00 B9 00 88 04 08 BA 05 00 00 00 CD 80 8B 19 01 C3 B8 01 00 00 00 CD 80";
 
-/// A table of them, one on each line.
-macro_rules! transfers {
-    ($($text:ident $write:literal $input:ident $reads:ident $writes:ident => $end:expr, $written:ident;)*) => {
-        [$(($text, $write, $input, $reads, $writes, $end, $written)),*]
-    };
+/// What there is to read, whether the text may be written and the first call fails, and how it ends then.
+const READS: &str = "\
+AB, writable => Ended(66)
+nothing, writable => Ended(0)
+AB => Stopped(Access(134514688), 134512655)
+AB, writable, no read => ReadFault";
+
+/// `read` of no byte to 0; MOV EBX, EAX; exit.
+const READ_NOTHING: &str = "B8 03 00 00 00 CD 80 89 C3 B8 01 00 00 00 CD 80";
+
+/// `write` of the three bytes from 0x08048001; MOV EBX, EAX; exit.
+const WRITE: &str =
+    "B8 04 00 00 00 BB 01 00 00 00 B9 01 80 04 08 BA 03 00 00 00 CD 80 89 C3 B8 01 00 00 00 CD 80";
+
+/// Whether the first call fails, how it ends then, and the bytes that are written.
+const WRITES: &str = "\
+all => Ended(3) => 04 00 00
+no write => WriteFault";
+
+/// `write` of two bytes from the last address on.
+const WRITE_PAST_END: &str = "B8 04 00 00 00 BB 01 00 00 00 B9 FF 8F 04 08 BA 02 00 00 00 CD 80";
+
+/// The numbers of the calls that fail: the first, or none.
+fn failing(rt: &impl Abort, alloc: Global, first: bool) -> Vec<u64> {
+    let calls: &[u64] = if first { &[1] } else { &[] };
+    calls.to_vec(alloc).expect(rt, "numbers of calls")
 }
 
-const TRANSFERS: [Transfer; 8] = transfers! {
-    READ true INPUT NONE NONE => MachineEnd::Ended(66), NOTHING;
-    READ true NOTHING NONE NONE => MachineEnd::Ended(0), NOTHING;
-    READ false INPUT NONE NONE => MachineEnd::Stopped(Stop::Access(0x0804_8800), 0x0804_800F), NOTHING;
-    READ true INPUT FIRST NONE => MachineEnd::ReadFault, NOTHING;
-    READ_NOTHING false INPUT FIRST NONE => MachineEnd::Ended(0), NOTHING;
-    WRITE false NOTHING NONE NONE => MachineEnd::Ended(3), WRITTEN;
-    WRITE false NOTHING NONE FIRST => MachineEnd::WriteFault, NOTHING;
-    WRITE_PAST_END false NOTHING NONE NONE => MachineEnd::Stopped(Stop::Access(0x0804_8FFF), 0x0804_8014), NOTHING;
-};
-
-/// How the text ends within 1000 steps, in a segment of 4096 bytes, and its output.
-fn end_of(
+/// In a segment of 4096 bytes the text ends so within 1000 steps, with just these bytes written.
+fn expect_end(
     rt: &impl Abort,
     alloc: Global,
-    transfer: &Transfer,
-) -> Result<(MachineEnd, MemSink), NoMemory> {
-    let (text, write) = (transfer.0, transfer.1);
+    text: &str,
+    conditions: &str,
+    end: &str,
+    written: &str,
+) {
+    let text = bytes_of(rt, alloc, text);
     assert!(rt; text.len() <= 4096);
-    let mut input = MemSource::new(transfer.2.to_vec(alloc)?, transfer.3.to_vec(alloc)?);
-    let mut out = MemSink::new(alloc, transfer.4.to_vec(alloc)?);
-    let end = machine(alloc, text, 4096, write)?.run(&mut input, &mut out, 1000);
-    Ok((end, out))
-}
-
-/// The text of the row of that number ends so, with just that written.
-fn expect_transfer(rt: &impl Abort, alloc: Global, transfer: &Transfer, row: usize) {
-    let (end, out) = end_of(rt, alloc, transfer).expect(rt, "a machine");
-    expect(rt, &end, &transfer.5, row);
-    expect(rt, &out.taken(), &transfer.6, row);
+    let given: &[u8] = if conditions.contains("AB") {
+        b"AB"
+    } else {
+        b""
+    };
+    let given = given.to_vec(alloc).expect(rt, "an input");
+    let reads = failing(rt, alloc, conditions.contains("no read"));
+    let writes = failing(rt, alloc, conditions.contains("no write"));
+    let mut input = MemSource::new(given, reads);
+    let mut out = MemSink::new(alloc, writes);
+    let writable = conditions.contains("writable");
+    let mut machine = machine(rt, alloc, &text, 4096, writable);
+    let found = machine.run(&mut input, &mut out, 1000);
+    expect_printed(rt, alloc, &found, end);
+    let written = bytes_of(rt, alloc, written);
+    expect(rt, &out.taken(), &written.as_slice(), end);
 }
 
 /// Where nothing is read or written, each text ends so.
 #[test]
 fn ends_by_its_instructions(rt: HostRuntime) {
-    for (row, &(text, want)) in ENDS.iter().enumerate() {
-        let transfer = (text, true, NOTHING, NONE, NONE, want, NOTHING);
-        expect_transfer(&rt, rt.alloc(), &transfer, row);
+    for row in rows_of(&rt, ENDS, 16) {
+        let (text, end) = cells(&rt, row);
+        expect_end(&rt, rt.alloc(), text, "writable", end, "");
+    }
+}
+
+/// The text ends as each row says.
+fn expect_ends(rt: &impl Abort, alloc: Global, text: &str, table: &str, rows: usize) {
+    for row in rows_of(rt, table, rows) {
+        let (conditions, told) = cells(rt, row);
+        let (end, written) = told.split_once(" => ").unwrap_or((told, ""));
+        expect_end(rt, alloc, text, conditions, end, written);
     }
 }
 
 #[test]
 fn reads_and_writes(rt: HostRuntime) {
-    for (row, transfer) in TRANSFERS.iter().enumerate() {
-        expect_transfer(&rt, rt.alloc(), transfer, row);
-    }
+    let alloc = rt.alloc();
+    expect_ends(&rt, alloc, READ, READS, 4);
+    expect_ends(&rt, alloc, READ_NOTHING, "AB, no read => Ended(0)", 1);
+    expect_ends(&rt, alloc, WRITE, WRITES, 2);
+    let outside = "all => Stopped(Access(134516735), 134512660)";
+    expect_ends(&rt, alloc, WRITE_PAST_END, outside, 1);
 }
 
 #[test]
 fn makes_one_step(rt: HostRuntime) {
     let text = [0x90, 0xF4];
-    let mut machine = machine(rt.alloc(), &text, 2, true).expect(&rt, "a machine");
+    let mut machine = machine(&rt, rt.alloc(), &text, 2, true);
     let mut input = SureSource::new(Vec::new(rt.alloc()));
     let mut sink = SureSink::new();
     let first = machine.step(&mut input, &mut sink);

@@ -1,36 +1,28 @@
 //! Texts of maps and of their parts, by hand.
 
 use crate::expected::expect;
+use crate::rows::number_of;
 use flow_graph::Words;
 use map_text::print_lines;
-use pcc_base::{Name, NoMemory, Width};
+use pcc_base::{Name, Width};
 use pcc_listing::{Line, Named, Standing, push_address, push_number};
 use std::alloc::Global;
 use std::process::Abort;
 use std::rc::Rc;
-use std::test::Fail;
-
-const NUMBERS: [(u64, &str); 4] = [(0, "0"), (7, "7"), (100, "100"), (4294967295, "4294967295")];
-
-const ADDRESSES: [(u32, &str); 4] = [
-    (0, "00000000"),
-    (0x0804_8005, "08048005"),
-    (0xc0de_f9a1, "c0def9a1"),
-    (0xffff_ffff, "ffffffff"),
-];
 
 /// Decimal numbers have no zeros in front; addresses have eight digits of lower case.
 #[test]
 fn digits(rt: HostRuntime) {
     let alloc = rt.alloc();
-    for (number, text) in NUMBERS {
+    for text in ["0", "7", "100", "4294967295"] {
         let mut out = Vec::new(alloc);
+        let number = text.parse().expect(&rt, text);
         push_number(&mut out, number).expect(&rt, "a number");
         expect(&rt, &out.as_slice(), &text.as_bytes(), text);
     }
-    for (address, text) in ADDRESSES {
+    for text in ["00000000", "08048005", "c0def9a1", "ffffffff"] {
         let mut out = Vec::new(alloc);
-        push_address(&mut out, address).expect(&rt, "an address");
+        push_address(&mut out, number_of(&rt, text)).expect(&rt, "an address");
         expect(&rt, &out.as_slice(), &text.as_bytes(), text);
     }
 }
@@ -90,13 +82,9 @@ fn call(point: u32, address: u32, to: Option<u32>, function: u32, arguments: Wor
     }
 }
 
-fn name_of(alloc: Global, text: &[u8]) -> Result<Name, NoMemory> {
-    let bytes = text.to_vec(alloc)?;
-    Ok(Name::new(Rc::new(alloc, bytes)?))
-}
-
 fn name(rt: &impl Abort, alloc: Global, text: &[u8]) -> Name {
-    name_of(alloc, text).expect(rt, "a name")
+    let bytes = text.to_vec(alloc).expect(rt, "a name");
+    Name::new(Rc::new(alloc, bytes).expect(rt, "a name"))
 }
 
 /// The variables of these numbers.
@@ -106,13 +94,10 @@ fn words(rt: &impl Abort, alloc: Global, numbers: &[u32]) -> Words {
 
 /// Lines of each kind.
 #[test]
-fn each_kind(rt: HostRuntime) -> Result<(), Fail> {
+fn each_kind(rt: HostRuntime) {
     let alloc = rt.alloc();
-    let standings = vec![in alloc; standing(0, 20), standing(2, 28)]?;
-    let main = name(&rt, alloc, b"main");
-    let x1 = name(&rt, alloc, b"x1");
-    let base = name(&rt, alloc, b"p");
-    let index = name(&rt, alloc, b"p");
+    let standings = [standing(0, 20), standing(2, 28)];
+    let standings = standings.to_vec(alloc).expect(&rt, "standings");
     let lines = vec![in alloc;
         Line::Object {
             number: 0,
@@ -122,7 +107,7 @@ fn each_kind(rt: HostRuntime) -> Result<(), Fail> {
         },
         Line::Function {
             number: 0,
-            name: main,
+            name: name(&rt, alloc, b"main"),
             frame: 28
         },
         Line::Array {
@@ -131,9 +116,9 @@ fn each_kind(rt: HostRuntime) -> Result<(), Fail> {
             count: 2,
             bytes: 1
         },
-        word(0, Named::Scalar(x1)),
-        word(1, Named::Array(base)),
-        word(2, Named::Index(index)),
+        word(0, Named::Scalar(name(&rt, alloc, b"x1"))),
+        word(1, Named::Array(name(&rt, alloc, b"p"))),
+        word(2, Named::Index(name(&rt, alloc, b"p"))),
         Line::Variable {
             number: 3,
             width: Width::One,
@@ -149,7 +134,7 @@ fn each_kind(rt: HostRuntime) -> Result<(), Fail> {
         Line::Before(Vec::new(alloc)),
         call(5, 0x0804_8030, None, 0, words(&rt, alloc, &[])),
         Line::Before(Vec::new(alloc)),
-    ]?;
+    ];
+    let lines = lines.expect(&rt, "lines");
     expect_text(&rt, alloc, &lines, TEXT);
-    Ok(())
 }

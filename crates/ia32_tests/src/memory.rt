@@ -3,9 +3,9 @@
 ghost use Rattle.std.specs.Prelude.{◌≤◌, length};
 
 use crate::expected::expect;
+use crate::rows::{cells, number_of, numbers_of, rows_of};
 use elf_image::Segment;
 use ia32_memory::Memory;
-use pcc_base::NoMemory;
 use std::alloc::Global;
 use std::process::Abort;
 
@@ -16,10 +16,12 @@ const TEXT: u32 = 0x0804_8000;
 const DATA: u32 = 0x0804_9000;
 
 /// A text of eight bytes and data of six, of which five and two are given.
-fn two_segments(alloc: Global) -> Result<Memory, NoMemory> {
+fn two_segments(rt: &impl Abort, alloc: Global) -> Memory {
     let text = Segment {
         addr: TEXT,
-        bytes: [0x78, 0x56, 0x34, 0x92, 0x90].to_vec(alloc)?,
+        bytes: [0x78, 0x56, 0x34, 0x92, 0x90]
+            .to_vec(alloc)
+            .expect(rt, "a text"),
         size: 8,
         read: true,
         write: false,
@@ -27,28 +29,23 @@ fn two_segments(alloc: Global) -> Result<Memory, NoMemory> {
     };
     let data = Segment {
         addr: DATA,
-        bytes: [1, 2].to_vec(alloc)?,
+        bytes: [1, 2].to_vec(alloc).expect(rt, "data"),
         size: 6,
         read: true,
         write: true,
         exec: false,
     };
-    Memory::load(alloc, &[text, data])
+    Memory::load(alloc, &[text, data]).expect(rt, "two segments")
 }
 
-/// At the address there is this byte, if any.
-fn expect_byte(rt: &impl Abort, memory: &Memory, address: u32, byte: Option<u8>) {
-    expect(rt, &memory.load8(address), &byte, address);
-}
-
-/// At the address there is this half, if any.
-fn expect_half(rt: &impl Abort, memory: &Memory, address: u32, half: Option<u16>) {
-    expect(rt, &memory.load16(address), &half, address);
-}
-
-/// At the address there is this word, if any.
-fn expect_word(rt: &impl Abort, memory: &Memory, address: u32, word: Option<u32>) {
-    expect(rt, &memory.load32(address), &word, address);
+/// At the address there are this byte, this half and this word, where there are any.
+fn expect_loaded(rt: &impl Abort, memory: &Memory, address: u32, wanted: &[Option<u32>]) {
+    let loaded = [
+        memory.load8(address).map(u32::from),
+        memory.load16(address).map(u32::from),
+        memory.load32(address),
+    ];
+    expect(rt, &loaded.as_slice(), &wanted, address);
 }
 
 /// From the address on there are these bytes.
@@ -59,75 +56,76 @@ fn expect_bytes(rt: &impl Abort, memory: &mut Memory, address: u32, bytes: &[u8]
     expect(rt, &found, &Some(bytes), address);
 }
 
-/// An address, and the byte, the half and the word there.
-type Loads = (u32, Option<u8>, Option<u16>, Option<u32>);
-
-const LOADS: [Loads; 9] = [
-    (TEXT, Some(0x78), Some(0x5678), Some(0x9234_5678)),
-    (TEXT + 3, Some(0x92), Some(0x9092), Some(0x9092)),
-    (TEXT + 5, Some(0), Some(0), None),
-    (TEXT + 7, Some(0), None, None),
-    (TEXT + 8, None, None, None),
-    (TEXT - 1, None, None, None),
-    (DATA, Some(1), Some(0x201), Some(0x201)),
-    (DATA + 2, Some(0), Some(0), Some(0)),
-    (0xffff_ffff, None, None, None),
-];
+/// An address, and the byte, the half and the word there, where there are any.
+const LOADS: &str = "\
+08048000 => 78 5678 92345678
+08048003 => 92 9092 9092
+08048005 => 0 0 -
+08048007 => 0 - -
+08048008 => - - -
+08047fff => - - -
+08049000 => 1 201 201
+08049002 => 0 0 0
+ffffffff => - - -";
 
 #[test]
 fn loads(rt: HostRuntime) {
-    let mut memory = two_segments(rt.alloc()).expect(&rt, "two segments");
-    for (address, byte, half, word) in &LOADS {
-        expect_byte(&rt, &memory, *address, *byte);
-        expect_half(&rt, &memory, *address, *half);
-        expect_word(&rt, &memory, *address, *word);
+    let alloc = rt.alloc();
+    let mut memory = two_segments(&rt, alloc);
+    for row in rows_of(&rt, LOADS, 9) {
+        let (address, numbers) = cells(&rt, row);
+        let wanted = numbers_of(&rt, alloc, numbers);
+        expect_loaded(&rt, &memory, number_of(&rt, address), &wanted);
     }
-    assert!(rt; memory.code_at(TEXT + 3) == Some(&[0x92, 0x90, 0, 0, 0]));
-    assert!(rt; memory.code_at(DATA).is_none());
+    let code = memory.code_at(TEXT + 3) == Some(&[0x92, 0x90, 0, 0, 0]);
+    let none = memory.code_at(DATA).is_none() && memory.bytes_at(TEXT + 1, 8).is_none();
+    expect(&rt, &(code, none), &(true, true), "what is fetched");
     expect_bytes(&rt, &mut memory, TEXT + 1, &[0x56, 0x34, 0x92]);
-    assert!(rt; memory.bytes_at(TEXT + 1, 8).is_none());
 }
 
-/// A store was made where a word is wanted, and the data begin with it, or with what they began with.
-fn expect_stored(rt: &impl Abort, memory: &Memory, stored: bool, want: Option<u32>) {
-    expect(rt, &stored, &want.is_some(), "a store");
-    expect_word(rt, memory, DATA, Some(want.unwrap_or(0x201)));
+/// The word at the beginning of the data after a store of one, two or four bytes at the address, if it was made. It may
+/// be made where it was, and else the data stay as they are.
+fn stored(rt: &impl Abort, alloc: Global, address: u32, size: u32) -> Option<u32> {
+    let mut memory = two_segments(rt, alloc);
+    let may = memory.may_store(address, size);
+    let made = match size {
+        1 => memory.store8(address, 0x55),
+        2 => memory.store16(address, 0xaabb),
+        _ => memory.store32(address, 0x6677_8899),
+    };
+    expect(rt, &made, &may, address);
+    let word = memory.load32(DATA);
+    if made {
+        return word;
+    }
+    expect(rt, &word, &Some(0x201), address);
+    None
 }
 
 /// Addresses, and the word at the beginning of the data after a store of one, two and four bytes there, where it may
 /// be made.
-const STORES: [(u32, [Option<u32>; 3]); 7] = [
-    (DATA, [Some(0x255), Some(0xaabb), Some(0x6677_8899)]),
-    (
-        DATA + 2,
-        [Some(0x0055_0201), Some(0xaabb_0201), Some(0x8899_0201)],
-    ),
-    (DATA + 3, [Some(0x5500_0201), Some(0xbb00_0201), None]),
-    (DATA + 5, [Some(0x201), None, None]),
-    (DATA + 6, [None, None, None]),
-    (DATA - 1, [None, None, None]),
-    (TEXT, [None, None, None]),
-];
-
-/// What a store at the address does, of one, of two and of four bytes.
-fn expect_stores(rt: &impl Abort, alloc: Global, address: u32, wants: &[Option<u32>; 3]) {
-    let [byte, half, word] = *wants;
-    let mut memory = two_segments(alloc).expect(rt, "two segments");
-    expect(rt, &memory.may_store(address, 4), &word.is_some(), address);
-    let stored = memory.store8(address, 0x55);
-    expect_stored(rt, &memory, stored, byte);
-    memory = two_segments(alloc).expect(rt, "two segments");
-    let stored = memory.store16(address, 0xaabb);
-    expect_stored(rt, &memory, stored, half);
-    memory = two_segments(alloc).expect(rt, "two segments");
-    let stored = memory.store32(address, 0x6677_8899);
-    expect_stored(rt, &memory, stored, word);
-}
+const STORES: &str = "\
+08049000 => 255 aabb 66778899
+08049002 => 00550201 aabb0201 88990201
+08049003 => 55000201 bb000201 -
+08049005 => 201 - -
+08049006 => - - -
+08048fff => - - -
+08048000 => - - -";
 
 #[test]
 fn stores(rt: HostRuntime) {
-    for (address, wants) in &STORES {
-        expect_stores(&rt, rt.alloc(), *address, wants);
+    let alloc = rt.alloc();
+    for row in rows_of(&rt, STORES, 7) {
+        let (address, words) = cells(&rt, row);
+        let address = number_of(&rt, address);
+        let made = [
+            stored(&rt, alloc, address, 1),
+            stored(&rt, alloc, address, 2),
+            stored(&rt, alloc, address, 4),
+        ];
+        let wanted = numbers_of(&rt, alloc, words);
+        expect(&rt, &made.as_slice(), &wanted.as_slice(), row);
     }
 }
 
@@ -139,24 +137,22 @@ const WIDE: u32 = 1 << 20;
 const PLACES: [u32; 5] = [WIDE - 4, 6, WIDE / 2, WIDE / 4 * 3 - 2, WIDE / 4 * 3 - 64];
 
 /// A memory of the wide data.
-fn wide_segment(alloc: Global) -> Result<Memory, NoMemory> {
+fn wide_segment(rt: &impl Abort, alloc: Global) -> Memory {
     let data = Segment {
         addr: DATA,
-        bytes: [1, 2].to_vec(alloc)?,
+        bytes: [1, 2].to_vec(alloc).expect(rt, "data"),
         size: WIDE,
         read: true,
         write: true,
         exec: false,
     };
-    Memory::load(alloc, &[data])
+    Memory::load(alloc, &[data]).expect(rt, "a segment")
 }
 
 /// Nothing but 0 stands at the places.
 fn expect_zeros(rt: &impl Abort, memory: &Memory) {
     for place in PLACES {
-        expect_byte(rt, memory, DATA + place, Some(0));
-        expect_half(rt, memory, DATA + place, Some(0));
-        expect_word(rt, memory, DATA + place, Some(0));
+        expect_loaded(rt, memory, DATA + place, &[Some(0); 3]);
     }
 }
 
@@ -167,15 +163,17 @@ fn expect_words_stored(rt: &impl Abort, memory: &mut Memory) {
         expect(rt, &stored, &true, place);
     }
     for place in PLACES {
-        expect_word(rt, memory, DATA + place, Some(0x0a0b_0c0d));
-        expect_half(rt, memory, DATA + place + 1, Some(0x0b0c));
+        let word = memory.load32(DATA + place);
+        expect(rt, &word, &Some(0x0a0b_0c0d), place);
+        let half = memory.load16(DATA + place + 1);
+        expect(rt, &half, &Some(0x0b0c), place);
     }
 }
 
 #[test]
 fn untouched_bytes(rt: HostRuntime) {
-    let mut memory = wide_segment(rt.alloc()).expect(&rt, "a segment");
-    expect_word(&rt, &memory, DATA + 1, Some(2));
+    let mut memory = wide_segment(&rt, rt.alloc());
+    expect(&rt, &memory.load32(DATA + 1), &Some(2), "two bytes");
     expect_zeros(&rt, &memory);
     expect_words_stored(&rt, &mut memory);
     expect_bytes(&rt, &mut memory, DATA, &[1, 2, 0, 0, 0, 0, 0x0d, 0x0c]);

@@ -1,11 +1,7 @@
-//! The bytes of instructions. They are those that GNU as gives for the text behind the semicolon.
+//! The bytes of instructions. They are those that GNU as gives for the text behind the semicolon. They are decoded
+//! first, which shows that the instruction has a spelling.
 
-use crate::expected::expect;
-use crate::rows::{bytes_of, expect_printed};
-use ia32_decode::decode;
-use ia32_encode::encode;
-use std::alloc::Global;
-use std::process::Abort;
+use crate::decoding::expect_rows;
 
 /// Every form of a memory operand, with displacements about the bounds of a byte.
 const MEMORY_OPERANDS: &str = "\
@@ -148,30 +144,11 @@ CD 80 => Int(128) ; int 0x80
 90 => Nop ; nop
 ";
 
-/// The bytes of the row are those of its instruction; that they spell it shows that it has a spelling.
-fn expect_row(rt: &impl Abort, alloc: Global, row: &str) {
-    let (digits, text) = row.split_once(" => ").expect(rt, row);
-    let bytes = bytes_of(rt, alloc, digits);
-    let (spelt, _) = decode(&bytes).expect(rt, row);
-    expect_printed(rt, alloc, &spelt, text);
-    expect(rt, &encode(&spelt).as_slice(), &bytes.as_slice(), row);
-}
-
-/// The table has so many rows, and each is as `expect_row` says.
-fn expect_rows(rt: &impl Abort, alloc: Global, table: &str, rows: usize) {
-    let mut read = 0usize;
-    for row in table.lines() {
-        expect_row(rt, alloc, row);
-        read = read.wrapping_add(1);
-    }
-    expect(rt, &read, &rows, "rows");
-}
-
 #[test]
 fn bytes_of_instructions(rt: HostRuntime) {
     let alloc = rt.alloc();
-    expect_rows(&rt, alloc, MEMORY_OPERANDS, 23);
-    expect_rows(&rt, alloc, MOVES, 28);
-    expect_rows(&rt, alloc, ARITHMETIC, 26);
-    expect_rows(&rt, alloc, OTHERS, 39);
+    expect_rows(&rt, alloc, MEMORY_OPERANDS, 23, true);
+    expect_rows(&rt, alloc, MOVES, 28, true);
+    expect_rows(&rt, alloc, ARITHMETIC, 26, true);
+    expect_rows(&rt, alloc, OTHERS, 39, true);
 }

@@ -1,1 +1,9 @@
 pub mod Closed
+pub mod Alike
+pub mod Arms
+pub mod Bodies
+mod Comparisons
+pub mod Ordered
+mod Switched
+pub mod Whole
+pub mod Resting

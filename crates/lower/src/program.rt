@@ -19,8 +19,8 @@ ghost use Rattle.lower_lines.specs.Words.{IsInMemory};
 ghost use Rattle.lower_programs.specs.Declared.{IsDeclaredFirst};
 ghost use Rattle.lower_programs.specs.SettledLaws.{HaveLiveness, NothingLiveFirst};
 
-use crate::function::graph;
 use crate::graphs::Graphs;
+use crate::lowered::graph;
 use crate::objects::objects_of;
 use c_tree::Program;
 use flow_graph::{Graph, never_stuck};

@@ -4,10 +4,10 @@ ghost use Rattle.std.specs.Prelude.{◌≡◌, ◌<◌, ◌≤◌, OnOk};
 ghost use Rattle.lower_builder.specs.Built.{Adds};
 ghost use Rattle.lower_loops.specs.Starts.{starts_at};
 ghost use Rattle.lower_lines.specs.Statements.{started, towards};
-ghost use Rattle.lower_runs.specs.Views.{after_of};
+ghost use Rattle.lower_rows.specs.Views.{after_of};
 
 use lower_builder::Lines;
-use lower_runs::After;
+use lower_rows::After;
 use pcc_base::NoMemory;
 
 /// The block that the statement at a place starts, if it has one.

@@ -41,14 +41,14 @@ use Rattle.lower_lines.proofs.Changes.{kept-below, kept-by-change, kept-twice, t
 use Rattle.lower_lines.proofs.Depths.{length-mapped}
 use Rattle.lower_lines.proofs.Locals.{get-set_other, get-set_same, length-slice_set, local-within, same-some}
 use Rattle.lower_lines.proofs.Steps.{change-step, const-step, frame-step, store-step}
-use Rattle.lower_expressions.proofs.Going.{stand-back, stand-front}
-use Rattle.lower_expressions.proofs.Made.{some-and, variable-there}
-use Rattle.lower_expressions.proofs.Operands.{NumberStands, number-operand}
-use Rattle.lower_expressions.proofs.Widths.{temporary-width}
+use Rattle.lower_programs.proofs.Going.{stand-back, stand-front}
+use Rattle.lower_programs.proofs.Made.{some-and, variable-there}
+use Rattle.lower_programs.proofs.Operands.{NumberStands, number-operand}
+use Rattle.lower_programs.proofs.Widths.{temporary-width}
 use Rattle.lower_programs.proofs.Onward.{own-zero-shows, own-zero-there, some-level}
 use Rattle.lower_programs.proofs.Straight.{behind-same}
 use Rattle.lower_programs.proofs.Ways.{from-here, from-then, next-begins}
-use Rattle.lower_expressions.proofs.Atoms.{with-older}
+use Rattle.lower_programs.proofs.Atoms.{with-older}
 use Rattle.lower_programs.proofs.Straight.{marked-lowers}
 use Rattle.c_tree.specs.Evaluation.{own_array}
 use Rattle.c_tree.specs.Program.{Elements}

@@ -33,10 +33,10 @@ use Rattle.lower_lines.specs.Variables.{ForScratch, Spot, local_variables, tempo
 use Rattle.lower_lines.proofs.Changes.{kept-by-change, kept-none, temporaries-free}
 use Rattle.lower_lines.proofs.Locals.{get-set_other, get-set_same, local-within}
 use Rattle.lower_lines.proofs.Steps.{branch-step, const-step}
-use Rattle.lower_expressions.proofs.Atoms.{with-older}
-use Rattle.lower_expressions.proofs.Going.{stand-back, stand-front}
-use Rattle.lower_expressions.proofs.Made.{some-and, start-stands, variable-there}
-use Rattle.lower_expressions.proofs.Widths.{temporary-width}
+use Rattle.lower_programs.proofs.Atoms.{with-older}
+use Rattle.lower_programs.proofs.Going.{stand-back, stand-front}
+use Rattle.lower_programs.proofs.Made.{some-and, start-stands, variable-there}
+use Rattle.lower_programs.proofs.Widths.{temporary-width}
 use Rattle.lower_programs.proofs.Onward.{jump-goes, line-there, some-level, start-goes}
 use Rattle.lower_programs.proofs.Ways.{from-here, from-then}
 use Rattle.lower_programs.specs.Ways.{From}

@@ -19,7 +19,7 @@ use Rattle.lower_lines.specs.Parts.{Tests}
 use Rattle.lower_lines.specs.Statements.{After, To, Exits, Run, exit_blocks, exit_lines, exit_of, second_block}
 use Rattle.lower_lines.specs.Statements.{second_lines}
 use Rattle.lower_lines.specs.Variables.{levels_of}
-use Rattle.lower_expressions.proofs.Going.{stand-back, stand-front}
+use Rattle.lower_programs.proofs.Going.{stand-back, stand-front}
 use Rattle.lower_programs.proofs.Onward.{exit-goes, exit-there, exits-from, line-there, start-goes}
 use Rattle.lower_programs.proofs.Straight.{behind-mark, left-same}
 use Rattle.lower_programs.proofs.Visits.{visited-begins}

@@ -28,10 +28,10 @@ use Rattle.lower_lines.proofs.Types.{all-at}
 use Rattle.lower_lines.proofs.Changes.{kept-by-change, kept-twice, temporaries-free}
 use Rattle.lower_lines.proofs.Locals.{get-set_other, get-set_same}
 use Rattle.lower_lines.proofs.Steps.{const-step, static-step}
-use Rattle.lower_expressions.proofs.Atoms.{with-older}
-use Rattle.lower_expressions.proofs.Going.{stand-back, stand-front}
-use Rattle.lower_expressions.proofs.Made.{some-and, variable-there}
-use Rattle.lower_expressions.proofs.Widths.{temporary-width}
+use Rattle.lower_programs.proofs.Atoms.{with-older}
+use Rattle.lower_programs.proofs.Going.{stand-back, stand-front}
+use Rattle.lower_programs.proofs.Made.{some-and, variable-there}
+use Rattle.lower_programs.proofs.Widths.{temporary-width}
 use Rattle.lower_programs.proofs.Arrays.{clear-goes, depths, elements-there}
 use Rattle.lower_programs.proofs.Onward.{jump-goes, line-there, start-goes}
 use Rattle.lower_programs.proofs.Straight.{marked-lowers}

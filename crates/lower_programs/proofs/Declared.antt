@@ -32,8 +32,8 @@ use Rattle.lower_lines.specs.Variables.{levels_of, local_variables, typed_spot}
 use Rattle.lower_lines.proofs.Changes.{kept-by-change, kept-twice, numbers-set, pointers-set}
 use Rattle.lower_lines.proofs.Locals.{local-within}
 use Rattle.lower_lines.proofs.Steps.{sets-step}
-use Rattle.lower_expressions.proofs.Atoms.{with-older}
-use Rattle.lower_expressions.proofs.Going.{stand-back, stand-front}
+use Rattle.lower_programs.proofs.Atoms.{with-older}
+use Rattle.lower_programs.proofs.Going.{stand-back, stand-front}
 use Rattle.lower_programs.proofs.Straight.{behind-same, dropped-lowers, marked-lowers}
 use Rattle.lower_programs.proofs.Ways.{from-both, from-here}
 use Rattle.lower_programs.specs.Laws.{ItemsLower, NoItemsLower, PlainScalarsLower, ScalarsLower, SteadyScalarsLower}

@@ -31,7 +31,7 @@ use Rattle.lower_programs.specs.Settled.{context_in}
 use Rattle.lower_programs.proofs.Addresses.{address-part, call-part, element-address, target-address}
 use Rattle.lower_programs.proofs.Compound.{UnaryFits, and-part, cast-part, comma-part, or-part, unary-part}
 use Rattle.lower_programs.proofs.Parts.{LivePart, binary-part, constant-part, number-part, start-part}
-use Rattle.lower_programs.proofs.Places.{conditional-part', exit-part, getchar-part}
+use Rattle.lower_programs.proofs.PlaceSets.{conditional-part', exit-part, getchar-part}
 use Rattle.lower_programs.proofs.Sets.{front-in, more-in}
 use Rattle.lower_programs.proofs.Steps.{step-part}
 use Rattle.lower_programs.proofs.Updates.{PlaceLive, assign-part, passed-part, read-part, update-part}

@@ -29,7 +29,7 @@ use Rattle.lower_lines.specs.Parts.{Part}
 use Rattle.lower_lines.specs.Shown.{first_variable, local_widths, type_widths}
 use Rattle.lower_lines.specs.Variables.{Context, Spot, local_spot, local_variables, typed_spot}
 use Rattle.lower_lines.proofs.Types.{all-at, part-type, place-scalar, some-and}
-use Rattle.lower_expressions.proofs.Widths.{get-within, local-width}
+use Rattle.lower_programs.proofs.Widths.{get-within, local-width}
 use Rattle.lower_programs.proofs.FitsCompound.{Becomes, assign-becomes, cast-becomes, conditional-becomes}
 use Rattle.lower_programs.proofs.FitsWalk.{integer-of}
 use Rattle.lower_programs.specs.Flows.{Within}
@@ -39,7 +39,7 @@ use Rattle.lower_programs.proofs.Addresses.{address-part, call-part, element-add
 use Rattle.lower_programs.proofs.Compound.{UnaryFits, alike-same, and-part, cast-part, comma-part, or-part, settles-as}
 use Rattle.lower_programs.proofs.Compound.{unary-part}
 use Rattle.lower_programs.proofs.Parts.{LivePart, binary-part, constant-part, number-part, start-part}
-use Rattle.lower_programs.proofs.Places.{conditional-part', exit-part, getchar-part}
+use Rattle.lower_programs.proofs.PlaceSets.{conditional-part', exit-part, getchar-part}
 use Rattle.lower_programs.proofs.Steps.{step-part}
 use Rattle.lower_programs.proofs.Updates.{PlaceLive, assign-part, passed-part, read-part, update-part}
 

@@ -22,7 +22,7 @@ use Rattle.lower_lines.specs.Statements.{After, To, Exits, Run, after_lines, con
 use Rattle.lower_lines.specs.Statements.{exit_lines, exit_of, first_blocks, first_levels, first_lines, levels_if_any}
 use Rattle.lower_lines.specs.Statements.{loop_levels, loop_lines, test_blocks_if_any, test_if_any}
 use Rattle.lower_lines.specs.Variables.{levels_of}
-use Rattle.lower_expressions.proofs.Going.{stand-back, stand-front}
+use Rattle.lower_programs.proofs.Going.{stand-back, stand-front}
 use Rattle.lower_programs.proofs.Loops.{Tested, do-goes, loop-goes}
 use Rattle.lower_programs.proofs.Onward.{exit-there, exits-from, jump-goes, line-there, start-goes}
 use Rattle.lower_programs.proofs.Straight.{behind-mark, left-same}

@@ -21,7 +21,7 @@ use Rattle.lower_lines.specs.Statements.{To, Exits}
 use Rattle.lower_lines.specs.Variables.{local_variables}
 use Rattle.lower_lines.proofs.Changes.{kept-none}
 use Rattle.lower_lines.proofs.Steps.{turn-spent, turn-step}
-use Rattle.lower_expressions.proofs.Going.{stand-back, stand-front}
+use Rattle.lower_programs.proofs.Going.{stand-back, stand-front}
 use Rattle.lower_programs.proofs.Onward.{start-goes}
 use Rattle.lower_programs.proofs.Ways.{Chosen, from-goes, from-here, from-then}
 use Rattle.lower_programs.proofs.Ways.{from-turns, next-begins}

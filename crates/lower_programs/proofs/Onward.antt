@@ -25,10 +25,10 @@ use Rattle.lower_lines.proofs.Changes.{kept-by-change, temporaries-free}
 use Rattle.lower_lines.proofs.Locals.{get-set_same}
 use Rattle.lower_lines.proofs.Points.{starts-stand}
 use Rattle.lower_lines.proofs.Steps.{const-step, jump-step, return-none, return-step}
-use Rattle.lower_expressions.proofs.Atoms.{with-older}
-use Rattle.lower_expressions.proofs.Going.{stand-back, stand-front}
-use Rattle.lower_expressions.proofs.Made.{start-stands, variable-there}
-use Rattle.lower_expressions.proofs.Widths.{temporary-width}
+use Rattle.lower_programs.proofs.Atoms.{with-older}
+use Rattle.lower_programs.proofs.Going.{stand-back, stand-front}
+use Rattle.lower_programs.proofs.Made.{start-stands, variable-there}
+use Rattle.lower_programs.proofs.Widths.{temporary-width}
 use Rattle.lower_programs.specs.Ways.{From, LeftBy}
 use Rattle.lower_programs.proofs.Ways.{from-goes, from-here, from-then, next-begins}
 

@@ -32,7 +32,7 @@ use Rattle.lower_lines.specs.Parts.{test_blocks, test_lines, tested, tested_bloc
 use Rattle.lower_lines.specs.Shown.{first_variable, local_widths, type_widths}
 use Rattle.lower_lines.specs.Variables.{Context, Role, ForArray, ForByte, ForNumber, ForScratch, Spot, copied}
 use Rattle.lower_lines.specs.Variables.{levels_of, levels_widths, local_spot, moved, own, temporary, typed_spot}
-use Rattle.lower_expressions.proofs.Widths.{get-before, get-within, local-width, role_width, temporary-width}
+use Rattle.lower_programs.proofs.Widths.{get-before, get-within, local-width, role_width, temporary-width}
 use Rattle.lower_programs.specs.FitsLaws.{IsGood, Room}
 
 pub small : (n : ℕ) → n < 2147483648 → FitsSigned w32 (pos n)

@@ -14,7 +14,7 @@ use Rattle.lower_lines.specs.Lines.{Line}
 use Rattle.lower_lines.specs.Statements.{After, Exits, Labelled, Run, none_labelled, onward}
 use Rattle.lower_lines.specs.Statements.{runs_levels, sequence_lines, started, towards}
 use Rattle.lower_lines.specs.Variables.{levels_of}
-use Rattle.lower_expressions.proofs.Going.{stand-back, stand-front}
+use Rattle.lower_programs.proofs.Going.{stand-back, stand-front}
 use Rattle.lower_programs.proofs.Onward.{line-there, onward-goes, start-goes}
 use Rattle.lower_programs.proofs.Straight.{left-same}
 use Rattle.lower_programs.proofs.Ways.{from-then, next-begins, of-run, to-run}

@@ -22,9 +22,9 @@ use Rattle.lower_lines.specs.Statements.{After, Exits, dead, dead_blocks, onward
 use Rattle.lower_lines.specs.Variables.{Spot, levels_of, local_variables}
 use Rattle.lower_lines.proofs.Changes.{kept-none}
 use Rattle.lower_lines.proofs.Steps.{return-none, return-step}
-use Rattle.lower_expressions.proofs.Atoms.{with-older}
-use Rattle.lower_expressions.proofs.Going.{stand-back, stand-front}
-use Rattle.lower_expressions.proofs.Operands.{NumberStands, number-operand}
+use Rattle.lower_programs.proofs.Atoms.{with-older}
+use Rattle.lower_programs.proofs.Going.{stand-back, stand-front}
+use Rattle.lower_programs.proofs.Operands.{NumberStands, number-operand}
 use Rattle.lower_programs.proofs.Onward.{jump-goes, onward-goes}
 use Rattle.lower_programs.proofs.Visits.{mark-goes, visit_of, visited-begins}
 use Rattle.lower_programs.proofs.Ways.{from-both, from-here, from-then, of-dropped, of-run, to-run}

@@ -23,9 +23,9 @@ use Rattle.lower_lines.specs.Statements.{comparing, comparing_blocks, default_bl
 use Rattle.lower_lines.specs.Statements.{has_label, labelled_before, labelled_from, opening, opening_blocks}
 use Rattle.lower_lines.specs.Statements.{runs_levels, sequence_lines, started, towards}
 use Rattle.lower_lines.specs.Variables.{ForScratch, Spot, levels_of, temporary}
-use Rattle.lower_expressions.proofs.Atoms.{with-older}
-use Rattle.lower_expressions.proofs.Going.{stand-back, stand-front}
-use Rattle.lower_expressions.proofs.Operands.{NumberStands, number-operand}
+use Rattle.lower_programs.proofs.Atoms.{with-older}
+use Rattle.lower_programs.proofs.Going.{stand-back, stand-front}
+use Rattle.lower_programs.proofs.Operands.{NumberStands, number-operand}
 use Rattle.lower_programs.proofs.Comparing.{case_block, comparing-goes, operand-apart, switched-block}
 use Rattle.lower_programs.proofs.Onward.{exit-there, exits-from, line-there, start-goes}
 use Rattle.lower_programs.proofs.Straight.{behind-mark, left-same}

@@ -30,10 +30,10 @@ use Rattle.lower_lines.proofs.Arrays.{kept-by-arrays}
 use Rattle.lower_lines.proofs.Changes.{kept-by-change, kept-twice, temporaries-free, turns-free}
 use Rattle.lower_lines.proofs.Locals.{get-set_other, get-set_same, length-slice_set}
 use Rattle.lower_lines.proofs.Steps.{branch-step, load-step, store-step, two-step}
-use Rattle.lower_expressions.proofs.Going.{stand-back, stand-front}
-use Rattle.lower_expressions.proofs.Made.{variable-there}
-use Rattle.lower_expressions.proofs.Widths.{get-within, temporary-width}
-use Rattle.lower_expressions.proofs.Working.{comparison-is}
+use Rattle.lower_programs.proofs.Going.{stand-back, stand-front}
+use Rattle.lower_programs.proofs.Made.{variable-there}
+use Rattle.lower_programs.proofs.Widths.{get-within, temporary-width}
+use Rattle.lower_programs.proofs.Working.{comparison-is}
 use Rattle.lower_programs.proofs.Arrays.{lists-there, named-of}
 use Rattle.lower_programs.proofs.Arrays.{stored-same}
 use Rattle.lower_programs.proofs.Onward.{start-goes}

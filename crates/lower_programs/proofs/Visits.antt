@@ -24,7 +24,7 @@ use Rattle.lower_lines.specs.Shown.{IsInteger, IsPointer}
 use Rattle.lower_lines.specs.Variables.{typed_spot}
 use Rattle.lower_lines.proofs.Locals.{same-some}
 use Rattle.lower_lines.proofs.Steps.{mark-step, shown_by}
-use Rattle.lower_expressions.proofs.Going.{Goes}
+use Rattle.lower_programs.proofs.Going.{Goes}
 
 -- a local is there, and its variables hold it
 local-there : (vs : List Value) (v : ℕ) (ls : List Local) (xs : List Held) (k : ℕ) (l : Local)

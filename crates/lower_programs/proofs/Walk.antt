@@ -43,7 +43,7 @@ use Rattle.lower_lines.specs.Variables.{Context}
 use Rattle.lower_lines.specs.Words.{IsInMemory}
 use Rattle.lower_lines.proofs.Levels.{assigned-levels, turned-levels}
 use Rattle.lower_lines.proofs.Types.{all-at, part-type}
-use Rattle.lower_expressions.proofs.Made.{some-and}
+use Rattle.lower_programs.proofs.Made.{some-and}
 use Rattle.lower_programs.proofs.Arrays.{assigned-integer, elements-lower}
 use Rattle.lower_programs.proofs.Conditions.{conditions-lower}
 use Rattle.lower_programs.proofs.Copying.{texts-lower}

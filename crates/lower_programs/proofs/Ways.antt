@@ -19,7 +19,7 @@ use Rattle.lower_lines.specs.Relation.{Keeps, Shows}
 use Rattle.lower_lines.specs.Statements.{After, Exits}
 use Rattle.lower_lines.specs.Variables.{local_variables}
 use Rattle.lower_lines.proofs.Changes.{kept-none, kept-twice}
-use Rattle.lower_expressions.proofs.Going.{Goes, goes-end}
+use Rattle.lower_programs.proofs.Going.{Goes, goes-end}
 use Rattle.lower_programs.specs.Ways.{Behind, From, LeftBy}
 
 visits-append : (us vs : List Visit) (o : Outcome) → after_visits us (after_visits vs o) ≡ after_visits (us ++ vs) o

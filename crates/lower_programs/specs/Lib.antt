@@ -9,3 +9,11 @@ pub mod FitsLaws
 pub mod Declared
 pub mod SettledLaws
 pub mod Lowered
+pub mod ExpressionsLaws
+pub mod Numeric
+pub mod Walk
+pub mod PlacesLaws
+pub mod PointersLaws
+pub mod ElementsLaws
+pub mod ComparisonsLaws
+pub mod WholeLaws

@@ -2,8 +2,7 @@
 
 ghost use Rattle.lower_lines.specs.Laws.{ProgramsLower};
 
-use crate::programs_lower;
-use lower_expressions::expressions_lower;
+use crate::{expressions_lower, programs_lower};
 
 /// Lowering keeps the outcome of every typed program in memory, over every input and in any number of turns
 /// (C99 5.1.2.3).

@@ -1,3 +1,4 @@
 pub mod Known
 pub mod Naming
 pub mod Placing
+pub mod Words

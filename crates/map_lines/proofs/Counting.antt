@@ -15,7 +15,7 @@ use Rattle.c_tree.specs.Program.{Next, Function, Local}
 use Rattle.c_tree.specs.WellTyped.{first_numbers, item_number, statement_numbers, statements_numbers}
 use Rattle.lower_lines.specs.Shown.{declarations_in, declarations_of, declared_before, declared_first, declaring}
 use Rattle.lower_lines.specs.Shown.{local_widths, numbers_in, numbers_in_first, numbers_of, type_widths}
-use Rattle.map_laws.specs.ProgramMap.{variables_before}
+use Rattle.map_lines.specs.ProgramMap.{variables_before}
 use Rattle.map_lines.specs.Shown.{body_declares, declared_at, declares, first_declares, statement_declares}
 use Rattle.map_lines.specs.Shown.{variables_at}
 

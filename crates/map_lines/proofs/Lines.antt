@@ -29,9 +29,9 @@ use Rattle.pcc_listing.specs.Lines.{object_lines, point_lines, variable_lines}
 use Rattle.pcc_listing.specs.Maps.{points_of}
 use Rattle.pcc_listing.specs.Views.{standing_of}
 use Rattle.pcc_listing.specs.declared.lines.Standing as stood
-use Rattle.map_laws.specs.Belongs.{arrays_at, local_variables, objects_at, temporary, typed_variables}
-use Rattle.map_laws.specs.ProgramMap.{Homes, function_over, op_points, points_over, standings_from, variables_before}
-use Rattle.map_laws.proofs.Variables.{locals-widths, width_of}
+use Rattle.map_lines.specs.Belongs.{arrays_at, local_variables, objects_at, temporary, typed_variables}
+use Rattle.map_lines.specs.ProgramMap.{Homes, function_over, op_points, points_over, standings_from, variables_before}
+use Rattle.map_lines.proofs.OwnedVariables.{locals-widths, width_of}
 use Rattle.map_lines.specs.Shown.{AreBelow, points_at}
 use Rattle.map_lines.proofs.Lists.{drop-there, numbered-both, one-put}
 

@@ -10,7 +10,7 @@ use Rattle.flow_graph.specs.declared.op.Op.TheVariants as op
 use Rattle.flow_graph.specs.Graphs.{Flow}
 use Rattle.lower_lines.specs.Lowering.{MarksStatements}
 use Rattle.lower_lines.specs.Shown.{declared_before, local_widths, numbers_of}
-use Rattle.map_laws.proofs.Variables.{take-widths}
+use Rattle.map_lines.proofs.OwnedVariables.{take-widths}
 use Rattle.map_lines.specs.Shown.{body_declares, shown_at, variables_at}
 use Rattle.map_lines.proofs.Counting.{flags-many, variables-same}
 use Rattle.map_lines.proofs.Lines.{shown_before}

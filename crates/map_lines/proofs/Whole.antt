@@ -15,7 +15,7 @@ use Rattle.ia32_frames.specs.declared.frame.Frame.{Frame}
 use Rattle.lower_lines.specs.Lowering.{first_statement}
 use Rattle.lower_lines.specs.Shown.{numbers_of}
 use Rattle.pcc_listing.specs.Lines.{Line, function_lines, numbered}
-use Rattle.map_laws.specs.ProgramMap.{Homes, function_over, functions_over}
+use Rattle.map_lines.specs.ProgramMap.{Homes, function_over, functions_over}
 use Rattle.map_lines.specs.Shown.{CanShow, CanShowAll, address_in, homes_of}
 use Rattle.map_lines.proofs.Lists.{drop-there, one-put}
 

@@ -1,1 +1,5 @@
 pub mod Shown
+pub mod Laws
+pub mod Belongs
+pub mod ProgramMap
+pub mod VisitsLaws

@@ -15,7 +15,7 @@ use Rattle.ia32_frames.specs.declared.frame.Frame.{Frame}
 use Rattle.lower_lines.specs.Lowering.{HasShape, MarksStatements, first_statement}
 use Rattle.lower_lines.specs.Shown.{local_widths, numbers_of}
 use Rattle.pcc_listing.specs.Maps.{MapPoint}
-use Rattle.map_laws.specs.ProgramMap.{Homes, frame_bytes, point_of, standings_from}
+use Rattle.map_lines.specs.ProgramMap.{Homes, frame_bytes, point_of, standings_from}
 
 -- ---- declarations
 

@@ -9,7 +9,7 @@ ghost use Rattle.map_lines.specs.Shown as shown;
 ghost use Rattle.map_lines.specs.Shown.{AreBelow, CanShow, points_at};
 ghost use Rattle.pcc_listing.specs.Lines.{point_lines};
 ghost use Rattle.pcc_listing.specs.Views.{line_of, standing_of};
-ghost use Rattle.map_laws.specs.ProgramMap.{all_points, points_over, standings_from};
+ghost use Rattle.map_lines.specs.ProgramMap.{all_points, points_over, standings_from};
 
 use crate::declared::counts_before;
 use c_tree::Function;

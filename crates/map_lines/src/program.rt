@@ -7,7 +7,7 @@ ghost use Rattle.lower_lines.specs.Shown.{numbers_of};
 ghost use Rattle.map_lines.specs.Shown.{CanShow, CanShowAll, address_in, homes_of};
 ghost use Rattle.pcc_listing.specs.Lines.{function_lines, lines_of};
 ghost use Rattle.pcc_listing.specs.Views.{line_of};
-ghost use Rattle.map_laws.specs.ProgramMap.{function_over, program_map};
+ghost use Rattle.map_lines.specs.ProgramMap.{function_over, program_map};
 
 use crate::points::push_points;
 use crate::variables::{push_arrays, push_objects, push_variables};

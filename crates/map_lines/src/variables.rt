@@ -11,7 +11,7 @@ ghost use Rattle.pcc_listing.specs.Lines.{VariableLine, array_lines, numbered, o
 ghost use Rattle.pcc_listing.specs.Maps.{NamesArray, NamesIndex, NamesScalar};
 ghost use Rattle.pcc_listing.specs.Views.{line_of};
 ghost use Rattle.pcc_base.specs.declared.run.Width.TheVariants.{Two};
-ghost use Rattle.map_laws.specs.Belongs.{arrays_at, local_variables, objects_at, temporary};
+ghost use Rattle.map_lines.specs.Belongs.{arrays_at, local_variables, objects_at, temporary};
 
 use crate::declared::variables_in;
 use c_tree::{IntegerType, Local, LocalArray, StaticObject, ValueType};

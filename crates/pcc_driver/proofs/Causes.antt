@@ -10,7 +10,7 @@ use Rattle.pcc_reports.specs.Reports.{status_of}
 use Rattle.pcc_reports.specs.declared.report.Report.{Report}
 use Rattle.pcc_reports.specs.declared.report.Report.TheVariants as reports
 use Rattle.pcc_reports.proofs.Ends.{ended_status, shown_status}
-use Rattle.pcc_sources.specs.Sources.{HoldAll}
+use Rattle.pcc_reports.specs.Sources.{HoldAll}
 use Rattle.pcc_driver.specs.Answers.{CommandTold, NothingDone}
 use Rattle.pcc_words.specs.Asked as commands
 use Rattle.pcc_words.specs.Asked.{Command}

@@ -11,8 +11,8 @@ use Rattle.pcc_reports.specs.Causes.{FilesCause, StreamsCause}
 use Rattle.pcc_reports.specs.Outside.{Files, SameStreams, Work}
 use Rattle.pcc_reports.specs.declared.report.Report.{Report}
 use Rattle.pcc_reports.specs.declared.report.Report.TheVariants as reports
-use Rattle.pcc_sources.specs.Programs.{HaveNoProgram}
-use Rattle.pcc_sources.specs.Sources.{HoldAll}
+use Rattle.pcc_reports.specs.Programs.{HaveNoProgram}
+use Rattle.pcc_reports.specs.Sources.{HoldAll}
 use Rattle.pcc_driver.specs.Evaluations.{EvalTold, SourcesTold, report_of_evaluation}
 
 -- no file is asked for

@@ -19,8 +19,8 @@ use Rattle.pcc_reports.specs.declared.report.Named.TheVariants.{Source, Map, Ima
 use Rattle.pcc_reports.specs.declared.report.Report.{Report}
 use Rattle.pcc_reports.specs.declared.report.Report.TheVariants as reports
 use Rattle.pcc_reports.proofs.Ends.{ended_status}
-use Rattle.pcc_sources.specs.Sources.{Holds, IsTooLong}
-use Rattle.pcc_sources.proofs.Status.{refused_status, typed_status}
+use Rattle.pcc_reports.specs.Sources.{Holds, IsTooLong}
+use Rattle.pcc_reports.proofs.Status.{refused_status, typed_status}
 use Rattle.pcc_driver.proofs.Status.{eval_status}
 use Rattle.pcc_driver.proofs.Causes.{own_status}
 use Rattle.pcc_driver.specs.Answers.{CommandTold, CompileTold, RunTold, SolveTold, RunGives, IsNoImage}

@@ -13,7 +13,7 @@ use Rattle.pcc_reports.specs.declared.report.Named.TheVariants.{Source, Map, Ima
 use Rattle.pcc_driver.specs.Answers.{ImageTold, RunTold, RunGives, RunGivesSoFar, RunGivesPart}
 use Rattle.pcc_driver.specs.Answers.{GivesNoMachine, IsNoImage, report_of_end}
 use Rattle.pcc_reports.specs.Outside.{SameStreams, Work}
-use Rattle.pcc_sources.specs.Sources.{Holds, file_limit}
+use Rattle.pcc_reports.specs.Sources.{Holds, file_limit}
 use Rattle.pcc_reports.specs.declared.report.Report.{Report}
 use Rattle.pcc_reports.specs.declared.report.Report.TheVariants as reports
 

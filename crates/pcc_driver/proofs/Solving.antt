@@ -7,7 +7,8 @@ use Rattle.puzzle_board.specs.declared.piece.State.{State}
 use Rattle.puzzle_board.specs.declared.piece.State.TheVariants.{Unplaced, At, Removed}
 use Rattle.puzzle_board.specs.Boards.{Puzzle, remaining, remaining_in, standing, standing_in}
 use Rattle.puzzle_board.specs.Placements.{IsLegalPlacement, IsSolvable}
-use Rattle.puzzle_solver.specs.Solved.{IsSolved, is_removed}
+use Rattle.puzzle_choices.specs.Onward.{is_removed}
+use Rattle.puzzle_solver.specs.Solved.{IsSolved}
 use Rattle.puzzle_texts.specs.Reading.{fresh_board}
 use Rattle.puzzle_texts.specs.Texts.{placement_text}
 use Rattle.pcc_driver.specs.Solutions.{IsAnswer}

@@ -10,8 +10,8 @@ use Rattle.pcc_reports.specs.Outside.{Files, Work}
 use Rattle.pcc_reports.specs.Reports.{end_status, status_of}
 use Rattle.pcc_reports.specs.declared.report.Report.{Report}
 use Rattle.pcc_reports.specs.declared.report.Report.TheVariants as reports
-use Rattle.pcc_sources.specs.Programs.{HoldProgram}
-use Rattle.pcc_sources.proofs.Status.{refused_status, typed_status}
+use Rattle.pcc_reports.specs.Programs.{HoldProgram}
+use Rattle.pcc_reports.proofs.Status.{refused_status, typed_status}
 use Rattle.pcc_driver.specs.Evaluations.{EvalGives, EvalStatus, EvalTold}
 
 -- the outcome of the sources' typed program decides

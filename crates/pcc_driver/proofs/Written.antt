@@ -3,8 +3,8 @@ use Rattle.std.proofs.Common.{◌≡◌, ◌≢◌, ℕ, List, Some, ap, ◌∙�
 use Rattle.pcc_driver.specs.Answers.{CompileTold, WritesTold, MapStands}
 use Rattle.pcc_words.specs.Asked.{map_name}
 use Rattle.pcc_reports.specs.Outside.{Files, SameFiles}
-use Rattle.pcc_sources.specs.Programs.{HaveNoProgram}
-use Rattle.pcc_sources.specs.Sources.{AreRead}
+use Rattle.pcc_reports.specs.Programs.{HaveNoProgram}
+use Rattle.pcc_reports.specs.Sources.{AreRead}
 use Rattle.pcc_driver.specs.Products.{AreProducts}
 use Rattle.pcc_reports.specs.declared.report.Named.TheVariants.{Source, Map, Image, Board}
 use Rattle.pcc_reports.specs.declared.report.Report.{Report}

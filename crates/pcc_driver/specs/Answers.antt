@@ -18,8 +18,8 @@ use Rattle.c_program.specs.Answers.{HaveTypedProgram}
 use Rattle.pcc_headline.specs.Products.{IsImageOf}
 use Rattle.puzzle_texts.specs.Reading.{IsNoBoard}
 use Rattle.pcc_words.specs.Asked.{Command, Compile, Run, Eval, Solve, ManyFiles, Usage, map_name}
-use Rattle.pcc_sources.specs.Programs.{HaveNoProgram}
-use Rattle.pcc_sources.specs.Sources.{AreRead, Holds, IsTooLong}
+use Rattle.pcc_reports.specs.Programs.{HaveNoProgram}
+use Rattle.pcc_reports.specs.Sources.{AreRead, Holds, IsTooLong}
 use Rattle.pcc_reports.specs.Ends.{IsUnlessMemory}
 use Rattle.pcc_reports.specs.Outside.{Files, Output, SameFiles, SameStreams, Work}
 use Rattle.pcc_reports.specs.declared.report.Named.{Named}

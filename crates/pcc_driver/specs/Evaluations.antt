@@ -9,7 +9,7 @@ use Rattle.pcc_reports.specs.Outside.{Files, SameStreams, Work}
 use Rattle.pcc_reports.specs.declared.report.Report.{Report}
 use Rattle.pcc_reports.specs.declared.report.Report.TheVariants as reports
 use Rattle.pcc_reports.specs.Reports.{end_status}
-use Rattle.pcc_sources.specs.Programs.{HaveNoProgram, HoldProgram, SourcesStatus}
+use Rattle.pcc_reports.specs.Programs.{HaveNoProgram, HoldProgram, SourcesStatus}
 
 -- the report of an evaluation of so many turns
 abbrev pub report_of_evaluation : ℕ → EvalEnd → Report

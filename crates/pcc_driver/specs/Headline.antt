@@ -8,7 +8,7 @@ use Rattle.pcc_listing.specs.Lines.{map_text}
 use Rattle.pcc_listing.specs.Maps.{Map}
 use Rattle.pcc_words.specs.Asked.{map_name}
 use Rattle.pcc_reports.specs.Outside.{Files}
-use Rattle.pcc_sources.specs.Sources.{AreRead}
+use Rattle.pcc_reports.specs.Sources.{AreRead}
 
 -- What a compilation leaves: the sources have a typed program, NAME.map holds the text of the map of the image (and a
 -- text is the text of one map at most), NAME holds an image that does what the program does by that map, and no other

@@ -12,8 +12,8 @@ use Rattle.puzzle_texts.specs.Reading.{IsNoBoard}
 use Rattle.pcc_words.specs.Asked.{Command, Compile, Run, Eval, Solve, ManyFiles, Usage}
 use Rattle.pcc_reports.specs.Outside.{Files, Outside, Store, Work}
 use Rattle.pcc_reports.specs.Reports.{end_status}
-use Rattle.pcc_sources.specs.Programs.{SourcesStatus}
-use Rattle.pcc_sources.specs.Sources.{HoldAll, file_limit}
+use Rattle.pcc_reports.specs.Programs.{SourcesStatus}
+use Rattle.pcc_reports.specs.Sources.{HoldAll, file_limit}
 use Rattle.pcc_driver.specs.Solutions.{IsSomeBoard}
 
 -- no count of faults rose

@@ -4,8 +4,8 @@ ghost use Rattle.c_program.specs.Answers.{HaveTypedProgram};
 ghost use Rattle.pcc_outside.specs.Streams.{SinkCounts};
 ghost use Rattle.pcc_reports.specs.Causes.{FilesCause, StreamsCause};
 ghost use Rattle.pcc_reports.specs.Outside.{Files, SameFiles};
-ghost use Rattle.pcc_sources.specs.Programs.{IsTyped};
-ghost use Rattle.pcc_sources.specs.Sources.{AreRead};
+ghost use Rattle.pcc_reports.specs.Programs.{IsTyped};
+ghost use Rattle.pcc_reports.specs.Sources.{AreRead};
 ghost use Rattle.pcc_driver.specs.Answers.{CompileTold, WritesTold, report_of_write};
 
 use c_accepted::programs_are_ready;
@@ -13,8 +13,7 @@ use c_tree::Program;
 use pcc_base::NoMemory;
 use pcc_outside::{FileStore, WriteRefusal};
 use pcc_program::{Products, compile_program};
-use pcc_reports::{Named, Report};
-use pcc_sources::program_of_sources;
+use pcc_reports::{Named, Report, program_of_sources};
 use std::alloc::Global;
 
 /// The report of a refused write.

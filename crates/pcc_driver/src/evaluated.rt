@@ -7,8 +7,7 @@ ghost use Rattle.pcc_driver.specs.Evaluations.{EvalTold, SourcesTold, report_of_
 
 use c_eval::EvalEnd;
 use pcc_outside::{FileStore, Sink, Source};
-use pcc_reports::Report;
-use pcc_sources::program_of_sources;
+use pcc_reports::{Report, program_of_sources};
 use std::alloc::Global;
 
 /// The report of an evaluation of so many turns.

@@ -14,8 +14,7 @@ ghost use Rattle.pcc_driver.specs.Answers.{
 use elf_image::{ImageRefusal, Loaded, read_image};
 use ia32_machine::{Machine, MachineEnd};
 use pcc_outside::{FileStore, Sink, Source};
-use pcc_reports::{Named, Report};
-use pcc_sources::{FILE_LIMIT, read_report};
+use pcc_reports::{FILE_LIMIT, Named, Report, read_report};
 use std::alloc::Global;
 
 /// The segments that the bytes of an image load.

@@ -13,8 +13,7 @@ ghost use Rattle.pcc_driver.specs.Solutions.{IsAnswer, IsSolution};
 
 use pcc_base::{NoMemory, Steps};
 use pcc_outside::{FileStore, Sink, WriteRefusal};
-use pcc_reports::{Named, Report};
-use pcc_sources::{FILE_LIMIT, read_report};
+use pcc_reports::{FILE_LIMIT, Named, Report, read_report};
 use puzzle_board::Board;
 use puzzle_texts::{BoardRefusal, print_placement, read_board};
 use std::alloc::Global;

@@ -11,7 +11,7 @@ use Rattle.ia32_rows.specs.Follows.{IsRightCode, ShowsVisits}
 use Rattle.ia32_rows.specs.Placements.{Code, IsCode, objects_of}
 use Rattle.pcc_listing.specs.Maps.{Map, IsMap}
 use Rattle.pcc_listing.specs.Marks.{listed, visits_of}
-use Rattle.map_laws.specs.Belongs.{IsMapOf}
+use Rattle.map_lines.specs.Belongs.{IsMapOf}
 use Rattle.pcc_headline.specs.Products.{IsImageOf, image_of}
 
 -- What the passes make of a program: the graphs that it is lowered to; their code, which does what they do, in a

@@ -15,7 +15,7 @@ use Rattle.ia32_rows.specs.Placements.{Code, IsCode, objects_of}
 use Rattle.pcc_listing.specs.Lines.{map_text}
 use Rattle.pcc_listing.specs.Maps.{Map, IsMap}
 use Rattle.pcc_listing.specs.Marks.{visits_of, listed}
-use Rattle.map_laws.specs.Belongs.{IsMapOf}
+use Rattle.map_lines.specs.Belongs.{IsMapOf}
 
 -- m steps of the image with these bytes have this outcome, with the visits that the map shows
 abbrev pub ImageOutcome : List ℕ → Map → List ℕ → ℕ → Outcome → Type 0

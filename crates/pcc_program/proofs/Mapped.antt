@@ -13,7 +13,7 @@ use Rattle.ia32_frames.specs.Laws.{FramesHaveSlots, OffsetsAreBelow}
 use Rattle.ia32_programs.specs.Supports.{AreSlots}
 use Rattle.ia32_rows.specs.Placements.{in_slots}
 use Rattle.map_lines.specs.Shown.{AreBelow, homes_of}
-use Rattle.map_laws.specs.ProgramMap.{Homes}
+use Rattle.map_lines.specs.ProgramMap.{Homes}
 use Rattle.pcc_program.specs.Passes.{IsFrameOf}
 
 -- the frame of a graph that has these homes

@@ -16,7 +16,7 @@ use Rattle.map_lines.specs.Shown.{CanShowAll, address_in, homes_of}
 use Rattle.pcc_headline.specs.Products.{IsImageOf}
 use Rattle.pcc_listing.specs.Maps.{Map}
 use Rattle.pcc_program.specs.Code.{framed_items}
-use Rattle.map_laws.specs.ProgramMap.{program_map}
+use Rattle.map_lines.specs.ProgramMap.{program_map}
 use Rattle.pcc_program.specs.Passes.{AreSectionsFrom, IsFrameOf}
 use Rattle.pcc_program.specs.Programs.{IsCompilable}
 

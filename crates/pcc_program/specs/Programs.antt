@@ -5,7 +5,7 @@ use Rattle.c_tree.specs.Program.{Program}
 use Rattle.c_tree.specs.WellTyped.{WellTyped}
 use Rattle.c_typing.specs.Typed.{arrays_bytes, most_arrays}
 use Rattle.lower_lines.specs.Words.{IsInMemory}
-use Rattle.map_laws.specs.Laws.{IsNamedFunction}
+use Rattle.map_lines.specs.Laws.{IsNamedFunction}
 
 -- A typed program in memory, whose functions and locals have identifiers as names, and whose static objects are within
 -- their limit. Every program that typing accepts is one.

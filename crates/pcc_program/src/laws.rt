@@ -7,7 +7,7 @@ use ia32_frames::{frames_support, offsets_are_below};
 use ia32_programs::programs_are_right;
 use ia32_sizes::selected_is_code;
 use lower_programs::visits_are_known;
-use map_laws::{
+use map_lines::{
     map_belongs, map_by_same_addresses, map_keeps_rules, map_lists_locals, visits_are_shown,
 };
 use pcc_headline::compiled_does_as;

@@ -1,1 +1,4 @@
 pub mod Ends
+pub mod SoFar
+pub mod Status
+pub mod Told

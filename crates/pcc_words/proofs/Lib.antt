@@ -3,5 +3,6 @@ mod Numbers
 mod Rows
 mod Clashes
 mod Told
+mod Grown
 mod Refused
 pub mod Few

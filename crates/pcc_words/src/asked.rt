@@ -42,7 +42,7 @@ use crate::command::Command;
 use clap::error::ErrorKind;
 use clap::{ArgMatches, Error};
 use pcc_base::NoMemory;
-use std::alloc::Global;
+use std::alloc::{AllocError, Global};
 
 /// The most sources of one command.
 pub const FILE_COUNT_LIMIT: usize = 16;
@@ -73,12 +73,28 @@ Commands:
   pcc solve FILE              prints a legal placement of a board's pieces, or `none`
 ";
 
+/// No command, and what is told instead.
+fn told<'a>(text: Result<String, AllocError>) -> Result<Command<'a>, NoMemory>
+    ensures { IfOk result (λ c. meaning c ≡ Usage) }
+{
+    match text {
+        Ok(text) => Ok(Command::Usage(text)),
+        Err(_) => Err(NoMemory),
+    }
+}
+
 /// No command, and why.
 fn usage<'a>(alloc: Global, text: &str) -> Result<Command<'a>, NoMemory>
     ensures { IfOk result (λ c. meaning c ≡ Usage) }
 {
-    let text = format!(in alloc; "error: {text}\n\n{COMMANDS}")?;
-    Ok(Command::Usage(text))
+    told(format!(in alloc; "error: {text}\n\n{COMMANDS}"))
+}
+
+/// The same sources.
+fn copied<'a>(alloc: Global, sources: &[&'a str]) -> Result<Vec<&'a str>, NoMemory>
+    ensures { IfOk result (λ copies. copies.items ≡ sources.now) }
+{
+    Ok(Vec::from_slice(alloc, sources)?)
 }
 
 /// There are more sources than are read.
@@ -89,7 +105,6 @@ fn are_many(sources: &[&str]) -> bool
 }
 
 /// Some source is what is written.
-#[tactic(auto, using(crate::proofs::Clashes::from_here, crate::proofs::Clashes::from_end))]
 fn is_any_written(name: &str, sources: &[&str]) -> bool
     ensures { result ≡ clashes name.now (map (λ s. s.now) sources.now) }
 {
@@ -118,12 +133,8 @@ fn compile_of<'a>(
             "NAME and NAME.map are written, so no SRC has these names",
         );
     }
-    let mut copies = Vec::new(alloc);
-    copies.extend_from_slice(sources)?;
-    Ok(Command::Compile {
-        name,
-        sources: copies,
-    })
+    let sources = copied(alloc, sources)?;
+    Ok(Command::Compile { name, sources })
 }
 
 /// `run`, where the number of steps has 64 bits.
@@ -144,12 +155,8 @@ fn eval_for<'a>(alloc: Global, turns: u64, sources: &[&'a str]) -> Result<Comman
     if are_many(sources) {
         return Ok(Command::ManyFiles(sources.len()));
     }
-    let mut copies = Vec::new(alloc);
-    copies.extend_from_slice(sources)?;
-    Ok(Command::Eval {
-        turns,
-        sources: copies,
-    })
+    let sources = copied(alloc, sources)?;
+    Ok(Command::Eval { turns, sources })
 }
 
 /// `eval`, where the number of turns has 64 bits.
@@ -218,16 +225,12 @@ fn asked_by<'a>(
 ) -> Result<Command<'a>, NoMemory>
     ensures { IfOk result (λ c. meaning c ≡ asked_by command.now (rows_of (found_of matches.now))) }
 {
-    if command == "compile" {
-        compile_asked(alloc, matches)
-    } else if command == "run" {
-        run_asked(alloc, matches)
-    } else if command == "eval" {
-        eval_asked(alloc, matches)
-    } else if command == "solve" {
-        solve_asked(alloc, matches)
-    } else {
-        usage(alloc, "a command is wanted")
+    match command {
+        "compile" => compile_asked(alloc, matches),
+        "run" => run_asked(alloc, matches),
+        "eval" => eval_asked(alloc, matches),
+        "solve" => solve_asked(alloc, matches),
+        _ => usage(alloc, "a command is wanted"),
     }
 }
 
@@ -245,22 +248,20 @@ fn asked_in<'a>(alloc: Global, matches: &ArgMatches<'a>) -> Result<Command<'a>, 
 fn refused<'a>(alloc: Global, error: &Error) -> Result<Command<'a>, NoMemory>
     ensures { MatchResult result (λ c. (meaning c ≡ Usage) × (kind_of error.now ≢ OutOfMemory)) (λ e. ⊤) }
 {
-    if error.kind() == ErrorKind::OutOfMemory {
-        return Err(NoMemory);
+    match error.kind() {
+        ErrorKind::OutOfMemory => Err(NoMemory),
+        ErrorKind::DisplayHelp => told(format!(in alloc; "{error}")),
+        _ => told(format!(in alloc; "{error}\n{COMMANDS}")),
     }
-    if error.kind() == ErrorKind::DisplayHelp {
-        let text = format!(in alloc; "{error}")?;
-        return Ok(Command::Usage(text));
-    }
-    let text = format!(in alloc; "{error}\n{COMMANDS}")?;
-    Ok(Command::Usage(text))
 }
 
 /// The command that the words behind the program's name mean.
 pub fn command_of(alloc: Global, words: &[String]) -> Result<Command<'_>, NoMemory>
     ensures { IfOk result (λ c. meaning c ≡ command_of (map string_bytes words.now)) }
 {
-    let app = app(alloc)?;
+    let Ok(app) = app(alloc) else {
+        return Err(NoMemory);
+    };
     match app.try_get_matches_from(words) {
         Ok(matches) => asked_in(alloc, &matches),
         Err(error) => refused(alloc, &error),

@@ -1,9 +1,6 @@
 pub mod Ends
-pub mod Fillings
-pub mod Onward
 pub mod Ready
 pub mod RoomWorths
 pub mod Rooms
 pub mod Worths
 pub mod Spilling
-pub mod Orders

@@ -1,4 +1,4 @@
--- The counts of a board, and how many pieces of width Two go where.
+-- The counts of a board, and what is left when the pieces of width Two are placed.
 use Rattle.std.specs.Prelude.{ℕ, ◌≡◌, ◌+◌, ◌*◌, ◌≤◌}
 use Rattle.pcc_base.specs.declared.run.Width.TheVariants.{One, Two}
 use Rattle.puzzle_board.specs.declared.area.AreaKind.TheVariants.{E, U1, L1, C, U0, L0, UpperLower, UpperNone}
@@ -7,29 +7,8 @@ use Rattle.puzzle_board.specs.declared.piece.Kind.TheVariants.{X, Y, Z}
 use Rattle.puzzle_board.specs.Boards.{Puzzle, area_count, free_areas, piece_count, unplaced}
 use Rattle.puzzle_board.specs.Bounds.{Counts, both_of, counts_of, lower_of, upper_of}
 use Rattle.puzzle_board.specs.Worth.{both_price, lower_price, upper_price, worth}
-use Rattle.puzzle_solver.specs.declared.counts.AreaCounts.{AreaCounts}
-use Rattle.puzzle_solver.specs.declared.counts.PieceCounts.{PieceCounts}
-use Rattle.puzzle_solver.specs.declared.wide.Plan.{Plan}
-
--- the two halves of the counts
-abbrev pub numbers : AreaCounts → PieceCounts → Counts
-numbers a p = record {
-  e = a.e;
-  u1 = a.u1;
-  l1 = a.l1;
-  c = a.c;
-  u0 = a.u0;
-  l0 = a.l0;
-  upper_lower = a.upper_lower;
-  upper_none = a.upper_none;
-  lower_none = a.lower_none;
-  x1 = p.x1;
-  x2 = p.x2;
-  y1 = p.y1;
-  y2 = p.y2;
-  z1 = p.z1;
-  z2 = p.z2;
-}
+use Rattle.puzzle_choices.specs.declared.counts.AreaCounts.{AreaCounts}
+use Rattle.puzzle_choices.specs.declared.counts.PieceCounts.{PieceCounts}
 
 -- the counts of the areas and of the unplaced pieces
 abbrev pub board_counts : Puzzle → Counts
@@ -70,20 +49,6 @@ KeepsColumns n =
 abbrev pub KeepsCells : Counts → Type 0
 KeepsCells n =
     (n.y1 + n.x1 + 2 * n.y2 + 2 * n.x2 ≤ upper_of n) × (n.y1 + n.z1 + 2 * n.y2 + 2 * n.z2 ≤ lower_of n)
-
--- A plan has room for each piece of width Two, and leaves as many columns with both rows free as the Y of width One
--- need. An X that shares an area takes its upper row, so that a Z finds the lower one free.
-pub record IsPlan (n : Counts) (plan : Plan) : Type 0 where
-  pub own_x : plan.own_x ≤ n.u0
-  pub own_z : plan.own_z ≤ n.l0
-  pub shared : n.y2 + plan.shared_x + plan.alone_z ≤ n.e
-  pub below : plan.shared_z ≤ plan.shared_x
-  pub rest_x : plan.rest_x ≤ n.u1
-  pub rest_z : plan.rest_z ≤ n.l1
-  pub every_x : plan.own_x + plan.shared_x + plan.rest_x ≡ n.x2
-  pub every_z : plan.own_z + plan.shared_z + plan.alone_z + plan.rest_z ≡ n.z2
-  pub columns :
-      n.y1 + 2 * n.y2 + 2 * plan.shared_x + 2 * plan.alone_z + plan.rest_x + plan.rest_z ≤ both_of n
 
 -- the wide pieces are placed, these are the narrow ones that aren't, and there are columns and cells for them
 pub record IsReady (board : Puzzle) (x y z : ℕ) : Type 0 where

@@ -1,70 +1,43 @@
 ghost use Rattle.std.specs.Prelude.{◌≡◌, ◌+◌, ◌*◌, ◌↔◌, IsTrue};
 ghost use Rattle.puzzle_board.specs.Bounds.{IsBounded};
-ghost use Rattle.puzzle_solver.specs.Counting.{AreasAre, KeepsCells, KeepsColumns, KeepsWide, PiecesAre, numbers};
+ghost use Rattle.puzzle_choices.specs.Plans.{numbers};
+ghost use Rattle.puzzle_solver.specs.Counting.{AreasAre, KeepsCells, KeepsColumns, KeepsWide, PiecesAre};
 
 use pcc_base::{Steps, Width};
 use puzzle_board::{AreaKind, Board, Kind};
+use puzzle_choices::{AreaCounts, PieceCounts};
 use std::sync::ledger::Ledger;
 
-/// The areas of a board by kind.
-#[derive(Clone, Copy, Debug)]
-pub(crate) struct AreaCounts {
-    pub(crate) e: u32,
-    pub(crate) u1: u32,
-    pub(crate) l1: u32,
-    pub(crate) c: u32,
-    pub(crate) u0: u32,
-    pub(crate) l0: u32,
-    pub(crate) upper_lower: u32,
-    pub(crate) upper_none: u32,
-    pub(crate) lower_none: u32,
-}
-
-/// The unplaced pieces of a board by kind and width.
-#[derive(Clone, Copy, Debug)]
-pub(crate) struct PieceCounts {
-    pub(crate) x1: u32,
-    pub(crate) x2: u32,
-    pub(crate) y1: u32,
-    pub(crate) y2: u32,
-    pub(crate) z1: u32,
-    pub(crate) z2: u32,
-}
-
-impl AreaCounts {
-    /// Counts the areas of a board.
-    pub(crate) fn of<L: Ledger>(board: &Board, steps: &mut Steps<L>) -> AreaCounts
-        ensures value { AreasAre board.now result }
-        ensures ticks { steps.new ≡ steps.old + 9 }
-    {
-        AreaCounts {
-            e: board.count_areas(AreaKind::E, steps),
-            u1: board.count_areas(AreaKind::U1, steps),
-            l1: board.count_areas(AreaKind::L1, steps),
-            c: board.count_areas(AreaKind::C, steps),
-            u0: board.count_areas(AreaKind::U0, steps),
-            l0: board.count_areas(AreaKind::L0, steps),
-            upper_lower: board.count_areas(AreaKind::UpperLower, steps),
-            upper_none: board.count_areas(AreaKind::UpperNone, steps),
-            lower_none: board.count_areas(AreaKind::LowerNone, steps),
-        }
+/// Counts the areas of a board.
+pub(crate) fn areas_of<L: Ledger>(board: &Board, steps: &mut Steps<L>) -> AreaCounts
+    ensures value { AreasAre board.now result }
+    ensures ticks { steps.new ≡ steps.old + 9 }
+{
+    AreaCounts {
+        e: board.count_areas(AreaKind::E, steps),
+        u1: board.count_areas(AreaKind::U1, steps),
+        l1: board.count_areas(AreaKind::L1, steps),
+        c: board.count_areas(AreaKind::C, steps),
+        u0: board.count_areas(AreaKind::U0, steps),
+        l0: board.count_areas(AreaKind::L0, steps),
+        upper_lower: board.count_areas(AreaKind::UpperLower, steps),
+        upper_none: board.count_areas(AreaKind::UpperNone, steps),
+        lower_none: board.count_areas(AreaKind::LowerNone, steps),
     }
 }
 
-impl PieceCounts {
-    /// Counts the pieces of a board that are neither placed nor removed.
-    pub(crate) fn of<L: Ledger>(board: &Board, steps: &mut Steps<L>) -> PieceCounts
-        ensures value { PiecesAre board.now result }
-        ensures ticks { steps.new ≡ steps.old + 6 }
-    {
-        PieceCounts {
-            x1: board.count_pieces(Kind::X, Width::One, steps),
-            x2: board.count_pieces(Kind::X, Width::Two, steps),
-            y1: board.count_pieces(Kind::Y, Width::One, steps),
-            y2: board.count_pieces(Kind::Y, Width::Two, steps),
-            z1: board.count_pieces(Kind::Z, Width::One, steps),
-            z2: board.count_pieces(Kind::Z, Width::Two, steps),
-        }
+/// Counts the pieces of a board that are neither placed nor removed.
+pub(crate) fn pieces_of<L: Ledger>(board: &Board, steps: &mut Steps<L>) -> PieceCounts
+    ensures value { PiecesAre board.now result }
+    ensures ticks { steps.new ≡ steps.old + 6 }
+{
+    PieceCounts {
+        x1: board.count_pieces(Kind::X, Width::One, steps),
+        x2: board.count_pieces(Kind::X, Width::Two, steps),
+        y1: board.count_pieces(Kind::Y, Width::One, steps),
+        y2: board.count_pieces(Kind::Y, Width::Two, steps),
+        z1: board.count_pieces(Kind::Z, Width::One, steps),
+        z2: board.count_pieces(Kind::Z, Width::Two, steps),
     }
 }
 

@@ -9,11 +9,8 @@
 mod counts;
 mod fitting;
 mod narrow;
-mod order;
-mod place;
 mod solving;
 mod wide;
 
 pub use fitting::fit;
-pub use order::{Candidate, spill_order};
 pub use solving::solve;

@@ -4,11 +4,12 @@ ghost use Rattle.puzzle_board.specs.Placements.{IsSolvable};
 ghost use Rattle.std.specs.Bool.{OnFalse, OnTrue};
 ghost use Rattle.puzzle_solver.specs.Solved.{IsSolved};
 
-use crate::counts::{AreaCounts, PieceCounts, is_bounded};
+use crate::counts::{areas_of, is_bounded, pieces_of};
 use crate::narrow::{Waiting, place_narrow};
-use crate::wide::{Plan, place_wide};
+use crate::wide::place_wide;
 use pcc_base::Steps;
 use puzzle_board::Board;
+use puzzle_choices::Plan;
 use std::sync::ledger::Ledger;
 
 /// Places every piece that isn't removed, and answers true; or answers false where there is no legal placement, and
@@ -21,8 +22,8 @@ pub fn solve<L: Ledger>(board: &mut Board, steps: &mut Steps<L>) -> bool
     ensures unchanged { OnFalse result (board.new ≡ board.old) }
     ensures few { steps.new ≤ steps.old + 32 * length board.old.areas + 128 }
 {
-    let areas = AreaCounts::of(board, steps);
-    let pieces = PieceCounts::of(board, steps);
+    let areas = areas_of(board, steps);
+    let pieces = pieces_of(board, steps);
     if !is_bounded(areas, pieces) {
         return false;
     }

@@ -1,114 +1,123 @@
 //! What ops do with calls, with the outside and with turns.
 
-use crate::machine::{Call, End, Machine, Value, fresh};
+use crate::machine::{End, Machine, Value, fresh};
 use crate::numbers::low_byte;
-use flow_graph::Op;
-use pcc_base::Trap;
+use pcc_base::{NoMemory, Trap};
 
 /// The most calls that are active at once.
 const MOST_ACTIVE: usize = 4096;
 
 impl Machine<'_> {
     /// The values that a call passes.
-    fn values(&self, variables: &[u32]) -> Result<Vec<Value>, End> {
+    fn values(&mut self, variables: &[u32]) -> Result<Vec<Value>, NoMemory> {
         let mut values = Vec::new(self.alloc);
         for variable in variables {
-            values.push(self.value(*variable)?)?;
+            values.push(self.value(*variable))?;
         }
         Ok(values)
     }
 
-    /// A call of a function before its first op.
-    fn begun(&self, function: u32, words: Vec<Value>) -> Result<Call, End> {
+    /// The youngest call waits for one of a function.
+    fn enter(
+        &mut self,
+        wanted: Option<u32>,
+        function: u32,
+        variables: &[u32],
+    ) -> Result<(), NoMemory> {
+        let words = self.values(variables)?;
         match self.codes.get(function as usize) {
-            Some(code) => Ok(fresh(self.alloc, code, function, words)?),
-            None => Err(End::Stuck),
+            Some(code) => {
+                let call = fresh(self.alloc, &mut self.arrays, code, wanted, words)?;
+                let caller = std::mem::replace(&mut self.current, call);
+                self.waiting.push(caller)?;
+            }
+            None => self.stop(End::Stuck),
         }
-    }
-
-    /// A call waits for another.
-    fn enter(&mut self, call: Call) -> Result<(), End> {
-        let caller = std::mem::replace(&mut self.current, call);
-        Ok(self.waiting.push(caller)?)
+        Ok(())
     }
 
     /// A call of a function. One too many traps.
-    pub fn call(&mut self, function: u32, variables: &[u32]) -> Result<(), End> {
-        let words = self.values(variables)?;
-        if MOST_ACTIVE <= self.depth() {
-            return Err(End::Trapped(Trap::Check));
-        }
-        let call = self.begun(function, words)?;
-        self.enter(call)
-    }
-
-    /// The caller goes on behind its call, with the result where it wants one.
-    fn go_on(&mut self, number: Option<i32>) -> Result<(), End> {
-        match (self.op(), number) {
-            (Some(Op::Call(None, _, _)), _) => self.onward(),
-            (Some(Op::Call(Some(to), _, _)), Some(number)) => self.set_number(*to, number),
-            _ => Err(End::Stuck),
+    pub fn call(&mut self, wanted: Option<u32>, function: u32, variables: &[u32]) {
+        if MOST_ACTIVE <= self.waiting.len().saturating_add(1) {
+            self.stop(End::Trapped(Trap::Check));
+        } else if self.enter(wanted, function, variables).is_err() {
+            self.stop(End::NoMemory);
         }
     }
 
-    /// The end of a call. The status of the program is the low byte of what the first one returns.
-    fn return_to(&mut self, number: Option<i32>) -> Result<(), End> {
-        match (self.waiting.pop(), number) {
-            (Some(caller), _) => {
+    /// Back to the caller, if there is one. The arrays of the call end.
+    fn leave(&mut self) -> bool {
+        self.arrays.truncate(self.current.first_array);
+        match self.waiting.pop() {
+            Some(caller) => {
                 self.current = caller;
-                self.go_on(number)
+                true
             }
-            (None, Some(number)) => Err(End::Ended(low_byte(number))),
-            (None, None) => Err(End::Stuck),
+            None => false,
         }
     }
 
-    pub fn returns(&mut self, from: Option<u32>) -> Result<(), End> {
+    /// The end of a call with its result, for the caller that wants it. The status of the program is the low byte of
+    /// what the first call returns.
+    fn give(&mut self, number: i32) {
+        let wanted = self.current.wanted;
+        match (self.leave(), wanted) {
+            (true, Some(to)) => self.set_number(to, number),
+            (true, None) => {}
+            (false, _) => self.stop(End::Ended(low_byte(number))),
+        }
+    }
+
+    pub fn returns(&mut self, from: Option<u32>) {
         match from {
             Some(variable) => {
-                let number = self.number(variable)?;
-                self.return_to(Some(number))
+                let number = self.number(variable);
+                self.give(number);
             }
-            None => self.return_to(None),
+            None if self.current.wanted.is_some() || !self.leave() => self.stop(End::Stuck),
+            None => {}
         }
     }
 
     /// The argument word of that number.
-    pub fn param(&mut self, to: u32, word: u32) -> Result<(), End> {
+    pub fn param(&mut self, to: u32, word: u32) {
         match self.current.words.get(word as usize) {
             Some(value) => {
                 let value = *value;
-                self.set(to, value)
+                self.set(to, value);
             }
-            None => Err(End::Stuck),
+            None => self.stop(End::Stuck),
         }
     }
 
-    pub fn putchar(&mut self, to: u32, from: u32) -> Result<(), End> {
-        let byte = low_byte(self.number(from)?);
-        self.written.push(byte)?;
-        self.set_number(to, byte as i32)
+    pub fn putchar(&mut self, to: u32, from: u32) {
+        let byte = low_byte(self.number(from));
+        match self.written.push(byte) {
+            Ok(()) => self.set_number(to, byte as i32),
+            Err(_) => self.stop(End::NoMemory),
+        }
     }
 
-    pub fn getchar(&mut self, to: u32) -> Result<(), End> {
-        match self.input {
+    pub fn getchar(&mut self, to: u32) {
+        let number = match self.input {
             [byte, rest @ ..] => {
                 self.input = rest;
-                self.set_number(to, *byte as i32)
+                *byte as i32
             }
-            [] => self.set_number(to, -1),
-        }
+            [] => -1,
+        };
+        self.set_number(to, number);
     }
 
-    pub fn exit(&mut self, status: u32) -> Result<(), End> {
-        Err(End::Ended(low_byte(self.number(status)?)))
+    pub fn exit(&mut self, status: u32) {
+        let status = low_byte(self.number(status));
+        self.stop(End::Ended(status));
     }
 
-    pub fn turn(&mut self) -> Result<(), End> {
-        if self.turns == 0 {
-            return Err(End::TurnsSpent);
+    pub fn turn(&mut self) {
+        match self.turns.checked_sub(1) {
+            Some(turns) => self.turns = turns,
+            None => self.stop(End::TurnsSpent),
         }
-        self.turns -= 1;
-        self.onward()
     }
 }

@@ -1,4 +1,4 @@
-//! Tests of what is done with sources: of the public calls of `c_lexer` (`tokens`), `c_parser` (`trees`), `c_tree`
+//! Tests of what is done with sources: of the public calls of `c_lexer` (`tokens`), `c_front` (`trees`), `c_tree`
 //! (`types`) and `c_types` (`answers`): the last by small programs with their least fault and its place, programs
 //! that are typed, programs that are above a limit, and what sums are (`values`). A row of these (`rows`) is a
 //! program, with a `$` between two files and an `@` before the token at which the fault stands. Each table is one
@@ -6,7 +6,7 @@
 //!
 //! And tests of `lower`: small programs, whose outcome by the source's meaning is that of their graphs and the
 //! expected one. A plain interpreter of graphs stands here (`machine`, `ops`, `calls`, `arrays`), written from the
-//! meaning of ops in `flow_graph`. It shares no code with `lower`. Beside these stand tests of `c_store`
+//! meaning of ops in `flow_graph`. It shares no code with `lower`. Beside these stand tests of `c_eval`
 //! (`stores`), on which the evaluator rests.
 //!
 //! They stand in a crate of their own since a crate with tests is proved a second time; this one needs only what

@@ -4,7 +4,7 @@ ghost use Rattle.std.specs.Prelude.{IfOk, List, ℕ, ◌<◌, length};
 ghost use Rattle.c_tree.specs.Erased.{program_of};
 ghost use Rattle.c_program.specs.Answers.{HaveTypedProgram};
 
-use crate::code::codes_of;
+use crate::code::Code;
 use crate::machine::{End, Machine};
 use c_accepted::programs_are_ready;
 use c_evaluator::{EvalEnd, eval};
@@ -14,14 +14,7 @@ use lower::{Graphs, lower};
 use pcc_base::NoMemory;
 use pcc_outside::{MemSink, MemSource, Source};
 use std::alloc::Global;
-
-/// How a program ends, what it writes, and the first byte of its input that it leaves.
-#[derive(Debug, PartialEq, Eq, Drop)]
-pub struct Outcome {
-    pub end: End,
-    pub written: Vec<u8>,
-    pub next: Option<u8>,
-}
+use std::process::Abort;
 
 /// The bytes of two texts, one behind the other, which are fewer than 10,000.
 fn joined(alloc: Global, before: &str, text: &str) -> Result<Vec<u8>, NoMemory>
@@ -53,6 +46,20 @@ pub fn graphs_of_program(alloc: Global, program: &Program) -> Result<Graphs, NoM
     lower(alloc, program)
 }
 
+/// The outcome of a run in so many turns, as a text: the first byte of its input that is left, what it has written, and
+/// how it ends.
+fn shown(
+    rt: &impl Abort,
+    alloc: Global,
+    turns: u64,
+    next: Option<u8>,
+    written: &[u8],
+    end: End,
+) -> String {
+    let written = std::str::from_utf8(written).expect(rt, "a text");
+    format!(in alloc; "{turns} {next:?} => {written} => {end:?}").expect(rt, "an outcome")
+}
+
 fn end_of(end: EvalEnd) -> End {
     match end {
         EvalEnd::Ended(status) => End::Ended(status),
@@ -63,35 +70,36 @@ fn end_of(end: EvalEnd) -> End {
     }
 }
 
-/// The outcome by the source's meaning in so many turns.
+/// The outcome by the source's meaning.
 pub fn evaluated(
+    rt: &impl Abort,
     alloc: Global,
     program: &Program,
     input: &[u8],
     turns: u64,
-) -> Result<Outcome, NoMemory> {
-    let mut source = MemSource::new(input.to_vec(alloc)?, Vec::new(alloc));
+) -> String {
+    let input = input.to_vec(alloc).expect(rt, "an input");
+    let mut source = MemSource::new(input, Vec::new(alloc));
     let mut sink = MemSink::new(alloc, Vec::new(alloc));
     let end = end_of(eval(alloc, program, &mut source, &mut sink, turns));
     let next = source.next_byte().unwrap_or(None);
-    let written = sink.taken().to_vec(alloc)?;
-    Ok(Outcome { end, written, next })
+    shown(rt, alloc, turns, next, sink.taken(), end)
 }
 
-/// What a run comes to.
-fn outcome_of(alloc: Global, machine: &mut Machine<'_>) -> Result<Outcome, NoMemory> {
+/// The outcome by the graphs.
+pub fn ran(
+    rt: &impl Abort,
+    alloc: Global,
+    codes: &[Code],
+    graphs: &Graphs,
+    input: &[u8],
+    turns: u64,
+) -> String {
+    let main = codes.get(graphs.main as usize).expect(rt, "main");
+    let objects = graphs.objects.as_slice();
+    let begun = Machine::new(alloc, codes, main, objects, input, turns);
+    let mut machine = begun.expect(rt, "a machine");
     let end = machine.run();
     let next = machine.input.first().copied();
-    let written = machine.written.as_slice().to_vec(alloc)?;
-    Ok(Outcome { end, written, next })
-}
-
-/// The outcome by the graphs in so many turns.
-pub fn ran(alloc: Global, graphs: &Graphs, input: &[u8], turns: u64) -> Result<Outcome, NoMemory> {
-    let codes = codes_of(alloc, graphs.functions.as_slice())?;
-    let objects = graphs.objects.as_slice();
-    match Machine::new(alloc, codes.as_slice(), objects, graphs.main, input, turns) {
-        Ok(mut machine) => outcome_of(alloc, &mut machine),
-        Err(_) => Err(NoMemory),
-    }
+    shown(rt, alloc, turns, next, machine.written.as_slice(), end)
 }

@@ -1,12 +1,12 @@
-//! The state of a run of graphs: the active calls, the static objects, the input and the output.
+//! The state of a run of graphs: the active calls, the arrays, the input and the output.
 
 use crate::code::Code;
 use flow_graph::Op;
-use pcc_base::{DataObject, NoMemory, Trap, Width};
-use std::alloc::{AllocError, AllocFailed, Global};
+use pcc_base::{DataObject, NoMemory, Trap};
+use std::alloc::Global;
 
 /// How a run ends.
-#[derive(Clone, Copy, Debug, PartialEq, Eq)]
+#[derive(Clone, Copy, Debug)]
 pub enum End {
     /// With this exit status.
     Ended(u8),
@@ -18,210 +18,163 @@ pub enum End {
     NoMemory,
 }
 
-impl From<NoMemory> for End {
-    fn from(_e: NoMemory) -> End {
-        End::NoMemory
-    }
-}
-
-impl From<AllocError> for End {
-    fn from(_e: AllocError) -> End {
-        End::NoMemory
-    }
-}
-
-impl<T: Drop> From<AllocFailed<T>> for End {
-    fn from(_e: AllocFailed<T>) -> End {
-        End::NoMemory
-    }
-}
-
 /// What a variable holds. No array is the number 0.
-#[derive(Clone, Copy, PartialEq, Eq)]
+#[derive(Clone, Copy)]
 pub enum Value {
     Number(i32),
-    /// The static object of this number.
-    Static(u32),
-    /// The frame array of this number, of the call of this depth. The first call has depth 1.
-    Frame(u32, usize),
+    /// The array of this number.
+    Array(usize),
 }
 
-/// An array: the bytes of an element, and its elements.
+/// An active call, and the ops of its block that it has before it.
 #[derive(Drop)]
-pub struct Elements {
-    pub width: u8,
-    pub values: Vec<i32>,
-}
-
-/// An active call, and which op of which block it runs next.
-#[derive(Drop)]
-pub struct Call {
-    pub function: u32,
-    pub block: u32,
-    pub place: usize,
+pub struct Call<'a> {
+    pub code: &'a Code<'a>,
+    pub ops: &'a [&'a Op],
+    /// The caller's variable that gets the result, if one does.
+    pub wanted: Option<u32>,
     pub words: Vec<Value>,
     pub variables: Vec<Value>,
-    pub arrays: Vec<Elements>,
+    /// The number of its first array.
+    pub first_array: usize,
 }
 
-/// The youngest call and those that wait, the oldest first.
+/// The youngest call and those that wait, the oldest first. The static objects are the first arrays, and behind them
+/// stand those of the calls.
 #[derive(Drop)]
 pub struct Machine<'a> {
     pub alloc: Global,
-    pub codes: &'a [Code],
-    pub objects: Vec<Elements>,
-    pub current: Call,
-    pub waiting: Vec<Call>,
+    pub codes: &'a [Code<'a>],
+    pub arrays: Vec<DataObject>,
+    pub current: Call<'a>,
+    pub waiting: Vec<Call<'a>>,
     /// The input that is left.
     pub input: &'a [u8],
     pub written: Vec<u8>,
     /// The turns that are left.
     pub turns: u64,
+    /// How the run ends, once it does.
+    pub end: Option<End>,
 }
 
-/// So many variables, all 0.
-fn no_values(alloc: Global, count: usize) -> Result<Vec<Value>, NoMemory> {
-    let mut values = Vec::new(alloc);
-    for _ in 0..count {
-        values.push(Value::Number(0))?;
+/// The ops of a block. Where there is no such block, there are none.
+pub fn ops_of<'a>(code: &'a Code<'a>, block: u32) -> &'a [&'a Op] {
+    match code.blocks.get(block as usize) {
+        Some(ops) => ops.as_slice(),
+        None => &[],
     }
-    Ok(values)
 }
 
-/// An array of zeros.
-fn zeros(alloc: Global, width: u8, count: u32) -> Result<Elements, NoMemory> {
-    let mut values = Vec::new(alloc);
-    for _ in 0..count {
-        values.push(0)?;
-    }
-    Ok(Elements { width, values })
-}
-
-fn frame_arrays(alloc: Global, arrays: &[(u8, u32)]) -> Result<Vec<Elements>, NoMemory> {
-    let mut all = Vec::new(alloc);
-    for (width, count) in arrays {
-        all.push(zeros(alloc, *width, *count)?)?;
-    }
-    Ok(all)
-}
-
-/// A call of a function before its first op.
-pub fn fresh(
+/// Adds the frame arrays of a function, all zeros.
+fn push_arrays(
     alloc: Global,
-    code: &Code,
-    function: u32,
+    arrays: &mut Vec<DataObject>,
+    code: &Code<'_>,
+) -> Result<(), NoMemory> {
+    for array in 0..code.graph.arrays() {
+        let (width, count) = code.graph.array(array);
+        let elements = vec![in alloc; 0; count as usize]?;
+        arrays.push(DataObject { width, elements })?;
+    }
+    Ok(())
+}
+
+/// A call of a function before its first op, whose frame arrays are added.
+pub fn fresh<'a>(
+    alloc: Global,
+    arrays: &mut Vec<DataObject>,
+    code: &'a Code<'a>,
+    wanted: Option<u32>,
     words: Vec<Value>,
-) -> Result<Call, NoMemory> {
-    let variables = no_values(alloc, code.widths.len())?;
-    let arrays = frame_arrays(alloc, code.arrays.as_slice())?;
+) -> Result<Call<'a>, NoMemory> {
+    let first_array = arrays.len();
+    push_arrays(alloc, arrays, code)?;
+    let variables = vec![in alloc; Value::Number(0); code.graph.vars() as usize]?;
     Ok(Call {
-        function,
-        block: 0,
-        place: 0,
+        code,
+        ops: ops_of(code, 0),
+        wanted,
         words,
         variables,
-        arrays,
+        first_array,
     })
 }
 
-fn objects_of(alloc: Global, objects: &[DataObject]) -> Result<Vec<Elements>, NoMemory> {
-    let mut all = Vec::new(alloc);
+fn copies_of(alloc: Global, objects: &[DataObject]) -> Result<Vec<DataObject>, NoMemory> {
+    let mut copies = Vec::new(alloc);
     for object in objects {
-        all.push(Elements {
+        let elements = object.elements.as_slice().to_vec(alloc)?;
+        copies.push(DataObject {
             width: object.width,
-            values: object.elements.as_slice().to_vec(alloc)?,
+            elements,
         })?;
     }
-    Ok(all)
+    Ok(copies)
 }
 
 impl<'a> Machine<'a> {
-    /// Before the first step of a program.
+    /// Before the first step of a program, whose first function this is.
     pub fn new(
         alloc: Global,
-        codes: &'a [Code],
+        codes: &'a [Code<'a>],
+        main: &'a Code<'a>,
         objects: &[DataObject],
-        main: u32,
         input: &'a [u8],
         turns: u64,
-    ) -> Result<Machine<'a>, End> {
-        let Some(code) = codes.get(main as usize) else {
-            return Err(End::Stuck);
-        };
-        let objects = objects_of(alloc, objects)?;
-        let current = fresh(alloc, code, main, Vec::new(alloc))?;
+    ) -> Result<Machine<'a>, NoMemory> {
+        let mut arrays = copies_of(alloc, objects)?;
+        let current = fresh(alloc, &mut arrays, main, Some(0), Vec::new(alloc))?;
         Ok(Machine {
             alloc,
             codes,
-            objects,
+            arrays,
             current,
             waiting: Vec::new(alloc),
             input,
             written: Vec::new(alloc),
             turns,
+            end: None,
         })
     }
 
-    /// The op that runs next.
-    pub fn op(&self) -> Option<&'a Op> {
-        let code = self.codes.get(self.current.function as usize)?;
-        let ops = code.blocks.get(self.current.block as usize)?;
-        ops.get(self.current.place)
+    /// The run ends, so if it hasn't before.
+    pub fn stop(&mut self, end: End) {
+        if self.end.is_none() {
+            self.end = Some(end);
+        }
     }
 
-    /// The graph of the youngest call.
-    pub fn code(&self) -> Option<&'a Code> {
-        self.codes.get(self.current.function as usize)
-    }
-
-    /// How many calls are active.
-    pub fn depth(&self) -> usize {
-        self.waiting.len().saturating_add(1)
-    }
-
-    /// To the next op of the block.
-    pub fn onward(&mut self) -> Result<(), End> {
-        self.current.place = self.current.place.saturating_add(1);
-        Ok(())
-    }
-
-    /// To the first op of a block.
-    pub fn into_block(&mut self, block: u32) -> Result<(), End> {
-        self.current.block = block;
-        self.current.place = 0;
-        Ok(())
-    }
-
-    pub fn value(&self, variable: u32) -> Result<Value, End> {
+    /// The value of a variable.
+    pub fn value(&mut self, variable: u32) -> Value {
         match self.current.variables.get(variable as usize) {
-            Some(value) => Ok(*value),
-            None => Err(End::Stuck),
+            Some(value) => *value,
+            None => {
+                self.stop(End::Stuck);
+                Value::Number(0)
+            }
         }
     }
 
-    pub fn number(&self, variable: u32) -> Result<i32, End> {
-        match self.value(variable)? {
-            Value::Number(number) => Ok(number),
-            Value::Static(_) | Value::Frame(_, _) => Err(End::Stuck),
+    /// The number that a variable holds.
+    pub fn number(&mut self, variable: u32) -> i32 {
+        match self.value(variable) {
+            Value::Number(number) => number,
+            Value::Array(_) => {
+                self.stop(End::Stuck);
+                0
+            }
         }
     }
 
-    /// Onward with a value in a variable.
-    pub fn set(&mut self, variable: u32, value: Value) -> Result<(), End> {
+    /// A value into a variable.
+    pub fn set(&mut self, variable: u32, value: Value) {
         match self.current.variables.get_mut(variable as usize) {
             Some(place) => *place = value,
-            None => return Err(End::Stuck),
+            None => self.stop(End::Stuck),
         }
-        self.onward()
     }
 
-    pub fn set_number(&mut self, variable: u32, number: i32) -> Result<(), End> {
-        self.set(variable, Value::Number(number))
-    }
-
-    /// The width of a variable of the youngest call.
-    pub fn width(&self, variable: u32) -> Option<Width> {
-        let code = self.code()?;
-        code.widths.get(variable as usize).copied()
+    pub fn set_number(&mut self, variable: u32, number: i32) {
+        self.set(variable, Value::Number(number));
     }
 }

@@ -1,75 +1,51 @@
 //! Each row of the tables, checked.
 
-use crate::expected::{expect, expect_shown};
-use crate::lowered::{Outcome, evaluated, graphs_of_program, program_of_text, ran};
+use crate::code::codes_of;
+use crate::expected::expect;
+use crate::lowered::{evaluated, graphs_of_program, program_of_text, ran};
 use crate::programs;
 use crate::tables::{cells, rows_of};
 use c_tree::Program;
 use lower::Graphs;
-use pcc_base::NoMemory;
 use std::alloc::Global;
 use std::process::Abort;
 
-/// Numbers of turns, among which are some in which most programs don't end.
-const TURNS: [u64; 7] = [0, 1, 2, 3, 4, 7, 12];
+/// Numbers of turns, among which are some in which most programs don't end. The last is more than any program of the
+/// tables takes that ends.
+const TURNS: [u64; 8] = [0, 1, 2, 3, 4, 7, 12, 20_000];
 
-/// More turns than any program of the tables takes that ends.
-const ENOUGH: u64 = 20_000;
-
-/// The outcomes by the source's meaning and by the graphs in so many turns are the same. They are answered.
-fn expect_same(
+/// The outcomes by the source's meaning and by the graphs are the same in each of these numbers of turns, and in the
+/// last one the program does this.
+fn expect_outcomes(
     rt: &impl Abort,
     alloc: Global,
-    text: &str,
     program: &Program,
     graphs: &Graphs,
     input: &[u8],
-    turns: u64,
-) -> Result<Outcome, NoMemory> {
-    let meant = evaluated(alloc, program, input, turns)?;
-    let made = ran(alloc, graphs, input, turns)?;
-    expect(rt, &(turns, &made), &(turns, &meant), text);
-    Ok(made)
-}
-
-/// In no number of turns do the outcomes differ. The last one is answered.
-fn expect_turns(
-    rt: &impl Abort,
-    alloc: Global,
-    text: &str,
-    program: &Program,
-    graphs: &Graphs,
-    input: &[u8],
-) -> Result<Outcome, NoMemory> {
-    for turns in TURNS {
-        expect_same(rt, alloc, text, program, graphs, input, turns)?;
+    row: &str,
+) -> String {
+    let codes = codes_of(alloc, graphs.functions.as_slice()).expect(rt, row);
+    let mut last = String::new(alloc);
+    for turns in &TURNS {
+        let meant = evaluated(rt, alloc, program, input, *turns);
+        last = ran(rt, alloc, codes.as_slice(), graphs, input, *turns);
+        expect(rt, &last.as_str(), &meant.as_str(), row);
     }
-    expect_same(rt, alloc, text, program, graphs, input, ENOUGH)
-}
-
-/// The outcome of a program, the same by its source's meaning and by its graphs.
-fn outcome_of(
-    rt: &impl Abort,
-    alloc: Global,
-    text: &str,
-    input: &str,
-) -> Result<Outcome, NoMemory> {
-    let Ok(program) = program_of_text(alloc, programs::BEFORE, text) else {
-        panic!(rt; "{text}: refused");
-    };
-    let graphs = graphs_of_program(alloc, &program)?;
-    expect_turns(rt, alloc, text, &program, &graphs, input.as_bytes())
+    last
 }
 
 /// The program of each row does what stands in it.
 fn expect_rows(rt: &impl Abort, alloc: Global, table: &str) {
     for row in rows_of(rt, table) {
-        let (left, right) = cells(rt, row);
+        let (left, wanted) = cells(rt, row);
         let (text, input) = left.split_once(" <= ").unwrap_or((left, ""));
-        let (written, end) = cells(rt, right);
-        let outcome = outcome_of(rt, alloc, text, input).expect(rt, row);
-        expect_shown(rt, alloc, &outcome.end, end, row);
-        expect(rt, &outcome.written.as_slice(), &written.as_bytes(), row);
+        let Ok(program) = program_of_text(alloc, programs::BEFORE, text) else {
+            panic!(rt; "{row}: refused");
+        };
+        let graphs = graphs_of_program(alloc, &program).expect(rt, row);
+        let outcome = expect_outcomes(rt, alloc, &program, &graphs, input.as_bytes(), row);
+        let (_, found) = cells(rt, outcome.as_str());
+        expect(rt, &found, &wanted, row);
     }
 }
 

@@ -1,7 +1,9 @@
 //! The files of a row, and what `check` answers of them.
 
+ghost use Rattle.std.specs.Prelude.{◌≡◌};
+
+use c_front::parse;
 use c_lexer::{advance, lex};
-use c_parser::parse;
 use c_syntax::RawUnit;
 use c_tree::Program;
 use c_types::check;
@@ -12,7 +14,9 @@ use std::alloc::{AllocError, Global};
 const MOST: usize = 65536;
 
 /// The first place of a file.
-fn first_place(file: u32) -> Span {
+fn first_place(file: u32) -> Span
+    ensures { (result.line ≡ 1) × (result.col ≡ 1) }
+{
     Span {
         file,
         line: 1,
@@ -50,41 +54,30 @@ pub fn read(alloc: Global, text: &str) -> Result<Row, AllocError> {
     Ok(Row { files, at })
 }
 
-/// The raw tree of a file, and where it ends.
-fn parsed(alloc: Global, file: u32, text: &[u8]) -> Result<(RawUnit, Span), Refusal> {
-    if text.len() > 1000 {
+/// The raw tree of a text, and where it ends.
+pub fn parsed(alloc: Global, file: u32, text: &[u8]) -> Result<(RawUnit, Span), Refusal> {
+    if text.len() > 1_000_000 {
         return Err(Refusal::NoMemory);
     }
     let tokens = lex(alloc, file, text, MOST)?;
-    let first = Span {
-        file,
-        line: 1,
-        col: 1,
-    };
-    let end = advance(first, text);
+    let end = advance(first_place(file), text);
     Ok((parse(alloc, &tokens, end)?, end))
-}
-
-/// The raw trees of all files, and where the last one ends.
-fn parsed_files(alloc: Global, files: &[Vec<u8>]) -> Result<(Vec<RawUnit>, Span), Refusal> {
-    let mut units = Vec::new(alloc);
-    let mut end = first_place(0);
-    let mut file = 0u32;
-    for text in files {
-        let (unit, behind) = parsed(alloc, file, text.as_slice())?;
-        if units.push(unit).is_err() {
-            return Err(Refusal::NoMemory);
-        }
-        end = behind;
-        file = file.saturating_add(1);
-    }
-    Ok((units, end))
 }
 
 /// The typed program of the files.
 pub fn typed(alloc: Global, files: &[Vec<u8>]) -> Result<Program, Refusal> {
-    let (units, end) = parsed_files(alloc, files)?;
-    check(alloc, units.as_slice(), end)
+    let mut units = Vec::new(alloc);
+    let mut last = first_place(0);
+    let mut file = 0u32;
+    for text in files {
+        let (unit, end) = parsed(alloc, file, text.as_slice())?;
+        if units.push(unit).is_err() {
+            return Err(Refusal::NoMemory);
+        }
+        last = end;
+        file = file.saturating_add(1);
+    }
+    check(alloc, units.as_slice(), last)
 }
 
 /// Why the files are refused, if they are.

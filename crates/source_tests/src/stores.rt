@@ -1,81 +1,15 @@
 //! What a store answers after a row of calls, by hand from C99 6.2.4, 6.3.1.3, 6.5.2.2 and 6.7.8.
 
-use crate::expected::expect;
-use c_store::{ArrayName, Place, Store, Value};
-use c_tree::{
-    ArrayRef, Function, IntegerType, Local, LocalArray, Program, StaticObject, ValueType,
-};
-use pcc_base::{Name, NoMemory};
+use crate::expected::{expect, expect_shown};
+use crate::rows::{Row, read, typed};
+use c_eval::{ArrayName, Place, Store, Value};
+use c_tree::{ArrayRef, Function, IntegerType, ValueType};
 use std::alloc::Global;
 use std::process::Abort;
-use std::rc::Rc;
 
-const NULL: Value = Value::Pointer {
-    array: ArrayName::Null,
-    index: 0,
-};
-
-fn name(alloc: Global, letter: u8) -> Result<Name, NoMemory> {
-    let bytes = [letter].to_vec(alloc)?;
-    Ok(Name::new(Rc::new(alloc, bytes)?))
-}
-
-/// The locals `char c`, `int x` and `int *p`.
-fn locals(alloc: Global) -> Result<Vec<Local>, NoMemory> {
-    let mut locals = Vec::new(alloc);
-    for (letter, of) in [
-        (b'c', ValueType::Integer(IntegerType::Char)),
-        (b'x', ValueType::Integer(IntegerType::Int)),
-        (b'p', ValueType::Pointer(IntegerType::Int)),
-    ] {
-        let name = name(alloc, letter)?;
-        locals.push(Local { name, of })?;
-    }
-    Ok(locals)
-}
-
-/// The arrays `char s[3]` and `int a[2]`.
-fn arrays(alloc: Global) -> Result<Vec<LocalArray>, NoMemory> {
-    let mut arrays = Vec::new(alloc);
-    for (letter, element, count) in [(b's', IntegerType::Char, 3), (b'a', IntegerType::Int, 2)] {
-        let name = name(alloc, letter)?;
-        arrays.push(LocalArray {
-            name,
-            element,
-            count,
-        })?;
-    }
-    Ok(arrays)
-}
-
-/// A function with these locals, of which the first is its parameter, and these arrays.
-fn function(alloc: Global) -> Result<Function, NoMemory> {
-    Ok(Function {
-        name: name(alloc, b'f')?,
-        result: ValueType::Void,
-        parameters: 1,
-        locals: locals(alloc)?,
-        arrays: arrays(alloc)?,
-        body: Vec::new(alloc),
-    })
-}
-
-/// A program with the static objects `int n = 5` and the text `Hi`.
-fn program(alloc: Global) -> Result<Program, NoMemory> {
-    let mut objects = Vec::new(alloc);
-    for (element, elements) in [
-        (IntegerType::Int, [5].as_slice()),
-        (IntegerType::Char, [72, 105, 0].as_slice()),
-    ] {
-        let elements = elements.to_vec(alloc)?;
-        objects.push(StaticObject { element, elements })?;
-    }
-    Ok(Program {
-        objects,
-        functions: Vec::new(alloc),
-        main: 0,
-    })
-}
+/// Its static objects are `n` and the text. The arrays of `f` are `s`, which begins as the text, and `a`.
+const PROGRAM: &str = "\
+int n=5; void f(char c){int x; int *p; char s[3]=\"Hi\"; int a[2];} int main(void){return 0;}";
 
 /// A call of the function, for which there is room and memory.
 fn enter(rt: &impl Abort, store: &mut Store, function: &Function, arguments: &[Value]) {
@@ -84,84 +18,104 @@ fn enter(rt: &impl Abort, store: &mut Store, function: &Function, arguments: &[V
     expect(rt, &entered, &true, "a call");
 }
 
-fn expect_local(rt: &impl Abort, store: &Store, local: u32, value: Value, when: &str) {
-    expect(rt, &store.local(local), &value, when);
+/// Locals: an argument in its type, and 0 or null; a value that stays, and that its declaration ends.
+fn expect_locals(rt: &impl Abort, alloc: Global, store: &mut Store) {
+    let begun = [
+        store.local(0),
+        store.local(1),
+        store.local(2),
+        store.local(3),
+    ];
+    let wanted = "[Number(-56), Number(0), Pointer { array: Null, index: 0 }, Number(0)]";
+    expect_shown(rt, alloc, &begun, wanted, "c, x, p and no local");
+    store.set_local(1, Value::Number(7));
+    let set = store.local(1);
+    store.declare_local(1, ValueType::Integer(IntegerType::Int));
+    let x = [set, store.local(1)];
+    expect_shown(
+        rt,
+        alloc,
+        &x,
+        "[Number(7), Number(0)]",
+        "x is set, and declared",
+    );
 }
 
-fn expect_element(
+/// Elements: those of a static object, and of an array up to its end.
+fn expect_elements(rt: &impl Abort, alloc: Global, store: &mut Store, array: ArrayName) {
+    let object = store.load(Place::Object(0));
+    expect_shown(rt, alloc, &object, "Some(Number(5))", "an object");
+    let last = store.store(Place::Element { array, index: 1 }, Value::Number(9));
+    let first = store.store_at(array, 0, Value::Number(3));
+    let behind = store.store(Place::Element { array, index: 2 }, Value::Number(9));
+    expect(rt, &(last, first, behind), &(true, true, false), "stores");
+    let elements = [
+        store.element(array, 0),
+        store.element(array, 1),
+        store.element(array, 2),
+        store.element(array, -1),
+        store.element(ArrayName::Null, 0),
+    ];
+    let wanted = "[Some(3), Some(9), None, None, None]";
+    let which = "the first, the last, one behind it, one before the first, and of no array";
+    expect_shown(rt, alloc, &elements, wanted, which);
+}
+
+/// A first call, whose array `a` is the one that it answers.
+fn expect_first(
     rt: &impl Abort,
-    store: &Store,
-    array: ArrayName,
-    index: i32,
-    element: Option<i32>,
-    when: &str,
-) {
-    expect(rt, &store.element(array, index), &element, when);
+    alloc: Global,
+    store: &mut Store,
+    function: &Function,
+) -> ArrayName {
+    enter(rt, store, function, &[Value::Number(200)]);
+    expect_locals(rt, alloc, store);
+    let outer = store.array_of(ArrayRef::Frame(1));
+    expect_shown(
+        rt,
+        alloc,
+        &outer,
+        "InFrame { array: 1, depth: 1 }",
+        "the array",
+    );
+    expect_elements(rt, alloc, store, outer);
+    outer
 }
 
 fn expect_array(rt: &impl Abort, store: &Store, array: ArrayName, elements: &[i32], when: &str) {
     expect(rt, &store.elements(array), &elements, when);
 }
 
-/// Locals: an argument in its type, and 0 or null; a value that stays, and that its declaration ends.
-fn expect_locals(rt: &impl Abort, store: &mut Store) {
-    for (local, value, which) in [
-        (0, Value::Number(-56), "c"),
-        (1, Value::Number(0), "x"),
-        (2, NULL, "p"),
-        (3, Value::Number(0), "no local"),
-    ] {
-        expect_local(rt, store, local, value, which);
-    }
-    store.set_local(1, Value::Number(7));
-    expect_local(rt, store, 1, Value::Number(7), "x is set");
-    store.declare_local(1, ValueType::Integer(IntegerType::Int));
-    expect_local(rt, store, 1, Value::Number(0), "x is declared");
-}
-
-/// Elements: those of a static object, and of an array up to its end.
-fn expect_elements(rt: &impl Abort, store: &mut Store, array: ArrayName) {
-    let five = Some(Value::Number(5));
-    expect(rt, &store.load(Place::Object(0)), &five, "an object");
-    let last = store.store(Place::Element { array, index: 1 }, Value::Number(9));
-    let first = store.store_at(array, 0, Value::Number(3));
-    let behind = store.store(Place::Element { array, index: 2 }, Value::Number(9));
-    expect(rt, &(last, first, behind), &(true, true, false), "stores");
-    for (index, element, which) in [
-        (0, Some(3), "the first"),
-        (1, Some(9), "the last"),
-        (2, None, "one behind the last"),
-        (-1, None, "one before the first"),
-    ] {
-        expect_element(rt, store, array, index, element, which);
-    }
-    expect_element(rt, store, ArrayName::Null, 0, None, "of no array");
-}
-
-/// A first call, whose array `a` is the one that it answers.
-fn expect_first(rt: &impl Abort, store: &mut Store, function: &Function) -> ArrayName {
-    enter(rt, store, function, &[Value::Number(200)]);
-    expect_locals(rt, store);
-    let outer = store.array_of(ArrayRef::Frame(1));
-    let wanted = ArrayName::InFrame { array: 1, depth: 1 };
-    expect(rt, &outer, &wanted, "the array");
-    expect_elements(rt, store, outer);
-    outer
-}
-
 /// A call in it has arrays of its own, until it is left.
-fn expect_inner(rt: &impl Abort, store: &mut Store, function: &Function, outer: ArrayName) {
+fn expect_inner(
+    rt: &impl Abort,
+    alloc: Global,
+    store: &mut Store,
+    function: &Function,
+    outer: ArrayName,
+) {
     enter(rt, store, function, &[]);
     let inner = store.array_of(ArrayRef::Frame(1));
-    expect_element(rt, store, inner, 1, Some(0), "of the inner call");
-    expect_element(rt, store, outer, 1, Some(9), "of the outer call");
+    let found = [store.element(inner, 1), store.element(outer, 1)];
+    expect_shown(
+        rt,
+        alloc,
+        &found,
+        "[Some(0), Some(9)]",
+        "of the inner and the outer call",
+    );
     let set = store.set_element(outer, 0, 4);
-    expect(rt, &set, &true, "an element of the outer call");
     store.set_text(0, 1);
     let text = store.array_of(ArrayRef::Frame(0));
     expect_array(rt, store, text, &[72, 105, 0], "the text");
     store.leave();
-    expect_element(rt, store, inner, 1, None, "of a call that is left");
+    let left = store.element(inner, 1);
+    expect(
+        rt,
+        &(set, left),
+        &(true, None),
+        "an element is set, and one of a call that is left",
+    );
 }
 
 /// The next call's arrays begin as zeros again.
@@ -174,25 +128,24 @@ fn expect_zeros(rt: &impl Abort, store: &mut Store, function: &Function) {
 }
 
 /// Calls of one function: each has arrays of its own, which begin as zeros again.
-fn expect_calls(rt: &impl Abort, store: &mut Store, function: &Function) {
-    let outer = expect_first(rt, store, function);
-    expect_inner(rt, store, function, outer);
+fn expect_calls(rt: &impl Abort, alloc: Global, store: &mut Store, function: &Function) {
+    let outer = expect_first(rt, alloc, store, function);
+    expect_inner(rt, alloc, store, function, outer);
     expect_zeros(rt, store, function);
     expect_array(rt, store, outer, &[4, 9], "the outer array");
     store.declare_array(1);
     expect_array(rt, store, outer, &[0, 0], "the outer array is declared");
     store.leave();
-    expect_local(rt, store, 0, Value::Number(0), "no call is left");
+    expect_shown(rt, alloc, &store.local(0), "Number(0)", "no call is left");
 }
 
 /// The row of calls on a store of the program.
 #[test]
 fn store(rt: HostRuntime) {
     let alloc = rt.alloc();
-    let program = program(alloc).expect(&rt, "a program");
-    let store = Store::new(alloc, &program);
-    drop(program);
-    let mut store = store.expect(&rt, "a store");
-    let function = function(alloc).expect(&rt, "a function");
-    expect_calls(&rt, &mut store, &function);
+    let Row { files, .. } = read(alloc, PROGRAM).expect(&rt, PROGRAM);
+    let program = typed(alloc, files.as_slice()).expect(&rt, PROGRAM);
+    let mut store = Store::new(alloc, &program).expect(&rt, PROGRAM);
+    let function = program.functions.as_slice().first().expect(&rt, PROGRAM);
+    expect_calls(&rt, alloc, &mut store, function);
 }

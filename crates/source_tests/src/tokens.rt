@@ -2,51 +2,37 @@
 
 use crate::expected::{expect, expect_refusal};
 use crate::tables::{cells, rows_of, unfolded};
-use crate::texts::{push_name, push_shown};
+use crate::texts::Text;
 use c_lexer::lex;
 use c_tokens::{Token, TokenKind};
-use pcc_base::{Name, Refusal};
-use std::alloc::{AllocError, Global};
+use pcc_base::Refusal;
+use std::alloc::Global;
 use std::process::Abort;
 
 /// The most tokens of all files.
 const MOST: usize = 65536;
 
-/// A token as a word: a keyword's or mark's variant, a name, a number, or a text in quotes.
-fn push_token(alloc: Global, out: &mut String, token: &Token) -> Result<(), AllocError> {
+/// A token as a word, with a space behind: a keyword's or mark's variant, a name, a number, or a text in quotes.
+fn push_token(out: &mut Text, token: &Token) {
     match &token.kind {
-        TokenKind::Word(word) => push_shown(alloc, out, word),
-        TokenKind::Mark(mark) => push_shown(alloc, out, mark),
-        TokenKind::Number(number) => push_shown(alloc, out, number),
-        TokenKind::Ident(name) => push_name(out, name),
-        TokenKind::Text(text) => push_quoted(out, text),
+        TokenKind::Word(word) => out.push_shown(word),
+        TokenKind::Mark(mark) => out.push_shown(mark),
+        TokenKind::Number(number) => out.push_shown(number),
+        TokenKind::Ident(name) => out.push_name(name),
+        TokenKind::Text(text) => {
+            out.push("\"");
+            out.push_name(text);
+            out.push("\"");
+        }
     }
-}
-
-fn push_quoted(out: &mut String, text: &Name) -> Result<(), AllocError> {
-    out.push_str("\"")?;
-    push_name(out, text)?;
-    out.push_str("\"")
-}
-
-/// Tokens with a space behind each.
-fn push_tokens(alloc: Global, out: &mut String, tokens: &[Token]) -> Result<(), AllocError> {
-    for token in tokens {
-        push_token(alloc, out, token)?;
-        out.push_str(" ")?;
-    }
-    Ok(())
+    out.push(" ");
 }
 
 /// The tokens of a short text of this file, if they are not more than `most`.
-fn lexed(
-    rt: &impl Abort,
-    alloc: Global,
-    file: u32,
-    text: &str,
-    most: usize,
-) -> Result<Vec<Token>, Refusal> {
-    assert!(rt; text.len() <= 1000);
+fn lexed(alloc: Global, file: u32, text: &str, most: usize) -> Result<Vec<Token>, Refusal> {
+    if text.len() > 1000 {
+        return Err(Refusal::NoMemory);
+    }
     lex(alloc, file, text.as_bytes(), most)
 }
 
@@ -71,10 +57,12 @@ a/b/=c => a Slash b SlashEqual c";
 
 /// The tokens of a text, with a space behind each.
 fn shown_tokens(rt: &impl Abort, alloc: Global, text: &str) -> String {
-    let tokens = lexed(rt, alloc, 0, text, MOST).expect(rt, text);
-    let mut out = String::new(alloc);
-    push_tokens(alloc, &mut out, &tokens).expect(rt, text);
-    out
+    let tokens = lexed(alloc, 0, text, MOST).expect(rt, text);
+    let mut out = Text::new(alloc);
+    for token in &tokens {
+        push_token(&mut out, token);
+    }
+    out.whole(rt, text)
 }
 
 /// The text of each row has these tokens.
@@ -122,7 +110,7 @@ fn expect_refusals(rt: &impl Abort, alloc: Global, file: u32, most: usize, table
     for folded in rows_of(rt, table) {
         let row = unfolded(alloc, folded).expect(rt, folded);
         let (text, shown) = cells(rt, row.as_str());
-        let found = lexed(rt, alloc, file, text, most).err();
+        let found = lexed(alloc, file, text, most).err();
         expect_refusal(rt, alloc, found, shown, folded);
     }
 }

@@ -2,51 +2,25 @@
 //! those of the grammar, by hand.
 
 use crate::expected::{expect, expect_refusal};
+use crate::rows::parsed;
 use crate::tables::{cells, rows_of};
+use crate::texts::Text;
 use crate::tree_texts::push_unit;
-use c_lexer::lex;
-use c_parser::parse;
-use c_syntax::RawUnit;
-use pcc_base::{Refusal, Span};
+use pcc_base::Refusal;
 use std::alloc::Global;
 use std::process::Abort;
 
-/// The most tokens of all files.
-const MOST: usize = 65536;
-
-/// What is parsed of a text of one line that has tokens.
-fn parsed(alloc: Global, text: &str) -> Option<Result<RawUnit, Refusal>> {
-    if text.len() > 1_000_000 {
-        return None;
-    }
-    let tokens = match lex(alloc, 0, text.as_bytes(), MOST) {
-        Ok(tokens) => tokens,
-        Err(_) => return None,
-    };
-    let end = Span {
-        file: 0,
-        line: 1,
-        col: text.len() as u32 + 1,
-    };
-    Some(parse(alloc, &tokens, end))
-}
-
 /// How many external declarations the source has, and its tree as a text.
 fn shown_tree(rt: &impl Abort, alloc: Global, source: &str) -> (usize, String) {
-    let Some(Ok(unit)) = parsed(alloc, source) else {
-        panic!(rt; "{source}: no tree");
-    };
-    let mut out = String::new(alloc);
-    push_unit(alloc, &mut out, &unit).expect(rt, source);
-    (unit.externals.len(), out)
+    let (unit, _) = parsed(alloc, 0, source.as_bytes()).expect(rt, source);
+    let mut out = Text::new(alloc);
+    push_unit(&mut out, &unit);
+    (unit.externals.len(), out.whole(rt, source))
 }
 
-/// Why the source, which has tokens, has no tree, or nothing where it has one.
-fn refusal_of(rt: &impl Abort, alloc: Global, source: &str) -> Option<Refusal> {
-    match parsed(alloc, source) {
-        Some(unit) => unit.err(),
-        None => panic!(rt; "{source}: no tokens"),
-    }
+/// Why the source has no tree, or nothing where it has one.
+fn refusal_of(alloc: Global, source: &str) -> Option<Refusal> {
+    parsed(alloc, 0, source.as_bytes()).err()
 }
 
 /// Sources and their trees.
@@ -162,7 +136,7 @@ int main(void){1 2;sizeof x;long y;} => 0:1:20 Unsupported(Sizeof)";
 fn expect_faults(rt: &impl Abort, alloc: Global, table: &str) {
     for row in rows_of(rt, table) {
         let (source, shown) = cells(rt, row);
-        let found = refusal_of(rt, alloc, source);
+        let found = refusal_of(alloc, source);
         expect_refusal(rt, alloc, found, shown, row);
     }
 }
@@ -208,7 +182,7 @@ fn expect_nests(rt: &impl Abort, alloc: Global, table: &str) {
     for row in rows_of(rt, table) {
         let (parts, shown) = cells(rt, row);
         let source = nested(rt, alloc, parts);
-        let found = refusal_of(rt, alloc, source.as_str());
+        let found = refusal_of(alloc, source.as_str());
         expect_refusal(rt, alloc, found, shown, row);
     }
 }

@@ -8,20 +8,22 @@ use c_tree::{BinaryOp, Expression, Program, Statement};
 use std::alloc::Global;
 use std::process::Abort;
 
+/// A sum, a difference or a product.
+fn combined(op: BinaryOp, x: i32, y: i32) -> i32 {
+    match op {
+        BinaryOp::Add => x.wrapping_add(y),
+        BinaryOp::Subtract => x.wrapping_sub(y),
+        BinaryOp::Multiply => x.wrapping_mul(y),
+        _ => 0,
+    }
+}
+
 /// The value of a sum or product where each local is 10.
 fn value_of(e: &Expression) -> i32 {
     match e {
         Expression::Constant(_, n) => *n,
         Expression::Read(_, _) => 10,
-        Expression::Binary(_, BinaryOp::Add, left, right) => value_of(left).wrapping_add(value_of(
-            right,
-        )),
-        Expression::Binary(_, BinaryOp::Subtract, left, right) => {
-            value_of(left).wrapping_sub(value_of(right))
-        }
-        Expression::Binary(_, BinaryOp::Multiply, left, right) => {
-            value_of(left).wrapping_mul(value_of(right))
-        }
+        Expression::Binary(_, op, left, right) => combined(*op, value_of(left), value_of(right)),
         _ => 0,
     }
 }

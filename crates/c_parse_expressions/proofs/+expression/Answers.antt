@@ -1,15 +1,15 @@
 -- The loops add one turn to what is read in all; a rule below a node is read by the readers for one less.
 use Rattle.std.proofs.Common.{◌<◌, ◌≤◌, ◌-◌, ℕ, ap, sym, ◌∙◌, arith, length}
 use Rattle.std.proofs.lemmas.Result.{err_from_is_err_and}
-use Rattle.c_grammar.specs.Expressions.{exprs_of}
-use Rattle.c_grammar.specs.ExpressionTokens.{expr_height, exprs_height}
-use Rattle.c_grammar.specs.Reading as reading
-use Rattle.c_grammar.specs.Reading.{readers, read_expression, read_assignment, read_conditional, read_binary}
-use Rattle.c_grammar.specs.Reading.{read_cast, read_unary, cast_behind}
-use Rattle.c_grammar.specs.Taking.{take_specifiers, take_pointer}
-use Rattle.c_grammar.proofs.Chains.{continues_goes}
-use Rattle.c_grammar.proofs.Reading.{expression_above, assignment_above, conditional_above}
-use Rattle.c_grammar.proofs.Reading.{binary_above, cast_above, unary_above}
+use Rattle.c_syntax.specs.Expressions.{exprs_of}
+use Rattle.c_syntax.specs.ExpressionTokens.{expr_height, exprs_height}
+use Rattle.c_syntax.specs.Reading as reading
+use Rattle.c_syntax.specs.Reading.{readers, read_expression, read_assignment, read_conditional, read_binary}
+use Rattle.c_syntax.specs.Reading.{read_cast, read_unary, cast_behind}
+use Rattle.c_syntax.specs.Taking.{take_specifiers, take_pointer}
+use Rattle.c_syntax.proofs.Chains.{continues_goes}
+use Rattle.c_syntax.proofs.Reading.{expression_above, assignment_above, conditional_above}
+use Rattle.c_syntax.proofs.Reading.{binary_above, cast_above, unary_above}
 use Rattle.c_cursor.proofs.Refused.{refused_turn, last_turn, refused_fault}
 use Rattle.c_parse_expressions.specs.Readings.{reader_of, below}
 use Rattle.c_parse_expressions.proofs.Turns.{same_reading, none_below, no_arguments, no_cast_behind, cast_is}

@@ -1,5 +1,5 @@
 use Rattle.std.proofs.Common.{List, ◌+◌, refl, subst, sym, take}
-use Rattle.puzzle_solver.specs.declared.order.Candidate.{Candidate}
+use Rattle.puzzle_choices.specs.declared.order.Candidate.{Candidate}
 use Rattle.allocator.specs.Spills.{AreListed, IsNewAt}
 use Rattle.allocator.proofs.Listing.{listed-new-at, listed-same-at}
 use Rattle.allocator.proofs.candidates.push_new.Goals as goal

@@ -6,8 +6,8 @@ use Rattle.puzzle_board.specs.declared.piece.Spot.{Spot}
 use Rattle.puzzle_board.specs.Boards.{Puzzle, remaining, standing}
 use Rattle.puzzle_board.specs.Classes.{IsAmong}
 use Rattle.puzzle_solver.specs.Solved.{IsSolved}
-use Rattle.puzzle_solver.specs.declared.order.Candidate.{Candidate}
-use Rattle.puzzle_solver.specs.Orders.{IsSpillOrder}
+use Rattle.puzzle_choices.specs.declared.order.Candidate.{Candidate}
+use Rattle.puzzle_choices.specs.Orders.{IsSpillOrder}
 use Rattle.puzzle_solver.specs.Prefixes.{IsShortest, without_variables}
 use Rattle.elementary_form.specs.PointBoards.{areas_of}
 use Rattle.allocator.specs.PointPuzzles.{point_puzzle, puzzle_of}

@@ -1,6 +1,6 @@
 use Rattle.std.proofs.Common.{sym, subst, Some, option_map}
 use Rattle.std.proofs.lemmas.Result.{IfOk-weaker}
-use Rattle.c_grammar.specs.Declarations.{value_of}
+use Rattle.c_syntax.specs.Declarations.{value_of}
 use Rattle.c_typing.specs.Checked.{if_fits}
 use Rattle.c_typing.specs.Statements.{bound_item, object_item}
 use Rattle.c_expressions.specs.Said.{IsSaid}

@@ -1,5 +1,5 @@
 use Rattle.std.proofs.Common.{ap, ◌∙◌, length}
-use Rattle.c_grammar.specs.Declarations.{value_of}
+use Rattle.c_syntax.specs.Declarations.{value_of}
 use Rattle.c_tree.specs.Program as tree
 use Rattle.c_typing.specs.Initialisers.{array_initialiser}
 use Rattle.c_typing.specs.Names.{Scope, numbered, with_array}

@@ -1,4 +1,4 @@
-use Rattle.c_grammar.specs.Declarations.{declaration_of}
+use Rattle.c_syntax.specs.Declarations.{declaration_of}
 use Rattle.c_check_declarators.specs.Views.{position_of}
 use Rattle.c_check_declarations.proofs.Itemised.{declaration_fails}
 use Rattle.c_check_declarations.proofs.items.declaration.Goals as goal

@@ -1,4 +1,4 @@
-use Rattle.c_grammar.specs.Declarations.{value_of}
+use Rattle.c_syntax.specs.Declarations.{value_of}
 use Rattle.c_typing.specs.Declarators.{object_allowed}
 use Rattle.c_typing.specs.Statements.{bound_item, object_item, scope_faults}
 use Rattle.c_meanings.specs.Views.{declared_of}

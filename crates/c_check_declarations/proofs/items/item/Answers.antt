@@ -1,5 +1,5 @@
 use Rattle.std.proofs.lemmas.Result.{IfOk-weaker}
-use Rattle.c_grammar.specs.Declarations.{item_of}
+use Rattle.c_syntax.specs.Declarations.{item_of}
 use Rattle.c_check_declarators.specs.Views.{specified_of}
 use Rattle.c_check_declarations.proofs.Itemised.{item_fails, item_fails_scope, item_fits, item_fits_scope, on_ok}
 use Rattle.c_check_declarations.proofs.items.item.Goals as goal

@@ -1,5 +1,5 @@
 use Rattle.std.proofs.Common.{refl, ap, ◌∙◌, map, drop, ◌+◌}
-use Rattle.c_grammar.specs.Declarations.{item_of}
+use Rattle.c_syntax.specs.Declarations.{item_of}
 use Rattle.c_tree.specs.Erased as erased
 use Rattle.c_typing.specs.Statements.{typed_item, typed_items}
 use Rattle.c_check_declarators.specs.Views.{specified_of}

@@ -1,6 +1,6 @@
 -- What was judged of the items so far, and the rest, are all items; and so it is with the scope.
 use Rattle.std.proofs.Common.{◌≡◌, map, drop}
-use Rattle.c_grammar.specs.Declarations.{item_of}
+use Rattle.c_syntax.specs.Declarations.{item_of}
 use Rattle.c_typing.specs.Statements.{typed_items, after_items}
 use Rattle.c_check_declarators.specs.Views.{specified_of}
 use Rattle.c_check_declarators.proofs.Lists.{Gathered}

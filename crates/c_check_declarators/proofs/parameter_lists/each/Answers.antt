@@ -1,5 +1,5 @@
 use Rattle.std.proofs.Common.{refl, ◌∙◌, map, drop, ◌+◌}
-use Rattle.c_grammar.specs.Declarations.{parameter_of}
+use Rattle.c_syntax.specs.Declarations.{parameter_of}
 use Rattle.c_typing.specs.Declarators.{typed_each, typed_parameter}
 use Rattle.c_check_declarators.specs.Answers.{IsSame}
 use Rattle.c_check_declarators.proofs.Lists.{AreTheSame, gathered_none, gathered_one, push_same}

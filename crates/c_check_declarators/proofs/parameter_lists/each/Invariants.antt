@@ -1,6 +1,6 @@
 -- What was judged of the parameters so far, and the rest, are all parameters; and so it is with the scope.
 use Rattle.std.proofs.Common.{◌≡◌, map, drop}
-use Rattle.c_grammar.specs.Declarations.{parameter_of}
+use Rattle.c_syntax.specs.Declarations.{parameter_of}
 use Rattle.c_typing.specs.Declarators.{typed_each, with_parameters}
 use Rattle.c_check_declarators.proofs.Lists.{AreTheSame, Gathered}
 use Rattle.c_check_declarators.proofs.parameter_lists.each.Given as goal

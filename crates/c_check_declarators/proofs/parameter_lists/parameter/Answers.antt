@@ -1,4 +1,4 @@
-use Rattle.c_grammar.specs.Declarations.{parameter_of}
+use Rattle.c_syntax.specs.Declarations.{parameter_of}
 use Rattle.c_check_declarators.proofs.Scoped.{scope_behind}
 use Rattle.c_check_declarators.proofs.parameter_lists.parameter.Goals as goal
 

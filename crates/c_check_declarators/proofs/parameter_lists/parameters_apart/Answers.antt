@@ -1,5 +1,5 @@
 use Rattle.std.proofs.Common.{map}
-use Rattle.c_grammar.specs.Declarations.{parameter_of}
+use Rattle.c_syntax.specs.Declarations.{parameter_of}
 use Rattle.c_typing.specs.Declarators.{parameters_meant}
 use Rattle.c_check_declarators.proofs.Scoped.{apart_same}
 use Rattle.c_check_declarators.proofs.parameter_lists.parameters_apart.Goals as goal

@@ -1,6 +1,6 @@
 use Rattle.std.proofs.Common.{ap, ◌∙◌, Option}
 use Rattle.c_tree.specs.declared.types.ValueType.{ValueType}
-use Rattle.c_grammar.specs.Declarations.{parameter_of}
+use Rattle.c_syntax.specs.Declarations.{parameter_of}
 use Rattle.c_typing.specs.Declarators.{parameter_declared, parameter_faults, parameter_place}
 use Rattle.c_typing.specs.Types.{pointed}
 use Rattle.c_check_declarators.proofs.Sized.{allowed_said}

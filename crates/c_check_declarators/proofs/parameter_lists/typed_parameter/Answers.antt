@@ -1,4 +1,4 @@
-use Rattle.c_grammar.specs.Declarations.{parameter_of}
+use Rattle.c_syntax.specs.Declarations.{parameter_of}
 use Rattle.c_check_declarators.proofs.Sized.{parameter_said, specifiers_fail}
 use Rattle.c_check_declarators.proofs.parameter_lists.typed_parameter.Goals as goal
 

@@ -1,5 +1,5 @@
 use Rattle.std.proofs.Common.{ap, sym, ◌∙◌}
-use Rattle.c_grammar.specs.Declarations.{initialiser_of}
+use Rattle.c_syntax.specs.Declarations.{initialiser_of}
 use Rattle.c_check_declarators.proofs.Strings.{counted_list}
 use Rattle.c_check_declarators.proofs.sizes.count_given.Goals as goal
 

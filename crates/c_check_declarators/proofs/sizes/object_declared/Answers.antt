@@ -1,5 +1,5 @@
 use Rattle.std.proofs.Common.{ap}
-use Rattle.c_grammar.specs.Declarations.{array_of, declarator_of, part_of, value_of}
+use Rattle.c_syntax.specs.Declarations.{array_of, declarator_of, part_of, value_of}
 use Rattle.c_check_declarators.specs.Views.{specified_of}
 use Rattle.c_check_declarators.proofs.Sized.{array_said}
 use Rattle.c_check_declarators.proofs.sizes.object_declared.Goals as goal

@@ -1,6 +1,6 @@
 use Rattle.std.proofs.Common.{◌≡◌}
 use Rattle.std.proofs.lemmas.Result.{IfOk-weaker}
-use Rattle.c_grammar.specs.Expressions.{star_of}
+use Rattle.c_syntax.specs.Expressions.{star_of}
 use Rattle.c_tree.specs.declared.types.ValueType.{ValueType}
 use Rattle.c_typing.specs.Checked.{pair}
 use Rattle.c_typing.specs.Expressions.{first_word, type_name}

@@ -6,8 +6,8 @@ use Rattle.std.proofs.lemmas.List.{length-map}
 use Rattle.std.proofs.lemmas.Result.{IfOk-weaker}
 use Rattle.c_syntax.specs.declared.expression.Expression.TheFolds.{fold-roll-Expression, fold_out-Expression}
 use Rattle.c_syntax.specs.declared.expression.Expression.TheViews.{the_lemmas}
-use Rattle.c_grammar.specs.Expressions as trees
-use Rattle.c_grammar.specs.Expressions.{expr_of, exprs_of}
+use Rattle.c_syntax.specs.Expressions as trees
+use Rattle.c_syntax.specs.Expressions.{expr_of, exprs_of}
 use Rattle.c_tree.specs.Program.{Expression as Typed}
 use Rattle.c_tree.specs.declared.types.IntegerType.TheVariants.{Int}
 use Rattle.c_tree.specs.Program as tree

@@ -1,4 +1,4 @@
-use Rattle.c_grammar.specs.Expressions.{expr_of}
+use Rattle.c_syntax.specs.Expressions.{expr_of}
 use Rattle.c_typing.specs.Expressions.{typed_expression}
 use Rattle.c_check_expressions.proofs.whole.expression_if_any.Goals as goal
 

@@ -1,5 +1,5 @@
 use Rattle.std.proofs.Common.{ap, ◌∙◌, length, map}
-use Rattle.c_grammar.specs.Declarations.{parameter_of}
+use Rattle.c_syntax.specs.Declarations.{parameter_of}
 use Rattle.c_typing.specs.Names.{Scope}
 use Rattle.c_check_files.proofs.Bodies.{begun}
 use Rattle.c_check_files.proofs.definitions.begin.Goals as goal

@@ -1,7 +1,7 @@
 use Rattle.std.proofs.Common.{map}
 use Rattle.std.proofs.lemmas.Result.{IfOk-weaker}
-use Rattle.c_grammar.specs.Declarations.{declarator_of, parameter_of}
-use Rattle.c_grammar.specs.Statements.{stmt_of}
+use Rattle.c_syntax.specs.Declarations.{declarator_of, parameter_of}
+use Rattle.c_syntax.specs.Statements.{stmt_of}
 use Rattle.c_check_declarations.proofs.Itemised.{on_ok}
 use Rattle.c_check_declarators.specs.Views.{specified_of}
 use Rattle.c_check_files.proofs.Bodies.{definition_fails, definition_fails_scope, definition_fits}

@@ -1,6 +1,6 @@
 use Rattle.std.proofs.Common.{map}
-use Rattle.c_grammar.specs.Declarations.{parameter_of}
-use Rattle.c_grammar.specs.Statements.{stmt_of}
+use Rattle.c_syntax.specs.Declarations.{parameter_of}
+use Rattle.c_syntax.specs.Statements.{stmt_of}
 use Rattle.c_check_files.proofs.Bodies.{left_body}
 use Rattle.c_check_files.proofs.definitions.past_body.Goals as goal
 

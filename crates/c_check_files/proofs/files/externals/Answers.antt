@@ -1,5 +1,5 @@
 use Rattle.std.proofs.Common.{refl, ◌∙◌, map, drop, ◌+◌}
-use Rattle.c_grammar.specs.Statements.{external_of}
+use Rattle.c_syntax.specs.Statements.{external_of}
 use Rattle.c_typing.specs.Files.{typed_external, typed_unit}
 use Rattle.c_check_declarators.proofs.Lists.{gathered_some, rejoined}
 use Rattle.c_check_files.specs.Answers.{AreFunction}

@@ -1,6 +1,6 @@
 -- What was judged of the declarations so far, and the rest, are all declarations; and so it is with the scope.
 use Rattle.std.proofs.Common.{◌≡◌, List, map, drop}
-use Rattle.c_grammar.specs.Statements.{external_of}
+use Rattle.c_syntax.specs.Statements.{external_of}
 use Rattle.c_tree.specs.Program.{Function}
 use Rattle.c_typing.specs.Checked.{Checked, Note}
 use Rattle.c_typing.specs.Files.{after_unit, typed_unit}

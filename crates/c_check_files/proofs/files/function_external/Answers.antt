@@ -1,6 +1,6 @@
 use Rattle.std.proofs.lemmas.Result.{IfOk-weaker}
-use Rattle.c_grammar.specs.Declarations.{declarator_of}
-use Rattle.c_grammar.specs.Statements.{stmt_of}
+use Rattle.c_syntax.specs.Declarations.{declarator_of}
+use Rattle.c_syntax.specs.Statements.{stmt_of}
 use Rattle.c_check_files.proofs.Externals.{external_fails, external_fits}
 use Rattle.c_check_files.proofs.files.function_external.Goals as goal
 

@@ -1,8 +1,8 @@
 use Rattle.std.proofs.Common.{ap, map, drop, ◌+◌}
-use Rattle.c_grammar.specs.Statements.{unit_of}
+use Rattle.c_syntax.specs.Statements.{unit_of}
 use Rattle.c_tree.specs.Erased.{function_of}
 use Rattle.c_typing.specs.Files.{typed_unit, typed_units}
-use Rattle.c_check_outside.proofs.Passed.{passed_more, passed_none}
+use Rattle.c_check_files.proofs.Passed.{passed_more, passed_none}
 use Rattle.c_check_files.specs.Answers.{AreFunctions}
 use Rattle.c_check_files.proofs.Externals.{next_unit}
 use Rattle.c_check_files.proofs.files.units.Goals as goal

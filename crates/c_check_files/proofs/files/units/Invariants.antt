@@ -1,8 +1,8 @@
 -- What was judged of the files so far, and the rest, are all files.
 use Rattle.std.proofs.Common.{map, drop}
-use Rattle.c_grammar.specs.Statements.{unit_of}
+use Rattle.c_syntax.specs.Statements.{unit_of}
 use Rattle.c_typing.specs.Files.{typed_units}
-use Rattle.c_check_outside.proofs.Passed.{Passed}
+use Rattle.c_check_files.proofs.Passed.{Passed}
 use Rattle.c_check_files.specs.Answers.{AreFunctions}
 use Rattle.c_check_files.proofs.files.units.Given as goal
 

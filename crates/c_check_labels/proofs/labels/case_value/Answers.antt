@@ -1,5 +1,5 @@
 use Rattle.std.proofs.Common.{sym, subst, ℤ, Option}
-use Rattle.c_constants.specs.Constants.{IsConstant}
+use Rattle.c_operands.specs.Constants.{IsConstant}
 use Rattle.c_typing.specs.Constants.{constant_value}
 use Rattle.c_typing.specs.Statements.{case_value}
 use Rattle.c_operands.specs.Judged.{IsOperandOf}

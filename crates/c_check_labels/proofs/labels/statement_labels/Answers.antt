@@ -1,5 +1,5 @@
 use Rattle.std.proofs.Common.{subst, arith, ◌+◌, ◌≤◌, ◌++◌, length, map, drop}
-use Rattle.c_grammar.specs.Statements.{label_of}
+use Rattle.c_syntax.specs.Statements.{label_of}
 use Rattle.c_typing.specs.Statements.{given_label}
 use Rattle.c_check_labels.specs.Labels.{AreSoFar}
 use Rattle.c_check_labels.proofs.Sorted.{next_label, no_label, place_is}

@@ -1,6 +1,6 @@
 -- The labels so far, and those that are left, are all labels.
 use Rattle.std.proofs.Common.{List, ◌++◌, map, drop}
-use Rattle.c_grammar.specs.Statements.{label_of}
+use Rattle.c_syntax.specs.Statements.{label_of}
 use Rattle.c_tree.specs.declared.statement.Label.{Label}
 use Rattle.c_typing.specs.Checked.{Checked, Note}
 use Rattle.c_typing.specs.Statements.{GivenLabel, given_label}

@@ -1,5 +1,5 @@
 use Rattle.std.proofs.Common.{sym, ap, ◌∙◌, subst, arith, ◌+◌, ◌≤◌, [], ◌++◌, length, map, drop}
-use Rattle.c_grammar.specs.Statements.{label_of, stmt_of, stmts_of}
+use Rattle.c_syntax.specs.Statements.{label_of, stmt_of, stmts_of}
 use Rattle.c_typing.specs.Statements.{given_label, given_labels, typed_labels}
 use Rattle.c_check_labels.specs.Labels.{AreSoFar}
 use Rattle.c_check_labels.proofs.Sorted.{all_labels, next_statement}

@@ -1,6 +1,6 @@
 -- The labels so far, and those that are left, are all labels.
 use Rattle.std.proofs.Common.{[], map, drop}
-use Rattle.c_grammar.specs.Statements.{stmt_of, stmts_of}
+use Rattle.c_syntax.specs.Statements.{stmt_of, stmts_of}
 use Rattle.c_typing.specs.Statements.{given_labels, typed_labels}
 use Rattle.c_check_labels.specs.Labels.{AreSoFar}
 use Rattle.c_check_labels.proofs.labels.switch_labels.Given as goal

@@ -1,5 +1,5 @@
 use Rattle.std.proofs.Common.{subst, ℤ}
-use Rattle.c_constants.specs.Constants.{IsConstant}
+use Rattle.c_operands.specs.Constants.{IsConstant}
 use Rattle.c_typing.specs.Initialisers.{constant_for}
 use Rattle.c_operands.specs.Judged.{IsOperandOf}
 use Rattle.c_expressions.specs.Said.{IsSaid}

@@ -4,10 +4,10 @@ use Rattle.std.proofs.Common.{IfOk}
 use Rattle.std.proofs.lemmas.Result.{IfOk-weaker}
 use Rattle.c_syntax.specs.declared.statement.Statement.TheFolds.{fold-roll-Statement, fold_out-Statement}
 use Rattle.c_syntax.specs.declared.statement.Statement.TheViews.{the_lemmas}
-use Rattle.c_grammar.specs.Declarations.{declaration_of, maybe_expr_of}
-use Rattle.c_grammar.specs.Expressions.{expr_of}
-use Rattle.c_grammar.specs.Statements as trees
-use Rattle.c_grammar.specs.Statements.{stmt_of, stmts_of}
+use Rattle.c_syntax.specs.Declarations.{declaration_of, maybe_expr_of}
+use Rattle.c_syntax.specs.Expressions.{expr_of}
+use Rattle.c_syntax.specs.Statements as trees
+use Rattle.c_syntax.specs.Statements.{stmt_of, stmts_of}
 use Rattle.c_tree.specs.Erased.{statement_of}
 use Rattle.c_tree.specs.Program as tree
 use Rattle.c_tree.specs.Program.{Done, value_type}
@@ -21,7 +21,7 @@ use Rattle.c_typing.specs.Statements.{typed_statement, typed_statements}
 use Rattle.c_typing.specs.Types.{InFor}
 use Rattle.c_expressions.specs.Said.{IsSaid}
 use Rattle.c_check_declarations.proofs.Itemised.{on_ok}
-use Rattle.c_check_jumps.specs.Answers.{AreListed, AreStatements}
+use Rattle.c_check_statements.specs.Answers.{AreListed, AreStatements}
 use Rattle.c_check_statements.specs.Views.{around_of}
 use Rattle.c_check_statements.proofs.Arms.{around_number, at_number, branch_number}
 use Rattle.c_check_statements.proofs.Following.{gathered_all, gathered_more, gathered_none, next_scope, next_typed}

@@ -1,6 +1,6 @@
 -- What was judged of the statements so far, and the rest, are all statements; and so it is with the scope.
 use Rattle.std.proofs.Common.{◌≡◌, map, drop}
-use Rattle.c_grammar.specs.Statements.{stmt_of, stmts_of}
+use Rattle.c_syntax.specs.Statements.{stmt_of, stmts_of}
 use Rattle.c_typing.specs.Statements.{after_statements, typed_statements}
 use Rattle.c_check_statements.specs.Views.{around_of}
 use Rattle.c_check_statements.proofs.Following.{Gathered}

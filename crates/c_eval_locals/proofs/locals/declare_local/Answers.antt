@@ -1,5 +1,5 @@
 use Rattle.std.proofs.Common.{rules, ◌≡◌, ◌∙◌, ap, option_map}
-use Rattle.c_store.specs.Kept.{over}
+use Rattle.c_eval.specs.Kept.{over}
 use Rattle.c_tree.specs.Erased.{boxed_of}
 use Rattle.c_tree.specs.Store.{Gives, visited, with_local, zero_of}
 use Rattle.c_tree.specs.Evaluation.{type_at}

@@ -1,5 +1,5 @@
 use Rattle.std.proofs.Common.{rules, ◌≡◌, ◌∙◌, ap}
-use Rattle.c_store.specs.Kept.{over}
+use Rattle.c_eval.specs.Kept.{over}
 use Rattle.c_tree.specs.Store.{Gives, visited}
 use Rattle.c_eval_laws.specs.Steps.{Configuration, go_on}
 use Rattle.c_eval.specs.Left.{left_of}

@@ -1,7 +1,7 @@
 use Rattle.std.proofs.Common.{◌≡◌, ◌≤◌, ◌∙◌, ℕ, List, length, suc, ap, subst}
 use Rattle.std.specs.Prelude.{ℤ}
 use Rattle.pcc_base.specs.Outcome.{ArrayName}
-use Rattle.c_store.specs.Kept.{over}
+use Rattle.c_eval.specs.Kept.{over}
 use Rattle.c_tree.specs.Evaluation.{own_array}
 use Rattle.c_tree.specs.Store.{State, array_named}
 use Rattle.c_eval.specs.Left.{left_of}

@@ -7,8 +7,8 @@ use Rattle.c_tree.specs.Evaluation.{Found, InLocal}
 use Rattle.c_tree.specs.Program as typed
 use Rattle.c_tree.specs.Store.{Held, HoldsNumber, State, held}
 use Rattle.c_eval_laws.specs.Steps.{Configuration}
-use Rattle.c_store.specs.Kept.{Kept, over}
-use Rattle.c_store.specs.Values.{held_of}
+use Rattle.c_eval.specs.Kept.{Kept, over}
+use Rattle.c_eval.specs.Values.{held_of}
 use Rattle.c_eval.specs.Changes.{at_place, holding}
 use Rattle.c_eval.specs.Left.{left_of}
 use Rattle.c_eval.specs.declared.task.Task.TheVariants as tasks

@@ -1,6 +1,6 @@
 use Rattle.std.proofs.Common.{rules, arith, [], Bool, false, refl, ap, subst}
 use Rattle.pcc_base.specs.Outcome.{nothing_listed}
-use Rattle.c_store.specs.Kept.{over}
+use Rattle.c_eval.specs.Kept.{over}
 use Rattle.c_tree.specs.Erased.{expression_of, item_of, program_of}
 use Rattle.c_tree.specs.Evaluation.{first_state}
 use Rattle.c_tree.specs.Program.{Expression}

@@ -1,5 +1,5 @@
 use Rattle.pcc_base.specs.Outcome.{nothing_listed}
-use Rattle.c_store.specs.Kept.{over}
+use Rattle.c_eval.specs.Kept.{over}
 use Rattle.c_tree.specs.Erased.{program_of, statement_of}
 use Rattle.c_eval.specs.Left.{left_of}
 use Rattle.c_eval.specs.Views.{part_task}

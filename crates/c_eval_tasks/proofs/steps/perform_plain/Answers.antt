@@ -1,6 +1,6 @@
 -- Each function does what the step of its task does.
 use Rattle.std.proofs.Common.{◌∙◌}
-use Rattle.c_store.specs.Kept.{over}
+use Rattle.c_eval.specs.Kept.{over}
 use Rattle.c_tree.specs.Erased.{function_of}
 use Rattle.c_eval.specs.Left.{left_of}
 use Rattle.c_eval_tasks.proofs.Performing.{return_ahead}

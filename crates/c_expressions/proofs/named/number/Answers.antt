@@ -1,6 +1,6 @@
 use Rattle.std.proofs.Common.{◌≡◌, ap, refl, sym, subst, ◌∙◌, w32}
 use Rattle.std.proofs.lemmas.Int.{to_z-of_z}
-use Rattle.c_constants.specs.Constants.{IsConstant}
+use Rattle.c_operands.specs.Constants.{IsConstant}
 use Rattle.c_operands.specs.Judged.{IsIntegral}
 use Rattle.c_tree.specs.Erased.{boxed_of, expression_of}
 use Rattle.c_tree.specs.Program.{Constant}

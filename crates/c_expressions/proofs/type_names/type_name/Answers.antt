@@ -1,5 +1,5 @@
 use Rattle.std.proofs.Common.{◌∙◌, sym}
-use Rattle.c_grammar.specs.Expressions.{star_of}
+use Rattle.c_syntax.specs.Expressions.{star_of}
 use Rattle.c_typing.specs.Expressions.{first_word}
 use Rattle.c_typing.specs.Types.{InCast, specified}
 use Rattle.c_expressions.proofs.TypeNames.{type_fits, type_fails}

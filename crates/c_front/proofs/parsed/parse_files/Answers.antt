@@ -1,7 +1,7 @@
 -- One file after the other.
 use Rattle.std.proofs.Common.{map, ◌∙◌}
 use Rattle.std.proofs.lemmas.List.{length-map}
-use Rattle.c_grammar.specs.Statements.{unit_of}
+use Rattle.c_syntax.specs.Statements.{unit_of}
 use Rattle.c_front.proofs.Reading.{parsed_all}
 use Rattle.c_front.proofs.parsed.parse_files.Goals as goal
 

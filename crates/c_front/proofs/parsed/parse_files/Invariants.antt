@@ -1,6 +1,6 @@
 -- What holds of the files that are left is what holds of all.
 use Rattle.std.proofs.Common.{◌≤◌, ◌+◌, length, map}
-use Rattle.c_grammar.specs.Statements.{unit_of}
+use Rattle.c_syntax.specs.Statements.{unit_of}
 use Rattle.c_front.specs.SoFar.{ParsedSoFar}
 use Rattle.c_front.proofs.parsed.parse_files.Given as goal
 

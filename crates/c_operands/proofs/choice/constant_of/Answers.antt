@@ -1,5 +1,5 @@
 use Rattle.std.proofs.Common.{sym, subst}
-use Rattle.c_constants.specs.Constants.{IsConstant}
+use Rattle.c_operands.specs.Constants.{IsConstant}
 use Rattle.c_tree.specs.Program.{Conditional}
 use Rattle.c_operands.proofs.choice.constant_of.Goals as goal
 

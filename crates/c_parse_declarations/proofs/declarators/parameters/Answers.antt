@@ -1,6 +1,6 @@
 use Rattle.std.proofs.Common.{arith}
 use Rattle.std.proofs.lemmas.Result.{err_from_is_err_and}
-use Rattle.c_grammar.specs.Declarations.{parameter_of}
+use Rattle.c_syntax.specs.Declarations.{parameter_of}
 use Rattle.c_parse_declarations.proofs.Listing.{list_more, list_refused, list_done}
 use Rattle.c_parse_declarations.proofs.declarators.parameters.Goals as goal
 

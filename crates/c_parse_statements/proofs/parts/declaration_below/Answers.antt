@@ -1,5 +1,5 @@
-use Rattle.c_grammar.specs.DeclarationReading.{read_declaration}
-use Rattle.c_grammar.specs.Declarations.{declaration_of}
+use Rattle.c_syntax.specs.DeclarationReading.{read_declaration}
+use Rattle.c_syntax.specs.Declarations.{declaration_of}
 use Rattle.c_parse_expressions.specs.Readings.{below}
 use Rattle.c_cursor.proofs.Refused.{refused_fault}
 use Rattle.c_parse_statements.specs.Parts.{below_node}

@@ -1,11 +1,11 @@
 -- A part is read by the readers of what stands below a node; the loops add one turn to what is read in all.
 use Rattle.std.proofs.Common.{Some, refl, ap, sym, ◌∙◌, arith}
 use Rattle.std.proofs.lemmas.Result.{err_from_is_err_and}
-use Rattle.c_grammar.specs.Statements.{Declared}
-use Rattle.c_grammar.specs.Chains.{then_read}
-use Rattle.c_grammar.specs.DeclarationReading.{read_declaration}
+use Rattle.c_syntax.specs.Statements.{Declared}
+use Rattle.c_syntax.specs.Chains.{then_read}
+use Rattle.c_syntax.specs.DeclarationReading.{read_declaration}
 use Rattle.c_parse_expressions.specs.Readings.{below}
-use Rattle.c_grammar.specs.StatementReading.{Below, read_statement, do_behind, switch_behind}
+use Rattle.c_syntax.specs.StatementReading.{Below, read_statement, do_behind, switch_behind}
 use Rattle.c_cursor.proofs.Refused.{refused_then, refused_fault}
 use Rattle.c_parse_statements.specs.Parts.{below_node, boxed_of, fields_of}
 use Rattle.c_parse_statements.proofs.Below.{below_is, statement_reads, item_declared, item_stated, labelled_is}

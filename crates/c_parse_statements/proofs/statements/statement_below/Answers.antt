@@ -1,5 +1,5 @@
-use Rattle.c_grammar.specs.StatementReading.{read_statement}
-use Rattle.c_grammar.specs.Statements.{stmt_of}
+use Rattle.c_syntax.specs.StatementReading.{read_statement}
+use Rattle.c_syntax.specs.Statements.{stmt_of}
 use Rattle.c_cursor.proofs.Refused.{refused_fault}
 use Rattle.c_parse_statements.specs.Parts.{below_node}
 use Rattle.c_parse_statements.proofs.Below.{statement_is, no_statement, same_read}

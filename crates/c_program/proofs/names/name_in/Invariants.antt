@@ -1,6 +1,6 @@
 -- The name of this number among all definitions is that of the number that is left among those behind.
 use Rattle.std.proofs.Common.{◌≡◌, ◌++◌, ℕ, List, drop, filter_map, map, slice_get}
-use Rattle.c_grammar.specs.Statements.{external_of}
+use Rattle.c_syntax.specs.Statements.{external_of}
 use Rattle.c_sound.specs.Names.{defined_name}
 use Rattle.c_program.proofs.names.name_in.Given as goal
 

@@ -1,6 +1,6 @@
 -- The name of this number in all files is that of the number that is left in the files behind.
 use Rattle.std.proofs.Common.{◌≡◌, drop, map, slice_get}
-use Rattle.c_grammar.specs.Statements.{unit_of}
+use Rattle.c_syntax.specs.Statements.{unit_of}
 use Rattle.c_sound.specs.Names.{defined_names}
 use Rattle.c_program.proofs.names.name_of.Given as goal
 

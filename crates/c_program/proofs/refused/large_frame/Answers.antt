@@ -1,6 +1,6 @@
 -- The name at the function's number is the function's.
 use Rattle.std.proofs.Common.{map}
-use Rattle.c_grammar.specs.Statements.{unit_of}
+use Rattle.c_syntax.specs.Statements.{unit_of}
 use Rattle.c_program.proofs.Reasons.{large_by_name}
 use Rattle.c_program.proofs.refused.large_frame.Goals as goal
 

@@ -1,6 +1,6 @@
 -- The raw trees are those of the texts.
 use Rattle.std.proofs.Common.{map}
-use Rattle.c_grammar.specs.Statements.{unit_of}
+use Rattle.c_syntax.specs.Statements.{unit_of}
 use Rattle.c_program.proofs.typed.typed_program.Goals as goal
 
 pub returns-in-Ok-clause-accepted : goal.returns-in-Ok-clause-accepted

@@ -3,7 +3,7 @@ use Rattle.std.proofs.lemmas.Result.{IfOk-weaker}
 use Rattle.std.specs.Prelude.{sum_by}
 use Rattle.c_tree.specs.Erased.{function_of}
 use Rattle.c_typing.specs.Typed.{object_bytes}
-use Rattle.c_numbering.specs.Tables.{object_described}
+use Rattle.c_types.specs.Tables.{object_described}
 use Rattle.c_types.specs.Outlines.{made}
 use Rattle.c_types.proofs.programs.limit_above.Goals as goal
 

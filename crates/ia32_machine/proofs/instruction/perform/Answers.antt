@@ -75,8 +75,8 @@ perform-requires g c = λ e. let no : false ≡ true = c.if-is_system_call.ensur
 pub returns-in-Ok-clause-told : goal.returns-in-Ok-clause-told
 returns-in-Ok-clause-told g c = λ _ _.
     let other : c.args.insn.now ≢ insn.Int 0x80 = λ e. let no : false ≡ true = c.if-is_system_call.ensures.1 e in cc in
-    insn_goes c.args.insn.now c.args.after c.args.processor.now c.perform.new.self (g.I.Source.left c.args.input.now)
-    (g.O.Sink.taken c.args.out.now) c.requires other c.in-Ok.ensures
+    insn_goes c.args.insn.now c.args.after c.args.processor.now c.perform.new.processor
+    (g.I.Source.left c.args.input.now) (g.O.Sink.taken c.args.out.now) c.requires other c.in-Ok.ensures
 
 pub returns-in-Ok-clause-counted : goal.returns-in-Ok-clause-counted
 returns-in-Ok-clause-counted g c = (refl, refl)
@@ -113,7 +113,7 @@ returns-then-is_system_call-clause-code g c = rw c.set_eip.ensures c.system_call
 
 pub returns-in-Ok-clause-code : goal.returns-in-Ok-clause-code
 returns-in-Ok-clause-code g c =
-    instruction-keeps c.args.insn.now c.args.after c.args.processor.now c.perform.new.self c.in-Ok.ensures
+    instruction-keeps c.args.insn.now c.args.after c.args.processor.now c.perform.new.processor c.in-Ok.ensures
 
 pub returns-in-Err-clause-code : goal.returns-in-Err-clause-code
 returns-in-Err-clause-code g c = rw c.in-Err.ensures.1 (keeps-same c.args.processor.now.memory)

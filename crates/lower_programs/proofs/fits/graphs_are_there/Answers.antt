@@ -1,4 +1,4 @@
-use Rattle.lower_programs.proofs.Whole.{graphs-are-there}
+use Rattle.lower_programs.proofs.WholePrograms.{graphs-are-there}
 use Rattle.lower_programs.proofs.fits.graphs_are_there.Goals as goal
 
 pub returns : goal.returns

@@ -4,7 +4,7 @@ use Rattle.std.proofs.lemmas.List.FromFn.{map-range_with_len_more}
 use Rattle.c_tree.specs.declared.program.Local as tree
 use Rattle.c_tree.specs.Erased.{local_of}
 use Rattle.lower_lines.specs.Shown.{local_widths, type_widths}
-use Rattle.map_laws.proofs.Variables.{take-widths}
+use Rattle.map_lines.proofs.OwnedVariables.{take-widths}
 use Rattle.map_lines.proofs.Counting.{widths-more}
 use Rattle.map_lines.proofs.declared.variable_counts.Goals as goal
 

@@ -3,7 +3,7 @@ use Rattle.c_tree.specs.Erased.{function_of}
 use Rattle.ia32_emit.specs.Locations.{slots_of}
 use Rattle.pcc_listing.specs.Lines.{point_lines}
 use Rattle.pcc_listing.specs.Views.{line_of}
-use Rattle.map_laws.specs.ProgramMap.{points_over}
+use Rattle.map_lines.specs.ProgramMap.{points_over}
 use Rattle.map_lines.proofs.points.push_points.Given as goal
 
 -- the points so far and the others have all lines

@@ -3,7 +3,7 @@ use Rattle.std.proofs.lemmas.Int.{ints}
 use Rattle.std.specs.Int.RustNames.{unsigned_abs, FitsSigned}
 use Rattle.std.specs.Int.{w32}
 use Rattle.ia32_emit.specs.Locations.{distance, slots_of}
-use Rattle.map_laws.specs.ProgramMap.{standings_from}
+use Rattle.map_lines.specs.ProgramMap.{standings_from}
 use Rattle.map_lines.proofs.Lines.{far-at, standings-put}
 use Rattle.map_lines.proofs.points.standings.Goals as goal
 

@@ -10,7 +10,7 @@ use Rattle.flow_graph.specs.Graphs.{Flow}
 use Rattle.ia32_frames.specs.declared.frame.Frame.{Frame}
 use Rattle.pcc_listing.specs.Lines.{lines_of}
 use Rattle.pcc_listing.specs.Views.{line_of}
-use Rattle.map_laws.specs.ProgramMap.{program_map}
+use Rattle.map_lines.specs.ProgramMap.{program_map}
 use Rattle.map_lines.specs.Shown.{address_in, homes_of}
 use Rattle.map_lines.proofs.Whole.{at-place, can-at, first-next, first-total, functions-put, made-at, small-objects}
 use Rattle.map_lines.proofs.program.map_lines.Goals as goal

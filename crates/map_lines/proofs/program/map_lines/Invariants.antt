@@ -3,7 +3,7 @@ use Rattle.c_tree.specs.Erased.{function_of, program_of}
 use Rattle.lower_lines.specs.Lowering.{first_statement}
 use Rattle.pcc_listing.specs.Lines.{function_lines, lines_of, numbered}
 use Rattle.pcc_listing.specs.Views.{line_of}
-use Rattle.map_laws.specs.ProgramMap.{functions_over, program_map}
+use Rattle.map_lines.specs.ProgramMap.{functions_over, program_map}
 use Rattle.map_lines.specs.Shown.{address_in, homes_of}
 use Rattle.map_lines.proofs.program.map_lines.Given as goal
 

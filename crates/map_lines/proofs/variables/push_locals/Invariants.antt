@@ -3,7 +3,7 @@ use Rattle.c_tree.specs.Erased.{local_of}
 use Rattle.lower_lines.specs.Shown.{local_widths}
 use Rattle.pcc_listing.specs.Lines.{numbered, variable_lines}
 use Rattle.pcc_listing.specs.Views.{line_of}
-use Rattle.map_laws.specs.Belongs.{local_variables}
+use Rattle.map_lines.specs.Belongs.{local_variables}
 use Rattle.map_lines.proofs.variables.push_locals.Given as goal
 
 -- the variables so far and those of the other locals are all

@@ -4,7 +4,7 @@ use Rattle.pcc_listing.specs.Lines.{numbered, variable_lines}
 use Rattle.pcc_listing.specs.Views.{line_of}
 use Rattle.pcc_listing.specs.declared.lines.Line.TheVariants.{Variable}
 use Rattle.pcc_listing.specs.declared.lines.Named.TheVariants.{Temporary}
-use Rattle.map_laws.specs.Belongs.{temporary}
+use Rattle.map_lines.specs.Belongs.{temporary}
 use Rattle.map_lines.proofs.Lines.{temporaries-put}
 use Rattle.map_lines.proofs.variables.push_temporaries.Goals as goal
 

@@ -1,7 +1,7 @@
 use Rattle.std.proofs.Common.{◌≡◌, ◌++◌, drop, map}
 use Rattle.pcc_listing.specs.Lines.{numbered, variable_lines}
 use Rattle.pcc_listing.specs.Views.{line_of}
-use Rattle.map_laws.specs.Belongs.{temporary}
+use Rattle.map_lines.specs.Belongs.{temporary}
 use Rattle.map_lines.proofs.variables.push_temporaries.Given as goal
 
 -- the temporaries so far and the others are all

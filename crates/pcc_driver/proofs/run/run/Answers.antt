@@ -1,6 +1,6 @@
 use Rattle.std.proofs.Common.{◌≤◌, length, arith, refl}
 use Rattle.ia32_machine.specs.First.{lent}
-use Rattle.pcc_sources.specs.Sources.{file_limit}
+use Rattle.pcc_reports.specs.Sources.{file_limit}
 use Rattle.pcc_reports.specs.Outside.{work_of}
 use Rattle.pcc_driver.proofs.Running.{lent_first, machine_file, machine_told, no_machine_file, no_machine_told}
 use Rattle.pcc_driver.proofs.run.run.Goals as goal

@@ -1,13 +1,13 @@
 use Rattle.std.proofs.Common.{List, ap, arith, length, refl}
 use Rattle.puzzle_board.specs.declared.area.Area.{Area}
 use Rattle.puzzle_solver.proofs.Ends.{all-placed, counted-bounded, few-pieces, solved-solvable}
-use Rattle.puzzle_solver.proofs.Onward.{onward-more}
+use Rattle.puzzle_choices.proofs.Onward.{onward-more}
 use Rattle.puzzle_solver.proofs.solving.solve.Goals as goal
 
 pub returns-then-not-is_bounded-clause-unsolvable : goal.returns-then-not-is_bounded-clause-unsolvable
 returns-then-not-is_bounded-clause-unsolvable g c = λ solvable.
-    let bounded = counted-bounded c.args.board.now c.of-areas.result c.of-pieces.result c.requires
-    c.of-areas.ensures.value c.of-pieces.ensures.value solvable in
+    let bounded = counted-bounded c.args.board.now c.areas_of-areas.result c.pieces_of-pieces.result c.requires
+    c.areas_of-areas.ensures.value c.pieces_of-pieces.ensures.value solvable in
     let holds = c.is_bounded.ensures.1 bounded in
     cc
 
@@ -22,8 +22,8 @@ returns-clause-solved g c =
 pub returns-clause-few : goal.returns-clause-few
 returns-clause-few g c =
     let bounded = c.is_bounded.ensures.0 cc in
-    let few = few-pieces c.args.board.now c.of-areas.result c.of-pieces.result c.requires c.of-areas.ensures.value
-    bounded in
+    let few = few-pieces c.args.board.now c.areas_of-areas.result c.pieces_of-pieces.result c.requires
+    c.areas_of-areas.ensures.value bounded in
     let areas = ap (λ (areas : List Area). length areas) c.place_wide.ensures.onward.areas in
     omega (arith, few, areas)
 
@@ -34,8 +34,8 @@ returns-then-not-is_bounded-clause-exact g c = (
       absurd (
       cc (
       c.is_bounded.ensures.1
-      (counted-bounded c.args.board.now c.of-areas.result c.of-pieces.result c.requires
-      c.of-areas.ensures.value c.of-pieces.ensures.value solvable))),
+      (counted-bounded c.args.board.now c.areas_of-areas.result c.pieces_of-pieces.result c.requires
+      c.areas_of-areas.ensures.value c.pieces_of-pieces.ensures.value solvable))),
 )
 
 pub returns-clause-exact : goal.returns-clause-exact

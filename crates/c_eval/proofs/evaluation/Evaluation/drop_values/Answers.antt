@@ -1,6 +1,6 @@
 use Rattle.std.proofs.Common.{rules, ◌≡◌, ◌∙◌, ◌-◌, List, ap, length, take}
-use Rattle.c_store.specs.Values.{held_of}
-use Rattle.c_store.specs.declared.value.Value.{Value}
+use Rattle.c_eval.specs.Values.{held_of}
+use Rattle.c_eval.specs.declared.value.Value.{Value}
 use Rattle.c_tree.specs.Store.{Held}
 use Rattle.c_eval_laws.specs.Steps.{Configuration}
 use Rattle.c_eval_laws.specs.Tasks.{below_by}

@@ -1,5 +1,0 @@
-mod BlockRows
-mod Chains
-mod Ones
-mod QuietRows
-mod Returning

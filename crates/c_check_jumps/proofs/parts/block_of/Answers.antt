@@ -1,7 +1,0 @@
-use Rattle.std.proofs.Common.{rules}
-use Rattle.c_tree.specs.declared.statement.Statement.TheViews.{the_lemmas}
-use Rattle.c_check_jumps.proofs.BlockRows.{row_is}
-use Rattle.c_check_jumps.proofs.parts.block_of.Goals as goal
-
-pub returns : goal.returns
-returns c = search (rules, the_lemmas, row_is)

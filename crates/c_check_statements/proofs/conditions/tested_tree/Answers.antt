@@ -1,0 +1,13 @@
+use Rattle.std.proofs.Common.{Ok}
+use Rattle.c_tree.specs.Erased.{boxed_of}
+use Rattle.c_typing.specs.Checked.{if_fits}
+use Rattle.c_typing.specs.Rows.{tested}
+use Rattle.c_operands.specs.Judged.{IsOperandOf}
+use Rattle.c_expressions.proofs.Answered.{row_ok}
+use Rattle.c_check_statements.proofs.QuietRows.{quiet_tested}
+use Rattle.c_check_statements.proofs.conditions.tested_tree.Goals as goal
+
+pub returns-in-Fits : goal.returns-in-Fits
+returns-in-Fits c = λ part before after said. c.tree_of.ensures (if_fits part (tested c.args.at)) before after
+    (row_ok IsOperandOf (λ o. boxed_of o.tree) (tested c.args.at) (λ e o h. h.0) (quiet_tested c.args.at)
+    c.args.part c.in-Fits.operand c.in-Fits.is (Ok c.tested.result) c.tested.ensures part before after said)

@@ -1,0 +1,8 @@
+use Rattle.c_syntax.specs.Declarations.{maybe_expr_of}
+use Rattle.c_typing.specs.Expressions.{typed_if_any}
+use Rattle.c_check_statements.proofs.heads.and_step.Goals as goal
+
+pub returns-in-Ok : goal.returns-in-Ok
+returns-in-Ok c = λ part before said. c.head.ensures part
+    (typed_if_any c.args.scopes.now (maybe_expr_of c.args.e.now)) before c.args.notes.now
+    c.value_if_any.new.notes said c.in-Ok.ensures

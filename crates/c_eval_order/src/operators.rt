@@ -1,0 +1,62 @@
+//! Operators on two operands, of which the left one comes first, and on what was at a place (C99 6.5).
+
+ghost use Rattle.std.specs.Prelude.{◌≡◌, IfOk};
+ghost use Rattle.c_eval.specs.Changes.{Comes, doing_three, done};
+ghost use Rattle.c_eval.specs.Left.{left_of};
+ghost use Rattle.c_eval.specs.Kept.{over};
+ghost use Rattle.c_eval_laws.specs.Tasks as tasks;
+ghost use Rattle.c_eval_laws.specs.Tasks.{Ahead, AppliesBinary, Evaluates};
+ghost use Rattle.c_tree.specs.Erased.{expression_of};
+ghost use Rattle.c_tree.specs.Program.{Program};
+ghost use Rattle.c_tree.specs.Store.{State};
+ghost use Rattle.pcc_base.specs.Outcome.{Listing};
+
+use c_eval::{EvalEnd, Evaluation, Store, Task};
+use c_tree::{BinaryOp, Expression, ValueType};
+use pcc_base::{NoMemory, Trap};
+
+/// Both operands of an operator are to be evaluated, the left one first, and then the operator (C99 6.5.5 to 6.5.12).
+pub fn begin_binary<'a>(
+    left: &mut Evaluation<'a>,
+    op: BinaryOp,
+    first: &'a Expression,
+    second: &'a Expression,
+) -> Result<(), NoMemory>
+    ensures { IfOk result (λ _. left_of left.new
+        ≡ doing_three (Evaluates (expression_of first.now)) (Evaluates (expression_of second.now)) (AppliesBinary op)
+        (left_of left.old)) }
+{
+    left.next_three(
+        Task::Evaluates(first),
+        Task::Evaluates(second),
+        Task::AppliesBinary(op),
+    )
+}
+
+/// An operator on what was at a place and a value, whose result is stored there (C99 6.5.16.2).
+pub fn update(
+    left: &mut Evaluation<'_>,
+    store: &mut Store,
+    of: ValueType,
+    op: BinaryOp,
+) -> Result<(), EvalEnd>
+    requires { (left_of left.old).way ≡ Ahead }
+    ensures { (p : Program) (l : Listing) (s : State)
+        → Comes result (done p l (tasks.Updates of op) (left_of left.old) (over s store.old)) (left_of left.new)
+        (over s store.new) }
+{
+    let value = left.take_value();
+    let old = left.take_value();
+    let place = left.take_place();
+    match old.binary(op, value) {
+        Ok(new) => {
+            let new = new.in_type(of);
+            if store.store(place, new) {
+                left.hold(new)?;
+                return Ok(());
+            }
+            Err(EvalEnd::Trapped(Trap::Check))
+        }
+        Err(trap) => Err(EvalEnd::Trapped(trap)),
+    }
+}

@@ -1,8 +1,0 @@
--- How far the search for a keyword outside the profile has come.
-use Rattle.std.specs.Prelude.{◌≡◌, List, ◌++◌}
-use Rattle.c_tokens.specs.declared.token.Token.{Token}
-use Rattle.c_parser.specs.Refusals.{NoneUnsupported}
-
--- no token before these is a keyword outside the profile
-abbrev pub Passed : List Token → List Token → Type 0
-Passed tokens rest = (before : List Token) × NoneUnsupported before × (tokens ≡ before ++ rest)

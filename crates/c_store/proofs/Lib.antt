@@ -1,5 +1,0 @@
-pub mod Pieces
-pub mod Spanned
-pub mod Active
-pub mod Named
-pub mod Seen

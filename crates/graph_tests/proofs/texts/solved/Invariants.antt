@@ -1,4 +1,0 @@
-use Rattle.graph_tests.proofs.texts.solved.Given as goal
-
-abbrev pub ghosts-solved_with : goal.ghosts-solved_with
-ghosts-solved_with g a = record { name = a.blank.name; parts = a.blank.parts }

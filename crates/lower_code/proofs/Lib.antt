@@ -1,8 +1,0 @@
-pub mod Alike
-pub mod Arms
-pub mod Bodies
-mod Comparisons
-pub mod Ordered
-mod Switched
-pub mod Whole
-pub mod Resting

@@ -1,8 +1,0 @@
-use Rattle.std.proofs.Common.{rules}
-use Rattle.lower_moves.specs.Sites.{context_of}
-use Rattle.lower_code.proofs.Resting.{text-array}
-use Rattle.lower_code.proofs.items.array.Goals as goal
-
-pub returns-in_ok-copy_text-in-Text : goal.returns-in_ok-copy_text-in-Text
-returns-in_ok-copy_text-in-Text c = text-array (context_of c.args.site.now) c.args.k c.args.t c.in-Text.object
-    (search rules) c.in_ok-clear_array.ensures c.in_ok-copy_text-in-Text.ensures

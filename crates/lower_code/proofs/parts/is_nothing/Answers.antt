@@ -1,7 +1,0 @@
-use Rattle.std.proofs.Common.{rules}
-use Rattle.c_tree.specs.declared.statement.Statement.TheViews.{the_lemmas}
-use Rattle.lower_code.proofs.Resting.{statements_are}
-use Rattle.lower_code.proofs.parts.is_nothing.Goals as goal
-
-pub returns-in-Block : goal.returns-in-Block
-returns-in-Block c = λ k. search (rules, the_lemmas, statements_are)

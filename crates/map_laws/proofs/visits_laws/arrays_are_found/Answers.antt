@@ -1,5 +1,0 @@
-use Rattle.map_laws.proofs.Arrays.{arrays-found}
-use Rattle.map_laws.proofs.visits_laws.arrays_are_found.Goals as goal
-
-pub returns : goal.returns
-returns c = arrays-found

@@ -1,4 +1,0 @@
-pub mod Laws
-pub mod Belongs
-pub mod ProgramMap
-pub mod VisitsLaws

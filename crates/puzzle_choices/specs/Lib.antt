@@ -1,0 +1,4 @@
+pub mod Plans
+pub mod Onward
+pub mod Filling
+pub mod Orders
