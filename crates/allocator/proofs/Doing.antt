@@ -22,8 +22,8 @@ use Rattle.elementary_form.specs.SplitForms.{Form, IsForm}
 use Rattle.allocator.specs.Allocations.{IsAllocation, NothingFirst}
 use Rattle.allocator.specs.Progress.{IsDoneTo, IsEmptyAt}
 use Rattle.allocator.specs.Sides.{ChangesPoint}
-use Rattle.allocator.specs.Slots.{AreGiven, AreSlots, AreSpilled, HasSlot, slot_in, slots_given}
-use Rattle.allocator.specs.Spills.{IsSpilledAt}
+use Rattle.allocator_boards.specs.Slots.{AreGiven, AreSlots, AreSpilled, HasSlot, slot_in, slots_given}
+use Rattle.allocator_boards.specs.Spills.{IsSpilledAt}
 
 -- ---- what a point has stays while others change
 

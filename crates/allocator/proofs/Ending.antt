@@ -17,14 +17,14 @@ use Rattle.puzzle_board.specs.Places.{Entry, PlaceMap, entries_at}
 use Rattle.elementary_form.specs.PointBoards.{areas_of, fixed_result, fixed_use, point_pieces, with_result}
 use Rattle.elementary_form.specs.PointMaps.{IsLegalPoint}
 use Rattle.elementary_form.specs.SplitForms.{Form, IsForm}
-use Rattle.allocator.specs.PointPuzzles.{pair_of, pieces_at}
+use Rattle.allocator_boards.specs.PointPuzzles.{pair_of, pieces_at}
 use Rattle.allocator.specs.Progress.{IsDoneTo}
 use Rattle.allocator.specs.Sides.{ArePut, ChangesPoint, is_lower, is_upper, with_fixed}
-use Rattle.allocator.specs.Slots.{AreGiven, AreSpilled}
-use Rattle.allocator.specs.Solutions.{ArePlaces, AreSpots}
-use Rattle.allocator.specs.Spills.{HasPiece, IsSpilledAt}
-use Rattle.allocator.proofs.Ordered.{all-of, vars-within}
-use Rattle.allocator.proofs.Listing.{all-at}
+use Rattle.allocator_boards.specs.Slots.{AreGiven, AreSpilled}
+use Rattle.allocator_boards.specs.Solutions.{ArePlaces, AreSpots}
+use Rattle.allocator_boards.specs.Spills.{HasPiece, IsSpilledAt}
+use Rattle.allocator_boards.proofs.Ordered.{all-of, vars-within}
+use Rattle.allocator_boards.proofs.Listing.{all-at}
 use Rattle.allocator.proofs.Doing.{done-more, slots-here, spilled-here}
 use Rattle.allocator.proofs.Points.{point-legal}
 

@@ -2,12 +2,7 @@ pub mod Bytes
 pub mod Doing
 pub mod Ending
 pub mod Giving
-pub mod Listing
 pub mod Members
 pub mod Points
 pub mod Putting
-pub mod Solving
 pub mod Standing
-pub mod OneMore
-pub mod Ordered
-pub mod Fixing

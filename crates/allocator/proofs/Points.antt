@@ -27,12 +27,12 @@ use Rattle.elementary_form.specs.PointMaps.{InSlot, IsLegalPoint, SpilledInSlots
 use Rattle.elementary_form.specs.PointMaps.{place_before, same_columns, same_spot, spot_on, standing_at, standings_of}
 use Rattle.elementary_form.specs.PointMaps.{unspilled}
 use Rattle.elementary_form.proofs.Naming.{equal-test, in-test, test-in, true-false}
-use Rattle.allocator.specs.PointPuzzles.{pair_of}
-use Rattle.allocator.proofs.Fixing.{fixed-defined, fixed-dies, fixed-used}
-use Rattle.allocator.proofs.OneMore.{ascending-result}
+use Rattle.allocator_boards.specs.PointPuzzles.{pair_of}
+use Rattle.allocator_boards.proofs.Fixing.{fixed-defined, fixed-dies, fixed-used}
+use Rattle.allocator_boards.proofs.OneMore.{ascending-result}
 use Rattle.allocator.specs.Sides.{ArePut, is_lower, is_upper, with_fixed}
-use Rattle.allocator.specs.Slots.{slot_in}
-use Rattle.allocator.specs.Solutions.{ArePlaces, AreSpots, standing_by}
+use Rattle.allocator_boards.specs.Slots.{slot_in}
+use Rattle.allocator_boards.specs.Solutions.{ArePlaces, AreSpots, standing_by}
 use Rattle.allocator.proofs.Members.{Has, IsMade, IsUse, in-with-result, made-there, named-some, piece-is, result-in}
 use Rattle.allocator.proofs.Members.{some-named, use-there}
 use Rattle.allocator.proofs.Putting.{name-placed, names-ascend, names_of, place-other, place-same, placed-name}

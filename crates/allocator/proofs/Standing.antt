@@ -7,8 +7,8 @@ use Rattle.std.proofs.lemmas.Option.{none-some, same_Some, slice_get-get_or, sli
 use Rattle.puzzle_board.specs.declared.piece.Piece.{Piece}
 use Rattle.puzzle_board.specs.declared.piece.Spot.{Spot}
 use Rattle.puzzle_board.specs.declared.place.Place.{Place}
-use Rattle.allocator.specs.Slots.{slot_in}
-use Rattle.allocator.specs.Solutions.{ArePlaces, StandsIn}
+use Rattle.allocator_boards.specs.Slots.{slot_in}
+use Rattle.allocator_boards.specs.Solutions.{ArePlaces, StandsIn}
 
 -- the places of the first n pieces
 pub record ArePlacesTo

@@ -6,7 +6,7 @@ use Rattle.flow_graph.specs.Liveness.{BeginsWith, IsLiveBefore}
 use Rattle.puzzle_board.specs.Places.{PlaceMap, entries_at, spilled_at}
 use Rattle.elementary_form.specs.PointMaps.{FrameUse, IsLegalPoint}
 use Rattle.elementary_form.specs.SplitForms.{Form}
-use Rattle.allocator.specs.Spills.{IsSpilledAt}
+use Rattle.allocator_boards.specs.Spills.{IsSpilledAt}
 
 -- nothing is live before the first point of the function
 abbrev pub NothingFirst : Flow → Type 0

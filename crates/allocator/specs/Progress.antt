@@ -5,8 +5,8 @@ use Rattle.flow_graph.specs.Graphs.{IsIn, IsPlaced}
 use Rattle.puzzle_board.specs.Places.{PlaceMap, entries_at, spilled_at}
 use Rattle.elementary_form.specs.PointMaps.{IsLegalPoint}
 use Rattle.elementary_form.specs.SplitForms.{Form}
-use Rattle.allocator.specs.Slots.{AreSlots, HasSlot}
-use Rattle.allocator.specs.Spills.{IsSpilledAt}
+use Rattle.allocator_boards.specs.Slots.{AreSlots, HasSlot}
+use Rattle.allocator_boards.specs.Spills.{IsSpilledAt}
 
 -- a point without places, at which nothing is spilled
 pub record IsEmptyAt (places : PlaceMap) (point : ℕ) : Type 0 where

@@ -6,13 +6,14 @@ ghost use Rattle.flow_graph.specs.Graphs.{IsPlaced};
 ghost use Rattle.liveness.specs.Distances.{AreDistances};
 ghost use Rattle.allocator.specs.Allocations.{IsAllocation, NothingFirst};
 ghost use Rattle.allocator.specs.Progress.{IsDoneTo};
-ghost use Rattle.allocator.specs.Slots.{slots_given};
+ghost use Rattle.allocator_boards.specs.Slots.{slots_given};
 
 use crate::frame::bytes_of_arrays;
+use crate::pieces_of;
 use crate::places::{places_of, put_fixed, put_pieces};
 use crate::slots::spill_all;
-use crate::solution::solve_point;
-use crate::{fixed_result, fixed_use, pieces_of};
+use allocator_boards::{fixed_result, fixed_use};
+use allocator_points::solve_point;
 use elementary_form::Elementary;
 use liveness::Distances;
 use pcc_base::NoMemory;

@@ -1,28 +1,16 @@
 //! The board of a point.
 
-ghost use Rattle.std.specs.Prelude.{◌≡◌, ◌<◌, ◌≤◌, IfOk, Some, length};
+ghost use Rattle.std.specs.Prelude.{◌≡◌, ◌<◌, IfOk, Some, length};
 ghost use Rattle.flow_graph.specs.Graphs.{IsPlaced};
-ghost use Rattle.allocator.specs.PointPuzzles.{puzzle_at, puzzle_of};
+ghost use Rattle.allocator_boards.specs.PointPuzzles.{puzzle_at};
 
 use crate::pieces::pieces_of;
-use crate::registers::areas_of;
+use allocator_boards::board_with;
+use allocator_points::areas_of;
 use elementary_form::Elementary;
 use pcc_base::NoMemory;
-use puzzle_board::{Area, Board, Piece};
+use puzzle_board::Board;
 use std::alloc::Global;
-
-/// A board with these areas and pieces, of which none is placed. Piece i has number i.
-pub fn board_with(alloc: Global, areas: &[Area], pieces: &[Piece]) -> Result<Board, NoMemory>
-    requires areas { length areas.now ≤ 4294967295 }
-    requires pieces { length pieces.now ≤ 4294967295 }
-    ensures { IfOk result (λ board. board ≡ puzzle_of areas.now pieces.now) }
-{
-    let mut board = Board::new(alloc, areas)?;
-    for i in 0..pieces.len() {
-        board.add_piece(pieces[i])?;
-    }
-    Ok(board)
-}
 
 /// The board of a point of a block (Quintão Pereira and Palsberg, PLDI 2008, section 2): areas 0 to 3 are EAX, EBX, ECX
 /// and EDX, and the pieces are those of the variables that are live there, but none that the op fixes. It takes time

@@ -4,7 +4,7 @@ ghost use Rattle.std.specs.Prelude.{◌≡◌, ◌∷◌, [], Some};
 ghost use Rattle.elementary_form.specs.PointBoards.{ends_taken};
 ghost use Rattle.elementary_form.specs.WorkedBoards.{division, division_lives, one_op, wide_piece};
 ghost use Rattle.puzzle_board.specs.declared.piece.Kind.TheVariants.{X, Y};
-ghost use Rattle.allocator.specs.PointPuzzles.{puzzle_at, puzzle_of};
+ghost use Rattle.allocator_boards.specs.PointPuzzles.{puzzle_at, puzzle_of};
 
 /// The board of `div 2 0 1`, with 3 live before and after and 1 dead after: EBX and ECX are free, and the pieces are
 /// an X of 1 and a Y of 3.

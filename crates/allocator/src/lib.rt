@@ -3,23 +3,18 @@
 //! spilled (`specs/Allocations.antt`).
 //!
 //! For a point of one of its blocks, the board of the point, whose areas and pieces are those of the definition
-//! (`point_puzzle` of `specs/PointPuzzles.antt`).
+//! (`point_puzzle` of `specs/PointPuzzles.antt` of `allocator_boards`).
 #![tactic(auto)]
 
 mod allocation;
 mod board;
-mod candidates;
 mod frame;
 mod laws;
 mod pieces;
 mod places;
-mod registers;
 mod slots;
-mod solution;
-mod variables;
 
 pub use allocation::allocate;
-pub use board::{board_of, board_with};
+pub use board::board_of;
 pub use laws::worked_example;
 pub use pieces::pieces_of;
-pub use registers::{areas_of, fixed_result, fixed_use};

@@ -3,10 +3,10 @@
 ghost use Rattle.std.specs.Prelude.{ℕ, ◌≡◌, ◌<◌, [], length, slice_get, None, Some, IfOk, OnOk};
 ghost use Rattle.puzzle_board.specs.declared.piece.Piece.{Piece};
 ghost use Rattle.puzzle_board.specs.Places.{entries_at};
-ghost use Rattle.allocator.specs.Order.{AreInOrder};
+ghost use Rattle.allocator_boards.specs.Order.{AreInOrder};
 ghost use Rattle.allocator.specs.Sides.{ArePut, ChangesPoint, is_lower, is_upper, with_fixed, with_kind};
-ghost use Rattle.allocator.specs.Slots.{HasSlot, slot_in};
-ghost use Rattle.allocator.specs.Solutions.{ArePlaces, StandsIn};
+ghost use Rattle.allocator_boards.specs.Slots.{HasSlot, slot_in};
+ghost use Rattle.allocator_boards.specs.Solutions.{ArePlaces, StandsIn};
 
 use pcc_base::NoMemory;
 use puzzle_board::{Kind, Piece, Place, PointMap, Spot};

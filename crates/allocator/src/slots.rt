@@ -2,20 +2,11 @@
 
 ghost use Rattle.std.specs.Prelude.{◌≡◌, ◌<◌, ◌∷◌, [], length, OnOk};
 ghost use Rattle.std.specs.List.{AllByRecursion};
-ghost use Rattle.allocator.specs.Slots as slots;
-ghost use Rattle.allocator.specs.Slots.{AreGiven, AreSlots, AreSpilled, slots_given};
+ghost use Rattle.allocator_boards.specs.Slots.{AreGiven, AreSlots, AreSpilled, slots_given};
 
+use allocator_points::offset_of;
 use pcc_base::NoMemory;
 use puzzle_board::PointMap;
-
-/// The offset from EBP of a slot by its number, from 0: the first is right below the four words that a frame begins
-/// with.
-fn offset_of(number: u32) -> i32
-    requires { number < 536870907 }
-    ensures { result ≡ slots.offset_of number }
-{
-    -(20 + 4 * number as i32)
-}
 
 /// Gives a variable a slot, if it has none. So many were given.
 fn give_slot(map: &mut PointMap, var: u32, given: &mut u32)

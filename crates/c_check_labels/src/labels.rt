@@ -3,12 +3,10 @@
 ghost use Rattle.std.specs.Prelude.{◌≡◌, ℕ, ℤ, [], ◌∷◌, ◌++◌, List, Option, map, not, IfOk};
 ghost use Rattle.std.specs.List.{list_any};
 ghost use Rattle.c_syntax.specs.Statements.{label_of, stmt_of, stmts_of};
-ghost use Rattle.pcc_base.specs.declared.fault.FaultKind.TheVariants.{CaseLabel};
 ghost use Rattle.c_tree.specs.Program.{Expression as Typed};
 ghost use Rattle.c_tree.specs.declared.statement.Label.{Label as TypedLabel};
 ghost use Rattle.c_typing.specs.Checked.{Checked, Note, if_fits};
 ghost use Rattle.c_typing.specs.Constants.{constant_value};
-ghost use Rattle.c_typing.specs.Faults.{fault};
 ghost use Rattle.c_typing.specs.Names.{Scope};
 ghost use Rattle.c_typing.specs.Statements.{
   GivenLabel,
@@ -16,7 +14,6 @@ ghost use Rattle.c_typing.specs.Statements.{
   given_label,
   given_labels,
   labels_before,
-  one_label,
   same_label,
   typed_labels,
 };
@@ -27,13 +24,14 @@ ghost use Rattle.c_check_labels.specs.Labels.{AreLabels, AreSeen, AreSoFar};
 
 use c_check_declarators::behind;
 use c_check_expressions::expression;
+use c_check_values::{label_fault, one_label};
 use c_expressions::Notes;
 use c_operands::{Judged, Operand};
 use c_scopes::Scopes;
 use c_syntax::{Label as RawLabel, Statement as RawStatement};
 use c_tree::Label;
 use indexmap::IndexSet;
-use pcc_base::{Fault, FaultKind, NoMemory, Span};
+use pcc_base::{NoMemory, Span};
 use std::alloc::Global;
 
 /// The labels so far, and the values of those that have one, each once.
@@ -41,16 +39,6 @@ use std::alloc::Global;
 pub(crate) struct SoFar {
     values: IndexSet<Option<i32>>,
     labels: Judged<Vec<Label>>,
-}
-
-/// The fault of a label that has no value, or stands twice.
-fn label_fault(at: Span) -> Fault
-    ensures { result ≡ fault CaseLabel at }
-{
-    Fault {
-        kind: FaultKind::CaseLabel,
-        at,
-    }
 }
 
 /// The value of a constant expression that is a label.
@@ -104,17 +92,6 @@ fn label_at(label: &RawLabel) -> Span
     match label {
         RawLabel::Case(at, _, _) | RawLabel::Default(at, _) => *at,
     }
-}
-
-/// A label, where its value is new.
-fn one_label(is_new: bool, at: Span, before: u32, value: Option<i32>) -> Judged<Label>
-    ensures { (earlier : List (Option ℤ)) (notes : List Note) → is_new ≡ not (list_any (same_label value) earlier)
-        → IsSaid IsSame (one_label earlier at before value) result notes notes }
-{
-    if is_new {
-        return Judged::Fits(Label { value, before });
-    }
-    Judged::Fails(label_fault(at))
 }
 
 impl SoFar {

@@ -3,7 +3,7 @@
 //!
 //! `lex` gives exactly the token list of `specs/Tokens.antt` in `c_tokens`, which is a relation on whole texts: a
 //! text is a sequence of pieces (`specs/Pieces.antt` there), each the longest that begins there. `marks`, `numbers`
-//! and `skips` read those that hold no bytes of their own, and `place` goes behind a piece.
+//! and `skips` read punctuators, numbers and comments, and `place` goes behind a piece.
 #![tactic(auto)]
 
 mod lexer;
@@ -17,4 +17,4 @@ pub use lexer::lex;
 pub use marks::mark_at;
 pub use numbers::number_at;
 pub use place::advance;
-pub use skips::{hash_at, slash_at, space_at};
+pub use skips::slash_at;

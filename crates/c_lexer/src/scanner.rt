@@ -1,8 +1,11 @@
 ghost use Rattle.std.specs.Prelude.{◌<◌, length};
 ghost use Rattle.c_tokens.specs.Scans.{IsScan};
 
-use crate::{hash_at, mark_at, number_at, slash_at, space_at};
-use c_tokens::{Recent, Scanned, is_letter, is_quote, is_space, quote_at, starts_number, word_at};
+use crate::{mark_at, number_at, slash_at};
+use c_tokens::{
+    Recent, Scanned, hash_at, is_letter, is_quote, is_space, quote_at, space_at, starts_number,
+    word_at,
+};
 use pcc_base::NoMemory;
 use std::alloc::Global;
 

@@ -3,6 +3,7 @@
 #![tactic(auto)]
 
 mod expression;
+mod nodes;
 mod primary;
 mod turn;
 

@@ -14,12 +14,10 @@ ghost use Rattle.c_expression_nodes.specs.declared.found.Found.{Found as Tree};
 ghost use Rattle.c_cursor.specs.Readings.{IsRead};
 
 use crate::expression::{Rule, tree_below, tree_of};
+use crate::nodes::{call_node, identifier_node, index_node, number_node, postfix_node, text_node};
 use crate::turn::{Turn, ValuesTurn};
 use c_cursor::{Cursor, Height};
-use c_expression_nodes::{
-    Found, Values, call_node, identifier_node, index_node, number_node, one_more, one_value,
-    parenthesised_node, postfix_node, text_node,
-};
+use c_expression_nodes::{Found, Values, one_more, one_value, parenthesised_node};
 use c_syntax::{Identifier, TextPiece};
 use c_tokens::{Punct, TokenKind};
 use pcc_base::{FaultKind, Name, NoMemory, Refusal, Span};

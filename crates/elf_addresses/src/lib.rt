@@ -1,13 +1,12 @@
-//! Where sections and objects stand in an image, and the items of its routines.
+//! Addresses of what code names, and what they are made of.
 //!
-//! In: the sections of all functions and the static objects. Out: where each of them stands in an image
-//! (`addresses_of`), by `specs/Parts.antt` and `specs/Placed.antt`; the word that a relocation awaits
-//! (`Addresses::word`); and the items of the start and of the other routines (`start_items`, `putchar_items`,
-//! `getchar_items`, `exit_items`, `check_items`).
+//! In: static objects, a section, a relocation. Out: where the objects stand one behind the other (`objects_from`) and
+//! the number of a section's function (`function_of`), by `specs/Parts.antt`; the word that a relocation awaits
+//! (`Addresses::word`), by `specs/Symbols.antt`; and the items of the start (`start_items`).
 #![tactic(auto)]
 
 mod addresses;
 mod routines;
 
-pub use addresses::{Addresses, START_BYTES, addresses_of, elements_size, function_of};
-pub use routines::{check_items, exit_items, getchar_items, putchar_items, start_items};
+pub use addresses::{Addresses, WORD_BYTES, elements_size, function_of, objects_from};
+pub use routines::{EXIT, SYSTEM, start_items};

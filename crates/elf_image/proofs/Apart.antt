@@ -5,13 +5,13 @@ use Rattle.std.specs.Bool.{Decides}
 use Rattle.std.specs.List.{AllWithin}
 use Rattle.std.proofs.lemmas.List.{length-map, get_or-map}
 use Rattle.std.proofs.lemmas.List.Elements.{All-map, All-from_all_within}
-use Rattle.std.specs.List.Sorted.{IsPermutation}
-use Rattle.std.proofs.lemmas.List.Sorted.{IsPermutation-sym}
-use Rattle.elf_image.specs.declared.extent.Extent.{Extent}
+use Rattle.elf_extents.specs.declared.extent.Extent.{Extent}
+use Rattle.elf_extents.specs.Extents.{AreDistinct}
+use Rattle.elf_extents.specs.Pieces.{AreApart}
+use Rattle.elf_extents.proofs.Pairs.{pairs-map, pairs-unmap}
 use Rattle.elf_image.specs.declared.loaded.Segment.{Segment}
-use Rattle.elf_image.specs.Extents.{AreDistinct, extent_of}
-use Rattle.elf_image.specs.Segments.{AreApart, IsPiece, IsLoadable, piece_of}
-use Rattle.elf_image.proofs.Pairs.{pairs-map, pairs-unmap, pairs-permuted}
+use Rattle.elf_image.specs.Extents.{extent_of}
+use Rattle.elf_image.specs.Segments.{IsPiece, IsLoadable, piece_of}
 
 -- what `all` answers of what is made of elements
 pub decided : {X Y : Type 0} (P : Y → Type 0) (f : X → Y) (xs : List X) (r : Bool)
@@ -59,14 +59,4 @@ memory-apart segments extents apart same decides =
           (pairs-unmap AreDistinct extent_of segments (subst Apart same (decides.0 e))),
       λ all. decides.1 (subst Apart (sym same)
           (pairs-map AreDistinct extent_of segments (pairs-unmap AreApart piece_of segments all))),
-    )
-
--- the order of segments doesn't matter
-pub sorted-apart : (before after : List Extent) (apart : Bool) → IsPermutation before after
-    → Decides apart (AllPairs AreDistinct after) → Decides apart (AllPairs AreDistinct before)
-sorted-apart before after apart moved decides =
-    let turned : (x y : Extent) → AreDistinct x y → AreDistinct y x =
-    λ x y distinct address a b. distinct address b a in (
-      λ e. pairs-permuted AreDistinct turned after before (IsPermutation-sym before after moved) (decides.0 e),
-      λ all. decides.1 (pairs-permuted AreDistinct turned before after moved all),
     )

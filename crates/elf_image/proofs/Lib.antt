@@ -1,5 +1,3 @@
 pub mod Front
 pub mod Loading
 pub mod Apart
-pub mod Pairs
-pub mod Extents

@@ -1,6 +1,7 @@
 -- What the bytes of a file load: segments of memory, and where running begins.
-use Rattle.std.specs.Prelude.{◌≡◌, ℕ, ◌+◌, ◌*◌, ◌<◌, ◌≤◌, ◌^◌, Bool, true, false, not, List, [], ◌∷◌, length, map, take}
+use Rattle.std.specs.Prelude.{◌≡◌, ℕ, ◌+◌, ◌*◌, ◌≤◌, ◌^◌, Bool, true, false, not, List, [], ◌∷◌, length, map, take}
 use Rattle.std.specs.Prelude.{drop, sum_by, All, AllPairs, bit_and, nat_eq}
+use Rattle.elf_extents.specs.Pieces.{Piece, AreApart}
 use Rattle.elf_image.specs.declared.image.Image.{Image}
 use Rattle.elf_image.specs.declared.loaded.Segment.{Segment}
 use Rattle.elf_image.specs.declared.loaded.Loaded.{Loaded}
@@ -10,15 +11,6 @@ use Rattle.elf_image.specs.Fields.{Header, IsExecutable, entry_in, header_count,
 -- an image without where it lies in memory
 abbrev pub parts_of : Image → Parts
 parts_of image = record { entry = image.entry; text = image.text.items; data_bytes = image.data_bytes.items }
-
--- a segment: its first bytes, and how many it has; the others are 0
-pub record Piece : Type 0 where
-  pub address : ℕ
-  pub bytes : List ℕ
-  pub size : ℕ
-  pub readable : Bool
-  pub writable : Bool
-  pub runnable : Bool
 
 pub record Segments : Type 0 where
   pub entry : ℕ
@@ -71,14 +63,6 @@ IsFilePart file offset size = offset + size ≤ length file
 pub record IsPiece (piece : Piece) : Type 0 where
   pub filled : length piece.bytes ≤ piece.size
   pub within : piece.address + piece.size ≤ 2 ^ 32
-
--- the address is one of the segment's memory
-abbrev pub HasAddress : Piece → ℕ → Type 0
-HasAddress piece address = (piece.address ≤ address) × (address < piece.address + piece.size)
-
--- two segments have no address in common; a segment of size 0 has none, wherever it lies
-abbrev pub AreApart : Piece → Piece → Type 0
-AreApart a b = (address : ℕ) → HasAddress a address → HasAddress b address → ⊥
 
 -- what a machine may be loaded with
 pub record IsLoadable (segments : Segments) : Type 0 where

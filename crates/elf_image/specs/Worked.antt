@@ -1,6 +1,7 @@
 -- Small lists of segments, as examples.
 use Rattle.std.specs.Prelude.{ℕ, true, false, List, []}
-use Rattle.elf_image.specs.Segments.{Piece, Segments}
+use Rattle.elf_extents.specs.Pieces.{Piece}
+use Rattle.elf_image.specs.Segments.{Segments}
 
 -- a segment of so many bytes of memory, none of them from the file
 abbrev pub blank : ℕ → ℕ → Piece

@@ -29,7 +29,7 @@ pub(crate) const PF_R: u32 = 4;
 
 /// The fields of a program header of type `PT_LOAD` (ELF, "Program Header").
 #[derive(Clone, Copy)]
-pub(crate) struct ProgramHeader {
+pub struct ProgramHeader {
     /// `p_offset`: where the segment's bytes begin in the file.
     pub offset: u32,
     /// `p_vaddr`: the address of its first byte.
@@ -51,7 +51,7 @@ pub(crate) fn read_half(bytes: &[u8], offset: usize) -> u16
 }
 
 /// The number in the four bytes at an offset.
-pub(crate) fn read_word(bytes: &[u8], offset: usize) -> u32
+pub fn read_word(bytes: &[u8], offset: usize) -> u32
     requires { offset + 4 ≤ length bytes.now }
     ensures { result ≡ word_at offset bytes.now }
 {

@@ -1,14 +1,13 @@
-//! What the bytes of a file load.
+//! The parts of reading a file: its header, the program headers that load segments, and these segments.
 
-ghost use Rattle.std.specs.Prelude.{◌≡◌, ◌+◌, ◌*◌, ◌≤◌, IfOk, IsErrOf, All, length, map, sum_by};
+ghost use Rattle.std.specs.Prelude.{◌≡◌, ◌+◌, ◌*◌, ◌≤◌, IfOk, All, length, map, sum_by};
 ghost use Rattle.std.specs.Bool.{Decides};
 ghost use Rattle.elf_image.specs.Fields.{IsExecutable, header_count, headers_offset, loads_in};
-ghost use Rattle.elf_image.specs.Segments.{IsFilePart, IsInFile, IsLoadable, IsPiece, Loads, Segments};
-ghost use Rattle.elf_image.specs.Segments.{piece_at, piece_of, segments_of};
+ghost use Rattle.elf_image.specs.Segments.{IsFilePart, IsInFile, IsPiece, piece_at, piece_of};
 ghost use Rattle.elf_image.specs.Headers.{header_of};
 
 use crate::loadable::MEMORY_LIMIT;
-use crate::loaded::{ImageRefusal, Loaded, Segment};
+use crate::loaded::Segment;
 use crate::program_header::{PROGRAM_HEADER, ProgramHeader, read_half, read_word};
 use pcc_base::NoMemory;
 use std::alloc::Global;
@@ -19,15 +18,13 @@ const ELF_HEADER: usize = 52;
 /// The first bytes of `e_ident`: the magic bytes, 32 bits, the lowest byte first, version 1.
 const IDENTITY: [u8; 7] = [0x7f, b'E', b'L', b'F', 1, 1, 1];
 
-/// Where the fields of the ELF header stand: `e_type`, `e_machine`, `e_version`, `e_entry`, `e_phoff`, `e_phentsize`
-/// and `e_phnum`.
+/// Where the fields of the ELF header stand: `e_type`, `e_machine`, `e_version`, `e_phoff`, `e_phentsize` and
+/// `e_phnum`.
 const TYPE: usize = 16;
 
 const MACHINE: usize = 18;
 
 const VERSION: usize = 20;
-
-const ENTRY: usize = 24;
 
 const HEADERS_OFFSET: usize = 28;
 
@@ -42,7 +39,7 @@ const ET_EXEC: u16 = 2;
 const EM_386: u16 = 3;
 
 /// The ELF header is that of a program for the Intel 80386, and at least one program header follows.
-fn is_executable(bytes: &[u8]) -> bool
+pub fn is_executable(bytes: &[u8]) -> bool
     ensures { Decides result (IsExecutable bytes.now) }
 {
     if bytes.len() < ELF_HEADER {
@@ -57,7 +54,7 @@ fn is_executable(bytes: &[u8]) -> bool
 }
 
 /// All program headers lie in the file.
-fn has_headers(bytes: &[u8]) -> bool
+pub fn has_headers(bytes: &[u8]) -> bool
     requires { 52 ≤ length bytes.now }
     ensures { Decides result (IsFilePart bytes.now (headers_offset bytes.now) (32 * header_count bytes.now)) }
 {
@@ -67,7 +64,7 @@ fn has_headers(bytes: &[u8]) -> bool
 }
 
 /// The program headers whose segments are loaded, in order.
-fn load_headers(alloc: Global, bytes: &[u8]) -> Result<Vec<ProgramHeader>, NoMemory>
+pub fn load_headers(alloc: Global, bytes: &[u8]) -> Result<Vec<ProgramHeader>, NoMemory>
     requires long { 52 ≤ length bytes.now }
     requires in_file { IsFilePart bytes.now (headers_offset bytes.now) (32 * header_count bytes.now) }
     ensures { IfOk result (λ headers. map header_of headers.items ≡ loads_in (header_count bytes.now) bytes.now) }
@@ -84,7 +81,7 @@ fn load_headers(alloc: Global, bytes: &[u8]) -> Result<Vec<ProgramHeader>, NoMem
 }
 
 /// Each segment's bytes lie in the file, fit into its memory, and this ends within the address space.
-fn are_sound(bytes: &[u8], headers: &[ProgramHeader]) -> bool
+pub fn are_sound(bytes: &[u8], headers: &[ProgramHeader]) -> bool
     ensures { Decides result (All (λ h. IsInFile bytes.now h × IsPiece (piece_at bytes.now h))
         (map header_of headers.now)) }
 {
@@ -92,7 +89,7 @@ fn are_sound(bytes: &[u8], headers: &[ProgramHeader]) -> bool
 }
 
 /// The segments have no more memory together than a machine has.
-fn are_few(headers: &[ProgramHeader]) -> bool
+pub fn are_few(headers: &[ProgramHeader]) -> bool
     ensures { Decides result (sum_by (λ h. h.memory_size) (map header_of headers.now) ≤ 1342177280) }
 {
     let mut free = MEMORY_LIMIT;
@@ -106,7 +103,7 @@ fn are_few(headers: &[ProgramHeader]) -> bool
 }
 
 /// The segments of program headers.
-fn segments(
+pub fn segments(
     alloc: Global,
     bytes: &[u8],
     headers: &[ProgramHeader],
@@ -120,30 +117,4 @@ fn segments(
         segments.push(header.segment(alloc, bytes)?)?;
     }
     Ok(segments)
-}
-
-/// What the bytes of a file load. They are refused as no image exactly where they load nothing.
-///
-/// Nothing is copied before it is known that the segments have no more memory than a machine has.
-pub fn read_image(alloc: Global, bytes: &[u8]) -> Result<Loaded, ImageRefusal>
-    ensures found { IfOk result (λ loaded. Loads bytes.now (segments_of loaded)) }
-    ensures loadable { IfOk result (λ loaded. IsLoadable (segments_of loaded)) }
-    ensures not_image { IsErrOf result ImageRefusal.NotImage → (segments : Segments) → Loads bytes.now segments → ⊥ }
-{
-    if !is_executable(bytes) || !has_headers(bytes) {
-        return Err(ImageRefusal::NotImage);
-    }
-    let headers = load_headers(alloc, bytes)?;
-    if !are_sound(bytes, &headers) || !are_few(&headers) {
-        return Err(ImageRefusal::NotImage);
-    }
-    let loaded = Loaded {
-        entry: read_word(bytes, ENTRY),
-        segments: segments(alloc, bytes, &headers)?,
-    };
-    if loaded.is_loadable(alloc)? {
-        Ok(loaded)
-    } else {
-        Err(ImageRefusal::NotImage)
-    }
 }

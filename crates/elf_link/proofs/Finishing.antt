@@ -26,12 +26,13 @@ use Rattle.elf_link.specs.declared.linked.Linked.{Linked}
 use Rattle.elf_addresses.specs.Parts.{IsThere, function_of, order_of}
 use Rattle.elf_link.specs.Linking.{FitsIn, CanLink, AreSections, HasPoints, IsLinked}
 use Rattle.elf_addresses.specs.Parts.{sections_size, objects_size}
-use Rattle.elf_addresses.specs.Placed.{addresses_from, symbols_of, AreAddresses, AreNumbered}
+use Rattle.elf_addresses.specs.Symbols.{symbols_of}
+use Rattle.elf_link.specs.Placed.{addresses_from, AreAddresses, AreNumbered}
 use Rattle.elf_link.specs.Laid.{code_from, points_from, HasCode}
 use Rattle.elf_link.proofs.RoutineItems.{any_places, start_plainly, putchar_plainly, getchar_plainly, exit_plainly}
 use Rattle.elf_link.proofs.RoutineItems.{check_plainly}
 use Rattle.elf_link.proofs.Placing.{length-addresses, address_room, function_found}
-use Rattle.elf_addresses.proofs.Numbered.{number-at}
+use Rattle.elf_link.proofs.Numbered.{number-at}
 
 -- ---- the data
 

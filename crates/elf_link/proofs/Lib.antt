@@ -1,3 +1,4 @@
+pub mod Numbered
 pub mod Lists
 pub mod Alone
 pub mod RoutineItems

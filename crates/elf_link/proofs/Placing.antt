@@ -23,7 +23,8 @@ use Rattle.ia32_asm.proofs.Resolved.{length-resolved, with_word-behind, resolved
 use Rattle.elf_addresses.specs.declared.addresses.Addresses.{Addresses}
 use Rattle.elf_addresses.specs.Parts.{IsThere, function_of, order_of, sections_size}
 use Rattle.elf_link.specs.Linking.{FitsIn}
-use Rattle.elf_addresses.specs.Placed.{addresses_from, symbols_of, AreInText}
+use Rattle.elf_addresses.specs.Symbols.{symbols_of}
+use Rattle.elf_link.specs.Placed.{addresses_from, AreInText}
 use Rattle.elf_link.specs.Laid.{AreNamed, HasItems}
 use Rattle.elf_link.proofs.Lists.{moved_parts}
 use Rattle.elf_link.proofs.RoutineItems.{plainly_can, start_plainly}

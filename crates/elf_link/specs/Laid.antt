@@ -9,7 +9,7 @@ use Rattle.ia32_asm.specs.declared.section.Target.{Target}
 use Rattle.ia32_asm.specs.Sections.{target_of, resolved, items_size, HasAddress}
 use Rattle.elf_addresses.specs.declared.addresses.Addresses.{Addresses}
 use Rattle.elf_addresses.specs.Parts.{IsThere}
-use Rattle.elf_addresses.specs.Placed.{symbols_of}
+use Rattle.elf_addresses.specs.Symbols.{symbols_of}
 
 -- the bytes of sections that stand one behind the other from an address on
 abbrev pub code_from : Symbols → ℕ → List Section → List ℕ

@@ -1,2 +1,3 @@
+pub mod Placed
 pub mod Linking
 pub mod Laid

@@ -3,11 +3,11 @@ ghost use Rattle.ia32_insn.specs.declared.item.Item.{Item};
 ghost use Rattle.elf_addresses.specs.Parts.{object_of, order_of, sections_size};
 ghost use Rattle.elf_link.specs.Linking.{AreSections, CanLink, IsLinked};
 
+use crate::addresses::{START_BYTES, addresses_of};
 use crate::data::data_of;
 use crate::linked::Linked;
 use crate::points::points_of;
 use crate::text::text_of;
-use elf_addresses::{START_BYTES, addresses_of};
 use elf_image::{Image, TEXT_ADDRESS};
 use ia32_asm::Section;
 use pcc_base::{DataObject, NoMemory};

@@ -2,7 +2,7 @@ ghost use Rattle.std.specs.Prelude.{◌≡◌, ◌<◌, ◌≤◌, ◌+◌, ◌^
 ghost use Rattle.ia32_insn.specs.Items.{IsOrder};
 ghost use Rattle.ia32_asm.specs.declared.section.Section.{Section};
 ghost use Rattle.elf_addresses.specs.Parts.{order_of, sections_size};
-ghost use Rattle.elf_addresses.specs.Placed.{AreNumbered};
+ghost use Rattle.elf_link.specs.Placed.{AreNumbered};
 ghost use Rattle.elf_link.specs.Laid.{points_from};
 
 use elf_addresses::function_of;

@@ -6,8 +6,10 @@ use crate::expected::expect;
 use pcc_outside::{
     Failed, FileStore, HostFiles, HostInput, HostOutput, ReadRefusal, Sink, Source, WriteRefusal,
 };
+use std::alloc::Global;
 use std::fs::OpenOptions;
 use std::io::{ErrorKind, Read, Write};
+use std::process::Abort;
 use std::{fs, io};
 
 // A reader and a writer that a signal interrupts at first, and that then take or give nothing.
@@ -55,6 +57,31 @@ const REFUSALS: [(&str, usize, ReadRefusal); 6] = [
     (".", 10, ReadRefusal::Failed),
 ];
 
+/// The bytes are written, and read again where just as many are wanted and where more are.
+fn expect_kept(
+    rt: &impl Abort,
+    alloc: Global,
+    files: &mut impl FileStore,
+    name: &str,
+    bytes: &[u8],
+) {
+    expect(rt, &files.write(name, bytes), &Ok(()), bytes.len());
+    for most in [bytes.len(), 100_000] {
+        let read = files.read(alloc, name, most).expect(rt, "the whole file");
+        expect(rt, &read.as_slice(), &bytes, most);
+    }
+}
+
+/// What the rows name is refused, and so is a text for a folder.
+fn expect_refusals(rt: &impl Abort, alloc: Global, files: &mut impl FileStore) {
+    for (name, most, refusal) in REFUSALS.iter() {
+        let found = files.read(alloc, name, *most).err();
+        expect(rt, &found, &Some(*refusal), *name);
+    }
+    let refused = Err(WriteRefusal::Failed);
+    expect(rt, &files.write(".", b"text"), &refused, "a folder");
+}
+
 // 70,000 bytes take several reads. The folder and the missing names are real.
 #[test]
 fn files(rt: HostRuntime) {
@@ -62,55 +89,57 @@ fn files(rt: HostRuntime) {
     let name = "host_files.tmp";
     let long: Vec<u8> = vec![in alloc; 5; 70000].expect(&rt, "memory");
     let mut files = HostFiles::new(&rt);
-    let first = files.write(name, b"longer than what comes next");
-    expect(&rt, &first, &Ok(()), "the first text");
-    for bytes in [b"".as_slice(), b"text", long.as_slice()] {
-        expect(&rt, &files.write(name, bytes), &Ok(()), bytes.len());
-        for most in [bytes.len(), 100_000] {
-            let read = files.read(alloc, name, most).expect(&rt, "the whole file");
-            expect(&rt, &read.as_slice(), &bytes, most);
-        }
+    let longer = b"longer than what comes next".as_slice();
+    for bytes in [longer, b"", b"text", long.as_slice()] {
+        expect_kept(&rt, alloc, &mut files, name, bytes);
     }
-    for (name, most, refusal) in REFUSALS.iter() {
-        let found = files.read(alloc, name, *most).err();
-        expect(&rt, &found, &Some(*refusal), *name);
-    }
-    let refused = Err(WriteRefusal::Failed);
-    expect(&rt, &files.write(".", b"text"), &refused, "a folder");
+    expect_refusals(&rt, alloc, &mut files);
     fs::remove_file(&rt, name).expect(&rt, name);
+}
+
+/// The input gives these, one after the other.
+fn expect_bytes(
+    rt: &impl Abort,
+    input: &mut impl Source,
+    wanted: &[Result<Option<u8>, Failed>],
+    of: &str,
+) {
+    for answer in wanted {
+        expect(rt, &input.next_byte(), answer, of);
+    }
 }
 
 #[test]
 fn input(rt: HostRuntime) {
     let name = "host_input.tmp";
     fs::write(&rt, name, "ab").expect(&rt, name);
-    let mut input = HostInput::new(fs::open(&rt, name).expect(&rt, name));
-    let answers = [
-        input.next_byte(),
-        input.next_byte(),
-        input.next_byte(),
-        input.next_byte(),
-    ];
-    let wanted = [Ok(Some(b'a')), Ok(Some(b'b')), Ok(None), Ok(None)];
-    expect(&rt, &answers, &wanted, "two bytes and the end");
+    let mut file = HostInput::new(fs::open(&rt, name).expect(&rt, name));
+    let bytes = [Ok(Some(b'a')), Ok(Some(b'b')), Ok(None), Ok(None)];
+    expect_bytes(&rt, &mut file, &bytes, "two bytes and the end");
     fs::remove_file(&rt, name).expect(&rt, name);
-    let folder = HostInput::new(fs::open(&rt, ".").expect(&rt, ".")).next_byte();
-    let stalled = HostInput::new(Stalled { interruptions: 3 }).next_byte();
-    expect(
-        &rt,
-        &[folder, stalled],
-        &[Err(Failed), Ok(None)],
-        "a folder, and a reader that stalls",
-    );
+    let mut folder = HostInput::new(fs::open(&rt, ".").expect(&rt, "."));
+    expect_bytes(&rt, &mut folder, &[Err(Failed)], "a folder");
+    let mut stalled = HostInput::new(Stalled { interruptions: 3 });
+    expect_bytes(&rt, &mut stalled, &[Ok(None)], "a reader that stalls");
+}
+
+/// The output takes the bytes, or refuses them.
+fn expect_put(
+    rt: &impl Abort,
+    output: &mut impl Sink,
+    bytes: &[u8],
+    wanted: Result<(), WriteRefusal>,
+) {
+    expect(rt, &output.put_all(bytes), &wanted, bytes.len());
 }
 
 // `/dev/full` refuses each byte.
 #[test]
 fn output(rt: HostRuntime) {
     let name = "host_output.tmp";
-    let mut output = HostOutput::new(fs::create(&rt, name).expect(&rt, name));
+    let mut file = HostOutput::new(fs::create(&rt, name).expect(&rt, name));
     for (bytes, all) in [("one", "one"), ("two", "onetwo")] {
-        expect(&rt, &output.put_all(bytes.as_bytes()), &Ok(()), bytes);
+        expect_put(&rt, &mut file, bytes.as_bytes(), Ok(()));
         let written = fs::read(&rt, name).expect(&rt, name);
         expect(&rt, &written.as_slice(), &all.as_bytes(), all);
     }
@@ -118,18 +147,10 @@ fn output(rt: HostRuntime) {
     let full = OpenOptions::new().write(true).open(&rt, "/dev/full");
     let mut full = HostOutput::new(full.expect(&rt, "/dev/full"));
     let mut stalled = HostOutput::new(Stalled { interruptions: 3 });
-    let failures = [full.put_all(b"one"), stalled.put_all(b"one")];
     let failed = Err(WriteRefusal::Failed);
-    expect(
-        &rt,
-        &failures,
-        &[failed, failed],
-        "a full device, and a writer that stalls",
-    );
-    let answers = [
-        stalled.put_all(b""),
-        HostOutput::new(rt.stdout()).put_all(b""),
-        HostOutput::new(rt.stderr()).put_all(b""),
-    ];
-    expect(&rt, &answers, &[Ok(()), Ok(()), Ok(())], "nothing");
+    expect_put(&rt, &mut full, b"one", failed);
+    expect_put(&rt, &mut stalled, b"one", failed);
+    expect_put(&rt, &mut stalled, b"", Ok(()));
+    expect_put(&rt, &mut HostOutput::new(rt.stdout()), b"", Ok(()));
+    expect_put(&rt, &mut HostOutput::new(rt.stderr()), b"", Ok(()));
 }

@@ -1,12 +1,18 @@
 //! What all rows of a graph's ops are made of, by where their operands and their result stand: items as they are, the
-//! word of a place to a register and back, and the rows of moves and of single operations, as the definitions name them
-//! (`ia32_rows`, `specs/Rows.antt`).
+//! word of a place to a register and back, comparisons, and what stands before a division; and the rows of moves, of
+//! single operations, of parts of words and of jumps, as the definitions name them (`ia32_rows`, `specs/Rows.antt`).
 #![tactic(auto)]
 
+mod comparisons;
+mod computing;
+mod divisions;
 mod instructions;
 mod locations;
 mod moves;
 
+pub use comparisons::{emit_compare, emit_jump, emit_same, emit_truth};
+pub use computing::{emit_complement, emit_half, emit_low, emit_negation, emit_product};
+pub use divisions::{divisor_of, emit_before_division};
 pub use instructions::{emit, emit_all, emit_three, emit_two};
 pub use locations::{
     Location, at_offset, at_register, is_same, low_byte, number_of_byte, target_of, working,

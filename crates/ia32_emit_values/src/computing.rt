@@ -1,72 +1,20 @@
-//! The rows of ops that compute a value from one or two others.
+//! The rows of bytes with their sign, of shifts and of divisions.
 
-ghost use Rattle.std.specs.Prelude.{◌≡◌, ◌==◌, ◌||◌, ◌++◌, OnOk};
+ghost use Rattle.std.specs.Prelude.{◌≡◌, ◌∷◌, [], ◌++◌, OnOk};
+ghost use Rattle.ia32_insn.specs.Items.{plain};
 ghost use Rattle.ia32_insn.specs.declared.insn.Insn.TheVariants as insn;
-ghost use Rattle.ia32_regs.specs.Registers.{number32};
-ghost use Rattle.ia32_regs.specs.declared.names.Reg32.TheVariants.{Eax, Edx};
-ghost use Rattle.ia32_rows.specs.Rows.{multiply, multiplying, changing, extend, widening, lowering};
-ghost use Rattle.ia32_rows.specs.Rows.{extend_half, halving, clear_divisor, divisor_of, before_division, dividing};
+ghost use Rattle.ia32_insn.specs.declared.operand.Rm32.TheVariants as rm;
+ghost use Rattle.ia32_rows.specs.Rows.{extend, widening, into_count, shifted_in, shifting, dividing};
 ghost use Rattle.ia32_emit.specs.Locations.{place_of};
 ghost use Rattle.ia32_emit.specs.declared.locations.Location.TheVariants as location;
 
 use ia32_emit::{
-    Location, at_offset, emit, emit_copy, emit_copy_byte, emit_read, emit_two, emit_write, is_same,
-    low_byte, target_of, working,
+    Location, at_offset, divisor_of, emit, emit_before_division, emit_read, emit_write, is_same,
+    low_byte, number_of_byte, target_of, working,
 };
-use ia32_insn::{Insn, Item, Rm8, Rm32};
+use ia32_insn::{Insn, Item, Rm8, Rm32, ShiftOp};
 use ia32_regs::{Reg8, Reg32};
 use pcc_base::NoMemory;
-
-/// IMUL of a register by the word of a place.
-fn emit_multiply(out: &mut Vec<Item>, register: Reg32, second: Location) -> Result<(), NoMemory>
-    ensures { OnOk result (out.new.items ≡ out.old.items ++ multiply register (place_of second)) }
-{
-    match second {
-        Location::Word(r) => emit(out, Insn::IMul(register, Rm32::Reg(r))),
-        Location::Byte(r) => emit_two(
-            out,
-            Insn::MovSx8(Reg32::Edi, Rm8::Reg(r)),
-            Insn::IMul(register, Rm32::Reg(Reg32::Edi)),
-        ),
-        Location::Slot(offset) => emit(out, Insn::IMul(register, Rm32::Mem(at_offset(offset)))),
-    }
-}
-
-/// The product of two words.
-pub fn emit_product(
-    out: &mut Vec<Item>,
-    to: Location,
-    first: Location,
-    second: Location,
-) -> Result<(), NoMemory>
-    ensures { OnOk result (out.new.items
-        ≡ out.old.items ++ multiplying (place_of to) (place_of first) (place_of second)) }
-{
-    let register = working(to, first, second);
-    emit_read(out, register, first)?;
-    emit_multiply(out, register, second)?;
-    emit_write(out, to, register)
-}
-
-/// The negation of a word.
-pub fn emit_negation(out: &mut Vec<Item>, to: Location, operand: Location) -> Result<(), NoMemory>
-    ensures { OnOk result (out.new.items ≡ out.old.items ++ changing insn.Neg (place_of to) (place_of operand)) }
-{
-    let register = target_of(to);
-    emit_read(out, register, operand)?;
-    emit(out, Insn::Neg(Rm32::Reg(register)))?;
-    emit_write(out, to, register)
-}
-
-/// The complement of a word.
-pub fn emit_complement(out: &mut Vec<Item>, to: Location, operand: Location) -> Result<(), NoMemory>
-    ensures { OnOk result (out.new.items ≡ out.old.items ++ changing insn.Not (place_of to) (place_of operand)) }
-{
-    let register = target_of(to);
-    emit_read(out, register, operand)?;
-    emit(out, Insn::Not(Rm32::Reg(register)))?;
-    emit_write(out, to, register)
-}
 
 /// The byte of a place to a register, with its sign.
 fn emit_extend(out: &mut Vec<Item>, register: Reg32, operand: Location) -> Result<(), NoMemory>
@@ -88,133 +36,73 @@ pub fn emit_wide(out: &mut Vec<Item>, to: Location, operand: Location) -> Result
     emit_write(out, to, register)
 }
 
-/// The low byte of a slot's word to a byte register.
-fn emit_low_slot(out: &mut Vec<Item>, to: Reg8, offset: i32) -> Result<(), NoMemory>
-    ensures { OnOk result (out.new.items
-        ≡ out.old.items ++ lowering (place_of (location.Byte to)) (place_of (location.Slot offset))) }
+/// A byte register to CL, unless it is CL.
+fn emit_count_byte(out: &mut Vec<Item>, count: Reg8) -> Result<(), NoMemory>
+    ensures { OnOk result (out.new.items ≡ out.old.items ++ into_count (place_of (location.Byte count))) }
 {
-    emit_read(out, Reg32::Esi, Location::Slot(offset))?;
-    emit_write(out, Location::Byte(to), Reg32::Esi)
-}
-
-/// The low byte of a word to a byte register.
-fn emit_low_byte(out: &mut Vec<Item>, to: Reg8, operand: Location) -> Result<(), NoMemory>
-    ensures { OnOk result (out.new.items
-        ≡ out.old.items ++ lowering (place_of (location.Byte to)) (place_of operand)) }
-{
-    match operand {
-        Location::Word(r) => emit_copy_byte(out, low_byte(r), Location::Byte(to)),
-        Location::Byte(r) => emit_copy_byte(out, r, Location::Byte(to)),
-        Location::Slot(offset) => emit_low_slot(out, to, offset),
+    if number_of_byte(count) == number_of_byte(Reg8::Cl) {
+        Ok(())
+    } else {
+        emit(out, Insn::Mov8(Rm8::Reg(Reg8::Cl), count))
     }
 }
 
-/// The low byte of a word.
-pub fn emit_low(out: &mut Vec<Item>, to: Location, operand: Location) -> Result<(), NoMemory>
-    ensures { OnOk result (out.new.items ≡ out.old.items ++ lowering (place_of to) (place_of operand)) }
+/// The count's byte to CL, unless it stands there.
+fn emit_count(out: &mut Vec<Item>, count: Location) -> Result<(), NoMemory>
+    ensures { OnOk result (out.new.items ≡ out.old.items ++ into_count (place_of count)) }
+{
+    match count {
+        Location::Word(r) => emit(out, Insn::Mov8(Rm8::Reg(Reg8::Cl), low_byte(r))),
+        Location::Byte(r) => emit_count_byte(out, r),
+        Location::Slot(offset) => emit(out, Insn::Mov8Load(Reg8::Cl, at_offset(offset))),
+    }
+}
+
+/// The register that is shifted.
+fn shifted_in(to: Location, first: Location, count: Location) -> Reg32
+    ensures { result ≡ shifted_in (place_of to) (place_of first) (place_of count) }
 {
     match to {
-        Location::Word(r) => emit_copy(out, operand, Location::Word(r)),
-        Location::Byte(r) => emit_low_byte(out, r, operand),
-        Location::Slot(offset) => emit_copy(out, operand, Location::Slot(offset)),
-    }
-}
-
-/// The low 16 bits of a byte's word to a register, with their sign.
-fn emit_half_byte(out: &mut Vec<Item>, register: Reg32, from: Reg8) -> Result<(), NoMemory>
-    ensures { OnOk result (out.new.items
-        ≡ out.old.items ++ extend_half register (place_of (location.Byte from))) }
-{
-    emit_read(out, register, Location::Byte(from))?;
-    emit(out, Insn::MovSx16(register, Rm32::Reg(register)))
-}
-
-/// The low 16 bits of a slot's word to a register, with their sign.
-fn emit_half_slot(out: &mut Vec<Item>, register: Reg32, offset: i32) -> Result<(), NoMemory>
-    ensures { OnOk result (out.new.items
-        ≡ out.old.items ++ extend_half register (place_of (location.Slot offset))) }
-{
-    emit_read(out, register, Location::Slot(offset))?;
-    emit(out, Insn::MovSx16(register, Rm32::Reg(register)))
-}
-
-/// The low 16 bits of a place's word to a register, with their sign.
-fn emit_extend_half(out: &mut Vec<Item>, register: Reg32, operand: Location) -> Result<(), NoMemory>
-    ensures { OnOk result (out.new.items ≡ out.old.items ++ extend_half register (place_of operand)) }
-{
-    match operand {
-        Location::Word(r) => emit(out, Insn::MovSx16(register, Rm32::Reg(r))),
-        Location::Byte(r) => emit_half_byte(out, register, r),
-        Location::Slot(offset) => emit_half_slot(out, register, offset),
-    }
-}
-
-/// A number wrapped at 16 bits.
-pub fn emit_half(out: &mut Vec<Item>, to: Location, operand: Location) -> Result<(), NoMemory>
-    ensures { OnOk result (out.new.items ≡ out.old.items ++ halving (place_of to) (place_of operand)) }
-{
-    let register = target_of(to);
-    emit_extend_half(out, register, operand)?;
-    emit_write(out, to, register)
-}
-
-/// Whether the register is one that a division takes: EAX or EDX.
-fn is_taken(register: Reg32) -> bool
-    ensures { result ≡ (number32 register == number32 Eax || number32 register == number32 Edx) }
-{
-    is_same(register, Reg32::Eax) || is_same(register, Reg32::Edx)
-}
-
-/// A divisor's register to ESI, where a division takes it.
-fn emit_clear_register(out: &mut Vec<Item>, divisor: Reg32) -> Result<(), NoMemory>
-    ensures { OnOk result (out.new.items ≡ out.old.items ++ clear_divisor (place_of (location.Word divisor))) }
-{
-    if is_taken(divisor) {
-        emit_read(out, Reg32::Esi, Location::Word(divisor))
-    } else {
-        Ok(())
-    }
-}
-
-/// The divisor's word to ESI, where a division takes its register.
-fn emit_clear_divisor(out: &mut Vec<Item>, divisor: Location) -> Result<(), NoMemory>
-    ensures { OnOk result (out.new.items ≡ out.old.items ++ clear_divisor (place_of divisor)) }
-{
-    match divisor {
-        Location::Word(r) => emit_clear_register(out, r),
-        Location::Byte(r) => emit_read(out, Reg32::Esi, Location::Byte(r)),
-        Location::Slot(_) => Ok(()),
-    }
-}
-
-/// Where the divisor is then.
-fn divisor_of(divisor: Location) -> Rm32
-    ensures { result ≡ divisor_of (place_of divisor) }
-{
-    match divisor {
         Location::Word(r) => {
-            if is_taken(r) {
-                Rm32::Reg(Reg32::Esi)
+            if is_same(r, Reg32::Ecx) {
+                Reg32::Esi
             } else {
-                Rm32::Reg(r)
+                working(Location::Word(r), first, count)
             }
         }
-        Location::Byte(_) => Rm32::Reg(Reg32::Esi),
-        Location::Slot(offset) => Rm32::Mem(at_offset(offset)),
+        Location::Byte(_) | Location::Slot(_) => Reg32::Esi,
     }
 }
 
-/// What stands before a division: the divisor out of the way, the first operand to EAX, and its sign to EDX.
-fn emit_before_division(
+/// The count to CL, and the shift of a register by it.
+fn emit_shift_of(
     out: &mut Vec<Item>,
-    first: Location,
-    second: Location,
+    how: ShiftOp,
+    register: Reg32,
+    count: Location,
 ) -> Result<(), NoMemory>
-    ensures { OnOk result (out.new.items ≡ out.old.items ++ before_division (place_of first) (place_of second)) }
+    ensures { OnOk result (out.new.items ≡ out.old.items
+        ++ (into_count (place_of count) ++ plain (insn.ShiftCl how (rm.Reg register)) ∷ [])) }
 {
-    emit_clear_divisor(out, second)?;
-    emit_read(out, Reg32::Eax, first)?;
-    emit(out, Insn::Cdq)
+    emit_count(out, count)?;
+    emit(out, Insn::ShiftCl(how, Rm32::Reg(register)))
+}
+
+/// A shift of a word by a count of one byte.
+pub fn emit_shift(
+    out: &mut Vec<Item>,
+    how: ShiftOp,
+    to: Location,
+    first: Location,
+    count: Location,
+) -> Result<(), NoMemory>
+    ensures { OnOk result (out.new.items
+        ≡ out.old.items ++ shifting how (place_of to) (place_of first) (place_of count)) }
+{
+    let register = shifted_in(to, first, count);
+    emit_read(out, register, first)?;
+    emit_shift_of(out, how, register, count)?;
+    emit_write(out, to, register)
 }
 
 /// A division; the result is the quotient, in EAX, or the remainder, in EDX.

@@ -9,10 +9,10 @@ ghost use Rattle.ia32_sites.specs.Sites.{flow_of, place_of_variable};
 
 use crate::arrays::emit_clear;
 use flow_graph::{Bits, Comparison, Words};
-use ia32_emit::{emit_commuting, emit_operation};
+use ia32_emit::{emit_commuting, emit_operation, emit_product};
 use ia32_emit_accesses::{emit_load, emit_store};
 use ia32_emit_calls::emit_call;
-use ia32_emit_values::{emit_division, emit_product, emit_set, emit_shift};
+use ia32_emit_values::{emit_division, emit_set, emit_shift};
 use ia32_insn::{AluOp, Item, ShiftOp};
 use ia32_regs::Reg32;
 use ia32_sites::{Site, all_at, any_at, array_at, array_of, at, loop_label};

@@ -3,8 +3,9 @@ use Rattle.std.specs.Prelude.{◌≡◌, ℕ, ◌-◌, ◌≤◌, ◌<◌, List,
 use Rattle.std.proofs.Common.{sym, ◌∙◌, ap, subst, arith, append-nil, length-append}
 use Rattle.std.proofs.lemmas.List.{take_all, length-replicate, get_or-map, length-map}
 use Rattle.pcc_base.specs.Bytes.{zeros}
+use Rattle.elf_extents.specs.Pieces.{Piece}
 use Rattle.elf_image.specs.declared.loaded.Segment.{Segment}
-use Rattle.elf_image.specs.Segments.{IsPiece, Piece, piece_of}
+use Rattle.elf_image.specs.Segments.{IsPiece, piece_of}
 use Rattle.ia32_memory.specs.First.{padded}
 
 -- bytes that fill their size are padded by nothing

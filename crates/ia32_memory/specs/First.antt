@@ -2,7 +2,7 @@
 use Rattle.std.specs.Prelude.{ℕ, ◌-◌, List, ◌++◌, length}
 use Rattle.pcc_base.specs.Bytes.{zeros}
 use Rattle.ia32_insn.specs.State.{Area}
-use Rattle.elf_image.specs.Segments.{Piece}
+use Rattle.elf_extents.specs.Pieces.{Piece}
 
 -- the bytes, and then zeros up to this size
 unfoldable pub padded : ℕ → List ℕ → List ℕ

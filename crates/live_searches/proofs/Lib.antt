@@ -1,9 +1,5 @@
 pub mod Adding
-pub mod Marking
 pub mod Placed
-pub mod Reaching
-pub mod Searching
-pub mod Starting
 pub mod Stepping
 pub mod Using
 pub mod Walks

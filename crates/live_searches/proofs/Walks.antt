@@ -1,13 +1,11 @@
--- Walks over lists and over blocks, where each step lists what holds of what it comes to; and what leads to a point.
-use Rattle.std.proofs.Common.{ℕ, ◌≡◌, ◌<◌, ◌≤◌, ◌+◌, inl, inr, ◌↔◌, List, [], length, get_or, replicate, Some}
+-- Walks over lists and over blocks, where each step lists what holds of what it comes to.
+use Rattle.std.proofs.Common.{ℕ, ◌≡◌, ◌≤◌, ◌+◌, inl, inr, ◌↔◌, List, [], length, replicate, Some}
 use Rattle.std.proofs.Common.{sym, subst, ap, arith, ◌∙◌}
 use Rattle.std.specs.List.{slice_get}
 use Rattle.std.proofs.lemmas.Option.{same_Some}
 use Rattle.flow_graph.specs.Graphs.{Flow, IsIn, IsPlaced, Stands}
-use Rattle.flow_graph.specs.Liveness.{IsSuccessor}
-use Rattle.live_searches.specs.Index.{ArePredecessors}
 use Rattle.live_searches.specs.Lists.{Adds, Has, list_at}
-use Rattle.live_searches.proofs.Adding.{adds-same, has-in, has-item, has-none, has-within, in-has}
+use Rattle.live_searches.proofs.Adding.{adds-same, has-in, has-none, has-within, in-has}
 use Rattle.live_searches.proofs.Placed.{block-within}
 use Rattle.live_searches.proofs.Stepping.{Before, steps-end, steps-then}
 
@@ -57,11 +55,3 @@ list-end R xs n a b h f =
     (λ i x p m. (has-in x xs (i, m.0), m.1))
     (λ x p m. let (i, e) = in-has x xs m.0 in (i, omega (arith, has-within xs i x e), (e, m.1)))
     f
-
--- a point among those noted of another leads to it
-pub noted-leads : (flow : Flow) (predecessors : List (List ℕ)) (items : List ℕ) (to i : ℕ)
-    → ArePredecessors flow predecessors → items ≡ list_at predecessors to → i < length items
-    → IsSuccessor flow (get_or items i 0) to
-noted-leads flow predecessors items to i are same h =
-    (are.leads (get_or items i 0) to).0
-    (i, subst (λ (xs : List ℕ). slice_get xs i ≡ Some (get_or items i 0)) same (has-item items i 0 h))

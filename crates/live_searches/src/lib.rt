@@ -1,7 +1,7 @@
-//! Searches back through a graph from the uses of each variable.
+//! What searches back through a graph from the uses of each variable go by.
 //!
-//! In: the graph of a function, and for each point those that lead to it. Out: the points that use each variable
-//! (`uses_of`), and what a search back from them finds of one variable (`Search`), by `specs/Search.antt`.
+//! In: the graph of a function. Out: what the points of a block use (`add_block`), and what a search back from the uses
+//! of one variable has found so far (`Search`), with each point that it comes to, by `specs/Search.antt`.
 #![tactic(auto)]
 
 mod lists;
@@ -12,4 +12,4 @@ mod uses;
 pub use lists::Lists;
 pub use marks::Marks;
 pub use search::{Search, is_live_before};
-pub use uses::uses_of;
+pub use uses::add_block;

@@ -1,9 +1,8 @@
-//! The points that use each variable.
+//! The variables that the points of a block use.
 
-ghost use Rattle.std.specs.Prelude.{◌≡◌, ◌<◌, length, IfOk, OnOk};
+ghost use Rattle.std.specs.Prelude.{◌≡◌, ◌<◌, length, OnOk};
 ghost use Rattle.flow_graph.specs.Graphs.{IsPlaced, Stands};
 ghost use Rattle.flow_graph.specs.Liveness.{IsUsedAt};
-ghost use Rattle.live_searches.specs.Index.{AreUses};
 ghost use Rattle.live_searches.specs.Lists.{Adds};
 
 use crate::lists::Lists;
@@ -28,7 +27,7 @@ fn add_uses(uses: &mut Lists<u32>, graph: &Graph, point: u32) -> Result<(), NoMe
 }
 
 /// Notes what the points of a block use.
-fn add_block(
+pub fn add_block(
     alloc: Global,
     uses: &mut Lists<u32>,
     graph: &Graph,
@@ -44,15 +43,4 @@ fn add_block(
         add_uses(uses, graph, *point)?;
     }
     Ok(())
-}
-
-/// For each variable of a graph the points that use it.
-pub fn uses_of(alloc: Global, graph: &Graph) -> Result<Lists<u32>, NoMemory>
-    ensures { IfOk result (AreUses graph.now) }
-{
-    let mut uses = Lists::new(alloc, graph.vars())?;
-    for block in 0..graph.blocks() {
-        add_block(alloc, &mut uses, graph, block)?;
-    }
-    Ok(uses)
 }

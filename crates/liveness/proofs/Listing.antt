@@ -7,7 +7,8 @@ use Rattle.flow_graph.specs.Graphs.{Flow, IsPlaced}
 use Rattle.flow_graph.specs.Liveness.{IsDefinedAt, IsDistance, IsLiveAfter, IsLiveBefore}
 use Rattle.flow_graph.proofs.LivePaths.{live_step}
 use Rattle.live_searches.specs.Lists.{Adds, Has, list_at, with_last}
-use Rattle.live_searches.specs.Search.{IsNext, IsReach}
+use Rattle.liveness.specs.Search.{IsReach}
+use Rattle.live_searches.specs.Search.{IsNext}
 use Rattle.live_searches.proofs.Stepping.{Before, steps-end, steps-more}
 use Rattle.live_searches.proofs.Adding.{has-every, has-within}
 

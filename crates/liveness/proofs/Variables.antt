@@ -5,7 +5,8 @@ use Rattle.std.proofs.lemmas.Bool.{cases_eq}
 use Rattle.flow_graph.specs.Graphs.{Flow, IsFlow, IsIn}
 use Rattle.flow_graph.specs.Liveness.{IsDistance, IsLiveAfter, IsLiveBefore, ReachesUse}
 use Rattle.live_searches.specs.Lists.{Adds, Has, list_at}
-use Rattle.live_searches.specs.Search.{AllEarlier, IsMarked, NoneLater}
+use Rattle.liveness.specs.Search.{AllEarlier, NoneLater}
+use Rattle.live_searches.specs.Search.{IsMarked}
 use Rattle.live_searches.proofs.Adding.{adds-none, adds-same, adds-then, has-in, has-none, in-has}
 use Rattle.live_searches.proofs.Using.{used-within}
 

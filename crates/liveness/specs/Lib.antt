@@ -1,2 +1,4 @@
 pub mod Distances
+pub mod Index
+pub mod Search
 pub mod Ways

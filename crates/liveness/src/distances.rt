@@ -4,11 +4,13 @@ ghost use Rattle.std.specs.Prelude.{ℕ, ◌≡◌, ◌<◌, [], List, Some, len
 ghost use Rattle.flow_graph.specs.Liveness.{IsDistance};
 ghost use Rattle.liveness.specs.Distances.{AreDistances, Rises, distance_at};
 ghost use Rattle.live_searches.specs.Lists.{Adds, Has, list_at, with_last};
-ghost use Rattle.live_searches.specs.Search.{IsReach};
+ghost use Rattle.liveness.specs.Search.{IsReach};
 
 use crate::predecessors::predecessors_of;
+use crate::search::run;
+use crate::uses::uses_of;
 use flow_graph::Graph;
-use live_searches::{Lists, Search, uses_of};
+use live_searches::{Lists, Search};
 use pcc_base::NoMemory;
 use std::alloc::Global;
 use std::marker::Model;
@@ -115,7 +117,7 @@ pub fn next_use(alloc: Global, graph: &Graph) -> Result<Distances, NoMemory>
     let mut search = Search::new(alloc, graph.points())?;
     let mut distances = Distances::new(alloc, graph.points())?;
     for var in 0..graph.vars() {
-        search.run(graph, &predecessors, &uses, var)?;
+        run(&mut search, graph, &predecessors, &uses, var)?;
         add_all(&mut distances, graph, search.nexts.as_slice(), var)?;
     }
     distances.rise();

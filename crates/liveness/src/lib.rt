@@ -6,6 +6,8 @@
 mod distances;
 mod live_sets;
 mod predecessors;
+mod search;
+mod uses;
 mod ways;
 
 pub use distances::{Distances, next_use};

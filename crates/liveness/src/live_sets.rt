@@ -4,11 +4,13 @@ ghost use Rattle.std.specs.Prelude.{ℕ, ◌≡◌, ◌<◌, List, length, IfOk,
 ghost use Rattle.flow_graph.specs.Lives.{AreLive, at_point};
 ghost use Rattle.flow_graph.specs.Liveness.{IsLiveAfter, IsLiveBefore};
 ghost use Rattle.live_searches.specs.Lists.{Adds, Has};
-ghost use Rattle.live_searches.specs.Search.{IsReach};
+ghost use Rattle.liveness.specs.Search.{IsReach};
 
 use crate::predecessors::predecessors_of;
+use crate::search::run;
+use crate::uses::uses_of;
 use flow_graph::{Graph, LiveSets};
-use live_searches::{Search, is_live_before, uses_of};
+use live_searches::{Search, is_live_before};
 use pcc_base::NoMemory;
 use std::alloc::Global;
 
@@ -62,7 +64,7 @@ pub fn live(alloc: Global, graph: &Graph) -> Result<LiveSets, NoMemory>
     let mut search = Search::new(alloc, graph.points())?;
     let mut sets = LiveSets::new(alloc, graph.points())?;
     for var in 0..graph.vars() {
-        search.run(graph, &predecessors, &uses, var)?;
+        run(&mut search, graph, &predecessors, &uses, var)?;
         add_befores(&mut sets, graph, search.nexts.as_slice(), var)?;
         add_afters(&mut sets, graph, search.after.as_slice(), var)?;
     }

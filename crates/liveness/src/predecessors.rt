@@ -3,7 +3,7 @@
 ghost use Rattle.std.specs.Prelude.{ℕ, ◌≡◌, ◌<◌, ◌↔◌, length, IfOk, IfSome, OnOk, Some, slice_get};
 ghost use Rattle.flow_graph.specs.Graphs.{IsPlaced, Stands};
 ghost use Rattle.flow_graph.specs.Liveness.{IsBehind, IsSuccessor};
-ghost use Rattle.live_searches.specs.Index.{ArePredecessors};
+ghost use Rattle.liveness.specs.Index.{ArePredecessors};
 ghost use Rattle.live_searches.specs.Lists.{Adds};
 
 use crate::ways::{Way, way_of};

@@ -2,6 +2,7 @@ pub mod Closed
 pub mod Alike
 pub mod Arms
 pub mod Bodies
+mod Cases
 mod Comparisons
 pub mod Ordered
 mod Switched

@@ -1,3 +1,4 @@
 pub mod Graphs
 pub mod Walks
 pub mod Fronts
+pub mod Starts

@@ -12,6 +12,7 @@
 mod functions;
 mod graphs;
 mod items;
+mod labels;
 mod lowered;
 mod objects;
 mod parts;
@@ -22,6 +23,7 @@ mod walk;
 pub use functions::function;
 pub use graphs::Graphs;
 pub use items::{first_part, item};
+pub use labels::{Starts, cases_of, otherwise_of, start_labelled, starts_of};
 pub use lowered::graph;
 pub use parts::{
     close_for, evaluated, go, is_nothing, open_for, open_if, open_while, return_value, start_second,

@@ -15,11 +15,11 @@ ghost use Rattle.lower_lines.specs.Variables.{ForScratch, temporary};
 ghost use Rattle.lower_moves.specs.Sites.{context_of};
 ghost use Rattle.lower_rows.specs.Views.{after_of};
 
+use crate::labels::{cases_of, otherwise_of, starts_of};
 use c_tree::{Expression, Label};
 use flow_graph::{Comparison, Op};
 use lower_builder::{Lines, plus};
 use lower_emit::stood;
-use lower_loops::{cases_of, otherwise_of, starts_of};
 use lower_moves::Site;
 use lower_rows::{After, take_exit};
 use pcc_base::NoMemory;

@@ -8,6 +8,7 @@ ghost use Rattle.lower_lines.specs.Statements.{run_of, runs_of, sequence_blocks,
 ghost use Rattle.lower_moves.specs.Sites.{context_of};
 ghost use Rattle.lower_rows.specs.Views.{after_of, exits_of};
 
+use crate::labels::start_labelled;
 use crate::switches::{open_body, open_switch};
 use crate::{
     close_for, evaluated, go, is_nothing, item, open_for, open_if, open_while, return_value,
@@ -16,7 +17,7 @@ use crate::{
 use c_tree::Statement;
 use flow_graph::Op;
 use lower_builder::{Lines, plus};
-use lower_loops::{again, close_do, next_after, open_do, start_labelled};
+use lower_loops::{again, close_do, next_after, open_do};
 use lower_moves::Site;
 use lower_rows::{After, Ahead, Exits, go_onward, start_exit};
 use pcc_base::NoMemory;

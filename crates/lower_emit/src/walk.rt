@@ -23,8 +23,9 @@ use crate::arguments::all_simple;
 use c_tree::{ArrayRef, BinaryOp, Expression, IntegerType, Place, UnaryOp, ValueType};
 use flow_graph::Words;
 use lower_builder::{Lines, plus};
-use lower_leaves::{constant, if_stays, local, local_operand, object, start};
+use lower_leaves::{constant, if_stays, local, local_operand, start};
 use lower_moves::{Site, Spot, Wanted, null_pointer};
+use lower_objects::object;
 use lower_pieces::{applied, end_truth};
 use lower_rows::{
     Found, NumberOp, Ways, byte_set, call_made, element_at, end_ways, exit_with, getchar,

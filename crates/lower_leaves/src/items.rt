@@ -1,22 +1,22 @@
 //! Declared items, but for the expressions of their initialisers (C99 6.7.8).
 
-ghost use Rattle.std.specs.Prelude.{◌≡◌, ◌∷◌, [], IfOk, OnOk, pos, suc};
+ghost use Rattle.std.specs.Prelude.{◌≡◌, ◌∷◌, [], OnOk, pos, suc};
 ghost use Rattle.c_tree.specs.Erased.{expression_of};
 ghost use Rattle.flow_graph.specs.declared.op.Comparison.TheVariants.{Lt};
 ghost use Rattle.flow_graph.specs.declared.op.Op.TheVariants as op;
 ghost use Rattle.lower_builder.specs.Built.{Adds};
 ghost use Rattle.lower_lines.specs.Lines.{Emit, Start};
 ghost use Rattle.lower_lines.specs.Parts.{bits_of};
-ghost use Rattle.lower_lines.specs.Statements.{reads_none, text_count, zeroing};
+ghost use Rattle.lower_lines.specs.Statements.{reads_none, zeroing};
 ghost use Rattle.lower_lines.specs.Variables.{own, temporary, ForOld, ForScratch};
 ghost use Rattle.lower_moves.specs.Sites.{context_of};
 ghost use Rattle.lower_leaves.specs.Copies.{copy_lines, text_lines};
 
-use crate::bits_of;
 use c_tree::{Expression, IntegerType, ValueType};
 use flow_graph::{Comparison, Op};
 use lower_builder::{Lines, plus};
 use lower_moves::Site;
+use lower_objects::{bits_of, text_count};
 use pcc_base::NoMemory;
 
 /// A local becomes 0 or null.
@@ -71,21 +71,6 @@ pub fn store_element(
     let to = site.own(0)?;
     lines.emit(Op::Const(to.number, place))?;
     lines.emit(Op::Store(bits_of(t), to.array, to.number, x))
-}
-
-/// How many elements a string gives an array.
-fn text_count(site: &Site<'_>, array: u32, object: u32) -> Result<i32, NoMemory>
-    ensures { IfOk result (λ n. n ≡ pos (text_count (context_of site.now) array object)) }
-{
-    let held = match site.program.objects.get(object as usize) {
-        Some(object) => object.elements.len(),
-        None => 0,
-    };
-    let room = match site.function.arrays.get(array as usize) {
-        Some(array) => array.count as usize,
-        None => 0,
-    };
-    i32::try_from(room.min(held)).map_err(|_| NoMemory)
 }
 
 /// The index of the first element, how many are copied, and 1.

@@ -6,7 +6,7 @@ ghost use Rattle.c_tree.specs.declared.types.ValueType.TheVariants.{Integer};
 ghost use Rattle.lower_builder.specs.Built.{Adds};
 ghost use Rattle.lower_lines.specs.Expressions.{array_line, constant_part, local_part, object_part, read_part};
 ghost use Rattle.lower_lines.specs.Expressions.{reading, start_part, AtObject};
-ghost use Rattle.lower_lines.specs.Parts.{bits_of, if_stays, operand, tested_blocks};
+ghost use Rattle.lower_lines.specs.Parts.{if_stays, operand, tested_blocks};
 ghost use Rattle.lower_lines.specs.Variables.{local_spot, Context};
 ghost use Rattle.lower_moves.specs.Sites.{context_of};
 ghost use Rattle.lower_moves.specs.Spots.{spot_of};
@@ -15,22 +15,11 @@ ghost use Rattle.lower_pieces.specs.Views.{AddsOperand, AddsPart};
 
 use c_operators::convert;
 use c_tree::{ArrayRef, IntegerType, ValueType};
-use flow_graph::{Bits, Op};
+use flow_graph::Op;
 use lower_builder::Lines;
 use lower_moves::{Site, Spot, Wanted, reading, target, tested};
 use lower_pieces::tested_number;
 use pcc_base::NoMemory;
-
-/// How many bits an access to a value of a type has.
-pub fn bits_of(t: IntegerType) -> Bits
-    ensures { result ≡ bits_of t }
-{
-    match t {
-        IntegerType::Char => Bits::Eight,
-        IntegerType::Short => Bits::Sixteen,
-        IntegerType::Int => Bits::ThirtyTwo,
-    }
-}
 
 /// A number (C99 6.4.4).
 pub fn constant(
@@ -129,23 +118,6 @@ pub fn local(
         ValueType::Integer(IntegerType::Int) => read_local(lines, site, level, wanted, of, local),
         ValueType::Pointer(_) => read_local(lines, site, level, wanted, of, local),
     }
-}
-
-/// The value of a static object that is no array.
-pub fn object(
-    lines: &mut Lines,
-    site: &Site<'_>,
-    level: u32,
-    wanted: Wanted,
-    t: IntegerType,
-    k: u32,
-) -> Result<(), NoMemory>
-    ensures { OnOk result (AddsPart (object_part (context_of site.now) t k) level (wanted_of wanted)
-        lines.old lines.new) }
-{
-    let to = target(site, level, wanted)?;
-    lines.emit(Op::Get(bits_of(t), to.number, k))?;
-    tested_number(lines, site, level, wanted, t)
 }
 
 /// The type of a static object that is no array: a number's.

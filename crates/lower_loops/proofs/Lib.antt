@@ -1,2 +1,1 @@
-mod Cases
 mod Places

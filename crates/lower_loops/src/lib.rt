@@ -1,17 +1,14 @@
-//! Where loops turn and where they go, the labels of a switch, and the blocks that labelled statements start.
+//! Where loops turn and where they go, and where control goes before a statement that may start a block.
 //!
 //! In: a builder of lines, a function of a program with the variables of its locals, and the number and the test of
-//! a typed loop; or the labels of a switch, how many statements its body has, and the first block that isn't taken.
-//! Out: the lines that `lower_lines` has for the loop's start and its turn (`specs/Statements.antt` there), and the
-//! blocks where it goes; the blocks of the labelled statements, the cases and where control goes else (in this
-//! crate `specs/Starts.antt`). The only refusal is want of memory; a number above 32 bits counts as it, and so does
-//! a label before a statement that isn't there.
+//! a typed loop; or the blocks that statements start, and a place among them. Out: the lines that `lower_lines` has for
+//! the loop's start and its turn (`specs/Statements.antt` there), and the blocks where it goes; the block at the place
+//! (in this crate `specs/Starts.antt`), and where control goes before it. The only refusal is want of memory; a number
+//! above 32 bits counts as it.
 #![tactic(auto)]
 
-mod labels;
 mod rows;
 mod turns;
 
-pub use labels::{Starts, cases_of, otherwise_of, starts_of};
-pub use rows::{next_after, start_labelled};
+pub use rows::{block_at, next_after};
 pub use turns::{Ends, again, close_do, open_do, start_loop};

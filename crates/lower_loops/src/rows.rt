@@ -1,37 +1,20 @@
 //! Statements in order, of which some have labels of a switch, and blocks that they start.
 
-ghost use Rattle.std.specs.Prelude.{◌≡◌, ◌<◌, ◌≤◌, OnOk};
-ghost use Rattle.lower_builder.specs.Built.{Adds};
+ghost use Rattle.std.specs.Prelude.{◌≡◌, ◌<◌, ◌≤◌};
 ghost use Rattle.lower_loops.specs.Starts.{starts_at};
-ghost use Rattle.lower_lines.specs.Statements.{started, towards};
+ghost use Rattle.lower_lines.specs.Statements.{towards};
 ghost use Rattle.lower_rows.specs.Views.{after_of};
 
-use lower_builder::Lines;
 use lower_rows::After;
-use pcc_base::NoMemory;
 
 /// The block that the statement at a place starts, if it has one.
-pub(crate) fn block_at(starts: &[Option<u32>], place: usize) -> Option<u32>
+pub fn block_at(starts: &[Option<u32>], place: usize) -> Option<u32>
     ensures { result ≡ starts_at starts.now place }
 {
     if place < starts.len() {
         return starts[place];
     }
     None
-}
-
-/// The start of the block that the statement at a place starts, if it has one.
-pub fn start_labelled(
-    lines: &mut Lines,
-    starts: &[Option<u32>],
-    place: usize,
-) -> Result<(), NoMemory>
-    ensures { OnOk result (Adds lines.old lines.new 0 (started (starts_at starts.now place))) }
-{
-    match block_at(starts, place) {
-        None => Ok(()),
-        Some(block) => lines.start(block),
-    }
 }
 
 /// Where control goes before the statement at a place, which is there or isn't.

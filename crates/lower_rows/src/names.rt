@@ -21,8 +21,9 @@ use crate::kinds::number_type;
 use crate::{byte_set, narrow_made, put, stored};
 use c_tree::{BinaryOp, IntegerType, StepOp, ValueType};
 use lower_builder::{Lines, plus};
-use lower_leaves::{constant, local, local_operand, object};
+use lower_leaves::{constant, local, local_operand};
 use lower_moves::{Site, Spot, Wanted, delivered};
+use lower_objects::object;
 use lower_pieces::applied;
 use pcc_base::NoMemory;
 

@@ -22,8 +22,9 @@ use crate::{element_sum, load_old, loaded, renewed};
 use c_tree::{IntegerType, StepOp, ValueType};
 use flow_graph::Op;
 use lower_builder::{Lines, plus};
-use lower_leaves::{local, object};
+use lower_leaves::local;
 use lower_moves::{Site, Spot, Wanted, converted, delivered};
+use lower_objects::object;
 use pcc_base::NoMemory;
 
 /// The value of a place that was found.

@@ -21,8 +21,9 @@ ghost use Rattle.lower_rows.specs.Rows.{number_op, renewing};
 use c_tree::{BinaryOp, IntegerType, ValueType};
 use flow_graph::Op;
 use lower_builder::{Lines, plus};
-use lower_leaves::{bits_of, local};
+use lower_leaves::local;
 use lower_moves::{Site, Spot, Wanted, converted, converting, copied, target};
+use lower_objects::bits_of;
 use lower_pieces::{computing, tested_number};
 use pcc_base::NoMemory;
 

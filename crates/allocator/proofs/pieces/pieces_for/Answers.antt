@@ -1,6 +1,6 @@
 use Rattle.std.proofs.Common.{◌<◌, ℕ, length}
-use Rattle.allocator.proofs.OneMore.{every-get}
-use Rattle.allocator.proofs.Ordered.{all-more}
+use Rattle.allocator_boards.proofs.OneMore.{every-get}
+use Rattle.allocator_boards.proofs.Ordered.{all-more}
 use Rattle.allocator.proofs.pieces.pieces_for.Goals as goal
 
 pub push_pieces-requires-clause-var : goal.push_pieces-requires-clause-var

@@ -3,7 +3,7 @@ use Rattle.std.proofs.Common.{rules}
 use Rattle.std.specs.Int.{w32}
 use Rattle.std.proofs.lemmas.Int.{to_z-of_z}
 use Rattle.puzzle_board.specs.Places.{PlaceMap}
-use Rattle.allocator.specs.Slots.{AreGiven, offset_of, slots_given}
+use Rattle.allocator_boards.specs.Slots.{AreGiven, offset_of, slots_given}
 use Rattle.allocator.proofs.Giving.{count-room, given-count, given-new, given-there, with-slot, without-slot}
 use Rattle.allocator.proofs.slots.give_slot.Goals as goal
 

@@ -2,7 +2,7 @@ use Rattle.std.proofs.Common.{◌≡◌, ◌<◌, ◌+◌, ◌∙◌, ℤ, ℕ, 
 use Rattle.std.proofs.Common.{subst, sym}
 use Rattle.std.proofs.lemmas.List.{take_more}
 use Rattle.puzzle_board.specs.Places.{PlaceMap, with_spilled}
-use Rattle.allocator.specs.Slots.{AreGiven, AreSpilled, slots_given}
+use Rattle.allocator_boards.specs.Slots.{AreGiven, AreSpilled, slots_given}
 use Rattle.allocator.proofs.Giving.{given-more, spilled-more}
 use Rattle.allocator.proofs.slots.spill_all.Goals as goal
 

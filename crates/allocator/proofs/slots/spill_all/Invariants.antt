@@ -1,5 +1,5 @@
 use Rattle.std.proofs.Common.{◌≡◌, take}
-use Rattle.allocator.specs.Slots.{AreGiven, AreSpilled, slots_given}
+use Rattle.allocator_boards.specs.Slots.{AreGiven, AreSpilled, slots_given}
 use Rattle.allocator.proofs.slots.spill_all.Given as goal
 
 abbrev pub invariant-loop-i : goal.invariant-loop-i

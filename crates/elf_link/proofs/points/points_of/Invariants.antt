@@ -2,7 +2,7 @@
 use Rattle.std.proofs.Common.{◌≡◌, ◌+◌, drop, length, map}
 use Rattle.elf_addresses.specs.Parts.{order_of, sections_size}
 use Rattle.elf_link.specs.Laid.{points_from}
-use Rattle.elf_addresses.proofs.Numbered.{IsFilled}
+use Rattle.elf_link.proofs.Numbered.{IsFilled}
 use Rattle.elf_link.proofs.points.points_of.Given as goal
 
 abbrev pub invariant-loop-section : goal.invariant-loop-section

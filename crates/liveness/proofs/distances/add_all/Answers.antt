@@ -3,7 +3,7 @@ use Rattle.flow_graph.specs.Liveness.{IsDistance}
 use Rattle.live_searches.proofs.Adding.{has-item}
 use Rattle.liveness.proofs.Listing.{DistanceAt, distance-found, distance-next, distance-only, found-once}
 use Rattle.live_searches.proofs.Placed.{placed-within}
-use Rattle.live_searches.proofs.Searching.{next-placed}
+use Rattle.liveness.proofs.Searching.{next-placed}
 use Rattle.live_searches.proofs.Stepping.{steps-end, steps-more, steps-start}
 use Rattle.liveness.proofs.distances.add_all.Goals as goal
 

@@ -28,8 +28,8 @@ pub loop-var-preserved : goal.loop-var-preserved
 loop-var-preserved c = record {
   listed = vars-more (λ x. x.0) (λ v x p. IsDistance c.args.graph.now v p x.1) c.loop-var.var _ _ _
       c.loop-var.invariant.listed c.in_ok-add_all.ensures;
-  used = earlier-next c.run.new.self.used c.loop-var.var c.in_ok-run.ensures.used;
-  passed = earlier-next c.run.new.self.passed c.loop-var.var c.in_ok-run.ensures.passed;
+  used = earlier-next c.run.new.search.used c.loop-var.var c.in_ok-run.ensures.used;
+  passed = earlier-next c.run.new.search.passed c.loop-var.var c.in_ok-run.ensures.passed;
   used_points = c.in_ok-run.ensures.used_points;
   passed_points = c.in_ok-run.ensures.passed_points;
 }

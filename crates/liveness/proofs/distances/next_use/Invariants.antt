@@ -1,7 +1,7 @@
 use Rattle.std.proofs.Common.{◌≡◌, ◌<◌, [], length, replicate}
 use Rattle.flow_graph.specs.Liveness.{IsDistance}
 use Rattle.live_searches.specs.Lists.{Adds}
-use Rattle.live_searches.specs.Search.{AllEarlier}
+use Rattle.liveness.specs.Search.{AllEarlier}
 use Rattle.liveness.proofs.distances.next_use.Given as goal
 
 -- the distances of the variables so far are listed

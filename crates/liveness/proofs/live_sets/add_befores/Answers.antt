@@ -4,7 +4,7 @@ use Rattle.live_searches.proofs.Adding.{has-item, has-within}
 use Rattle.liveness.proofs.Listing.{FoundAt, ListedAt, all-smaller, distance-next, found-once, found-only, listing-end}
 use Rattle.liveness.proofs.Listing.{listing-more, live-found, next-dead}
 use Rattle.live_searches.proofs.Placed.{placed-within}
-use Rattle.live_searches.proofs.Searching.{next-placed}
+use Rattle.liveness.proofs.Searching.{next-placed}
 use Rattle.live_searches.proofs.Stepping.{steps-past, steps-start}
 use Rattle.liveness.proofs.live_sets.add_befores.Goals.{then-is_live_before+in_ok-add_before, else-is_live_before}
 use Rattle.liveness.proofs.live_sets.add_befores.Goals as goal

@@ -42,8 +42,8 @@ loop-var-preserved c = record {
   after = vars-more (λ w. w) (λ v w p. IsLiveAfter c.args.graph.now v p) c.loop-var.var _ c.loop-var.sets.after
       c.add_afters.new.sets.after c.loop-var.invariant.after
       (rw (← c.in_ok-add_befores.ensures.after) c.in_ok-add_afters.ensures.after);
-  used = earlier-next c.run.new.self.used c.loop-var.var c.in_ok-run.ensures.used;
-  passed = earlier-next c.run.new.self.passed c.loop-var.var c.in_ok-run.ensures.passed;
+  used = earlier-next c.run.new.search.used c.loop-var.var c.in_ok-run.ensures.used;
+  passed = earlier-next c.run.new.search.passed c.loop-var.var c.in_ok-run.ensures.passed;
   used_points = c.in_ok-run.ensures.used_points;
   passed_points = c.in_ok-run.ensures.passed_points;
 }

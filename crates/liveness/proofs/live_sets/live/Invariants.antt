@@ -1,7 +1,7 @@
 use Rattle.std.proofs.Common.{◌≡◌, ◌<◌, [], length, replicate}
 use Rattle.flow_graph.specs.Liveness.{IsLiveAfter, IsLiveBefore}
 use Rattle.live_searches.specs.Lists.{Adds}
-use Rattle.live_searches.specs.Search.{AllEarlier}
+use Rattle.liveness.specs.Search.{AllEarlier}
 use Rattle.liveness.proofs.live_sets.live.Given as goal
 
 -- the variables so far are listed where they are live

@@ -2,8 +2,9 @@
 use Rattle.std.proofs.Common.{◌∙◌, sym, subst, Bool, List, map, AllPairs, false, true≢false}
 use Rattle.std.specs.Bool.{Decides}
 use Rattle.std.proofs.lemmas.Result.{IfOk-weaker}
+use Rattle.elf_extents.specs.Pieces.{AreApart}
 use Rattle.elf_image.specs.declared.loaded.Segment.{Segment}
-use Rattle.elf_image.specs.Segments.{AreApart, IsLoadable, piece_of}
+use Rattle.elf_image.specs.Segments.{IsLoadable, piece_of}
 use Rattle.elf_image.proofs.Apart.{loads-all, loads-none}
 use Rattle.elf_image.proofs.loaded.Loaded.is_loadable.Goals as goal
 use Rattle.elf_image.proofs.loaded.Loaded.is_loadable.Goals.{then-not-all_fit-via-then-not-all_fit}

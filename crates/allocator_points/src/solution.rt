@@ -1,0 +1,52 @@
+//! A point's board, solved.
+
+ghost use Rattle.std.specs.Prelude.{◌≡◌, ◌≤◌, IfOk, length};
+ghost use Rattle.std.specs.List.{AllByRecursion};
+ghost use Rattle.liveness.specs.Distances.{AreDistances};
+ghost use Rattle.elementary_form.specs.PointBoards as boards;
+ghost use Rattle.allocator_boards.specs.Order.{AreInOrder};
+ghost use Rattle.allocator_boards.specs.Solutions.{AreSpots};
+ghost use Rattle.allocator_boards.specs.Spills.{HasPiece, IsSpilledAt};
+
+use crate::registers::areas_of;
+use allocator_boards::{board_with, candidates_of, spots_on};
+use elementary_form::Elementary;
+use flow_graph::Op;
+use liveness::Distances;
+use pcc_base::NoMemory;
+use puzzle_board::{Piece, Spot};
+use puzzle_choices::spill_order;
+use puzzle_solver::fit;
+use std::alloc::Global;
+
+/// What becomes of a point's board: the variables that are spilled, and the spot of each piece that stands.
+#[derive(Drop)]
+pub struct Solution {
+    pub spilled: Vec<u32>,
+    pub spots: Vec<Option<Spot>>,
+}
+
+/// Solves a point's board, of which these are the pieces, with as few variables spilled as the spill order allows.
+pub fn solve_point(
+    alloc: Global,
+    form: &Elementary,
+    distances: &Distances,
+    point: u32,
+    op: &Op,
+    pieces: &[Piece],
+) -> Result<Solution, NoMemory>
+    requires distances { AreDistances form.now.graph distances.now }
+    requires few { length pieces.now ≤ 4294967295 }
+    requires order { AreInOrder pieces.now }
+    requires pieces { pieces.now ≡ boards.point_pieces form.now.graph form.now.lives point op.now }
+    ensures spilled { IfOk result (λ s. IsSpilledAt form.now.graph form.now.lives point op.now s.spilled.items) }
+    ensures of_pieces { IfOk result (λ s. AllByRecursion (HasPiece pieces.now) s.spilled.items) }
+    ensures spots { IfOk result (λ s. AreSpots (boards.areas_of op.now) pieces.now s.spilled.items s.spots.items) }
+{
+    let candidates = candidates_of(alloc, distances, point, pieces)?;
+    let order = spill_order(alloc, &candidates)?;
+    let mut board = board_with(alloc, &areas_of(op), pieces)?;
+    let spilled = fit(alloc, &mut board, &order)?;
+    let spots = spots_on(alloc, &board)?;
+    Ok(Solution { spilled, spots })
+}

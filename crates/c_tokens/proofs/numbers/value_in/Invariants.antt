@@ -1,0 +1,13 @@
+use Rattle.std.proofs.Common.{◌≡◌, ◌≤◌, drop}
+use Rattle.c_tokens.specs.Bytes.{number_after, number_in}
+use Rattle.c_tokens.specs.Literals.{AllPass}
+use Rattle.c_tokens.specs.Radixes.{base_of, is_digit_of}
+use Rattle.c_tokens.proofs.numbers.value_in.Given as goal
+
+abbrev pub invariant-loop-b : goal.invariant-loop-b
+invariant-loop-b l = record {
+  low : l.value ≤ 2147483647;
+  number : number_after (base_of l.radix) l.value (drop l.b-index l.digits) ≡ number_in (base_of l.radix) l.digits;
+  passes : AllPass (is_digit_of l.radix) (drop l.b-index l.digits) → AllPass (is_digit_of l.radix) l.digits;
+  passed : AllPass (is_digit_of l.radix) l.digits → AllPass (is_digit_of l.radix) (drop l.b-index l.digits);
+}
