@@ -14,9 +14,9 @@ use Rattle.puzzle_board.specs.declared.piece.Piece.{Piece}
 use Rattle.puzzle_board.specs.declared.piece.Spot.{Spot}
 use Rattle.puzzle_board.specs.declared.place.Place.{Place}
 use Rattle.puzzle_board.specs.Places.{Entry, PlaceMap, entries_at}
-use Rattle.elementary_form.specs.PointBoards.{areas_of, fixed_result, fixed_use, point_pieces, with_result}
-use Rattle.elementary_form.specs.PointMaps.{IsLegalPoint}
-use Rattle.elementary_form.specs.SplitForms.{Form, IsForm}
+use Rattle.allocator_boards.specs.PointBoards.{areas_of, fixed_result, fixed_use, point_pieces, with_result}
+use Rattle.allocator_boards.specs.PointMaps.{IsLegalPoint}
+use Rattle.allocator_boards.specs.SplitForms.{Form, IsForm}
 use Rattle.allocator_boards.specs.PointPuzzles.{pair_of, pieces_at}
 use Rattle.allocator.specs.Progress.{IsDoneTo}
 use Rattle.allocator.specs.Sides.{ArePut, ChangesPoint, is_lower, is_upper, with_fixed}

@@ -11,8 +11,8 @@ use Rattle.flow_graph.specs.Lives.{Lives, at_point}
 use Rattle.puzzle_board.specs.declared.piece.Kind.TheVariants.{Z}
 use Rattle.puzzle_board.specs.declared.piece.Piece.{Piece}
 use Rattle.elementary_form.specs.Names.{is_named}
-use Rattle.elementary_form.specs.PointBoards.{fixed_result, fixed_use, fixed_variable, if_so, piece_of, pieces_of_all}
-use Rattle.elementary_form.specs.PointBoards.{pieces_of_variable, point_pieces, use_kind, with_result}
+use Rattle.allocator_boards.specs.PointBoards.{fixed_result, fixed_use, fixed_variable, if_so, piece_of, pieces_of_all}
+use Rattle.allocator_boards.specs.PointBoards.{pieces_of_variable, point_pieces, use_kind, with_result}
 use Rattle.elementary_form.proofs.Naming.{equal-test, in-test, true-false}
 use Rattle.allocator_boards.proofs.OneMore.{in-one, in-one-old, in-one-self}
 

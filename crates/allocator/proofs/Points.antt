@@ -21,11 +21,11 @@ use Rattle.puzzle_board.specs.Placements.{IsLegalPlacement, Standing}
 use Rattle.puzzle_board.specs.Places.{Entry, IsRising, PlaceMap, entries_at, place_in, spilled_at, with_place}
 use Rattle.puzzle_board.proofs.Sides.{rising-with}
 use Rattle.elementary_form.specs.Names.{is_named}
-use Rattle.elementary_form.specs.PointBoards.{Fixed, areas_of, fixed_result, fixed_use, fixed_variable, piece_of}
-use Rattle.elementary_form.specs.PointBoards.{point_pieces, use_kind, with_result}
-use Rattle.elementary_form.specs.PointMaps.{InSlot, IsLegalPoint, SpilledInSlots, both_cells, cells_of, place_after}
-use Rattle.elementary_form.specs.PointMaps.{place_before, same_columns, same_spot, spot_on, standing_at, standings_of}
-use Rattle.elementary_form.specs.PointMaps.{unspilled}
+use Rattle.allocator_boards.specs.PointBoards.{Fixed, areas_of, fixed_result, fixed_use, fixed_variable, piece_of}
+use Rattle.allocator_boards.specs.PointBoards.{point_pieces, use_kind, with_result}
+use Rattle.allocator_boards.specs.PointMaps.{InSlot, IsLegalPoint, SpilledInSlots, both_cells, cells_of, place_after}
+use Rattle.allocator_boards.specs.PointMaps.{place_before, same_columns, same_spot, spot_on, standing_at, standings_of}
+use Rattle.allocator_boards.specs.PointMaps.{unspilled}
 use Rattle.elementary_form.proofs.Naming.{equal-test, in-test, test-in, true-false}
 use Rattle.allocator_boards.specs.PointPuzzles.{pair_of}
 use Rattle.allocator_boards.proofs.Fixing.{fixed-defined, fixed-dies, fixed-used}

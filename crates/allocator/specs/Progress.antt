@@ -3,8 +3,8 @@ use Rattle.std.specs.Prelude.{ℕ, ◌≡◌, ◌<◌, ◌≤◌, ◌↔◌, [],
 use Rattle.flow_graph.specs.declared.op.Op.{Op}
 use Rattle.flow_graph.specs.Graphs.{IsIn, IsPlaced}
 use Rattle.puzzle_board.specs.Places.{PlaceMap, entries_at, spilled_at}
-use Rattle.elementary_form.specs.PointMaps.{IsLegalPoint}
-use Rattle.elementary_form.specs.SplitForms.{Form}
+use Rattle.allocator_boards.specs.PointMaps.{IsLegalPoint}
+use Rattle.allocator_boards.specs.SplitForms.{Form}
 use Rattle.allocator_boards.specs.Slots.{AreSlots, HasSlot}
 use Rattle.allocator_boards.specs.Spills.{IsSpilledAt}
 

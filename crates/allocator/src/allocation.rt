@@ -1,7 +1,7 @@
 //! The map of a graph.
 
 ghost use Rattle.std.specs.Prelude.{◌≡◌, ◌<◌, ◌+◌, ◌*◌, IfOk, OnOk, length};
-ghost use Rattle.elementary_form.specs.PointMaps.{IsLegalMap, bytes_of_arrays};
+ghost use Rattle.allocator_boards.specs.PointMaps.{IsLegalMap, bytes_of_arrays};
 ghost use Rattle.flow_graph.specs.Graphs.{IsPlaced};
 ghost use Rattle.liveness.specs.Distances.{AreDistances};
 ghost use Rattle.allocator.specs.Allocations.{IsAllocation, NothingFirst};
@@ -12,9 +12,8 @@ use crate::frame::bytes_of_arrays;
 use crate::pieces_of;
 use crate::places::{places_of, put_fixed, put_pieces};
 use crate::slots::spill_all;
-use allocator_boards::{fixed_result, fixed_use};
+use allocator_boards::{Elementary, fixed_result, fixed_use};
 use allocator_points::solve_point;
-use elementary_form::Elementary;
 use liveness::Distances;
 use pcc_base::NoMemory;
 use puzzle_board::PointMap;

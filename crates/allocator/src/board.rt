@@ -5,9 +5,8 @@ ghost use Rattle.flow_graph.specs.Graphs.{IsPlaced};
 ghost use Rattle.allocator_boards.specs.PointPuzzles.{puzzle_at};
 
 use crate::pieces::pieces_of;
-use allocator_boards::board_with;
+use allocator_boards::{Elementary, board_with};
 use allocator_points::areas_of;
-use elementary_form::Elementary;
 use pcc_base::NoMemory;
 use puzzle_board::Board;
 use std::alloc::Global;

@@ -1,8 +1,8 @@
 //! A law of boards: the function's contract is one, and the function does nothing.
 
 ghost use Rattle.std.specs.Prelude.{◌≡◌, ◌∷◌, [], Some};
-ghost use Rattle.elementary_form.specs.PointBoards.{ends_taken};
-ghost use Rattle.elementary_form.specs.WorkedBoards.{division, division_lives, one_op, wide_piece};
+ghost use Rattle.allocator_boards.specs.PointBoards.{ends_taken};
+ghost use Rattle.allocator_boards.specs.WorkedBoards.{division, division_lives, one_op, wide_piece};
 ghost use Rattle.puzzle_board.specs.declared.piece.Kind.TheVariants.{X, Y};
 ghost use Rattle.allocator_boards.specs.PointPuzzles.{puzzle_at, puzzle_of};
 

@@ -2,14 +2,13 @@
 
 ghost use Rattle.std.specs.Prelude.{◌≡◌, ◌<◌, ◌≤◌, ◌*◌, IfOk, Some, length, slice_get};
 ghost use Rattle.std.specs.List.{AllByRecursion};
-ghost use Rattle.elementary_form.specs.PointBoards as boards;
+ghost use Rattle.allocator_boards.specs.PointBoards as boards;
 ghost use Rattle.flow_graph.specs.Graphs.{IsPlaced};
 ghost use Rattle.allocator_boards.specs.Order.{AreInOrder};
 ghost use Rattle.allocator_boards.specs.PointPuzzles.{pieces_at};
 
-use allocator_boards::with_result;
+use allocator_boards::{Elementary, with_result};
 use allocator_points::push_pieces;
-use elementary_form::Elementary;
 use flow_graph::Op;
 use pcc_base::NoMemory;
 use puzzle_board::Piece;

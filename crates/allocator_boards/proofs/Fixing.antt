@@ -10,7 +10,7 @@ use Rattle.flow_graph.specs.declared.op.Op.TheVariants.{Put, Clear, Param, Call,
 use Rattle.flow_graph.specs.declared.op.Op.TheVariants.{Turn, Jump, Branch, Return}
 use Rattle.flow_graph.specs.Graphs.{Flow, FitsOp, HasWidth, IsIn}
 use Rattle.flow_graph.specs.Liveness.{FixedDies, IsLiveAfter, defined, uses}
-use Rattle.elementary_form.specs.PointBoards.{Fixed, cl, eax, edx, fixed_at, fixed_result, fixed_use}
+use Rattle.allocator_boards.specs.PointBoards.{Fixed, cl, eax, edx, fixed_at, fixed_result, fixed_use}
 
 there : (flow : Flow) (v w : ℕ) (width : Width) → HasWidth flow v width → Some v ≡ Some w → w < length flow.widths
 there flow v w width has e =

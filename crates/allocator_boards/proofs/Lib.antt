@@ -1,5 +1,7 @@
+pub mod Fixing
+pub mod LegalExample
 pub mod Listing
-pub mod Solving
 pub mod OneMore
 pub mod Ordered
-pub mod Fixing
+pub mod Placing
+pub mod Solving

@@ -10,8 +10,8 @@ use Rattle.std.proofs.lemmas.List.Sorted.{searched}
 use Rattle.flow_graph.specs.Graphs.{IsIn}
 use Rattle.flow_graph.specs.Lives.{IsAscending}
 use Rattle.flow_graph.proofs.Points.{every-in}
-use Rattle.elementary_form.specs.PointBoards.{with_one, with_result}
-use Rattle.elementary_form.proofs.Placing.{at-in}
+use Rattle.allocator_boards.specs.PointBoards.{with_one, with_result}
+use Rattle.allocator_boards.proofs.Placing.{at-in}
 
 pub every-get : (P : ℕ → Type 0) (vs : List ℕ) (k : ℕ) → AllByRecursion P vs → k < length vs → P (get_or vs k 0)
 every-get P [] k h lt = absurd (omega (arith, lt))

@@ -23,9 +23,9 @@ use Rattle.liveness.proofs.Variables.{before-within}
 use Rattle.puzzle_board.specs.declared.piece.Kind.{Kind}
 use Rattle.puzzle_board.specs.declared.piece.Kind.TheVariants.{Z}
 use Rattle.puzzle_board.specs.declared.piece.Piece.{Piece}
-use Rattle.elementary_form.specs.PointBoards.{if_so, piece_of, pieces_of_all, pieces_of_variable, use_kind}
-use Rattle.elementary_form.specs.PointBoards.{Fixed, fixed_result, fixed_use, fixed_variable, point_pieces}
-use Rattle.elementary_form.specs.PointBoards.{width_at, with_result}
+use Rattle.allocator_boards.specs.PointBoards.{if_so, piece_of, pieces_of_all, pieces_of_variable, use_kind}
+use Rattle.allocator_boards.specs.PointBoards.{Fixed, fixed_result, fixed_use, fixed_variable, point_pieces}
+use Rattle.allocator_boards.specs.PointBoards.{width_at, with_result}
 use Rattle.allocator_boards.specs.Order.{AreInOrder, Precedes}
 use Rattle.allocator_boards.specs.PointPuzzles.{pair_of, pieces_at, puzzle_of, unplaced_states}
 use Rattle.allocator_boards.proofs.Fixing.{defined-within}

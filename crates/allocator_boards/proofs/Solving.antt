@@ -10,7 +10,7 @@ use Rattle.std.proofs.lemmas.List.Sorted.{Contains-permutation, IsPermutation-sy
 use Rattle.std.proofs.lemmas.Option.{none-some, same_Some}
 use Rattle.flow_graph.specs.Graphs.{Flow, IsIn, has_point}
 use Rattle.elementary_form.proofs.Naming.{equal-test, in-test, other-test, test-in, true-false}
-use Rattle.elementary_form.specs.PointMaps.{unspilled}
+use Rattle.allocator_boards.specs.PointMaps.{unspilled}
 use Rattle.puzzle_board.specs.declared.area.Area.{Area}
 use Rattle.puzzle_board.specs.declared.piece.Piece.{Piece}
 use Rattle.puzzle_board.specs.declared.piece.Spot.{Spot}

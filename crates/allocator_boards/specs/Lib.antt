@@ -1,5 +1,9 @@
-pub mod Spills
+pub mod Order
+pub mod PointBoards
+pub mod PointMaps
+pub mod PointPuzzles
 pub mod Slots
 pub mod Solutions
-pub mod PointPuzzles
-pub mod Order
+pub mod Spills
+pub mod SplitForms
+pub mod WorkedBoards

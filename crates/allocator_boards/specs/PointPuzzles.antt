@@ -9,7 +9,7 @@ use Rattle.puzzle_board.specs.declared.piece.Spot.{Spot}
 use Rattle.puzzle_board.specs.declared.piece.State.{State}
 use Rattle.puzzle_board.specs.declared.piece.State.TheVariants.{Unplaced}
 use Rattle.puzzle_board.specs.Boards.{Puzzle}
-use Rattle.elementary_form.specs.PointBoards.{Fixed, areas_of, point_pieces}
+use Rattle.allocator_boards.specs.PointBoards.{Fixed, areas_of, point_pieces}
 
 -- so many unplaced pieces
 abbrev pub unplaced_states : List Piece → List State

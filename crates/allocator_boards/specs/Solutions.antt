@@ -9,7 +9,7 @@ use Rattle.puzzle_board.specs.declared.place.Place.TheVariants.{Cells, Slot}
 use Rattle.puzzle_board.specs.declared.piece.State.{State}
 use Rattle.puzzle_board.specs.Boards.{spot_in}
 use Rattle.puzzle_board.specs.Placements.{IsLegalPlacement, Standing}
-use Rattle.elementary_form.specs.PointMaps.{standing_at, unspilled}
+use Rattle.allocator_boards.specs.PointMaps.{standing_at, unspilled}
 use Rattle.allocator_boards.specs.Slots.{slot_in}
 
 -- the spots of pieces by what has become of them

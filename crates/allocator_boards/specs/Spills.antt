@@ -8,7 +8,7 @@ use Rattle.flow_graph.specs.Graphs.{Flow, IsDistinct, IsIn}
 use Rattle.flow_graph.specs.Liveness.{AfterUse, IsDistance, IsUsedAt}
 use Rattle.flow_graph.specs.Lives.{Lives}
 use Rattle.puzzle_board.specs.declared.piece.Piece.{Piece}
-use Rattle.elementary_form.specs.PointBoards.{point_pieces}
+use Rattle.allocator_boards.specs.PointBoards.{point_pieces}
 use Rattle.puzzle_choices.specs.declared.order.Candidate.{Candidate}
 use Rattle.puzzle_choices.specs.Orders.{IsSpillOrder}
 use Rattle.puzzle_solver.specs.Prefixes.{IsShortest}

@@ -1,7 +1,7 @@
 //! Which registers an op fixes.
 
 ghost use Rattle.std.specs.Prelude.{◌≡◌, option_map};
-ghost use Rattle.elementary_form.specs.PointBoards as boards;
+ghost use Rattle.allocator_boards.specs.PointBoards as boards;
 ghost use Rattle.allocator_boards.specs.PointPuzzles.{pair_of};
 
 use flow_graph::Op;

@@ -2,7 +2,7 @@
 
 ghost use Rattle.std.specs.Prelude.{◌≡◌, IfOk, OnOk};
 ghost use Rattle.elementary_form.specs.Names as names;
-ghost use Rattle.elementary_form.specs.PointBoards as boards;
+ghost use Rattle.allocator_boards.specs.PointBoards as boards;
 ghost use Rattle.flow_graph.specs.Graphs.{has_point};
 ghost use Rattle.flow_graph.specs.Lives.{IsAscending};
 

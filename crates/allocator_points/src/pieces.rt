@@ -1,10 +1,9 @@
 //! The pieces of a variable at a point.
 
 ghost use Rattle.std.specs.Prelude.{◌≡◌, ◌<◌, ◌++◌, ◌&&◌, not, option_map, OnOk, Some, length, slice_get};
-ghost use Rattle.elementary_form.specs.PointBoards as boards;
+ghost use Rattle.allocator_boards.specs.PointBoards as boards;
 
-use allocator_boards::{fixed_result, fixed_use, is_listed, is_named};
-use elementary_form::Elementary;
+use allocator_boards::{Elementary, fixed_result, fixed_use, is_listed, is_named};
 use flow_graph::Op;
 use pcc_base::NoMemory;
 use puzzle_board::{Kind, Piece, Spot};

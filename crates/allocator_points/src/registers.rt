@@ -1,7 +1,7 @@
 //! Which registers an op takes.
 
 ghost use Rattle.std.specs.Prelude.{◌≡◌};
-ghost use Rattle.elementary_form.specs.PointBoards as boards;
+ghost use Rattle.allocator_boards.specs.PointBoards as boards;
 
 use flow_graph::Op;
 use puzzle_board::{Area, Column};

@@ -3,14 +3,13 @@
 ghost use Rattle.std.specs.Prelude.{◌≡◌, ◌≤◌, IfOk, length};
 ghost use Rattle.std.specs.List.{AllByRecursion};
 ghost use Rattle.liveness.specs.Distances.{AreDistances};
-ghost use Rattle.elementary_form.specs.PointBoards as boards;
+ghost use Rattle.allocator_boards.specs.PointBoards as boards;
 ghost use Rattle.allocator_boards.specs.Order.{AreInOrder};
 ghost use Rattle.allocator_boards.specs.Solutions.{AreSpots};
 ghost use Rattle.allocator_boards.specs.Spills.{HasPiece, IsSpilledAt};
 
 use crate::registers::areas_of;
-use allocator_boards::{board_with, candidates_of, spots_on};
-use elementary_form::Elementary;
+use allocator_boards::{Elementary, board_with, candidates_of, spots_on};
 use flow_graph::Op;
 use liveness::Distances;
 use pcc_base::NoMemory;

@@ -5,7 +5,6 @@
 //! numbers above 2^32 - 1 count as.
 #![tactic(auto)]
 
-mod expressions;
 mod frames;
 mod limits;
 mod statements;

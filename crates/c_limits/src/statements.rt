@@ -1,13 +1,12 @@
 //! The greatest height of an expression that a statement evaluates.
 
 ghost use Rattle.std.specs.Prelude.{◌≡◌, map, option_map, IfOk};
-ghost use Rattle.c_tree.specs.Erased.{boxed_of, expression_of, first_of, item_of, statement_of, statements_of};
-ghost use Rattle.c_tree.specs.Sizes as sizes;
-ghost use Rattle.c_tree.specs.Sizes.{first_height, highest, item_height, items_height, option_height};
+ghost use Rattle.c_tree.specs.Erased.{boxed_of, first_of, item_of, statement_of, statements_of};
+ghost use Rattle.c_tree.specs.Sizes.{first_height, items_height, option_height};
 ghost use Rattle.c_tree.specs.Sizes.{statement_height, statements_height};
 
-use crate::expressions::{Height, expression, higher, on_one, raised};
-use c_tree::{Expression, First, Initialiser, Item, Statement};
+use c_heights::{Height, expression, higher, item, on_one};
+use c_tree::{Expression, First, Item, Statement};
 
 /// The height of an expression that may be absent.
 fn if_any(value: &Option<Box<Expression>>) -> Height
@@ -16,41 +15,6 @@ fn if_any(value: &Option<Box<Expression>>) -> Height
     match value {
         None => Ok(0),
         Some(value) => expression(value),
-    }
-}
-
-/// The same with so many more where it is there.
-fn raised_if_any(by: u64, value: &Option<Box<Expression>>) -> Height
-    ensures { IfOk result (λ n. n ≡ sizes.raised by (option_map boxed_of value.now)) }
-{
-    match value {
-        None => Ok(0),
-        Some(value) => raised(expression(value)?, by),
-    }
-}
-
-/// The greatest height of several expressions, with so many more.
-fn highest(by: u64, values: &[Expression]) -> Height
-    ensures { IfOk result (λ n. n ≡ highest by (map expression_of values.now)) }
-{
-    let mut height = 0u64;
-    let mut left = values.len();
-    'values: while left > 0 {
-        left -= 1;
-        let one = raised(expression(&values[left])?, by)?;
-        height = one.max(height);
-    }
-    Ok(height)
-}
-
-/// The height of a declared item: an initialiser counts one more, that of an element two.
-fn item(of: &Item) -> Height
-    ensures { IfOk result (λ n. n ≡ item_height (item_of of.now)) }
-{
-    match of {
-        Item::Scalar(_, _, value) => raised_if_any(1, value),
-        Item::Array(_, _, _, Initialiser::List(first)) => highest(2, first.as_slice()),
-        Item::Array(_, _, _, Initialiser::Text(_)) => Ok(0),
     }
 }
 

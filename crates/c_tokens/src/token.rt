@@ -52,7 +52,7 @@ pub enum Punct {
 }
 
 /// What a token is. A character constant is a number (C99 6.4.4.4).
-#[derive(Debug, Drop)]
+#[derive(Drop)]
 pub enum TokenKind {
     Word(Keyword),
     Ident(Name),
@@ -63,7 +63,7 @@ pub enum TokenKind {
 }
 
 /// A token, and where its first byte stands.
-#[derive(Debug, Drop)]
+#[derive(Drop)]
 pub struct Token {
     pub kind: TokenKind,
     pub at: Span,

@@ -24,10 +24,10 @@ use Rattle.elementary_form.specs.Forms.{IsFormProgram, begun_waiting, form_state
 use Rattle.elementary_form.specs.Forms.{named_move, next_state, no_values, passed_state, returned_state}
 use Rattle.elementary_form.specs.Forms.{with_names}
 use Rattle.elementary_form.specs.Names.{Names, name_after, waited}
-use Rattle.elementary_form.specs.Passages.{Passage, Stays, Begins, Ends, passage, passage_of}
-use Rattle.elementary_form.proofs.Leading.{After, Agree, Arrives, Before, Begun, Ended_call, Kept}
-use Rattle.elementary_form.proofs.Leading.{Leads, Stayed, kept-before, step-leads}
-use Rattle.elementary_form.proofs.Overlays.{AreLike, IsLike, like-same, over, overlay}
+use Rattle.liveness.specs.Passages.{Passage, Stays, Begins, Ends, passage, passage_of}
+use Rattle.liveness.proofs.Leading.{After, Agree, Arrives, Before, Begun, Ended_call, Kept}
+use Rattle.liveness.proofs.Leading.{Leads, Stayed, kept-before, step-leads}
+use Rattle.liveness.proofs.Overlays.{AreLike, IsLike, like-same, over, overlay}
 use Rattle.elementary_form.proofs.Settling.{before-agree, function-of, live-before, older-agree, opened-over, openings}
 use Rattle.elementary_form.proofs.Settling.{openings-now, passed-holds, values-length, waited-holds}
 

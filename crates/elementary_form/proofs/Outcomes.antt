@@ -20,8 +20,8 @@ use Rattle.elementary_form.specs.FormRuns.{FormOutcome, first_form, form_outcome
 use Rattle.elementary_form.specs.Forms.{FormMoved, FormMoves, FormHalts, FormProgram, FormState, FormStuck}
 use Rattle.elementary_form.specs.Forms.{IsFormProgram, form_step}
 use Rattle.elementary_form.proofs.Fitting.{first_fits, now-agree, step_fits}
-use Rattle.elementary_form.proofs.Leading.{Agree, Before}
-use Rattle.elementary_form.proofs.Overlays.{over}
+use Rattle.liveness.proofs.Leading.{Agree, Before}
+use Rattle.liveness.proofs.Overlays.{over}
 use Rattle.elementary_form.proofs.Settling.{opened-over, openings, openings-now}
 
 -- only a mark marks

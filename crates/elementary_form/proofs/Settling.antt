@@ -25,11 +25,11 @@ use Rattle.elementary_form.specs.Names.{Names, defined_by, edge_copy, name_after
 use Rattle.elementary_form.specs.Names.{opened_values}
 use Rattle.elementary_form.specs.Names.{passed, result_of, settled, source_of, value_of_name, waited}
 use Rattle.elementary_form.specs.Names.{without_result}
-use Rattle.elementary_form.proofs.Leading.{Agree, AgreeWaiting, Before, Kept}
+use Rattle.liveness.proofs.Leading.{Agree, AgreeWaiting, Before, Kept}
 use Rattle.elementary_form.proofs.Naming.{after-is, before-is, fresh-after, fresh-before, in-either, in-right}
 use Rattle.elementary_form.proofs.Naming.{in-without, is-named-after, named-before, opened-at, opened-length}
 use Rattle.elementary_form.proofs.Naming.{source_of-at, test-in, with_values-at}
-use Rattle.elementary_form.proofs.Overlays.{over, over_call, overlay}
+use Rattle.liveness.proofs.Overlays.{over, over_call, overlay}
 
 -- ---- what a form's program keeps
 

@@ -7,7 +7,7 @@ use Rattle.flow_graph.specs.Meaning.{Moved, Moves, Halts, Stuck, step}
 use Rattle.flow_graph.specs.States.{Activation, GraphProgram, State, Waiting, flow_at, op_at}
 use Rattle.flow_graph.specs.WellFormed.{IsGraphProgram}
 use Rattle.elementary_form.specs.Names.{Names, name_after, name_before, opened_values, passed, waited}
-use Rattle.elementary_form.specs.Passages.{Passage, Stays, Begins, Ends, passage_of}
+use Rattle.liveness.specs.Passages.{Passage, Stays, Begins, Ends, passage_of}
 
 -- a program of graphs, with the live sets of each
 pub record FormProgram : Type 0 where

@@ -2,9 +2,4 @@ pub mod FormLaws
 pub mod FormRuns
 pub mod Forms
 pub mod Names
-pub mod Passages
-pub mod PointBoards
-pub mod PointMaps
-pub mod SplitForms
 pub mod Worked
-pub mod WorkedBoards

@@ -1,10 +1,8 @@
-//! In: the graph of a function and its live sets. Out: its elementary form, in which each variable has a fresh name
-//! before each point and another after it. The promise: the form keeps the graph's meaning (`specs/FormLaws.antt`).
+//! The elementary form of the graph of a function, in which each variable has a fresh name before each point and
+//! another after it: its definition (`specs/Names.antt`, `specs/Forms.antt`), and the law that the form keeps the
+//! graph's meaning (`specs/FormLaws.antt`). No code: `allocator_boards` makes the form.
 #![tactic(auto)]
 
-mod elementary;
 mod laws;
-mod places;
 
-pub use elementary::{Elementary, split};
-pub use laws::{form_keeps_meaning, names_are_fresh, worked_boards, worked_example, worked_maps};
+pub use laws::{form_keeps_meaning, names_are_fresh, worked_example};

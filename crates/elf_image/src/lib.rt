@@ -2,8 +2,8 @@
 //!
 //! In go the text, the data and the entry, out come the bytes of the file (`write_image`); in go any bytes, out come
 //! the parts of what they load, each by a function of its own, which `elf_reading` puts together. `specs/Layout.antt`
-//! says which bytes a written image has, `specs/Fields.antt` what a file's headers say, and `specs/Segments.antt` what a
-//! file loads, and which segments a machine may be loaded with (`Loaded::is_loadable`).
+//! says which bytes a written image has, `specs/Fields.antt` what a file's headers say, and `specs/Segments.antt` what
+//! a file loads, and which segments a machine may be loaded with (`Loaded::is_loadable`).
 #![tactic(auto)]
 
 mod extent;

@@ -1,11 +1,11 @@
 //! Names in the elementary form of a small graph, by hand.
 
-ghost use Rattle.elementary_form.specs.SplitForms.{FixedOperandsDie, placed_count};
+ghost use Rattle.allocator_boards.specs.SplitForms.{FixedOperandsDie, placed_count};
 ghost use Rattle.std.specs.Prelude.{◌<◌};
 
 use crate::building::{add_var, append, empty_graph};
 use crate::expected::expect;
-use elementary_form::split;
+use allocator_boards::split;
 use flow_graph::{Graph, Op};
 use liveness::live;
 use std::alloc::Global;

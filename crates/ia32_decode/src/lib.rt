@@ -1,10 +1,13 @@
 //! Reading instructions: in go bytes, out comes the instruction whose spelling begins them.
 //!
 //! It is found exactly where there is one, by the definition of spelling of `ia32_insn`. The opcode says what
-//! follows it (`one_byte`, `two_byte`), the fields are read (`ia32_fields`, as `specs/Reading.antt` of `ia32_insn`
-//! has it), and the opcode makes an instruction of them (`rows`).
+//! follows it (`one_byte`, `two_byte`), the fields are read (`fields`, `ia32_fields`, as `specs/Reading.antt` of
+//! `ia32_insn` has it), and the opcode makes an instruction of them (`rows`), with conditions and operations by their
+//! numbers (`numbers`).
 #![tactic(auto)]
 
+mod fields;
+mod numbers;
 mod one_byte;
 mod rows;
 mod two_byte;

@@ -20,8 +20,10 @@ ghost use Rattle.ia32_insn.specs.Reading.{
   read_opcode,
 };
 
+use crate::fields::{byte_at, fields8, fields32};
+use crate::numbers::shift_of;
 use crate::{rows, two_byte};
-use ia32_fields::{byte_at, fields8, fields32, shift_of, signed_at};
+use ia32_fields::signed_at;
 use ia32_insn::Insn;
 
 /// Nothing follows the opcode.

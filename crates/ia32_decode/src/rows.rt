@@ -19,7 +19,8 @@ ghost use Rattle.ia32_insn.specs.Reading.{
   sixteen_insn,
 };
 
-use ia32_fields::{byte_register_of, condition_of, mov, mov8, operation_of, register_of, shift_of};
+use crate::numbers::{byte_register_of, condition_of, operation_of, shift_of};
+use ia32_fields::{mov, mov8, register_of};
 use ia32_insn::{AluOp, Insn, Rm8, Rm32};
 use ia32_regs::Reg32;
 

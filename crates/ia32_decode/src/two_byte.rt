@@ -15,8 +15,10 @@ ghost use Rattle.ia32_insn.specs.Reading.{
   read_two_byte,
 };
 
+use crate::fields::{fields8, fields32};
+use crate::numbers::condition_of;
 use crate::rows;
-use ia32_fields::{condition_of, fields8, fields32, signed_at};
+use ia32_fields::signed_at;
 use ia32_insn::Insn;
 
 /// Jcc rel32, by the number of its condition and the bytes after the opcode.

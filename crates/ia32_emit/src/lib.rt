@@ -1,6 +1,7 @@
 //! What all rows of a graph's ops are made of, by where their operands and their result stand: items as they are, the
 //! word of a place to a register and back, comparisons, and what stands before a division; and the rows of moves, of
-//! single operations, of parts of words and of jumps, as the definitions name them (`ia32_rows`, `specs/Rows.antt`).
+//! single operations, of parts of words, of jumps, of addresses, of static objects that are written, of argument words
+//! and of the routines, and a function's first items, as the definitions name them (`ia32_rows`, `specs/Rows.antt`).
 #![tactic(auto)]
 
 mod comparisons;
@@ -9,6 +10,9 @@ mod divisions;
 mod instructions;
 mod locations;
 mod moves;
+mod passing;
+mod prologues;
+mod storing;
 
 pub use comparisons::{emit_compare, emit_jump, emit_same, emit_truth};
 pub use computing::{emit_complement, emit_half, emit_low, emit_negation, emit_product};
@@ -21,3 +25,8 @@ pub use moves::{
     emit_commuting, emit_copy, emit_copy_byte, emit_number, emit_operate, emit_operation,
     emit_pass, emit_read, emit_write,
 };
+pub use passing::{
+    emit_drop_words, emit_exit, emit_getchar, emit_param, emit_putchar, emit_write_any,
+};
+pub use prologues::emit_prologue;
+pub use storing::{emit_frame_array, emit_put, emit_static, emit_store_behind};

@@ -1,33 +1,15 @@
-//! The rows of addresses, and of elements that are read.
+//! The rows of elements that are read.
 
 ghost use Rattle.std.specs.Prelude.{◌≡◌, ◌++◌, OnOk};
-ghost use Rattle.ia32_rows.specs.Rows.{frame_row, static_row, loading, load_from, get_row, load_row};
-ghost use Rattle.ia32_emit.specs.Locations.{distance, place_of};
+ghost use Rattle.ia32_rows.specs.Rows.{loading, load_from, get_row, load_row};
+ghost use Rattle.ia32_emit.specs.Locations.{place_of};
 
 use crate::checks::{element, emit_checking, index_register};
 use flow_graph::Bits;
-use ia32_emit::{Location, at_offset, at_register, emit, emit_all, emit_write, target_of};
+use ia32_emit::{Location, at_register, emit, emit_all, emit_write, target_of};
 use ia32_insn::{Insn, Item, Mem, Rm8, Rm32};
 use ia32_regs::Reg32;
 use pcc_base::NoMemory;
-
-/// The address of the frame array whose element 0 stands at an offset from EBP.
-pub fn emit_frame_array(out: &mut Vec<Item>, to: Location, offset: i32) -> Result<(), NoMemory>
-    ensures { OnOk result (out.new.items ≡ out.old.items ++ frame_row (place_of to) (distance offset)) }
-{
-    let register = target_of(to);
-    emit(out, Insn::Lea(register, at_offset(offset)))?;
-    emit_write(out, to, register)
-}
-
-/// The address of a static object.
-pub fn emit_static(out: &mut Vec<Item>, to: Location, object: u32) -> Result<(), NoMemory>
-    ensures { OnOk result (out.new.items ≡ out.old.items ++ static_row (place_of to) object) }
-{
-    let register = target_of(to);
-    emit_all(out, &[Item::AddressOf(register, object)])?;
-    emit_write(out, to, register)
-}
 
 /// An element to a register, one of fewer than 32 bits with its sign.
 fn loading(bits: Bits, register: Reg32, from: Mem) -> Insn

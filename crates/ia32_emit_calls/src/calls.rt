@@ -1,13 +1,12 @@
 //! The row of a call.
 
 ghost use Rattle.std.specs.Prelude.{◌≡◌, ◌<◌, ◌^◌, ◌++◌, OnOk, length, map, option_map};
-ghost use Rattle.ia32_rows.specs.Rows.{pass_all, drop_words, before_call, behind_call, call_row};
+ghost use Rattle.ia32_rows.specs.Rows.{pass_all, before_call, behind_call, call_row};
 ghost use Rattle.ia32_emit.specs.Locations.{place_of};
 
-use crate::passing::{emit_deepen, emit_undeepen, emit_write_any};
-use ia32_emit::{Location, emit, emit_all, emit_pass};
-use ia32_insn::{Insn, Item, Mem};
-use ia32_regs::Reg32;
+use crate::passing::{emit_deepen, emit_undeepen};
+use ia32_emit::{Location, emit_all, emit_drop_words, emit_pass, emit_write_any};
+use ia32_insn::Item;
 use pcc_base::NoMemory;
 
 /// The words of places onto the stack, the last one first.
@@ -18,32 +17,6 @@ fn emit_pass_all(out: &mut Vec<Item>, arguments: &[Location]) -> Result<(), NoMe
         emit_pass(out, arguments[arguments.len() - 1 - done])?;
     }
     Ok(())
-}
-
-/// Some argument words off the stack.
-fn emit_drop_some(out: &mut Vec<Item>, words: usize) -> Result<(), NoMemory>
-    requires some { 0 < words }
-    requires few { words < 2 ^ 29 }
-    ensures { OnOk result (out.new.items ≡ out.old.items ++ drop_words words) }
-{
-    let top = Mem {
-        base: Some(Reg32::Esp),
-        index: None,
-        disp: 4 * words as i32,
-    };
-    emit(out, Insn::Lea(Reg32::Esp, top))
-}
-
-/// So many argument words off the stack.
-fn emit_drop_words(out: &mut Vec<Item>, words: usize) -> Result<(), NoMemory>
-    requires { words < 2 ^ 29 }
-    ensures { OnOk result (out.new.items ≡ out.old.items ++ drop_words words) }
-{
-    if words == 0 {
-        Ok(())
-    } else {
-        emit_drop_some(out, words)
-    }
 }
 
 /// What stands before a call.

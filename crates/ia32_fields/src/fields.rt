@@ -1,35 +1,21 @@
-//! ModRM, SIB, displacements and immediate numbers (Intel manual, volume 2, section 2.1), each by the bytes
-//! that begin with it. What is found comes with the number of bytes that it takes.
+//! SIB, displacements and immediate numbers (Intel manual, volume 2, section 2.1), each by the bytes that begin with
+//! it, and memory operands. What is found comes with the number of bytes that it takes.
 
 ghost use Rattle.std.specs.Prelude.{◌≡◌, ◌⊎◌, ◌≤◌, ◌<◌, ◌^◌, Option, Some, option_map, drop, IfSome};
 ghost use Rattle.ia32_insn.specs.Spelling.{displacement_size};
 ghost use Rattle.ia32_insn.specs.Reading.{
   read_signed,
-  read_byte,
   read_base,
   read_index,
   read_address,
   read_sib,
   read_memory,
-  read_fields32,
-  read_fields8,
 };
 
-use crate::numbers::{byte_register_of, register_of};
+use crate::numbers::register_of;
 use byteorder::{ByteOrder, LittleEndian};
-use ia32_insn::{Mem, Rm8, Rm32};
+use ia32_insn::Mem;
 use ia32_regs::Reg32;
-
-/// The byte at a place.
-#[tactic(auto, unfolding(ia32_insn::specs::Reading::read_byte))]
-pub fn byte_at(bytes: &[u8], place: usize) -> Option<u8>
-    ensures { result ≡ read_byte (drop place bytes.now) }
-{
-    if place >= bytes.len() {
-        return None;
-    }
-    Some(bytes[place])
-}
 
 /// The signed number in one byte or four from a place on, the lowest first.
 #[tactic(auto, unfolding(ia32_insn::specs::Reading::read_signed))]
@@ -129,7 +115,7 @@ fn sib(mode: u8, bytes: &[u8]) -> Option<(Mem, usize)>
 
 /// The memory operand that this mod, which isn't 3, this r/m and what follows ModRM name (table 2-2).
 #[tactic(auto, unfolding(ia32_insn::specs::Reading::read_memory))]
-fn memory(mode: u8, number: u8, bytes: &[u8]) -> Option<(Mem, usize)>
+pub fn memory(mode: u8, number: u8, bytes: &[u8]) -> Option<(Mem, usize)>
     ensures same { result ≡ read_memory mode number bytes.now }
     ensures short { IfSome result (λ found. found.1 ≤ 5) }
 {
@@ -138,40 +124,4 @@ fn memory(mode: u8, number: u8, bytes: &[u8]) -> Option<(Mem, usize)>
     } else {
         address(mode, number, None, bytes)
     }
-}
-
-/// The number in the reg field, and the operand of 32 or 16 bits in the r/m field.
-#[tactic(auto, unfolding(ia32_insn::specs::Reading::read_fields, ia32_insn::specs::Reading::read_fields32))]
-pub fn fields32(bytes: &[u8]) -> Option<(u8, Rm32, usize)>
-    ensures same { result ≡ read_fields32 bytes.now }
-    ensures short { IfSome result (λ found. found.2 ≤ 6) }
-{
-    if bytes.is_empty() {
-        return None;
-    }
-    let modrm = bytes[0];
-    let reg = modrm / 8 % 8;
-    if modrm / 64 == 3 {
-        return Some((reg, Rm32::Reg(register_of(modrm % 8)), 1));
-    }
-    let (memory, len) = memory(modrm / 64, modrm % 8, &bytes[1..])?;
-    Some((reg, Rm32::Mem(memory), 1 + len))
-}
-
-/// The number in the reg field, and the operand of 8 bits in the r/m field.
-#[tactic(auto, unfolding(ia32_insn::specs::Reading::read_fields, ia32_insn::specs::Reading::read_fields8))]
-pub fn fields8(bytes: &[u8]) -> Option<(u8, Rm8, usize)>
-    ensures same { result ≡ read_fields8 bytes.now }
-    ensures short { IfSome result (λ found. found.2 ≤ 6) }
-{
-    if bytes.is_empty() {
-        return None;
-    }
-    let modrm = bytes[0];
-    let reg = modrm / 8 % 8;
-    if modrm / 64 == 3 {
-        return Some((reg, Rm8::Reg(byte_register_of(modrm % 8)), 1));
-    }
-    let (memory, len) = memory(modrm / 64, modrm % 8, &bytes[1..])?;
-    Some((reg, Rm8::Mem(memory), 1 + len))
 }

@@ -13,7 +13,7 @@ ghost use Rattle.ia32_sites.specs.Sites.{flow_of, placement_of};
 
 use crate::blocks::emit_blocks;
 use flow_graph::Graph;
-use ia32_emit_calls::emit_prologue;
+use ia32_emit::emit_prologue;
 use ia32_insn::Item;
 use ia32_programs::slots_support;
 use ia32_sites::{Site, emit_headers};

@@ -8,11 +8,12 @@ ghost use Rattle.ia32_sites.specs.Sites.{flow_of, placement_of};
 use crate::rows::{call, clear, commuting, difference, division, load, product, set, shift, store};
 use flow_graph::Op;
 use ia32_emit::{
-    emit, emit_complement, emit_copy, emit_half, emit_jump, emit_low, emit_negation, emit_number,
-    emit_same,
+    emit, emit_complement, emit_copy, emit_exit, emit_frame_array, emit_getchar, emit_half,
+    emit_jump, emit_low, emit_negation, emit_number, emit_param, emit_put, emit_putchar, emit_same,
+    emit_static,
 };
-use ia32_emit_accesses::{emit_frame_array, emit_get, emit_put, emit_static};
-use ia32_emit_calls::{emit_exit, emit_getchar, emit_leave, emit_param, emit_putchar, emit_return};
+use ia32_emit_accesses::emit_get;
+use ia32_emit_calls::{emit_leave, emit_return};
 use ia32_emit_values::emit_wide;
 use ia32_insn::{AluOp, Insn, Item, ShiftOp};
 use ia32_regs::Reg32;

@@ -44,7 +44,7 @@ pub enum Cond {
 
 /// An instruction, with the destination first. A jump or call has the distance from the instruction
 /// after it.
-#[derive(Clone, Copy, Debug, Default, PartialEq, Eq)]
+#[derive(Clone, Copy, Debug, Default)]
 pub enum Insn {
     Mov(Rm32, Reg32),
     MovLoad(Reg32, Mem),

@@ -11,7 +11,7 @@ pub enum Stub {
 }
 
 /// A piece of a function's code, before its places are known.
-#[derive(Clone, Copy, Debug, PartialEq, Eq)]
+#[derive(Clone, Copy, Debug)]
 pub enum Item {
     /// An instruction that names no place.
     Plain(Insn),

@@ -12,8 +12,11 @@ ghost use Rattle.ia32_insn.specs.Meaning.{
 };
 ghost use Rattle.ia32_processor.specs.Answers.{answer_of, does, Leaves, LeavesWith};
 
+use crate::conditions::holds;
+use crate::words::{negation, product, sign_word};
+use crate::{division, words};
 use ia32_insn::{AluOp, Cond, Insn, Mem, Rm8, Rm32};
-use ia32_processor::{Halt, Processor, alu, holds, negation, product, sign_word};
+use ia32_processor::{Halt, Processor, alu};
 use ia32_regs::{Reg8, Reg32};
 use pcc_base::{Stop, Trap};
 
@@ -58,7 +61,7 @@ pub(crate) fn sign_extend8(processor: &mut Processor, r: Reg32, operand: &Rm8) -
     ensures { Leaves (does (Insn.MovSx8 r operand.now) processor.old) processor.old processor.new result }
 {
     let value = processor.read8(operand)?;
-    processor.set_word(r, ia32_processor::sign_extend8(value));
+    processor.set_word(r, words::sign_extend8(value));
     Ok(())
 }
 
@@ -67,7 +70,7 @@ pub(crate) fn sign_extend16(processor: &mut Processor, r: Reg32, operand: &Rm32)
     ensures { Leaves (does (Insn.MovSx16 r operand.now) processor.old) processor.old processor.new result }
 {
     let value = processor.read16(operand)?;
-    processor.set_word(r, ia32_processor::sign_extend16(value));
+    processor.set_word(r, words::sign_extend16(value));
     Ok(())
 }
 
@@ -164,7 +167,7 @@ pub(crate) fn complement(processor: &mut Processor, operand: &Rm32) -> Result<()
     ensures { Leaves (does (Insn.Not operand.now) processor.old) processor.old processor.new result }
 {
     let value = processor.read32(operand)?;
-    processor.write32(operand, ia32_processor::complement(value))
+    processor.write32(operand, words::complement(value))
 }
 
 /// NEG rm32.
@@ -198,7 +201,7 @@ pub(crate) fn divide(processor: &mut Processor, operand: &Rm32) -> Result<(), Ha
     ensures { Leaves (does (Insn.Div operand.now) processor.old) processor.old processor.new result }
 {
     let divisor = processor.read32(operand)?;
-    let divided = ia32_processor::divide(dividend(processor), divisor);
+    let divided = division::divide(dividend(processor), divisor);
     take_quotient(processor, divided)
 }
 
@@ -207,7 +210,7 @@ pub(crate) fn divide_signed(processor: &mut Processor, operand: &Rm32) -> Result
     ensures { Leaves (does (Insn.IDiv operand.now) processor.old) processor.old processor.new result }
 {
     let divisor = processor.read32(operand)?;
-    let divided = ia32_processor::divide_signed(dividend(processor), divisor);
+    let divided = division::divide_signed(dividend(processor), divisor);
     take_quotient(processor, divided)
 }
 

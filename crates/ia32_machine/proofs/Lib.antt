@@ -4,4 +4,3 @@ pub mod Calls
 pub mod Performs
 pub mod Runs
 pub mod Table
-pub mod Kept

@@ -1,5 +1,5 @@
 ghost use Rattle.std.specs.Prelude.{◌≡◌, ◌≤◌, ◌↔◌, IfOk, IsTrue};
-ghost use Rattle.ia32_machine.specs.Code.{KeepsCode};
+ghost use Rattle.ia32_instructions.specs.Code.{KeepsCode};
 ghost use Rattle.ia32_machine.specs.First.{lent};
 ghost use Rattle.ia32_machine.specs.Performs.{FetchTold, PartTold, PartCounts, insn_moved};
 ghost use Rattle.ia32_machine.specs.Runs.{alone};

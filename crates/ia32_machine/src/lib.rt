@@ -2,19 +2,15 @@
 //!
 //! In go the segments of an image, an input and a place for output; out comes how the run ended. A run of some
 //! number of steps has exactly the outcome that the definition of a step gives (`ia32_insn`, `specs/Runs.antt`),
-//! from the first state of the image (`specs/First.antt`). No instruction changes code that may not be written
-//! (`code`).
+//! from the first state of the image (`specs/First.antt`).
 #![tactic(auto)]
 
-mod code;
-mod decoded;
 mod ends;
 mod instruction;
 mod laws;
 mod machine;
 mod system_calls;
 
-pub use code::{instruction_keeps_code, store_keeps_code};
 pub use ends::{MachineEnd, StepEnd};
 pub use laws::one_first;
 pub use machine::Machine;

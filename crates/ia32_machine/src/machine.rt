@@ -4,10 +4,10 @@ ghost use Rattle.ia32_machine.specs.First.{first_state, lent};
 ghost use Rattle.ia32_machine.specs.Performs.{PartCounts, AdvanceTold};
 ghost use Rattle.ia32_machine.specs.Runs.{StepTold, StepCounts, RunTold, RunCounts, alone};
 
-use crate::decoded::{Decoded, DecodedTable};
 use crate::ends::{MachineEnd, StepEnd};
 use crate::instruction::{fetch, perform};
 use elf_image::Loaded;
+use ia32_instructions::{Decoded, DecodedTable};
 use ia32_memory::Memory;
 use ia32_processor::Processor;
 use pcc_base::NoMemory;
@@ -29,7 +29,7 @@ impl Model for Machine {
 
     ghost Value = { State };
 
-    ghost use Rattle.ia32_machine.specs.Table.{AreDecoded};
+    ghost use Rattle.ia32_instructions.specs.Table.{AreDecoded};
 
     ghost view = { λ m. m.processor };
 

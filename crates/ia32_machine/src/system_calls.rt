@@ -2,7 +2,7 @@ ghost use Rattle.std.specs.Prelude.{◌≡◌, ◌∷◌, [], ℕ, true, List, O
 ghost use Rattle.pcc_outside.specs.Streams.{SinkCounts};
 ghost use Rattle.ia32_insn.specs.State as state;
 ghost use Rattle.ia32_insn.specs.Meaning.{and_then, store_bytes, with_word};
-ghost use Rattle.ia32_machine.specs.Code.{KeepsCode};
+ghost use Rattle.ia32_instructions.specs.Code.{KeepsCode};
 ghost use Rattle.ia32_machine.specs.First.{lent};
 ghost use Rattle.ia32_machine.specs.Runs.{alone};
 ghost use Rattle.ia32_machine.specs.Performs.{PartTold, PartCounts, read_moved, write_moved, call_moved};

@@ -6,7 +6,7 @@ use Rattle.pcc_base.specs.Bytes.{zeros}
 use Rattle.elf_extents.specs.Pieces.{Piece}
 use Rattle.elf_image.specs.declared.loaded.Segment.{Segment}
 use Rattle.elf_image.specs.Segments.{IsPiece, piece_of}
-use Rattle.ia32_memory.specs.First.{padded}
+use Rattle.ia32_cells.specs.Cells.{padded}
 
 -- bytes that fill their size are padded by nothing
 pub padded-full : (n : ℕ) (bytes : List ℕ) → length bytes ≡ n → padded n bytes ≡ bytes

@@ -1,5 +1,4 @@
 pub mod First
-pub mod Cells
 pub mod Areas
 pub mod Writes
 pub mod Loans

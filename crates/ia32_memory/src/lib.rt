@@ -6,7 +6,6 @@
 #![tactic(auto)]
 
 mod area;
-mod cells;
 mod memory;
 
 pub use memory::Memory;

@@ -44,7 +44,12 @@ pub fn expect_rows(rt: &impl Abort, alloc: Global, table: &str, count: usize, en
 fn expect_none(rt: &impl Abort, alloc: Global, table: &str, count: usize) {
     for row in rows_of(rt, table, count) {
         let (digits, _) = row.split_once(';').expect(rt, row);
-        expect(rt, &decode(&bytes_of(rt, alloc, digits)), &None, row);
+        expect(
+            rt,
+            &decode(&bytes_of(rt, alloc, digits)).is_none(),
+            &true,
+            row,
+        );
     }
 }
 

@@ -1,7 +1,9 @@
 pub mod Distancing
 pub mod Edges
+pub mod Leading
 pub mod Listing
 mod Marking
+pub mod Overlays
 mod Reaching
 pub mod SameWay
 mod Searching

@@ -1,4 +1,5 @@
 pub mod Distances
 pub mod Index
+pub mod Passages
 pub mod Search
 pub mod Ways

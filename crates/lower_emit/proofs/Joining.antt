@@ -22,7 +22,8 @@ use Rattle.lower_moves.specs.Views.{plain}
 use Rattle.lower_pieces.specs.Views.{AddsOperand, AddsPart}
 use Rattle.lower_pieces.proofs.Joined.{counted, lined, taken, two}
 use Rattle.lower_rows.specs.Kinds.{number_type}
-use Rattle.lower_rows.specs.Rows.{arguments_list, parameter_type, passed_as, passed_type}
+use Rattle.lower_values.specs.Arguments.{passed_type}
+use Rattle.lower_rows.specs.Rows.{arguments_list, parameter_type, passed_as}
 use Rattle.lower_rows.proofs.Naming.{object-assigned}
 use Rattle.lower_emit.specs.Passing.{passed_from}
 use Rattle.lower_emit.proofs.Alike.{IsAlike}

@@ -25,14 +25,14 @@ use flow_graph::Words;
 use lower_builder::{Lines, plus};
 use lower_leaves::{constant, if_stays, local, local_operand, start};
 use lower_moves::{Site, Spot, Wanted, null_pointer};
-use lower_objects::object;
 use lower_pieces::{applied, end_truth};
 use lower_rows::{
     Found, NumberOp, Ways, byte_set, call_made, element_at, end_ways, exit_with, getchar,
     is_simple, join, load_old, narrow_made, number_made, number_type, open_ways, own_blocks,
-    parameter_type, part_type, passed_type, push_words, put, read_found, renew, set_local,
-    set_object, stands, start_joined, step_found, store, stored,
+    parameter_type, part_type, put, read_found, renew, set_local, set_object, stands, start_joined,
+    step_found, store, stored,
 };
+use lower_values::{object, passed_type, push_words};
 use pcc_base::NoMemory;
 
 /// The lines of an expression, for what is wanted of it.

@@ -16,7 +16,7 @@ use c_tree::{Expression, IntegerType, ValueType};
 use flow_graph::{Comparison, Op};
 use lower_builder::{Lines, plus};
 use lower_moves::Site;
-use lower_objects::{bits_of, text_count};
+use lower_values::{bits_of, text_count};
 use pcc_base::NoMemory;
 
 /// A local becomes 0 or null.

@@ -1,11 +1,11 @@
-//! Values that stand in variables: copies, tests, conversions, and where a value goes that is wanted.
+//! Values that stand in variables: copies, tests, and where a value goes that is wanted.
 
 ghost use Rattle.std.specs.Prelude.{◌≡◌, ◌∷◌, [], IfOk, OnOk, pos};
 ghost use Rattle.flow_graph.specs.declared.op.Op.TheVariants as op;
 ghost use Rattle.lower_builder.specs.Built.{Adds};
 ghost use Rattle.lower_lines.specs.Lines.{Emit};
 ghost use Rattle.lower_lines.specs.Expressions.{reading};
-ghost use Rattle.lower_lines.specs.Parts.{converted_lines, converting, delivered, null_lines, number_test};
+ghost use Rattle.lower_lines.specs.Parts.{delivered, null_lines, number_test};
 ghost use Rattle.lower_lines.specs.Parts.{pointer_test, target, test_blocks, test_lines, tested, tested_blocks};
 ghost use Rattle.lower_lines.specs.Variables.{copied, moved};
 ghost use Rattle.lower_moves.specs.Sites.{context_of};
@@ -15,7 +15,7 @@ ghost use Rattle.lower_moves.specs.Views.{plain, wanted_of};
 use crate::site::Site;
 use crate::spot::Spot;
 use crate::wanted::Wanted;
-use c_tree::{IntegerType, ValueType};
+use c_tree::ValueType;
 use flow_graph::{Comparison, Op};
 use lower_builder::Lines;
 use pcc_base::NoMemory;
@@ -172,58 +172,6 @@ pub fn reading(
         }
         Wanted::Own | Wanted::ToLocal(_) | Wanted::Tests(_, _) => {
             delivered(lines, site, level, wanted, of, from)
-        }
-    }
-}
-
-/// A number from one variable to another, in an integer type (C99 6.3.1.3).
-pub fn converting(
-    lines: &mut Lines,
-    site: &Site<'_>,
-    level: u32,
-    t: IntegerType,
-    to: u32,
-    from: u32,
-) -> Result<(), NoMemory>
-    ensures { OnOk result (Adds lines.old lines.new 0 (converting (context_of site.now) level t to from)) }
-{
-    match t {
-        IntegerType::Char => {
-            let byte = site.byte(level)?;
-            lines.emit(Op::Low(byte, from))?;
-            lines.emit(Op::Wide(to, byte))
-        }
-        IntegerType::Short => lines.emit(Op::Low16(to, from)),
-        IntegerType::Int => copied(lines, to, from),
-    }
-}
-
-/// A number that stands in a variable, in an integer type, for what is wanted of it.
-pub fn converted(
-    lines: &mut Lines,
-    site: &Site<'_>,
-    level: u32,
-    wanted: Wanted,
-    t: IntegerType,
-    x: u32,
-) -> Result<(), NoMemory>
-    ensures { OnOk result (Adds lines.old lines.new 0
-        (converted_lines (context_of site.now) lines.old.next level (wanted_of wanted) t x)) }
-{
-    match wanted {
-        Wanted::Dropped => Ok(()),
-        Wanted::Own => {
-            let own = site.own(level)?;
-            converting(lines, site, level, t, own.number, x)
-        }
-        Wanted::ToLocal(local) => {
-            let to = site.spot(local);
-            converting(lines, site, level, t, to.number, x)
-        }
-        Wanted::Tests(holds, fails) => {
-            let own = site.own(level)?;
-            converting(lines, site, level, t, own.number, x)?;
-            number_test(lines, site, level, own.number, holds, fails)
         }
     }
 }

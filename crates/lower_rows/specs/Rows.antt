@@ -72,12 +72,3 @@ parameter_type ls place = option_map (λ l. l.of) (slice_get ls place)
 abbrev pub arguments_list : List built.Expression → Arguments
 arguments_list [] = NoMore
 arguments_list (e ∷ es) = Argument (expression_of e) (arguments_list es)
-
--- its type then
-abbrev pub passed_type : Option ValueType → ValueType → ValueType
-passed_type None of = of
-passed_type (Some Void) of = of
-passed_type (Some (Integer t)) of = of
-passed_type (Some (Pointer t)) Void = Pointer t
-passed_type (Some (Pointer t)) (Integer u) = Pointer t
-passed_type (Some (Pointer t)) (Pointer u) = Pointer u

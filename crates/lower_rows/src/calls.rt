@@ -1,22 +1,21 @@
-//! Arguments and results of calls (C99 6.5.2.2).
+//! Parameters and results of calls (C99 6.5.2.2).
 
-ghost use Rattle.std.specs.Prelude.{◌≡◌, ◌++◌, ◌∷◌, [], None, Some, OnOk, map, slice_get};
+ghost use Rattle.std.specs.Prelude.{◌≡◌, ◌∷◌, [], None, Some, OnOk, map, slice_get};
 ghost use Rattle.c_tree.specs.Erased.{local_of};
 ghost use Rattle.c_tree.specs.declared.types.ValueType.TheVariants.{Integer};
 ghost use Rattle.flow_graph.specs.declared.op.Op.TheVariants as op;
 ghost use Rattle.lower_builder.specs.Built.{Adds};
-ghost use Rattle.lower_lines.specs.Expressions.{parameters_of, result_lines, words_of};
+ghost use Rattle.lower_lines.specs.Expressions.{parameters_of, result_lines};
 ghost use Rattle.lower_lines.specs.Lines.{Emit};
 ghost use Rattle.lower_lines.specs.Parts.{made, target};
 ghost use Rattle.lower_moves.specs.Sites.{context_of};
-ghost use Rattle.lower_moves.specs.Spots.{spot_of};
 ghost use Rattle.lower_moves.specs.Views.{wanted_of};
-ghost use Rattle.lower_rows.specs.Rows.{parameter_type, passed_type};
+ghost use Rattle.lower_rows.specs.Rows.{parameter_type};
 
 use c_tree::{IntegerType, Local, ValueType};
 use flow_graph::{Op, Words};
 use lower_builder::Lines;
-use lower_moves::{Site, Spot, Wanted, target};
+use lower_moves::{Site, Wanted, target};
 use lower_pieces::tested_number;
 use pcc_base::NoMemory;
 
@@ -43,37 +42,6 @@ pub fn parameter_type(site: &Site<'_>, f: u32, place: usize) -> Option<ValueType
         }
         None => None,
     }
-}
-
-/// The type of an argument as its parameter takes it.
-pub fn passed_type(parameter: Option<ValueType>, of: ValueType) -> ValueType
-    ensures { result ≡ passed_type parameter of }
-{
-    match parameter {
-        None => of,
-        Some(ValueType::Void) => of,
-        Some(ValueType::Integer(_)) => of,
-        Some(ValueType::Pointer(t)) => match of {
-            ValueType::Void => ValueType::Pointer(t),
-            ValueType::Integer(_) => ValueType::Pointer(t),
-            ValueType::Pointer(_) => of,
-        },
-    }
-}
-
-/// The words of an argument: a pointer is passed as its array and its index.
-pub fn push_words(words: &mut Vec<u32>, of: ValueType, spot: Spot) -> Result<(), NoMemory>
-    ensures { OnOk result (words.new.items ≡ words.old.items ++ words_of of (spot_of spot)) }
-{
-    match of {
-        ValueType::Void => {}
-        ValueType::Integer(_) => words.push(spot.number)?,
-        ValueType::Pointer(_) => {
-            words.push(spot.array)?;
-            words.push(spot.number)?;
-        }
-    }
-    Ok(())
 }
 
 /// A call whose result is taken.

@@ -24,7 +24,7 @@ mod ways;
 
 pub use after::{After, Exits};
 pub use ahead::Ahead;
-pub use calls::{call_made, parameter_type, passed_type, push_words};
+pub use calls::{call_made, parameter_type};
 pub use ends::{go_onward, leave, start_dead, start_exit, take_dead, take_exit};
 pub use found::Found;
 pub use kinds::{is_simple, number_type, part_type, stands};
@@ -32,7 +32,7 @@ pub use names::{set_local, set_object, step_local, step_object};
 pub use parameters::take_parameters;
 pub use places::{element_at, read_found, step_found};
 pub use rows::{
-    NumberOp, byte_set, element_sum, exit_with, getchar, load_old, loaded, narrow_made,
+    NumberOp, byte_set, converted, element_sum, exit_with, getchar, load_old, loaded, narrow_made,
     number_made, put, renew, renewed, store, stored,
 };
 pub use ways::{Ways, end_ways, join, open_ways, own_blocks, start_joined};

@@ -23,8 +23,8 @@ use c_tree::{BinaryOp, IntegerType, StepOp, ValueType};
 use lower_builder::{Lines, plus};
 use lower_leaves::{constant, local, local_operand};
 use lower_moves::{Site, Spot, Wanted, delivered};
-use lower_objects::object;
 use lower_pieces::applied;
+use lower_values::object;
 use pcc_base::NoMemory;
 
 /// Where an operator's value goes that a local of a type gets: to the local, if it is as wide.

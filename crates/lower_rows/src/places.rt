@@ -18,13 +18,13 @@ ghost use Rattle.lower_rows.specs.Rows.{element_at, element_lines, stepping};
 use crate::found::Found;
 use crate::kinds::number_type;
 use crate::names::{step_local, step_object, step_op};
-use crate::{element_sum, load_old, loaded, renewed};
+use crate::{converted, element_sum, load_old, loaded, renewed};
 use c_tree::{IntegerType, StepOp, ValueType};
 use flow_graph::Op;
 use lower_builder::{Lines, plus};
 use lower_leaves::local;
-use lower_moves::{Site, Spot, Wanted, converted, delivered};
-use lower_objects::object;
+use lower_moves::{Site, Spot, Wanted, delivered};
+use lower_values::object;
 use pcc_base::NoMemory;
 
 /// The value of a place that was found.

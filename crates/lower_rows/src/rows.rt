@@ -22,9 +22,9 @@ use c_tree::{BinaryOp, IntegerType, ValueType};
 use flow_graph::Op;
 use lower_builder::{Lines, plus};
 use lower_leaves::local;
-use lower_moves::{Site, Spot, Wanted, converted, converting, copied, target};
-use lower_objects::bits_of;
+use lower_moves::{Site, Spot, Wanted, copied, number_test, target};
 use lower_pieces::{computing, tested_number};
+use lower_values::{bits_of, converting};
 use pcc_base::NoMemory;
 
 /// An op on one number.
@@ -76,6 +76,36 @@ pub fn narrow_made(
     let to = target(site, level, wanted)?;
     converting(lines, site, level, t, to.number, x)?;
     tested_number(lines, site, level, wanted, t)
+}
+
+/// A number that stands in a variable, in an integer type, for what is wanted of it.
+pub fn converted(
+    lines: &mut Lines,
+    site: &Site<'_>,
+    level: u32,
+    wanted: Wanted,
+    t: IntegerType,
+    x: u32,
+) -> Result<(), NoMemory>
+    ensures { OnOk result (Adds lines.old lines.new 0
+        (converted_lines (context_of site.now) lines.old.next level (wanted_of wanted) t x)) }
+{
+    match wanted {
+        Wanted::Dropped => Ok(()),
+        Wanted::Own => {
+            let own = site.own(level)?;
+            converting(lines, site, level, t, own.number, x)
+        }
+        Wanted::ToLocal(local) => {
+            let to = site.spot(local);
+            converting(lines, site, level, t, to.number, x)
+        }
+        Wanted::Tests(holds, fails) => {
+            let own = site.own(level)?;
+            converting(lines, site, level, t, own.number, x)?;
+            number_test(lines, site, level, own.number, holds, fails)
+        }
+    }
 }
 
 /// An element's value, for what is wanted of it.

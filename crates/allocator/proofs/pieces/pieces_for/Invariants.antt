@@ -1,5 +1,5 @@
 use Rattle.std.proofs.Common.{◌≡◌, take}
-use Rattle.elementary_form.specs.PointBoards.{pieces_of_all}
+use Rattle.allocator_boards.specs.PointBoards.{pieces_of_all}
 use Rattle.allocator.proofs.pieces.pieces_for.Given as goal
 
 abbrev pub invariant-loop-i : goal.invariant-loop-i

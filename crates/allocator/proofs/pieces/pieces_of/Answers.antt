@@ -4,7 +4,7 @@ use Rattle.std.specs.Prelude.{slice_get}
 use Rattle.flow_graph.specs.Graphs.{Flow, IsFlow}
 use Rattle.flow_graph.specs.Liveness.{defined}
 use Rattle.flow_graph.specs.Lives.{IsAscending, at_point}
-use Rattle.elementary_form.specs.PointBoards.{with_result}
+use Rattle.allocator_boards.specs.PointBoards.{with_result}
 use Rattle.allocator_boards.proofs.Ordered.{few-is, if-ok, order-is, value-is, vars-within}
 use Rattle.allocator.proofs.pieces.pieces_of.Goals as goal
 

@@ -1,5 +1,5 @@
 use Rattle.std.proofs.Common.{◌∙◌}
-use Rattle.elementary_form.proofs.Placing.{listed-told}
+use Rattle.allocator_boards.proofs.Placing.{listed-told}
 use Rattle.allocator_boards.proofs.variables.is_listed.Goals as goal
 
 pub returns : goal.returns

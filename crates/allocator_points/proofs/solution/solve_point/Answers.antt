@@ -9,7 +9,7 @@ use Rattle.puzzle_solver.specs.Solved.{IsSolved}
 use Rattle.puzzle_choices.specs.declared.order.Candidate.{Candidate}
 use Rattle.puzzle_choices.specs.Orders.{IsSpillOrder}
 use Rattle.puzzle_solver.specs.Prefixes.{IsShortest, without_variables}
-use Rattle.elementary_form.specs.PointBoards.{areas_of}
+use Rattle.allocator_boards.specs.PointBoards.{areas_of}
 use Rattle.allocator_boards.specs.PointPuzzles.{point_puzzle, puzzle_of}
 use Rattle.allocator_boards.specs.Solutions.{AreSpots}
 use Rattle.allocator_boards.specs.Spills.{AreCandidates}

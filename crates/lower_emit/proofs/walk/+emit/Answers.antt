@@ -20,7 +20,8 @@ use Rattle.lower_rows.proofs.Naming.{local-assigned, object-updated}
 use Rattle.lower_rows.proofs.Placing.{after-nothing, element-found, element-spot, found-local, found-object}
 use Rattle.lower_rows.proofs.Placing.{target-found}
 use Rattle.lower_emit.proofs.Alike.{alike, owned, typed-alike}
-use Rattle.lower_rows.specs.Rows.{passed_as, passed_type}
+use Rattle.lower_values.specs.Arguments.{passed_type}
+use Rattle.lower_rows.specs.Rows.{passed_as}
 use Rattle.lower_emit.specs.Passing.{passed_from}
 use Rattle.lower_emit.proofs.Calling.{IsPassing, passed-past, passing-all, passing-more, passing-none, row_is}
 use Rattle.lower_emit.proofs.Joining.{assign-object, conditional-whole, passed-is, passed-there, stays-both}
