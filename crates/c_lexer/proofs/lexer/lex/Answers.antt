@@ -1,4 +1,5 @@
 -- Each turn adds one piece at the end of those that stand.
+use Rattle.std.proofs.lemmas.Grind.{common_steps}
 use Rattle.std.proofs.Common.{◌≡◌, ◌++◌, arith, refl, length, inl, inr}
 use Rattle.std.proofs.lemmas.Bool.Decides.{nat_tests}
 use Rattle.std.proofs.lemmas.List.{nil_from_length}
@@ -46,3 +47,12 @@ loop-rest-preserved c =
       line = omega arith;
       col = omega arith;
     }
+
+pub returns-in_err-keep-clause-tokens : goal.returns-in_err-keep-clause-tokens
+returns-in_err-keep-clause-tokens c = grind arith
+
+pub returns-in_err-keep-clause-few : goal.returns-in_err-keep-clause-few
+returns-in_err-keep-clause-few c = grind arith
+
+pub returns-clause-tokens : goal.returns-clause-tokens
+returns-clause-tokens c = grind (arith, common_steps)

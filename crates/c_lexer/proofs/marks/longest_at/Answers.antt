@@ -1,3 +1,4 @@
+use Rattle.std.proofs.lemmas.Grind.{common_steps}
 use Rattle.std.proofs.Common.{◌<◌, length, arith}
 use Rattle.std.proofs.lemmas.Bool.Decides.{nat_tests}
 use Rattle.c_tokens.proofs.MarkPieces.{NoneOf, none_of_few, none_of_one, none_of_two, none_of_three}
@@ -42,3 +43,6 @@ returns c =
     ] in
     let some : 0 < length c.args.rest.now = grind (arith, nat_tests, c.if-is_empty.ensures) in
     longest_one c.args.rest.now _ some threes twos c.in_ok-mark.ensures
+
+pub returns-in-Some : goal.returns-in-Some
+returns-in-Some c = grind (arith, common_steps)

@@ -1,3 +1,4 @@
+use Rattle.std.proofs.Common.{arith}
 use Rattle.std.proofs.Common.{[], ◌∷◌}
 use Rattle.c_tokens.proofs.Fronts.{starts_not}
 use Rattle.c_tokens.proofs.MarkPieces.{mark_begins, no_mark_begins}
@@ -13,3 +14,6 @@ returns c = λ fresh.
     mark_begins fresh c.args.rest.now _ _ c.requires.byte c.requires.number
     (λ more. starts_not c.args.rest.now (37 ∷ 58 ∷ []) _ c.starts_with.ensures.value c.if-starts_with.false more)
     c.in_ok-length.ensures
+
+pub returns-then-starts_with : goal.returns-then-starts_with
+returns-then-starts_with c = grind arith

@@ -1,3 +1,4 @@
+use Rattle.std.proofs.lemmas.Grind.{common_steps}
 use Rattle.std.proofs.Common.{◌≡◌, ◌≤◌, ◌⊎◌, ℕ, ℤ, List, MatchOption, pos, get_or, inl, inr, subst, arith}
 use Rattle.std.proofs.lemmas.List.{take_rest}
 use Rattle.std.proofs.lemmas.Bool.Decides.{nat_tests}
@@ -20,3 +21,9 @@ returns-then-text-eq88 c =
     (λ (z : ℤ). AllPass is_hexadecimal_digit ds × (number_in 16 ds ≤ 2147483647) × (z ≡ pos (number_in 16 ds))))
     (take_rest text 2) c.value_in-then-text-eq88.ensures in
     hexadecimal_result c.value_in-then-text-eq88.result text c.if-text-gt2.true c.if-text-ne48.false letter digits
+
+pub returns-then-text-ne48 : goal.returns-then-text-ne48
+returns-then-text-ne48 c = grind (arith, common_steps)
+
+pub returns : goal.returns
+returns c = grind (arith, common_steps)

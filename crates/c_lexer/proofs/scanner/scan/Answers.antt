@@ -1,4 +1,6 @@
 -- What each part says for every `fresh` holds for the one given.
+use Rattle.std.proofs.Common.{arith}
+use Rattle.std.proofs.lemmas.Grind.{common_steps}
 use Rattle.c_lexer.proofs.scanner.scan.Goals as goal
 
 pub returns-then-is_letter : goal.returns-then-is_letter
@@ -18,3 +20,9 @@ returns-then-first-eq47 c = c.slash_at.ensures c.args.fresh
 
 pub returns : goal.returns
 returns c = c.mark_at.ensures c.args.fresh
+
+pub word_at-requires : goal.word_at-requires
+word_at-requires c = grind (arith, common_steps)
+
+pub mark_at-requires-clause-byte : goal.mark_at-requires-clause-byte
+mark_at-requires-clause-byte c = grind (arith, common_steps)

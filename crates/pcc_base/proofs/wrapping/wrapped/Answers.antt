@@ -28,3 +28,9 @@ returns-else-low-half-clause-congruent c =
     (c.rem_euclid-low.ensures.value ∙ (λ i. int_rem_euclid (number i) (modulus i))) in
     subst (λ x. IsCongruent (pos 2 *ℤ c.args.half) c.args.n x) (sym shown)
     (less_congruent c.args.n (pos 2 *ℤ c.args.half) _ low)
+
+pub overflow_sub-result : goal.overflow_sub-result
+overflow_sub-result c = omega (arith, ints)
+
+pub returns-else-low-half-clause-above : goal.returns-else-low-half-clause-above
+returns-else-low-half-clause-above c = omega (arith, ints)

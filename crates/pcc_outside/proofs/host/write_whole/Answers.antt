@@ -1,4 +1,5 @@
 -- A write appends what it took of the rest, and one that a signal interrupted appends nothing.
+use Rattle.std.proofs.lemmas.Grind.{common_steps}
 use Rattle.std.proofs.Common.{◌-◌, length, take, drop, arith, subst, sym, length-drop}
 use Rattle.std.proofs.lemmas.List.{length-take}
 use Rattle.std.proofs.KnownBytes.{Appends-kept}
@@ -32,3 +33,6 @@ loop-preserved g c =
             (Appends-kept _ (g.W.Write.contents c.loop.writer) _ _ c.loop.invariant.appended w.in-Err.ensures.bytes);
       }
     ]
+
+pub returns-then-done-bytes-clause-whole : goal.returns-then-done-bytes-clause-whole
+returns-then-done-bytes-clause-whole g c = grind (arith, common_steps)
