@@ -97,7 +97,7 @@ fn compile<'a>(alloc: Global) -> Result<Command<'a>, AllocError>
     match begun(
         alloc,
         "compile",
-        "Compiles C files to an image, with the map of its registers and slots",
+        "Compiles C files to an image, with a map of where its variables are",
         name(alloc),
     ) {
         Ok(command) => command.arg(sources(alloc)),
