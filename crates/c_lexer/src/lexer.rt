@@ -23,19 +23,15 @@ pub fn lex(alloc: Global, file: u32, text: &[u8], most: usize) -> Result<Vec<Tok
         line: 1,
         col: 1,
     };
-    let Ok(mut met) = Recent::new(alloc) else {
-        return Err(Refusal::NoMemory);
-    };
+    let mut met = Recent::new(alloc)?;
     let mut fresh = true;
     let mut rest = text;
     while !rest.is_empty() {
-        let (length, scanned) = match scan(alloc, &mut met, fresh, rest) {
-            Ok(Some(found)) => found,
-            Ok(None) => return Err(Refusal::Fault(Fault {
+        let Some((length, scanned)) = scan(alloc, &mut met, fresh, rest)? else {
+            return Err(Refusal::Fault(Fault {
                 kind: fault_of(rest),
                 at,
-            })),
-            Err(_) => return Err(Refusal::NoMemory),
+            }));
         };
         let (piece, others) = rest.split_at(length);
         fresh = fresh_behind(fresh, &scanned, piece);

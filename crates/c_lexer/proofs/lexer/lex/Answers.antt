@@ -11,10 +11,10 @@ use Rattle.c_lexer.proofs.lexer.lex.Goals as goal
 
 pub returns-in_err-keep-clause-refused : goal.returns-in_err-keep-clause-refused
 returns-in_err-keep-clause-refused c =
-    let b = rw c.in-Ok-Some.field-0-is at c.in-Ok-Some.ensures in
-    let p = err_from_is_err_and c.from_residual.result c.from_residual.ensures.1 in
+    let b = rw c.in-Some.is at c.in_ok-length.ensures in
+    let p = err_from_is_err_and c.from_residual-in_err-keep.result c.from_residual-in_err-keep.ensures.1 in
     let s : Stands c.args.file c.args.text.now (c.loop-rest.tokens.items
-    ++ tokens_of (piece_of c.in-Ok-Some.found.1) c.loop-rest.at) c.split_at.result.1.now
+    ++ tokens_of (piece_of c.in-Some.scanned) c.loop-rest.at) c.split_at.result.1.now
     (place_after c.loop-rest.at c.split_at.result.0.now) c.fresh_behind-fresh.result =
     stands_more _ _ _ _ _ _ _ _ _ _ _ _ _ c.loop-rest.invariant.stands b c.split_at.ensures.front
     c.split_at.ensures.back refl refl c.fresh_behind-fresh.ensures in
@@ -25,7 +25,7 @@ returns-in_err-keep-clause-refused c =
 
 pub returns-then-is_empty-clause-tokens : goal.returns-then-is_empty-clause-tokens
 returns-then-is_empty-clause-tokens c =
-    let b = rw c.in-Ok-Some.field-0-is at c.in-Ok-Some.ensures in
+    let b = rw c.in-Some.is at c.in_ok-length.ensures in
     let s : Stands c.args.file c.args.text.now c.keep.new.tokens.items c.split_at.result.1.now
     (place_after c.loop-rest.at c.split_at.result.0.now) c.fresh_behind-fresh.result =
     stands_more _ _ _ _ _ _ _ _ _ _ _ _ _ c.loop-rest.invariant.stands b c.split_at.ensures.front
@@ -36,7 +36,7 @@ returns-then-is_empty-clause-tokens c =
 
 pub loop-rest-preserved : goal.loop-rest-preserved
 loop-rest-preserved c =
-    let b = rw c.in-Ok-Some.field-0-is at c.in-Ok-Some.ensures in
+    let b = rw c.in-Some.is at c.in_ok-length.ensures in
     record {
       stands = stands_more _ _ _ _ _ _ _ _ _ _ _ _ _ c.loop-rest.invariant.stands b c.split_at.ensures.front
           c.split_at.ensures.back c.in_ok-keep.ensures.kept c.advance-at.ensures.place c.fresh_behind-fresh.ensures;
