@@ -1,6 +1,7 @@
 pub mod Closing
 pub mod DigitFronts
 pub mod FirstBytes
+pub mod FrontLengths
 pub mod Fronts
 pub mod Leading
 pub mod LiteralReading

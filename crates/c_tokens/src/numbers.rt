@@ -16,9 +16,9 @@ fn goes_on(before: u8, b: u8) -> bool
         (is_exponent_letter before && (b == plus || b == minus))) }
 {
     match b {
-        b'0'..=b'9' | b'A'..=b'Z' | b'a'..=b'z' | b'_' | b'.' => true,
+        b'_' | b'.' => true,
         b'+' | b'-' => matches!(before, b'e' | b'E' | b'p' | b'P'),
-        _ => false,
+        _ => b.is_ascii_alphanumeric(),
     }
 }
 

@@ -23,12 +23,10 @@ pub fn line_length(bytes: &[u8]) -> usize
     ensures count { result ≡ prefix_len (λ b. not (b == newline)) bytes.now }
     ensures within { result ≤ length bytes.now }
 {
-    for (i, b) in bytes.iter().enumerate() {
-        if *b == b'\n' {
-            return i;
-        }
-    }
-    bytes.len()
+    bytes
+        .iter()
+        .position(|b| *b == b'\n')
+        .unwrap_or(bytes.len())
 }
 
 /// How many spaces and tabs the bytes begin with.
@@ -36,12 +34,10 @@ fn blank_count(bytes: &[u8]) -> usize
     ensures count { result ≡ prefix_len is_blank bytes.now }
     ensures within { result ≤ length bytes.now }
 {
-    for (i, b) in bytes.iter().enumerate() {
-        if *b != b' ' && *b != b'\t' {
-            return i;
-        }
-    }
-    bytes.len()
+    bytes
+        .iter()
+        .position(|b| *b != b' ' && *b != b'\t')
+        .unwrap_or(bytes.len())
 }
 
 /// Whether the bytes begin with the word `pragma`.

@@ -122,12 +122,9 @@ fn word_length(rest: &[u8]) -> usize
     ensures word { AllPass is_word_byte (take result rest.now) }
     ensures longest { StartsNot is_word_byte (drop result rest.now) }
 {
-    for (i, byte) in rest.iter().enumerate() {
-        if !is_word_byte(*byte) {
-            return i;
-        }
-    }
-    rest.len()
+    rest.iter()
+        .position(|byte| !is_word_byte(*byte))
+        .unwrap_or(rest.len())
 }
 
 /// The identifier or keyword that begins the rest (C99 6.4.1, 6.4.2), and None where it is an `L` before
