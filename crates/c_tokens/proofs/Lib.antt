@@ -13,6 +13,5 @@ pub mod OneSpelling
 pub mod OneValue
 pub mod PieceStarts
 pub mod QuotePieces
-pub mod Rows
 pub mod SkipPieces
 pub mod WordPieces

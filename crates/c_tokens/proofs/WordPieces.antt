@@ -1,30 +1,15 @@
 -- The longest run of word bytes behind a letter is a piece.
-use Rattle.std.proofs.Common.{◌≡◌, ◌≢◌, ◌⊎◌, ◌<◌, ◌≤◌, inl, inr, ℕ, zero, suc, Bool, true, false, List, [], ◌∷◌, eqb}
-use Rattle.std.proofs.Common.{take, drop, length, get_or, refl, sym, ◌∙◌, ap, subst, arith, IsTrue}
+use Rattle.std.proofs.Common.{◌≡◌, ◌⊎◌, ◌<◌, ◌≤◌, inl, inr, ℕ, zero, suc, Bool, true, false, List, [], ◌∷◌, eqb}
+use Rattle.std.proofs.Common.{take, drop, length, refl, sym, ◌∙◌, ap, subst, arith, IsTrue}
 use Rattle.c_tokens.specs.declared.token.TokenKind.TheVariants as kinds
-use Rattle.std.specs.List.{starts_with, AllByRecursion, Contains}
+use Rattle.std.specs.List.{starts_with}
 use Rattle.pcc_base.specs.declared.keyword.Keyword.{Keyword}
-use Rattle.pcc_base.specs.declared.keyword.Keyword.TheVariants as words
 use Rattle.c_tokens.specs.Bytes.{is_letter, is_word_byte}
 use Rattle.c_tokens.specs.Spellings.{keyword_text}
 use Rattle.c_tokens.specs.Literals.{AllPass, StartsNot}
 use Rattle.c_tokens.specs.Pieces.{Piece, Spelled, IsPiece, IsBarred, IsNoKeyword, Begins}
 use Rattle.c_tokens.proofs.Fronts.{starts_not}
-use Rattle.c_tokens.proofs.Rows.{all_contains}
 use Rattle.c_tokens.proofs.FirstBytes.{kind_of, letter_kind, letter_in_word, letter_is_not, letter_starts_no_number}
-
--- no keyword is empty
-pub no_empty_keyword : IsNoKeyword []
-no_empty_keyword words.Auto e = cc
-no_empty_keyword _ e = cc
-
--- a word that differs from each keyword of a row, which has all that begin as it does, is none
-pub none_of_row : (row : List Keyword) (word : List ℕ) → 0 < length word
-    → ((k : Keyword) (others : List ℕ) → keyword_text k ≡ get_or word 0 0 ∷ others → Contains row k)
-    → AllByRecursion (λ k. keyword_text k ≢ word) row → IsNoKeyword word
-none_of_row row [] some held all k e = absurd (omega arith)
-none_of_row row (b ∷ others) some held all k e =
-    all_contains (λ k. keyword_text k ≢ b ∷ others) row k all (held k others e) e
 
 -- a run that stops at n isn't longer
 stops : (test : ℕ → Bool) (rest : List ℕ) (n m : ℕ) → AllPass test (take m rest) → StartsNot test (drop n rest) → n < m

@@ -97,16 +97,10 @@ fn keywords_from(first: u8) -> &'static [Keyword]
 fn keyword_of(word: &[u8]) -> Option<Keyword>
     ensures { MatchOption result (IsNoKeyword word.now) (λ k. keyword_text k ≡ word.now) }
 {
-    if word.is_empty() {
-        return None;
-    }
-    let row = keywords_from(word[0]);
-    for keyword in row {
-        if spelling(*keyword) == word {
-            return Some(*keyword);
-        }
-    }
-    None
+    let row = keywords_from(*word.first()?);
+    row.iter()
+        .copied()
+        .find(|keyword| spelling(*keyword) == word)
 }
 
 /// Whether the byte may stand in an identifier (C99 6.4.2.1).

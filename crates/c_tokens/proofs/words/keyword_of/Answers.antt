@@ -1,37 +1,31 @@
-use Rattle.std.proofs.Common.{◌≡◌, ◌≢◌, ◌<◌, ℕ, length, Bool, true, false, eqb, arith, List, sym, subst, ◌∙◌}
-use Rattle.std.specs.Cmp.Lexicographic.{pointwise}
+use Rattle.std.proofs.Common.{◌≡◌, ◌≢◌, ℕ, List, [], ◌∷◌, length, subst, sym, arith, rules, tests}
+use Rattle.std.specs.List.{AllWithin, Contains, slice_get}
+use Rattle.std.specs.Prelude.{Some}
+use Rattle.std.proofs.lemmas.Iterator.{YieldsList-from_slice, first_from_find}
+use Rattle.std.proofs.lemmas.Iterator.Consumers.{YieldsList-from_copied}
 use Rattle.std.proofs.lemmas.Slice.Eq.{bytes_eq-Decides}
-use Rattle.c_tokens.specs.Spellings.{keyword_text}
-use Rattle.std.proofs.lemmas.Bool.Decides.{nat_tests}
-use Rattle.std.specs.List.{AllByRecursion}
-use Rattle.std.proofs.lemmas.List.{nil_from_length, take_all}
+use Rattle.pcc_base.specs.declared.keyword.Keyword.{Keyword}
 use Rattle.c_tokens.specs.Pieces.{IsNoKeyword}
-use Rattle.c_tokens.proofs.Rows.{more}
-use Rattle.c_tokens.proofs.WordPieces.{no_empty_keyword, none_of_row}
+use Rattle.c_tokens.specs.Spellings.{keyword_text}
 use Rattle.c_tokens.proofs.words.keyword_of.Goals as goal
 
--- two texts that the test tells apart differ
-differs : (r : Bool) (s w t : List ℕ) → r ≡ pointwise eqb s w → r ≡ false → s ≡ t → t ≢ w
-differs r s w t is apart e same =
-    let yes : pointwise eqb s w ≡ true = (bytes_eq-Decides s w).1 (e ∙ same) in
-    let clash : true ≡ false = sym yes ∙ sym is ∙ apart in
-    cc
-
-pub loop-keyword-preserved : goal.loop-keyword-preserved
-loop-keyword-preserved c =
-    more (λ k. keyword_text k ≢ c.args.word.now) _ c.loop-keyword.keyword-index _ (omega arith) c.loop-keyword.invariant
-    (differs _ _ _ _ c.eq.ensures c.if-eq.false c.spelling.ensures)
-
-pub returns-then-is_empty : goal.returns-then-is_empty
-returns-then-is_empty c =
-    let none : length c.args.word.now ≡ 0 = grind (arith, nat_tests, c.is_empty.ensures, c.if-is_empty.true) in
-    subst IsNoKeyword (sym (nil_from_length c.args.word.now none)) no_empty_keyword
+-- a word that differs from each keyword of a row, which has all that begin as it does, is none
+none_of_row : (row : List Keyword) (word : List ℕ) (first : ℕ) → Some first ≡ slice_get word 0
+    → ((k : Keyword) (others : List ℕ) → keyword_text k ≡ first ∷ others → Contains row k)
+    → AllWithin (λ k. keyword_text k ≢ word) row 0 (length row) → IsNoKeyword word
+none_of_row row [] first begins held none k e = absurd cc
+none_of_row row (b ∷ others) first begins held none k e =
+    let same : first ≡ b = cc in
+    let at = held k others (subst (λ (n : ℕ). keyword_text k ≡ n ∷ others) (sym same) e) in
+    subst (λ (k : Keyword). keyword_text k ≢ b ∷ others) at.2 (none at.0 k (omega arith) at.1) e
 
 pub returns : goal.returns
 returns c =
+    let word = c.args.word.now in
     let row = c.keywords_from-row.result.now in
-    let some : 0 < length c.args.word.now = grind (arith, nat_tests, c.if-is_empty.ensures) in
-    let all : AllByRecursion (λ k. keyword_text k ≢ c.args.word.now) row =
-    subst (AllByRecursion (λ k. keyword_text k ≢ c.args.word.now))
-    (take_all c.loop-keyword.keyword-index row c.loop-keyword-test.false) c.loop-keyword.invariant in
-    none_of_row row c.args.word.now some c.keywords_from-row.ensures all
+    let none =
+    none_of_row row word c.in_ok-first.field-0.now c.in_ok-first.ensures.value c.keywords_from-row.ensures in
+    let first = first_from_find _ _ c.find.result (λ k. keyword_text k ≡ word) (λ k. keyword_text k ≢ word)
+    c.find.ensures.ran (YieldsList-from_copied (YieldsList-from_slice row cc))
+    (λ k q called. search (rules, tests, bytes_eq-Decides)) (λ k q called. search (rules, tests, bytes_eq-Decides)) in
+    search rules
