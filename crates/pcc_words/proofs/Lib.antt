@@ -1,7 +1,6 @@
 mod Texts
 mod Numbers
 mod Rows
-mod Clashes
 mod Told
 mod Grown
 mod Refused

@@ -108,12 +108,7 @@ fn are_many(sources: &[&str]) -> bool
 fn is_any_written(name: &str, sources: &[&str]) -> bool
     ensures { result ≡ clashes name.now (map (λ s. s.now) sources.now) }
 {
-    for source in sources {
-        if is_written(name, source) {
-            return true;
-        }
-    }
-    false
+    sources.iter().any(|source| is_written(name, source))
 }
 
 /// `compile`, where NAME and NAME.map are other names than each SRC.

@@ -1,17 +1,13 @@
-use Rattle.pcc_words.proofs.Clashes.{none_written, not_written, written}
+use Rattle.std.proofs.Common.{◌∙◌, ◌||◌, List, ℕ, bytes_eq, rules, tests}
+use Rattle.std.proofs.lemmas.Iterator.{YieldsList-from_slice}
+use Rattle.std.proofs.lemmas.Iterator.Search.{any_from_yields_List}
+use Rattle.std.specs.Borrow.{Bor}
+use Rattle.clap.proofs.WalkLemmas.{list_any-map}
+use Rattle.pcc_words.specs.Asked.{map_name}
 use Rattle.pcc_words.proofs.asked.is_any_written.Goals as goal
-
-pub returns-then-is_written : goal.returns-then-is_written
-returns-then-is_written c =
-    written c.args.name.now c.args.sources.now c.loop-source.source-index _ c.is_written.result c.loop-source-test.true
-    c.is_written.ensures c.if-is_written.true c.loop-source.invariant
-
-pub loop-source-preserved : goal.loop-source-preserved
-loop-source-preserved c =
-    not_written c.args.name.now c.args.sources.now c.loop-source.source-index _ c.is_written.result
-    c.loop-source-test.true c.is_written.ensures c.if-is_written.false c.loop-source.invariant
 
 pub returns : goal.returns
 returns c =
-    none_written c.args.name.now c.args.sources.now c.loop-source.source-index c.loop-source-test.false
-    c.loop-source.invariant
+    any_from_yields_List (λ s. bytes_eq c.args.name.now s.now || bytes_eq (map_name c.args.name.now) s.now) _ _ _
+    c.any.ensures.ran (YieldsList-from_slice c.args.sources.now cc) (λ x b q k. search (rules, tests))
+    ∙ list_any-map _ (λ (s : Bor (List ℕ)). s.now) c.args.sources.now
