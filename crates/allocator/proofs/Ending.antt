@@ -4,6 +4,7 @@ use Rattle.std.proofs.Common.{arith, Result, Ok, Err, OnOk}
 use Rattle.std.specs.List.{AllByRecursion}
 use Rattle.std.specs.Prelude.{option_map, slice_get}
 use Rattle.std.proofs.lemmas.Option.{same_Some, slice_get_within}
+use Rattle.pcc_base.proofs.Lists.{all-at}
 use Rattle.flow_graph.specs.declared.op.Op.{Op}
 use Rattle.flow_graph.specs.Graphs.{Flow, IsFlow, IsPlaced}
 use Rattle.flow_graph.specs.Lives.{IsLives, Lives, at_point}
@@ -24,7 +25,6 @@ use Rattle.allocator_boards.specs.Slots.{AreGiven, AreSpilled}
 use Rattle.allocator_boards.specs.Solutions.{ArePlaces, AreSpots}
 use Rattle.allocator_boards.specs.Spills.{HasPiece, IsSpilledAt}
 use Rattle.allocator_boards.proofs.Ordered.{all-of, vars-within}
-use Rattle.allocator_boards.proofs.Listing.{all-at}
 use Rattle.allocator.proofs.Doing.{done-more, slots-here, spilled-here}
 use Rattle.allocator.proofs.Points.{point-legal}
 

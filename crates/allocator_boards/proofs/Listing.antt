@@ -5,6 +5,7 @@ use Rattle.std.proofs.Common.{◌∙◌}
 use Rattle.std.specs.Prelude.{slice_get}
 use Rattle.std.specs.List.{AllByRecursion}
 use Rattle.std.proofs.lemmas.Option.{none-some, same_Some, slice_get-get_or}
+use Rattle.pcc_base.proofs.Lists.{all-at, all-push}
 use Rattle.flow_graph.specs.Graphs.{Flow, IsDistinct, IsIn}
 use Rattle.flow_graph.specs.Lives.{IsAscending}
 use Rattle.flow_graph.proofs.Ascending.{ascending-push}
@@ -17,12 +18,6 @@ use Rattle.allocator_boards.proofs.OneMore.{every-here}
 use Rattle.allocator_boards.specs.Spills.{AreCandidates, AreListed, HasDistance, HasPiece, IsNewAt, variables_of}
 
 -- ---- pieces by their numbers
-
-pub all-at :
-    {A : Type 0} (P : A → Type 0) (xs : List A) (k : ℕ) (x : A) → AllByRecursion P xs → slice_get xs k ≡ Some x → P x
-all-at P [] k x h e = absurd (none-some x e)
-all-at P (y ∷ xs) zero x h e = subst P (same_Some y x e) h.0
-all-at P (y ∷ xs) (suc k) x h e = all-at P xs k x h.1 e
 
 pub order-at :
     (pieces : List Piece) (j k : ℕ) (p q : Piece) → AreInOrder pieces → slice_get pieces j ≡ Some p
@@ -112,11 +107,6 @@ variables-push :
     (cs : List Candidate) (c : Candidate) → variables_of (cs ++ c ∷ []) ≡ variables_of cs ++ c.variable ∷ []
 variables-push [] c = refl
 variables-push (d ∷ cs) c = ap (λ (vs : List ℕ). d.variable ∷ vs) (variables-push cs c)
-
-all-push :
-    {A : Type 0} (P : A → Type 0) (xs : List A) (x : A) → AllByRecursion P xs → P x → AllByRecursion P (xs ++ x ∷ [])
-all-push P [] x h p = (p, tt)
-all-push P (y ∷ xs) x h p = (h.0, all-push P xs x h.1 p)
 
 pub listed-none : (lists : List (List (ℕ × ℕ))) (point : ℕ) → AreListed lists point [] []
 listed-none lists point = record {

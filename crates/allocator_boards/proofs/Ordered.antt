@@ -14,6 +14,7 @@ use Rattle.elementary_form.specs.Names.{is_named}
 use Rattle.std.specs.Prelude.{option_map, slice_get}
 use Rattle.std.specs.List.{AllByRecursion}
 use Rattle.std.proofs.lemmas.List.{append-nil, length-append, map-append, take_more}
+use Rattle.pcc_base.proofs.Lists.{all-append, all-weaker}
 use Rattle.flow_graph.specs.declared.op.Op.{Op}
 use Rattle.flow_graph.specs.Graphs.{Flow, IsFlow, IsPlaced, has_point}
 use Rattle.flow_graph.specs.Liveness.{defined}
@@ -32,17 +33,6 @@ use Rattle.allocator_boards.proofs.Fixing.{defined-within}
 use Rattle.allocator_boards.proofs.OneMore.{ascending-result, every-here, every-one, few}
 
 -- ---- lists
-
-all-append :
-    {A : Type 0} (P : A → Type 0) (xs ys : List A) → AllByRecursion P xs → AllByRecursion P ys
-    → AllByRecursion P (xs ++ ys)
-all-append P [] ys h g = g
-all-append P (x ∷ xs) ys h g = (h.0, all-append P xs ys h.1 g)
-
-all-weaker :
-    {A : Type 0} (P Q : A → Type 0) (xs : List A) → ((x : A) → P x → Q x) → AllByRecursion P xs → AllByRecursion Q xs
-all-weaker P Q [] f h = tt
-all-weaker P Q (x ∷ xs) f h = (f x h.0, all-weaker P Q xs f h.1)
 
 -- ---- the pieces of one variable
 

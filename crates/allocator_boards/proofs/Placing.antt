@@ -11,10 +11,9 @@ use Rattle.std.proofs.lemmas.Bool.{cases_eq}
 use Rattle.std.proofs.lemmas.List.{append-nil, get_or-set_other, get_or-set_same, length-append, length-take-le}
 use Rattle.std.proofs.lemmas.List.{take_more}
 use Rattle.std.proofs.lemmas.List.Sorted.{searched}
-use Rattle.std.proofs.lemmas.Option.{none-some, same_Some}
+use Rattle.std.proofs.lemmas.Option.{none-some, same_Some, slice_get_within}
 use Rattle.flow_graph.specs.Graphs.{Flow, IsFlow, IsIn, IsPlaced, Stands, has_point}
 use Rattle.flow_graph.specs.Lives.{IsAscending}
-use Rattle.live_searches.proofs.Adding.{has-within}
 use Rattle.live_searches.proofs.Placed.{placed-within}
 use Rattle.elementary_form.specs.Names.{joined, one_further, place_in, place_of}
 use Rattle.allocator_boards.specs.SplitForms.{ArePlaces, placed_count}
@@ -104,7 +103,7 @@ pub place-there : (flow : Flow) (p : ℕ) (o : Option ℕ) → o ≡ place_of fl
 place-there flow p None e few = tt
 place-there flow p (Some i) e few =
     let at = place-at p (joined flow.blocks) i (sym e) in
-    let below = has-within (joined flow.blocks) i p at in
+    let below = slice_get_within (joined flow.blocks) i p at in
     (omega (arith, below, few), placed-joined p flow.blocks (got-in (joined flow.blocks) i p at))
 
 -- a point has a place exactly where it is in a block

@@ -8,6 +8,7 @@ use Rattle.std.proofs.lemmas.List.{take_at}
 use Rattle.std.proofs.lemmas.List.Elements.{All-from_recursion}
 use Rattle.pcc_base.specs.declared.span.Span.{Span}
 use Rattle.pcc_base.specs.declared.fault.FaultKind.TheVariants.{TypeRule}
+use Rattle.pcc_base.proofs.Lists.{all-append}
 use Rattle.c_syntax.specs.declared.expression.Identifier.{Identifier}
 use Rattle.c_syntax.specs.Declarations as parts
 use Rattle.c_syntax.specs.Declarations.{ItemTree, DeclaratorTree, ParameterTree, PartTree}
@@ -37,7 +38,6 @@ use Rattle.c_typing.specs.Typed.{checked, numbers_in, notes_of, program_with}
 use Rattle.c_typing.proofs.CountUp.{Always, IfFits, always, holds_both, holds_if, holds_noted}
 use Rattle.c_sound.proofs.FilesSound.{each_of_body}
 use Rattle.c_sound.proofs.Growing.{grows_statements}
-use Rattle.c_sound.proofs.Setting.{all_on}
 use Rattle.c_sound.proofs.Files.{outer_items_none}
 use Rattle.flow_graph.specs.Graphs.{IsIn}
 use Rattle.lower_programs.specs.Declared.{DeclareFirst}
@@ -213,7 +213,7 @@ external_first (DeclaredTree d) h s k =
 both_first : (c d : Checked (List tree.Function)) → IfFits AreFirst c → IfFits AreFirst d
     → IfFits AreFirst (both c d (λ fs gs. fits (fs ++ gs)))
 both_first c d h g =
-    holds_both AreFirst AreFirst AreFirst c d (λ fs gs. fits (fs ++ gs)) h g (λ fs gs x y. all_on IsFirst fs gs x y)
+    holds_both AreFirst AreFirst AreFirst c d (λ fs gs. fits (fs ++ gs)) h g (λ fs gs x y. all-append IsFirst fs gs x y)
 
 unit_first : (es : List ExternalTree) → AllByRecursion IsExternal es → (s : Scope) → Knows [] s
     → IfFits AreFirst (typed_unit es s)

@@ -6,6 +6,7 @@ use Rattle.std.specs.List.{AllByRecursion}
 use Rattle.std.proofs.lemmas.List.Sums.{sum_by-cons}
 use Rattle.std.proofs.lemmas.List.Elements.{All-from_recursion, recursion_from_All}
 use Rattle.pcc_base.specs.declared.span.Span.{Span}
+use Rattle.pcc_base.proofs.Lists.{all-append}
 use Rattle.c_tokens.specs.declared.token.Token.{Token}
 use Rattle.c_tokens.specs.declared.token.Punct.TheVariants as marks
 use Rattle.c_syntax.specs.declared.expression.Identifier.{Identifier}
@@ -69,17 +70,12 @@ total_append : (fs gs : List tree.Function) → functions_total (fs ++ gs) ≡ f
 total_append [] gs = omega arith
 total_append (f ∷ fs) gs = let h = total_append fs gs in omega (arith, h)
 
-words_append : (fs gs : List tree.Function) → AllByRecursion BodyHasWords fs → AllByRecursion BodyHasWords gs
-    → AllByRecursion BodyHasWords (fs ++ gs)
-words_append [] gs h g = g
-words_append (f ∷ fs) gs h g = (h.0, words_append fs gs h.1 g)
-
 both_fine : (m k n : ℕ) (c d : Checked (List tree.Function)) → m + k ≤ n → IfFits (FunctionsFine m) c
     → IfFits (FunctionsFine k) d → IfFits (FunctionsFine n) (both c d (λ fs gs. fits (fs ++ gs)))
 both_fine m k n c d l h g =
     holds_both (FunctionsFine m) (FunctionsFine k) (FunctionsFine n) c d (λ fs gs. fits (fs ++ gs)) h g
     (λ fs gs u v. let a = u.0 in let b = v.0 in let e = total_append fs gs in
-    (omega (arith, l, a, b, e), words_append fs gs u.1 v.1))
+    (omega (arith, l, a, b, e), all-append BodyHasWords fs gs u.1 v.1))
 
 -- ---- what defines no function
 

@@ -7,6 +7,7 @@ use Rattle.std.proofs.lemmas.List.Sums.{sum_by-cons}
 use Rattle.std.proofs.lemmas.List.Elements.{All-from_recursion}
 use Rattle.pcc_base.specs.declared.span.Span.{Span}
 use Rattle.pcc_base.specs.declared.fault.FaultKind.TheVariants as kinds
+use Rattle.pcc_base.proofs.Lists.{all-append}
 use Rattle.c_syntax.specs.declared.expression.Identifier.{Identifier}
 use Rattle.c_syntax.specs.declared.expression.TextPiece.{TextPiece}
 use Rattle.c_syntax.specs.Expressions.{NoExpr, OneExpr}
@@ -217,17 +218,12 @@ items_append : (xs ys : List Item) → items_total (xs ++ ys) ≡ items_total xs
 items_append [] ys = omega arith
 items_append (x ∷ xs) ys = let h = items_append xs ys in omega (arith, h)
 
-words_append : (xs ys : List Item) → AllByRecursion ItemHasWords xs → AllByRecursion ItemHasWords ys
-    → AllByRecursion ItemHasWords (xs ++ ys)
-words_append [] ys h g = g
-words_append (x ∷ xs) ys h g = (h.0, words_append xs ys h.1 g)
-
 items_both : (m k n : ℕ) (c d : Checked (List Item)) → m + k ≤ n → IfFits (ItemsFine m) c → IfFits (ItemsFine k) d
     → IfFits (ItemsFine n) (both c d (λ xs ys. fits (xs ++ ys)))
 items_both m k n c d l h g =
     holds_both (ItemsFine m) (ItemsFine k) (ItemsFine n) c d (λ xs ys. fits (xs ++ ys)) h g (λ xs ys u v.
     let a = u.0 in let b = v.0 in let e = items_append xs ys in
-    (omega (arith, l, a, b, e), words_append xs ys u.1 v.1))
+    (omega (arith, l, a, b, e), all-append ItemHasWords xs ys u.1 v.1))
 
 followed_fine : (said : Specified) (is : List ItemTree) (commas : List Span) (s : Scope) → AllByRecursion IsItem is
     → length commas ≡ length is → HasInts (followed item_tokens is commas)

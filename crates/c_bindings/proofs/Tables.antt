@@ -1,5 +1,5 @@
 -- Where the innermost binding of a name stands, behind a binding and where one is forgotten.
-use Rattle.std.proofs.Common.{◌≡◌, ℕ, zero, suc, ◌<◌, List, [], ◌∷◌, ◌++◌, map, length, reverse, Bool, true, false}
+use Rattle.std.proofs.Common.{◌≡◌, ℕ, suc, ◌<◌, List, [], ◌∷◌, ◌++◌, map, length, reverse, Bool, true, false}
 use Rattle.std.proofs.Common.{Option, Some, None, refl, ap, sym, subst, ◌∙◌, slice_get, get_or, drop, arith}
 use Rattle.std.proofs.Common.{if◌then◌else◌}
 use Rattle.std.proofs.Common.{true≢false, ◌-◌, ◌≤◌}
@@ -9,6 +9,7 @@ use Rattle.std.specs.Map.{lookup, KeepsOthers}
 use Rattle.std.specs.Prelude.{option_map, IfSome, IsSome}
 use Rattle.std.proofs.lemmas.List.{reverse-append, reverse-reverse, length-reverse}
 use Rattle.std.proofs.lemmas.Option.{none-some, same_Some, get_or_from_slice_get, slice_get_within}
+use Rattle.pcc_base.proofs.Lists.{get-last, get-append}
 use Rattle.c_typing.specs.Library.{same_name}
 use Rattle.c_typing.specs.Names.{binding_of}
 use Rattle.c_meanings.proofs.Names.{same_is, same_self, false_if}
@@ -70,17 +71,6 @@ module _ {K : Type 0} (items : K → List ℕ) (old new : List (K × ℕ)) (e : 
 
 -- ---- the innermost binding of a name
 
--- the last of a list
-pub last_at : {X : Type 0} (xs : List X) (x : X) → slice_get (xs ++ x ∷ []) (length xs) ≡ Some x
-last_at [] x = refl
-last_at (y ∷ ys) x = last_at ys x
-
--- what stands in a list stands in a longer one
-pub still_at : {X : Type 0} (xs ys : List X) (i : ℕ) (x : X) → slice_get xs i ≡ Some x → slice_get (xs ++ ys) i ≡ Some x
-still_at [] ys i x e = absurd (none-some x e)
-still_at (z ∷ zs) ys zero x e = e
-still_at (z ∷ zs) ys (suc i) x e = still_at zs ys i x e
-
 -- a name with a place is bound there
 pub bound_at : (es : List Entry) (name : List ℕ) (p : ℕ) → place_of es name ≡ Some p
     → (e : Entry) × (slice_get (reverse es) p ≡ Some e)
@@ -99,13 +89,13 @@ bound_at (e ∷ es) name p h = by (same_name e.name.items name) refl (λ g. boun
         let n : length (reverse es) ≡ p = length-reverse es ∙ q in (
           e,
           ap (λ xs. slice_get xs p) (reverse-append (e ∷ []) es)
-              ∙ ap (λ i. slice_get (reverse es ++ e ∷ []) i) (sym n) ∙ last_at (reverse es) e,
+              ∙ ap (λ i. slice_get (reverse es ++ e ∷ []) i) (sym n) ∙ get-last (reverse es) e,
           ap (λ b. if b then Some (binding_from e) else binding_of (map binding_from es) name) s,
         )
     by false s below =
         let r = below (sym (ap (λ b. if b then Some (length es) else place_of es name) s) ∙ h) in (
           r.0,
-          ap (λ xs. slice_get xs p) (reverse-append (e ∷ []) es) ∙ still_at (reverse es) (e ∷ []) p r.0 r.1,
+          ap (λ xs. slice_get xs p) (reverse-append (e ∷ []) es) ∙ get-append (reverse es) (e ∷ []) p r.0 r.1,
           ap (λ b. if b then Some (binding_from e) else binding_of (map binding_from es) name) s ∙ r.2,
         )
 

@@ -7,6 +7,7 @@ use Rattle.std.specs.Map.{lookup, KeepsOthers}
 use Rattle.std.proofs.lemmas.List.{reverse-append}
 use Rattle.std.proofs.lemmas.List.Folds.{list_any-append}
 use Rattle.std.proofs.lemmas.Option.{none-some, same_Some}
+use Rattle.pcc_base.proofs.Lists.{get-last, get-append}
 use Rattle.c_typing.specs.Library as library
 use Rattle.c_typing.specs.Library.{same_entity}
 use Rattle.c_typing.specs.Names.{Outer, clashes}
@@ -18,7 +19,6 @@ use Rattle.c_scopes.specs.Outers.{is_entity, IsSummed, SumsUp}
 use Rattle.c_meanings.specs.Views.{entity_of}
 use Rattle.c_meanings.proofs.Entities.{turned}
 use Rattle.c_meanings.proofs.Sameness.{thing_is, thing_self, type_is, type_self}
-use Rattle.c_bindings.proofs.Tables.{last_at, still_at}
 use Rattle.c_meanings.proofs.Names.{false_if}
 
 -- the test of the table is that of the definition
@@ -117,7 +117,7 @@ apart : (os : List Outer) (o : Outer) (e : library.Entity) (s : Option Seen) →
 apart os o e None h known = any_still (λ x. same_entity e x.entity) os o h ∙ known
 apart os o e (Some s) h known = (
   known.0,
-  still_at os (o ∷ []) s.first known.0 known.1,
+  get-append os (o ∷ []) s.first known.0 known.1,
   known.2,
   any_still (λ x. same_entity e x.entity && not (same_type known.0.type x.type)) os o
       (ap (λ b. b && not (same_type known.0.type o.type)) h) ∙ known.3,
@@ -130,7 +130,7 @@ pub first_one : (os : List Outer) (o : Outer) (n : ℕ) → n ≡ length os → 
 first_one os o n end known =
     let e = o.entity in (
       o,
-      ap (λ i. slice_get (os ++ o ∷ []) i) end ∙ last_at os o,
+      ap (λ i. slice_get (os ++ o ∷ []) i) end ∙ get-last os o,
       thing_self e,
       any_still (λ x. same_entity e x.entity && not (same_type o.type x.type)) os o
           (ap (λ b. same_entity e e && not b) (type_self o.type) ∙ and_false (same_entity e e))
@@ -151,7 +151,7 @@ pub one_more_of : (os : List Outer) (o : Outer) (s : Seen) (known : IsSummed os 
 one_more_of os o s known =
     let e = o.entity in (
       known.0,
-      still_at os (o ∷ []) s.first known.0 known.1,
+      get-append os (o ∷ []) s.first known.0 known.1,
       known.2,
       any_more (λ x. same_entity e x.entity && not (same_type known.0.type x.type)) os o
           ∙ ap (λ b. b || (same_entity e e && not (same_type known.0.type o.type))) known.3

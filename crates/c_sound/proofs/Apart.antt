@@ -5,6 +5,7 @@ use Rattle.std.specs.List.{AllByRecursion, AllPairs}
 use Rattle.std.proofs.lemmas.List.Elements.{All-from_recursion}
 use Rattle.std.proofs.lemmas.List.Kept.{AllPairs-cons}
 use Rattle.pcc_base.specs.declared.span.Span.{Span}
+use Rattle.pcc_base.proofs.Lists.{all-append}
 use Rattle.c_tokens.specs.declared.token.Token.{Token}
 use Rattle.c_tokens.specs.Pieces.{Piece, Space, Comment, Skipped, Spelled}
 use Rattle.c_tokens.specs.Tokens.{Reached, Leads, behind, tokens_of, place_after, start_of, HasTokens}
@@ -89,11 +90,6 @@ text_apart file text tokens (k, to, h, e) =
     let t = leads_told k (start_of file text) tokens to h in
     record { of = in_file (start_of file text).at tokens t.from; apart = t.apart }
 
-both_all : (P : Token → Type 0) (ts us : List Token) → AllByRecursion P ts → AllByRecursion P us
-    → AllByRecursion P (ts ++ us)
-both_all P [] us h k = k
-both_all P (t ∷ ts) us h k = (h.0, both_all P ts us h.1 k)
-
 apart_files : (t : Token) (file : ℕ) (us : List Token) → file ≡ t.at.file → AreOfFile (suc file) us
     → AllByRecursion (Apart t) us
 apart_files t file [] e h = tt
@@ -108,7 +104,7 @@ pub apart_both : (file : ℕ) (ts us : List Token) → OfText file ts → AreOfF
     → AreApart (ts ++ us)
 apart_both file [] us h k a = a
 apart_both file (t ∷ ts) us h k a = (
-  both_all (Apart t) ts us h.apart.0 (apart_files t file us h.of.0 k),
+  all-append (Apart t) ts us h.apart.0 (apart_files t file us h.of.0 k),
   apart_both file ts us (record { of = h.of.1; apart = h.apart.1 }) k a,
 )
 
@@ -122,4 +118,4 @@ from_before file (t ∷ ts) h = (let e = h.0 in omega (arith, e), from_before fi
 
 pub files_both : (file : ℕ) (ts us : List Token) → OfText file ts → AreOfFile (suc file) us → AreOfFile file (ts ++ us)
 files_both file ts us h k =
-    both_all (λ (t : Token). file ≤ t.at.file) ts us (from_in file ts h.of) (from_before file us k)
+    all-append (λ (t : Token). file ≤ t.at.file) ts us (from_in file ts h.of) (from_before file us k)

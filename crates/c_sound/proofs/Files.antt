@@ -33,6 +33,7 @@ use Rattle.std.proofs.Common.{◌≤◌, length}
 use Rattle.std.specs.List.{AllByRecursion, cons_option}
 use Rattle.std.proofs.lemmas.List.{map-append}
 use Rattle.std.proofs.lemmas.List.Elements.{All-from_recursion}
+use Rattle.pcc_base.proofs.Lists.{all-append}
 use Rattle.c_tree.specs.Sizes.{function_size}
 use Rattle.c_typing.proofs.CountUp.{Always, IfFits, always, holds_also, holds_both, holds_if, holds_noted}
 use Rattle.c_sound.specs.DeclaresLaws.{ArraysAreDeclared, FunctionsAreNamed}
@@ -50,17 +51,12 @@ record Are (names : List (List ℕ)) (fs : List tree.Function) : Type 0 where
   few : AllByRecursion FewArrays fs
   named : names_of fs ≡ names
 
-few_on : (fs gs : List tree.Function) → AllByRecursion FewArrays fs → AllByRecursion FewArrays gs
-    → AllByRecursion FewArrays (fs ++ gs)
-few_on [] gs h g = g
-few_on (f ∷ fs) gs h g = (h.0, few_on fs gs h.1 g)
-
 are_none : Are [] []
 are_none = record { few = tt; named = refl }
 
 are_on : (ms ns : List (List ℕ)) (fs gs : List tree.Function) → Are ms fs → Are ns gs → Are (ms ++ ns) (fs ++ gs)
 are_on ms ns fs gs h g = record {
-  few = few_on fs gs h.few g.few;
+  few = all-append FewArrays fs gs h.few g.few;
   named = map-append (λ (f : tree.Function). f.name) fs gs ∙ ap (λ xs. xs ++ names_of gs) h.named
       ∙ ap (λ ys. ms ++ ys) g.named;
 }

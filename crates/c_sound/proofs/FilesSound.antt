@@ -7,6 +7,7 @@ use Rattle.std.specs.List.{AllByRecursion}
 use Rattle.std.proofs.lemmas.List.{append-nil, take_at, length-append}
 use Rattle.pcc_base.specs.declared.span.Span.{Span}
 use Rattle.pcc_base.specs.declared.fault.FaultKind.TheVariants.{TypeRule}
+use Rattle.pcc_base.proofs.Lists.{all-append, all-left, all-right, all-weaker}
 use Rattle.c_syntax.specs.declared.expression.Identifier.{Identifier}
 use Rattle.c_syntax.specs.Declarations as parts
 use Rattle.c_syntax.specs.Declarations.{ItemTree, DeclarationTree, DeclaratorTree, ParameterTree, PartTree, ValueTree}
@@ -44,7 +45,7 @@ use Rattle.c_typing.specs.Files.{body_of, at_body, function_with, defined, in_fu
 use Rattle.c_typing.specs.Files.{after_definition}
 use Rattle.c_typing.specs.Files.{after_said, after_external, typed_external, after_unit, typed_unit, typed_units}
 use Rattle.c_typing.proofs.CountUp.{IfFits, holds_if}
-use Rattle.c_sound.proofs.Setting.{Setting, Holds, IsAt, IsQuiet, IsKept, Kept, Sound, all_on, all_left, all_right}
+use Rattle.c_sound.proofs.Setting.{Setting, Holds, IsAt, IsQuiet, IsKept, Kept, Sound}
 use Rattle.c_sound.proofs.Setting.{sound_if}
 use Rattle.c_sound.proofs.Setting.{sound_also}
 use Rattle.c_sound.proofs.ExpressionsSound.{Sees, IsMeant, Any}
@@ -65,11 +66,6 @@ quiet_none : (n : Note) → IsQuiet n → DefinesNone n
 quiet_none (Uses e at) h = tt
 quiet_none (Stores x) h = tt
 quiet_none (Defines e d) h = absurd h
-
-pub all_map : {A : Type 0} (P Q : A → Type 0) (xs : List A) → ((x : A) → P x → Q x) → AllByRecursion P xs
-    → AllByRecursion Q xs
-all_map P Q [] f h = tt
-all_map P Q (x ∷ xs) f h = (f x h.0, all_map P Q xs f h.1)
 
 -- the type of a function as it is declared
 abbrev pub declared_type : tree.Function → Declared
@@ -105,7 +101,7 @@ matches_none (Stores x ∷ ns) h = matches_none ns h.1
 matches_none (Defines e d ∷ ns) h = absurd h.0
 
 quiet_nones : (ns : List Note) → AllByRecursion IsQuiet ns → AllByRecursion DefinesNone ns
-quiet_nones ns h = all_map IsQuiet DefinesNone ns quiet_none h
+quiet_nones ns h = all-weaker IsQuiet DefinesNone ns quiet_none h
 
 -- ---- signatures
 
@@ -278,7 +274,7 @@ module _ (w : Setting) (D : Outer → Type 0)
     holds = h;
     numbers = n ∙ k.numbers;
     names = subst (AllByRecursion (λ (b : Binding). IsMeant w f b.meaning)) (sym e)
-        (all_map (λ (b : Binding). IsOutside b.meaning) (λ (b : Binding). IsMeant w f b.meaning) s.names
+        (all-weaker (λ (b : Binding). IsOutside b.meaning) (λ (b : Binding). IsMeant w f b.meaning) s.names
         (λ b m. meant_of f b.meaning m) k.names);
   }
 
@@ -318,7 +314,7 @@ module _ (w : Setting) (D : Outer → Type 0)
   quiet_backed (Defines e d) h = absurd h
 
   quiet_all : (ns : List Note) → AllByRecursion IsQuiet ns → AllByRecursion Backed ns
-  quiet_all ns h = all_map IsQuiet Backed ns quiet_backed h
+  quiet_all ns h = all-weaker IsQuiet Backed ns quiet_backed h
 
   -- Functions match their notes; where X holds and the program keeps the notes, these have declarations, and P holds.
   abbrev pub Whole : Type 0 → (List tree.Function → Type 0) → Checked (List tree.Function) → Type 0
@@ -334,7 +330,7 @@ module _ (w : Setting) (D : Outer → Type 0)
   whole_quiet X P ns (Fits fs ms) q h = (
     matches_more ns (quiet_nones ns q) fs ms h.0,
     λ x kept.
-        let r = h.1 x (all_right (IsKept w) ns ms kept) in (all_on Backed ns ms (quiet_all ns q) r.0, r.1),
+        let r = h.1 x (all-right (IsKept w) ns ms kept) in (all-append Backed ns ms (quiet_all ns q) r.0, r.1),
   )
   whole_quiet X P ns (Fails f fs) q h = tt
 
@@ -349,9 +345,9 @@ module _ (w : Setting) (D : Outer → Type 0)
       subst (λ ks. Whole X (Right u) (Fits (fs ++ gs) ks)) (sym (append-nil (ns ++ ms))) (
         matches_on fs gs ns ms h.0 k.0,
         λ x kept.
-            let a = h.1 x (all_left (IsKept w) ns ms kept) in
-            let b = k.1 a.1.1 (all_right (IsKept w) ns ms kept) in
-            (all_on Backed ns ms a.0 b.0, (λ z. all_on (IsTypedFunction w.program) fs gs (a.1.0 z) (b.1.0 z), b.1.1)),
+            let a = h.1 x (all-left (IsKept w) ns ms kept) in
+            let b = k.1 a.1.1 (all-right (IsKept w) ns ms kept) in
+            (all-append Backed ns ms a.0 b.0, (λ z. all-append (IsTypedFunction w.program) fs gs (a.1.0 z) (b.1.0 z), b.1.1)),
       )
   whole_then X t u (Fits fs ns) (Fails g gs) h k = tt
   whole_then X t u (Fails f fs) d h k = tt
@@ -563,11 +559,11 @@ module _ (w : Setting) (D : Outer → Type 0)
               linked_not s y said.storage (function_type g)
                   d.name.name,
             ) in (
-              all_on Backed ns (note ∷ []) (quiet_all ns q.0) (back, tt),
+              all-append Backed ns (note ∷ []) (quiet_all ns q.0) (back, tt),
               (
                 λ z. (
                   typed_function d g (cleared outside) first last body sig.0 a b refl refl
-                      (q.1 (sees f first_within known z) (all_left (IsKept w) ns (note ∷ []) kept)).0,
+                      (q.1 (sees f first_within known z) (all-left (IsKept w) ns (note ∷ []) kept)).0,
                   tt,
                 ),
                 record { numbers = b.numbers ∙ a.numbers ∙ known.numbers; names = known.names },

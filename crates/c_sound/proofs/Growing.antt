@@ -7,6 +7,7 @@ use Rattle.std.specs.Prelude.{ℤ, Option, Some, None, IfSome}
 use Rattle.std.specs.List.{AllByRecursion}
 use Rattle.std.proofs.lemmas.List.{append-nil, append_assoc}
 use Rattle.pcc_base.specs.declared.span.Span.{Span}
+use Rattle.pcc_base.proofs.Lists.{all-append}
 use Rattle.c_syntax.specs.declared.expression.Identifier.{Identifier}
 use Rattle.c_syntax.specs.declared.expression.TextPiece.{TextPiece}
 use Rattle.c_syntax.specs.Expressions.{Expr, NoExpr, OneExpr}
@@ -39,7 +40,6 @@ use Rattle.c_typing.specs.Names.{Scope, entered, left, numbered}
 use Rattle.c_typing.specs.Statements.{bound_object, bound_item, after_item, after_items, after_specified}
 use Rattle.c_typing.specs.Statements.{after_declaration, after_statement, after_statements}
 use Rattle.c_typing.proofs.CountUp.{IfFits, holds_if, Always, always}
-use Rattle.c_sound.proofs.Setting.{all_on}
 
 -- ---- sizes of arrays
 
@@ -176,11 +176,11 @@ grows_on s t u g h = record {
   more_locals = g.more_locals ++ h.more_locals;
   locals = h.locals ∙ ap (λ xs. xs ++ h.more_locals) g.locals
       ∙ append_assoc s.locals g.more_locals h.more_locals;
-  scalars = all_on (λ (l : tree.Local). IsScalar l.of) g.more_locals h.more_locals g.scalars h.scalars;
+  scalars = all-append (λ (l : tree.Local). IsScalar l.of) g.more_locals h.more_locals g.scalars h.scalars;
   more_arrays = g.more_arrays ++ h.more_arrays;
   arrays = h.arrays ∙ ap (λ xs. xs ++ h.more_arrays) g.arrays
       ∙ append_assoc s.arrays g.more_arrays h.more_arrays;
-  counts = all_on (λ (a : tree.LocalArray). 1 ≤ a.count) g.more_arrays h.more_arrays g.counts h.counts;
+  counts = all-append (λ (a : tree.LocalArray). 1 ≤ a.count) g.more_arrays h.more_arrays g.counts h.counts;
 }
 
 pub grows_entered : (s : Scope) → Grows s (entered s)

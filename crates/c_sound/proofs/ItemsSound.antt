@@ -11,6 +11,7 @@ use Rattle.pcc_base.specs.declared.span.Span.{Span}
 use Rattle.pcc_base.specs.declared.fault.Fault.{Fault}
 use Rattle.pcc_base.specs.declared.fault.FaultKind.TheVariants.{ArraySize, TypeRule}
 use Rattle.pcc_base.specs.declared.fault.FaultKind.TheVariants as kinds
+use Rattle.pcc_base.proofs.Lists.{all-append}
 use Rattle.c_syntax.specs.declared.expression.Identifier.{Identifier}
 use Rattle.c_syntax.specs.declared.expression.TextPiece.{TextPiece}
 use Rattle.c_syntax.specs.Expressions.{Expr, Exprs}
@@ -49,7 +50,7 @@ use Rattle.c_typing.specs.Statements.{size_of, stored, object_item, scope_faults
 use Rattle.c_typing.specs.Statements.{typed_declaration}
 use Rattle.c_sound.proofs.Setting.{Setting, Sound, sound_fits, sound_noted, sound_if, sound_both, sound_then}
 use Rattle.c_sound.proofs.Setting.{sound_also}
-use Rattle.c_sound.proofs.Setting.{sound_weaker, all_on, IsQuiet, IsKept, IsAt}
+use Rattle.c_sound.proofs.Setting.{sound_weaker, IsQuiet, IsKept, IsAt}
 use Rattle.c_sound.proofs.RowsSound.{Good, assigned_sound}
 use Rattle.c_sound.proofs.ExpressionsSound.{is_some_on, Sees, object_there, or_sound, Any, any_sound, typed_sound}
 use Rattle.c_sound.proofs.ExpressionsSound.{given_sound}
@@ -442,7 +443,7 @@ module _ (w : Setting) (f : tree.Function) where
       (λ xs ys. fits (xs ++ ys)) (item_sound said i s (within_before f t u (grows_items said is trees.1 t) h))
       (items_sound said is trees.1 t h) (λ xs y p. p.1)
       (λ xs ys. sound_fits w (Sees w f s × (Items t xs × Items u ys)) (Items u) (xs ++ ys)
-      (λ x. (all_on (IsItem w.program f) xs ys x.1.0.0 x.1.1.0, x.1.1.1)))
+      (λ x. (all-append (IsItem w.program f) xs ys x.1.0.0 x.1.1.0, x.1.1.1)))
 
   specified_sound : (o : Option Specified) (at : Span) (is : List ItemTree) → AllByRecursion IsItemTree is → (s : Scope)
       → Within f (after_specified o is s) → Sound w (Sees w f s) (Items (after_specified o is s))

@@ -7,6 +7,7 @@ use Rattle.std.specs.List.{AllByRecursion, list_any}
 use Rattle.std.proofs.lemmas.Bool.Decides.{Decides-int_eq}
 use Rattle.pcc_base.specs.declared.span.Span.{Span}
 use Rattle.pcc_base.specs.declared.fault.FaultKind.TheVariants.{CaseLabel}
+use Rattle.pcc_base.proofs.Lists.{all-append}
 use Rattle.c_syntax.specs.Statements as trees
 use Rattle.c_syntax.specs.Statements.{LabelTree, Stmt, Stmts, NoStmt, OneStmt}
 use Rattle.c_syntax.specs.StatementTokens.{IsStmt, IsPlain, IsCase, AreCases}
@@ -26,7 +27,7 @@ use Rattle.c_typing.specs.Statements.{condition, condition_if_any, first_part, r
 use Rattle.c_typing.specs.Statements.{typed_declaration, typed_statement, typed_statements, after_statement}
 use Rattle.c_typing.specs.Statements.{after_declaration}
 use Rattle.c_typing.proofs.CountUp.{IfFits, holds_noted, holds_both, Always, always}
-use Rattle.c_sound.proofs.Setting.{Setting, Sound, sound_fits, sound_if, sound_both, all_on}
+use Rattle.c_sound.proofs.Setting.{Setting, Sound, sound_fits, sound_if, sound_both}
 use Rattle.c_sound.proofs.RowsSound.{either_false, Good}
 use Rattle.c_sound.proofs.ExpressionsSound.{Sees, Any, typed_sound}
 use Rattle.c_sound.proofs.ItemsSound.{all_by}
@@ -129,7 +130,7 @@ given_before : (s : Scope) (k n : ℕ) (items : Stmts) → k + number_of items �
     → AllByRecursion (λ (g : GivenLabel). g.before < n) (given_labels s k items)
 given_before s k n NoStmt h = tt
 given_before s k n (OneStmt st others) h =
-    all_on (λ (g : GivenLabel). g.before < n) (map (given_label s k) (labels_before st))
+    all-append (λ (g : GivenLabel). g.before < n) (map (given_label s k) (labels_before st))
     (given_labels s (suc k) others) (map_before s k n (omega (arith, h)) (labels_before st))
     (given_before s (suc k) n others (omega (arith, h)))
 
@@ -262,7 +263,7 @@ module _ (w : Setting) (f : tree.Function) where
       → AllByRecursion (λ (g : GivenLabel). Sound w (Sees w f s) Any g.value) (given_labels s k items)
   given_labels_sound s k NoStmt = tt
   given_labels_sound s k (OneStmt st others) =
-      all_on (λ (g : GivenLabel). Sound w (Sees w f s) Any g.value) (map (given_label s k) (labels_before st))
+      all-append (λ (g : GivenLabel). Sound w (Sees w f s) Any g.value) (map (given_label s k) (labels_before st))
       (given_labels s (suc k) others) (map_sound s k (labels_before st)) (given_labels_sound s (suc k) others)
 
   one_by : (X : Type 0) (at : Span) (before : ℕ) (v : Option ℤ) (b : Bool)

@@ -4,13 +4,13 @@ use Rattle.std.proofs.Common.{inl, inr, arith, ℕ, suc, ◌≤◌, length}
 use Rattle.std.specs.List.{AllByRecursion}
 use Rattle.c_typing.specs.Expressions.{text_bytes}
 use Rattle.c_typing.proofs.CountUp.{IfFits}
-use Rattle.c_sound.proofs.Setting.{all_on}
 use Rattle.c_sound.proofs.Ranges.{InRange}
 use Rattle.c_sound.proofs.Ranged.{HasInts, ints_left, ints_right, ranged, Fitting, text_fits}
 use Rattle.std.specs.Prelude.{Option, Some, None, ◌⊎◌}
 use Rattle.std.proofs.lemmas.List.{append-nil}
 use Rattle.pcc_base.specs.declared.span.Span.{Span}
 use Rattle.pcc_base.specs.declared.fault.Fault.{Fault}
+use Rattle.pcc_base.proofs.Lists.{all-append}
 use Rattle.c_tokens.specs.declared.token.Token.{Token}
 use Rattle.c_syntax.specs.declared.expression.Identifier.{Identifier as Ident}
 use Rattle.c_syntax.specs.declared.expression.TextPiece.{TextPiece}
@@ -127,7 +127,7 @@ noted_bare : {A : Type 0} (T : List Token) (ns : List Note) (c : Checked A) → 
     → (HasInts T → AreRight ns) → Bare c → Placed T (noted ns c)
 noted_bare T ns (Fits a ms) h r k = (
   subst (λ ps. Sub ps T) (sym (places_on ns ms ∙ ap (λ qs. places ns ++ qs) k.0 ∙ append-nil (places ns))) h,
-  λ z. all_on IsRight ns ms (r z) k.1,
+  λ z. all-append IsRight ns ms (r z) k.1,
 )
 noted_bare T ns (Fails f fs) h r k = tt
 
@@ -162,7 +162,7 @@ pub placed_pair : {A B : Type 0} (T U : List Token) (c : Checked A) (d : Checked
     → Placed (T ++ U) (pair c d)
 placed_pair T U (Fits a ns) (Fits b ms) h k = (
   subst (λ ps. Sub ps (T ++ U)) (sym (places_on ns ms)) (sub_on (places ns) (places ms) T U h.0 k.0),
-  λ z. all_on IsRight ns ms (h.1 (ints_left T U z)) (k.1 (ints_right T U z)),
+  λ z. all-append IsRight ns ms (h.1 (ints_left T U z)) (k.1 (ints_right T U z)),
 )
 placed_pair T U (Fits a ns) (Fails g gs) h k = tt
 placed_pair T U (Fails f fs) d h k = tt

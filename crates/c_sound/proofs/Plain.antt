@@ -55,7 +55,7 @@ use Rattle.c_typing.specs.Files.{function_declared, function_signature}
 use Rattle.c_sound.proofs.Fixed.{Fixed, fixed}
 use Rattle.c_sound.proofs.ParametersSound.{has_form}
 use Rattle.std.specs.List.{AllByRecursion}
-use Rattle.c_sound.proofs.Setting.{all_on}
+use Rattle.pcc_base.proofs.Lists.{all-append}
 
 -- nothing is noted
 abbrev pub Plain : {A : Type 0} → Checked A → Type 0
@@ -299,7 +299,7 @@ map_plain s k (l ∷ ls) = (label_plain s k l, map_plain s k ls)
 given_plain : (s : Scope) (k : ℕ) (items : Stmts) → ArePlain (given_labels s k items)
 given_plain s k NoStmt = tt
 given_plain s k (OneStmt st others) =
-    all_on (λ (g : GivenLabel). Plain g.value) (map (given_label s k) (labels_before st))
+    all-append (λ (g : GivenLabel). Plain g.value) (map (given_label s k) (labels_before st))
     (given_labels s (suc k) others) (map_plain s k (labels_before st)) (given_plain s (suc k) others)
 
 abbrev label_if : Bool → Span → ℕ → Option ℤ → Checked Label

@@ -8,6 +8,7 @@ use Rattle.std.proofs.lemmas.Int.{SFits-int_wrap, ints}
 use Rattle.pcc_base.specs.declared.span.Span.{Span}
 use Rattle.pcc_base.specs.declared.fault.FaultKind.TheVariants as kinds
 use Rattle.pcc_base.specs.Objects.{FitsBytes}
+use Rattle.pcc_base.proofs.Lists.{all-left, all-right}
 use Rattle.c_tokens.specs.declared.token.Token.{Token}
 use Rattle.c_syntax.specs.declared.operator.BinaryOp as raw
 use Rattle.c_syntax.specs.declared.operator.BinaryOp.TheVariants as raw_binary
@@ -48,7 +49,6 @@ use Rattle.c_typing.specs.Expressions.{type_name, text_bytes, text_values, named
 use Rattle.c_typing.specs.Expressions.{call_of, called, given, postfix_op, prefix_op, typed_expression}
 use Rattle.c_typing.specs.Initialisers.{constant_for}
 use Rattle.c_typing.proofs.CountUp.{IfFits, holds_if, holds_both, holds_pair, holds_also, Always, always}
-use Rattle.c_sound.proofs.Setting.{all_left, all_right}
 use Rattle.c_sound.proofs.Ranges.{InRange, constant_int}
 
 -- the numbers of these tokens are of `int`
@@ -56,10 +56,10 @@ abbrev pub HasInts : List Token → Type 0
 HasInts T = AllByRecursion (λ (t : Token). HasIntIfAny t.kind) T
 
 pub ints_left : (T U : List Token) → HasInts (T ++ U) → HasInts T
-ints_left T U h = all_left (λ (t : Token). HasIntIfAny t.kind) T U h
+ints_left T U h = all-left (λ (t : Token). HasIntIfAny t.kind) T U h
 
 pub ints_right : (T U : List Token) → HasInts (T ++ U) → HasInts U
-ints_right T U h = all_right (λ (t : Token). HasIntIfAny t.kind) T U h
+ints_right T U h = all-right (λ (t : Token). HasIntIfAny t.kind) T U h
 
 -- ---- rows
 

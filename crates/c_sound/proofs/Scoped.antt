@@ -4,6 +4,7 @@ use Rattle.std.specs.Prelude.{Option, Some, None, if◌then◌else◌}
 use Rattle.std.specs.List.{AllByRecursion}
 use Rattle.pcc_base.specs.declared.span.Span.{Span}
 use Rattle.pcc_base.specs.Names.{IsName}
+use Rattle.pcc_base.proofs.Lists.{all-push}
 use Rattle.c_tokens.specs.declared.token.Token.{Token}
 use Rattle.c_syntax.specs.declared.expression.Identifier.{Identifier}
 use Rattle.c_syntax.specs.Declarations.{ItemTree, DeclarationTree, ParameterTree}
@@ -36,12 +37,6 @@ IsNamedArray a = IsName a.name
 -- the locals and the arrays so far
 abbrev pub HasNames : Scope → Type 0
 HasNames s = AllByRecursion IsNamedLocal s.locals × AllByRecursion IsNamedArray s.arrays
-
--- one more behind them
-one_more : {A : Type 0} (P : A → Type 0) (xs : List A) (x : A) → AllByRecursion P xs → P x
-    → AllByRecursion P (xs ++ x ∷ [])
-one_more P [] x h g = (g, tt)
-one_more P (y ∷ xs) x h g = (h.0, one_more P xs x h.1 g)
 
 -- ---- parts of tokens
 
@@ -83,9 +78,9 @@ object_names name e (ArrayObject element count) s n = n
 
 local_names : (name : Identifier) (type : ObjectType) (s : Scope) → IsName name.name → HasNames s
     → HasNames (bound_local name type s)
-local_names name (IntegerObject of) s is n = (one_more IsNamedLocal s.locals _ n.0 is, n.1)
-local_names name (PointerObject of) s is n = (one_more IsNamedLocal s.locals _ n.0 is, n.1)
-local_names name (ArrayObject element count) s is n = (n.0, one_more IsNamedArray s.arrays _ n.1 is)
+local_names name (IntegerObject of) s is n = (all-push IsNamedLocal s.locals _ n.0 is, n.1)
+local_names name (PointerObject of) s is n = (all-push IsNamedLocal s.locals _ n.0 is, n.1)
+local_names name (ArrayObject element count) s is n = (n.0, all-push IsNamedArray s.arrays _ n.1 is)
 
 bound_names : (static : Bool) (name : Identifier) (type : Option ObjectType) (s : Scope) → IsName name.name → HasNames s
     → HasNames (bound_item static name type s)
@@ -191,7 +186,7 @@ named_names : (o : Option Identifier) (of : Option ValueType) (s : Scope) → Ar
 named_names None None s h n = n
 named_names None (Some t) s h n = n
 named_names (Some name) None s h n = n
-named_names (Some name) (Some t) s h n = (one_more IsNamedLocal s.locals _ n.0 h.0, n.1)
+named_names (Some name) (Some t) s h n = (all-push IsNamedLocal s.locals _ n.0 h.0, n.1)
 
 pub parameters_names : (ps : List ParameterTree) (s : Scope) → AllByRecursion IsParameterSpelled ps → HasNames s
     → HasNames (with_parameters s ps)

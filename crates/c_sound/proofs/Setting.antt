@@ -1,9 +1,10 @@
 -- What holds of a part of files where the program around it is such: its notes define no function, and where the
 -- program has what they name, its tree is well typed.
-use Rattle.std.proofs.Common.{arith, ◌≡◌, refl, ℕ, true, List, [], ◌∷◌, ◌++◌, length, map}
+use Rattle.std.proofs.Common.{arith, ◌≡◌, refl, ℕ, true, List, [], ◌∷◌, length, map}
 use Rattle.std.specs.Prelude.{IsSomeAnd, slice_get}
 use Rattle.std.specs.List.{AllByRecursion}
 use Rattle.pcc_base.specs.declared.fault.Fault.{Fault}
+use Rattle.pcc_base.proofs.Lists.{all-append, all-left, all-right}
 use Rattle.c_tree.specs.declared.types.IntegerType.{IntegerType}
 use Rattle.c_tree.specs.Program.{Program}
 use Rattle.c_tree.specs.Program as tree
@@ -53,20 +54,6 @@ IsKept w (Uses e at) = w.present e
 IsKept w (Stores x) = w.stored x.entity x.element x.count × (defines x.contents ≡ true → w.present x.entity)
 IsKept w (Defines e type) = Unit {0}
 
--- both of two lists
-pub all_on : {A : Type 0} (P : A → Type 0) (xs ys : List A) → AllByRecursion P xs → AllByRecursion P ys
-    → AllByRecursion P (xs ++ ys)
-all_on P [] ys h k = k
-all_on P (x ∷ xs) ys h k = (h.0, all_on P xs ys h.1 k)
-
-pub all_left : {A : Type 0} (P : A → Type 0) (xs ys : List A) → AllByRecursion P (xs ++ ys) → AllByRecursion P xs
-all_left P [] ys h = tt
-all_left P (x ∷ xs) ys h = (h.0, all_left P xs ys h.1)
-
-pub all_right : {A : Type 0} (P : A → Type 0) (xs ys : List A) → AllByRecursion P (xs ++ ys) → AllByRecursion P ys
-all_right P [] ys h = h
-all_right P (x ∷ xs) ys h = all_right P xs ys h.1
-
 -- a construct whose parts have types has one
 pub fits_first : {A B C : Type 0} (c : Checked A) (d : Checked B) (f : A → B → Checked C) → has_type (both c d f) ≡ true
     → (has_type c ≡ true) × (has_type d ≡ true)
@@ -93,8 +80,8 @@ module _ (w : Setting) where
   pub sound_noted : {A : Type 0} (X Y : Type 0) (P : A → Type 0) (ns : List Note) (c : Checked A)
       → AllByRecursion IsQuiet ns → (X → Kept ns → Y) → Sound Y P c → Sound X P (noted ns c)
   sound_noted X Y P ns (Fits a ms) q h k = (
-    all_on IsQuiet ns ms q k.0,
-    λ x kept. k.1 (h x (all_left (IsKept w) ns ms kept)) (all_right (IsKept w) ns ms
+    all-append IsQuiet ns ms q k.0,
+    λ x kept. k.1 (h x (all-left (IsKept w) ns ms kept)) (all-right (IsKept w) ns ms
         kept),
   )
   sound_noted X Y P ns (Fails f fs) q h k = tt
@@ -110,9 +97,9 @@ module _ (w : Setting) where
   pub sound_pair : {A B : Type 0} (X Y : Type 0) (P : A → Type 0) (Q : B → Type 0) (c : Checked A) (d : Checked B)
       → Sound X P c → Sound Y Q d → ((a : A) → X → P a → Y) → Sound X (λ (p : A × B). P p.0 × Q p.1) (pair c d)
   sound_pair X Y P Q (Fits a ns) (Fits b ms) h k on = (
-    all_on IsQuiet ns ms h.0 k.0,
+    all-append IsQuiet ns ms h.0 k.0,
     λ x kept.
-        let p = h.1 x (all_left (IsKept w) ns ms kept) in (p, k.1 (on a x p) (all_right (IsKept w) ns ms kept)),
+        let p = h.1 x (all-left (IsKept w) ns ms kept) in (p, k.1 (on a x p) (all-right (IsKept w) ns ms kept)),
   )
   sound_pair X Y P Q (Fits a ns) (Fails g gs) h k on = tt
   sound_pair X Y P Q (Fails f fs) d h k on = tt

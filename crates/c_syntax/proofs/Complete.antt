@@ -4,6 +4,7 @@ use Rattle.std.proofs.Common.{◌≡◌, ℕ, zero, suc, ◌+◌, ◌≤◌, ◌
 use Rattle.std.proofs.Common.{Option, Some, None, ltb, leb, refl, ap, sym, ◌∙◌, subst, inl, inr, arith, append_assoc}
 use Rattle.std.proofs.Common.{◌⊎◌}
 use Rattle.std.proofs.lemmas.Bool.{lt-ltb, le-leb}
+use Rattle.std.proofs.lemmas.List.{append-nil}
 use Rattle.pcc_base.specs.declared.span.Span.{Span}
 use Rattle.c_tokens.specs.declared.token.Token.{Token}
 use Rattle.c_tokens.specs.declared.token.TokenKind.{TokenKind}
@@ -94,10 +95,6 @@ either (suc m) (suc n) = elim (either m n) [ inl e ↦ inl (ap suc e) | inr d �
 behind_one : (t : Token) (xs rest : List Token) → length rest < length (t ∷ (xs ++ rest))
 behind_one t xs rest = omega (arith, length-append xs rest)
 
-pub append_nil : {A : Type 0} (xs : List A) → xs ++ [] ≡ xs
-append_nil [] = refl
-append_nil (x ∷ xs) = ap (λ ys. x ∷ ys) (append_nil xs)
-
 abbrev pub list_of : Exprs → List Expr
 list_of NoExpr = []
 list_of (OneExpr e es) = e ∷ list_of es
@@ -154,7 +151,7 @@ values_continue : (n : ℕ) (b : Readers) → Complete n b
     Continues (value_step b) (a.0 ++ list_of es, a.1 ++ commas) rest out
 values_continue n b cb NoExpr commas a rest out are follow low stops c =
     (let e : (a.0 ++ [], a.1 ++ commas) ≡ a = ap (λ cs. (a.0 ++ [], a.1 ++ cs)) follow
-    ∙ (ap (λ xs. (xs, a.1 ++ [])) (append_nil a.0) ∙ ap (λ cs. (a.0, cs)) (append_nil a.1)) in
+    ∙ (ap (λ xs. (xs, a.1 ++ [])) (append-nil a.0) ∙ ap (λ cs. (a.0, cs)) (append-nil a.1)) in
     let P : Values → Type 0 = λ v. Continues (value_step b) v rest out in
     subst P (sym e) c)
 values_continue n b cb (OneExpr e es) [] a rest out are follow low stops c = absurd follow

@@ -3,6 +3,7 @@ use Rattle.std.specs.List.{AllByRecursion}
 use Rattle.std.proofs.Common.{◌≡◌, ℕ, suc, ◌≤◌, ◌<◌, false, List, [], ◌∷◌, ◌++◌, length, length-append, Option, Some}
 use Rattle.std.proofs.Common.{None, refl, ap, sym, ◌∙◌, subst, arith, append_assoc}
 use denote.Enum.Bare.{true_same}
+use Rattle.std.proofs.lemmas.List.{append-nil}
 use Rattle.pcc_base.specs.declared.span.Span.{Span}
 use Rattle.c_tokens.specs.declared.token.Token.{Token}
 use Rattle.c_tokens.specs.declared.token.Punct.{Punct}
@@ -31,7 +32,7 @@ use Rattle.c_syntax.specs.Reading.{Reader, Readers, Values}
 use Rattle.c_syntax.proofs.Stops.{Stops}
 use Rattle.c_syntax.specs.Heads.{mark_begins}
 use Rattle.c_syntax.proofs.Heads.{expression_no_mark}
-use Rattle.c_syntax.proofs.Complete.{Finds, Complete, append_nil, list_of, exprs_of_list, takes_specifiers}
+use Rattle.c_syntax.proofs.Complete.{Finds, Complete, list_of, exprs_of_list, takes_specifiers}
 use Rattle.c_syntax.proofs.Complete.{takes_pointer, pointer_no_specifier, NoSpecifier, NoConst}
 use Rattle.c_syntax.specs.DeclarationReading.{Listed, list_step, read_more, take_name, maybe_before, array_behind}
 use Rattle.c_syntax.specs.DeclarationReading.{read_maybe_array, read_parameter, read_parameters, read_part}
@@ -62,8 +63,8 @@ pub list_continue : {A : Type 0} (tokens : A → List Token) (read : List Token 
     Continues (list_step read) a (followed tokens xs commas ++ rest) out
     → Continues (list_step read) (a.0 ++ xs, a.1 ++ commas) rest out
 list_continue tokens read E comma [] [] a rest out apart end found c =
-    (let e : (a.0 ++ [], a.1 ++ []) ≡ a = ap (λ xs. (xs, a.1 ++ [])) (append_nil a.0)
-    ∙ ap (λ cs. (a.0, cs)) (append_nil a.1) in
+    (let e : (a.0 ++ [], a.1 ++ []) ≡ a = ap (λ xs. (xs, a.1 ++ [])) (append-nil a.0)
+    ∙ ap (λ cs. (a.0, cs)) (append-nil a.1) in
     subst (λ v. Continues (list_step read) v rest out) (sym e) c)
 list_continue tokens read E comma [] (at ∷ commas) a rest out apart end found c = absurd (omega arith)
 list_continue tokens read E comma (x ∷ xs) [] a rest out apart end found c = absurd (omega arith)
@@ -360,7 +361,7 @@ braces_continue : (n : ℕ) (b : Readers) → Complete n b
     Continues (brace_step b) (a.0 ++ list_of es, a.1 ++ commas) rest out
 braces_continue n b cb NoExpr commas a rest out are follow low stops c =
     (let e : (a.0 ++ [], a.1 ++ commas) ≡ a = ap (λ cs. (a.0 ++ [], a.1 ++ cs)) follow
-    ∙ (ap (λ xs. (xs, a.1 ++ [])) (append_nil a.0) ∙ ap (λ cs. (a.0, cs)) (append_nil a.1)) in
+    ∙ (ap (λ xs. (xs, a.1 ++ [])) (append-nil a.0) ∙ ap (λ cs. (a.0, cs)) (append-nil a.1)) in
     let P : Values → Type 0 = λ v. Continues (brace_step b) v rest out in
     subst P (sym e) c)
 braces_continue n b cb (OneExpr e es) [] a rest out are follow low stops c = absurd follow

@@ -1,5 +1,6 @@
 -- One more token of a row.
-use Rattle.std.proofs.Common.{◌≡◌, List, [], ◌∷◌, ◌++◌, refl, ap, sym, ◌∙◌, append_assoc}
+use Rattle.std.proofs.Common.{◌≡◌, List, [], ◌∷◌, ◌++◌, ap, sym, ◌∙◌, append_assoc}
+use Rattle.std.proofs.lemmas.List.{append-nil}
 use Rattle.c_tokens.specs.declared.token.Token.{Token}
 use Rattle.c_syntax.specs.Taking.{with_front, prefixed}
 
@@ -9,11 +10,7 @@ pub prefixed_more : {A : Type 0} (xs : List A) (x : A) (r s out : List A × List
 prefixed_more xs x r s out e f = ap (λ ys. (ys, s.1)) (append_assoc xs (x ∷ []) s.0)
     ∙ (let g : prefixed xs (with_front x s) ≡ prefixed xs r = ap (prefixed xs) (sym f) in g ∙ e)
 
-append_nil : {A : Type 0} (xs : List A) → xs ++ [] ≡ xs
-append_nil [] = refl
-append_nil (x ∷ xs) = ap (λ ys. x ∷ ys) (append_nil xs)
-
 -- a row that ends
 pub prefixed_end : {A : Type 0} (xs : List A) (r out : List A × List Token) (ts : List Token) → prefixed xs r ≡ out → r
     ≡ ([], ts) → out ≡ (xs, ts)
-prefixed_end xs r out ts e f = sym e ∙ (ap (prefixed xs) f ∙ ap (λ ys. (ys, ts)) (append_nil xs))
+prefixed_end xs r out ts e f = sym e ∙ (ap (prefixed xs) f ∙ ap (λ ys. (ys, ts)) (append-nil xs))

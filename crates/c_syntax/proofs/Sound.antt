@@ -3,6 +3,7 @@ use Rattle.std.proofs.Common.{◌≡◌, ℕ, zero, suc, ◌+◌, ◌≤◌, Boo
 use Rattle.std.proofs.Common.{Some, None, eqb, ltb, leb, if◌then◌else◌, refl, ap, sym, ◌∙◌, subst, arith, append_assoc}
 use Rattle.std.proofs.lemmas.Bool.{ltb-true, leb-true, eqb-true}
 use denote.Enum.Bare.{same_true}
+use Rattle.std.proofs.lemmas.List.{append-nil}
 use Rattle.pcc_base.specs.declared.span.Span.{Span}
 use Rattle.pcc_base.specs.declared.keyword.Keyword.{Keyword}
 use Rattle.pcc_base.specs.declared.keyword.Keyword.TheVariants as words
@@ -26,7 +27,6 @@ use Rattle.c_syntax.specs.ExpressionTokens.{expr_tokens, exprs_tokens, more_toke
 use Rattle.c_syntax.specs.ExpressionTokens.{consts_tokens, pointer_tokens, expr_height, exprs_height, looseness}
 use Rattle.c_syntax.specs.ExpressionTokens.{IsExpr, AreValues, Separate, Follow, binary_level}
 use Rattle.c_syntax.proofs.Values.{exprs_height-push}
-use Rattle.c_syntax.proofs.Complete.{append_nil}
 use Rattle.c_syntax.specs.Chains.{Step, Done, Fails, Goes, Reads, then_read, then_step, chain, chain_on, chained}
 use Rattle.c_syntax.specs.Taking.{is_mark, is_word, of_mark, binary_of_mark, unary_of_mark, step_of_mark}
 use Rattle.c_syntax.specs.Taking.{assign_of_mark, specifier_of, specifier_of_word, at_level, taken, take_by, take_mark}
@@ -335,7 +335,7 @@ pub record SoundValues (h : ℕ) (ts : List Token) (values : Values) (us : List 
 more_push : (es : List Expr) (commas : List Span) (e : Expr) (at : Span) → Follow (exprs_of es) commas
     → more_tokens (exprs_of (es ++ e ∷ [])) (commas ++ at ∷ [])
     ≡ more_tokens (exprs_of es) commas ++ mark marks.Comma at ∷ expr_tokens e
-more_push [] commas e at f = rw f (ap (λ ts. mark marks.Comma at ∷ ts) (append_nil (expr_tokens e)))
+more_push [] commas e at f = rw f (ap (λ ts. mark marks.Comma at ∷ ts) (append-nil (expr_tokens e)))
 more_push (x ∷ es) [] e at f = absurd f
 more_push (x ∷ es) (c ∷ commas) e at f =
     ap (λ ts. mark marks.Comma c ∷ (expr_tokens x ++ ts)) (more_push es commas e at f)
@@ -386,7 +386,7 @@ pub first_value : (h : ℕ) (ts : List Token) (e : Expr) (us : List Token) → S
     → SoundValues h ts (e ∷ [], []) us
 first_value h ts e us s =
     record {
-      tokens = s.tokens ∙ ap (λ zs. zs ++ us) (sym (append_nil (expr_tokens e)));
+      tokens = s.tokens ∙ ap (λ zs. zs ++ us) (sym (append-nil (expr_tokens e)));
       are = (s.is, s.loose, tt);
       apart = refl;
       low = omega (arith, s.low);

@@ -2,7 +2,9 @@
 use Rattle.std.specs.List.{AllByRecursion}
 use Rattle.std.proofs.Common.{◌≡◌, ℕ, suc, ◌≤◌, List, [], ◌∷◌, ◌++◌, length, length-append, Option, Some, None, refl}
 use Rattle.std.proofs.Common.{ap, sym, ◌∙◌, arith, append_assoc}
+use Rattle.std.proofs.lemmas.List.{append-nil}
 use Rattle.pcc_base.specs.declared.span.Span.{Span}
+use Rattle.pcc_base.proofs.Lists.{all-push}
 use Rattle.c_tokens.specs.declared.token.Token.{Token}
 use Rattle.c_tokens.specs.declared.token.TokenKind.{TokenKind}
 use Rattle.c_tokens.specs.declared.token.TokenKind.TheVariants as kinds
@@ -27,7 +29,6 @@ use Rattle.c_syntax.specs.DeclarationTokens.{IsMaybeValue, IsItem, AreItems, IsD
 use Rattle.c_syntax.specs.Chains.{Reads, chained}
 use Rattle.c_syntax.specs.Taking.{take_mark, take_specifiers, take_pointer}
 use Rattle.c_syntax.specs.Reading.{Reader, Readers, Values}
-use Rattle.c_syntax.proofs.Complete.{append_nil}
 use Rattle.c_syntax.proofs.Sound.{Holds, HoldsStep, holds_then, step_then, holds_chain, mark_taken, specifiers_taken}
 use Rattle.c_syntax.proofs.Sound.{pointer_taken, Sound, SoundReader, SoundReaders, SoundValues, values_push}
 use Rattle.c_syntax.proofs.Sound.{first_value}
@@ -52,18 +53,13 @@ pub record SoundList {A : Type 0} (tokens : A → List Token) (P : A → Type 0)
 followed_push : {A : Type 0} (tokens : A → List Token) (xs : List A) (commas : List Span) (x : A) (at : Span)
     → length commas ≡ length xs → followed tokens (xs ++ x ∷ []) (commas ++ at ∷ [])
     ≡ followed tokens xs commas ++ mark marks.Comma at ∷ tokens x
-followed_push tokens [] [] x at e = ap (λ ts. mark marks.Comma at ∷ ts) (append_nil (tokens x))
+followed_push tokens [] [] x at e = ap (λ ts. mark marks.Comma at ∷ ts) (append-nil (tokens x))
 followed_push tokens [] (c ∷ cs) x at e = absurd (omega arith)
 followed_push tokens (y ∷ ys) [] x at e = absurd (omega arith)
 followed_push tokens (y ∷ ys) (c ∷ cs) x at e =
     ap (λ ts. mark marks.Comma c ∷ (tokens y ++ ts)) (followed_push tokens ys cs x at (omega arith))
     ∙ ap (λ ts. mark marks.Comma c ∷ ts) (sym
     (append_assoc (tokens y) (followed tokens ys cs) (mark marks.Comma at ∷ tokens x)))
-
-all_push : {A : Type 0} (P : A → Type 0) (xs : List A) (x : A) → AllByRecursion P xs → P x
-    → AllByRecursion P (xs ++ x ∷ [])
-all_push P [] x all p = (p, tt)
-all_push P (y ∷ ys) x all p = (all.0, all_push P ys x all.1 p)
 
 list_push : {A : Type 0} (tokens : A → List Token) (P : A → Type 0) (ts : List Token) (xs : List A) (commas : List Span)
     (us vs ws : List Token) (at : Span) (x : A) →
@@ -77,7 +73,7 @@ list_push tokens P ts (y ∷ ys) commas us vs ws at x s f g p =
           ∙ (sym (append_assoc (tokens y ++ followed tokens ys commas) (mark marks.Comma at ∷ tokens x) ws)
           ∙ ap (λ zs. zs ++ ws) (append_assoc (tokens y) (followed tokens ys commas) (mark marks.Comma at ∷ tokens x)
           ∙ ap (λ zs. tokens y ++ zs) (sym (followed_push tokens ys commas x at s.apart)))));
-      all = all_push P (y ∷ ys) x s.all p;
+      all = all-push P (y ∷ ys) x s.all p;
       apart = omega (arith, s.apart, length-append commas (at ∷ []), length-append ys (x ∷ []));
       some = omega arith;
     }
@@ -93,7 +89,7 @@ sound_more {A} tokens P read sound ts x us one =
     holds_chain (SoundList tokens P ts) (list_step read)
     (λ l vs s. turn l vs s (take_mark marks.Comma vs) (mark_taken marks.Comma vs)) (length us) (x ∷ [], []) us
     (record {
-      tokens_are = one.0 ∙ ap (λ zs. zs ++ us) (sym (append_nil (tokens x)));
+      tokens_are = one.0 ∙ ap (λ zs. zs ++ us) (sym (append-nil (tokens x)));
       all = (one.1, tt);
       apart = refl;
       some = omega arith;

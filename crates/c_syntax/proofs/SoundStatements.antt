@@ -2,6 +2,7 @@
 use Rattle.std.specs.List.{AllByRecursion}
 use Rattle.std.proofs.Common.{◌≡◌, ℕ, zero, suc, ◌≤◌, max, Bool, true, false, List, [], ◌∷◌, ◌++◌, length, Option, Some}
 use Rattle.std.proofs.Common.{None, refl, ap, sym, ◌∙◌, subst, arith, append_assoc}
+use Rattle.std.proofs.lemmas.List.{append-nil}
 use Rattle.pcc_base.specs.declared.span.Span.{Span}
 use Rattle.pcc_base.specs.declared.keyword.Keyword.TheVariants as words
 use Rattle.c_tokens.specs.declared.token.Token.{Token}
@@ -25,7 +26,6 @@ use Rattle.c_syntax.specs.Chains.{Reads, then_read}
 use Rattle.c_syntax.specs.Taking.{take_mark, take_word, take_specifiers}
 use Rattle.c_syntax.specs.Reading.{Reader, Readers, readers}
 use Rattle.c_syntax.proofs.Reading.{readers-none}
-use Rattle.c_syntax.proofs.Complete.{append_nil}
 use Rattle.c_syntax.proofs.Heads.{expression_no_mark}
 use Rattle.c_syntax.proofs.Sound.{Holds, HoldsStep, holds_then, step_then, holds_chain, mark_taken, word_taken}
 use Rattle.c_syntax.proofs.Sound.{specifiers_taken, Sound, SoundReader, SoundReaders, sound}
@@ -108,7 +108,7 @@ record SoundRow (K : Stmt → Type 0) (h : ℕ) (ts : List Token) (ss : List Stm
 
 row_tokens : (ss : List Stmt) (s : Stmt) → stmts_tokens (stmts_of (ss ++ s ∷ []))
     ≡ stmts_tokens (stmts_of ss) ++ stmt_tokens s
-row_tokens [] s = append_nil (stmt_tokens s)
+row_tokens [] s = append-nil (stmt_tokens s)
 row_tokens (x ∷ xs) s = ap (λ zs. stmt_tokens x ++ zs) (row_tokens xs s)
     ∙ sym (append_assoc (stmt_tokens x) (stmts_tokens (stmts_of xs)) (stmt_tokens s))
 
@@ -500,7 +500,7 @@ record SoundLabels (h : ℕ) (ts : List Token) (ls : List LabelTree) (us : List 
   low : greatest label_height ls ≤ h
 
 labels_push : (ls : List LabelTree) (l : LabelTree) → labels_tokens (ls ++ l ∷ []) ≡ labels_tokens ls ++ label_tokens l
-labels_push [] l = append_nil (label_tokens l)
+labels_push [] l = append-nil (label_tokens l)
 labels_push (x ∷ xs) l = ap (λ zs. label_tokens x ++ zs) (labels_push xs l)
     ∙ sym (append_assoc (label_tokens x) (labels_tokens xs) (label_tokens l))
 
@@ -709,7 +709,7 @@ record SoundUnit (h : ℕ) (ts : List Token) (es : List ExternalTree) (us : List
 
 unit_push : (es : List ExternalTree) (e : ExternalTree) → unit_tokens (es ++ e ∷ [])
     ≡ unit_tokens es ++ external_tokens e
-unit_push [] e = append_nil (external_tokens e)
+unit_push [] e = append-nil (external_tokens e)
 unit_push (x ∷ xs) e = ap (λ zs. external_tokens x ++ zs) (unit_push xs e)
     ∙ sym (append_assoc (external_tokens x) (unit_tokens xs) (external_tokens e))
 
@@ -749,5 +749,5 @@ unit_sound n ts es e =
       greatest external_height es,
       s.low,
       record
-          { is = s.all; tokens_are = s.tokens ∙ append_nil (unit_tokens es); height_is = refl },
+          { is = s.all; tokens_are = s.tokens ∙ append-nil (unit_tokens es); height_is = refl },
     ))

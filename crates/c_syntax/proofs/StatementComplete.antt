@@ -2,6 +2,7 @@
 use Rattle.std.specs.List.{AllByRecursion}
 use Rattle.std.proofs.Common.{◌≡◌, ℕ, zero, suc, ◌+◌, ◌≤◌, ◌<◌, Bool, true, false, List, [], ◌∷◌, ◌++◌, length}
 use Rattle.std.proofs.Common.{length-append, Option, Some, None, refl, ap, sym, ◌∙◌, subst, arith, append_assoc}
+use Rattle.std.proofs.lemmas.List.{append-nil}
 use Rattle.pcc_base.specs.declared.span.Span.{Span}
 use Rattle.pcc_base.specs.declared.keyword.Keyword.TheVariants as words
 use Rattle.c_tokens.specs.declared.token.Token.{Token}
@@ -30,7 +31,7 @@ use Rattle.c_syntax.specs.Taking.{take_mark, take_word, take_specifiers}
 use Rattle.c_syntax.specs.Reading.{Readers, readers}
 use Rattle.c_syntax.proofs.Reading.{readers-none}
 use Rattle.c_syntax.proofs.Heads.{expression_no_mark, expression_no_word, expression_no_specifiers}
-use Rattle.c_syntax.proofs.Complete.{Complete, complete, loosest, append_nil, takes_specifiers}
+use Rattle.c_syntax.proofs.Complete.{Complete, complete, loosest, takes_specifiers}
 use Rattle.c_syntax.specs.DeclarationReading.{maybe_before, read_declarator, declaration_behind, read_declaration}
 use Rattle.c_syntax.proofs.DeclarationComplete.{MaybeFits, maybe_read, declaration_read, declarator_read}
 use Rattle.c_syntax.proofs.DeclarationComplete.{declarator_no_specifier}
@@ -317,7 +318,7 @@ row_continue : (read : StmtReader) (P : Stmt → Type 0) (n : ℕ) →
     → Continues (until_step read) (a ++ stmt_list ss) (mark marks.RightBrace c ∷ rest) out
 row_continue read P n finds follows NoStmt c rest a out are low before =
     (let Q : List Stmt → Type 0 = λ x. Continues (until_step read) x (mark marks.RightBrace c ∷ rest) out in
-    subst Q (sym (append_nil a)) before)
+    subst Q (sym (append-nil a)) before)
 row_continue read P n finds follows (OneStmt s ss) c rest a out are low before =
     (let close : List Token = mark marks.RightBrace c ∷ rest in
     let more : List Token = stmts_tokens ss ++ close in
@@ -572,7 +573,7 @@ labels_continue : (h : ℕ) (b : Readers) → Complete h b
     → Continues (label_step b.conditional) (a ++ ls) ts out
 labels_continue h b cb [] a ts out are low before =
     (let Q : List LabelTree → Type 0 = λ x. Continues (label_step b.conditional) x ts out in
-    subst Q (sym (append_nil a)) before)
+    subst Q (sym (append-nil a)) before)
 labels_continue h b cb (Case at e colon ∷ ls) a ts out are low before =
     (let more : List Token = labels_tokens ls ++ ts in
     let front : List Token = expr_tokens e ++ mark marks.Colon colon ∷ [] in
@@ -725,7 +726,7 @@ unit_continue : (n : ℕ) (b : Below) → CompleteBelow n b → (es a : List Ext
     → AllByRecursion IsExternal es → greatest external_height es ≤ suc n →
     Continues (unit_step b) a (unit_tokens es) out → Continues (unit_step b) (a ++ es) [] out
 unit_continue n b cb [] a out are low before =
-    (let Q : List ExternalTree → Type 0 = λ x. Continues (unit_step b) x [] out in subst Q (sym (append_nil a)) before)
+    (let Q : List ExternalTree → Type 0 = λ x. Continues (unit_step b) x [] out in subst Q (sym (append-nil a)) before)
 unit_continue n b cb (e ∷ es) a out are low before =
     (let some : 1 ≤ length (external_tokens e ++ unit_tokens es) =
     omega (arith, length-append (external_tokens e) (unit_tokens es), external_nonempty e are.0) in

@@ -7,6 +7,7 @@ use Rattle.std.proofs.lemmas.List.Elements.{filter_map-append}
 use Rattle.pcc_base.specs.declared.span.Span.{Span}
 use Rattle.pcc_base.specs.declared.fault.Fault.{Fault}
 use Rattle.pcc_base.specs.declared.fault.FaultKind.TheVariants.{Redeclared, TypeRule}
+use Rattle.pcc_base.proofs.Lists.{all-append, all-weaker}
 use Rattle.c_syntax.specs.declared.expression.Identifier.{Identifier}
 use Rattle.c_syntax.specs.Declarations as parts
 use Rattle.c_syntax.specs.Declarations.{ItemTree, DeclaratorTree, ParameterTree, PartTree}
@@ -52,16 +53,6 @@ other_way e f h = by (same_entity f e) refl
     by false k = refl
     by true k = absurd (true≢false (sym (thing_self e) ∙ ap (same_entity e) (sym (thing_is f e k)) ∙ h))
 
-all_on : {A : Type 0} (P : A → Type 0) (xs ys : List A) → AllByRecursion P xs → AllByRecursion P ys
-    → AllByRecursion P (xs ++ ys)
-all_on P [] ys h k = k
-all_on P (x ∷ xs) ys h k = (h.0, all_on P xs ys h.1 k)
-
-all_map : {A : Type 0} (P Q : A → Type 0) (xs : List A) → ((x : A) → P x → Q x) → AllByRecursion P xs
-    → AllByRecursion Q xs
-all_map P Q [] f h = tt
-all_map P Q (x ∷ xs) f h = (f x h.0, all_map P Q xs f h.1)
-
 -- an entity is apart from all of these
 abbrev ApartFrom : List Entity → Entity → Type 0
 ApartFrom es f = AllByRecursion (λ e. same_entity f e ≡ false) es
@@ -69,9 +60,9 @@ ApartFrom es f = AllByRecursion (λ e. same_entity f e ≡ false) es
 apart_on : (es fs : List Entity) → AreApart es → AreApart fs → AllByRecursion (ApartFrom es) fs → AreApart (es ++ fs)
 apart_on [] fs a b h = b
 apart_on (e ∷ es) fs a b h = (
-  all_on (λ f. same_entity e f ≡ false) es fs a.0
-      (all_map (ApartFrom (e ∷ es)) (λ f. same_entity e f ≡ false) fs (λ f k. other_way f e k.0) h),
-  apart_on es fs a.1 b (all_map (ApartFrom (e ∷ es)) (ApartFrom es) fs (λ f k. k.1) h),
+  all-append (λ f. same_entity e f ≡ false) es fs a.0
+      (all-weaker (ApartFrom (e ∷ es)) (λ f. same_entity e f ≡ false) fs (λ f k. other_way f e k.0) h),
+  apart_on es fs a.1 b (all-weaker (ApartFrom (e ∷ es)) (ApartFrom es) fs (λ f k. k.1) h),
 )
 
 -- nothing of this entity is whole yet
@@ -100,9 +91,9 @@ adds_one os o w n = record {
 adds_on : (os ps qs : List Outer) (es fs : List Entity) → Adds os ps es → Adds ps qs fs → Adds os qs (es ++ fs)
 adds_on os ps qs es fs a b = record {
   before = λ f n. a.before f (b.before f n);
-  apart = λ f n. all_on (λ e. same_entity f e ≡ false) es fs (a.apart f (b.before f n)) (b.apart f n);
-  new = all_on (IsNew os) es fs a.new (all_map (IsNew ps) (IsNew os) fs a.before b.new);
-  once = apart_on es fs a.once b.once (all_map (IsNew ps) (ApartFrom es) fs a.apart b.new);
+  apart = λ f n. all-append (λ e. same_entity f e ≡ false) es fs (a.apart f (b.before f n)) (b.apart f n);
+  new = all-append (IsNew os) es fs a.new (all-weaker (IsNew ps) (IsNew os) fs a.before b.new);
+  once = apart_on es fs a.once b.once (all-weaker (IsNew ps) (ApartFrom es) fs a.apart b.new);
 }
 
 -- what comes of judging a part between these scopes

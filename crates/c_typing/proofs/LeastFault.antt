@@ -2,9 +2,9 @@
 use Rattle.std.proofs.Common.{◌≡◌, refl, subst, inl, inr, sym, ap, ◌∙◌, ℕ, Bool, true, false, List, [], ◌∷◌, arith}
 use Rattle.std.proofs.Common.{if◌then◌else◌}
 use Rattle.std.specs.Prelude.{nat_lt, ◌==◌, Option, Some, None}
-use Rattle.std.specs.List.{AllByRecursion}
 use Rattle.std.proofs.lemmas.Bool.Decides.{nat_tests}
 use Rattle.pcc_base.specs.declared.fault.Fault.{Fault}
+use Rattle.pcc_base.proofs.Lists.{all-weaker}
 use Rattle.c_typing.specs.Faults.{keys, is_below, precedes, earlier, least}
 use Rattle.c_typing.specs.Laws.{LeastOfBoth, IsAmong, IsLeastOf, LeastIsLeast}
 
@@ -113,11 +113,6 @@ first_not_before : (f g : Fault) (a : Bool) → precedes g f ≡ a → precedes 
 first_not_before f g true e = ap (precedes f) (later_one f g e) ∙ after_all f g (precedes f g) refl e
 first_not_before f g false e = ap (precedes f) (first_one f g e) ∙ itself (keys f)
 
-all_by : {A : Type 0} (P Q : A → Type 0) (xs : List A) → ((x : A) → P x → Q x) → AllByRecursion P xs
-    → AllByRecursion Q xs
-all_by P Q [] f h = tt
-all_by P Q (x ∷ xs) f h = (f x h.0, all_by P Q xs f h.1)
-
 among_one : (f g : Fault) (fs : List Fault) (a : Bool) → precedes g f ≡ a → IsAmong g fs
     → IsAmong (chosen f g) (f ∷ fs)
 among_one f g fs true e h = inr (subst (λ x. IsAmong x fs) (sym (later_one f g e)) h)
@@ -129,7 +124,7 @@ least_with f fs (Some g) h = (
   among_one f g fs (precedes g f) refl h.0,
   (
     first_not_before f g (precedes g f) refl,
-    all_by (λ x. precedes x g ≡ false) (λ x. precedes x (chosen f g) ≡ false) fs
+    all-weaker (λ x. precedes x g ≡ false) (λ x. precedes x (chosen f g) ≡ false) fs
         (λ x k. not_before f g x (precedes g f) (precedes x f) refl refl k) h.1,
   ),
 )

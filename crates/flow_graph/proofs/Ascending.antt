@@ -2,14 +2,14 @@
 use Rattle.std.proofs.Common.{ℕ, zero, suc, ◌≡◌, ◌<◌, List, [], ◌∷◌, ◌++◌, Result, Ok, Err, MatchResult, sym, subst}
 use Rattle.std.proofs.Common.{replicate}
 use Rattle.std.specs.List.{AllByRecursion, slice_set}
+use Rattle.pcc_base.proofs.Lists.{all-push}
 use Rattle.flow_graph.specs.Lives.{IsAscending, at_point}
-use Rattle.flow_graph.proofs.Points.{every-push}
 
 -- a number that is greater than all may come last
 pub ascending-push : (xs : List ℕ) (y : ℕ) → IsAscending xs → AllByRecursion (λ x. x < y) xs
     → IsAscending (xs ++ y ∷ [])
 ascending-push [] y a g = (tt, tt)
-ascending-push (x ∷ xs) y a g = (every-push (λ z. x < z) xs y a.0 g.0, ascending-push xs y a.1 g.1)
+ascending-push (x ∷ xs) y a g = (all-push (λ z. x < z) xs y a.0 g.0, ascending-push xs y a.1 g.1)
 
 -- a list is in ascending order where a greater number was put last, or was refused
 pub ascending-put : {A E : Type 0} (r : Result A E) (old new : List ℕ) (y : ℕ) → IsAscending old

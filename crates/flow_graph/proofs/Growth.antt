@@ -1,6 +1,7 @@
 -- What a block keeps stays where the graph only grows.
-use Rattle.std.proofs.Common.{ℕ, zero, suc, ◌≡◌, ◌≤◌, List, [], ◌∷◌, ◌++◌, length, Some, refl, arith}
+use Rattle.std.proofs.Common.{ℕ, ◌≡◌, ◌≤◌, List, [], ◌∷◌, ◌++◌, length, Some, arith}
 use Rattle.std.specs.List.{slice_get}
+use Rattle.pcc_base.proofs.Lists.{get-append}
 use Rattle.flow_graph.specs.declared.op.Op.{Op}
 use Rattle.flow_graph.specs.Graphs.{Flow, Need, Variable, AnyWidth, SameWidth, FrameArray, Target, IsMet, needs, FitsOp}
 use Rattle.flow_graph.specs.Graphs.{HasFittingOp, IsPlainAt, EndsOnlyLast, IsBlock}
@@ -17,25 +18,13 @@ pub record Grows (f g : Flow) : Type 0 where
   pub blocks : length f.blocks ≤ length g.blocks
   pub ops : Keeps f.ops g.ops
 
--- an element stays where elements come after it
-slice_get-append : {X : Type 0} (xs ys : List X) (k : ℕ) (x : X) → slice_get xs k ≡ Some x
-    → slice_get (xs ++ ys) k ≡ Some x
-slice_get-append [] ys k x e = absurd (cc)
-slice_get-append (y ∷ xs) ys zero x e = e
-slice_get-append (y ∷ xs) ys (suc k) x e = slice_get-append xs ys k x e
-
 -- a list keeps what it has where elements come after it
 pub keeps-append : {X : Type 0} (xs ys : List X) → Keeps xs (xs ++ ys)
-keeps-append xs ys = record { kept = λ k x e. slice_get-append xs ys k x e }
+keeps-append xs ys = record { kept = λ k x e. get-append xs ys k x e }
 
 -- a list keeps what it has
 pub keeps-same : {X : Type 0} (xs : List X) → Keeps xs xs
 keeps-same xs = record { kept = λ k x e. e }
-
--- the element that was put last
-pub slice_get-last : {X : Type 0} (xs : List X) (x : X) → slice_get (xs ++ x ∷ []) (length xs) ≡ Some x
-slice_get-last [] x = refl
-slice_get-last (y ∷ xs) x = slice_get-last xs x
 
 -- what is met stays met
 met-grows : (f g : Flow) → Grows f g → (n : Need) → IsMet f n → IsMet g n

@@ -7,14 +7,15 @@ use Rattle.std.specs.List.{AllByRecursion, slice_get}
 use Rattle.std.proofs.lemmas.Bool.{cases_eq}
 use Rattle.std.proofs.lemmas.Option.{slice_get_within}
 use Rattle.pcc_base.specs.declared.run.Width.{Width}
+use Rattle.pcc_base.proofs.Lists.{get-last, all-push}
 use Rattle.flow_graph.specs.declared.op.Op.{Op}
 use Rattle.flow_graph.specs.Graphs.{Flow, IsIn, FitsOp, HasFittingOp, NumbersFit, IsPlainAt, IsEnded, IsArray, IsBlock}
 use Rattle.flow_graph.specs.Graphs.{IsFlow, IsPlaced, Stands, points_of, insert_after, is_end, with_variable}
 use Rattle.flow_graph.specs.Graphs.{with_array, with_block, with_points, with_op, with_op_after, without}
 use Rattle.flow_graph.specs.Graphs.{empty_flow, without_point_of}
-use Rattle.flow_graph.proofs.Points.{every-map, every-push, every-insert, every-without, every-in, distinct-push}
+use Rattle.flow_graph.proofs.Points.{every-map, every-insert, every-without, every-in, distinct-push}
 use Rattle.flow_graph.proofs.Points.{distinct-insert, distinct-without, all_plain, ends-push, ends-insert, ends-without}
-use Rattle.flow_graph.proofs.Growth.{Grows, keeps-append, keeps-same, slice_get-last, fits_op-grows, plain-grows}
+use Rattle.flow_graph.proofs.Growth.{Grows, keeps-append, keeps-same, fits_op-grows, plain-grows}
 use Rattle.flow_graph.proofs.Growth.{block-grows}
 
 -- what holds of each block's points, after one block's points are set
@@ -96,8 +97,8 @@ flow-array f homes w n i fit few h =
       one_home = i.one_home;
       each_block = λ b. block-grows f (with_array f w n) homes homes grows (keeps-same homes) b
           (points_of f b) (i.each_block b);
-      arrays_fit = every-push IsArray f.arrays (w, n) i.arrays_fit fit;
-      few_elements = every-push (λ (array : ℕ × ℕ). array.1 ≤ 4294967295) f.arrays (w, n) i.few_elements few;
+      arrays_fit = all-push IsArray f.arrays (w, n) i.arrays_fit fit;
+      few_elements = all-push (λ (array : ℕ × ℕ). array.1 ≤ 4294967295) f.arrays (w, n) i.few_elements few;
       numbers = i.numbers;
       few_variables = i.few_variables;
       few_arrays = omega (arith, more);
@@ -149,7 +150,7 @@ flow-points f homes b ps op i h room word w =
           (keeps-append homes (b ∷ [])) k (points_of f k) (i.each_block k));
       arrays_fit = i.arrays_fit;
       few_elements = i.few_elements;
-      numbers = every-push NumbersFit f.ops op i.numbers word;
+      numbers = all-push NumbersFit f.ops op i.numbers word;
       few_variables = i.few_variables;
       few_arrays = i.few_arrays;
       few_blocks = omega (arith, all_blocks, i.few_blocks);
@@ -164,7 +165,7 @@ fresh f ps h =
 
 -- the new point is at home
 new_home : (f : Flow) (homes : List ℕ) (b : ℕ) → IsFlow f homes → slice_get (homes ++ b ∷ []) (length f.ops) ≡ Some b
-new_home f homes b i = subst (λ (n : ℕ). slice_get (homes ++ b ∷ []) n ≡ Some b) i.one_home (slice_get-last homes b)
+new_home f homes b i = subst (λ (n : ℕ). slice_get (homes ++ b ∷ []) n ≡ Some b) i.one_home (get-last homes b)
 
 -- with a new point at the end of a block
 pub flow-append : (f : Flow) (homes : List ℕ) (b : ℕ) (op : Op) → IsFlow f homes → b < length f.blocks
@@ -180,8 +181,8 @@ flow-append f homes b op i h room open_block fit word =
     let grown : IsBlock g (homes ++ b ∷ []) b ps =
     block-grows f g homes (homes ++ b ∷ []) grows (keeps-append homes (b ∷ [])) b ps old in
     flow-points f homes b qs op i h room word (record {
-      at_home = every-push (λ p. slice_get (homes ++ b ∷ []) p ≡ Some b) ps x grown.at_home (new_home f homes b i);
-      fits = every-push (HasFittingOp g) ps x grown.fits (op, slice_get-last f.ops op, fits_op-grows f g grows op fit);
+      at_home = all-push (λ p. slice_get (homes ++ b ∷ []) p ≡ Some b) ps x grown.at_home (new_home f homes b i);
+      fits = all-push (HasFittingOp g) ps x grown.fits (op, get-last f.ops op, fits_op-grows f g grows op fit);
       once = distinct-push ps x old.once (fresh f ps old.fits);
       ends = ends-push g.ops ps x
           (every-map (IsPlainAt f.ops) (IsPlainAt g.ops) (plain-grows f.ops g.ops grows.ops) ps
@@ -207,13 +208,13 @@ flow-insert f homes b point op i h room plain no_end fit word =
           (new_home f homes b i);
       fits = every-insert (HasFittingOp g) point x ps grown.fits (
         op,
-        slice_get-last f.ops op,
+        get-last f.ops op,
         fits_op-grows f g grows op fit,
       );
       once = distinct-insert point x ps old.once (fresh f ps old.fits);
       ends = ends-insert g.ops point x ps (plain-grows f.ops g.ops grows.ops point plain) (
         op,
-        slice_get-last f.ops op,
+        get-last f.ops op,
         no_end,
       ) grown.ends;
     })

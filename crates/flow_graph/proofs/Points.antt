@@ -2,6 +2,7 @@
 use Rattle.std.proofs.Common.{ℕ, ◌≡◌, ◌≢◌, inl, inr, true, false, cond, eqb, List, []}
 use Rattle.std.proofs.Common.{◌∷◌, ◌++◌, Some, refl, sym, subst, eqb-true}
 use Rattle.std.specs.List.{AllByRecursion, slice_get}
+use Rattle.pcc_base.proofs.Lists.{all-push}
 use Rattle.flow_graph.specs.declared.op.Op.{Op}
 use Rattle.flow_graph.specs.Graphs.{IsIn, IsDistinct, insert_after, without, IsEndAt, IsPlainAt}
 use Rattle.flow_graph.specs.Graphs.{LastIsEnd, EndsOnlyLast, is_end}
@@ -16,12 +17,6 @@ pub every-map : {X : Type 0} (P Q : X → Type 0) → ((x : X) → P x → Q x) 
     → AllByRecursion Q xs
 every-map P Q f [] h = tt
 every-map P Q f (x ∷ xs) h = (f x h.0, every-map P Q f xs h.1)
-
--- what holds of each and of one more
-pub every-push : {X : Type 0} (P : X → Type 0) (xs : List X) (x : X) → AllByRecursion P xs → P x
-    → AllByRecursion P (xs ++ x ∷ [])
-every-push P [] x h w = (w, tt)
-every-push P (y ∷ ys) x h w = (h.0, every-push P ys x h.1 w)
 
 -- what holds of each, and of a point that comes in
 pub every-insert : (P : ℕ → Type 0) (x y : ℕ) (ps : List ℕ) → AllByRecursion P ps → P y
@@ -48,7 +43,7 @@ every-in P x (p ∷ ps) h (inr i) = every-in P x ps h.1 i
 -- a new point at the end leaves the points distinct
 pub distinct-push : (ps : List ℕ) (y : ℕ) → IsDistinct ps → AllByRecursion (λ q. q ≢ y) ps → IsDistinct (ps ++ y ∷ [])
 distinct-push [] y d f = (tt, tt)
-distinct-push (p ∷ ps) y d f = (every-push (λ q. q ≢ p) ps y d.0 (λ e. f.0 (sym e)), distinct-push ps y d.1 f.1)
+distinct-push (p ∷ ps) y d f = (all-push (λ q. q ≢ p) ps y d.0 (λ e. f.0 (sym e)), distinct-push ps y d.1 f.1)
 
 -- a new point leaves the points distinct
 pub distinct-insert : (x y : ℕ) (ps : List ℕ) → IsDistinct ps → AllByRecursion (λ q. q ≢ y) ps

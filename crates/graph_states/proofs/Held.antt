@@ -9,6 +9,7 @@ use Rattle.pcc_base.specs.Objects.{FitsBytes, IsObject, Object}
 use Rattle.pcc_base.specs.Outcome.{ArrayName, Null, Static, InFrame, Unknown, Array}
 use Rattle.pcc_base.specs.declared.run.Width.{Width}
 use Rattle.pcc_base.specs.declared.run.Width.TheVariants.{One, Two}
+use Rattle.pcc_base.proofs.Lists.{element-at, all-at}
 use Rattle.flow_graph.specs.Graphs.{IsArray}
 use Rattle.flow_graph.specs.States.{Activation, GraphProgram, State, Waiting, active_of, depth_of, elements_in}
 use Rattle.flow_graph.specs.States.{elements_of, elements_with, flow_at, frame_at, waiting_place}
@@ -17,7 +18,7 @@ use Rattle.flow_graph.specs.WellFormed.{HeldArraysAreThere, HeldFramesAreActive}
 use Rattle.flow_graph.specs.WellFormed.{IsGraphProgram, IsState, functions_of}
 use Rattle.graph_states.proofs.Arrays.{frame-active, length-functions}
 use Rattle.graph_states.proofs.Changes.{activations, store}
-use Rattle.graph_states.proofs.Lists.{all-at, at-within, every-at, zip-first, zip-second}
+use Rattle.graph_states.proofs.Lists.{All-at, zip-first, zip-second}
 use Rattle.graph_states.proofs.Values.{graph-of}
 
 -- an array that is there, with its elements
@@ -32,10 +33,10 @@ pub record HasElements (program : GraphProgram) (s : State) (array : ArrayName) 
 static-there : (program : GraphProgram) (s : State) (k : ℕ) → IsGraphProgram program → IsState program s
     → k < length program.objects → HasElements program s (Static k)
 static-there program s k h i lt =
-    let (object, is_object) = at-within program.objects k lt in
+    let (object, is_object) = element-at program.objects k lt in
     let (elements, are_elements, fit) =
     zip-second AreElementsIn program.objects s.objects k object i.objects is_object in
-    let o : IsObject object = all-at IsObject program.objects k object h.objects is_object in
+    let o : IsObject object = All-at IsObject program.objects k object h.objects is_object in
     record {
       width = object.width;
       elements = elements;
@@ -132,10 +133,10 @@ frame-has program s k depth h i has =
     let f = frame-of program s k depth has in
     let (older, a) = frame-active program s depth f.call (store program s i) f.at in
     let declared = (flow_at program f.call.function).arrays in
-    let (array, is_array) = at-within declared k f.has in
+    let (array, is_array) = element-at declared k f.has in
     let (elements, are_elements, fit) = zip-second AreElementsOf declared f.call.arrays k array a.arrays is_array in
     let g = graph-of program f.call.function h a.function in
-    let kept : IsArray array = every-at IsArray declared k array g.keeps.1.arrays_fit is_array in
+    let kept : IsArray array = all-at IsArray declared k array g.keeps.1.arrays_fit is_array in
     record {
       width = array.0;
       elements = elements;

@@ -1,21 +1,14 @@
 -- Lists side by side, and single elements of lists.
-use Rattle.std.proofs.Common.{◌≡◌, ℕ, zero, suc, ◌<◌, List, [], ◌∷◌, length, map, set, Some, refl, sym, subst, arith}
-use Rattle.std.specs.List.{All, AllByRecursion, AllZip, slice_get}
+use Rattle.std.proofs.Common.{◌≡◌, ℕ, zero, suc, List, [], ◌∷◌, map, set, Some, refl, sym, subst}
+use Rattle.std.specs.List.{All, AllZip, slice_get}
 use Rattle.std.proofs.lemmas.List.Elements.{All-head, All-tail}
 use Rattle.std.proofs.lemmas.Option.{none-some, same_Some}
 
 -- what holds of each element holds of one
-pub all-at : {A : Type 0} (P : A → Type 0) (xs : List A) (k : ℕ) (x : A) → All P xs → slice_get xs k ≡ Some x → P x
-all-at P [] k x h e = absurd (none-some x e)
-all-at P (y ∷ xs) zero x h e = subst P (same_Some y x e) (All-head P y xs h)
-all-at P (y ∷ xs) (suc k) x h e = all-at P xs k x (All-tail P y xs h) e
-
--- the same, where it is said by recursion on the list
-pub every-at : {A : Type 0} (P : A → Type 0) (xs : List A) (k : ℕ) (x : A) → AllByRecursion P xs → slice_get xs k
-    ≡ Some x → P x
-every-at P [] k x h e = absurd (none-some x e)
-every-at P (y ∷ xs) zero x h e = subst P (same_Some y x e) h.0
-every-at P (y ∷ xs) (suc k) x h e = every-at P xs k x h.1 e
+pub All-at : {A : Type 0} (P : A → Type 0) (xs : List A) (k : ℕ) (x : A) → All P xs → slice_get xs k ≡ Some x → P x
+All-at P [] k x h e = absurd (none-some x e)
+All-at P (y ∷ xs) zero x h e = subst P (same_Some y x e) (All-head P y xs h)
+All-at P (y ∷ xs) (suc k) x h e = All-at P xs k x (All-tail P y xs h) e
 
 -- the elements at one place
 pub zip-at : {A B : Type 0} (R : A → B → Type 0) (xs : List A) (ys : List B) (k : ℕ) (x : A) (y : B) → AllZip R xs ys
@@ -63,9 +56,3 @@ pub zip-map-all : {A B : Type 0} (P : A → Type 0) (R : A → B → Type 0) (f 
 zip-map-all P R f [] each h = tt
 zip-map-all P R f (x ∷ xs) each h =
     (each x (All-head P x xs h), zip-map-all P R f xs each (All-tail P x xs h))
-
--- a place that a list has
-pub at-within : {A : Type 0} (xs : List A) (k : ℕ) → k < length xs → (x : A) × (slice_get xs k ≡ Some x)
-at-within [] k lt = absurd (omega (arith, lt))
-at-within (x ∷ xs) zero lt = (x, refl)
-at-within (x ∷ xs) (suc k) lt = at-within xs k (omega (arith, lt))

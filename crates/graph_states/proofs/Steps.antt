@@ -28,7 +28,7 @@ use Rattle.flow_graph.specs.States.{elements_of, fitted, flow_at, array_at, numb
 use Rattle.flow_graph.specs.States.{with_array, with_element}
 use Rattle.flow_graph.specs.WellFormed.{AreElements, FitsWidth, IsGraphProgram, IsState, NamesWithin}
 use Rattle.flow_graph.specs.WellFormed.{functions_of}
-use Rattle.graph_states.proofs.Lists.{all-at}
+use Rattle.graph_states.proofs.Lists.{All-at}
 use Rattle.graph_states.proofs.Numbers.{and-fits, byte-fits, byte-word, element-fits, half-word, low_byte-below}
 use Rattle.graph_states.proofs.Numbers.{not-fits, or-fits}
 use Rattle.graph_states.proofs.Numbers.{quotient-fits, remainder-fits, shift-fits, stored-fits, xor-fits, zero-element}
@@ -151,7 +151,7 @@ accessed-kept program s bits Unknown go h = there-kept program bits (elements_of
 
 -- an element of a list whose elements all fit
 element-in : (P : ℤ → Type 0) (elements : List ℤ) (i n : ℤ) → All P elements → element_at elements i ≡ Some n → P n
-element-in P elements (pos i) n h e = all-at P elements i n h e
+element-in P elements (pos i) n h e = All-at P elements i n h e
 element-in P elements (negsuc i) n h e = absurd (none-some n e)
 
 -- with another element that fits, as many are there, and all fit
@@ -184,7 +184,7 @@ gets_scalar-kept program s bits d k h wd =
     there-kept program bits (elements_of program s (Static k)) _
     (λ elements e. given-kept program (slice_get elements 0) _
     (λ n at. a-value program s d Two (Number n) h wd
-    (element-fits bits n (all-at (FitsBytes (bytes_of bits)) elements 0 n
+    (element-fits bits n (All-at (FitsBytes (bytes_of bits)) elements 0 n
     (elements-fit program s (Static k) (bytes_of bits) elements (store program s h) e) at))))
 
 puts_scalar-kept : (program : GraphProgram) (s : State) (bits : Bits) (k : ℕ) (n : ℤ) → IsState program s
@@ -306,7 +306,7 @@ act-kept program s (op.Clear k) h i at met names word = clears-kept program s k 
 act-kept program s (op.Param d k) h i at met names word =
     given-kept program (slice_get s.current.arguments k) _
     (λ value e. a-value program s d Two value i met.0
-    (all-at (FitsWidth program (functions s) Two) s.current.arguments k value i.active.0.arguments e))
+    (All-at (FitsWidth program (functions s) Two) s.current.arguments k value i.active.0.arguments e))
 act-kept program s (op.Call d f words) h i at met names word = calls-kept program s d f words i names at met
 act-kept program s (op.Putchar d a) h i at met names word =
     given-kept program (number_at s a) _ (λ n e. puts-kept program s d n i met.0)

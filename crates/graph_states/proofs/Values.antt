@@ -9,6 +9,7 @@ use Rattle.std.proofs.lemmas.Option.{none-some, same_Some}
 use Rattle.pcc_base.specs.Outcome.{Null, Static, InFrame, Unknown, Value, Number, Array}
 use Rattle.pcc_base.specs.declared.run.Width.{Width}
 use Rattle.pcc_base.specs.declared.run.Width.TheVariants.{One, Two}
+use Rattle.pcc_base.proofs.Lists.{all-at}
 use Rattle.flow_graph.specs.declared.op.Op.{Op}
 use Rattle.flow_graph.specs.Graphs.{FitsOp, NumbersFit, empty_flow, HasFittingOp, HasWidth, IsIn, IsMet, Stands}
 use Rattle.flow_graph.specs.Graphs.{points_of}
@@ -17,7 +18,7 @@ use Rattle.flow_graph.specs.Meaning.{one_more, values_at}
 use Rattle.flow_graph.specs.States.{Activation, GraphProgram, State, flow_at, number_of, op_of, value_at}
 use Rattle.flow_graph.specs.WellFormed.{FitsWidth, HasFrameArray, IsActivation, IsGraph, IsGraphProgram}
 use Rattle.flow_graph.specs.WellFormed.{NamesWithin}
-use Rattle.graph_states.proofs.Lists.{all-at, every-at, zip-at}
+use Rattle.graph_states.proofs.Lists.{All-at, zip-at}
 
 -- ---- programs
 
@@ -49,8 +50,8 @@ op-at program f point block h lt stands =
       op = m.0;
       there = m.1;
       fits = m.2;
-      names = all-at (NamesWithin (length program.functions) (length program.objects)) flow.ops point m.0 g.names m.1;
-      word = every-at NumbersFit flow.ops point m.0 g.keeps.1.numbers m.1;
+      names = All-at (NamesWithin (length program.functions) (length program.objects)) flow.ops point m.0 g.names m.1;
+      word = all-at NumbersFit flow.ops point m.0 g.keeps.1.numbers m.1;
     }
 
 -- ---- variables

@@ -18,11 +18,6 @@ slice_get-kept [] x y j e = absurd (cc)
 slice_get-kept (z ∷ xs) x y zero e = e
 slice_get-kept (z ∷ xs) x y (suc j) e = slice_get-kept xs x y j e
 
--- the one at the end
-pub slice_get-last : {X : Type 0} (xs : List X) (x : X) → slice_get (xs ++ x ∷ []) (length xs) ≡ Some x
-slice_get-last [] x = refl
-slice_get-last (z ∷ xs) x = slice_get-last xs x
-
 -- an element of the first k is one of the list, before place k
 pub slice_get-taken : {X : Type 0} (k : ℕ) (xs : List X) (y : X) (j : ℕ) → slice_get (take k xs) j ≡ Some y
     → (slice_get xs j ≡ Some y) × (j < k)

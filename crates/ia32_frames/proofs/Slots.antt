@@ -6,8 +6,8 @@ use Rattle.std.specs.List.{AllByRecursion, range_with_len}
 use Rattle.std.proofs.Math.Nat.{mul_comm}
 use Rattle.std.proofs.lemmas.List.Sums.{sum_by-cons}
 use Rattle.std.proofs.lemmas.Option.{none-some, same_Some}
+use Rattle.pcc_base.proofs.Lists.{all-at}
 use Rattle.flow_graph.specs.Sizes.{array_bytes}
-use Rattle.graph_states.proofs.Lists.{every-at}
 use Rattle.ia32_rows.specs.Rows.{AllApart, AreApart, IsSlot}
 use Rattle.ia32_programs.specs.Supports.{AreArraysApart, IsSlotApart, size_of}
 use Rattle.ia32_frames.specs.Frames.{arrays_from, frame_bytes, slot_at}
@@ -117,7 +117,7 @@ slot-clear frame a n array below h v slot e =
     inr (omega (
       arith,
       h,
-      (every-at (IsSlot (16 + 4 * (a + n))) (map slot_at (range_with_len a n)) v slot
+      (all-at (IsSlot (16 + 4 * (a + n))) (map slot_at (range_with_len a n)) v slot
           (slots_within (16 + 4 * (a + n)) a n (omega arith)) e).high,
     ))
 

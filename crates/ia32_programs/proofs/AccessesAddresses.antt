@@ -8,6 +8,7 @@ use Rattle.pcc_base.specs.Objects.{Object}
 use Rattle.pcc_base.specs.Outcome.{InFrame, Static, Array, Value}
 use Rattle.pcc_base.specs.declared.run.Width.{Width}
 use Rattle.pcc_base.specs.declared.run.Width.TheVariants.{Two}
+use Rattle.pcc_base.proofs.Lists.{element-at}
 use Rattle.ia32_regs.specs.declared.names.Reg32.{Reg32}
 use Rattle.ia32_regs.specs.declared.names.Reg32.TheVariants.{Ebp}
 use Rattle.ia32_regs.specs.Places.{Place}
@@ -25,7 +26,7 @@ use Rattle.flow_graph.specs.States as graph
 use Rattle.flow_graph.specs.States.{active_of, depth_of, flow_at, op_at}
 use Rattle.flow_graph.specs.WellFormed.{AreElementsIn, AreElementsOf, IsState, NamesWithin}
 use Rattle.graph_states.proofs.Active.{length-active}
-use Rattle.graph_states.proofs.Lists.{at-within, zip-second}
+use Rattle.graph_states.proofs.Lists.{zip-second}
 use Rattle.graph_states.proofs.Values.{op-at}
 use Rattle.ia32_rows.specs.Placements.{Code, below, placement_of}
 use Rattle.ia32_rows.specs.Shows.{ElementsStand, IsFrameArrayAt, Shows}
@@ -119,10 +120,10 @@ frame-follows d k code input g s supported state shown has r =
     let framed = (shown-in-frame code input g s supported state shown).framed in
     let esp = framed.esp in
     let supports = supported.supports g.current.function state.active.0.function in
-    let (array, declared) = at-within (flow_at code.program g.current.function).arrays k fits.1.0 in
+    let (array, declared) = element-at (flow_at code.program g.current.function).arrays k fits.1.0 in
     let many = supports.arrays.as_many in
     let lt = fits.1.0 in
-    let (below, placed) = at-within (placement_of code g.current.function).arrays k (omega (arith, many, lt)) in
+    let (below, placed) = element-at (placement_of code g.current.function).arrays k (omega (arith, many, lt)) in
     let inside = supports.arrays.inside k below array declared placed in
     let low = inside.low in
     let high = inside.high in
@@ -179,7 +180,7 @@ pub record HasObject (code : Code) (g : graph.State) (s : machine.State) (k : �
 pub has-object : (code : Code) (input : List ℕ) (g : graph.State) (s : machine.State) (k : ℕ) → IsSupported code
     → IsState code.program g → Shows code input g s → k < length code.program.objects → HasObject code g s k
 has-object code input g s k supported state shown below =
-    let (object, declared) = at-within code.program.objects k below in
+    let (object, declared) = element-at code.program.objects k below in
     let (elements, has, fit) = zip-second AreElementsIn code.program.objects g.objects k object state.objects declared
     in
     let (there, address, also, placed, stand) = shown.objects k elements has in

@@ -31,7 +31,7 @@ use Rattle.flow_graph.specs.States.{Elements, active_of, array_at, array_from, d
 use Rattle.flow_graph.specs.States.{flow_at}
 use Rattle.flow_graph.specs.States.{op_at, point_after, value_at, with_value}
 use Rattle.flow_graph.specs.WellFormed.{AreElementsIn, AreElementsOf, IsState}
-use Rattle.graph_states.proofs.Lists.{all-at, zip-at}
+use Rattle.graph_states.proofs.Lists.{All-at, zip-at}
 use Rattle.ia32_rows.specs.Follows.{ComesToEnd, Follows}
 use Rattle.ia32_rows.specs.Paths.{Comes}
 use Rattle.ia32_rows.specs.Placements.{Code, placement_of}
@@ -286,7 +286,7 @@ few-elements code input g s word width elements supported state shown some (inl 
     let low = ends.0 in
     let many = (zip-at AreElementsIn code.program.objects g.objects k h.object elements state.objects h.declared
     h.has).many in
-    let few = all-at (λ (x : graph.Object). length x.elements ≤ 2147483648) code.program.objects k h.object
+    let few = All-at (λ (x : graph.Object). length x.elements ≤ 2147483648) code.program.objects k h.object
     supported.few h.declared in
     (omega (arith, low), omega (arith, many, few))
 few-elements code input g s word width elements supported state shown some (inr (c, k, h)) =
@@ -339,10 +339,10 @@ element-bytes code input g s array word width elements supported state shown is 
     by (inl (j, h)) =
         let fit = (zip-at AreElementsIn code.program.objects g.objects j h.object elements state.objects h.declared
         h.has).fit in
-        subst (λ (w : ℕ). FitsBytes w n) h.width_is (all-at (FitsBytes h.object.width) elements k n fit e)
+        subst (λ (w : ℕ). FitsBytes w n) h.width_is (All-at (FitsBytes h.object.width) elements k n fit e)
     by (inr (call, j, h)) =
         let active = (activation-at code (active_of g) call h.activation state.active h.is.is_active).1 in
         let fit = (zip-at AreElementsOf (flow_at code.program h.activation.function).arrays h.activation.arrays j
         h.array
         elements active.arrays h.declared h.has).fit in
-        subst (λ (w : ℕ). FitsBytes w n) h.width_is (all-at (FitsBytes h.array.0) elements k n fit e)
+        subst (λ (w : ℕ). FitsBytes w n) h.width_is (All-at (FitsBytes h.array.0) elements k n fit e)

@@ -5,6 +5,7 @@ use Rattle.std.specs.Prelude.{slice_get}
 use Rattle.std.proofs.lemmas.Option.{same_Some}
 use Rattle.pcc_base.specs.Objects.{Object}
 use Rattle.pcc_base.specs.Outcome.{ArrayName, Null, Static, InFrame, Unknown}
+use Rattle.pcc_base.proofs.Lists.{element-at, all-at}
 use Rattle.ia32_insn.specs.State as machine
 use Rattle.ia32_insn.specs.Keeps.{AreDisjoint}
 use Rattle.ia32_insn.specs.Items.{data_start, object_addresses}
@@ -13,7 +14,7 @@ use Rattle.flow_graph.specs.Meaning.{same_array}
 use Rattle.flow_graph.specs.States as graph
 use Rattle.flow_graph.specs.States.{Activation, active_of, flow_at}
 use Rattle.flow_graph.specs.WellFormed.{AreElementsOf, IsState}
-use Rattle.graph_states.proofs.Lists.{at-within, every-at, zip-first}
+use Rattle.graph_states.proofs.Lists.{zip-first}
 use Rattle.graph_states.proofs.Values.{graph-of}
 use Rattle.ia32_rows.specs.Placements.{Code, objects_of, placement_of}
 use Rattle.ia32_rows.specs.Shows.{IsArrayAt, IsFrameArrayAt, Shows}
@@ -40,7 +41,7 @@ image o = record { width = o.width; elements = o.elements }
 object-is : (code : Code) (k address : ℕ) → IsSupported code → k < length code.program.objects
     → slice_get code.symbols.objects k ≡ Some address → IsObjectIn code k address
 object-is code k address h lt placed =
-    let (object, there) = at-within code.program.objects k lt in
+    let (object, there) = element-at code.program.objects k lt in
     let at = subst (λ (l : List ℕ). slice_get l k ≡ Some address) h.is_code.text.objects_are placed in
     let inside = object-in (data_start code.text) (objects_of code.program) k address (image object)
     (image-object code k object there) at in
@@ -88,7 +89,7 @@ array-is code g frames k depth address h state at =
     at.of_depth in
     let (array, declared, is) = zip-first AreElementsOf (flow_at code.program (at.activation).function).arrays
     (at.activation).arrays k at.elements active.arrays at.has in
-    let fits = every-at IsArray (flow_at code.program (at.activation).function).arrays k array
+    let fits = all-at IsArray (flow_at code.program (at.activation).function).arrays k array
     ((graph-of code.program (at.activation).function h.program active.function).keeps.1).arrays_fit declared in
     let many : 1 ≤ length at.elements = subst (λ (n : ℕ). 1 ≤ n) (sym is.many) fits.1 in
     let size = some-size array.0 (length at.elements) fits.0 many in

@@ -7,6 +7,7 @@ use Rattle.std.proofs.Math.Nat.{mul-le-mul_left, mul-suc}
 use Rattle.std.proofs.lemmas.Option.{none-some, same_Some, slice_get-map, slice_get_within}
 use Rattle.pcc_base.specs.Objects.{Object}
 use Rattle.pcc_base.specs.Outcome.{Number}
+use Rattle.pcc_base.proofs.Lists.{element-at}
 use Rattle.ia32_regs.specs.declared.names.Reg32.TheVariants.{Esp}
 use Rattle.ia32_insn.specs.State as machine
 use Rattle.ia32_insn.specs.Meaning.{load, word_of}
@@ -189,12 +190,6 @@ called code input point address t supported first named h =
           (λ k value has. absurd (none-some value has)),
         )
     olden (suc i) a e = absurd (none-some a e)
-
--- a place of a list has an element
-element-at : {X : Type 0} → (xs : List X) (k : ℕ) → k < length xs → (x : X) × (slice_get xs k ≡ Some x)
-element-at [] k lt = absurd (omega (arith, lt))
-element-at (x ∷ xs) zero lt = (x, refl)
-element-at (x ∷ xs) (suc k) lt = element-at xs k (omega (arith, lt))
 
 pub main-is-called : MainIsCalled
 main-is-called code input g h e =

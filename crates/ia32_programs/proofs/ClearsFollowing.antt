@@ -5,6 +5,7 @@ use Rattle.std.specs.Prelude.{slice_get, slice_index_or}
 use Rattle.std.proofs.lemmas.Nat.{mul-le}
 use Rattle.std.proofs.lemmas.Option.{get_or_from_slice_get, same_Some}
 use Rattle.pcc_base.specs.Outcome.{InFrame}
+use Rattle.pcc_base.proofs.Lists.{element-at, all-at}
 use Rattle.ia32_regs.specs.declared.names.Reg32.TheVariants.{Eax, Ecx, Edx, Ebx, Esp, Ebp}
 use Rattle.ia32_regs.specs.Places.{Place, InWord, InByte, InSlot}
 use Rattle.ia32_insn.specs.State as machine
@@ -16,7 +17,7 @@ use Rattle.flow_graph.specs.Meaning.{act, given, onward}
 use Rattle.flow_graph.specs.States as graph
 use Rattle.flow_graph.specs.States.{depth_of, flow_at, op_at, with_array}
 use Rattle.flow_graph.specs.WellFormed.{AreElementsOf, IsState}
-use Rattle.graph_states.proofs.Lists.{at-within, every-at, zip-second}
+use Rattle.graph_states.proofs.Lists.{zip-second}
 use Rattle.graph_states.proofs.Values.{graph-of}
 use Rattle.ia32_rows.specs.Follows.{Follows, is_nop}
 use Rattle.ia32_rows.specs.Placements.{Code, placement_of}
@@ -102,7 +103,7 @@ clear-follows k label distance array code input g s supported state shown has de
     inside = (supported.supports f state.active.0.function).arrays.inside k distance array declared placed
 
     is : IsArray array
-    is = every-at IsArray (flow_at code.program f).arrays k array
+    is = all-at IsArray (flow_at code.program f).arrays k array
         ((graph-of code.program f supported.program state.active.0.function).keeps.1).arrays_fit declared
 
     known : (zs : List ℤ) × (slice_get g.current.arrays k ≡ Some zs) × AreElementsOf array zs
@@ -176,8 +177,8 @@ row-follows k code input g s supported state shown has r =
     let flow : Flow = flow_at code.program f in
     let lt : k < length flow.arrays = (op-is code g (op.Clear k) supported state has).fits.0 in
     let many = (supported.supports f state.active.0.function).arrays.as_many in
-    let (array, declared) = at-within flow.arrays k lt in
-    let (distance, placed) = at-within (placement_of code f).arrays k (omega (arith, many, lt)) in
+    let (array, declared) = element-at flow.arrays k lt in
+    let (distance, placed) = element-at (placement_of code f).arrays k (omega (arith, many, lt)) in
     clear-follows k (loop_label flow g.point) distance array code input g s supported state shown has declared placed
     (subst (λ (d : ℕ). RowAt code g (clear_row (loop_label flow g.point) d (size_of array)) s)
     (get_or_from_slice_get (placement_of code f).arrays k distance 0 placed)

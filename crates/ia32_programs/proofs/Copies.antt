@@ -8,6 +8,7 @@ use Rattle.std.proofs.lemmas.Option.{none-some, same_Some}
 use Rattle.pcc_base.specs.Outcome.{Null, Static, InFrame, Unknown, Value, Number, Array}
 use Rattle.pcc_base.specs.declared.run.Width.{Width}
 use Rattle.pcc_base.specs.declared.run.Width.TheVariants.{One, Two}
+use Rattle.pcc_base.proofs.Lists.{element-at}
 use Rattle.ia32_regs.specs.declared.names.Reg32.TheVariants.{Esp, Ebp}
 use Rattle.ia32_regs.specs.Places.{Place, InWord, InByte, InSlot}
 use Rattle.ia32_insn.specs.State as machine
@@ -58,12 +59,6 @@ frame-returns code active frames s younger frame (w ∷ waiting) (k ∷ older) z
 frame-returns code active frames s younger frame (w ∷ waiting) (k ∷ older) (suc i) f h e =
     frame-returns code active frames s w.activation k waiting older i f h.1 e
 
--- an element of a list
-there : {X : Type 0} (xs : List X) (k : ℕ) → k < length xs → (x : X) × (slice_get xs k ≡ Some x)
-there [] k below = absurd (omega arith)
-there (x ∷ xs) zero below = (x, refl)
-there (x ∷ xs) (suc k) below = there xs k (omega arith)
-
 pub word-small : (code : Code) (input : List ℕ) (g : graph.State) (s : machine.State) (value : Value) (w : ℕ)
     → IsSupported code → IsState code.program g → (shown : Shows code input g s)
     → IsWord code (active_of g) shown.frames value w → w < 2 ^ 32
@@ -72,7 +67,7 @@ word-small code input g s (Number n) w supported state shown h =
 word-small code input g s (Array Null) w supported state shown h = omega (arith, h)
 word-small code input g s (Array Unknown) w supported state shown h = absurd h
 word-small code input g s (Array (Static k)) w supported state shown h =
-    let (object, declared) = there code.program.objects k h.0 in
+    let (object, declared) = element-at code.program.objects k h.0 in
     let (elements, has, same) =
     zip-second AreElementsIn code.program.objects g.objects k object state.objects declared in
     let at = object-at code g k w elements object supported state has declared h.1 in
@@ -119,7 +114,7 @@ word-in code input g s (InWord r) value shown for h = (word_of r s, refl, h)
 word-in code input g s (InByte r) value shown for h = absurd for
 word-in code input g s (InSlot slot) value shown for h = (h.0, h.1, h.2)
 
--- a step with the value of a variable, where there is one
+-- a step with the value of a variable, where element-at is one
 given-value : (P : Moved → Type 0) (o : Option Value) (go : Value → Moved) → P Stuck
     → ((value : Value) → o ≡ Some value → P (go value)) → P (given o go)
 given-value P None go none some = none
@@ -139,7 +134,7 @@ pub byte-small : (value : Value) (b : ℕ) → IsByte value b → b < 256
 byte-small (Number n) b h = subst (λ (k : ℕ). k < 256) (sym h.1) (byte-fits n h.0)
 byte-small (Array a) b h = absurd h
 
--- what a copy to a place has to find there
+-- what a copy to a place has to find element-at
 record IsCopied (site : Site) (frame : ℕ) (from to : Place) (s : machine.State) (Low : ℕ → Type 0) : Type 0 where
   word : ℕ
   low : Low word

@@ -24,7 +24,7 @@ use Rattle.ia32_rows.specs.Shows.{ElementsStand, ObjectsStand}
 use Rattle.ia32_rows.specs.Sites.{IsSound}
 use Rattle.ia32_rows.proofs.Sound.{bytes-in}
 use Rattle.ia32_rows.proofs.First.{zero-registers}
-use Rattle.graph_states.proofs.Lists.{all-at}
+use Rattle.graph_states.proofs.Lists.{All-at}
 use Rattle.ia32_programs.specs.Supports.{IsSupported}
 use Rattle.ia32_programs.proofs.Memory.{long-data, text-above}
 use Rattle.ia32_programs.proofs.Objects.{elements-within}
@@ -348,8 +348,8 @@ pub objects-begin : (code : Code) (input : List ℕ) → IsSupported code
 objects-begin code input h k elements e =
     let objects : List Object = code.program.objects in
     let (o, declared, same) = map-of (λ (x : Object). x.elements) objects k elements e in
-    let is : IsObject o = all-at IsObject objects k o (h.program).objects declared in
-    let few = all-at (λ (x : Object). length x.elements ≤ 2147483648) objects k o h.few declared in
+    let is : IsObject o = All-at IsObject objects k o (h.program).objects declared in
+    let few = All-at (λ (x : Object). length x.elements ≤ 2147483648) objects k o h.few declared in
     let there : slice_get (objects_of code.program) k ≡ Some (copied o) =
     slice_get-map copied objects k ∙ ap (λ (x : Option Object). option_map copied x) declared in
     let at = object-in (data_start code.text + 4) (objects_of code.program) k (copied o) there in

@@ -7,6 +7,7 @@ use Rattle.std.proofs.lemmas.Option.{none-some, same_Some, slice_get_within}
 use Rattle.pcc_base.specs.Outcome.{Value, Number}
 use Rattle.pcc_base.specs.declared.run.Width.{Width}
 use Rattle.pcc_base.specs.declared.run.Width.TheVariants.{One, Two}
+use Rattle.pcc_base.proofs.Lists.{element-at, all-at}
 use Rattle.ia32_regs.specs.Places.{Place, InSlot}
 use Rattle.ia32_insn.specs.State as machine
 use Rattle.ia32_insn.specs.Keeps.{AreDisjoint}
@@ -15,7 +16,6 @@ use Rattle.flow_graph.specs.Graphs.{IsArray}
 use Rattle.flow_graph.specs.States as graph
 use Rattle.flow_graph.specs.States.{Activation, active_of, first_activation, first_array, flow_at}
 use Rattle.flow_graph.specs.WellFormed.{IsState}
-use Rattle.graph_states.proofs.Lists.{at-within, every-at}
 use Rattle.graph_states.proofs.Numbers.{zero-byte, zero-word}
 use Rattle.graph_states.proofs.Values.{graph-of, op-at}
 use Rattle.ia32_rows.specs.Placements.{Code, placement_of}
@@ -172,8 +172,8 @@ fresh-arrays code input g s u h state c room b k elements e =
     let here : slice_get (first_activation code.program f g.current.arguments).arrays k ≡ Some elements =
     ap (λ (a : Activation). slice_get a.arrays k) (sym c.fresh) ∙ e in
     let (array, has, same) = map-of first_array arrays k elements here in
-    let fits = every-at IsArray arrays k array ((graph-of code.program f h.program lt).keeps.1).arrays_fit has in
-    let (d, placed) = at-within belows k (subst (λ (n : ℕ). k < n) (sym inside.as_many)
+    let fits = all-at IsArray arrays k array ((graph-of code.program f h.program lt).keeps.1).arrays_fit has in
+    let (d, placed) = element-at belows k (subst (λ (n : ℕ). k < n) (sym inside.as_many)
     (slice_get_within arrays k array has)) in
     let at : c.frame - d + d ≡ c.frame = back c.frame size d (inside.inside k d array has placed).high room in (
       array,

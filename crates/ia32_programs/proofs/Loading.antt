@@ -28,7 +28,7 @@ use Rattle.flow_graph.specs.declared.op.Op.TheVariants as op
 use Rattle.flow_graph.specs.Meaning.{Moved, Stuck, bytes_of, given, of_width, sets}
 use Rattle.flow_graph.specs.States as graph
 use Rattle.flow_graph.specs.States.{Elements, active_of, elements_of, elements_with, flow_at}
-use Rattle.graph_states.proofs.Lists.{all-at}
+use Rattle.graph_states.proofs.Lists.{All-at}
 use Rattle.graph_states.proofs.Numbers.{element-fits}
 use Rattle.ia32_rows.specs.Follows.{Follows}
 use Rattle.ia32_rows.specs.Placements.{Code, placement_of}
@@ -282,7 +282,7 @@ get-follows bits d k code input g s supported state shown has r =
         let same : there.address ≡ a = object-named code g s k a supported there named.names in
         let small : a < 2 ^ 32 = subst (λ (b : ℕ). b < 2 ^ 32) same there.small in
         let fit : FitsBytes (bytes_of bits) n = subst (λ (w : ℕ). FitsBytes w n) wide
-        (all-at (FitsBytes there.object.width) there.elements 0 n there.fit.fit e) in
+        (All-at (FitsBytes there.object.width) there.elements 0 n there.fit.fit e) in
         let stand = subst (λ (w : ℕ). ElementsStand s a w there.elements) wide
         (subst (λ (b : ℕ). ElementsStand s b there.object.width there.elements) same there.stand) in
         let one = stand.1 0 n e in

@@ -5,6 +5,7 @@ use Rattle.std.proofs.Common.{ap, subst, ◌∙◌, arith, append_assoc, length-
 use Rattle.std.specs.Prelude.{drop, slice_get}
 use Rattle.std.proofs.lemmas.List.{length-map}
 use Rattle.std.proofs.lemmas.Option.{get_or_from_slice_get, same_Some}
+use Rattle.pcc_base.proofs.Lists.{all-append}
 use Rattle.ia32_regs.specs.Places.{Place, InWord, InByte, InSlot}
 use Rattle.ia32_insn.specs.declared.item.Item.{Item}
 use Rattle.ia32_insn.specs.declared.item.Item.TheVariants as item
@@ -17,7 +18,7 @@ use Rattle.ia32_rows.specs.Shows.{IsInside, up_to_call}
 use Rattle.ia32_rows.specs.Sites.{Site, StandsFrom}
 use Rattle.ia32_rows.proofs.Steps.{at-back, at-front, items-split}
 use Rattle.ia32_rows.specs.Rows.{before_call, behind_call, deepen, pass, pass_all, place_before, selected}
-use Rattle.ia32_rows.proofs.ItemKinds.{PointsTakeRoom, behind-point, every-join, point-address, strictly-later}
+use Rattle.ia32_rows.proofs.ItemKinds.{PointsTakeRoom, behind-point, point-address, strictly-later}
 use Rattle.ia32_rows.proofs.Laid.{at-place}
 use Rattle.ia32_programs.specs.Supports.{no_places, site_of}
 use Rattle.ia32_programs.proofs.Memory.{address-at}
@@ -93,11 +94,11 @@ pass-inside (InSlot k) = (tt, tt)
 pass_all-inside : (places : List Place) → AllByRecursion IsInside (pass_all places)
 pass_all-inside [] = tt
 pass_all-inside (p ∷ places) =
-    every-join IsInside (pass_all places) (pass p) (pass_all-inside places) (pass-inside p)
+    all-append IsInside (pass_all places) (pass p) (pass_all-inside places) (pass-inside p)
 
 before-inside : (places : List Place) → AllByRecursion IsInside (before_call places)
 before-inside places =
-    every-join IsInside deepen (pass_all places) (tt, (tt, (tt, (tt, tt)))) (pass_all-inside places)
+    all-append IsInside deepen (pass_all places) (tt, (tt, (tt, (tt, tt)))) (pass_all-inside places)
 
 -- ---- where a call returns to
 

@@ -5,6 +5,7 @@ use Rattle.std.specs.Prelude.{option_map, slice_get}
 use Rattle.std.proofs.lemmas.Option.{none-some, same_Some}
 use Rattle.pcc_base.specs.declared.run.Width.{Width}
 use Rattle.pcc_base.specs.declared.run.Width.TheVariants.{One, Two}
+use Rattle.pcc_base.proofs.Lists.{all-at}
 use Rattle.ia32_regs.specs.Places.{Place, InSlot}
 use Rattle.flow_graph.specs.declared.op.Op.{Op}
 use Rattle.flow_graph.specs.declared.op.Op.TheVariants as op
@@ -14,7 +15,6 @@ use Rattle.ia32_rows.specs.Placements.{in_slots}
 use Rattle.ia32_rows.specs.Rows.{AllApart, AreApart, IsSlot}
 use Rattle.live_searches.proofs.Placed.{op-fits}
 use Rattle.live_searches.proofs.Using.{used-within}
-use Rattle.graph_states.proofs.Lists.{every-at}
 use Rattle.ia32_rows.specs.Laws.{ArePlacesApart}
 use Rattle.ia32_programs.specs.Supports.{AreSlots, HoldsWidth, IsPlaceFor, IsSpared, SlotsSupport}
 use Rattle.ia32_programs.specs.Supports.{SupportsPoint}
@@ -85,9 +85,9 @@ slots-apart : (slots : List ℕ) (v w a b : ℕ) → AllApart slots → v ≢ w 
 slots-apart [] v w a b all other e f = absurd (none-some a e)
 slots-apart (k ∷ ks) zero zero a b all other e f = absurd (other refl)
 slots-apart (k ∷ ks) zero (suc w) a b all other e f =
-    subst (λ (c : ℕ). AreApart c b) (same_Some k a e) (every-at (AreApart k) ks w b all.0 f)
+    subst (λ (c : ℕ). AreApart c b) (same_Some k a e) (all-at (AreApart k) ks w b all.0 f)
 slots-apart (k ∷ ks) (suc v) zero a b all other e f =
-    turned (subst (λ (c : ℕ). AreApart c a) (same_Some k b f) (every-at (AreApart k) ks v a all.0 e))
+    turned (subst (λ (c : ℕ). AreApart c a) (same_Some k b f) (all-at (AreApart k) ks v a all.0 e))
   where
     turned : AreApart b a → AreApart a b
     turned (inl p) = inr p
@@ -126,7 +126,7 @@ slot-spared o slot = tt
 slot-place-for : (flow : Flow) (frame : ℕ) (arrays slots : List ℕ) (v slot : ℕ) → AreSlots flow frame arrays slots
     → slice_get slots v ≡ Some slot → IsPlaceFor flow (in_slots frame arrays slots) v (InSlot slot)
 slot-place-for flow frame arrays slots v slot h e =
-    let within = every-at (IsSlot frame) slots v slot h.within e in
+    let within = all-at (IsSlot frame) slots v slot h.within e in
     let width = as-long slots flow.widths v slot (sym h.as_many) e in
     record {
       inside = record { low = within.low; high = within.high };

@@ -4,6 +4,7 @@ use Rattle.std.proofs.Common.{◌≡◌, ℕ, zero, suc, ◌+◌, ◌<◌, ◌�
 use Rattle.std.proofs.Common.{subst, refl, ◌∙◌, arith, Option, map}
 use Rattle.std.specs.Prelude.{◌==◌, ◌||◌, ⊤, ℤ, Bool, true, false, if◌then◌else◌, option_map, slice_get, slice_index_or}
 use Rattle.std.proofs.lemmas.Option.{same_Some}
+use Rattle.pcc_base.proofs.Lists.{all-append}
 use Rattle.ia32_regs.specs.declared.names.Reg32.{Reg32}
 use Rattle.ia32_regs.specs.declared.names.Reg32.TheVariants.{Eax, Edx, Esi, Edi}
 use Rattle.ia32_regs.specs.declared.names.Reg8.TheVariants.{Cl}
@@ -47,19 +48,6 @@ use Rattle.ia32_rows.specs.Accesses.{loading, load_from, storing, store_to, inde
 use Rattle.ia32_rows.specs.Accesses.{check_array, check_index, checking, load_row, store_row}
 use Rattle.ia32_rows.specs.Rows.{entry_label, row, place_before, place_after, point_row, point_rows}
 use Rattle.ia32_rows.specs.Rows.{block_rows, headers, selected}
-
--- what holds of each of two lists holds of each of both
-pub every-join : {X : Type 0} (P : X → Type 0) (xs ys : List X) → AllByRecursion P xs → AllByRecursion P ys
-    → AllByRecursion P (xs ++ ys)
-every-join P [] ys a b = b
-every-join P (x ∷ xs) ys a b = (a.0, every-join P xs ys a.1 b)
-
--- what holds of each holds of the one at a place
-pub every-get : {X : Type 0} (P : X → Type 0) (xs : List X) (i : ℕ) (x : X) → AllByRecursion P xs → slice_get xs i
-    ≡ Some x → P x
-every-get P [] i x h e = absurd (cc)
-every-get P (y ∷ xs) zero x h e = subst P (same_Some y x e) h.0
-every-get P (y ∷ xs) (suc i) x h e = every-get P xs i x h.1 e
 
 -- ---- the kinds of items
 
@@ -192,10 +180,10 @@ some-behind (x ∷ xs) ys h = tt
 
 -- items before a row, and behind it
 row-behind : (P : Item → Type 0) (xs ys : List Item) → AllByRecursion P xs → AreSome P ys → AreSome P (xs ++ ys)
-row-behind P xs ys a b = (every-join P xs ys a b.0, some-behind xs ys b.1)
+row-behind P xs ys a b = (all-append P xs ys a b.0, some-behind xs ys b.1)
 
 row-before : (P : Item → Type 0) (xs ys : List Item) → AreSome P xs → AllByRecursion P ys → AreSome P (xs ++ ys)
-row-before P xs ys a b = (every-join P xs ys a.0 b, some-before xs ys a.1)
+row-before P xs ys a b = (all-append P xs ys a.0 b, some-before xs ys a.1)
 
 -- ---- of moves
 
@@ -323,8 +311,8 @@ dividing-row part p q r =
     let one : List Item = plain (insn.IDiv (divisor_of r)) ∷ [] in
     written-row (before_division q r ++ one) p part
     (row-behind IsPlain (before_division q r) one
-    (every-join IsPlain (clear_divisor r ++ read Eax q) sign
-    (every-join IsPlain (clear_divisor r) (read Eax q) (clear-insns r) (read-insns Eax q)) (tt, tt))
+    (all-append IsPlain (clear_divisor r ++ read Eax q) sign
+    (all-append IsPlain (clear_divisor r) (read Eax q) (clear-insns r) (read-insns Eax q)) (tt, tt))
     ((tt, tt), tt))
 
 comparing-row : (p q : Place) → IsPlainRow (comparing p q)
@@ -355,7 +343,7 @@ passed-row p items h = row-before IsOther (pass p) items (plain-row (pass p) (pa
 
 pass_all-insns : (places : List Place) → ArePlain (pass_all places)
 pass_all-insns [] = tt
-pass_all-insns (p ∷ places) = every-join IsPlain (pass_all places) (pass p) (pass_all-insns places) (pass-row p).0
+pass_all-insns (p ∷ places) = all-append IsPlain (pass_all places) (pass p) (pass_all-insns places) (pass-row p).0
 
 drop-insns : (words : ℕ) → AreOthers (drop_words words)
 drop-insns zero = tt
@@ -369,8 +357,8 @@ call-row : (result : Option Place) (f : ℕ) (arguments : List Place) → IsOthe
 call-row result f arguments =
     let words : ℕ = length arguments in
     let back : AreOthers (behind_call result words) =
-    every-join IsOther (drop_words words ++ undeepen) (write_any result)
-    (every-join IsOther (drop_words words) undeepen (drop-insns words) (tt, (tt, tt))) (write_any-insns result) in
+    all-append IsOther (drop_words words ++ undeepen) (write_any result)
+    (all-append IsOther (drop_words words) undeepen (drop-insns words) (tt, (tt, tt))) (write_any-insns result) in
     row-before IsOther (before_call arguments) (item.CallFunction f ∷ behind_call result words)
     (row-before IsOther deepen (pass_all arguments) ((tt, (tt, (tt, (tt, tt)))), tt)
     (plain-others (pass_all arguments) (pass_all-insns arguments))) (tt, back)
@@ -404,16 +392,16 @@ read-row t p = plain-others (read t p) (read-insns t p)
 
 store_to-insns : (bits : Bits) (p : Place) → AreOthers (store_to bits p)
 store_to-insns bits p =
-    every-join IsOther (read (target_of p) p) (storing bits p) (read-row (target_of p) p) (storing-insns bits p)
+    all-append IsOther (read (target_of p) p) (storing bits p) (read-row (target_of p) p) (storing-insns bits p)
 
 checking-insns : (p q : Place) → AreOthers (checking p q)
 checking-insns p q =
     let test : List Item = plain (insn.Test (rm.Reg (target_of p)) (target_of p)) ∷ item.JumpTrap (Some cond.E) ∷ [] in
     let compare : List Item = plain (insn.AluLoad alu.Cmp (index_register q) (count_before (target_of p)))
     ∷ item.JumpTrap (Some cond.Ae) ∷ [] in
-    every-join IsOther (check_array p) (check_index p q)
-    (every-join IsOther (read (target_of p) p) test (read-row (target_of p) p) (tt, (tt, tt)))
-    (every-join IsOther (read (index_register q) q) compare (read-row (index_register q) q) (tt, (tt, tt)))
+    all-append IsOther (check_array p) (check_index p q)
+    (all-append IsOther (read (target_of p) p) test (read-row (target_of p) p) (tt, (tt, tt)))
+    (all-append IsOther (read (index_register q) q) compare (read-row (index_register q) q) (tt, (tt, tt)))
 
 load-row : (bits : Bits) (p q r : Place) → IsOtherRow (load_row bits p q r)
 load-row bits p q r =

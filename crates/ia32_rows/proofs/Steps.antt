@@ -5,8 +5,8 @@ use Rattle.std.specs.Prelude.{Result}
 use Rattle.std.proofs.lemmas.Bool.{le-leb}
 use Rattle.std.proofs.Math.Nat.{mod-eq_of_lt}
 use Rattle.std.proofs.Math.Seq.{take-append_seam, drop-append_seam}
-use Rattle.std.specs.List.{AllByRecursion}
 use Rattle.pcc_base.specs.Outcome.{End}
+use Rattle.pcc_base.proofs.Lists.{all-append}
 use Rattle.ia32_insn.specs.declared.insn.Insn.{Insn}
 use Rattle.ia32_insn.specs.declared.insn.Insn.TheVariants as insn
 use Rattle.ia32_insn.specs.declared.item.Item.{Item}
@@ -89,18 +89,13 @@ path-join : (xs ys : List ℕ) (s t u : State) → Path xs s t → Path ys t u �
 path-join [] ys s t u e q = subst (λ (v : State). Path ys v u) (sym e) q
 path-join (x ∷ xs) ys s t u (next, at, step, p) q = (next, at, step, path-join xs ys next t u p q)
 
-clear-join : (text xs ys : List ℕ) → AllByRecursion (IsClear text) xs → AllByRecursion (IsClear text) ys
-    → AllByRecursion (IsClear text) (xs ++ ys)
-clear-join text [] ys a b = b
-clear-join text (x ∷ xs) ys a b = (a.0, clear-join text xs ys a.1 b)
-
 pub comes-then : (text : List ℕ) (s t u : State) → Comes text s t → Comes text t u → Comes text s u
 comes-then text s t u a b = record {
   addresses = a.addresses ++ b.addresses;
   path =
       path-join a.addresses b.addresses s t u a.path b.path;
   clear =
-      clear-join text a.addresses b.addresses a.clear b.clear;
+      all-append (IsClear text) a.addresses b.addresses a.clear b.clear;
 }
 
 -- ---- items at EIP

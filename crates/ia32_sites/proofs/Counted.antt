@@ -3,6 +3,7 @@ use Rattle.std.proofs.Common.{◌≡◌, ℕ, zero, suc, ◌<◌, ◌≤◌, ◌
 use Rattle.std.proofs.Common.{Some, refl, sym, ap, subst, ◌∙◌, append_assoc, arith, inl, inr}
 use Rattle.std.specs.Prelude.{◌⊎◌, pos, slice_get, slice_index_or}
 use Rattle.std.specs.List.{AllByRecursion}
+use Rattle.pcc_base.proofs.Lists.{all-at}
 use Rattle.ia32_insn.specs.declared.operand.Rm32.TheVariants as rm
 use Rattle.ia32_insn.specs.declared.insn.Insn.TheVariants as insn
 use Rattle.ia32_insn.specs.declared.item.Item.{Item}
@@ -10,7 +11,6 @@ use Rattle.ia32_insn.specs.Items.{plain}
 use Rattle.flow_graph.specs.Graphs.{Flow, IsArray}
 use Rattle.ia32_rows.specs.Placements.{below}
 use Rattle.ia32_rows.specs.Rows.{headers}
-use Rattle.ia32_rows.proofs.ItemKinds.{every-get}
 use Rattle.ia32_programs.specs.Supports.{AreArraysIn, IsArrayIn}
 
 -- the numbers of the arrays from a place on are that of the array there, and the rest
@@ -88,7 +88,7 @@ few-elements flow frame belows i inside arrays small h =
     let there = at-place flow.arrays i (0, 0) h in
     let array : IsArrayIn frame mine (slice_index_or belows i 0) =
     inside.inside i (slice_index_or belows i 0) mine there (at-place belows i 0 (omega arith)) in
-    let is : IsArray mine = every-get IsArray flow.arrays i mine arrays there in
+    let is : IsArray mine = all-at IsArray flow.arrays i mine arrays there in
     let fit = elements-fit mine.0 mine.1 is.0 in
     let low = array.low in
     let high = array.high in

@@ -6,6 +6,7 @@ use Rattle.std.specs.Prelude.{◌%◌, ◌==◌, ◌||◌, ⊤, neg_ℤ, pos}
 use Rattle.std.specs.Int.{w32}
 use Rattle.std.specs.Int.RustNames.{FitsSigned}
 use Rattle.std.proofs.lemmas.Int.{ints}
+use Rattle.pcc_base.proofs.Lists.{all-append}
 use Rattle.ia32_regs.specs.Registers.{number32, number8}
 use Rattle.ia32_regs.specs.declared.names.Reg32.{Reg32}
 use Rattle.ia32_regs.specs.declared.names.Reg32.TheVariants.{Eax, Ecx, Edx, Ebx, Esp, Ebp, Esi, Edi}
@@ -36,7 +37,7 @@ use Rattle.ia32_rows.specs.Rows.{widening}
 use Rattle.ia32_rows.specs.Rows.{lowering, extend_half, halving, into_count, shifted_in, shifting, clear_divisor}
 use Rattle.ia32_rows.specs.Rows.{divisor_of, before_division, dividing, comparing, set_row, argument_word, leave}
 use Rattle.ia32_rows.specs.Rows.{return_row, loading, storing, store_to, index_register, element}
-use Rattle.ia32_rows.proofs.ItemKinds.{either-way, every-join}
+use Rattle.ia32_rows.proofs.ItemKinds.{either-way}
 
 -- ---- so many items, each of which passes a test
 
@@ -46,7 +47,7 @@ Within P n items = AllByRecursion P items × (length items ≤ n)
 pub join : (P : Item → Type 0) (m n : ℕ) (xs ys : List Item) → Within P m xs → Within P n ys
     → Within P (m + n) (xs ++ ys)
 join P m n xs ys a b = (
-  every-join P xs ys a.0 b.0,
+  all-append P xs ys a.0 b.0,
   sums m n (length xs) (length ys) (length (xs ++ ys)) a.1 b.1
       (length-append xs ys),
 )

@@ -7,6 +7,7 @@ use Rattle.std.specs.Int.{w32}
 use Rattle.std.specs.Int.RustNames.{FitsSigned}
 use Rattle.std.proofs.lemmas.Option.{same_Some}
 use Rattle.std.proofs.lemmas.List.{length-map}
+use Rattle.pcc_base.proofs.Lists.{all-append}
 use Rattle.ia32_regs.specs.declared.names.Reg32.{Reg32}
 use Rattle.ia32_regs.specs.declared.names.Reg32.TheVariants.{Eax, Edx, Esp, Esi, Edi}
 use Rattle.ia32_regs.specs.Places.{Place}
@@ -40,7 +41,6 @@ use Rattle.ia32_rows.specs.Rows.{set_row, pass, pass_all, argument_word, deepen,
 use Rattle.ia32_rows.specs.Rows.{before_call, behind_call, call_row, leave, return_row, prologue, size_of}
 use Rattle.ia32_rows.specs.Rows.{clear_row, loading, load_from, store_to, index_register, count_before, element}
 use Rattle.ia32_rows.specs.Rows.{check_array, check_index, checking, load_row, store_row}
-use Rattle.ia32_rows.proofs.ItemKinds.{every-join}
 use Rattle.ia32_sizes.proofs.Fine.{AreFine, IsFine, IsNear, Within, argument-fits, changing-fine, commuting-fine}
 use Rattle.ia32_sizes.proofs.Fine.{comparing-fine, copy-fine, dividing-fine, element-index, fits-below, fits-near}
 use Rattle.ia32_sizes.proofs.Fine.{halving-fine, join, leaves, loading-fine, lowering-fine, multiplying-fine}
@@ -147,7 +147,7 @@ module _ (whole : List Item) (functions objects : ℕ) where
       → AllByRecursion (IsGood whole functions objects) (pass_all places)
   pass_all-good [] h = tt
   pass_all-good (p ∷ places) h =
-      every-join (IsGood whole functions objects) (pass_all places) (pass p) (pass_all-good places h.1)
+      all-append (IsGood whole functions objects) (pass_all places) (pass p) (pass_all-good places h.1)
       (good 2 (pass p) (pass-fine p h.0)).0
 
   call-fits : (result : Option Place) (f : ℕ) (arguments : List Place) → ((q : Place) → result ≡ Some q → IsNear q)
@@ -162,8 +162,8 @@ module _ (whole : List Item) (functions objects : ℕ) where
       let calls : Good 6 (item.CallFunction f ∷ behind_call result words) =
       first 5 (item.CallFunction f) (behind_call result words) names back in
       record {
-        good = every-join P (before_call arguments) (item.CallFunction f ∷ behind_call result words)
-            (every-join P deepen (pass_all arguments) deepen-good.0 (pass_all-good arguments passed)) calls.0;
+        good = all-append P (before_call arguments) (item.CallFunction f ∷ behind_call result words)
+            (all-append P deepen (pass_all arguments) deepen-good.0 (pass_all-good arguments passed)) calls.0;
         small = counted (items_size (call_row result f arguments)) (items_size (before_call arguments))
             (items_size deepen)
             (items_size (pass_all arguments)) (items_size (item.CallFunction f ∷ behind_call result words))

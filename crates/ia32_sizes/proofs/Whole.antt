@@ -4,6 +4,7 @@ use Rattle.std.proofs.Common.{◌≡◌, ℕ, zero, suc, ◌+◌, ◌*◌, ◌/�
 use Rattle.std.proofs.Common.{None, refl, sym, ap, subst, inl, inr, arith, length-append}
 use Rattle.std.specs.Prelude.{◌⊎◌, ◌==◌, slice_get, slice_index_or, sum_by, unwrap_or}
 use Rattle.std.proofs.lemmas.Option.{same_Some, slice_get_within, get_or_from_slice_get}
+use Rattle.pcc_base.proofs.Lists.{all-append, all-at}
 use Rattle.ia32_regs.specs.Places.{Place, InWord, InByte, InSlot}
 use Rattle.ia32_insn.specs.declared.item.Item.{Item}
 use Rattle.ia32_insn.specs.declared.item.Item.TheVariants as item
@@ -24,7 +25,7 @@ use Rattle.ia32_rows.specs.Placements.{Placement}
 use Rattle.ia32_rows.specs.Sites.{IsInFrame}
 use Rattle.ia32_rows.specs.Rows.{block_rows, entry_label, headers, loop_label, place_after, place_before, point_row}
 use Rattle.ia32_rows.specs.Rows.{point_rows, prologue, row, selected}
-use Rattle.ia32_rows.proofs.ItemKinds.{either-way, every-get, every-join}
+use Rattle.ia32_rows.proofs.ItemKinds.{either-way}
 use Rattle.ia32_rows.proofs.Laid.{row-in-graph}
 use Rattle.ia32_rows.proofs.Numbered.{all_points, few-points, flow-distinct, labels-once, points-once, points-placed}
 use Rattle.ia32_rows.proofs.Numbered.{some-points}
@@ -179,7 +180,7 @@ module _ (functions objects : ℕ) (flow : Flow) (placement : Placement) (homes 
       (λ v. near-of placement.frame (placement.before p v) (λ x e. (point.before v x e).inside) frame-small)
       (λ v. near-of placement.frame (placement.after p v) (λ x e. (point.after v x e).inside) frame-small)
       (λ k. near-distance flow.arrays placement.frame placement.arrays k s.arrays frame-small)
-      (every-get NumbersFit flow.ops p o f.numbers fits.1) names (labels-of p b o placed is fits.2) few_words)
+      (all-at NumbersFit flow.ops p o f.numbers fits.1) names (labels-of p b o placed is fits.2) few_words)
 
   -- ---- points and blocks
 
@@ -189,7 +190,7 @@ module _ (functions objects : ℕ) (flow : Flow) (placement : Placement) (homes 
   points-good : (points : List ℕ) → ((p : ℕ) → IsIn p points → Fits p) → Good (point_rows flow placement points)
   points-good [] h = tt
   points-good (p ∷ points) h =
-      every-join (IsGood whole functions objects) (point_row flow placement p) (point_rows flow placement points)
+      all-append (IsGood whole functions objects) (point_row flow placement p) (point_rows flow placement points)
       (tt, (h p (inl refl)).good) (points-good points (λ q i. h q (inr i)))
 
   points-small : (points : List ℕ) → ((p : ℕ) → IsIn p points → Fits p)
@@ -209,7 +210,7 @@ module _ (functions objects : ℕ) (flow : Flow) (placement : Placement) (homes 
       → Good (block_rows flow placement k blocks)
   blocks-good k [] h = tt
   blocks-good k (points ∷ blocks) h =
-      every-join (IsGood whole functions objects) (item.Label k ∷ point_rows flow placement points)
+      all-append (IsGood whole functions objects) (item.Label k ∷ point_rows flow placement points)
       (block_rows flow placement (suc k) blocks) (tt, points-good points (h 0))
       (blocks-good (suc k) blocks (λ b. h (suc b)))
 
@@ -233,7 +234,7 @@ module _ (functions objects : ℕ) (flow : Flow) (placement : Placement) (homes 
       → AllByRecursion (λ q. q < length flow.ops) (all_points blocks)
   every-point [] h = tt
   every-point (points ∷ blocks) h =
-      every-join (λ q. q < length flow.ops) points (all_points blocks) (each points (h 0))
+      all-append (λ q. q < length flow.ops) points (all_points blocks) (each points (h 0))
       (every-point blocks (λ b. h (suc b)))
     where
       each : (ps : List ℕ) → ((p : ℕ) → IsIn p ps → p < length flow.ops) → AllByRecursion (λ q. q < length flow.ops) ps
@@ -270,7 +271,7 @@ module _ (functions objects : ℕ) (flow : Flow) (placement : Placement) (homes 
   are-headers : IsHeader flow.arrays placement.arrays
   are-headers k distance array has at =
       let inside : IsArrayIn placement.frame array distance = s.arrays.inside k distance array has at in
-      let is : IsArray array = every-get IsArray flow.arrays k array f.arrays_fit has in
+      let is : IsArray array = all-at IsArray flow.arrays k array f.arrays_fit has in
       let many = elements-few array.0 array.1 is.0 in
       let low = inside.low in
       let high = inside.high in
@@ -285,10 +286,10 @@ module _ (functions objects : ℕ) (flow : Flow) (placement : Placement) (homes 
       let first : List Item = prologue placement.frame (entry_label flow) in
       let numbers : List Item = headers flow.arrays placement.arrays in
       let blocks : List Item = block_rows flow placement 0 flow.blocks in
-      every-join P first (numbers ++ blocks)
+      all-append P first (numbers ++ blocks)
       (prologue-good whole functions objects placement.frame (entry_label flow) frame-small
       (entry-there flow placement)).0
-      (every-join P numbers blocks (headers-good flow.arrays placement.arrays are-headers)
+      (all-append P numbers blocks (headers-good flow.arrays placement.arrays are-headers)
       (blocks-good 0 flow.blocks (λ b p i. point-fits p b i)))
 
   -- The first items and the numbers of elements have less than what is left of the first point's share.
@@ -358,7 +359,7 @@ module _ (functions objects : ℕ) (flow : Flow) (placement : Placement) (homes 
   graph-code : IsCodeIn functions objects flow whole
   graph-code =
       let every : (j : ℕ) (i : Item) → slice_get whole j ≡ Some i → IsGood whole functions objects i =
-      λ j i e. every-get (IsGood whole functions objects) whole j i selected-good e in
+      λ j i e. all-at (IsGood whole functions objects) whole j i selected-good e in
       record {
         size = selected-small;
         assembles = λ bound.

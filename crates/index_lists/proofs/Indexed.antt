@@ -12,6 +12,7 @@ use Rattle.std.proofs.lemmas.Option.{slice_get_within, slice_get-get_or, get_or_
 use Rattle.std.proofs.lemmas.Bool.{cases_eq}
 use Rattle.std.proofs.lemmas.Bool.Decides.{eqb_tells}
 use Rattle.std.proofs.lemmas.Map.Steps.{length-le_from_distinct_below}
+use Rattle.pcc_base.proofs.Lists.{get-last, get-append}
 use Rattle.index_lists.specs.declared.link.Link.{Link}
 use Rattle.index_lists.specs.declared.link.Ends.{Ends}
 use Rattle.index_lists.specs.Lists.{Lists, IsLists, IsAbsent, IsOnce, IsListed, StandsIn, nodes_of}
@@ -313,17 +314,6 @@ unlinked links ends lists l before node after e k h got there same =
     rw (same, are) (indexed-remove links ends lists l before node after h got)
 
 -- ---- more nodes, more lists
-
--- an element stays where elements come after it
-get-append : {X : Type 0} (xs ys : List X) (k : ℕ) (x : X) → slice_get xs k ≡ Some x → slice_get (xs ++ ys) k ≡ Some x
-get-append [] ys k x e = absurd (cc)
-get-append (z ∷ xs) ys zero x e = e
-get-append (z ∷ xs) ys (suc k) x e = get-append xs ys k x e
-
--- the element that was put last
-get-last : {X : Type 0} (xs : List X) (x : X) → slice_get (xs ++ x ∷ []) (length xs) ≡ Some x
-get-last [] x = refl
-get-last (y ∷ xs) x = get-last xs x
 
 -- an element of a list with one more at its end
 get-push : {X : Type 0} (xs : List X) (x : X) (k : ℕ) (y : X) → slice_get (xs ++ x ∷ []) k ≡ Some y

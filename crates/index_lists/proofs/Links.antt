@@ -4,6 +4,7 @@ use Rattle.std.proofs.Common.{refl, sym, ap, arith, ◌∙◌}
 use Rattle.std.specs.List.{AllByRecursion, slice_get}
 use Rattle.std.proofs.lemmas.List.{length-set}
 use Rattle.std.proofs.lemmas.Option.{slice_get_within, same_Some}
+use Rattle.pcc_base.proofs.Lists.{all-append}
 use Rattle.index_lists.specs.declared.link.Link.{Link}
 use Rattle.index_lists.specs.Lists.{IsAbsent, AreApart, IsOnce}
 use Rattle.index_lists.specs.Links.{AreLinked, first_or, last_or, linked_next, linked_previous, with_link, with_next}
@@ -30,12 +31,6 @@ pub all-split : {X : Type 0} (P : X → Type 0) (xs ys : List X) → AllByRecurs
     → AllByRecursion P xs × AllByRecursion P ys
 all-split P [] ys h = (tt, h)
 all-split P (x ∷ xs) ys h = let r = all-split P xs ys h.1 in ((h.0, r.0), r.1)
-
--- what holds of each of two lists holds where they are joined
-pub all-join : {X : Type 0} (P : X → Type 0) (xs ys : List X) → AllByRecursion P xs → AllByRecursion P ys
-    → AllByRecursion P (xs ++ ys)
-all-join P [] ys h g = g
-all-join P (x ∷ xs) ys h g = (h.0, all-join P xs ys h.1 g)
 
 -- ---- nodes that are apart
 
@@ -65,7 +60,7 @@ once-split (x ∷ xs) ys h =
 -- two lists that are apart, in one
 pub once-join : (xs ys : List ℕ) → IsOnce xs → IsOnce ys → AreApart xs ys → IsOnce (xs ++ ys)
 once-join [] ys h g n = g
-once-join (x ∷ xs) ys h g n = (all-join (λ y. y ≢ x) xs ys h.0 n.0, once-join xs ys h.1 g n.1)
+once-join (x ∷ xs) ys h g n = (all-append (λ y. y ≢ x) xs ys h.0 n.0, once-join xs ys h.1 g n.1)
 
 -- a node more that is not among the nodes of a list
 apart-behind : (before : List ℕ) (node : ℕ) (after : List ℕ) → IsAbsent node before → AreApart before after
@@ -87,7 +82,7 @@ pub once-remove : (before : List ℕ) (node : ℕ) (after : List ℕ) → IsOnce
 once-remove [] node after h = h.1
 once-remove (x ∷ before) node after h =
     let n = all-split (λ y. y ≢ x) before (node ∷ after) h.0 in
-    (all-join (λ y. y ≢ x) before after n.0 n.1.1, once-remove before node after h.1)
+    (all-append (λ y. y ≢ x) before after n.0 n.1.1, once-remove before node after h.1)
 
 -- what the last of some nodes is not, where none is
 last-other : (x : ℕ) (xs : List ℕ) → IsAbsent x xs → last_or xs None ≡ Some x → ⊥

@@ -7,19 +7,9 @@ use Rattle.std.proofs.Math.ListN.{set, length-set}
 use Rattle.std.specs.List.{AllByRecursion, slice_get}
 use Rattle.std.proofs.lemmas.Bool.{cases_eq}
 use Rattle.std.proofs.lemmas.Option.{same_Some}
+use Rattle.pcc_base.proofs.Lists.{get-last, get-append}
 use Rattle.flow_graph.specs.Graphs.{IsIn}
 use Rattle.live_searches.specs.Lists.{Adds, Has, list_at, with_last}
-
--- an entry stays where others come after it
-pub has-more : {X : Type 0} (xs ys : List X) (i : ℕ) (x : X) → slice_get xs i ≡ Some x → slice_get (xs ++ ys) i ≡ Some x
-has-more [] ys i x e = absurd (cc)
-has-more (y ∷ xs) ys zero x e = e
-has-more (y ∷ xs) ys (suc i) x e = has-more xs ys i x e
-
--- the entry that was put last
-pub has-last : {X : Type 0} (xs : List X) (x : X) → slice_get (xs ++ x ∷ []) (length xs) ≡ Some x
-has-last [] x = refl
-has-last (y ∷ xs) x = has-last xs x
 
 -- an entry was there before, or is the one that was put last
 pub last-or-before : {X : Type 0} (xs : List X) (x : X) (i : ℕ) (y : X) → slice_get (xs ++ x ∷ []) i ≡ Some y
@@ -32,18 +22,6 @@ last-or-before (z ∷ xs) x (suc i) y e =
       | inl old ↦ inl old
       | inr new ↦ inr (ap suc new.0, new.1)
     ]
-
--- an entry stands at a place of the list
-pub has-within : {X : Type 0} (xs : List X) (i : ℕ) (x : X) → slice_get xs i ≡ Some x → i < length xs
-has-within [] i x e = absurd (cc)
-has-within (y ∷ xs) zero x e = omega arith
-has-within (y ∷ xs) (suc i) x e = omega (arith, has-within xs i x e)
-
--- each place of the list has an entry
-pub within-has : {X : Type 0} (xs : List X) (i : ℕ) → i < length xs → (x : X) × (slice_get xs i ≡ Some x)
-within-has [] i h = absurd (omega arith)
-within-has (y ∷ xs) zero h = (y, refl)
-within-has (y ∷ xs) (suc i) h = within-has xs i (omega arith)
 
 -- what is read at a place of the list
 pub has-read : {X : Type 0} (xs : List X) (i : ℕ) (x : X) → i < length xs → x ≡ get_or xs i x
@@ -67,8 +45,8 @@ has-push xs x y = (there, here)
         elim (last-or-before xs x i y e) [ inl old ↦ inl (i, old) | inr new ↦ inr (sym new.1) ]
 
     here : Has xs y ⊎ (y ≡ x) → Has (xs ++ x ∷ []) y
-    here (inl (i, e)) = (i, has-more xs (x ∷ []) i y e)
-    here (inr e) = (length xs, subst (λ z. slice_get (xs ++ x ∷ []) (length xs) ≡ Some z) (sym e) (has-last xs x))
+    here (inl (i, e)) = (i, get-append xs (x ∷ []) i y e)
+    here (inr e) = (length xs, subst (λ z. slice_get (xs ++ x ∷ []) (length xs) ≡ Some z) (sym e) (get-last xs x))
 
 -- a number in a list, by its place
 pub in-has : (x : ℕ) (xs : List ℕ) → IsIn x xs → Has xs x

@@ -4,14 +4,14 @@ use Rattle.std.proofs.Common.{[], ◌∷◌, length}
 use Rattle.std.proofs.Common.{get_or, IfSome, Option, Some, None, refl, sym, ap, subst, arith, ◌∙◌}
 use Rattle.std.specs.List.{slice_get}
 use Rattle.std.proofs.lemmas.Bool.Decides.{eqb_tells}
-use Rattle.std.proofs.lemmas.Option.{same_Some}
+use Rattle.std.proofs.lemmas.Option.{same_Some, slice_get_within}
 use Rattle.flow_graph.specs.declared.op.Op.{Op}
 use Rattle.flow_graph.specs.Graphs.{Flow, FitsOp, HasFittingOp, IsDistinct, IsFlow, IsIn, IsPlaced, Stands}
 use Rattle.flow_graph.specs.Graphs.{following, points_of}
 use Rattle.flow_graph.specs.Liveness.{BeginsWith, IsBehind}
 use Rattle.flow_graph.proofs.Blocks.{one_block}
 use Rattle.flow_graph.proofs.Points.{every-in}
-use Rattle.live_searches.proofs.Adding.{has-in, has-within}
+use Rattle.live_searches.proofs.Adding.{has-in}
 
 -- a point of a block has an op, and it fits
 pub fitting : (flow : Flow) (homes : List ℕ) → IsFlow flow homes → (point block : ℕ) → Stands flow point block
@@ -30,7 +30,7 @@ op-fits flow homes is point (block, stands) op e =
 pub placed-within : (flow : Flow) (homes : List ℕ) → IsFlow flow homes → (point : ℕ) → IsPlaced flow point
     → point < length flow.ops
 placed-within flow homes is point (block, stands) =
-    let (op, has, fits) = fitting flow homes is point block stands in has-within flow.ops point op has
+    let (op, has, fits) = fitting flow homes is point block stands in slice_get_within flow.ops point op has
 
 -- a block that has a point is there
 pub block-within : (blocks : List (List ℕ)) (b p : ℕ) → IsIn p (get_or blocks b []) → b < length blocks

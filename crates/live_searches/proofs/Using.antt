@@ -2,7 +2,7 @@
 use Rattle.std.proofs.Common.{ℕ, ◌≡◌, ◌<◌, ◌≤◌, List, [], ◌∷◌, ◌++◌, map, length, Option, Some, None, sym, subst, arith}
 use Rattle.std.proofs.Common.{◌∙◌}
 use Rattle.std.specs.List.{AllByRecursion, slice_get}
-use Rattle.std.proofs.lemmas.Option.{same_Some}
+use Rattle.std.proofs.lemmas.Option.{same_Some, slice_get_within}
 use Rattle.pcc_base.specs.declared.run.Width.{Width}
 use Rattle.pcc_base.specs.declared.run.Width.TheVariants.{One, Two}
 use Rattle.flow_graph.specs.declared.op.Op.{Op}
@@ -14,7 +14,7 @@ use Rattle.flow_graph.specs.Graphs.{Flow, FitsOp, HasWidth, IsFlow, IsIn, IsMet,
 use Rattle.flow_graph.specs.Liveness.{IsUsedAt, if_any, uses}
 use Rattle.flow_graph.proofs.Points.{every-in}
 use Rattle.live_searches.specs.Lists.{Adds}
-use Rattle.live_searches.proofs.Adding.{has-in, has-within, in-has}
+use Rattle.live_searches.proofs.Adding.{has-in, in-has}
 use Rattle.live_searches.proofs.Placed.{op-fits}
 use Rattle.live_searches.proofs.Stepping.{Before, steps-end}
 
@@ -43,11 +43,11 @@ uses-end flow point op placed has n a b h f =
     back : (x v : ℕ) → (x ≡ point) × IsUsedAt flow v point → Before (UseAt point (uses op)) n x v
     back x v (s, (_, its, e, used)) =
         let (i, at) = in-has v (uses op) (subst (λ o. IsIn v (uses o)) (same_Some its op (sym e ∙ has)) used) in
-        (i, omega (arith, has-within (uses op) i v at), (s, at))
+        (i, omega (arith, slice_get_within (uses op) i v at), (s, at))
 
 -- a variable of this width is there
 width-within : (flow : Flow) (v : ℕ) (w : Width) → HasWidth flow v w → v < length flow.widths
-width-within flow v w e = has-within flow.widths v w e
+width-within flow v w e = slice_get_within flow.widths v w e
 
 -- a call's words are variables that are there
 words-within : (flow : Flow) (vs : List ℕ) → AllByRecursion (IsMet flow) (map two vs)

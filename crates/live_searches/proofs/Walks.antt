@@ -2,10 +2,10 @@
 use Rattle.std.proofs.Common.{ℕ, ◌≡◌, ◌≤◌, ◌+◌, inl, inr, ◌↔◌, List, [], length, replicate, Some}
 use Rattle.std.proofs.Common.{sym, subst, ap, arith, ◌∙◌}
 use Rattle.std.specs.List.{slice_get}
-use Rattle.std.proofs.lemmas.Option.{same_Some}
+use Rattle.std.proofs.lemmas.Option.{same_Some, slice_get_within}
 use Rattle.flow_graph.specs.Graphs.{Flow, IsIn, IsPlaced, Stands}
 use Rattle.live_searches.specs.Lists.{Adds, Has, list_at}
-use Rattle.live_searches.proofs.Adding.{adds-same, has-in, has-none, has-within, in-has}
+use Rattle.live_searches.proofs.Adding.{adds-same, has-in, has-none, in-has}
 use Rattle.live_searches.proofs.Placed.{block-within}
 use Rattle.live_searches.proofs.Stepping.{Before, steps-end, steps-then}
 
@@ -53,5 +53,5 @@ pub list-end : (R : ℕ → ℕ → Type 0) (xs : List ℕ) (n : ℕ) (a b : Lis
 list-end R xs n a b h f =
     steps-end (AlongPoints xs R) n a b (λ x p. IsIn x xs × R x p)
     (λ i x p m. (has-in x xs (i, m.0), m.1))
-    (λ x p m. let (i, e) = in-has x xs m.0 in (i, omega (arith, has-within xs i x e), (e, m.1)))
+    (λ x p m. let (i, e) = in-has x xs m.0 in (i, omega (arith, slice_get_within xs i x e), (e, m.1)))
     f

@@ -11,12 +11,12 @@ use Rattle.std.proofs.lemmas.Bool.{cases_eq}
 use Rattle.std.proofs.lemmas.Bool.Decides.{eqb_tells, nat_tests}
 use Rattle.std.proofs.lemmas.Cmp.{ranked}
 use Rattle.std.proofs.lemmas.List.Sorted.{IsNonDecreasingBy-from_default}
-use Rattle.std.proofs.lemmas.Option.{same_Some}
+use Rattle.std.proofs.lemmas.Option.{same_Some, slice_get_within}
 use Rattle.flow_graph.specs.Graphs.{Flow}
 use Rattle.flow_graph.specs.Liveness.{AfterUse, IsDistance, IsUsedAt}
 use Rattle.liveness.specs.Distances.{AreDistances, Rises, distance_at, distance_in}
 use Rattle.live_searches.specs.Lists.{Has, list_at, with_last}
-use Rattle.live_searches.proofs.Adding.{has-item, has-within, last-or-before}
+use Rattle.live_searches.proofs.Adding.{has-item, last-or-before}
 
 -- the entries behind the first rise too
 rises-tail : (e : ℕ × ℕ) (es : List (ℕ × ℕ)) → Rises (e ∷ es) → Rises es
@@ -74,7 +74,7 @@ rises-push es e r smaller i j a b l f g =
     elim (last-or-before es e j b g) [
       | inl old' ↦ elim (last-or-before es e i a f) [
         | inl old ↦ r i j a b l old old'
-        | inr new ↦ let at : i ≡ length es = new.0 in absurd (omega (arith, has-within es j b old'))
+        | inr new ↦ let at : i ≡ length es = new.0 in absurd (omega (arith, slice_get_within es j b old'))
       ]
       | inr new' ↦ elim (last-or-before es e i a f) [
         | inl old ↦ let same : e.0 ≡ b.0 = ap (λ (x : ℕ × ℕ). x.0) new'.1 in omega (arith, smaller a.0 a.1 (i, old))
@@ -135,7 +135,7 @@ module _ (es : List (ℕ × ℕ)) (rises : Rises es) (v : ℕ) where
     where
       none : (place n : ℕ) → slice_get es place ≡ Some (v, n) → ⊥
       none place n f =
-          let inside = has-within es place (v, n) f in
+          let inside = slice_get_within es place (v, n) f in
           let entry : get_or es place (0, 0) ≡ (v, n) =
           same_Some (get_or es place (0, 0)) (v, n) (sym (has-item es place (0, 0) inside) ∙ f) in
           let same : (get_or es place (0, 0)).0 ≡ v = ap (λ (x : ℕ × ℕ). x.0) entry in

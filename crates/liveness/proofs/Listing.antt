@@ -2,7 +2,7 @@
 use Rattle.std.proofs.Common.{ℕ, zero, suc, ◌≡◌, ◌<◌, ◌≤◌, ◌+◌, inl, inr, List, length, Some}
 use Rattle.std.proofs.Common.{refl, sym, ap, arith, ◌∙◌}
 use Rattle.std.specs.List.{AllByRecursion, slice_get}
-use Rattle.std.proofs.lemmas.Option.{same_Some}
+use Rattle.std.proofs.lemmas.Option.{same_Some, slice_get_within}
 use Rattle.flow_graph.specs.Graphs.{Flow, IsPlaced}
 use Rattle.flow_graph.specs.Liveness.{IsDefinedAt, IsDistance, IsLiveAfter, IsLiveBefore}
 use Rattle.flow_graph.proofs.LivePaths.{live_step}
@@ -10,7 +10,7 @@ use Rattle.live_searches.specs.Lists.{Adds, Has, list_at, with_last}
 use Rattle.liveness.specs.Search.{IsReach}
 use Rattle.live_searches.specs.Search.{IsNext}
 use Rattle.live_searches.proofs.Stepping.{Before, steps-end, steps-more}
-use Rattle.live_searches.proofs.Adding.{has-every, has-within}
+use Rattle.live_searches.proofs.Adding.{has-every}
 
 -- the point is found at a place
 abbrev pub FoundAt : List (ℕ × ℕ) → ℕ → ℕ → Type 0
@@ -99,4 +99,4 @@ pub distance-found : (flow : Flow) (v : ℕ) (nexts : List (ℕ × ℕ)) (after 
     → Before (DistanceAt nexts v) n entry p
 distance-found flow v nexts after r n h entry p (same, d) =
     let (i, at) = (r.distances p entry.1).1 d in
-    (i, omega (arith, has-within nexts i (p, entry.1) at), (same, at))
+    (i, omega (arith, slice_get_within nexts i (p, entry.1) at), (same, at))

@@ -4,13 +4,12 @@ use Rattle.std.proofs.Common.{ap, subst}
 use Rattle.std.proofs.Common.{arith, ◌∙◌}
 use Rattle.std.specs.List.{slice_get}
 use Rattle.std.proofs.lemmas.Bool.{cases_eq}
-use Rattle.std.proofs.lemmas.Option.{same_Some}
+use Rattle.std.proofs.lemmas.Option.{same_Some, slice_get_within}
 use Rattle.flow_graph.specs.Graphs.{Flow}
 use Rattle.flow_graph.specs.Liveness.{AfterUse, IsDefinedAt, IsDistance, IsSuccessor, ReachesUse}
 use Rattle.live_searches.specs.Lists.{Has}
 use Rattle.liveness.specs.Search.{IsDone, IsPassed, IsReach, IsSearch}
 use Rattle.live_searches.specs.Search.{IsNext}
-use Rattle.live_searches.proofs.Adding.{has-within}
 
 module _ (flow : Flow) (v head : ℕ) (nexts : List (ℕ × ℕ)) (after : List ℕ) (used passed : List (Option ℕ))
     (s : IsSearch flow v head nexts after used passed) (all : length nexts ≤ head) where
@@ -18,7 +17,7 @@ module _ (flow : Flow) (v head : ℕ) (nexts : List (ℕ × ℕ)) (after : List 
   passed-before : (i point n : ℕ) → slice_get nexts i ≡ Some (point, n) → (n ≡ 0) ⊎ (IsDefinedAt flow v point → ⊥)
       → (before : ℕ) → IsSuccessor flow before point → IsPassed nexts after (suc n) before
   passed-before i point n e goes before leads =
-      go (s.done i point n (omega (arith, has-within nexts i (point, n) e)) e) goes
+      go (s.done i point n (omega (arith, slice_get_within nexts i (point, n) e)) e) goes
     where
       go : IsDone flow v nexts after point n → (n ≡ 0) ⊎ (IsDefinedAt flow v point → ⊥)
           → IsPassed nexts after (suc n) before

@@ -4,14 +4,15 @@ use Rattle.std.proofs.Common.{Option, Some, refl, sym, ap, subst, arith, length-
 use Rattle.std.proofs.Math.ListN.{length-set}
 use Rattle.std.specs.List.{slice_get, slice_set}
 use Rattle.std.proofs.lemmas.Bool.{cases_eq}
-use Rattle.std.proofs.lemmas.Option.{same_Some}
+use Rattle.std.proofs.lemmas.Option.{same_Some, slice_get_within}
+use Rattle.pcc_base.proofs.Lists.{get-last, get-append}
 use Rattle.flow_graph.specs.Graphs.{Flow, IsPlaced}
 use Rattle.flow_graph.specs.Liveness.{IsLiveAfter, IsSuccessor, IsUsedAt, ReachesUse}
 use Rattle.liveness.specs.Index.{ArePredecessors}
 use Rattle.liveness.specs.Search.{AllEarlier, IsDone, IsPassed, IsSearch, IsStart, unmarked}
 use Rattle.live_searches.specs.Lists.{Has, list_at}
 use Rattle.live_searches.specs.Search.{IsMarked, IsNext, Passes}
-use Rattle.live_searches.proofs.Adding.{has-item, has-last, has-more, has-push, has-within, last-or-before}
+use Rattle.live_searches.proofs.Adding.{has-item, has-push, last-or-before}
 use Rattle.liveness.proofs.Marking.{all-unmarked, mark-decides, mark-here, mark-later, mark-stays, mark-there}
 use Rattle.liveness.proofs.Marking.{none-marked, unmarked-set}
 
@@ -224,14 +225,14 @@ module _ (flow : Flow) (v head level point at : ℕ) (nexts : List (ℕ × ℕ))
             (has-push after point point).1 (inr refl),
             suc level,
             omega arith,
-            (length nexts, has-last nexts (point, suc level)),
+            (length nexts, get-last nexts (point, suc level)),
           );
           fewer = omega (arith, one_fewer, length-append nexts ((point, suc level) ∷ []));
         }
       where
         grown : Grows nexts (nexts ++ (point, suc level) ∷ []) after (after ++ point ∷ [])
         grown = record {
-          nexts_stay = λ i e h. has-more nexts ((point, suc level) ∷ []) i e h;
+          nexts_stay = λ i e h. get-append nexts ((point, suc level) ∷ []) i e h;
           after_stay = λ p h. (has-push after point p).1 (inl h);
         }
 
@@ -267,13 +268,13 @@ module _ (flow : Flow) (v head level point at : ℕ) (nexts : List (ℕ × ℕ))
                 suc level,
                 (
                   length nexts,
-                  has-last nexts (point, suc level) ∙ ap (λ (q : ℕ). Some (q, suc level)) (sym e),
+                  get-last nexts (point, suc level) ∙ ap (λ (q : ℕ). Some (q, suc level)) (sym e),
                 ),
               )
             ]
 
         behind : head < length nexts
-        behind = has-within nexts head (at, level) at_head
+        behind = slice_get_within nexts head (at, level) at_head
 
         early : (i : ℕ) (e : ℕ × ℕ) → i ≤ head → slice_get (nexts ++ (point, suc level) ∷ []) i ≡ Some e
             → slice_get nexts i ≡ Some e
@@ -305,7 +306,7 @@ module _ (flow : Flow) (v head level point at : ℕ) (nexts : List (ℕ × ℕ))
               | inl old' ↦ elim (last-or-before nexts (point, suc level) i e a) [
                 | inl old ↦ s.in_order i j e f l old old'
                 | inr new ↦
-                    let same : i ≡ length nexts = new.0 in absurd (omega (arith, has-within nexts j f old'))
+                    let same : i ≡ length nexts = new.0 in absurd (omega (arith, slice_get_within nexts j f old'))
               ]
             ]
 

@@ -3,11 +3,12 @@ use Rattle.std.proofs.Common.{ℕ, zero, ◌≡◌, ◌<◌, ◌≤◌, ◌+◌,
 use Rattle.std.proofs.Common.{Option, Some, sym, ap, subst, arith, ◌∙◌}
 use Rattle.std.specs.List.{slice_get, slice_set}
 use Rattle.std.proofs.lemmas.Bool.{cases_eq}
-use Rattle.std.proofs.lemmas.Option.{same_Some}
+use Rattle.std.proofs.lemmas.Option.{same_Some, slice_get_within}
+use Rattle.pcc_base.proofs.Lists.{get-last, get-append}
 use Rattle.live_searches.specs.Lists.{Has}
 use Rattle.liveness.specs.Search.{AllEarlier, IsStart}
 use Rattle.live_searches.specs.Search.{IsMarked}
-use Rattle.live_searches.proofs.Adding.{has-last, has-more, has-within, last-or-before}
+use Rattle.live_searches.proofs.Adding.{last-or-before}
 use Rattle.liveness.proofs.Marking.{mark-here, mark-later, mark-stays, mark-there, none-marked}
 
 -- the uses told in other words
@@ -67,8 +68,8 @@ start-more v U nexts used point h n s = record {
     here p (inr e) = subst (λ (q : ℕ). IsMarked (slice_set used point (Some v)) v q) (sym e) (mark-here used v point h)
 
     found : (p : ℕ) → U p ⊎ (p ≡ point) → Has (nexts ++ (point, 0) ∷ []) (p, 0)
-    found p (inl u) = let (i, e) = s.found p u in (i, has-more nexts ((point, 0) ∷ []) i (p, 0) e)
-    found p (inr e) = (length nexts, has-last nexts (point, 0) ∙ ap (λ (q : ℕ). Some (q, zero)) (sym e))
+    found p (inl u) = let (i, e) = s.found p u in (i, get-append nexts ((point, 0) ∷ []) i (p, 0) e)
+    found p (inr e) = (length nexts, get-last nexts (point, 0) ∙ ap (λ (q : ℕ). Some (q, zero)) (sym e))
 
     zero_each : (i p m : ℕ) → slice_get (nexts ++ (point, 0) ∷ []) i ≡ Some (p, m) → (m ≡ 0) × (U p ⊎ (p ≡ point))
     zero_each i p m e =
@@ -116,4 +117,4 @@ upto-more us n y e p = (there, here)
 pub upto-end : (us : List ℕ) (n : ℕ) → length us ≤ n
     → (p : ℕ) → ((i : ℕ) × (i < n) × (slice_get us i ≡ Some p)) ↔ Has us p
 upto-end us n h p =
-    ((λ (i, l, at). (i, at)), (λ (i, at). (i, omega (arith, has-within us i p at), at)))
+    ((λ (i, l, at). (i, at)), (λ (i, at). (i, omega (arith, slice_get_within us i p at), at)))

@@ -1,5 +1,5 @@
 -- The lines of a typed program's function are what their graph asks for.
-use Rattle.std.proofs.Common.{◌≡◌, ◌<◌, ◌≤◌, ℕ, List, [], ◌∷◌, Some, refl, arith, map, length, ◌∙◌, subst, sym, ap}
+use Rattle.std.proofs.Common.{◌≡◌, ◌<◌, ◌≤◌, ℕ, List, [], Some, refl, arith, map, length, ◌∙◌, subst, sym, ap}
 use Rattle.std.specs.Prelude.{slice_get, sum_by}
 use Rattle.std.specs.List.{AllByRecursion, range_with_len}
 use Rattle.std.proofs.lemmas.List.Elements.{recursion_from_All}
@@ -7,6 +7,7 @@ use Rattle.c_tree.specs.Program.{Function, Program}
 use Rattle.c_tree.specs.Sizes.{array_bytes, function_size}
 use Rattle.c_tree.specs.WellTyped.{IsTypedFunction, WellTyped}
 use Rattle.pcc_base.specs.declared.run.Width.{Width}
+use Rattle.pcc_base.proofs.Lists.{all-weaker, all-at}
 use Rattle.flow_graph.specs.Graphs.{FitsOp, Flow, IsArray}
 use Rattle.lower_lines.specs.Lines.{Line, graph_of_lines, ops_in, points_in, starts_in}
 use Rattle.lower_lines.specs.Lowering.{array_of}
@@ -17,15 +18,9 @@ use Rattle.lower_builder.specs.Graphs.{AllFit, AreClosed}
 use Rattle.lower_lines.proofs.Closing.{all-lines-close}
 use Rattle.lower_lines.proofs.Ordered.{graphs-are-laid-out}
 use Rattle.lower_lines.proofs.Shapes.{length-map, length-range}
-use Rattle.lower_lines.proofs.Types.{all-at}
 use Rattle.lower_programs.specs.FitsLaws.{IsGood, Room}
 use Rattle.lower_programs.proofs.Functions.{function-fits}
 use Rattle.lower_programs.proofs.Sizes.{counts-small, function-small}
-
-all-become : {X : Type 0} (P Q : X → Type 0) (xs : List X) → ((x : X) → P x → Q x) → AllByRecursion P xs
-    → AllByRecursion Q xs
-all-become P Q [] h all = tt
-all-become P Q (x ∷ xs) h all = (h x all.0, all-become P Q xs h all.1)
 
 module _ (p : Program) (well : WellTyped p) (memory : IsInMemory p) (k : ℕ) (f : Function)
     (at : slice_get p.functions k ≡ Some f) where
@@ -81,7 +76,7 @@ module _ (p : Program) (well : WellTyped p) (memory : IsInMemory p) (k : ℕ) (f
       }
 
   pub lines-fit : AllFit blank (lines_of_function c)
-  lines-fit = all-become (IsGood blank) (FitsOp blank) (ops_in (lines_of_function c)) (λ i good. good.0)
+  lines-fit = all-weaker (IsGood blank) (FitsOp blank) (ops_in (lines_of_function c)) (λ i good. good.0)
       (function-fits room functions typed (counts-small f.arrays 16384 arrays-small (omega arith)) words.body
       (let s = size-small in omega (arith, s)) (all-lines-close p well k f at).1 blocks-many)
 

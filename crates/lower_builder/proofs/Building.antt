@@ -6,7 +6,9 @@ use Rattle.std.specs.Prelude.{slice_get, slice_set, slice_index_or, if◌then◌
 use Rattle.std.specs.List.{AllByRecursion, range_with_len}
 use Rattle.std.proofs.lemmas.Bool.Decides.{eqb_tells}
 use Rattle.std.proofs.lemmas.List.FromFn.{length-map-range_with_len}
+use Rattle.std.proofs.lemmas.List.{append-nil}
 use Rattle.pcc_base.specs.declared.run.Width.{Width}
+use Rattle.pcc_base.proofs.Lists.{all-left, all-right}
 use Rattle.flow_graph.specs.declared.op.Op.{Op}
 use Rattle.flow_graph.specs.Graphs.{Flow, FitsOp, IsDistinct, LastIsEnd, is_end, points_of}
 use Rattle.flow_graph.proofs.Growth.{Grows, fits_op-grows, keeps-same}
@@ -19,26 +21,14 @@ use Rattle.lower_builder.specs.Graphs.{AllFit, AreClosed, CanFollow, graph_behin
 
 -- ---- lists
 
-append-none : {X : Type 0} (xs : List X) → xs ++ [] ≡ xs
-append-none [] = refl
-append-none (x ∷ xs) = ap (λ (ys : _). x ∷ ys) (append-none xs)
-
 get-seam : {X : Type 0} (front : List X) (x : X) (xs : List X) → slice_get (front ++ x ∷ xs) (length front) ≡ Some x
 get-seam [] x xs = refl
 get-seam (y ∷ front) x xs = get-seam front x xs
 
-all-front : {X : Type 0} (P : X → Type 0) (xs ys : List X) → AllByRecursion P (xs ++ ys) → AllByRecursion P xs
-all-front P [] ys h = tt
-all-front P (x ∷ xs) ys h = (h.0, all-front P xs ys h.1)
-
-all-back : {X : Type 0} (P : X → Type 0) (xs ys : List X) → AllByRecursion P (xs ++ ys) → AllByRecursion P ys
-all-back P [] ys h = h
-all-back P (x ∷ xs) ys h = all-back P xs ys h.1
-
 distinct-front : (b : ℕ) (xs ys : List ℕ) → IsDistinct (xs ++ b ∷ ys) → AllByRecursion (λ c. c ≢ b) xs
 distinct-front b [] ys h = tt
 distinct-front b (x ∷ xs) ys h =
-    ((λ e. (all-back (λ q. q ≢ x) xs (b ∷ ys) h.0).0 (sym e)), distinct-front b xs ys h.1)
+    ((λ e. (all-right (λ q. q ≢ x) xs (b ∷ ys) h.0).0 (sym e)), distinct-front b xs ys h.1)
 
 map-same : {X Y : Type 0} (f g : X → Y) (xs : List X) → ((x : X) → f x ≡ g x) → map f xs ≡ map g xs
 map-same f g [] h = refl
@@ -191,12 +181,12 @@ module _ (widths : List Width) (arrays : List (ℕ × ℕ)) (blocks : ℕ) where
       → open_after 0 before < blocks
   open-there before rest are c =
       open-started (λ b. b < blocks) 0 false before c (λ f. absurd (false-true f))
-      (all-front (λ b. b < blocks) (starts_in before) (starts_in rest)
+      (all-left (λ b. b < blocks) (starts_in before) (starts_in rest)
       (subst (λ (bs : List ℕ). AllByRecursion (λ b. b < blocks) bs) (starts-append before rest) are.inside))
 
   distinct-part : (xs ys : List ℕ) → IsDistinct (xs ++ ys) → IsDistinct xs
   distinct-part [] ys h = tt
-  distinct-part (x ∷ xs) ys h = (all-front (λ q. q ≢ x) xs ys h.0, distinct-part xs ys h.1)
+  distinct-part (x ∷ xs) ys h = (all-left (λ q. q ≢ x) xs ys h.0, distinct-part xs ys h.1)
 
   pub can-follow : (before : List Line) (line : Line) (rest : List Line) → AreClosed blocks (before ++ line ∷ rest)
       → AllFit (graph []) (before ++ line ∷ rest) → CanFollow (graph before) (open_after 0 before) line
@@ -215,7 +205,7 @@ module _ (widths : List Width) (arrays : List (ℕ × ℕ)) (blocks : ℕ) where
         omega (arith, inside, many),
         (λ ended. not-ended before c once (subst (LastIsEnd (ops_in before)) points ended)),
         fits_op-grows (graph []) (graph before) (grown before) i
-            (all-back (FitsOp (graph [])) (ops_in before) (i ∷ ops_in rest)
+            (all-right (FitsOp (graph [])) (ops_in before) (i ∷ ops_in rest)
             (subst (λ (is : List Op). AllByRecursion (FitsOp (graph [])) is)
             (ops-append before (Emit i ∷ rest)) fit)).0,
       )
@@ -241,13 +231,13 @@ module _ (widths : List Width) (arrays : List (ℕ × ℕ)) (blocks : ℕ) where
       → graph_behind (graph before) (open_after 0 before) line ≡ graph (before ++ line ∷ [])
   graph-behind before (Start block) rest are =
       let same : (b : ℕ) → points_in b before ≡ points_in b (before ++ Start block ∷ []) =
-      λ b. sym (points-append b 0 false before (Start block ∷ []) ∙ append-none (points_in b before)) in
+      λ b. sym (points-append b 0 false before (Start block ∷ []) ∙ append-nil (points_in b before)) in
       let blocks-same : map (λ b. points_in b before) (range_with_len 0 blocks)
       ≡ map (λ b. points_in b (before ++ Start block ∷ [])) (range_with_len 0 blocks) =
       map-same (λ b. points_in b before) (λ b. points_in b (before ++ Start block ∷ []))
       (range_with_len 0 blocks) same in
       let ops-same : ops_in before ≡ ops_in (before ++ Start block ∷ []) =
-      sym (ops-append before (Start block ∷ []) ∙ append-none (ops_in before)) in
+      sym (ops-append before (Start block ∷ []) ∙ append-nil (ops_in before)) in
       ap (λ (bs : List (List ℕ)). record { widths = widths; arrays = arrays; blocks = bs; ops = ops_in before })
       blocks-same
       ∙ ap (λ (is : List Op). record {
@@ -272,7 +262,7 @@ module _ (widths : List Width) (arrays : List (ℕ × ℕ)) (blocks : ℕ) where
       let others : (k : ℕ) → k ≢ 0 + o → g k ≡ f k =
       λ k other. point-more before i c k
       ∙ ap (λ (t : Bool). f k ++ (if t then n ∷ [] else [])) (unlike o k (λ e. other (sym e ∙ sym plain)))
-      ∙ append-none (f k) in
+      ∙ append-nil (f k) in
       let changed : slice_set (map f (range_with_len 0 blocks)) o (points_of (graph before) o ++ n ∷ [])
       ≡ map g (range_with_len 0 blocks) =
       ap (λ (ps : List ℕ). slice_set (map f (range_with_len 0 blocks)) o (ps ++ n ∷ [])) points

@@ -1,7 +1,7 @@
 -- The arguments of a call, one after another.
 use Rattle.std.proofs.Common.{◌≡◌, ◌<◌, ◌≤◌, ℕ, suc, ◌+◌, List, [], ◌∷◌, ◌++◌, refl, sym, ap, ◌∙◌, arith, append_assoc}
 use Rattle.std.proofs.Common.{subst, true, drop, length, get_or, Option}
-use Rattle.std.proofs.lemmas.List.{drop_all, drop_more}
+use Rattle.std.proofs.lemmas.List.{drop_all, drop_more, append-nil}
 use Rattle.std.specs.Prelude.{Bool, ◌&&◌}
 use Rattle.c_tree.specs.declared.expression.Expression as built
 use Rattle.c_tree.specs.declared.expression.Expression.{Row_of-Expression, end_of-Expression, more_of-Expression}
@@ -20,10 +20,6 @@ use Rattle.lower_pieces.proofs.Joined.{counted, lined, two}
 use Rattle.lower_rows.specs.Rows.{arguments_list, parameter_type, passed_as}
 use Rattle.lower_emit.specs.Passing.{passed_from}
 use Rattle.lower_emit.proofs.Joining.{passed-there}
-
-append-none : {X : Type 0} (xs : List X) → xs ++ [] ≡ xs
-append-none [] = refl
-append-none (x ∷ xs) = ap (λ (ys : _). x ∷ ys) (append-none xs)
 
 -- behind so many arguments, each at a level of its own, where these are all
 pub record IsPassing (c : Context) (all rest : List Part) (level : ℕ) (s : Built) (own : ℕ) (t : Built)
@@ -65,10 +61,10 @@ pub passing-all : (c : Context) (of : ValueType) (f : ℕ) (all : List Part) (le
 passing-all c of f all level own w words s t u h m =
     let none : t.next ≡ t.next + 0 = omega arith in
     let passed : Adds s t (arguments_blocks c all) (arguments_lines c all s.next level) = record {
-      lines = sym (append-none t.lines) ∙ h.lines;
+      lines = sym (append-nil t.lines) ∙ h.lines;
       next = none ∙ h.next;
     } in
-    let are : words ≡ arguments_words c all level = sym (append-none words) ∙ h.words in
+    let are : words ≡ arguments_words c all level = sym (append-nil words) ∙ h.words in
     let m' : Adds t u 0 (result_lines c t.next level w of f (arguments_words c all level)) =
     lined (ap (result_lines c t.next level w of f) are) m in
     let count : arguments_blocks c all + 0 ≡ arguments_blocks c all = omega arith in

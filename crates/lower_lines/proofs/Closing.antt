@@ -4,6 +4,7 @@ use Rattle.std.proofs.Common.{Some, None, refl, arith, take}
 use Rattle.std.specs.List.{All, AllByRecursion}
 use Rattle.std.proofs.lemmas.Bool.Decides.{nat_tests}
 use Rattle.std.proofs.lemmas.List.Elements.{All-from_recursion, recursion_from_All}
+use Rattle.pcc_base.proofs.Lists.{all-at}
 use Rattle.c_tree.specs.declared.types.IntegerType.TheVariants.{Char, Short, Int}
 use Rattle.c_tree.specs.declared.types.ValueType.{ValueType}
 use Rattle.c_tree.specs.declared.types.ValueType.TheVariants.{Void, Integer, Pointer}
@@ -29,7 +30,6 @@ use Rattle.lower_lines.proofs.Filling.{Lays, IsPlain, emit-lays, lays-to, plain-
 use Rattle.lower_lines.proofs.Filling.{start-lays, starting, under}
 use Rattle.lower_lines.proofs.Levels.{within}
 use Rattle.lower_lines.proofs.Statements.{block-laid}
-use Rattle.lower_lines.proofs.Types.{all-at}
 
 -- ---- each once
 

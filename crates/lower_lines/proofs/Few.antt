@@ -4,6 +4,7 @@ use Rattle.std.proofs.Common.{arith, length}
 use Rattle.std.specs.Prelude.{if◌then◌else◌}
 use Rattle.std.proofs.lemmas.Bool.Decides.{nat_tests}
 use Rattle.std.proofs.lemmas.List.Elements.{recursion_from_All}
+use Rattle.pcc_base.proofs.Lists.{all-at}
 use Rattle.c_tree.specs.Sizes.{statements_height}
 use Rattle.c_tree.specs.WellTyped.{IsTypedFunction}
 use Rattle.flow_graph.specs.declared.op.Op.{Op}
@@ -16,7 +17,6 @@ use Rattle.lower_lines.specs.BoundsLaws.{PointsAreFew}
 use Rattle.lower_lines.proofs.Closing.{function-lays}
 use Rattle.lower_lines.proofs.Filling.{same, starting, under}
 use Rattle.lower_lines.proofs.Shapes.{blocks-are}
-use Rattle.lower_lines.proofs.Types.{all-at}
 use Rattle.lower_lines.proofs.Weighings.{function-weighs}
 
 -- how often lines start the blocks below a bound

@@ -7,6 +7,8 @@ use Rattle.std.specs.Prelude.{if◌then◌else◌, ◌==◌, slice_get}
 use Rattle.std.specs.List.{AllByRecursion, range_with_len}
 use Rattle.std.proofs.lemmas.List.Elements.{recursion_from_All}
 use Rattle.std.proofs.lemmas.List.Sums.{sum_by-cons}
+use Rattle.std.proofs.lemmas.Option.{slice_get_within}
+use Rattle.pcc_base.proofs.Lists.{all-at}
 use Rattle.c_tree.specs.Program.{First, Nothing, Evaluated, Declared, Statement, Declare, Empty, Evaluate, Block, If}
 use Rattle.c_tree.specs.Program.{While, Do, For, Switch, Break, Continue, Return, Statements, Done, Next}
 use Rattle.c_tree.specs.Program.{Function, Program}
@@ -28,7 +30,6 @@ use Rattle.lower_lines.specs.Variables.{Context}
 use Rattle.lower_lines.proofs.Closing.{function-lays, lines-close}
 use Rattle.lower_lines.proofs.Filling.{Lays}
 use Rattle.lower_lines.proofs.Shapes.{get-map, get-range, length-map, points-are}
-use Rattle.lower_lines.proofs.Types.{all-at}
 use Rattle.lower_lines.proofs.Weighings.{function-weighs}
 
 -- ---- how many numbers there are
@@ -177,11 +178,6 @@ point-mark (i ∷ is) (suc point) n e = let (j, at) = point-mark is point n e in
     by_mark None j at = (j, at)
     by_mark (Some m) j at = (suc j, at)
 
-pub get-below : {A : Type 0} (xs : List A) (k : ℕ) (x : A) → slice_get xs k ≡ Some x → k < length xs
-get-below [] k x e = absurd (cc)
-get-below (y ∷ xs) zero x e = omega arith
-get-below (y ∷ xs) (suc k) x e = let h = get-below xs k x e in omega (arith, h)
-
 -- ---- every point is in a block
 
 -- A point of lines is in the block that is open there, which has been started.
@@ -263,7 +259,7 @@ function-marked p f first h e = record {
       ap (λ (l : List ℕ). slice_get l j) (function-marks p f ∙ e)
       ∙ get-range first (numbers_of f.body) j (omega (arith, le, less)) ∙ ap Some sum in
       let (point, is) = mark-point (graph_of_function p f).ops j n at in
-      (point, point-placed p f h point (get-below (graph_of_function p f).ops point (op.Mark n) is), is);
+      (point, point-placed p f h point (slice_get_within (graph_of_function p f).ops point (op.Mark n) is), is);
   only = λ point n is.
       let (j, at) = point-mark (graph_of_function p f).ops point n is in
       range-at first (numbers_of f.body) j n

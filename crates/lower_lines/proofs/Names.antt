@@ -4,6 +4,8 @@ use Rattle.std.proofs.Common.{Some, None, length, take}
 use Rattle.std.specs.Prelude.{if◌then◌else◌, slice_get, IfSome}
 use Rattle.std.specs.List.{AllByRecursion}
 use Rattle.std.proofs.lemmas.List.Elements.{All-from_recursion, recursion_from_All}
+use Rattle.std.proofs.lemmas.Option.{slice_get_within}
+use Rattle.pcc_base.proofs.Lists.{all-at}
 use Rattle.c_tree.specs.declared.expression.ArrayRef.{ArrayRef}
 use Rattle.c_tree.specs.declared.expression.ArrayRef.TheVariants as refs
 use Rattle.c_tree.specs.declared.statement.Label.{Label}
@@ -48,9 +50,8 @@ use Rattle.lower_lines.proofs.Naming.{cast-named}
 use Rattle.lower_lines.proofs.Naming.{comma-named, conditional-named, constant-named, element-named, exit-named}
 use Rattle.lower_lines.proofs.Naming.{getchar-named, named-then, number-named, operand-named, or-named, read-named}
 use Rattle.lower_lines.proofs.Naming.{start-named, step-named, target-named, turned-named, unary-named, update-named}
-use Rattle.lower_lines.proofs.Marks.{get-below}
 use Rattle.lower_lines.proofs.Shapes.{length-map}
-use Rattle.lower_lines.proofs.Types.{all-at, some-and}
+use Rattle.lower_lines.proofs.Types.{some-and}
 
 module _ (p : Program) (f : Function) where
   abbrev c : Context
@@ -66,7 +67,7 @@ module _ (p : Program) (f : Function) where
 
   array-there : (element : IntegerType) (array : ArrayRef) → IsArray p f array element → IsNamedArray F O c array
   array-there element (refs.Static k) h = let (o, at, is) = some-and (slice_get p.objects k) _ h in
-      get-below p.objects k o at
+      slice_get_within p.objects k o at
   array-there element (refs.Frame k) h = tt
 
   mutual
@@ -99,7 +100,7 @@ module _ (p : Program) (f : Function) where
         call-named F O c of k _
         (all-passed-named F O c (parameters_of (slice_get p.functions k)) (parts_of c arguments)
         (arguments-all (take g.parameters g.locals) arguments are))
-        (get-below p.functions k g at)
+        (slice_get_within p.functions k g at)
     expression-named (Putchar e) h = number-named F O c op.Putchar (part_of c e) (λ d s. tt) (expression-named e h.0)
     expression-named Getchar h = getchar-named F O c
     expression-named (Exit e) h = exit-named F O c (part_of c e) (expression-named e h.0)
@@ -107,7 +108,7 @@ module _ (p : Program) (f : Function) where
     pub place-named : (place : Place) (of : ValueType) → IsPlace p f place of → PlaceNamed F O (place_of c place)
     place-named (LocalPlace v) of h = tt
     place-named (StaticPlace k) of h =
-        let (o, at, is) = some-and (slice_get p.objects k) _ h in get-below p.objects k o at
+        let (o, at, is) = some-and (slice_get p.objects k) _ h in slice_get_within p.objects k o at
     place-named (Target element e) of h = target-named F O c (part_of c e) (expression-named e h.0)
     place-named (Element element a i) of h = element-named F O c element (part_of c a).of (part_of c a) (part_of c i)
         (expression-named a h.0) (expression-named i h.1)
@@ -163,7 +164,7 @@ module _ (p : Program) (f : Function) where
   )
   array-lines-named k t (Text object) a block h =
       let (o, at, is) = some-and (slice_get p.objects object) _ h in
-      (tt, (tt, (get-below p.objects object o at, (tt, (tt, (tt, (tt, (tt, (tt, (tt, (tt, tt)))))))))))
+      (tt, (tt, (slice_get_within p.objects object o at, (tt, (tt, (tt, (tt, (tt, (tt, (tt, (tt, tt)))))))))))
 
   assigned-any : (of : ValueType) (value : Option Expression) → IfSome value (IsAssigned p f of)
       → IfSome value (IsTyped p f)

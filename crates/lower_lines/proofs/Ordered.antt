@@ -5,6 +5,7 @@ use Rattle.std.specs.Prelude.{if◌then◌else◌, ◌==◌, nat_le, slice_get, 
 use Rattle.std.specs.List.{All, AllByRecursion, range_with_len}
 use Rattle.std.proofs.lemmas.Bool.Decides.{nat_tests}
 use Rattle.std.proofs.lemmas.List.Elements.{All-from_recursion, All-map, recursion_from_All}
+use Rattle.pcc_base.proofs.Lists.{all-at}
 use Rattle.c_tree.specs.declared.types.IntegerType.{IntegerType}
 use Rattle.c_tree.specs.declared.types.IntegerType.TheVariants.{Char, Short, Int}
 use Rattle.c_tree.specs.Program.{Function, LocalArray, Program}
@@ -22,7 +23,6 @@ use Rattle.lower_lines.proofs.Closing.{function-lays}
 use Rattle.lower_lines.proofs.Filling.{Lays, same, starting, under}
 use Rattle.lower_lines.proofs.Shapes.{StandFrom, block-ended, blocks-are}
 use Rattle.lower_lines.proofs.Shapes.{points-are, stand-behind}
-use Rattle.lower_lines.proofs.Types.{all-at}
 
 -- ---- homes
 

@@ -4,6 +4,7 @@ use Rattle.std.proofs.Common.{Some, refl, sym, ap, ◌∙◌, subst, arith, leng
 use Rattle.std.specs.Prelude.{slice_get, slice_index_or, if◌then◌else◌, ◌==◌}
 use Rattle.std.specs.List.{AllByRecursion, range_with_len}
 use Rattle.std.proofs.lemmas.List.Elements.{recursion_from_All}
+use Rattle.pcc_base.proofs.Lists.{all-left, all-right}
 use Rattle.c_tree.specs.Program.{Function, Program}
 use Rattle.flow_graph.specs.declared.op.Op.{Op}
 use Rattle.flow_graph.specs.Graphs.{Flow, IsDistinct, empty_flow, following, points_of}
@@ -56,18 +57,10 @@ get-seam : {X : Type 0} (front : List X) (x : X) (xs : List X) → slice_get (fr
 get-seam [] x xs = refl
 get-seam (y ∷ front) x xs = get-seam front x xs
 
-all-front : {X : Type 0} (P : X → Type 0) (xs ys : List X) → AllByRecursion P (xs ++ ys) → AllByRecursion P xs
-all-front P [] ys h = tt
-all-front P (x ∷ xs) ys h = (h.0, all-front P xs ys h.1)
-
-all-back : {X : Type 0} (P : X → Type 0) (xs ys : List X) → AllByRecursion P (xs ++ ys) → AllByRecursion P ys
-all-back P [] ys h = h
-all-back P (x ∷ xs) ys h = all-back P xs ys h.1
-
 distinct-front : (b : ℕ) (xs ys : List ℕ) → IsDistinct (xs ++ b ∷ ys) → AllByRecursion (λ c. c ≢ b) xs
 distinct-front b [] ys h = tt
 distinct-front b (x ∷ xs) ys h =
-    ((λ e. (all-back (λ q. q ≢ x) xs (b ∷ ys) h.0).0 (sym e)), distinct-front b xs ys h.1)
+    ((λ e. (all-right (λ q. q ≢ x) xs (b ∷ ys) h.0).0 (sym e)), distinct-front b xs ys h.1)
 
 false-true : false ≡ true → ⊥
 false-true e = cc
@@ -90,7 +83,7 @@ pub open-inside : (S : Site) → IsSite S → (before rest : List Line) → site
 open-inside S site before rest e c =
     let inside = recursion_from_All (λ b. b < blocks_of_function (context_of S)) (starts_in (site_lines S))
     site.lines.inside in
-    let front = all-front (λ b. b < blocks_of_function (context_of S)) (starts_in before) (starts_in rest)
+    let front = all-left (λ b. b < blocks_of_function (context_of S)) (starts_in before) (starts_in rest)
     (subst (λ (bs : List ℕ). AllByRecursion (λ b. b < blocks_of_function (context_of S)) bs)
     (ap starts_in e ∙ starts-append before rest) inside) in
     open-started (λ b. b < blocks_of_function (context_of S)) 0 false before c (λ f. absurd (false-true f)) front
@@ -189,7 +182,7 @@ start-of S site before (Emit j ∷ rest) block g e d same =
     ap starts_in e ∙ starts-append before (Start block ∷ Emit j ∷ rest) in
     let other = distinct-front block (starts_in before) (starts_in rest)
     (subst (λ (bs : List ℕ). IsDistinct bs) starts site.lines.once) in
-    let inside = (all-back (λ b. b < blocks_of_function (context_of S)) (starts_in before) (block ∷ starts_in rest)
+    let inside = (all-right (λ b. b < blocks_of_function (context_of S)) (starts_in before) (block ∷ starts_in rest)
     (subst (λ (bs : List ℕ). AllByRecursion (λ b. b < blocks_of_function (context_of S)) bs) starts
     (recursion_from_All (λ b. b < blocks_of_function (context_of S)) (starts_in (site_lines S))
     site.lines.inside))).0 in

@@ -6,6 +6,7 @@ use Rattle.std.specs.List.{range_with_len}
 use Rattle.std.proofs.lemmas.Bool.Decides.{nat_tests}
 use Rattle.std.proofs.lemmas.List.Elements.{recursion_from_All}
 use Rattle.std.proofs.lemmas.List.Sums.{sum_by-cons}
+use Rattle.pcc_base.proofs.Lists.{all-at}
 use Rattle.c_tree.specs.declared.types.IntegerType.TheVariants.{Char, Short, Int}
 use Rattle.c_tree.specs.declared.types.ValueType.{ValueType}
 use Rattle.c_tree.specs.declared.types.ValueType.TheVariants.{Void, Integer, Pointer}
@@ -24,7 +25,6 @@ use Rattle.lower_lines.specs.Shown.{local_widths, type_widths}
 use Rattle.lower_lines.specs.Variables.{Context, level_widths, levels_of, levels_widths}
 use Rattle.lower_lines.proofs.Closing.{function-lays}
 use Rattle.lower_lines.proofs.Filling.{Lays, same, starting, under}
-use Rattle.lower_lines.proofs.Types.{all-at}
 use Rattle.lower_lines.proofs.Weighings.{function-weighs}
 
 -- ---- the last op of a block

@@ -3,6 +3,7 @@ use Rattle.std.proofs.Common.{List, [], ◌∷◌, refl, sym, subst, take}
 use Rattle.std.specs.Prelude.{slice_get}
 use Rattle.std.specs.List.{All, AllByRecursion}
 use Rattle.std.proofs.lemmas.List.Elements.{recursion_from_All}
+use Rattle.pcc_base.proofs.Lists.{all-at}
 use Rattle.c_tree.specs.declared.types.ValueType.{ValueType}
 use Rattle.c_tree.specs.declared.types.ValueType.TheVariants.{Integer, Pointer}
 use Rattle.c_tree.specs.declared.expression.BinaryOp.TheVariants.{Add}
@@ -20,7 +21,7 @@ use Rattle.lower_lines.proofs.Constructs.{assign-laid, binary-laid, call-laid, c
 use Rattle.lower_lines.proofs.Constructs.{conditional-laid}
 use Rattle.lower_lines.proofs.Constructs.{constant-laid, element-laid, exit-laid, getchar-laid, number-laid, or-laid}
 use Rattle.lower_lines.proofs.Constructs.{read-laid, start-laid, step-laid, target-laid, unary-laid, update-laid}
-use Rattle.lower_lines.proofs.Types.{all-at, binary-scalars, cast-turns, conditional-turns, part-type}
+use Rattle.lower_lines.proofs.Types.{binary-scalars, cast-turns, conditional-turns, part-type}
 use Rattle.lower_lines.proofs.Types.{place-scalar, some-and, unary-scalar, update-scalars}
 
 module _ (p : Program) (f : Function) (all : All (IsTypedFunction p) p.functions) (typed : IsTypedFunction p f) where

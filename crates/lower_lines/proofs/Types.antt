@@ -1,8 +1,8 @@
 -- The parts of a typed expression have its type.
-use Rattle.std.proofs.Common.{◌≡◌, ℕ, zero, suc, List, [], ◌∷◌, Option, Some, None, refl, sym, ap, ◌∙◌, subst}
+use Rattle.std.proofs.Common.{◌≡◌, ℕ, Option, Some, None, refl, sym, ap, ◌∙◌, subst}
 use Rattle.std.specs.Prelude.{IsSomeAnd, slice_get}
 use Rattle.std.proofs.lemmas.List.Elements.{recursion_from_All}
-use Rattle.std.specs.List.{AllByRecursion}
+use Rattle.pcc_base.proofs.Lists.{all-at}
 use Rattle.c_tree.specs.declared.expression.BinaryOp.{BinaryOp}
 use Rattle.c_tree.specs.declared.expression.StepOp.{StepOp}
 use Rattle.c_tree.specs.declared.expression.StepOp.TheVariants.{PreIncrement, PreDecrement, PostIncrement}
@@ -90,15 +90,6 @@ update-scalars operator (Integer t) (Pointer u) h = absurd h
 update-scalars operator (Pointer t) (Pointer u) h = absurd h
 
 -- ---- elements of lists
-
-pub all-at : {X : Type 0} (P : X → Type 0) (xs : List X) (k : ℕ) (x : X) → AllByRecursion P xs
-    → slice_get xs k ≡ Some x → P x
-all-at P [] k x h e = absurd (cc)
-all-at P (y ∷ xs) zero x h e = subst P (same y x e) h.0
-  where
-    same : {A : Type 0} (y x : A) → Some y ≡ Some x → y ≡ x
-    same y x e = cc
-all-at P (y ∷ xs) (suc k) x h e = all-at P xs k x h.1 e
 
 -- ---- the type of a part
 

@@ -1,21 +1,18 @@
 -- Lines that are added one after another.
-use Rattle.std.proofs.Common.{◌≡◌, ℕ, suc, ◌+◌, List, [], ◌∷◌, ◌++◌, refl, sym, ap, ◌∙◌, arith, append_assoc, subst}
+use Rattle.std.proofs.Common.{◌≡◌, ℕ, suc, ◌+◌, List, [], ◌∷◌, ◌++◌, sym, ap, ◌∙◌, arith, append_assoc, subst}
 use Rattle.std.proofs.Common.{Option, Some, None, pos}
 use Rattle.flow_graph.specs.declared.op.Op.TheVariants as op
 use Rattle.std.specs.Prelude.{Bool}
+use Rattle.std.proofs.lemmas.List.{append-nil}
 use Rattle.lower_builder.specs.Built.{Built, Adds}
 use Rattle.lower_lines.specs.Lines.{Line, Start, Emit}
 use Rattle.lower_lines.specs.Parts.{Wanted, Own, Part, if_stays, operand, standing, target, truth}
 use Rattle.lower_lines.specs.Variables.{Context, Spot, own}
 use Rattle.lower_pieces.specs.Views.{AddsOperand, AddsPart, truth_end}
 
-append-none : {X : Type 0} (xs : List X) → xs ++ [] ≡ xs
-append-none [] = refl
-append-none (x ∷ xs) = ap (λ (ys : _). x ∷ ys) (append-none xs)
-
 -- blocks alone
 pub taken : (s t : Built) (k : ℕ) → t.lines ≡ s.lines → t.next ≡ s.next + k → Adds s t k []
-taken s t k lines next = record { lines = lines ∙ sym (append-none s.lines); next = next }
+taken s t k lines next = record { lines = lines ∙ sym (append-nil s.lines); next = next }
 
 -- lines behind others; they begin with the first block that those don't take
 pub two : {s t u : Built} {m n : ℕ} {xs : List Line} (ys : ℕ → List Line) → Adds s t m xs → Adds t u n (ys t.next)
@@ -38,7 +35,7 @@ lined {s} {t} {m} {xs} {ys} e a = subst (λ (zs : List Line). Adds s t m zs) e a
 
 -- nothing at all
 pub nothing : (s : Built) → Adds s s 0 []
-nothing s = let none : s.next ≡ s.next + 0 = omega arith in record { lines = sym (append-none s.lines); next = none }
+nothing s = let none : s.next ≡ s.next + 0 = omega arith in record { lines = sym (append-nil s.lines); next = none }
 
 -- three blocks, a test, and what makes a truth value of it
 pub truth-whole : (c : Context) (level : ℕ) (w : Wanted) (test : ℕ → ℕ → ℕ → List Line) (n : ℕ) {s t u v : Built}

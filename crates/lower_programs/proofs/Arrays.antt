@@ -55,15 +55,11 @@ use Rattle.c_tree.specs.Program.{Elements}
 use Rattle.c_tree.specs.WellTyped.{CanInitialise}
 use Rattle.std.specs.List.{All}
 use Rattle.std.proofs.lemmas.List.Elements.{recursion_from_All}
+use Rattle.pcc_base.proofs.Lists.{element-at}
 use Rattle.lower_programs.specs.Laws.{ArrayLowers, ElementsLower}
 use Rattle.lower_programs.specs.Ways.{Behind, From}
 
 -- ---- lists
-
-get-there : {X : Type 0} (xs : List X) (k : ℕ) → k < length xs → (x : X) × (slice_get xs k ≡ Some x)
-get-there [] k h = absurd (omega (arith, h))
-get-there (x ∷ xs) zero h = (x, refl)
-get-there (x ∷ xs) (suc k) h = get-there xs k (omega (arith, h))
 
 -- lists are there that are as long as the arrays of a function
 pub lists-there : (xss : List (List ℤ)) (arrays : List LocalArray) (k : ℕ) (a : LocalArray)
@@ -275,7 +271,7 @@ module _ (S : Site) (site : IsSite S) (older : List Function) (k : ℕ) (a : Loc
       let keep = Emit (op.Store (bits_of a.element) p y from) in
       let es = array_named s named in
       let many = (elements-there s g b.shows).1 in
-      let (old, there) = get-there es place (subst (λ (m : ℕ). place < m) (sym many) inside) in
+      let (old, there) = element-at es place (subst (λ (m : ℕ). place < m) (sym many) inside) in
       let m = converted a.element n in
       let new = with_element es (pos place) m in
       let value = in_type (Integer a.element) (HoldsNumber n) in

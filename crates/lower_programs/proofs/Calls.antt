@@ -7,6 +7,7 @@ use Rattle.std.proofs.lemmas.List.{length-map}
 use Rattle.std.proofs.lemmas.List.Elements.{All-from_recursion, recursion_from_All}
 use Rattle.pcc_base.specs.declared.run.Trap.TheVariants.{Check}
 use Rattle.pcc_base.specs.Outcome.{End, Goes, Listing, Outcome, Trapped, Value, Visit, after_visits}
+use Rattle.pcc_base.proofs.Lists.{all-at}
 use Rattle.c_eval_laws.proofs.Calls.{calls_keep}
 use Rattle.c_eval_laws.specs.Laws.{within}
 use Rattle.c_tree.specs.declared.types.ValueType.{ValueType}
@@ -41,7 +42,7 @@ use Rattle.lower_programs.proofs.Beginning.{calls-back, calls-fresh}
 use Rattle.lower_programs.proofs.Leaving.{bodies-leave}
 use Rattle.lower_programs.proofs.Numbering.{statements-own}
 use Rattle.lower_programs.proofs.Parameters.{parameters-taken, words-read}
-use Rattle.lower_programs.proofs.Passing.{all-at, all-take, all-younger, get-take, parameters-first}
+use Rattle.lower_programs.proofs.Passing.{all-take, all-younger, get-take, parameters-first}
 
 -- ---- what comes of a call that has begun
 

@@ -6,6 +6,7 @@ use Rattle.std.specs.Prelude.{min, slice_get, slice_index_or, replicate, take}
 use Rattle.std.proofs.lemmas.List.Elements.{recursion_from_All}
 use Rattle.pcc_base.specs.Outcome.{ArrayName, InFrame, Static, Array as ArrayValue, Number, Outcome}
 use Rattle.pcc_base.specs.declared.run.Width.TheVariants.{Two}
+use Rattle.pcc_base.proofs.Lists.{all-at}
 use Rattle.c_tree.specs.declared.types.IntegerType.{IntegerType}
 use Rattle.c_tree.specs.Evaluation.{declare, initialise, own_array, text_then_zeros, type_at, zeroed}
 use Rattle.c_tree.specs.Objects.{IsObject, data_object, data_objects}
@@ -24,7 +25,6 @@ use Rattle.lower_lines.specs.Relation.{Keeps, Shows}
 use Rattle.lower_lines.specs.Statements.{copying, count_in, length_in, text_count}
 use Rattle.lower_lines.specs.Variables.{ForArray, ForNumber, ForOld, ForScratch, levels_of, local_variables, own}
 use Rattle.lower_lines.specs.Variables.{temporary}
-use Rattle.lower_lines.proofs.Types.{all-at}
 use Rattle.lower_lines.proofs.Changes.{kept-by-change, kept-twice, temporaries-free}
 use Rattle.lower_lines.proofs.Locals.{get-set_other, get-set_same}
 use Rattle.lower_lines.proofs.Steps.{const-step, static-step}

@@ -4,6 +4,7 @@ use Rattle.std.proofs.Common.{arith, length, take}
 use Rattle.std.specs.Prelude.{slice_get}
 use Rattle.std.specs.List.{range_with_len}
 use Rattle.std.proofs.lemmas.List.Elements.{recursion_from_All}
+use Rattle.pcc_base.proofs.Lists.{all-at}
 use Rattle.c_tree.specs.declared.types.ValueType.{ValueType}
 use Rattle.c_tree.specs.Evaluation.{type_at, type_of}
 use Rattle.c_tree.specs.Program.{Block, Function, Local, Program}
@@ -17,7 +18,6 @@ use Rattle.lower_lines.specs.Statements.{Leaves}
 use Rattle.lower_lines.specs.Variables.{Context, local_spot}
 use Rattle.lower_lines.proofs.Closing.{all-lines-close}
 use Rattle.lower_lines.proofs.Shapes.{get-map}
-use Rattle.lower_lines.proofs.Types.{all-at}
 use Rattle.lower_programs.specs.Flows.{Within}
 use Rattle.lower_programs.specs.Settled.{context_in}
 use Rattle.lower_programs.proofs.Paths.{flows-suffice}

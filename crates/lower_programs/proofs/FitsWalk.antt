@@ -5,6 +5,8 @@ use Rattle.std.specs.Prelude.{FitsSigned, slice_get}
 use Rattle.std.specs.Int.{w8, w16, w32, int_wrap}
 use Rattle.std.specs.List.{AllByRecursion}
 use Rattle.std.proofs.lemmas.Int.{SFits-int_wrap}
+use Rattle.std.proofs.lemmas.Option.{slice_get_within}
+use Rattle.pcc_base.proofs.Lists.{all-at}
 use Rattle.c_tree.specs.declared.expression.ArrayRef.{ArrayRef}
 use Rattle.c_tree.specs.declared.expression.ArrayRef.TheVariants as refs
 use Rattle.c_tree.specs.declared.expression.BinaryOp.TheVariants.{Add}
@@ -26,8 +28,7 @@ use Rattle.lower_lines.specs.Expressions.{all_passed, part_of, parameters_of, pa
 use Rattle.lower_lines.specs.Expressions.{address_part, call_part, element_of, target_of}
 use Rattle.lower_lines.specs.Variables.{Context}
 use Rattle.lower_lines.specs.Words.{HasWords, HaveWords, PlaceHasWords}
-use Rattle.lower_lines.proofs.Marks.{get-below}
-use Rattle.lower_lines.proofs.Types.{all-at, part-type, place-scalar, some-and}
+use Rattle.lower_lines.proofs.Types.{part-type, place-scalar, some-and}
 use Rattle.lower_programs.specs.FitsLaws.{Room}
 use Rattle.lower_programs.proofs.FitsParts.{FitsPart, IsThere, UnaryFits, constant-part, number-part, start-part}
 use Rattle.lower_programs.proofs.FitsParts.{unary-part}
@@ -89,7 +90,7 @@ module _ (R : Room) (functions : AllByRecursion (IsTypedFunction R.program) R.pr
   array-there element (refs.Static k) h = tt
   array-there element (refs.Frame k) h =
       let (a, at, is) = some-and (slice_get f.arrays k) (λ (x : LocalArray). x.element ≡ element) h in
-      let below = get-below f.arrays k a at in
+      let below = slice_get_within f.arrays k a at in
       let same = R.arrays in
       omega (arith, below, same)
 

@@ -3,6 +3,7 @@ use Rattle.std.proofs.Common.{◌≡◌, ◌<◌, ◌⊎◌, ℕ, List, [], ◌�
 use Rattle.std.proofs.Common.{take}
 use Rattle.std.specs.Prelude.{IsSomeAnd, slice_get}
 use Rattle.std.specs.List.{AllByRecursion}
+use Rattle.pcc_base.proofs.Lists.{all-at}
 use Rattle.c_tree.specs.declared.expression.BinaryOp.{BinaryOp}
 use Rattle.c_tree.specs.declared.expression.BinaryOp.TheVariants.{Add}
 use Rattle.c_tree.specs.declared.expression.UnaryOp.{UnaryOp}
@@ -23,7 +24,7 @@ use Rattle.lower_lines.specs.Expressions.{address_part, all_passed, call_part, e
 use Rattle.lower_lines.specs.Expressions.{parts_of, place_of, target_of, words_of}
 use Rattle.lower_lines.specs.Parts.{Part}
 use Rattle.lower_lines.specs.Variables.{Context, local_spot, local_variables}
-use Rattle.lower_lines.proofs.Types.{all-at, part-type, place-scalar, some-and}
+use Rattle.lower_lines.proofs.Types.{part-type, place-scalar, some-and}
 use Rattle.lower_programs.proofs.FitsCompound.{Becomes, assign-becomes, cast-becomes, conditional-becomes}
 use Rattle.lower_programs.proofs.FitsWalk.{integer-of}
 use Rattle.lower_programs.specs.Flows.{Within}

@@ -5,8 +5,10 @@ use Rattle.std.specs.Prelude.{slice_get}
 use Rattle.std.specs.List.{AllByRecursion, range_with_len}
 use Rattle.std.proofs.lemmas.Bool.{cases_lt}
 use Rattle.std.proofs.lemmas.List.Elements.{recursion_from_All}
+use Rattle.std.proofs.lemmas.Option.{slice_get_within}
 use Rattle.pcc_base.specs.declared.run.Width.{Width}
 use Rattle.pcc_base.specs.declared.run.Width.TheVariants.{One, Two}
+use Rattle.pcc_base.proofs.Lists.{all-at}
 use Rattle.c_tree.specs.declared.expression.BinaryOp.TheVariants.{Add}
 use Rattle.c_tree.specs.declared.expression.UnaryOp.{UnaryOp}
 use Rattle.c_tree.specs.declared.expression.UnaryOp.TheVariants.{Plus, Minus, Complement, Not}
@@ -28,8 +30,8 @@ use Rattle.lower_lines.specs.Expressions.{address_part, call_part, element_of, t
 use Rattle.lower_lines.specs.Parts.{Part}
 use Rattle.lower_lines.specs.Shown.{first_variable, local_widths, type_widths}
 use Rattle.lower_lines.specs.Variables.{Context, Spot, local_spot, local_variables, typed_spot}
-use Rattle.lower_lines.proofs.Types.{all-at, part-type, place-scalar, some-and}
-use Rattle.lower_programs.proofs.Widths.{get-within, local-width}
+use Rattle.lower_lines.proofs.Types.{part-type, place-scalar, some-and}
+use Rattle.lower_programs.proofs.Widths.{local-width}
 use Rattle.lower_programs.proofs.FitsCompound.{Becomes, assign-becomes, cast-becomes, conditional-becomes}
 use Rattle.lower_programs.proofs.FitsWalk.{integer-of}
 use Rattle.lower_programs.specs.Flows.{Within}
@@ -75,9 +77,9 @@ module _ (p : Program) (f : Function) (functions : AllByRecursion (IsTypedFuncti
   known : (k j : ℕ) (l : Local) (w : Width) → slice_get f.locals k ≡ Some l → slice_get (type_widths l.of) j ≡ Some w
       → IsIn (first_variable f.locals k + j) D
   known k j l w at e =
-      let inside = get-within (type_widths l.of) j w e in
+      let inside = slice_get_within (type_widths l.of) j w e in
       let v = first_variable f.locals k + j in
-      let below : v < local_variables f = get-within (local_widths f.locals) v w
+      let below : v < local_variables f = slice_get_within (local_widths f.locals) v w
       (local-width f.locals k j l at inside ∙ e) in
       range-in 0 (local_variables f) v (omega arith) (omega (arith, below))
 

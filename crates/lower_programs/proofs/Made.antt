@@ -5,6 +5,7 @@ use Rattle.std.proofs.Common.{append-nil, inl, inr}
 use Rattle.std.specs.Prelude.{slice_get, slice_index_or, IsSomeAnd, if◌then◌else◌}
 use Rattle.std.specs.Ordering.{int_eq}
 use Rattle.std.specs.List.{Contains}
+use Rattle.std.proofs.lemmas.Option.{slice_get_within}
 use Rattle.pcc_base.specs.Outcome.{Number, Visit}
 use Rattle.pcc_base.specs.declared.run.Width.{Width}
 use Rattle.pcc_base.specs.declared.run.Width.TheVariants.{Two}
@@ -33,7 +34,7 @@ use Rattle.lower_lines.proofs.Changes.{kept-by-change, kept-twice, numbers-set, 
 use Rattle.lower_lines.proofs.Locals.{get-set_other, get-set_same, local-within}
 use Rattle.lower_lines.proofs.Steps.{branch-step, const-step}
 use Rattle.lower_programs.proofs.Going.{Goes, stand-back, stand-front}
-use Rattle.lower_programs.proofs.Widths.{get-before, get-within, local-width, temporary-width}
+use Rattle.lower_programs.proofs.Widths.{get-before, local-width, temporary-width}
 
 -- ---- variables that are there
 
@@ -48,7 +49,7 @@ pub variable-there : (p : Program) (f : Function) (older : List Function) (s : s
     (w : Width) → Shows p (f ∷ older) s g → slice_get (variable_widths f) v ≡ Some w → v < length g.current.variables
 variable-there p f older s g v w shows e =
     let many = calls-length p f older s.active g.current (map (λ x. x.activation) g.waiting) shows.calls in
-    let inside = get-within (variable_widths f) v w e in
+    let inside = slice_get_within (variable_widths f) v w e in
     omega (arith, many, inside)
 
 -- a variable that a number may be put in: that of the level's own temporaries, or a local's

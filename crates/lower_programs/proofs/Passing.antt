@@ -19,15 +19,6 @@ use Rattle.lower_programs.specs.CallsLaws.{with_parameters}
 
 -- ---- lists
 
-pub all-at : {X : Type 0} (P : X → Type 0) (xs : List X) (k : ℕ) (x : X) → AllByRecursion P xs
-    → slice_get xs k ≡ Some x → P x
-all-at P [] k x all e = absurd (cc)
-all-at P (y ∷ xs) zero x all e = subst P (same y x e) all.0
-  where
-    same : {A : Type 0} (y x : A) → Some y ≡ Some x → y ≡ x
-    same y x e = cc
-all-at P (y ∷ xs) (suc k) x all e = all-at P xs k x all.1 e
-
 pub all-take : {X : Type 0} (P : X → Type 0) (n : ℕ) (xs : List X) → AllByRecursion P xs → AllByRecursion P (take n xs)
 all-take P zero xs all = tt
 all-take P (suc n) [] all = tt

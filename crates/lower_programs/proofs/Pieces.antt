@@ -4,6 +4,7 @@ use Rattle.std.proofs.Common.{Option, Some, None, refl, sym, ap, ◌∙◌, subs
 use Rattle.std.specs.Prelude.{if◌then◌else◌, ◌==◌, FitsSigned, slice_get}
 use Rattle.std.specs.Int.{w32}
 use Rattle.std.specs.List.{AllByRecursion}
+use Rattle.std.proofs.lemmas.Option.{slice_get_within}
 use Rattle.pcc_base.specs.declared.run.Width.{Width}
 use Rattle.pcc_base.specs.declared.run.Width.TheVariants.{One, Two}
 use Rattle.c_tree.specs.declared.expression.BinaryOp.{BinaryOp}
@@ -32,7 +33,7 @@ use Rattle.lower_lines.specs.Parts.{test_blocks, test_lines, tested, tested_bloc
 use Rattle.lower_lines.specs.Shown.{first_variable, local_widths, type_widths}
 use Rattle.lower_lines.specs.Variables.{Context, Role, ForArray, ForByte, ForNumber, ForScratch, Spot, copied}
 use Rattle.lower_lines.specs.Variables.{levels_of, levels_widths, local_spot, moved, own, temporary, typed_spot}
-use Rattle.lower_programs.proofs.Widths.{get-before, get-within, local-width, role_width, temporary-width}
+use Rattle.lower_programs.proofs.Widths.{get-before, local-width, role_width, temporary-width}
 use Rattle.lower_programs.specs.FitsLaws.{IsGood, Room}
 
 pub small : (n : ℕ) → n < 2147483648 → FitsSigned w32 (pos n)
@@ -89,10 +90,10 @@ module _ (R : Room) where
   variable-width k j l w at e =
       let ls = R.function.locals in
       let v = first_variable ls k + j in
-      let inside = get-within (type_widths l.of) j w e in
+      let inside = slice_get_within (type_widths l.of) j w e in
       let there : slice_get (local_widths ls) v ≡ Some w = local-width ls k j l at inside ∙ e in
       ap (λ (ws : List Width). slice_get ws v) R.widths
-      ∙ get-before (local_widths ls) (levels_widths levels_in) v (get-within (local_widths ls) v w there) ∙ there
+      ∙ get-before (local_widths ls) (levels_widths levels_in) v (slice_get_within (local_widths ls) v w there) ∙ there
 
   spot-is : (k : ℕ) (l : Local) (of : ValueType) → slice_get R.function.locals k ≡ Some l → l.of ≡ of
       → local_spot c k ≡ typed_spot of (first_variable R.function.locals k)

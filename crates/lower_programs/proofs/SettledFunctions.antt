@@ -3,6 +3,7 @@ use Rattle.std.proofs.Common.{◌≡◌, false, ℕ, zero, suc, ◌+◌, List, [
 use Rattle.std.proofs.Common.{take}
 use Rattle.std.specs.List.{range_with_len}
 use Rattle.std.proofs.lemmas.List.Elements.{recursion_from_All}
+use Rattle.pcc_base.proofs.Lists.{all-at}
 use Rattle.c_tree.specs.declared.types.IntegerType.TheVariants.{Char, Short, Int}
 use Rattle.c_tree.specs.declared.types.ValueType.{ValueType}
 use Rattle.c_tree.specs.declared.types.ValueType.TheVariants.{Void, Integer, Pointer}
@@ -17,7 +18,6 @@ use Rattle.lower_lines.specs.Statements.{Leaves}
 use Rattle.lower_lines.specs.Variables.{Context, Spot, local_spot, local_variables, own}
 use Rattle.lower_lines.proofs.Closing.{all-lines-close}
 use Rattle.lower_lines.proofs.Shapes.{get-map}
-use Rattle.lower_lines.proofs.Types.{all-at}
 use Rattle.lower_programs.specs.Flows.{Within}
 use Rattle.lower_programs.specs.LiveLaws.{AllFixedDie, NoneAtMarks}
 use Rattle.lower_programs.specs.Settled.{Agrees, context_in}

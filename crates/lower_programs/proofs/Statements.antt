@@ -5,7 +5,9 @@ use Rattle.std.specs.Prelude.{if◌then◌else◌, ◌==◌, ◌||◌, FitsSigne
 use Rattle.std.specs.Int.{w32}
 use Rattle.std.specs.List.{AllByRecursion}
 use Rattle.std.proofs.lemmas.List.Elements.{recursion_from_All}
+use Rattle.std.proofs.lemmas.Option.{slice_get_within}
 use Rattle.pcc_base.specs.declared.run.Width.TheVariants.{One, Two}
+use Rattle.pcc_base.proofs.Lists.{all-at}
 use Rattle.c_tree.specs.declared.statement.Label.{Label}
 use Rattle.c_tree.specs.declared.types.IntegerType.{IntegerType}
 use Rattle.c_tree.specs.declared.types.IntegerType.TheVariants.{Char, Short, Int}
@@ -42,8 +44,7 @@ use Rattle.lower_lines.specs.Statements.{text_count, towards, zeroed_by, zeroing
 use Rattle.lower_lines.specs.Variables.{Context, ForArray, ForNumber, ForOld, ForScratch, local_spot}
 use Rattle.lower_lines.specs.Words.{FirstHasWords, HasWords, InitialiserHasWords, ItemHasWords}
 use Rattle.lower_lines.proofs.Levels.{assigned-levels}
-use Rattle.lower_lines.proofs.Marks.{get-below}
-use Rattle.lower_lines.proofs.Types.{all-at, part-type, some-and}
+use Rattle.lower_lines.proofs.Types.{part-type, some-and}
 use Rattle.lower_programs.specs.FitsLaws.{Room}
 use Rattle.lower_programs.proofs.FitsCompound.{Becomes, assign-becomes}
 use Rattle.lower_programs.proofs.FitsParts.{FitsPart, number-there, operand-fit, test-part}
@@ -202,7 +203,7 @@ module _ (R : Room) (functions : AllByRecursion (IsTypedFunction R.program) R.pr
       → item_levels c (Array 0 k t value) ≤ L → block + array_blocks c value ≤ B
       → Fit R (array_lines c k t value block)
   array-fit k t (Elements es) a block at h words room more =
-      let there = get-below f.arrays k a at in
+      let there = slice_get_within f.arrays k a at in
       let same = R.arrays in
       let few = all-at (λ (x : LocalArray). x.count ≤ 2147483647) f.arrays k a counts at in
       let q = temp R 0 ForArray some-level in
@@ -216,7 +217,7 @@ module _ (R : Room) (functions : AllByRecursion (IsTypedFunction R.program) R.pr
         ),
       )
   array-fit k t (Text object) a block at h words room more =
-      let there = get-below f.arrays k a at in
+      let there = slice_get_within f.arrays k a at in
       let same = R.arrays in
       let few = all-at (λ (x : LocalArray). x.count ≤ 2147483647) f.arrays k a counts at in
       let q = temp R 0 ForArray some-level in

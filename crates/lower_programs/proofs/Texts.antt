@@ -8,8 +8,10 @@ use Rattle.std.specs.Prelude.{IsSomeAnd, ◌+ℤ◌, int_lt}
 use Rattle.std.specs.Int.{w32, int_wrap}
 use Rattle.std.proofs.lemmas.Bool.Decides.{nat_tests}
 use Rattle.std.proofs.lemmas.Int.{int_wrap_fits}
+use Rattle.std.proofs.lemmas.Option.{slice_get_within}
 use Rattle.pcc_base.specs.Outcome.{ArrayName, Null, InFrame, Static, Array as ArrayValue, Number, Outcome}
 use Rattle.pcc_base.specs.declared.run.Width.TheVariants.{Two}
+use Rattle.pcc_base.proofs.Lists.{element-at}
 use Rattle.c_tree.specs.Evaluation.{text_then_zeros}
 use Rattle.c_tree.specs.Program.{Function, LocalArray, StaticObject}
 use Rattle.c_tree.specs.Store as source
@@ -32,7 +34,7 @@ use Rattle.lower_lines.proofs.Locals.{get-set_other, get-set_same, length-slice_
 use Rattle.lower_lines.proofs.Steps.{branch-step, load-step, store-step, two-step}
 use Rattle.lower_programs.proofs.Going.{stand-back, stand-front}
 use Rattle.lower_programs.proofs.Made.{variable-there}
-use Rattle.lower_programs.proofs.Widths.{get-within, temporary-width}
+use Rattle.lower_programs.proofs.Widths.{temporary-width}
 use Rattle.lower_programs.proofs.Working.{comparison-is}
 use Rattle.lower_programs.proofs.Arrays.{lists-there, named-of}
 use Rattle.lower_programs.proofs.Arrays.{stored-same}
@@ -70,11 +72,6 @@ length-text : (zs text : List ℤ) → length (text_then_zeros zs text) ≡ leng
 length-text [] text = refl
 length-text (z ∷ zs) [] = ap suc (length-text zs [])
 length-text (z ∷ zs) (c ∷ cs) = ap suc (length-text zs cs)
-
-get-there : {X : Type 0} (xs : List X) (k : ℕ) → k < length xs → (x : X) × (slice_get xs k ≡ Some x)
-get-there [] k h = absurd (omega (arith, h))
-get-there (x ∷ xs) zero h = (x, refl)
-get-there (x ∷ xs) (suc k) h = get-there xs k (omega (arith, h))
 
 get-fits : (P : ℤ → Type 0) (xs : List ℤ) (k : ℕ) (x : ℤ) → ((j : ℕ) (d : ℤ) → j < length xs
     → P (slice_index_or xs j d)) → slice_get xs k ≡ Some x → P x
@@ -240,7 +237,7 @@ named-set S older k a at s g es shows =
     by [] b bs h = absurd h
     by (c ∷ calls) b bs h =
         let there = lists-there c.arrays S.function.arrays k a h.0.counts at in
-        let inside = get-within c.arrays k (slice_index_or c.arrays k []) there.0 in
+        let inside = slice_get_within c.arrays k (slice_index_or c.arrays k []) there.0 in
         let many = as-many S.program older calls bs h.1 in
         let here = eq-eqb (suc (length calls)) (suc (length calls)) refl in
         ap (λ (n : ℕ). slice_index_or (arrays_in (call_of_depth (if suc n == suc (length calls) then with_own k es c ∷
@@ -353,11 +350,11 @@ module _ (S : Site) (site : IsSite S) (older : List Function) (k : ℕ) (a : Loc
       × ((turns : ℕ) (o : Outcome) → Comes S turns (behind behind_add h3) o → Comes S turns (behind inside h) o)
   turn-goes i h less short long stands now =
       let t = reached i in
-      let (n, there) = get-there string i (omega (arith, less, long)) in
+      let (n, there) = element-at string i (omega (arith, less, long)) in
       let cur = array_named t array in
       let held : cur ≡ content i = named-set S older k a at s0 g (content i) begun in
       let below : i < length (array_named s0 array) = omega (arith, less, short) in
-      let (old, there') = get-there cur i (subst (λ (es : List ℤ). i < length es) (sym held)
+      let (old, there') = element-at cur i (subst (λ (es : List ℤ). i < length es) (sym held)
       (subst (λ (m : ℕ). i < m) (sym (length-text (array_named s0 array) (take i string))) below)) in
       let fits = get-fits (λ m. converted a.element m ≡ m) string i n
       (arrays-fit S.program active t h a.element (Static object) now.shows is-text) there in

@@ -4,13 +4,14 @@ use Rattle.std.specs.Prelude.{if◌then◌else◌, nat_le, slice_get}
 use Rattle.std.specs.List.{All, AllZip}
 use Rattle.std.proofs.lemmas.List.Elements.{All-head, All-nil, All-tail, recursion_from_All}
 use Rattle.pcc_base.specs.Outcome.{AreKnown, Listing}
+use Rattle.pcc_base.proofs.Lists.{all-at}
 use Rattle.c_tree.specs.Evaluation.{Calls, Left, call_over, call_within, enter, execute_from, first_activation}
 use Rattle.c_tree.specs.Evaluation.{most_active, older, outcome_of, run_function, type_at}
 use Rattle.c_tree.specs.Evaluation as evaluation
 use Rattle.c_tree.specs.Program.{Function, Local, Program}
 use Rattle.c_tree.specs.Store.{Activation, Evaluated, Gives, Ends, Held, and_then, first_values}
 use Rattle.c_tree.specs.WellTyped.{IsResult, IsTypedFunction, WellTyped, statements_numbers}
-use Rattle.lower_lines.proofs.Types.{all-at, some-and}
+use Rattle.lower_lines.proofs.Types.{some-and}
 use Rattle.lower_programs.specs.CallsLaws.{StatementsAreOwn}
 use Rattle.lower_lines.specs.Shown.{ListsLocals, locals_at}
 use Rattle.lower_programs.specs.VisitsLaws.{VisitsAreKnown}

@@ -5,6 +5,7 @@ use Rattle.std.specs.Prelude.{map, slice_set, drop, if◌then◌else◌, IfSome,
 use Rattle.std.specs.List.{AllByRecursion}
 use Rattle.std.proofs.lemmas.List.Elements.{recursion_from_All}
 use Rattle.pcc_base.specs.Outcome.{ArrayName}
+use Rattle.pcc_base.proofs.Lists.{all-left, all-right, all-at}
 use Rattle.c_eval_laws.specs.Laws.{TreesKeep, within}
 use Rattle.c_eval_laws.proofs.Agreeing.{trees_keep}
 use Rattle.c_tree.specs.declared.expression.ArrayRef.{ArrayRef}
@@ -42,7 +43,7 @@ use Rattle.lower_lines.specs.Statements.{runs_of, zeroing}
 use Rattle.lower_lines.specs.Variables.{Context}
 use Rattle.lower_lines.specs.Words.{IsInMemory}
 use Rattle.lower_lines.proofs.Levels.{assigned-levels, turned-levels}
-use Rattle.lower_lines.proofs.Types.{all-at, part-type}
+use Rattle.lower_lines.proofs.Types.{part-type}
 use Rattle.lower_programs.proofs.Made.{some-and}
 use Rattle.lower_programs.proofs.Arrays.{assigned-integer, elements-lower}
 use Rattle.lower_programs.proofs.Conditions.{conditions-lower}
@@ -59,14 +60,6 @@ use Rattle.lower_programs.specs.Laws.{AfterLowers, TestLowers}
 use Rattle.lower_programs.specs.Ways.{Keeping, LowersFrom, LowersLines}
 
 -- ---- lists and runs
-
-all-front : {X : Type 0} (P : X → Type 0) (xs ys : List X) → AllByRecursion P (xs ++ ys) → AllByRecursion P xs
-all-front P [] ys h = tt
-all-front P (x ∷ xs) ys h = (h.0, all-front P xs ys h.1)
-
-all-back : {X : Type 0} (P : X → Type 0) (xs ys : List X) → AllByRecursion P (xs ++ ys) → AllByRecursion P ys
-all-back P [] ys h = h
-all-back P (x ∷ xs) ys h = all-back P xs ys h.1
 
 -- the same lines do what is the same
 run-same : (S : Site) (breaks continues : Bool) (r : Run) (one other : Runs)
@@ -387,9 +380,9 @@ module _ (S : Site) (site : IsSite S) (well : WellTyped S.program) (memory : IsI
         conditions-lower S site breaks continues n (part_of c e) (run_of c a) (run_of c b) (evaluate S.calls e)
         (execute W a) (execute W b) own.0 (condition e h.0) (expressions e h.0.0) (keeps.expressions e)
         (statement breaks continues a h.1
-        (all-front (IsOwn S) (statement_numbers a) (statement_numbers b) own.1))
+        (all-left (IsOwn S) (statement_numbers a) (statement_numbers b) own.1))
         (executing a)
-        (statement breaks continues b h.2 (all-back (IsOwn S) (statement_numbers a) (statement_numbers b) own.1))
+        (statement breaks continues b h.2 (all-right (IsOwn S) (statement_numbers a) (statement_numbers b) own.1))
         (executing b) (nothing-does b)
     statement breaks continues (While n e body) h own =
         whiles-lower S site breaks continues n loops e (run_of c body) (execute W body) own.0 high
@@ -404,7 +397,7 @@ module _ (S : Site) (site : IsSite S) (well : WellTyped S.program) (memory : IsI
         (run_first S.calls S.listing (type_at S.function) x) (execute W body) own.0 high
         (first x (statement_numbers body) h.0 own.1) (keeps.firsts S.listing (type_at S.function) x)
         (tests test h.1) (keeps.tests test) (afters after h.2) (keeps.steps after)
-        (statement true true body h.3 (all-back (IsOwn S) (first_numbers x) (statement_numbers body) own.1))
+        (statement true true body h.3 (all-right (IsOwn S) (first_numbers x) (statement_numbers body) own.1))
         (executing body)
       where
         tests : (test : Option Expression) → IfSome test (IsCondition S.program S.function)
@@ -440,10 +433,10 @@ module _ (S : Site) (site : IsSite S) (well : WellTyped S.program) (memory : IsI
     sequence breaks continues labelled place Done h own = tt
     sequence breaks continues labelled place (Next x others) h own =
         in-order breaks continues labelled place x
-        (statement breaks continues x h.0 (all-front (IsOwn S) (statement_numbers x) (statements_numbers others) own))
+        (statement breaks continues x h.0 (all-left (IsOwn S) (statement_numbers x) (statements_numbers others) own))
         others
         (sequence breaks continues labelled (suc place) others h.1
-        (all-back (IsOwn S) (statement_numbers x) (statements_numbers others) own))
+        (all-right (IsOwn S) (statement_numbers x) (statements_numbers others) own))
 
     -- those from a place on
     from-place : (breaks continues : Bool) (labelled : Labelled) (base place : ℕ) (xs : Statements)
@@ -453,16 +446,16 @@ module _ (S : Site) (site : IsSite S) (well : WellTyped S.program) (memory : IsI
     from-place breaks continues labelled base place Done lt h own = absurd (omega (arith, lt))
     from-place breaks continues labelled base zero (Next x others) lt h own =
         in-order breaks continues labelled (base + 0) x
-        (statement breaks continues x h.0 (all-front (IsOwn S) (statement_numbers x) (statements_numbers others) own))
+        (statement breaks continues x h.0 (all-left (IsOwn S) (statement_numbers x) (statements_numbers others) own))
         others
         (sequence breaks continues labelled (suc (base + 0)) others h.1
-        (all-back (IsOwn S) (statement_numbers x) (statements_numbers others) own))
+        (all-right (IsOwn S) (statement_numbers x) (statements_numbers others) own))
     from-place breaks continues labelled base (suc place) (Next x others) lt h own =
         let sum : suc base + place ≡ base + suc place = omega arith in
         subst (λ (k : ℕ). LowersFrom S breaks continues labelled k (drop place (runs_of c others))
         (execute_from W others place)) sum
         (from-place breaks continues labelled (suc base) place others (omega (arith, lt)) h.1
-        (all-back (IsOwn S) (statement_numbers x) (statements_numbers others) own))
+        (all-right (IsOwn S) (statement_numbers x) (statements_numbers others) own))
 
 pub statements-lower : StatementsLower
 statements-lower S site well memory expressions loops high breaks continues x h own =

@@ -4,6 +4,8 @@ use Rattle.std.proofs.Common.{arith, length, map, subst}
 use Rattle.std.specs.Prelude.{slice_get, sum_by}
 use Rattle.std.specs.List.{All, AllByRecursion}
 use Rattle.std.proofs.lemmas.List.Elements.{All-from_recursion, recursion_from_All}
+use Rattle.std.proofs.lemmas.Option.{slice_get_within}
+use Rattle.pcc_base.proofs.Lists.{all-weaker, all-at, element-at}
 use Rattle.c_tree.specs.Objects.{data_object}
 use Rattle.c_tree.specs.Program.{Function, LocalArray, Program}
 use Rattle.c_tree.specs.Sizes.{array_bytes, function_size}
@@ -19,11 +21,11 @@ use Rattle.lower_lines.specs.Variables.{Context}
 use Rattle.lower_lines.specs.Words.{FunctionHasWords, IsInMemory}
 use Rattle.lower_lines.proofs.Closing.{all-lines-close, function-lays}
 use Rattle.lower_lines.proofs.Few.{points-are-few}
-use Rattle.lower_lines.proofs.Marks.{get-below, marks-hold}
+use Rattle.lower_lines.proofs.Marks.{marks-hold}
 use Rattle.lower_lines.proofs.Names.{names-are-there}
 use Rattle.lower_lines.proofs.Ordered.{graphs-are-laid-out}
 use Rattle.lower_lines.proofs.Shapes.{blocks-are, function-shape, length-map}
-use Rattle.lower_lines.proofs.Types.{all-at, some-and}
+use Rattle.lower_lines.proofs.Types.{some-and}
 use Rattle.lower_programs.specs.FitsLaws.{IsGood, Room, SmallNumber}
 use Rattle.lower_programs.proofs.Functions.{function-fits}
 use Rattle.lower_programs.proofs.Sizes.{counts-small, function-small, functions-few, numbers-small}
@@ -35,20 +37,10 @@ all-from-get : {X : Type 0} (P : X → Type 0) (xs : List X)
 all-from-get P [] h = tt
 all-from-get P (x ∷ xs) h = (h 0 x refl, all-from-get P xs (λ k y e. h (suc k) y e))
 
-all-become : {X : Type 0} (P Q : X → Type 0) (xs : List X) → ((x : X) → P x → Q x) → AllByRecursion P xs
-    → AllByRecursion Q xs
-all-become P Q [] h all = tt
-all-become P Q (x ∷ xs) h all = (h x all.0, all-become P Q xs h all.1)
-
 all-mapped : {X Y : Type 0} (f : X → Y) (P : Y → Type 0) (xs : List X)
     → ((k : ℕ) (x : X) → slice_get xs k ≡ Some x → P (f x)) → AllByRecursion P (map f xs)
 all-mapped f P [] h = tt
 all-mapped f P (x ∷ xs) h = (h 0 x refl, all-mapped f P xs (λ k y e. h (suc k) y e))
-
-get-there : {X : Type 0} (xs : List X) (k : ℕ) → k < length xs → (x : X) × (slice_get xs k ≡ Some x)
-get-there [] k h = absurd (omega (arith, h))
-get-there (x ∷ xs) zero h = (x, refl)
-get-there (x ∷ xs) (suc k) h = get-there xs k (omega (arith, h))
 
 get-mapped : {X Y : Type 0} (f : X → Y) (xs : List X) (k : ℕ) (x : X) → slice_get xs k ≡ Some x
     → slice_get (map f xs) k ≡ Some (f x)
@@ -166,8 +158,8 @@ module _ (p : Program) (well : WellTyped p) (memory : IsInMemory p) (k : ℕ) (f
   fitting : (homes : List ℕ) → length homes ≡ length flow.ops → (block point : ℕ)
       → slice_get homes point ≡ Some block → HasFittingOp flow point
   fitting homes many block point e =
-      let below = get-below homes point block e in
-      let (i, there) = get-there flow.ops point (omega (arith, below, many)) in
+      let below = slice_get_within homes point block e in
+      let (i, there) = element-at flow.ops point (omega (arith, below, many)) in
       (i, there, (all-at (IsGood flow) flow.ops point i good there).0)
 
   few-widths : length flow.widths ≤ 4294967295
@@ -197,7 +189,7 @@ module _ (p : Program) (well : WellTyped p) (memory : IsInMemory p) (k : ℕ) (f
                 let ordered = laid.each_block block in
                 record {
                   at_home = ordered.at_home;
-                  fits = all-become (λ (q : ℕ). slice_get laid.homes q ≡ Some block) (HasFittingOp flow)
+                  fits = all-weaker (λ (q : ℕ). slice_get laid.homes q ≡ Some block) (HasFittingOp flow)
                       (points_of flow block) (λ q e. fitting laid.homes laid.one_home block q e) ordered.at_home;
                   once = ordered.once;
                   ends = ordered.ends;
@@ -226,7 +218,7 @@ graphs-are-there p well memory = record {
   objects = well.objects;
   main =
       let (f, at, is) = some-and (slice_get p.functions p.main) IsMain well.main in
-      let below = get-below p.functions p.main f at in
+      let below = slice_get_within p.functions p.main f at in
       let many = length-map (graph_of_function p) p.functions in
       omega (arith, below, many);
 }

@@ -84,9 +84,3 @@ local-width (m ∷ ls) (suc k) j l e h =
     ap (slice_get (type_widths m.of ++ local_widths ls)) sum
     ∙ get-behind (type_widths m.of) (local_widths ls) (first_variable ls k + j)
     ∙ local-width ls k j l e h
-
--- what is there at a place is before the end
-pub get-within : {X : Type 0} (xs : List X) (k : ℕ) (x : X) → slice_get xs k ≡ Some x → k < length xs
-get-within [] k x e = absurd (cc)
-get-within (y ∷ xs) zero x e = omega arith
-get-within (y ∷ xs) (suc k) x e = let h = get-within xs k x e in omega (arith, h)

@@ -7,6 +7,7 @@ use Rattle.std.proofs.lemmas.List.{length-map}
 use Rattle.std.proofs.lemmas.Option.{get_or_from_slice_get, none-some, same_Some, slice_get_within}
 use Rattle.pcc_base.specs.Objects.{Object}
 use Rattle.pcc_base.specs.Outcome.{ArrayName, Null, Static, InFrame, Unknown}
+use Rattle.pcc_base.proofs.Lists.{element-at}
 use Rattle.c_tree.specs.Objects.{data_object}
 use Rattle.c_tree.specs.Program.{LocalArray, Program, StaticObject}
 use Rattle.ia32_insn.specs.State as machine
@@ -15,7 +16,7 @@ use Rattle.flow_graph.specs.Graphs.{Flow, empty_flow}
 use Rattle.flow_graph.specs.States as graph
 use Rattle.flow_graph.specs.States.{Activation, active_of, flow_at}
 use Rattle.flow_graph.specs.WellFormed.{AreElementsOf, IsState}
-use Rattle.graph_states.proofs.Lists.{at-within, zip-first}
+use Rattle.graph_states.proofs.Lists.{zip-first}
 use Rattle.lower_lines.specs.Lowering.{array_of}
 use Rattle.ia32_rows.specs.Placements.{Code, objects_of as image_objects, placement_of}
 use Rattle.ia32_rows.specs.Shows.{IsFrameArrayAt, Shows}
@@ -140,7 +141,7 @@ map-arrays : (program : Program) (code : Code) (m : Map) (k : ℕ) → HasMap pr
 map-arrays program code m k h below =
     let x = has-function program code m k h below in
     let n = numbered program code m k x.0 h x.1 in
-    let flow = at-within code.program.functions k below in
+    let flow = element-at code.program.functions k below in
     let shape = h.shapes.each k n.function flow.0 n.declared flow.1 in
     let arrays = (h.is_selected.supported.supports k below).arrays in
     let same : flow.0 ≡ flow_at code.program k = flow-is k flow.0 flow.1 in
@@ -162,9 +163,9 @@ objects-differ : (start : ℕ) (objects : List Object) (j k one two : ℕ) → j
     → slice_get (object_addresses (start + 4) objects) k ≡ Some two → one ≢ two
 objects-differ start objects j k one two lt at there =
     let many = length-addresses (start + 4) objects in
-    let o = at-within objects j (omega (arith, slice_get_within (object_addresses (start + 4) objects) j one at, many))
+    let o = element-at objects j (omega (arith, slice_get_within (object_addresses (start + 4) objects) j one at, many))
     in
-    let p = at-within objects k
+    let p = element-at objects k
     (omega (arith, slice_get_within (object_addresses (start + 4) objects) k two there, many)) in
     let different : j ≢ k = omega (arith, lt) in
     apart (o.0.width * length o.0.elements) (p.0.width * length p.0.elements)
@@ -180,7 +181,7 @@ object-within : (start bytes : ℕ) (objects : List Object) (k address : ℕ) �
     → (0 < address) × (address ≤ start + bytes)
 object-within start bytes objects k address is at =
     let many = length-addresses (start + 4) objects in
-    let o = at-within objects k
+    let o = element-at objects k
     (omega (arith, slice_get_within (object_addresses (start + 4) objects) k address at, many)) in
     let inside = object-in start objects k address o.0 o.1 at in
     counted (o.0.width * length o.0.elements) (length (data_bytes objects)) is inside.0 inside.1
@@ -275,9 +276,9 @@ below-differs : (code : Code) (f j k other below : ℕ) → IsSupported code →
 below-differs code f j k other below supported lt less at there =
     let arrays = (supported.supports f lt).arrays in
     let many = arrays.as_many in
-    let one = at-within (flow_at code.program f).arrays j
+    let one = element-at (flow_at code.program f).arrays j
     (omega (arith, slice_get_within (placement_of code f).arrays j other at, many)) in
-    let two = at-within (flow_at code.program f).arrays k
+    let two = element-at (flow_at code.program f).arrays k
     (omega (arith, slice_get_within (placement_of code f).arrays k below there, many)) in
     let different : j ≢ k = omega (arith, less) in
     apart (size_of one.0) (size_of two.0) (arrays.apart j k other below one.0 two.0 different one.1 at two.1 there)

@@ -8,6 +8,7 @@ use Rattle.std.specs.List.{AllByRecursion, All, range_with_len}
 use Rattle.std.proofs.lemmas.List.{append-nil, length-take-le}
 use Rattle.std.proofs.lemmas.List.Elements.{All-from_recursion, recursion_from_All}
 use Rattle.std.proofs.lemmas.Option.{get_or_from_slice_get, same_Some, slice_get_within}
+use Rattle.pcc_base.proofs.Lists.{element-at}
 use Rattle.c_tree.specs.Program.{Function, Program}
 use Rattle.flow_graph.specs.declared.op.Op.{Op}
 use Rattle.flow_graph.specs.declared.op.Op.TheVariants as op
@@ -27,7 +28,7 @@ use Rattle.map_lines.specs.ProgramMap.{Homes, all_points, frame_bytes, function_
 use Rattle.map_lines.specs.ProgramMap.{standings_from, variables_before}
 use Rattle.map_lines.specs.Laws.{IsOverSlots, MapBelongs, map_in}
 use Rattle.map_lines.proofs.Blocks.{all-distinct, in-placed, placed-in}
-use Rattle.map_lines.proofs.Functions.{element-at, function-at, functions-many}
+use Rattle.map_lines.proofs.Functions.{function-at, functions-many}
 use Rattle.map_lines.proofs.Marking.{each-mark, mark_of, marks-distinct, statement-in}
 use Rattle.map_lines.proofs.Owners.{owner}
 use Rattle.map_lines.proofs.TextPoints.{IsShown, call_point, each-point, mark_point, numbers-listed}

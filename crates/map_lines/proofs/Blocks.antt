@@ -5,6 +5,7 @@ use Rattle.std.proofs.Common.{sym, ap, ◌∙◌, subst}
 use Rattle.std.proofs.Common.{arith, inl, inr}
 use Rattle.std.specs.Prelude.{◌⊎◌, flat_map, slice_get, slice_index_or}
 use Rattle.std.proofs.lemmas.Option.{same_Some}
+use Rattle.pcc_base.proofs.Lists.{all-append}
 use Rattle.flow_graph.specs.Graphs.{Flow, IsDistinct, IsFlow, IsIn, IsPlaced, Stands, points_of}
 use Rattle.flow_graph.proofs.Points.{every-in}
 use Rattle.map_lines.specs.ProgramMap.{all_points}
@@ -31,16 +32,11 @@ pub every-from : (P : ℕ → Type 0) (xs : List ℕ) → ((p : ℕ) → IsIn p 
 every-from P [] all = tt
 every-from P (x ∷ xs) all = (all x (inl refl), every-from P xs (λ p within. all p (inr within)))
 
-pub every-both : (P : ℕ → Type 0) (xs ys : List ℕ) → AllByRecursion P xs → AllByRecursion P ys
-    → AllByRecursion P (xs ++ ys)
-every-both P [] ys all more = more
-every-both P (x ∷ xs) ys all more = (all.0, every-both P xs ys all.1 more)
-
 pub distinct-both : (xs ys : List ℕ) → IsDistinct xs → IsDistinct ys → ((p q : ℕ) → IsIn p xs → IsIn q ys → q ≢ p)
     → IsDistinct (xs ++ ys)
 distinct-both [] ys one other away = other
 distinct-both (x ∷ xs) ys one other away = (
-  every-both (λ q. q ≢ x) xs ys one.0 (every-from (λ q. q ≢ x) ys (λ q within. away x q (inl refl) within)),
+  all-append (λ q. q ≢ x) xs ys one.0 (every-from (λ q. q ≢ x) ys (λ q within. away x q (inl refl) within)),
   distinct-both xs ys one.1 other (λ p q front back. away p q (inr front) back),
 )
 

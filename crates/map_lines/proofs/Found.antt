@@ -4,10 +4,10 @@ use Rattle.std.proofs.Common.{Option, Some, None, inl, inr, refl, sym, ap, subst
 use Rattle.std.specs.Prelude.{◌&&◌, if◌then◌else◌, nat_le, nat_lt, option_map, slice_get}
 use Rattle.std.proofs.lemmas.Bool.Decides.{nat_tests}
 use Rattle.std.proofs.lemmas.Option.{get_or_from_slice_get, slice_get_within}
+use Rattle.pcc_base.proofs.Lists.{element-at}
 use Rattle.c_tree.specs.Program.{Function, Program}
 use Rattle.flow_graph.specs.Graphs.{Flow, IsPlaced, empty_flow}
 use Rattle.flow_graph.specs.States.{flow_at}
-use Rattle.graph_states.proofs.Lists.{at-within}
 use Rattle.lower_lines.specs.Lowering.{first_statement}
 use Rattle.ia32_rows.specs.Placements.{Code, placement_of, point_address}
 use Rattle.ia32_programs.proofs.Apart.{points-apart}
@@ -117,9 +117,9 @@ numbered program code m k x h has =
     let within = slice_get_within m.functions k x has in
     let many = h.belongs.as_many in
     let shapes = h.shapes.as_many in
-    let f = at-within program.functions k (omega (arith, within, many)) in
+    let f = element-at program.functions k (omega (arith, within, many)) in
     let below : k < length code.program.functions = omega (arith, within, many, shapes) in
-    let flow = at-within code.program.functions k below in
+    let flow = element-at code.program.functions k below in
     let same : flow.0 ≡ flow_at code.program k =
     sym (get_or_from_slice_get code.program.functions k flow.0 empty_flow flow.1) in
     record {
@@ -136,7 +136,7 @@ pub has-function : (program : Program) (code : Code) (m : Map) (k : ℕ) → Has
 has-function program code m k h below =
     let many = h.belongs.as_many in
     let shapes = h.shapes.as_many in
-    at-within m.functions k (omega (arith, below, many, shapes))
+    element-at m.functions k (omega (arith, below, many, shapes))
 
 -- ---- points
 

@@ -1,5 +1,5 @@
 -- The functions of the map of a program over slots, by their numbers.
-use Rattle.std.proofs.Common.{◌≡◌, ◌<◌, ℕ, zero, suc, ◌+◌, List, [], ◌∷◌, ◌++◌, length, map, Option, Some, None, refl}
+use Rattle.std.proofs.Common.{◌≡◌, ℕ, zero, suc, ◌+◌, List, [], ◌∷◌, ◌++◌, length, map, Option, Some, None, refl}
 use Rattle.std.proofs.Common.{sym, ap, ◌∙◌, subst, arith}
 use Rattle.std.specs.Prelude.{slice_get}
 use Rattle.std.specs.List.{AllByRecursion}
@@ -13,12 +13,6 @@ use Rattle.map_lines.specs.ProgramMap.{program_map, variables_over}
 use Rattle.map_lines.specs.Laws.{MapBySameAddresses}
 use Rattle.map_lines.proofs.Blocks.{placed-in}
 use Rattle.map_lines.proofs.TextPoints.{points-same}
-
--- there is an element at a place below the length
-pub element-at : {X : Type 0} (xs : List X) (k : ℕ) → k < length xs → (x : X) × (slice_get xs k ≡ Some x)
-element-at [] k below = absurd (omega (arith, below))
-element-at (x ∷ xs) zero below = (x, refl)
-element-at (x ∷ xs) (suc k) below = element-at xs k (omega (arith, below))
 
 -- there are as many functions as the program has
 pub functions-many : (k : ℕ) (fs : List Function) (flows : List Flow) (homes : List Homes) (addresses : ℕ → ℕ → ℕ)

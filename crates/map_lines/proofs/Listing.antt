@@ -8,6 +8,7 @@ use Rattle.std.proofs.lemmas.Bool.{eqb-true}
 use Rattle.std.proofs.lemmas.List.Elements.{recursion_from_All}
 use Rattle.std.proofs.lemmas.Option.{none-some, same_Some, slice_get_within}
 use Rattle.pcc_base.specs.Outcome.{Part}
+use Rattle.pcc_base.proofs.Lists.{all-append, element-at}
 use Rattle.c_tree.specs.Program.{Function, Local, Program}
 use Rattle.c_tree.specs.WellTyped.{IsScalar, IsTypedFunction}
 use Rattle.flow_graph.specs.declared.op.Op.{Op}
@@ -21,8 +22,6 @@ use Rattle.pcc_listing.specs.Marks.{MarkAt, listed_by, locals_before, mark_at, m
 use Rattle.pcc_listing.specs.Marks.{part_named, part_of, variables_in, variables_of}
 use Rattle.map_lines.specs.Belongs.{IsFunctionOf, IsPointOf, local_variables, temporary}
 use Rattle.map_lines.specs.Laws.{MapListsLocals}
-use Rattle.map_lines.proofs.Functions.{element-at}
-use Rattle.map_lines.proofs.Marking.{all-both}
 use Rattle.map_lines.proofs.Owners.{owner-locals}
 use Rattle.map_lines.proofs.OwnedVariables.{variable-part}
 
@@ -78,7 +77,7 @@ functions-all : (P : MarkAt → Type 0) (k : ℕ) (xs : List MapFunction)
 functions-all P k [] each = tt
 functions-all P k (x ∷ xs) each =
     let from : k + 0 ≡ k = omega arith in
-    all-both P (filter_map (mark_at k) (points_of x)) (marks_from (suc k) xs)
+    all-append P (filter_map (mark_at k) (points_of x)) (marks_from (suc k) xs)
     (subst (λ (n : ℕ). AllByRecursion P (filter_map (mark_at n) (points_of x))) from (each 0 x refl))
     (functions-all P (suc k) xs
     (λ j y at. (let next : k + suc j ≡ suc k + j = omega arith in

@@ -5,6 +5,7 @@ use Rattle.std.specs.Prelude.{◌⊎◌, filter_map, flat_map, slice_get}
 use Rattle.std.specs.List.{AllByRecursion}
 use Rattle.std.proofs.lemmas.List.{append-nil, map-append}
 use Rattle.std.proofs.lemmas.Option.{none-some, same_Some}
+use Rattle.pcc_base.proofs.Lists.{all-append}
 use Rattle.c_tree.specs.Program.{Function}
 use Rattle.flow_graph.specs.declared.op.Op.{Op}
 use Rattle.flow_graph.specs.declared.op.Op.TheVariants as op
@@ -81,11 +82,6 @@ each-in P k f slots address ops (p ∷ points) each =
     (λ n at. each p n (inl refl) at)
     (each-in P k f slots address ops points (λ q n within at. each q n (inr within) at))
 
-pub all-both : {X : Type 0} (P : X → Type 0) (xs ys : List X) → AllByRecursion P xs → AllByRecursion P ys
-    → AllByRecursion P (xs ++ ys)
-all-both P [] ys all more = more
-all-both P (x ∷ xs) ys all more = (all.0, all-both P xs ys all.1 more)
-
 -- what holds of each mark of each function holds of those that the map says
 pub each-mark : (P : MarkAt → Type 0) (k : ℕ) (fs : List Function) (flows : List Flow) (homes : List Homes)
     (addresses : ℕ → ℕ → ℕ)
@@ -102,7 +98,7 @@ each-mark P k (f ∷ fs) (flow ∷ flows) (h ∷ homes) addresses each =
     each-in P k f h.slots (addresses k) flow.ops (all_points flow)
     (λ p n within at. subst (λ (i : ℕ). P (mark_of i f h.slots (addresses i) p n)) from
     (each 0 f flow h p n refl refl refl within at)) in
-    all-both P (filter_map (mark_at k) (points_of (function_over f flow h (addresses k))))
+    all-append P (filter_map (mark_at k) (points_of (function_over f flow h (addresses k))))
     (marks_from (suc k) (functions_over (suc k) fs flows homes addresses))
     (subst (λ (ms : List MarkAt). AllByRecursion P ms) (sym (function-marks k f flow h (addresses k))) here)
     (each-mark P (suc k) fs flows homes addresses

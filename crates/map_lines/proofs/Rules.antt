@@ -10,6 +10,7 @@ use Rattle.pcc_base.specs.declared.run.Width.{Width}
 use Rattle.pcc_base.specs.declared.run.Width.TheVariants.{One, Two}
 use Rattle.pcc_base.specs.Names.{IsName}
 use Rattle.pcc_base.specs.Objects as objects
+use Rattle.pcc_base.proofs.Lists.{all-append, element-at}
 use Rattle.c_tree.specs.declared.types.IntegerType.{IntegerType}
 use Rattle.c_tree.specs.declared.types.IntegerType.TheVariants.{Char, Short, Int}
 use Rattle.c_tree.specs.declared.types.ValueType.{ValueType}
@@ -46,8 +47,7 @@ use Rattle.map_lines.specs.ProgramMap.{standings_from, variables_before, variabl
 use Rattle.map_lines.specs.Laws.{IsNamedFunction, IsOverSlots, MapKeepsRules, map_in}
 use Rattle.map_lines.proofs.Belonging.{IsFunction, enough-slots, few-before, flow-is, graph-of}
 use Rattle.map_lines.proofs.Blocks.{all-distinct, placed-in}
-use Rattle.map_lines.proofs.Functions.{each-function, element-at, functions-many}
-use Rattle.map_lines.proofs.Marking.{all-both}
+use Rattle.map_lines.proofs.Functions.{each-function, functions-many}
 use Rattle.map_lines.proofs.TextPoints.{call_point, distinct-numbers, each-point, mark_point}
 use Rattle.map_lines.proofs.Standings.{ascending, every-take, standings-ruled}
 use Rattle.map_lines.proofs.OwnedVariables.{widths-over}
@@ -154,7 +154,7 @@ locals-named : (locals : List Local) → AllByRecursion (λ l. IsName l.name) lo
     → AllByRecursion IsMapVariable (flat_map local_variables locals)
 locals-named [] names = tt
 locals-named (l ∷ locals) names =
-    all-both IsMapVariable (local_variables l) (flat_map local_variables locals) (variables-named l.name l.of names.0)
+    all-append IsMapVariable (local_variables l) (flat_map local_variables locals) (variables-named l.name l.of names.0)
     (locals-named locals names.1)
 
 temporaries-named : (widths : List Width) → AllByRecursion IsMapVariable (map temporary widths)
@@ -331,7 +331,7 @@ function-ruled stand program homes code k f flow h is at named =
           (arrays-ruled f.arrays h.arrays (arrays-held program homes code k f flow h own is at flows small));
       few_arrays = omega (arith, arrays, as_many, flows.few_arrays);
       variables =
-          All-from_recursion IsMapVariable vs (all-both IsMapVariable (flat_map local_variables f.locals) _
+          All-from_recursion IsMapVariable vs (all-append IsMapVariable (flat_map local_variables f.locals) _
           (locals-named f.locals (recursion_from_All (λ l. IsName l.name) f.locals named.locals))
           (temporaries-named _));
       few_variables = omega (arith, many, flows.few_variables);

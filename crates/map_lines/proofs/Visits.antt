@@ -21,7 +21,7 @@ use Rattle.flow_graph.specs.States as graph
 use Rattle.flow_graph.specs.States.{active_of, flow_at, op_at}
 use Rattle.flow_graph.specs.WellFormed.{IsState}
 use Rattle.graph_states.proofs.Keeping.{states_are_states}
-use Rattle.graph_states.proofs.Lists.{all-at}
+use Rattle.graph_states.proofs.Lists.{All-at}
 use Rattle.lower_lines.specs.Shown.{locals_at, variable_part, variables_shown}
 use Rattle.ia32_rows.specs.Paths.{IsAt, IsClear}
 use Rattle.ia32_rows.specs.Placements.{Code, objects_of, placement_of}
@@ -66,7 +66,7 @@ known-in : (program : Program) (code : Code) (m : Map) (k : ℕ) (mark : MarkAt)
     → IsKnownVariable r.own.function.locals (variables_in m mark.function) v
 known-in program code m k mark h r v =
     let typed : IsTypedFunction program r.own.function =
-    all-at (IsTypedFunction program) program.functions k r.own.function h.well_typed.functions r.own.declared in
+    All-at (IsTypedFunction program) program.functions k r.own.function h.well_typed.functions r.own.declared in
     subst (λ (variables : List MapVariable). IsKnownVariable r.own.function.locals variables v)
     (sym (mark-variables program code m k mark r ∙ r.own.is.variables))
     (variable-known r.own.function.locals r.own.is.temporaries v

@@ -8,6 +8,7 @@ use Rattle.std.specs.List.{AllByRecursion}
 use Rattle.std.proofs.lemmas.Fmt.{decimal_injective, decimal_by_steps}
 use Rattle.pcc_listing.specs.Lines.{hexadecimal, hexadecimal_digit, address_text}
 use Rattle.pcc_base.specs.Names.{IsDigit}
+use Rattle.pcc_base.proofs.Lists.{all-append}
 use Rattle.pcc_listing.specs.Maps.{IsNumber}
 
 -- a text goes on with a byte that isn't of the field
@@ -41,10 +42,6 @@ fixed-one (x ∷ xs) (y ∷ ys) r s l e =
     let t : xs ++ r ≡ ys ++ s = cc in
     let more : (xs ≡ ys) × (r ≡ s) = fixed-one xs ys r s k t in
     (cc, more.1)
-
-all-append : (P : ℕ → Type 0) (xs ys : List ℕ) → AllByRecursion P xs → AllByRecursion P ys → AllByRecursion P (xs ++ ys)
-all-append P [] ys all all' = all'
-all-append P (x ∷ xs) ys all all' = (all.0, all-append P xs ys all.1 all')
 
 -- decimal digits
 pub decimal-digits : (n : ℕ) → n < 2 ^ 64 → AllByRecursion IsDigit (decimal n)

@@ -11,6 +11,7 @@ use Rattle.flow_graph.specs.Graphs.{Flow, IsMet, two, two_if_any}
 use Rattle.std.proofs.lemmas.Option.{slice_get_within}
 use Rattle.pcc_base.specs.declared.run.Width.{Width}
 use Rattle.pcc_base.specs.declared.run.Width.TheVariants.{One, Two}
+use Rattle.pcc_base.proofs.Lists.{all-append}
 use Rattle.pcc_listing.proofs.LineRules.{AreLines, IsAnyNumber, IsLine, IsOpText, IsStandingText}
 use Rattle.pcc_listing.proofs.OneText.{text-one}
 use Rattle.ia32_regs.specs.Places.{IsPlace, Place, InWord, InByte, InSlot}
@@ -272,18 +273,13 @@ short-functions : (m : Map) (fs : List MapFunction) → AllByRecursion (IsMapFun
 short-functions m [] all = tt
 short-functions m (f ∷ fs) all = (short-function m f all.0, short-functions m fs all.1)
 
-both-lines : (xs ys : List Line) → AllByRecursion IsLine xs → AllByRecursion IsLine ys
-    → AllByRecursion IsLine (xs ++ ys)
-both-lines [] ys all all' = all'
-both-lines (x ∷ xs) ys all all' = (all.0, both-lines xs ys all.1 all')
-
 -- numbered lines, where there are not too many
 numbered-lines : {X : Type 0} (P : X → Type 0) (line : ℕ → X → List Line)
     → ((k : ℕ) (x : X) → IsNumber k → P x → AllByRecursion IsLine (line k x))
     → (k : ℕ) (xs : List X) → k + length xs ≤ 2 ^ 32 → AllByRecursion P xs → AllByRecursion IsLine (numbered line k xs)
 numbered-lines P line each k [] few all = tt
 numbered-lines P line each k (x ∷ xs) few all =
-    both-lines (line k x) _ (each k x (omega (arith, few)) all.0)
+    all-append IsLine (line k x) _ (each k x (omega (arith, few)) all.0)
     (numbered-lines P line each (suc k) xs (omega (arith, few)) all.1)
 
 element-bytes : (b : ℕ) → (b ≡ 1) ⊎ ((b ≡ 2) ⊎ (b ≡ 4)) → IsNumber b
@@ -357,12 +353,12 @@ function-line m few k f n is =
     (omega (arith, is.few_variables)) (recursion_from_All IsMapVariable f.variables is.variables) in
     let points = points-lines m f (points_of f) (record { functions = few; variables = is.few_variables })
     (recursion_from_All (IsMapPoint m f) (points_of f) is.points) in
-    ((n, is.name, is.frame), both-lines _ _ (both-lines _ _ arrays variables) points)
+    ((n, is.name, is.frame), all-append IsLine _ _ (all-append IsLine _ _ arrays variables) points)
 
 map-lines : (m : Map) → IsMap m → AreLines (lines_of m)
 map-lines m is =
     All-from_recursion IsLine (lines_of m)
-    (both-lines _ _ (numbered-lines IsMapObject object_lines object-line 0 m.objects (omega (arith, is.few_objects))
+    (all-append IsLine _ _ (numbered-lines IsMapObject object_lines object-line 0 m.objects (omega (arith, is.few_objects))
     (recursion_from_All IsMapObject m.objects is.objects))
     (numbered-lines (IsMapFunction m) function_lines (function-line m is.few_functions) 0 m.functions
     (omega (arith, is.few_functions))

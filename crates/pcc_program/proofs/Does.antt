@@ -12,7 +12,7 @@ use Rattle.elf_link.specs.declared.linked.Linked.{Linked}
 use Rattle.elf_addresses.specs.Parts.{order_of}
 use Rattle.flow_graph.specs.Graphs.{Flow, IsPlaced}
 use Rattle.flow_graph.specs.States.{GraphProgram}
-use Rattle.graph_states.proofs.Lists.{all-at}
+use Rattle.graph_states.proofs.Lists.{All-at}
 use Rattle.ia32_asm.specs.declared.section.Section.{Section}
 use Rattle.ia32_frames.specs.declared.frame.Frame.{Frame}
 use Rattle.ia32_frames.specs.Frames.{frame_bytes, frame_placement}
@@ -98,7 +98,7 @@ module _ (laws : Laws) (program : Program) (graphs : GraphProgram) (frames : Lis
   pub frame-of : (k : ℕ) (flow : Flow) → slice_get graphs.functions k ≡ Some flow
       → HasFrame (length graphs.functions) (length graphs.objects) flow
   frame-of k flow e =
-      all-at (HasFrame (length graphs.functions) (length graphs.objects)) graphs.functions k flow have-frames.each e
+      All-at (HasFrame (length graphs.functions) (length graphs.objects)) graphs.functions k flow have-frames.each e
 
   -- the placement of a function is that of its frame
   placed : (k : ℕ) (flow : Flow) (home : Homes) → slice_get graphs.functions k ≡ Some flow

@@ -10,7 +10,7 @@ use Rattle.elf_addresses.specs.Parts.{order_of, sections_size}
 use Rattle.elf_link.specs.Linking.{AreSections, CanLink, IsLinked}
 use Rattle.flow_graph.specs.Graphs.{Flow}
 use Rattle.flow_graph.specs.States.{GraphProgram}
-use Rattle.graph_states.proofs.Lists.{all-at}
+use Rattle.graph_states.proofs.Lists.{All-at}
 use Rattle.ia32_asm.specs.declared.section.Section.{Section}
 use Rattle.ia32_frames.specs.declared.frame.Frame.{Frame}
 use Rattle.ia32_frames.specs.Frames.{frame_bytes, frame_placement}
@@ -44,7 +44,7 @@ pub links : (program : Program) (graphs : GraphProgram) (sections : List Section
 links program graphs sections support code compilable of frames h =
     can-link graphs.functions sections graphs.objects graphs.main h
     (λ i flow e.
-    let has = all-at (HasFrame (length graphs.functions) (length graphs.objects)) graphs.functions i flow frames.each e
+    let has = All-at (HasFrame (length graphs.functions) (length graphs.objects)) graphs.functions i flow frames.each e
     in
     (code (length graphs.functions) (length graphs.objects) flow (frame_placement flow) has.graph
     (support flow has.graph.keeps.0 has.graph.keeps.1) has.small).names)

@@ -6,13 +6,13 @@ use Rattle.std.specs.List.{All, AllByRecursion}
 use Rattle.std.proofs.lemmas.List.Elements.{All-head, All-tail}
 use Rattle.std.proofs.lemmas.Option.{none-some, slice_get_within}
 use Rattle.std.proofs.lemmas.Slice.Zip.{AllZip-long}
+use Rattle.pcc_base.proofs.Lists.{all-at}
 use Rattle.c_tree.specs.Objects.{data_object}
 use Rattle.c_tree.specs.Program.{Function, Program, StaticObject}
 use Rattle.elf_link.specs.declared.linked.Linked.{Linked}
 use Rattle.elf_addresses.specs.Parts.{order_of}
 use Rattle.flow_graph.specs.Graphs.{Flow, IsPlaced}
 use Rattle.flow_graph.specs.States.{GraphProgram}
-use Rattle.graph_states.proofs.Lists.{every-at}
 use Rattle.ia32_asm.specs.declared.section.Section.{Section}
 use Rattle.ia32_frames.specs.declared.frame.Frame.{Frame}
 use Rattle.ia32_frames.specs.Frames.{frame_arrays, frame_bytes, frame_placement, frame_slots, offset_of}
@@ -53,7 +53,7 @@ slots-below : (flow : Flow) → AreSlots flow (frame_bytes flow) (frame_arrays f
     → AreBelow (map offset_of (frame_slots flow))
 slots-below flow h =
     below-each (frame_slots flow) (λ k b e.
-    omega (arith, (every-at (IsSlot (frame_bytes flow)) (frame_slots flow) k b h.within e).low))
+    omega (arith, (all-at (IsSlot (frame_bytes flow)) (frame_slots flow) k b h.within e).low))
 
 -- ---- objects
 

@@ -1,6 +1,6 @@
 -- How far sources are read, one after the other.
 use Rattle.std.specs.Borrow.{Bor}
-use Rattle.std.specs.List.{AllByRecursion, slice_index_or}
+use Rattle.std.specs.List.{slice_index_or}
 use Rattle.std.proofs.Common.{◌≡◌, ◌≤◌, ◌<◌, ◌+◌, ℕ, zero, suc, List, [], ◌∷◌, ◌++◌, Option, Some, length, map, drop}
 use Rattle.std.proofs.Common.{append_assoc, drop-cons, drop_of_length-le, inl, inr, arith, ap, sym, subst}
 use Rattle.std.proofs.lemmas.List.{append-nil, length-drop, length-map}
@@ -100,9 +100,3 @@ wanting_on files sources texts xs i position so h =
     subst (λ (n : ℕ). StopsAt files NoMemory sources n) (omega arith) (so.stops NoMemory zero
     (wanting_here files (map (λ s. s.now) (drop i xs))
     (omega (arith, h, length-map (drop i xs) (λ (s : Bor (List ℕ)). s.now), length-drop i xs))))
-
--- what is said of each is said of one more
-pub all_more : {A : Type 0} (P : A → Type 0) (xs : List A) (x : A) → AllByRecursion P xs → P x
-    → AllByRecursion P (xs ++ x ∷ [])
-all_more P [] x h own = (own, tt)
-all_more P (y ∷ xs) x h own = (h.0, all_more P xs x h.1 own)

@@ -35,12 +35,6 @@ slice_get-read [] i x within is = absurd (omega arith)
 slice_get-read (y ∷ xs) zero x within is = ap Some (sym is)
 slice_get-read (y ∷ xs) (suc i) x within is = slice_get-read xs i x (omega arith) is
 
--- what is there lies within the list
-pub slice_get-below : {A : Type 0} (xs : List A) (i : ℕ) (x : A) → slice_get xs i ≡ Some x → i < length xs
-slice_get-below [] i x is = absurd (cc)
-slice_get-below (y ∷ xs) zero x is = omega arith
-slice_get-below (y ∷ xs) (suc i) x is = omega (arith, slice_get-below xs i x is)
-
 -- a vector that was written over as far as it goes
 pub take-front : {A : Type 0} (xs ys : List A) (n : ℕ) → length xs ≡ n → take n (xs ++ ys) ≡ xs
 take-front [] ys n same = rw (sym same) refl

@@ -1,8 +1,8 @@
 use Rattle.std.proofs.Common.{◌≡◌, ◌<◌, Some, length, get_or, refl, sym, arith, ◌∙◌}
 use Rattle.std.specs.List.{slice_get}
-use Rattle.std.proofs.lemmas.Option.{same_Some}
+use Rattle.std.proofs.lemmas.Option.{same_Some, slice_get_within}
 use Rattle.flow_graph.specs.Liveness.{IsLiveAfter}
-use Rattle.live_searches.proofs.Adding.{has-item, has-within}
+use Rattle.live_searches.proofs.Adding.{has-item}
 use Rattle.liveness.proofs.Listing.{ListedAt, all-smaller, listing-end, listing-more, live-placed}
 use Rattle.live_searches.proofs.Placed.{placed-within}
 use Rattle.live_searches.proofs.Stepping.{steps-start}
@@ -60,5 +60,5 @@ returns-clause-after c =
     c.loop-point.sets.after
     (λ p live.
     let (i, at) = (c.requires.reach.1.live p).1 live in
-    (i, (let within = has-within c.args.after.now i p at in omega arith), at))
+    (i, (let within = slice_get_within c.args.after.now i p at in omega arith), at))
     c.loop-point.invariant.after

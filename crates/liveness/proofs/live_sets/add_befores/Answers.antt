@@ -1,6 +1,7 @@
 use Rattle.std.proofs.Common.{refl, ◌<◌, length, get_or, subst, arith, ◌∙◌}
+use Rattle.std.proofs.lemmas.Option.{slice_get_within}
 use Rattle.flow_graph.specs.Liveness.{IsLiveBefore}
-use Rattle.live_searches.proofs.Adding.{has-item, has-within}
+use Rattle.live_searches.proofs.Adding.{has-item}
 use Rattle.liveness.proofs.Listing.{FoundAt, ListedAt, all-smaller, distance-next, found-once, found-only, listing-end}
 use Rattle.liveness.proofs.Listing.{listing-more, live-found, next-dead}
 use Rattle.live_searches.proofs.Placed.{placed-within}
@@ -75,5 +76,5 @@ returns-clause-before c =
     (λ p live.
     let (n, (i, at)) = live-found c.args.graph.now c.args.var c.args.nexts.now c.requires.reach.0
     c.requires.reach.1 p live in
-    (i, (let within = has-within c.args.nexts.now i (p, n) at in omega arith), (n, at)))
+    (i, (let within = slice_get_within c.args.nexts.now i (p, n) at in omega arith), (n, at)))
     c.loop-point.invariant.before

@@ -1,9 +1,9 @@
 use Rattle.std.proofs.Common.{ℕ, suc, ◌≡◌, ◌≤◌, ◌+◌, Some, length, inl, inr, get_or, sym, subst, arith, ◌∙◌}
 use Rattle.std.specs.List.{slice_get}
 use Rattle.std.proofs.lemmas.Bool.{cases_eq}
-use Rattle.std.proofs.lemmas.Option.{same_Some}
+use Rattle.std.proofs.lemmas.Option.{same_Some, slice_get_within}
 use Rattle.liveness.specs.Search.{IsPassed, unmarked}
-use Rattle.live_searches.proofs.Adding.{has-item, has-read, has-within}
+use Rattle.live_searches.proofs.Adding.{has-item, has-read}
 use Rattle.live_searches.proofs.Placed.{placed-within}
 use Rattle.liveness.proofs.Searching.{next-placed, noted-leads, passed-stays, passes-on, room, search-done}
 use Rattle.liveness.proofs.search.step_back.Goals as goal
@@ -98,4 +98,4 @@ returns-clause-search c =
     let at : slice_get c.at-before-items.result.now i ≡ Some before =
     rw c.at-before-items.ensures e in
     c.loop-before.invariant.passed i before
-    (let within = has-within c.at-before-items.result.now i before at in omega arith) at))
+    (let within = slice_get_within c.at-before-items.result.now i before at in omega arith) at))

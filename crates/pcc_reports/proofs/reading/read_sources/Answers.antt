@@ -5,8 +5,9 @@ use Rattle.std.proofs.Common.{map, ap}
 use Rattle.std.proofs.Common.{sym, subst, ◌∙◌, arith}
 use Rattle.std.specs.Borrow.{Bor}
 use Rattle.std.proofs.lemmas.List.{map-append}
+use Rattle.pcc_base.proofs.Lists.{all-push}
 use Rattle.pcc_reports.specs.Sources.{StopsAt}
-use Rattle.pcc_reports.proofs.SoFar.{all_more, read_done, read_on, unread_on, wanting_on}
+use Rattle.pcc_reports.proofs.SoFar.{read_done, read_on, unread_on, wanting_on}
 use Rattle.pcc_reports.proofs.reading.read_sources.Goals as goal
 
 abbrev bytes : List (Vec ℕ Global) → List (List ℕ)
@@ -36,7 +37,7 @@ loop-source-preserved g c =
           (ap bytes pushed ∙ map-append (λ (t : Vec ℕ Global). t.items) c.loop-source.texts.items _);
       place = omega (arith, place);
       many = omega (arith, many, simp length-append at (ap length pushed));
-      small = subst (AllByRecursion IsSmall) (sym pushed) (all_more IsSmall c.loop-source.texts.items _ inv.small
+      small = subst (AllByRecursion IsSmall) (sym pushed) (all-push IsSmall c.loop-source.texts.items _ inv.small
           (omega (arith, c.in_ok-text.ensures.size)));
     }
 

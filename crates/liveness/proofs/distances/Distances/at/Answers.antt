@@ -1,7 +1,7 @@
 use Rattle.std.proofs.Common.{ℕ, ◌≡◌, ◌≤◌, List, length, Some, sym, ap, arith, subst, get_or, ◌∙◌}
-use Rattle.std.proofs.lemmas.Option.{same_Some}
+use Rattle.std.proofs.lemmas.Option.{same_Some, slice_get_within}
 use Rattle.liveness.specs.Distances.{distance_at, distance_in}
-use Rattle.live_searches.proofs.Adding.{has-item, has-within}
+use Rattle.live_searches.proofs.Adding.{has-item}
 use Rattle.liveness.proofs.Distancing.{in-none, in-past, in-some}
 use Rattle.liveness.proofs.distances.Distances.at.Goals as goal
 
@@ -10,12 +10,12 @@ place_of-requires c = rw c.at-entries.ensures (c.self.invariant c.args.point)
 
 pub bounds-entries-place : goal.bounds-entries-place
 bounds-entries-place c =
-    let (n, e) = c.in-Ok.ensures in has-within c.at-entries.result.now c.in-Ok.place (c.args.var, n) e
+    let (n, e) = c.in-Ok.ensures in slice_get_within c.at-entries.result.now c.in-Ok.place (c.args.var, n) e
 
 pub offset_bounds-entries-place : goal.offset_bounds-entries-place
 offset_bounds-entries-place c =
     let (n, e) = c.in-Ok.ensures in
-    let within = has-within c.at-entries.result.now c.in-Ok.place (c.args.var, n) e in
+    let within = slice_get_within c.at-entries.result.now c.in-Ok.place (c.args.var, n) e in
     let size = c.at-entries.type_inv.1 in omega (arith, within, size)
 
 pub returns-then-point-len : goal.returns-then-point-len
@@ -27,7 +27,7 @@ pub returns-in-Ok : goal.returns-in-Ok
 returns-in-Ok c =
     let entries = c.at-entries.result.now in
     let (n, e) = c.in-Ok.ensures in
-    let within = has-within entries c.in-Ok.place (c.args.var, n) e in
+    let within = slice_get_within entries c.in-Ok.place (c.args.var, n) e in
     let entry : ◌≡◌ {A = ℕ × ℕ} (get_or entries c.in-Ok.place (0, 0)) (c.args.var, n) =
     same_Some (get_or entries c.in-Ok.place (0, 0)) (c.args.var, n)
     (sym (has-item entries c.in-Ok.place (0, 0) within) ∙ e) in

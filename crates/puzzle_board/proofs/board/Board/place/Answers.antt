@@ -1,4 +1,5 @@
 use Rattle.std.proofs.Common.{◌≡◌, ◌∙◌, List, ap, arith, length, length-set, slice_set, subst, sym}
+use Rattle.std.proofs.lemmas.Option.{slice_get_within}
 use Rattle.puzzle_board.specs.declared.area.Area.{Area}
 use Rattle.puzzle_board.specs.declared.piece.Piece.{Piece}
 use Rattle.puzzle_board.specs.declared.piece.State.{State}
@@ -8,7 +9,7 @@ use Rattle.puzzle_board.specs.Boards.{Puzzle, IsPlaceable}
 use Rattle.puzzle_board.specs.Classes.{IsFiled}
 use Rattle.puzzle_board.specs.Stored.{area_classes, piece_classes}
 use Rattle.puzzle_board.proofs.Calls.{stored-placed}
-use Rattle.puzzle_board.proofs.Kept.{placeable-below, slice_get-below, take-front}
+use Rattle.puzzle_board.proofs.Kept.{placeable-below, take-front}
 use Rattle.puzzle_board.proofs.Stored.{piece-listed}
 use Rattle.puzzle_board.proofs.board.Board.place.Goals as goal
 
@@ -25,7 +26,7 @@ set_area-requires-clause-within g c =
 pub settle-requires-clause-within : goal.settle-requires-clause-within
 settle-requires-clause-within g c =
     let asked = subst (λ (b : Puzzle). IsPlaceable b c.args.piece c.args.spot) (sym c.self.view_is) c.requires in
-    let within = slice_get-below c.self.inside.states.items c.args.piece Unplaced asked.1.unplaced in
+    let within = slice_get_within c.self.inside.states.items c.args.piece Unplaced asked.1.unplaced in
     omega (arith, within, c.deref_mut-2.ensures.len)
 
 pub settle-requires-clause-listed : goal.settle-requires-clause-listed
