@@ -32,8 +32,6 @@ use Rattle.allocator_boards.specs.PointPuzzles.{pair_of, pieces_at, puzzle_of, u
 use Rattle.allocator_boards.proofs.Fixing.{defined-within}
 use Rattle.allocator_boards.proofs.OneMore.{ascending-result, every-here, every-one, few}
 
--- ---- lists
-
 -- ---- the pieces of one variable
 
 pair : Flow → ℕ → Bool → Bool → Bool → Bool → List Piece

@@ -1,8 +1,9 @@
 -- When types and things are the same.
-use Rattle.std.proofs.Common.{◌≡◌, List, [], ◌∷◌, Bool, true, false, ◌&&◌, Option, Some, None, refl, ap, sym, ◌∙◌}
+use Rattle.std.proofs.Common.{◌≡◌, List, [], ◌∷◌, true, ◌&&◌, Option, Some, None, refl, ap, sym, ◌∙◌}
 use Rattle.std.proofs.Common.{true≢false, ◌==◌}
 use Rattle.std.specs.Cmp.Lexicographic.{pointwise}
 use Rattle.std.proofs.lemmas.Bool.Decides.{Decides-eqb}
+use Rattle.std.proofs.lemmas.Bool.{and_parts, and_from}
 use Rattle.pcc_base.specs.declared.span.Span.{Span}
 use Rattle.c_tree.specs.declared.types.IntegerType.{IntegerType}
 use Rattle.c_tree.specs.declared.types.IntegerType.TheVariants.{Char, Short, Int}
@@ -54,17 +55,6 @@ values_tested (t ∷ ts) (u ∷ us) =
 
 -- ---- types
 
-and_left : (b c : Bool) → (b && c) ≡ true → b ≡ true
-and_left true c h = refl
-and_left false c h = h
-
-and_right : (b c : Bool) → (b && c) ≡ true → c ≡ true
-and_right true c h = h
-and_right false c h = absurd (true≢false (sym h))
-
-both : (b c : Bool) → b ≡ true → c ≡ true → (b && c) ≡ true
-both b c h k = ap (λ x. x && c) h ∙ k
-
 integer_is : (t u : IntegerType) → same_integer t u ≡ true → t ≡ u
 integer_is Char Char h = refl
 integer_is Char Short h = absurd (true≢false (sym h))
@@ -92,8 +82,8 @@ values_is [] [] h = refl
 values_is [] (u ∷ us) h = absurd (true≢false (sym h))
 values_is (t ∷ ts) [] h = absurd (true≢false (sym h))
 values_is (t ∷ ts) (u ∷ us) h =
-    ap (λ x. x ∷ ts) (value_is t u (and_left (same_value t u) (same_values ts us) h))
-    ∙ ap (λ xs. u ∷ xs) (values_is ts us (and_right (same_value t u) (same_values ts us) h))
+    ap (λ x. x ∷ ts) (value_is t u (and_parts (same_value t u) (same_values ts us) h).0)
+    ∙ ap (λ xs. u ∷ xs) (values_is ts us (and_parts (same_value t u) (same_values ts us) h).1)
 
 pointed_is : (t u : Option ValueType) → same_pointed t u ≡ true → t ≡ u
 pointed_is None None h = refl
@@ -107,14 +97,14 @@ type_is (DeclaredValue t) (DeclaredArray u n) h = absurd (true≢false (sym h))
 type_is (DeclaredValue t) (DeclaredFunction u us) h = absurd (true≢false (sym h))
 type_is (DeclaredArray t m) (DeclaredValue u) h = absurd (true≢false (sym h))
 type_is (DeclaredArray t m) (DeclaredArray u n) h =
-    ap (λ x. DeclaredArray x m) (pointed_is t u (and_left (same_pointed t u) (m == n) h))
-    ∙ ap (DeclaredArray u) ((Decides-eqb m n).0 (and_right (same_pointed t u) (m == n) h))
+    ap (λ x. DeclaredArray x m) (pointed_is t u (and_parts (same_pointed t u) (m == n) h).0)
+    ∙ ap (DeclaredArray u) ((Decides-eqb m n).0 (and_parts (same_pointed t u) (m == n) h).1)
 type_is (DeclaredArray t m) (DeclaredFunction u us) h = absurd (true≢false (sym h))
 type_is (DeclaredFunction t ts) (DeclaredValue u) h = absurd (true≢false (sym h))
 type_is (DeclaredFunction t ts) (DeclaredArray u n) h = absurd (true≢false (sym h))
 type_is (DeclaredFunction t ts) (DeclaredFunction u us) h =
-    ap (λ x. DeclaredFunction x ts) (pointed_is t u (and_left (same_pointed t u) (same_values ts us) h))
-    ∙ ap (DeclaredFunction u) (values_is ts us (and_right (same_pointed t u) (same_values ts us) h))
+    ap (λ x. DeclaredFunction x ts) (pointed_is t u (and_parts (same_pointed t u) (same_values ts us) h).0)
+    ∙ ap (DeclaredFunction u) (values_is ts us (and_parts (same_pointed t u) (same_values ts us) h).1)
 
 integer_self : (t : IntegerType) → same_integer t t ≡ true
 integer_self Char = refl
@@ -128,7 +118,7 @@ value_self (Pointer t) = integer_self t
 
 values_self : (ts : List ValueType) → same_values ts ts ≡ true
 values_self [] = refl
-values_self (t ∷ ts) = both (same_value t t) (same_values ts ts) (value_self t) (values_self ts)
+values_self (t ∷ ts) = and_from (same_value t t) (same_values ts ts) (value_self t) (values_self ts)
 
 pointed_self : (t : Option ValueType) → same_pointed t t ≡ true
 pointed_self None = refl
@@ -136,8 +126,8 @@ pointed_self (Some t) = value_self t
 
 pub type_self : (a : Declared) → same_type a a ≡ true
 type_self (DeclaredValue t) = pointed_self t
-type_self (DeclaredArray t m) = both (same_pointed t t) (m == m) (pointed_self t) ((Decides-eqb m m).1 refl)
-type_self (DeclaredFunction t ts) = both (same_pointed t t) (same_values ts ts) (pointed_self t) (values_self ts)
+type_self (DeclaredArray t m) = and_from (same_pointed t t) (m == m) (pointed_self t) ((Decides-eqb m m).1 refl)
+type_self (DeclaredFunction t ts) = and_from (same_pointed t t) (same_values ts ts) (pointed_self t) (values_self ts)
 
 -- ---- things
 
@@ -159,11 +149,11 @@ function_self Exit = refl
 
 place_is : (a b : Span) → same_place a b ≡ true → a ≡ b
 place_is a b h =
-    let rest = and_right (a.file == b.file) (a.line == b.line && a.col == b.col) h in
+    let rest = (and_parts (a.file == b.file) (a.line == b.line && a.col == b.col) h).1 in
     let p : a.file ≡ b.file = (Decides-eqb a.file b.file).0
-    (and_left (a.file == b.file) (a.line == b.line && a.col == b.col) h) in
-    let q : a.line ≡ b.line = (Decides-eqb a.line b.line).0 (and_left (a.line == b.line) (a.col == b.col) rest) in
-    let r : a.col ≡ b.col = (Decides-eqb a.col b.col).0 (and_right (a.line == b.line) (a.col == b.col) rest) in
+    (and_parts (a.file == b.file) (a.line == b.line && a.col == b.col) h).0 in
+    let q : a.line ≡ b.line = (Decides-eqb a.line b.line).0 (and_parts (a.line == b.line) (a.col == b.col) rest).0 in
+    let r : a.col ≡ b.col = (Decides-eqb a.col b.col).0 (and_parts (a.line == b.line) (a.col == b.col) rest).1 in
     λ i. record { file = p i; line = q i; col = r i }
 
 pub thing_is : (e f : Entity) → same_entity e f ≡ true → e ≡ f
@@ -178,8 +168,8 @@ thing_is (Shared a) (At b) h = absurd (true≢false (sym h))
 thing_is (OfFile k a) (Library g) h = absurd (true≢false (sym h))
 thing_is (OfFile k a) (Shared b) h = absurd (true≢false (sym h))
 thing_is (OfFile k a) (OfFile l b) h =
-    ap (λ x. OfFile x a) ((Decides-eqb k l).0 (and_left (k == l) (same_name a b) h))
-    ∙ ap (OfFile l) (same_is a b (and_right (k == l) (same_name a b) h))
+    ap (λ x. OfFile x a) ((Decides-eqb k l).0 (and_parts (k == l) (same_name a b) h).0)
+    ∙ ap (OfFile l) (same_is a b (and_parts (k == l) (same_name a b) h).1)
 thing_is (OfFile k a) (At b) h = absurd (true≢false (sym h))
 thing_is (At a) (Library g) h = absurd (true≢false (sym h))
 thing_is (At a) (Shared b) h = absurd (true≢false (sym h))
@@ -189,6 +179,8 @@ thing_is (At a) (At b) h = ap At (place_is a b h)
 pub thing_self : (e : Entity) → same_entity e e ≡ true
 thing_self (Library f) = function_self f
 thing_self (Shared a) = same_self a
-thing_self (OfFile k a) = both (k == k) (same_name a a) ((Decides-eqb k k).1 refl) (same_self a)
-thing_self (At a) = both (a.file == a.file) (a.line == a.line && a.col == a.col) ((Decides-eqb a.file a.file).1 refl)
-    (both (a.line == a.line) (a.col == a.col) ((Decides-eqb a.line a.line).1 refl) ((Decides-eqb a.col a.col).1 refl))
+thing_self (OfFile k a) = and_from (k == k) (same_name a a) ((Decides-eqb k k).1 refl) (same_self a)
+thing_self (At a) =
+    let place = and_from (a.line == a.line) (a.col == a.col) ((Decides-eqb a.line a.line).1 refl)
+    ((Decides-eqb a.col a.col).1 refl) in
+    and_from (a.file == a.file) (a.line == a.line && a.col == a.col) ((Decides-eqb a.file a.file).1 refl) place

@@ -1,6 +1,7 @@
 -- Operands of trees that are put together.
 use Rattle.std.proofs.Common.{◌≡◌, Bool, true, false, ◌&&◌, refl, sym, subst, ◌∙◌, true≢false}
 use Rattle.std.specs.Global.{Box}
+use Rattle.std.proofs.lemmas.Bool.{and_parts}
 use Rattle.c_tree.specs.declared.expression.BinaryOp.{BinaryOp}
 use Rattle.c_tree.specs.declared.types.ValueType.{ValueType}
 use Rattle.c_tree.specs.Program.{Expression, Binary, Conditional, Cast, value_type}
@@ -17,14 +18,6 @@ pub operand_of : (tree : Box Built) (constant : Constant) (e : Expression) → b
 operand_of tree constant e is known integral =
     (is, (subst (λ x. IsConstant x constant) (sym is) known, subst IsIntegral (sym is) integral))
 
-and_left : (b c : Bool) → (b && c) ≡ true → b ≡ true
-and_left true c h = refl
-and_left false c h = h
-
-and_right : (b c : Bool) → (b && c) ≡ true → c ≡ true
-and_right true c h = h
-and_right false c h = absurd (true≢false (sym h))
-
 false_if : (b : Bool) → (b ≡ true → ⊥) → b ≡ false
 false_if true never = absurd (never refl)
 false_if false never = refl
@@ -33,16 +26,16 @@ pub integral_binary : (of : ValueType) (op : BinaryOp) (a b : Expression) → Is
     → (is_integer_type (value_type a) ≡ true → is_integer_type (value_type b) ≡ true → is_integer_type of ≡ true)
     → IsIntegral (Binary of op a b)
 integral_binary of op a b ia ib types h =
-    types (ia (and_left (has_constant_form a) (has_constant_form b) h))
-    (ib (and_right (has_constant_form a) (has_constant_form b) h))
+    types (ia (and_parts (has_constant_form a) (has_constant_form b) h).0)
+    (ib (and_parts (has_constant_form a) (has_constant_form b) h).1)
 
 pub integral_conditional : (of : ValueType) (t a b : Expression) → IsIntegral a → IsIntegral b
     → (is_integer_type (value_type a) ≡ true → is_integer_type (value_type b) ≡ true → is_integer_type of ≡ true)
     → IsIntegral (Conditional of t a b)
 integral_conditional of t a b ia ib types h =
-    let both = and_right (has_constant_form t) (has_constant_form a && has_constant_form b) h in
-    types (ia (and_left (has_constant_form a) (has_constant_form b) both))
-    (ib (and_right (has_constant_form a) (has_constant_form b) both))
+    let both = (and_parts (has_constant_form t) (has_constant_form a && has_constant_form b) h).1 in
+    types (ia (and_parts (has_constant_form a) (has_constant_form b) both).0)
+    (ib (and_parts (has_constant_form a) (has_constant_form b) both).1)
 
 -- `?:` of no integer type is no constant expression
 pub not_constant : (of : ValueType) (t a b : Expression) → IsIntegral a → IsIntegral b
@@ -53,4 +46,4 @@ not_constant of t a b ia ib types other =
     (sym (integral_conditional of t a b ia ib types h) ∙ other))
 
 pub integral_cast : (to : ValueType) (e : Expression) → IsIntegral (Cast to e)
-integral_cast to e h = and_left (is_integer_type to) (has_constant_form e) h
+integral_cast to e h = (and_parts (is_integer_type to) (has_constant_form e) h).0

@@ -4,6 +4,7 @@ use Rattle.std.proofs.Common.{inl, inr}
 use Rattle.std.specs.Prelude.{Option, Some, None, not, nat_eq, ◌&&◌, ◌||◌, ◌==◌, ◌⊎◌}
 use Rattle.std.specs.List.{AllByRecursion, list_any}
 use Rattle.std.proofs.lemmas.Bool.Decides.{Decides-eqb}
+use Rattle.std.proofs.lemmas.Bool.{and_parts}
 use Rattle.pcc_base.specs.declared.span.Span.{Span}
 use Rattle.c_tree.specs.declared.types.ValueType.{ValueType}
 use Rattle.c_tree.specs.declared.types.ValueType.TheVariants.{Void, Integer, Pointer}
@@ -13,7 +14,7 @@ use Rattle.c_typing.specs.Library.{same_function, same_place, same_entity}
 use Rattle.c_typing.specs.Names.{Outer, clashes}
 use Rattle.c_typing.specs.Types.{same_value, same_values, same_pointed, same_type, Declared, DeclaredValue}
 use Rattle.c_typing.specs.Types.{DeclaredArray, DeclaredFunction}
-use Rattle.c_sound.proofs.RowsSound.{either_false, both_true, not_true, same_integer_is}
+use Rattle.c_sound.proofs.RowsSound.{either_false, not_true, same_integer_is}
 
 number_is : (m n : ℕ) → (m == n) ≡ true → m ≡ n
 number_is m n = (Decides-eqb m n).0
@@ -28,7 +29,7 @@ name_is [] [] h = refl
 name_is [] (y ∷ ys) h = not_true h
 name_is (x ∷ xs) [] h = not_true h
 name_is (x ∷ xs) (y ∷ ys) h =
-    let p = both_true (nat_eq x y) (same_name xs ys) h in
+    let p = and_parts (nat_eq x y) (same_name xs ys) h in
     ap (λ z. z ∷ xs) (number_is x y p.0) ∙ ap (λ zs. y ∷ zs) (name_is xs ys p.1)
 
 name_itself : (a : List ℕ) → same_name a a ≡ true
@@ -53,8 +54,8 @@ function_itself Exit = refl
 
 place_is : (a b : Span) → same_place a b ≡ true → a ≡ b
 place_is a b h =
-    let p = both_true (a.file == b.file) (a.line == b.line && a.col == b.col) h in
-    let q = both_true (a.line == b.line) (a.col == b.col) p.1 in
+    let p = and_parts (a.file == b.file) (a.line == b.line && a.col == b.col) h in
+    let q = and_parts (a.line == b.line) (a.col == b.col) p.1 in
     spans a b (number_is a.file b.file p.0) (number_is a.line b.line q.0) (number_is a.col b.col q.1)
   where
     spans : (a b : Span) → a.file ≡ b.file → a.line ≡ b.line → a.col ≡ b.col → a ≡ b
@@ -80,7 +81,7 @@ entity_is (Shared a) (At b) h = not_true h
 entity_is (OfFile k a) (Library g) h = not_true h
 entity_is (OfFile k a) (Shared b) h = not_true h
 entity_is (OfFile k a) (OfFile l b) h =
-    let p = both_true (k == l) (same_name a b) h in
+    let p = and_parts (k == l) (same_name a b) h in
     ap (λ i. OfFile i a) (number_is k l p.0) ∙ ap (OfFile l) (name_is a b p.1)
 entity_is (OfFile k a) (At b) h = not_true h
 entity_is (At a) (Library g) h = not_true h
@@ -115,7 +116,7 @@ values_are [] [] h = refl
 values_are [] (u ∷ us) h = not_true h
 values_are (t ∷ ts) [] h = not_true h
 values_are (t ∷ ts) (u ∷ us) h =
-    let p = both_true (same_value t u) (same_values ts us) h in
+    let p = and_parts (same_value t u) (same_values ts us) h in
     ap (λ z. z ∷ ts) (value_is t u p.0) ∙ ap (λ zs. u ∷ zs) (values_are ts us p.1)
 
 pointed_is : (o p : Option ValueType) → same_pointed o p ≡ true → o ≡ p
@@ -130,13 +131,13 @@ type_is (DeclaredValue t) (DeclaredArray u n) h = not_true h
 type_is (DeclaredValue t) (DeclaredFunction u us) h = not_true h
 type_is (DeclaredArray t m) (DeclaredValue u) h = not_true h
 type_is (DeclaredArray t m) (DeclaredArray u n) h =
-    let p = both_true (same_pointed t u) (m == n) h in
+    let p = and_parts (same_pointed t u) (m == n) h in
     ap (λ x. DeclaredArray x m) (pointed_is t u p.0) ∙ ap (DeclaredArray u) (number_is m n p.1)
 type_is (DeclaredArray t m) (DeclaredFunction u us) h = not_true h
 type_is (DeclaredFunction t ts) (DeclaredValue u) h = not_true h
 type_is (DeclaredFunction t ts) (DeclaredArray u n) h = not_true h
 type_is (DeclaredFunction t ts) (DeclaredFunction u us) h =
-    let p = both_true (same_pointed t u) (same_values ts us) h in
+    let p = and_parts (same_pointed t u) (same_values ts us) h in
     ap (λ x. DeclaredFunction x ts) (pointed_is t u p.0) ∙ ap (DeclaredFunction u) (values_are ts us p.1)
 
 -- ---- declarations that agree

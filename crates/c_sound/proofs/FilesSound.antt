@@ -346,8 +346,10 @@ module _ (w : Setting) (D : Outer → Type 0)
         matches_on fs gs ns ms h.0 k.0,
         λ x kept.
             let a = h.1 x (all-left (IsKept w) ns ms kept) in
-            let b = k.1 a.1.1 (all-right (IsKept w) ns ms kept) in
-            (all-append Backed ns ms a.0 b.0, (λ z. all-append (IsTypedFunction w.program) fs gs (a.1.0 z) (b.1.0 z), b.1.1)),
+            let b = k.1 a.1.1 (all-right (IsKept w) ns ms kept) in (
+              all-append Backed ns ms a.0 b.0,
+              (λ z. all-append (IsTypedFunction w.program) fs gs (a.1.0 z) (b.1.0 z), b.1.1),
+            ),
       )
   whole_then X t u (Fits fs ns) (Fails g gs) h k = tt
   whole_then X t u (Fails f fs) d h k = tt

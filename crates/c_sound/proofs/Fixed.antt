@@ -1,6 +1,7 @@
 -- An integer constant expression has the same tree wherever it stands, and nothing is noted of it.
 use Rattle.std.proofs.Common.{arith, ◌≡◌, refl, ap, ◌∙◌, Bool, true, false, List, [], ◌∷◌, ◌++◌}
 use Rattle.std.specs.Prelude.{Option, Some, None, ◌&&◌, if◌then◌else◌}
+use Rattle.std.proofs.lemmas.Bool.{and_parts}
 use Rattle.pcc_base.specs.declared.span.Span.{Span}
 use Rattle.pcc_base.specs.declared.fault.Fault.{Fault}
 use Rattle.pcc_base.specs.declared.fault.FaultKind.{FaultKind}
@@ -39,7 +40,7 @@ use Rattle.c_typing.specs.Rows.{to_place_row, assignment_row}
 use Rattle.c_typing.specs.Expressions.{first_word, type_name, named, Given, arguments_for, count_faults}
 use Rattle.c_typing.specs.Expressions.{call_of, called, given, postfix_op, prefix_op}
 use Rattle.c_typing.specs.Expressions.{typed_expression}
-use Rattle.c_sound.proofs.RowsSound.{both_true, not_true}
+use Rattle.c_sound.proofs.RowsSound.{not_true}
 
 -- where the tree is a constant expression, K holds and nothing is noted
 abbrev Keeps : Type 0 → Checked Expression → Type 0
@@ -105,12 +106,12 @@ operated_keeps : (row : ValueType → ValueType → Option ValueType) (op : Bina
     → Keeps (Two a b) (operated row op at a b)
 operated_keeps row op at a b =
     keeps_row (Two a b) at (types_of a b) (row (value_type a) (value_type b)) (λ of. tree.Binary of op a b)
-    (λ of c. both_true (has_constant_form a) (has_constant_form b) c)
+    (λ of c. and_parts (has_constant_form a) (has_constant_form b) c)
 
 compared_keeps : (op : BinaryOp) (at : Span) (a b : Expression) → Keeps (Two a b) (compared op at a b)
 compared_keeps op at a b =
     keeps_row (Two a b) at (types_of a b) (of_equality (value_type a) (is_null a) (value_type b) (is_null b))
-    (λ of. tree.Binary of op a b) (λ of c. both_true (has_constant_form a) (has_constant_form b) c)
+    (λ of. tree.Binary of op a b) (λ of c. and_parts (has_constant_form a) (has_constant_form b) c)
 
 binary_keeps : (op : raw.BinaryOp) (at : Span) (a b : Expression) → Keeps (Two a b) (binary_row op at a b)
 binary_keeps raw_binary.Multiply = operated_keeps of_numbers _
@@ -131,10 +132,10 @@ binary_keeps raw_binary.BitXor = operated_keeps of_numbers _
 binary_keeps raw_binary.BitOr = operated_keeps of_numbers _
 binary_keeps raw_binary.LogicalAnd = λ at a b.
     keeps_row (Two a b) at (types_of a b) (of_conditions (value_type a) (value_type b)) (λ of. tree.And a b)
-    (λ of c. both_true (has_constant_form a) (has_constant_form b) c)
+    (λ of c. and_parts (has_constant_form a) (has_constant_form b) c)
 binary_keeps raw_binary.LogicalOr = λ at a b.
     keeps_row (Two a b) at (types_of a b) (of_conditions (value_type a) (value_type b)) (λ of. tree.Or a b)
-    (λ of c. both_true (has_constant_form a) (has_constant_form b) c)
+    (λ of c. and_parts (has_constant_form a) (has_constant_form b) c)
 binary_keeps raw_binary.Comma = λ at a b c. not_true c
 
 index_by : (K : Type 0) (at : Span) (o : Option ValueType) (a i : Expression) → Keeps K (element_of at o a i)
@@ -149,13 +150,13 @@ conditional_keeps at t a b =
     keeps_row ((has_constant_form t ≡ true) × Two a b) at (value_type t ∷ types_of a b)
     (if is_scalar (value_type t) then of_choice (value_type a) (is_null a) (value_type b) (is_null b) else None)
     (λ of. tree.Conditional of t a b) (λ of c.
-    let p = both_true (has_constant_form t) (has_constant_form a && has_constant_form b) c in
-    (p.0, both_true (has_constant_form a) (has_constant_form b) p.1))
+    let p = and_parts (has_constant_form t) (has_constant_form a && has_constant_form b) c in
+    (p.0, and_parts (has_constant_form a) (has_constant_form b) p.1))
 
 cast_keeps : (at : Span) (to : ValueType) (e : Expression) → Keeps (has_constant_form e ≡ true) (cast_row at to e)
 cast_keeps at to e =
     keeps_choice (has_constant_form e ≡ true) at (can_cast to (value_type e) (is_null e)) (to ∷ value_type e ∷ [])
-    (tree.Cast to e) (λ c. (both_true (is_integer_type to) (has_constant_form e) c).1)
+    (tree.Cast to e) (λ c. (and_parts (is_integer_type to) (has_constant_form e) c).1)
 
 updated_keeps : (K : Type 0) (op : BinaryOp) (at : Span) (of : ValueType) (p : Place) (e : Expression)
     (o : Option ValueType) → Keeps K (updated op at of p e o)

@@ -33,7 +33,7 @@ use Rattle.c_typing.specs.Typed.{Typed}
 use Rattle.c_typing.proofs.CountUp.{IfFits}
 use Rattle.c_typing.proofs.FilesAgree.{numbers_change_nothing}
 use Rattle.c_sound.proofs.Setting.{Setting, Holds, IsAt, IsKept, Kept}
-use Rattle.c_sound.proofs.RowsSound.{both_true, not_true}
+use Rattle.c_sound.proofs.RowsSound.{not_true}
 use Rattle.c_sound.proofs.ExpressionsSound.{is_some_on}
 use Rattle.c_sound.proofs.ItemsSound.{all_by}
 use Rattle.c_sound.proofs.ParametersSound.{types_of}
@@ -54,6 +54,7 @@ use Rattle.pcc_base.specs.Objects.{FitsBytes}
 use Rattle.c_typing.specs.Checked.{Contents, Elsewhere, Zeros, Values}
 use Rattle.c_typing.specs.Numbering.{values_or, first_ones, filled, static_object, defined_ones}
 use Rattle.std.proofs.Common.{◌⊎◌}
+use Rattle.std.proofs.lemmas.Bool.{and_parts}
 use Rattle.c_sound.proofs.Finding.{of_filter, of_first}
 use Rattle.c_sound.proofs.Places.{IsRight, AreRight}
 use Rattle.c_sound.proofs.Ranged.{Fitting, zero_fits}
@@ -314,7 +315,7 @@ module _ (fs : List tree.Function) (ns : List Note) (outer : List Outer) where
     main_called (Uses e at) i h g t = not_true h
     main_called (Stores x) i h g t = not_true h
     main_called (Defines e d) i h g t =
-        let p = both_true (same_entity e main) (same_type d (DeclaredFunction (Some int) [])) h in
+        let p = and_parts (same_entity e main) (same_type d (DeclaredFunction (Some int) [])) h in
         let b = backed_at (Defines e d) i in
         let m = entity_is e main p.0 in (
           (b.0, b.1, b.2 ∙ m, b.3 ∙ type_is d (DeclaredFunction (Some int) []) p.1 ∙ sym t, tt),

@@ -7,6 +7,7 @@ use Rattle.std.specs.Ordering.{int_eq}
 use Rattle.std.specs.Int.{int_wrap, int_bit_and, int_bit_or, int_bit_xor, int_bit_not}
 use Rattle.std.proofs.lemmas.Int.{SFits-int_wrap, ints, rem_below}
 use Rattle.std.proofs.lemmas.Bool.Decides.{Decides-int_eq}
+use Rattle.std.proofs.lemmas.Bool.{and_parts}
 use Rattle.pcc_base.specs.Outcome.{ArrayName, Null}
 use Rattle.pcc_base.specs.declared.run.Trap.TheVariants as trapped
 use Rattle.c_tree.specs.declared.expression.BinaryOp.{BinaryOp}
@@ -28,7 +29,7 @@ use Rattle.c_tree.specs.Evaluation.{computed, evaluate}
 use Rattle.c_typing.specs.Constants.{has_constant_form, is_integer_type, no_calls, no_state, number_given}
 use Rattle.c_typing.specs.Constants.{constant_value}
 use Rattle.c_typing.specs.Laws.{IsInt}
-use Rattle.c_sound.proofs.RowsSound.{both_true, not_true}
+use Rattle.c_sound.proofs.RowsSound.{not_true}
 
 fits_int : (n : ℤ) → FitsSigned w32 n → IsInt n
 fits_int n h = (omega (arith, ints, h.sfits), omega (arith, ints, h.sfits))
@@ -299,29 +300,29 @@ value_int (Unary of op e) c r s =
     given_then (evaluate no_calls e s) (λ v t. Gives (unary_value of op v) t) (value_int e c r s)
     (λ v t h. unary_get of op v h)
 value_int (Binary of op a b) c r s =
-    let p = both_true (has_constant_form a) (has_constant_form b) c in
+    let p = and_parts (has_constant_form a) (has_constant_form b) c in
     given_then (evaluate no_calls a s) _ (value_int a p.0 r.0 s) (λ x t h.
     given_then (evaluate no_calls b t) _ (value_int b p.1 r.1 t) (λ y u k.
     given_computed (binary_value op x y) u (binary_get op x y h k)))
 value_int (And a b) c r s =
-    let p = both_true (has_constant_form a) (has_constant_form b) c in
+    let p = and_parts (has_constant_form a) (has_constant_form b) c in
     given_then (evaluate no_calls a s) _ (value_int a p.0 r.0 s) (λ x t h.
     given_if (is_true x) _ _
     (given_then (evaluate no_calls b t) _ (value_int b p.1 r.1 t) (λ y u k. bool_int (is_true y))) zero_int)
 value_int (Or a b) c r s =
-    let p = both_true (has_constant_form a) (has_constant_form b) c in
+    let p = and_parts (has_constant_form a) (has_constant_form b) c in
     given_then (evaluate no_calls a s) _ (value_int a p.0 r.0 s) (λ x t h.
     given_if (is_true x) _ _ one_int
     (given_then (evaluate no_calls b t) _ (value_int b p.1 r.1 t) (λ y u k. bool_int (is_true y))))
 value_int (Conditional of q a b) c r s =
-    let p = both_true (has_constant_form q) (has_constant_form a && has_constant_form b) c in
-    let o = both_true (has_constant_form a) (has_constant_form b) p.1 in
+    let p = and_parts (has_constant_form q) (has_constant_form a && has_constant_form b) c in
+    let o = and_parts (has_constant_form a) (has_constant_form b) p.1 in
     given_then (evaluate no_calls q s) _ (value_int q p.0 r.0 s) (λ x t h.
     given_then (if is_true x then evaluate no_calls a t else evaluate no_calls b t) _
     (given_if (is_true x) (evaluate no_calls a t) (evaluate no_calls b t) (value_int a o.0 r.1.0 t)
     (value_int b o.1 r.1.1 t)) (λ y u k. in_type_get of y k))
 value_int (Cast to e) c r s =
-    let p = both_true (is_integer_type to) (has_constant_form e) c in
+    let p = and_parts (is_integer_type to) (has_constant_form e) c in
     given_then (evaluate no_calls e s) (λ v t. Gives (in_type to v) t) (value_int e p.1 r s)
     (λ v t h. in_type_get to v h)
 value_int (Assign of place e) c r s = not_true c

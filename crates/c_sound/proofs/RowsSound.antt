@@ -1,7 +1,7 @@
 -- The rows of typing give well typed trees.
 use Rattle.std.proofs.Common.{arith, ◌≡◌, refl, Bool, true, false, List, [], ◌∷◌}
 use Rattle.std.specs.Prelude.{Option, Some, None, IfSome, if◌then◌else◌, option_map}
-use Rattle.std.specs.Prelude.{◌&&◌, ◌||◌}
+use Rattle.std.specs.Prelude.{◌||◌}
 use Rattle.pcc_base.specs.declared.span.Span.{Span}
 use Rattle.c_syntax.specs.declared.operator.BinaryOp as raw
 use Rattle.c_syntax.specs.declared.operator.BinaryOp.TheVariants as raw_binary
@@ -51,10 +51,6 @@ same_integer_is Int Int h = refl
 
 pub not_true : {P : Type 0} → false ≡ true → P
 not_true {P} e = grind arith
-
-pub both_true : (a b : Bool) → (a && b) ≡ true → (a ≡ true) × (b ≡ true)
-both_true true b h = (refl, h)
-both_true false b h = not_true h
 
 pub either_false : (a b : Bool) → (a || b) ≡ false → (a ≡ false) × (b ≡ false)
 either_false true b h = grind arith

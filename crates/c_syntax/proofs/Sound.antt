@@ -1,7 +1,7 @@
 -- What is read of an expression is a tree of the rule, of exactly the tokens taken.
 use Rattle.std.proofs.Common.{◌≡◌, ℕ, zero, suc, ◌+◌, ◌≤◌, Bool, true, false, ◌&&◌, List, [], ◌∷◌, ◌++◌, length, Option}
 use Rattle.std.proofs.Common.{Some, None, eqb, ltb, leb, if◌then◌else◌, refl, ap, sym, ◌∙◌, subst, arith, append_assoc}
-use Rattle.std.proofs.lemmas.Bool.{ltb-true, leb-true, eqb-true}
+use Rattle.std.proofs.lemmas.Bool.{ltb-true, leb-true, eqb-true, and_parts}
 use denote.Enum.Bare.{same_true}
 use Rattle.std.proofs.lemmas.List.{append-nil}
 use Rattle.pcc_base.specs.declared.span.Span.{Span}
@@ -654,14 +654,6 @@ sound_conditional n b sb ts =
           low = omega (arith, g.low, j.low, ltb-true (expr_height c) (suc n) e);
         })))))
 
-and_left : (a b : Bool) → (a && b) ≡ true → a ≡ true
-and_left true b e = refl
-and_left false b e = e
-
-and_right : (a b : Bool) → (a && b) ≡ true → b ≡ true
-and_right true b e = e
-and_right false b e = absurd (let wrong : false ≡ true = e in cc)
-
 sound_assignment : (n : ℕ) (b : Readers) → SoundReaders n b → SoundReader 15 (suc n) (read_assignment (suc n) b)
 sound_assignment n b sb ts =
     holds_then (Sound 14 (suc n) ts) (Sound 15 (suc n) ts) (read_conditional (suc n) b ts) _
@@ -680,7 +672,7 @@ sound_assignment n b sb ts =
               ∙ sym (append_assoc (expr_tokens l) (mark (assign_mark op.0) op.1 ∷ expr_tokens r) ws));
           is = (
             s.is,
-            leb-true (looseness l) 2 (and_left (leb (looseness l) 2) (ltb (expr_height l) (suc n)) e),
+            leb-true (looseness l) 2 (and_parts (leb (looseness l) 2) (ltb (expr_height l) (suc n)) e).0,
             g.is,
             g.loose,
           );
@@ -689,7 +681,7 @@ sound_assignment n b sb ts =
             arith,
             g.low,
             ltb-true (expr_height l) (suc n)
-                (and_right (leb (looseness l) 2) (ltb (expr_height l) (suc n)) e),
+                (and_parts (leb (looseness l) 2) (ltb (expr_height l) (suc n)) e).1,
           );
         }))
 

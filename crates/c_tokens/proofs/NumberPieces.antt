@@ -8,7 +8,7 @@ use mir.Val.{to_z, of_z}
 use mir.Syntax.{w32}
 use Rattle.std.proofs.Math.Nat.{mul-le-mul_left}
 use Rattle.std.proofs.Math.Numerals.{one-add}
-use Rattle.std.proofs.lemmas.Bool.{false≢true, cases_lt}
+use Rattle.std.proofs.lemmas.Bool.{false≢true, cases_lt, and_parts}
 use Rattle.std.proofs.lemmas.Bool.Decides.{nat_tests}
 use Rattle.std.specs.Prelude.{◌==◌}
 use Rattle.c_tokens.specs.declared.token.TokenKind.TheVariants as kinds
@@ -62,13 +62,9 @@ follows_from before (b ∷ c ∷ rest) (inr h) =
 goes_plain : (before b : ℕ) → is_exponent_letter before ≡ false → IsTrue (goes before b) → IsTrue (is_plain b)
 goes_plain before b no_letter h = grind (arith, nat_tests)
 
-both : (x y : Bool) → IsTrue (x && y) → IsTrue x × IsTrue y
-both true y h = (refl, h)
-both false y h = absurd (false≢true h)
-
 goes_sign : (before b : ℕ) → is_plain b ≡ false → IsTrue (goes before b) → IsTrue (is_exponent_letter before)
     × IsTrue (b == 43 || b == 45)
-goes_sign before b no_plain h = both (is_exponent_letter before) (b == 43 || b == 45) (rw no_plain at h)
+goes_sign before b no_plain h = and_parts (is_exponent_letter before) (b == 43 || b == 45) (rw no_plain at h)
 
 plain_no : (b : ℕ) → is_plain b ≡ false → is_exponent_letter b ≡ false
 plain_no b h = grind (arith, nat_tests)

@@ -2,6 +2,7 @@
 -- them.
 use Rattle.std.proofs.Common.{arith, ◌≡◌, refl, sym, ap, ◌∙◌, Bool, true, false}
 use Rattle.std.specs.Prelude.{None, option_map, ◌&&◌, if◌then◌else◌}
+use Rattle.std.proofs.lemmas.Bool.{and_parts}
 use Rattle.c_tree.specs.declared.expression.ArrayRef.{ArrayRef}
 use Rattle.c_tree.specs.declared.expression.ArrayRef.TheVariants as refs
 use Rattle.c_tree.specs.declared.types.ValueType.{ValueType}
@@ -97,10 +98,6 @@ form-bare (Putchar e) = refl
 form-bare Getchar = refl
 form-bare (Exit e) = refl
 
-both_true : (a b : Bool) → (a && b) ≡ true → (a ≡ true) × (b ≡ true)
-both_true true b h = (refl, h)
-both_true false b h = grind arith
-
 not_true : false ≡ true → ⊥
 not_true e = grind arith
 
@@ -111,18 +108,18 @@ bare-constant (Start element array) h = absurd (not_true h)
 bare-constant (Read of place) h = absurd (not_true h)
 bare-constant (Address element place) h = absurd (not_true h)
 bare-constant (Unary of op e) h = ap (Unary of op) (bare-constant e h)
-bare-constant (Binary of op a b) h = let p = both_true (has_constant_form a) (has_constant_form b) h in
+bare-constant (Binary of op a b) h = let p = and_parts (has_constant_form a) (has_constant_form b) h in
     ap (λ x. Binary of op x (bare b)) (bare-constant a p.0) ∙ ap (Binary of op a) (bare-constant b p.1)
-bare-constant (And a b) h = let p = both_true (has_constant_form a) (has_constant_form b) h in
+bare-constant (And a b) h = let p = and_parts (has_constant_form a) (has_constant_form b) h in
     ap (λ x. And x (bare b)) (bare-constant a p.0) ∙ ap (And a) (bare-constant b p.1)
-bare-constant (Or a b) h = let p = both_true (has_constant_form a) (has_constant_form b) h in
+bare-constant (Or a b) h = let p = and_parts (has_constant_form a) (has_constant_form b) h in
     ap (λ x. Or x (bare b)) (bare-constant a p.0) ∙ ap (Or a) (bare-constant b p.1)
 bare-constant (Conditional of t a b) h = let p =
-    both_true (has_constant_form t) (has_constant_form a && has_constant_form b) h in
-    let q = both_true (has_constant_form a) (has_constant_form b) p.1 in
+    and_parts (has_constant_form t) (has_constant_form a && has_constant_form b) h in
+    let q = and_parts (has_constant_form a) (has_constant_form b) p.1 in
     ap (λ x. Conditional of x (bare a) (bare b)) (bare-constant t p.0)
     ∙ ap (λ x. Conditional of t x (bare b)) (bare-constant a q.0) ∙ ap (Conditional of t a) (bare-constant b q.1)
-bare-constant (Cast to e) h = ap (Cast to) (bare-constant e (both_true (is_integer_type to) (has_constant_form e) h).1)
+bare-constant (Cast to e) h = ap (Cast to) (bare-constant e (and_parts (is_integer_type to) (has_constant_form e) h).1)
 bare-constant (Assign of place e) h = absurd (not_true h)
 bare-constant (Update of op place e) h = absurd (not_true h)
 bare-constant (Step of op place) h = absurd (not_true h)

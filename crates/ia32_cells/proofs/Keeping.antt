@@ -7,6 +7,7 @@ use Rattle.std.proofs.lemmas.List.{take_all, length-replicate, replicate-append-
 use Rattle.std.proofs.lemmas.List.{drop-append-le, drop-drop, drop_at, drop_more, get_or_append_left}
 use Rattle.std.proofs.lemmas.List.{get_or-append_right, get_or-replicate}
 use Rattle.pcc_base.specs.Bytes.{zeros}
+use Rattle.pcc_base.proofs.Zeros.{length-zeros}
 use Rattle.ia32_cells.specs.Cells.{padded, laid}
 
 -- ---- what is known of a call that can't be refused
@@ -46,10 +47,6 @@ among-none a b c d e = (
 )
 
 -- ---- how many bytes there are
-
-length-zeros : (n : ℕ) → length (zeros n) ≡ n
-unfolding zeros
-length-zeros n = length-replicate n 0
 
 -- before the last bytes
 length-before : (size : ℕ) (front back : List ℕ) → length front + length back ≤ size

@@ -4,7 +4,7 @@ use Rattle.std.specs.Prelude.{drop}
 use Rattle.std.specs.Prelude.{map, Option, Some, None, option_map, nat_le, if◌then◌else◌, refl}
 use Rattle.std.specs.List.{AllByRecursion}
 use Rattle.std.proofs.Common.{sym, ◌∙◌, ap, arith, inl, inr}
-use Rattle.std.proofs.lemmas.Bool.{leb-true, le-leb}
+use Rattle.std.proofs.lemmas.Bool.{leb-true, le-leb, and_parts}
 use Rattle.ia32_insn.specs.State.{Area, has_bytes, bytes_at, code_at, stored, with_bytes, Shape, shape_of, AreApart}
 use Rattle.ia32_insn.specs.State.{IsApart}
 use Rattle.ia32_insn.specs.Keeps.{IsCodeOrData, AreDisjoint}
@@ -15,14 +15,9 @@ pub record IsInside (area : Area) (address n : ℕ) : Type 0 where
   pub from : area.address ≤ address
   pub to : address + n ≤ area.address + length area.bytes
 
--- both of two tests
-both : (a b : Bool) → (a && b) ≡ true → (a ≡ true) × (b ≡ true)
-both true b e = (refl, e)
-both false b e = absurd (let no : false ≡ true = e in cc)
-
 pub inside : (area : Area) (address n : ℕ) → has_bytes area address n ≡ true → IsInside area address n
 inside area address n e =
-    let parts = both (nat_le area.address address) (nat_le (address + n) (area.address + length area.bytes)) e in
+    let parts = and_parts (nat_le area.address address) (nat_le (address + n) (area.address + length area.bytes)) e in
     record {
       from = leb-true area.address address parts.0;
       to =
@@ -32,7 +27,7 @@ inside area address n e =
 -- the same, where some test stands before
 inside-when : (t : Bool) (area : Area) (address n : ℕ) → (t && has_bytes area address n) ≡ true
     → IsInside area address n
-inside-when t area address n e = inside area address n (both t (has_bytes area address n) e).1
+inside-when t area address n e = inside area address n (and_parts t (has_bytes area address n) e).1
 
 -- an area with other bytes is as long
 length-with_bytes : (address : ℕ) (bytes : List ℕ) (area : Area) → IsInside area address (length bytes)
@@ -152,7 +147,7 @@ code-store a b bytes [] new each e = absurd (none-some new e)
 code-store a b bytes (area ∷ areas) new each e =
     elim (store-ways a bytes area areas new e) [
       | Here t same ↦
-          let still : area.runnable ≡ false = each.0 (both area.writable (has_bytes area a (length bytes)) t).0 in
+          let still : area.runnable ≡ false = each.0 (and_parts area.writable (has_bytes area a (length bytes)) t).0 in
           ap (code_at b) same ∙ rw still refl
       | Behind t rest s same ↦
           ap (code_at b) same
@@ -214,7 +209,7 @@ load-store_same address bytes old (area ∷ areas) new some apart l e =
       | Here t same ↦
           let n : ℕ = length bytes in
           let h = inside-when area.writable area address n t in
-          let has : has_bytes area address n ≡ true = (both area.writable (has_bytes area address n) t).1 in
+          let has : has_bytes area address n ≡ true = (and_parts area.writable (has_bytes area address n) t).1 in
           let there : has_bytes (with_bytes address bytes area) address n ≡ true =
           has-with_bytes address address n bytes area h ∙ has in
           let read : take n (drop (address - area.address) (with_bytes address bytes area).bytes) ≡ bytes =

@@ -2,6 +2,7 @@
 use Rattle.std.specs.Prelude.{◌≡◌, ℕ, ◌+◌, ◌-◌, Bool, true, false, ◌&&◌, List, [], ◌∷◌, length, drop, refl}
 use Rattle.std.specs.Prelude.{Option, Some, None, option_map, Result, Ok, Err, IfOk, nat_le, if◌then◌else◌}
 use Rattle.std.proofs.Common.{sym, ◌∙◌, ap, subst, arith}
+use Rattle.std.proofs.lemmas.Bool.{and_parts}
 use Rattle.pcc_base.specs.Outcome.{End}
 use Rattle.ia32_insn.specs.declared.insn.Insn.{Insn}
 use Rattle.ia32_insn.specs.State.{State, Area, has_bytes, code_at, may_store, stored, with_bytes, at_address}
@@ -13,10 +14,6 @@ use Rattle.ia32_insn.proofs.Kept.{IsKept, effect-kept}
 use Rattle.ia32_instructions.specs.Code.{IsFixed, KeepsCode}
 
 -- ---- tests
-
-both : (a b : Bool) → (a && b) ≡ true → (a ≡ true) × (b ≡ true)
-both true b e = (refl, e)
-both false b e = absurd (let no : false ≡ true = e in cc)
 
 -- a test that fails, of which the first part holds
 second : (a b : Bool) → a ≡ true → (a && b) ≡ false → b ≡ false
@@ -61,7 +58,7 @@ here : (a b : ℕ) (bytes : List ℕ) (area : Area) (areas : List Area) → (are
     ≡ true → (area.writable && has_bytes area b 1) ≡ false → IsFixed b areas
     → Keeps b (area ∷ areas) (with_bytes a bytes area ∷ areas)
 here a b bytes area areas t free rest =
-    let parts = both area.writable (has_bytes area a (length bytes)) t in
+    let parts = and_parts area.writable (has_bytes area a (length bytes)) t in
     let h = inside area a (length bytes) parts.1 in
     let lacks : has_bytes area b 1 ≡ false = second area.writable (has_bytes area b 1) parts.0 free in
     let long : length (with_bytes a bytes area).bytes ≡ length area.bytes =

@@ -114,7 +114,7 @@ word-in code input g s (InWord r) value shown for h = (word_of r s, refl, h)
 word-in code input g s (InByte r) value shown for h = absurd for
 word-in code input g s (InSlot slot) value shown for h = (h.0, h.1, h.2)
 
--- a step with the value of a variable, where element-at is one
+-- a step with the value of a variable, where there is one
 given-value : (P : Moved → Type 0) (o : Option Value) (go : Value → Moved) → P Stuck
     → ((value : Value) → o ≡ Some value → P (go value)) → P (given o go)
 given-value P None go none some = none
@@ -134,7 +134,7 @@ pub byte-small : (value : Value) (b : ℕ) → IsByte value b → b < 256
 byte-small (Number n) b h = subst (λ (k : ℕ). k < 256) (sym h.1) (byte-fits n h.0)
 byte-small (Array a) b h = absurd h
 
--- what a copy to a place has to find element-at
+-- what a copy to a place has to find there
 record IsCopied (site : Site) (frame : ℕ) (from to : Place) (s : machine.State) (Low : ℕ → Type 0) : Type 0 where
   word : ℕ
   low : Low word

@@ -3,19 +3,14 @@ use Rattle.std.proofs.Common.{◌≡◌, ℕ, ◌+◌, ◌-◌, ◌≤◌, Bool,
 use Rattle.std.proofs.Common.{refl, ap, ◌∙◌, arith, length-append}
 use Rattle.std.specs.Prelude.{map, option_map, slice_get, slice_index_or}
 use Rattle.std.proofs.lemmas.Option.{none-some, same_Some}
-use Rattle.std.proofs.lemmas.List.{length-replicate}
 use Rattle.pcc_base.specs.Bytes.{zeros}
+use Rattle.pcc_base.proofs.Zeros.{length-zeros}
 use Rattle.ia32_insn.specs.State.{Area, Shape, shape_of}
 use Rattle.ia32_insn.specs.Items.{Object, Places, round_up, text_area, data_area, data_bytes, data_memory, data_start}
 use Rattle.ia32_insn.specs.Items.{stack_end, text_start}
 use Rattle.ia32_rows.specs.Sites.{data_from}
 use Rattle.ia32_rows.specs.Placements.{address_in}
 use Rattle.ia32_programs.specs.Supports.{no_places}
-
--- n zeros are n
-length-zeros : (n : ℕ) → length (zeros n) ≡ n
-unfolding zeros
-length-zeros n = length-replicate n 0
 
 -- what is rounded up is no less
 pub round-above : (n : ℕ) → n ≤ round_up 4 n

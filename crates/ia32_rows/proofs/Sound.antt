@@ -3,7 +3,7 @@ use Rattle.std.proofs.Common.{◌≡◌, ◌≢◌, ◌⊎◌, ℕ, ◌+◌, ◌
 use Rattle.std.proofs.Common.{◌++◌, length, take, drop, Option, Some, None, Ok, nat_le, refl, sym, ap, subst, ◌∙◌, inl}
 use Rattle.std.proofs.Common.{inr, arith, get_or, length-drop}
 use Rattle.std.specs.Prelude.{◌&&◌, if◌then◌else◌, Result}
-use Rattle.std.proofs.lemmas.Bool.{le-leb, leb-true, lt-leb}
+use Rattle.std.proofs.lemmas.Bool.{le-leb, leb-true, lt-leb, and_parts}
 use Rattle.std.proofs.lemmas.List.{get_or-drop, get_or-take}
 use Rattle.byteorder.specs.Endian.{little_bytes, little_from}
 use Rattle.byteorder.specs.Numbers.{length-bytes_low_first, little_from-lt}
@@ -94,11 +94,6 @@ one-byte text low high a w s h from to e =
     bytes ∙ ap (λ (x : ℕ). let q : Result (List ℕ) End = Ok (x ∷ []) in q)
     (let k : get_or rest 0 0 ≡ w = omega (arith, same) in k)
 
--- both of two tests
-both : (a b : Bool) → (a && b) ≡ true → (a ≡ true) × (b ≡ true)
-both true b e = (refl, e)
-both false b e = absurd (let no : false ≡ true = e in cc)
-
 -- what is found behind one of two tests
 either-found : (t u : Bool) (x y z : List ℕ) → (if t then Some x else (if u then Some y else None)) ≡ Some z
     → (t ≡ true) ⊎ (u ≡ true)
@@ -119,10 +114,10 @@ load-place text low high n a v s h from e some =
     (sym (ap (bytes_at n a) h.memory) ∙ found)) [
       | inl t ↦ let end : a + n ≤ text_start + length text =
           leb-true (a + n) (text_start + length text)
-          (both (nat_le text_start a) (nat_le (a + n) (text_start + length text)) t).1 in absurd (omega arith)
+          (and_parts (nat_le text_start a) (nat_le (a + n) (text_start + length text)) t).1 in absurd (omega arith)
       | inr t ↦ let end : a + n ≤ low + length h.bytes =
-          leb-true (a + n) (low + length h.bytes) (both (nat_le low a) (nat_le (a + n) (low + length h.bytes)) t).1 in
-          omega arith
+          leb-true (a + n) (low + length h.bytes)
+          (and_parts (nat_le low a) (nat_le (a + n) (low + length h.bytes)) t).1 in omega arith
     ]
 
 -- ---- stores

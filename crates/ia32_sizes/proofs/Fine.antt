@@ -6,7 +6,6 @@ use Rattle.std.specs.Prelude.{◌%◌, ◌==◌, ◌||◌, ⊤, neg_ℤ, pos}
 use Rattle.std.specs.Int.{w32}
 use Rattle.std.specs.Int.RustNames.{FitsSigned}
 use Rattle.std.proofs.lemmas.Int.{ints}
-use Rattle.pcc_base.proofs.Lists.{all-append}
 use Rattle.ia32_regs.specs.Registers.{number32, number8}
 use Rattle.ia32_regs.specs.declared.names.Reg32.{Reg32}
 use Rattle.ia32_regs.specs.declared.names.Reg32.TheVariants.{Eax, Ecx, Edx, Ebx, Esp, Ebp, Esi, Edi}
@@ -37,7 +36,7 @@ use Rattle.ia32_rows.specs.Rows.{widening}
 use Rattle.ia32_rows.specs.Rows.{lowering, extend_half, halving, into_count, shifted_in, shifting, clear_divisor}
 use Rattle.ia32_rows.specs.Rows.{divisor_of, before_division, dividing, comparing, set_row, argument_word, leave}
 use Rattle.ia32_rows.specs.Rows.{return_row, loading, storing, store_to, index_register, element}
-use Rattle.ia32_rows.proofs.ItemKinds.{either-way}
+use Rattle.ia32_rows.proofs.ItemKinds.{either-way, all-append}
 
 -- ---- so many items, each of which passes a test
 

@@ -7,7 +7,6 @@ use Rattle.std.specs.Int.{w32}
 use Rattle.std.specs.Int.RustNames.{FitsSigned}
 use Rattle.std.proofs.lemmas.Option.{same_Some}
 use Rattle.std.proofs.lemmas.List.{length-map}
-use Rattle.pcc_base.proofs.Lists.{all-append}
 use Rattle.ia32_regs.specs.declared.names.Reg32.{Reg32}
 use Rattle.ia32_regs.specs.declared.names.Reg32.TheVariants.{Eax, Edx, Esp, Esi, Edi}
 use Rattle.ia32_regs.specs.Places.{Place}
@@ -41,6 +40,7 @@ use Rattle.ia32_rows.specs.Rows.{set_row, pass, pass_all, argument_word, deepen,
 use Rattle.ia32_rows.specs.Rows.{before_call, behind_call, call_row, leave, return_row, prologue, size_of}
 use Rattle.ia32_rows.specs.Rows.{clear_row, loading, load_from, store_to, index_register, count_before, element}
 use Rattle.ia32_rows.specs.Rows.{check_array, check_index, checking, load_row, store_row}
+use Rattle.ia32_rows.proofs.ItemKinds.{all-append}
 use Rattle.ia32_sizes.proofs.Fine.{AreFine, IsFine, IsNear, Within, argument-fits, changing-fine, commuting-fine}
 use Rattle.ia32_sizes.proofs.Fine.{comparing-fine, copy-fine, dividing-fine, element-index, fits-below, fits-near}
 use Rattle.ia32_sizes.proofs.Fine.{halving-fine, join, leaves, loading-fine, lowering-fine, multiplying-fine}

@@ -4,7 +4,6 @@ use Rattle.std.proofs.Common.{◌≡◌, ℕ, zero, suc, ◌+◌, ◌*◌, ◌/�
 use Rattle.std.proofs.Common.{None, refl, sym, ap, subst, inl, inr, arith, length-append}
 use Rattle.std.specs.Prelude.{◌⊎◌, ◌==◌, slice_get, slice_index_or, sum_by, unwrap_or}
 use Rattle.std.proofs.lemmas.Option.{same_Some, slice_get_within, get_or_from_slice_get}
-use Rattle.pcc_base.proofs.Lists.{all-append, all-at}
 use Rattle.ia32_regs.specs.Places.{Place, InWord, InByte, InSlot}
 use Rattle.ia32_insn.specs.declared.item.Item.{Item}
 use Rattle.ia32_insn.specs.declared.item.Item.TheVariants as item
@@ -25,7 +24,7 @@ use Rattle.ia32_rows.specs.Placements.{Placement}
 use Rattle.ia32_rows.specs.Sites.{IsInFrame}
 use Rattle.ia32_rows.specs.Rows.{block_rows, entry_label, headers, loop_label, place_after, place_before, point_row}
 use Rattle.ia32_rows.specs.Rows.{point_rows, prologue, row, selected}
-use Rattle.ia32_rows.proofs.ItemKinds.{either-way}
+use Rattle.ia32_rows.proofs.ItemKinds.{either-way, all-append, all-at, element-at}
 use Rattle.ia32_rows.proofs.Laid.{row-in-graph}
 use Rattle.ia32_rows.proofs.Numbered.{all_points, few-points, flow-distinct, labels-once, points-once, points-placed}
 use Rattle.ia32_rows.proofs.Numbered.{some-points}
@@ -109,11 +108,6 @@ there-or-none [] (suc k) = inr refl
 there-or-none (x ∷ xs) zero = inl refl
 there-or-none (x ∷ xs) (suc k) = there-or-none xs k
 
-at-place : {X : Type 0} (xs : List X) (k : ℕ) → k < length xs → (x : X) × (slice_get xs k ≡ Some x)
-at-place [] k h = absurd (omega arith)
-at-place (x ∷ xs) zero h = (x, refl)
-at-place (x ∷ xs) (suc k) h = at-place xs k (omega arith)
-
 -- frame arrays stand near EBP
 near-distance : (arrays : List (ℕ × ℕ)) (frame : ℕ) (belows : List ℕ) (k : ℕ) → AreArraysIn arrays frame belows
     → frame ≤ 16384 → slice_index_or belows k 0 ≤ 16384
@@ -122,7 +116,7 @@ near-distance arrays frame belows k inside small =
       | inl has ↦
           let within = slice_get_within belows k (slice_index_or belows k 0) has in
           let many = inside.as_many in
-          let a = at-place arrays k (omega arith) in
+          let a = element-at arrays k (omega arith) in
           let array : IsArrayIn frame a.0 (slice_index_or belows k 0) =
           inside.inside k (slice_index_or belows k 0) a.0 a.1 has in
           let high = array.high in

@@ -89,8 +89,6 @@ update-scalars operator (Pointer t) Void h = absurd h
 update-scalars operator (Integer t) (Pointer u) h = absurd h
 update-scalars operator (Pointer t) (Pointer u) h = absurd h
 
--- ---- elements of lists
-
 -- ---- the type of a part
 
 read-address : (c : Context) (of : ValueType) (t : IntegerType) (a : Addressed)

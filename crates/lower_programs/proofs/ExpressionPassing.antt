@@ -1,9 +1,10 @@
 -- Arguments that are numbers: each stays in its variable through those behind it.
-use Rattle.std.proofs.Common.{◌≡◌, ℕ, suc, ◌+◌, ◌≤◌, Bool, true, false, ◌&&◌, ℤ, List, [], ◌∷◌, ◌++◌, map, max}
+use Rattle.std.proofs.Common.{◌≡◌, ℕ, suc, ◌+◌, ◌≤◌, Bool, true, false, ℤ, List, [], ◌∷◌, ◌++◌, map, max}
 use Rattle.std.proofs.Common.{Option, Some, None, refl, sym, ap, ◌∙◌, subst, arith, append-nil, append_assoc}
 use Rattle.std.proofs.Math.Nat.{le-max_left, le-max_right}
 use Rattle.std.specs.List.{All, AllZip}
 use Rattle.std.specs.Prelude.{slice_get}
+use Rattle.std.proofs.lemmas.Bool.{and_parts}
 use Rattle.pcc_base.specs.Outcome.{Value, Visit}
 use Rattle.c_eval_laws.specs.Bounds.{state_of}
 use Rattle.c_tree.specs.declared.types.IntegerType.{IntegerType}
@@ -99,14 +100,6 @@ none-pass S = record {
   );
   simple = λ e older s g b. refl;
 }
-
-pub first-true : (a b : Bool) → (a && b) ≡ true → a ≡ true
-first-true true b e = refl
-first-true false b e = absurd (cc)
-
-pub second-true : (a b : Bool) → (a && b) ≡ true → b ≡ true
-second-true true b e = e
-second-true false b e = absurd (cc)
 
 alone-state : (s t : source.State) (values : List Held) (r : Evaluated (List Held)) → AllAlone s r
     → r ≡ Gives values t → t ≡ s
@@ -232,8 +225,8 @@ module _ (S : Site) (a : Part) (run : source.State → Evaluated Held) (u : Inte
   both-pass = record {
     follows = both-follow;
     simple = λ e older s g b. both-alone s (run s)
-        (la.simple (first-true a.simple (all_simple parts) e) (S.function ∷ older) s g b)
-        (rest.simple (second-true a.simple (all_simple parts) e) older s g b);
+        (la.simple (and_parts a.simple (all_simple parts) e).0 (S.function ∷ older) s g b)
+        (rest.simple (and_parts a.simple (all_simple parts) e).1 older s g b);
   }
 
 integer-of : (v : ValueType) → IsInteger v → (t : IntegerType) × (v ≡ Integer t)

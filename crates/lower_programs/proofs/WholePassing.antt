@@ -2,6 +2,7 @@
 use Rattle.std.proofs.Common.{◌≡◌, ◌≢◌, ℕ, suc, ◌+◌, ◌≤◌, Bool, true, false, List, [], ◌∷◌, ◌++◌, map, max}
 use Rattle.std.proofs.Common.{inr, refl, sym, ap, ◌∙◌, subst, arith, append-nil, append_assoc}
 use Rattle.std.proofs.Math.Nat.{le-max_left, le-max_right}
+use Rattle.std.proofs.lemmas.Bool.{and_parts}
 use Rattle.c_eval_laws.specs.Bounds.{state_of}
 use Rattle.c_tree.specs.declared.types.IntegerType.{IntegerType}
 use Rattle.c_tree.specs.declared.types.ValueType.{ValueType}
@@ -26,7 +27,6 @@ use Rattle.lower_programs.proofs.Binary.{turns-fall}
 use Rattle.lower_programs.proofs.Converting.{begins-again}
 use Rattle.lower_programs.proofs.Going.{goes-end, stand-back, stand-front}
 use Rattle.lower_programs.proofs.Pairs.{Falls, goes-both}
-use Rattle.lower_programs.proofs.ExpressionPassing.{first-true, second-true}
 use Rattle.lower_programs.proofs.Storing.{pointers-convert}
 use Rattle.lower_programs.proofs.Standing.{Stays, operand-stays}
 use Rattle.lower_programs.specs.WholeLaws.{AllArgumentsPass, ArePassed, Does}
@@ -264,8 +264,8 @@ module _ (S : Site) (l : Local) (a : Part) (run : source.State → Evaluated Hel
   both-pass = record {
     follows = both-follow;
     simple = λ e older s g b. both-alone s (run s)
-        (one.simple (first-true a.simple (all_simple parts) e) older s g b)
-        (rest.simple (second-true a.simple (all_simple parts) e) older s g b);
+        (one.simple (and_parts a.simple (all_simple parts) e).0 older s g b)
+        (rest.simple (and_parts a.simple (all_simple parts) e).1 older s g b);
   }
 
 pass-all : (S : Site) (site : IsSite S) (ls : List Local) (arguments : Arguments) → ArePassed S ls arguments

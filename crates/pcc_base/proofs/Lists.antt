@@ -48,7 +48,8 @@ element-at (x ∷ xs) zero below = (x, refl)
 element-at (x ∷ xs) (suc k) below = element-at xs k (omega (arith, below))
 
 -- an element stays at its place where others come behind it
-pub get-append : {A : Type 0} (xs ys : List A) (k : ℕ) (x : A) → slice_get xs k ≡ Some x → slice_get (xs ++ ys) k ≡ Some x
+pub get-append : {A : Type 0} (xs ys : List A) (k : ℕ) (x : A) → slice_get xs k ≡ Some x
+    → slice_get (xs ++ ys) k ≡ Some x
 get-append [] ys k x e = absurd (none-some x e)
 get-append (y ∷ xs) ys zero x e = e
 get-append (y ∷ xs) ys (suc k) x e = get-append xs ys k x e

@@ -358,7 +358,8 @@ function-line m few k f n is =
 map-lines : (m : Map) → IsMap m → AreLines (lines_of m)
 map-lines m is =
     All-from_recursion IsLine (lines_of m)
-    (all-append IsLine _ _ (numbered-lines IsMapObject object_lines object-line 0 m.objects (omega (arith, is.few_objects))
+    (all-append IsLine _ _
+    (numbered-lines IsMapObject object_lines object-line 0 m.objects (omega (arith, is.few_objects))
     (recursion_from_All IsMapObject m.objects is.objects))
     (numbered-lines (IsMapFunction m) function_lines (function-line m is.few_functions) 0 m.functions
     (omega (arith, is.few_functions))

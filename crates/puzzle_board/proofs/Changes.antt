@@ -1,7 +1,7 @@
 -- How the counts of a board change when a piece is placed.
 use Rattle.std.proofs.Common.{ℕ, zero, suc, ◌≡◌, ◌+◌, refl, sym, ◌∙◌, ap, subst, Bool, true, false, not, ◌&&◌, ◌||◌}
 use Rattle.std.proofs.Common.{cond, IsTrue, List, [], ◌∷◌, map, slice_get, slice_set, Some, None, ◌==◌, arith}
-use Rattle.std.proofs.lemmas.Bool.{eqb-true}
+use Rattle.std.proofs.lemmas.Bool.{eqb-true, and_parts}
 use Rattle.std.proofs.lemmas.List.Sums.{sum_by-cons}
 use Rattle.pcc_base.specs.declared.run.Width.{Width}
 use Rattle.puzzle_board.specs.declared.area.Area.{Area}
@@ -18,7 +18,6 @@ use Rattle.puzzle_board.specs.declared.piece.State.TheVariants.{Unplaced, At, Re
 use Rattle.puzzle_board.specs.Areas.{cleared, fits_area, kind_of, place_of_kind, same_kind}
 use Rattle.puzzle_board.specs.Placements.{clear_at, fits_at}
 use Rattle.puzzle_board.specs.Boards.{is_piece, pieces_of, unplaced_in}
-use Rattle.puzzle_board.proofs.Standings.{both_true}
 use Rattle.puzzle_board.specs.Worth.{after_wide, area_of, worth}
 use Rattle.puzzle_board.proofs.Prices.{all_columns, all_columns-at, all_letters, all_letters-at}
 
@@ -87,7 +86,7 @@ pub wide_area :
 wide_area a k left is =
     let b = area_of (kind_of a) in
     let choice = chosen (fits_area b k All) (kind_of (cleared b k All)) left is in
-    let parts = both_true (not (fits_area b k All) || fits_area a k All) _ (like_its_kind a k) in (
+    let parts = and_parts (not (fits_area b k All) || fits_area a k All) _ (like_its_kind a k) in (
       implies (fits_area b k All) (fits_area a k All) parts.0 choice.0,
       same_kind-equal (kind_of (cleared a k All)) (kind_of (cleared b k All)) parts.1 ∙ choice.1,
     )

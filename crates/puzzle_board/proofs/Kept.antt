@@ -4,7 +4,7 @@ use Rattle.std.proofs.Common.{◌==◌}
 use Rattle.std.proofs.Common.{List, [], ◌∷◌, ◌++◌, length, map, slice_set, slice_get, slice_index_or, Some, arith}
 use Rattle.std.proofs.Common.{take, length-append, length-set}
 use Rattle.std.proofs.lemmas.List.{length-map}
-use Rattle.std.proofs.lemmas.Bool.{ne_eqb}
+use Rattle.std.proofs.lemmas.Bool.{ne_eqb, and_parts}
 use Rattle.std.specs.List.{AllByRecursion}
 use Rattle.puzzle_board.specs.declared.area.Area.{Area}
 use Rattle.puzzle_board.specs.declared.piece.Columns.{Columns}
@@ -17,7 +17,7 @@ use Rattle.puzzle_board.specs.Areas.{cleared, is_of_width}
 use Rattle.puzzle_board.specs.Placements.{Standing, fits_at, clear_at, clear_all, IsLegal}
 use Rattle.puzzle_board.specs.Boards.{Puzzle, IsKept, IsPlaceable, free_areas, lifted, removed_in, standing}
 use Rattle.puzzle_board.specs.Boards.{standing_in, with_none_placed, with_piece, with_spot, without_variable}
-use Rattle.puzzle_board.proofs.Standings.{IsLegal-placed, both_true, clear_all-placed, clear_at-set, fits_at-below}
+use Rattle.puzzle_board.proofs.Standings.{IsLegal-placed, clear_all-placed, clear_at-set, fits_at-below}
 
 -- ---- lists
 
@@ -166,7 +166,7 @@ pub placeable-below :
     (board : Puzzle) (free : List Area) (number : ℕ) (spot : Spot) → IsKept board free
     → IsPlaceable board number spot → spot.area < length free
 placeable-below board free number spot kept (p, is, holds) =
-    let parts = both_true
+    let parts = and_parts
     (is_of_width p.width spot.columns)
     (fits_at (free_areas board) spot.area p.kind spot.columns)
     holds in

@@ -4,6 +4,7 @@ use Rattle.std.proofs.Common.{nat_le, IsTrue, List, [], ◌∷◌, map, sum_by, 
 use Rattle.std.proofs.lemmas.Bool.Decides.{nat_tests}
 use Rattle.std.proofs.lemmas.List.Sums.{sum_by-cons}
 use Rattle.std.specs.List.{AllByRecursion}
+use Rattle.std.proofs.lemmas.Bool.{and_parts}
 use Rattle.pcc_base.specs.declared.run.Width.{Width}
 use Rattle.pcc_base.specs.declared.run.Width.TheVariants.{One, Two}
 use Rattle.puzzle_board.specs.declared.area.Area.{Area}
@@ -22,7 +23,6 @@ use Rattle.puzzle_board.specs.Boards.{same_letter, same_width}
 use Rattle.puzzle_board.specs.Placements.{IsLegal, IsSolvable, Standing, clear, clear_at, fits, fits_at}
 use Rattle.puzzle_board.specs.Placements.{overlap}
 use Rattle.puzzle_board.proofs.Cells.{fits-clear}
-use Rattle.puzzle_board.proofs.Standings.{both_true}
 use Rattle.puzzle_board.specs.Worth.{worth}
 use Rattle.puzzle_board.proofs.Totals.{picked, sum_by-total, total}
 
@@ -41,18 +41,18 @@ abbrev pub all_columns : (Column → Bool) → Bool
 all_columns f = f Both && (f Upper && (f Lower && f Neither))
 
 pub all_columns-at : (f : Column → Bool) → IsTrue (all_columns f) → (c : Column) → IsTrue (f c)
-all_columns-at f all Both = (both_true (f Both) _ all).0
-all_columns-at f all Upper = (both_true (f Upper) _ (both_true (f Both) _ all).1).0
-all_columns-at f all Lower = (both_true (f Lower) _ (both_true (f Upper) _ (both_true (f Both) _ all).1).1).0
-all_columns-at f all Neither = (both_true (f Lower) _ (both_true (f Upper) _ (both_true (f Both) _ all).1).1).1
+all_columns-at f all Both = (and_parts (f Both) _ all).0
+all_columns-at f all Upper = (and_parts (f Upper) _ (and_parts (f Both) _ all).1).0
+all_columns-at f all Lower = (and_parts (f Lower) _ (and_parts (f Upper) _ (and_parts (f Both) _ all).1).1).0
+all_columns-at f all Neither = (and_parts (f Lower) _ (and_parts (f Upper) _ (and_parts (f Both) _ all).1).1).1
 
 abbrev pub all_letters : (Kind → Bool) → Bool
 all_letters f = f X && (f Y && f Z)
 
 pub all_letters-at : (f : Kind → Bool) → IsTrue (all_letters f) → (k : Kind) → IsTrue (f k)
-all_letters-at f all X = (both_true (f X) _ all).0
-all_letters-at f all Y = (both_true (f Y) _ (both_true (f X) _ all).1).0
-all_letters-at f all Z = (both_true (f Y) _ (both_true (f X) _ all).1).1
+all_letters-at f all X = (and_parts (f X) _ all).0
+all_letters-at f all Y = (and_parts (f Y) _ (and_parts (f X) _ all).1).0
+all_letters-at f all Z = (and_parts (f Y) _ (and_parts (f X) _ all).1).1
 
 abbrev all_spans : (Width → Columns → Bool) → Bool
 all_spans f = f One Low && (f One High && f Two All)
@@ -60,12 +60,12 @@ all_spans f = f One Low && (f One High && f Two All)
 all_spans-at :
     (f : Width → Columns → Bool) → IsTrue (all_spans f) → (w : Width) (c : Columns) → IsTrue (is_of_width w c)
     → IsTrue (f w c)
-all_spans-at f all One Low is = (both_true (f One Low) _ all).0
-all_spans-at f all One High is = (both_true (f One High) _ (both_true (f One Low) _ all).1).0
+all_spans-at f all One Low is = (and_parts (f One Low) _ all).0
+all_spans-at f all One High is = (and_parts (f One High) _ (and_parts (f One Low) _ all).1).0
 all_spans-at f all One All is = absurd (cc)
 all_spans-at f all Two Low is = absurd (cc)
 all_spans-at f all Two High is = absurd (cc)
-all_spans-at f all Two All is = (both_true (f One High) _ (both_true (f One Low) _ all).1).1
+all_spans-at f all Two All is = (and_parts (f One High) _ (and_parts (f One Low) _ all).1).1
 
 -- a piece weighs no more than an area loses by it, where it fits
 abbrev pub costs :
@@ -152,7 +152,7 @@ pub no_more_than_worth :
     → load weights (map (λ s. s.piece) placed) ≤ worth prices areas
 no_more_than_worth weights prices all areas [] legal = omega arith
 no_more_than_worth weights prices all areas (s ∷ more) legal =
-    let parts = both_true
+    let parts = and_parts
     (is_of_width s.piece.width s.spot.columns)
     (fits_at areas s.spot.area s.piece.kind s.spot.columns)
     legal.0 in

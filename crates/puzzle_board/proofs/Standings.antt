@@ -1,8 +1,9 @@
 -- What stands on a board once a piece more is placed, and that it stands legally.
-use Rattle.std.proofs.Common.{ℕ, zero, suc, ◌≡◌, ◌<◌, refl, ◌∙◌, ap, subst, Bool, true, false, not, ◌&&◌, ◌==◌, IsTrue}
+use Rattle.std.proofs.Common.{ℕ, zero, suc, ◌≡◌, ◌<◌, refl, ◌∙◌, ap, subst, not, ◌==◌, IsTrue}
 use Rattle.std.proofs.Common.{List, [], ◌∷◌, length, slice_set, slice_get, slice_index_or, Some, arith}
 use Rattle.std.proofs.lemmas.Bool.Decides.{nat_tests}
 use Rattle.std.specs.List.{AllByRecursion}
+use Rattle.std.proofs.lemmas.Bool.{and_parts}
 use Rattle.puzzle_board.specs.declared.area.Area.{Area}
 use Rattle.puzzle_board.specs.declared.piece.Columns.{Columns}
 use Rattle.puzzle_board.specs.declared.piece.Columns.TheVariants.{Low, High, All}
@@ -18,10 +19,6 @@ use Rattle.puzzle_board.specs.Boards.{standing_in}
 use Rattle.puzzle_board.proofs.Cells.{fits-clear, clear-comm}
 
 -- ---- tests
-
-pub both_true : (a b : Bool) → IsTrue (a && b) → IsTrue a × IsTrue b
-both_true true b holds = (refl, holds)
-both_true false b holds = absurd (cc)
 
 share_column-comm : (c d : Columns) → share_column c d ≡ share_column d c
 share_column-comm Low Low = refl
@@ -65,7 +62,7 @@ pub fits-clear_all :
     → IsTrue (fits areas s) × AllByRecursion (λ t. IsTrue (not (overlap s t))) more
 fits-clear_all areas [] s holds = (holds, tt)
 fits-clear_all areas (t ∷ more) s holds =
-    let parts = both_true _ _ (subst IsTrue (fits-clear (clear_all areas more) t s) holds) in
+    let parts = and_parts _ _ (subst IsTrue (fits-clear (clear_all areas more) t s) holds) in
     let below = fits-clear_all areas more s parts.0 in
     (below.0, (subst (λ b. IsTrue (not b)) (overlap-comm t s) parts.1, below.1))
 
@@ -155,7 +152,7 @@ IsLegal-placed areas (q ∷ pieces) (At other ∷ states) (suc i) p spot is free
     let first : Standing = record { piece = q; spot = other } in
     let new : Standing = record { piece = p; spot = spot } in
     let before = clear_all areas (standing_in pieces states) in
-    let parts = both_true (fits before new) (not (overlap first new))
+    let parts = and_parts (fits before new) (not (overlap first new))
     (subst IsTrue (fits-clear before first new) holds) in (
       legal.0,
       AllByRecursion-placed (λ t. IsTrue (not (overlap first t))) pieces states i p spot is free legal.1 parts.1,
