@@ -1,20 +1,16 @@
 -- What was linked is the program of the functions.
-use Rattle.std.specs.Prelude.{◌≡◌, ◌<◌, ◌≤◌, ℕ, zero, suc, ◌+◌, ◌*◌, ◌^◌, ◌-◌, ℤ, List, [], ◌∷◌, ◌++◌, flat_map, length}
-use Rattle.std.specs.Prelude.{map, replicate, slice_get, slice_index, Some, option_map}
-use Rattle.std.specs.Int.{w32, cast_unsigned}
+use Rattle.std.specs.Prelude.{◌≡◌, ◌<◌, ◌≤◌, ℕ, zero, suc, ◌+◌, ◌^◌, List, [], ◌∷◌, ◌++◌, length}
+use Rattle.std.specs.Prelude.{map, slice_get, slice_index, Some, option_map}
 use Rattle.std.proofs.Common.{refl, sym, ap, ◌∙◌, subst, arith, get_or}
-use Rattle.std.proofs.lemmas.List.{length-append, length-map, length-replicate}
+use Rattle.std.proofs.lemmas.List.{length-append, length-map}
 use Rattle.std.proofs.lemmas.Option.{same_Some, slice_get-map, slice_get-get_or, slice_get_within}
-use Rattle.byteorder.specs.Endian.{little_bytes}
-use Rattle.std.proofs.Math.Nat.{mul-suc}
-use Rattle.byteorder.specs.Numbers.{length-bytes_low_first}
 use Rattle.ia32_insn.specs.declared.item.Item.{Item}
 use Rattle.ia32_insn.specs.declared.item.Stub.TheVariants as stub
-use Rattle.pcc_base.specs.Bytes.{zeros}
 use Rattle.ia32_insn.specs.Items.{Symbols, Places, Object, ItemsAt, FunctionAt, FunctionsAt, IsOrder, round_up}
-use Rattle.ia32_insn.specs.Items.{text_start, element_bytes, elements_size, object_bytes, data_bytes, object_addresses}
+use Rattle.ia32_insn.specs.Items.{text_start, elements_size, data_bytes, object_addresses}
 use Rattle.ia32_insn.specs.Items.{data_start, stack_end, start_items, putchar_items, getchar_items, exit_items}
 use Rattle.ia32_insn.specs.Items.{check_items}
+use Rattle.ia32_insn.proofs.Objects.{length-object_addresses}
 use Rattle.ia32_asm.specs.declared.section.Section.{Section}
 use Rattle.ia32_asm.specs.declared.section.Relocation.{Relocation}
 use Rattle.ia32_asm.specs.declared.section.Target.{Target}
@@ -27,6 +23,7 @@ use Rattle.elf_addresses.specs.Parts.{IsThere, function_of, order_of}
 use Rattle.elf_link.specs.Linking.{FitsIn, CanLink, AreSections, HasPoints, IsLinked}
 use Rattle.elf_addresses.specs.Parts.{sections_size, objects_size}
 use Rattle.elf_addresses.specs.Symbols.{symbols_of}
+use Rattle.elf_addresses.proofs.Data.{length-data}
 use Rattle.elf_link.specs.Placed.{addresses_from, AreAddresses, AreNumbered}
 use Rattle.elf_link.specs.Laid.{code_from, points_from, HasCode}
 use Rattle.elf_link.proofs.RoutineItems.{any_places, start_plainly, putchar_plainly, getchar_plainly, exit_plainly}
@@ -34,54 +31,7 @@ use Rattle.elf_link.proofs.RoutineItems.{check_plainly}
 use Rattle.elf_link.proofs.Placing.{length-addresses, address_room, function_found}
 use Rattle.elf_link.proofs.Numbered.{number-at}
 
--- ---- the data
-
-length-elements : (width : ℕ) (zs : List ℤ) → length (flat_map (λ (z : ℤ). little_bytes width (cast_unsigned w32 z)) zs)
-    ≡ width * length zs
-length-elements width [] = omega arith
-length-elements width (z ∷ zs) =
-    let first : length (little_bytes width (cast_unsigned w32 z)) ≡ width =
-    length-bytes_low_first 0 width (cast_unsigned w32 z) in
-    let others : length (flat_map (λ (y : ℤ). little_bytes width (cast_unsigned w32 y)) zs) ≡ width * length zs =
-    length-elements width zs in
-    length-append (little_bytes width (cast_unsigned w32 z))
-    (flat_map (λ (y : ℤ). little_bytes width (cast_unsigned w32 y)) zs)
-    ∙ ap (λ (n : ℕ). n + length (flat_map (λ (y : ℤ). little_bytes width (cast_unsigned w32 y)) zs)) first
-    ∙ ap (λ (n : ℕ). width + n) others ∙ mul_more width (length zs)
-  where
-    mul_more : (a b : ℕ) → a + a * b ≡ a * suc b
-    mul_more a b = omega (arith, mul-suc a b)
-
-no_less : (n : ℕ) → n ≤ round_up 4 n
-no_less n = omega arith
-
-length-object : (o : Object) → length (object_bytes o) ≡ 4 + elements_size o
-unfolding zeros
-length-object o =
-    length-append (little_bytes 4 (length o.elements) ++ element_bytes o)
-    (replicate (elements_size o - o.width * length o.elements) 0)
-    ∙ omega (
-      arith,
-      length-append (little_bytes 4 (length o.elements)) (element_bytes o),
-      length-elements o.width o.elements,
-      length-replicate {A = ℕ} (elements_size o - o.width * length o.elements) 0,
-      no_less (o.width * length o.elements),
-    )
-
-length-objects : (objects : List Object) → length (flat_map object_bytes objects) ≡ objects_size objects
-length-objects [] = refl
-length-objects (o ∷ objects) = length-append (object_bytes o) (flat_map object_bytes objects)
-    ∙ omega (arith, length-object o, length-objects objects)
-
-length-data : (objects : List Object) → length (data_bytes objects) ≡ 4 + objects_size objects
-unfolding zeros
-length-data objects = omega (arith, length-objects objects)
-
 -- ---- addresses
-
-objects_many : (address : ℕ) (objects : List Object) → length (object_addresses address objects) ≡ length objects
-objects_many address [] = refl
-objects_many address (o ∷ objects) = omega (arith, objects_many (address + 4 + elements_size o) objects)
 
 objects_bound : (address : ℕ) (objects : List Object) (k x : ℕ) → slice_get (object_addresses address objects) k
     ≡ Some x → x ≤ address + objects_size objects
@@ -104,7 +54,7 @@ there_has sections objects a order laid code held (target.Function f) h =
     (x, found, omega (arith, bound, code))
 there_has sections objects a order laid code held (target.Object k) h =
     let inside : k < length a.objects.items =
-    omega (arith, h, ap length laid.objects_are, objects_many (a.depth + 4) objects) in
+    omega (arith, h, ap length laid.objects_are, length-object_addresses (a.depth + 4) objects) in
     let found : slice_get a.objects.items k ≡ Some (get_or a.objects.items k 0) =
     slice_get-get_or a.objects.items k 0 inside in
     let bound = objects_bound (a.depth + 4) objects k (get_or a.objects.items k 0)
@@ -463,6 +413,6 @@ pub each_fits : (sections : List Section) (objects : List Object) (main : ℕ) (
 each_fits sections objects main a can laid k s e =
     let nf : length a.functions.items ≡ length sections = laid.in_text.many in
     let mo : length a.objects.items ≡ length objects = ap length laid.objects_are
-    ∙ objects_many (a.depth + 4) objects in
+    ∙ length-object_addresses (a.depth + 4) objects in
     subst (λ (n : ℕ). FitsIn n (length a.objects.items) s) (sym nf)
     (subst (λ (n : ℕ). FitsIn (length sections) n s) (sym mo) (can.each k s e))

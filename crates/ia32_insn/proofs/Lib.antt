@@ -12,3 +12,4 @@ pub mod Makes
 pub mod Found
 pub mod Spelling
 pub mod Runs
+pub mod Objects

@@ -17,11 +17,12 @@ use Rattle.flow_graph.specs.States as graph
 use Rattle.flow_graph.specs.States.{Activation, entry_of, first_activation, first_state_at, flow_at}
 use Rattle.graph_states.proofs.Changes.{first-in}
 use Rattle.graph_states.proofs.Keeping.{first_is_state, functions_begin}
+use Rattle.ia32_insn.proofs.Objects.{round-above}
 use Rattle.ia32_rows.specs.Placements.{Code, objects_of}
 use Rattle.ia32_rows.proofs.Steps.{comes-then}
 use Rattle.ia32_rows.specs.Shows.{ArgumentsStand, ElementsStand, HoldsOldArrays, IsOldArray, ObjectsStand}
 use Rattle.ia32_programs.specs.Supports.{IsSupported}
-use Rattle.ia32_programs.proofs.Memory.{round-above, shapes-are, text-is}
+use Rattle.ia32_programs.proofs.Memory.{shapes-are, text-is}
 use Rattle.ia32_programs.proofs.Objects.{object-in}
 use Rattle.ia32_programs.proofs.Functions.{function-stands}
 use Rattle.ia32_programs.specs.Called.{Called}

@@ -25,11 +25,11 @@ use Rattle.ia32_rows.specs.Sites.{IsSound}
 use Rattle.ia32_rows.proofs.Sound.{bytes-in}
 use Rattle.ia32_rows.proofs.First.{zero-registers}
 use Rattle.graph_states.proofs.Lists.{All-at}
+use Rattle.ia32_insn.proofs.Objects.{elements-within, length-elements}
 use Rattle.ia32_programs.specs.Supports.{IsSupported}
 use Rattle.ia32_programs.proofs.Memory.{long-data, text-above}
-use Rattle.ia32_programs.proofs.Objects.{elements-within}
 use Rattle.ia32_programs.specs.StartsLaws.{DataBegin, image_state}
-use Rattle.ia32_programs.proofs.Parts.{ElementIn, ObjectIn, all_objects, element-in, length-elements, object-in}
+use Rattle.ia32_programs.proofs.Parts.{ElementIn, ObjectIn, all_objects, element-in, object-in}
 use Rattle.ia32_programs.proofs.Parts.{one_element}
 
 -- ---- the first state

@@ -1,5 +1,5 @@
 -- The depth word of a program's code, whatever labels and points are; and where a point is that was put behind a call.
-use Rattle.std.proofs.Common.{◌≡◌, ℕ, ◌+◌, ◌*◌, ◌-◌, ◌<◌, ◌≤◌, List, [], ◌∷◌, ◌++◌, length, refl, ap, ◌∙◌, arith}
+use Rattle.std.proofs.Common.{◌≡◌, ℕ, ◌+◌, ◌*◌, ◌-◌, ◌<◌, ◌≤◌, List, [], ◌∷◌, ◌++◌, length, ap, ◌∙◌, arith}
 use Rattle.std.proofs.Common.{length-append}
 use Rattle.std.specs.Prelude.{flat_map}
 use Rattle.byteorder.specs.Endian.{little_bytes}
@@ -8,7 +8,8 @@ use Rattle.pcc_base.specs.Bytes.{zeros}
 use Rattle.ia32_insn.specs.declared.item.Item.TheVariants as item
 use Rattle.ia32_insn.specs.Items.{ItemsAt, Object, Places, Symbols, data_bytes, data_start, element_bytes}
 use Rattle.ia32_insn.specs.Items.{elements_size}
-use Rattle.ia32_insn.specs.Items.{object_addresses, object_bytes, round_up}
+use Rattle.ia32_insn.specs.Items.{object_bytes, round_up}
+use Rattle.ia32_insn.proofs.Objects.{length-object_addresses}
 use Rattle.ia32_rows.specs.Placements.{Code, objects_of}
 use Rattle.ia32_rows.specs.Sites.{StandsFrom}
 use Rattle.ia32_programs.specs.Supports.{IsSupported, site_of}
@@ -29,10 +30,6 @@ point-behind code f r address h =
     point-first code.symbols (marked (site_of code f) r).places address h.bytes h.stand
 
 -- ---- the depth word
-
-long-addresses : (start : ℕ) (objects : List Object) → length (object_addresses start objects) ≡ length objects
-long-addresses start [] = refl
-long-addresses start (o ∷ objects) = ap ℕ.suc (long-addresses (start + 4 + elements_size o) objects)
 
 -- each object takes a byte of the data at least
 some-bytes : (o : Object) → 1 ≤ length (object_bytes o)
@@ -66,7 +63,7 @@ has-depth code f r h =
     let text = h.is_code.text in
     let check = check-stands code f h in
     let many : length code.symbols.objects ≡ length objects =
-    ap length text.objects_are ∙ long-addresses (data_start code.text + 4) objects in
+    ap length text.objects_are ∙ length-object_addresses (data_start code.text + 4) objects in
     let few = few-objects objects in
     let whole = length-append (zeros 4) (flat_map object_bytes objects) in
     record {

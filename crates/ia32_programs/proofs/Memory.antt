@@ -12,10 +12,6 @@ use Rattle.ia32_rows.specs.Sites.{data_from}
 use Rattle.ia32_rows.specs.Placements.{address_in}
 use Rattle.ia32_programs.specs.Supports.{no_places}
 
--- what is rounded up is no less
-pub round-above : (n : ℕ) → n ≤ round_up 4 n
-round-above n = omega arith
-
 -- the data end where the stack does
 pub long-data : (text : List ℕ) (objects : List Object)
     → data_start text + length (data_area text objects).bytes ≡ stack_end text objects

@@ -1,53 +1,13 @@
 -- Where static objects stand in the data.
-use Rattle.std.proofs.Common.{◌≡◌, ◌≢◌, ◌⊎◌, ℕ, zero, suc, ◌+◌, ◌-◌, ◌*◌, ◌<◌, ◌≤◌, ℤ, List, [], ◌∷◌, ◌++◌, length}
+use Rattle.std.proofs.Common.{◌≡◌, ◌≢◌, ◌⊎◌, ℕ, zero, suc, ◌+◌, ◌*◌, ◌<◌, ◌≤◌, List, [], ◌∷◌, length}
 use Rattle.std.proofs.Common.{Some}
 use Rattle.std.proofs.Common.{inl, inr, refl, ap, ◌∙◌, arith, length-append}
 use Rattle.std.specs.Prelude.{flat_map, slice_get}
-use Rattle.std.specs.Int.{w32, cast_unsigned}
-use Rattle.std.proofs.Math.Nat.{mul-suc}
 use Rattle.std.proofs.lemmas.Option.{none-some, same_Some}
-use Rattle.std.proofs.lemmas.List.{length-replicate}
-use Rattle.byteorder.specs.Endian.{little_bytes}
-use Rattle.byteorder.specs.Numbers.{length-bytes_low_first}
 use Rattle.pcc_base.specs.Bytes.{zeros}
 use Rattle.pcc_base.specs.Objects.{Object}
-use Rattle.ia32_insn.specs.Items.{data_bytes, element_bytes, elements_size, object_addresses, object_bytes, round_up}
-
--- ---- lengths
-
-length-elements : (width : ℕ) (zs : List ℤ) → length (flat_map (λ (z : ℤ). little_bytes width (cast_unsigned w32 z)) zs)
-    ≡ width * length zs
-length-elements width [] = omega arith
-length-elements width (z ∷ zs) =
-    let first : length (little_bytes width (cast_unsigned w32 z)) ≡ width =
-    length-bytes_low_first 0 width (cast_unsigned w32 z) in
-    length-append (little_bytes width (cast_unsigned w32 z))
-    (flat_map (λ (y : ℤ). little_bytes width (cast_unsigned w32 y)) zs)
-    ∙ ap (λ (n : ℕ). n + length (flat_map (λ (y : ℤ). little_bytes width (cast_unsigned w32 y)) zs)) first
-    ∙ ap (λ (n : ℕ). width + n) (length-elements width zs) ∙ more width (length zs)
-  where
-    more : (a b : ℕ) → a + a * b ≡ a * suc b
-    more a b = omega (arith, mul-suc a b)
-
-no-less : (n : ℕ) → n ≤ round_up 4 n
-no-less n = omega arith
-
--- the elements fit in their size
-pub elements-within : (o : Object) → o.width * length o.elements ≤ elements_size o
-elements-within o = no-less (o.width * length o.elements)
-
-length-object : (o : Object) → length (object_bytes o) ≡ 4 + elements_size o
-unfolding zeros
-length-object o =
-    length-append (little_bytes 4 (length o.elements) ++ element_bytes o)
-    (zeros (elements_size o - o.width * length o.elements))
-    ∙ omega (
-      arith,
-      length-append (little_bytes 4 (length o.elements)) (element_bytes o),
-      length-elements o.width o.elements,
-      length-replicate {A = ℕ} (elements_size o - o.width * length o.elements) 0,
-      no-less (o.width * length o.elements),
-    )
+use Rattle.ia32_insn.specs.Items.{data_bytes, elements_size, object_addresses, object_bytes}
+use Rattle.ia32_insn.proofs.Objects.{length-object, elements-within}
 
 -- ---- addresses
 

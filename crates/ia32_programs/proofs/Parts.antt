@@ -1,5 +1,5 @@
 -- Where the bytes of a static object, and of one of its elements, stand among those of all.
-use Rattle.std.proofs.Common.{◌≡◌, ℕ, zero, suc, ◌+◌, ◌-◌, ◌*◌, ◌≤◌, ℤ, List, [], ◌∷◌, ◌++◌, length, Some, refl, sym}
+use Rattle.std.proofs.Common.{◌≡◌, ℕ, zero, suc, ◌+◌, ◌*◌, ℤ, List, [], ◌∷◌, ◌++◌, length, Some, refl, sym}
 use Rattle.std.proofs.Common.{ap, ◌∙◌, arith, length-append, append_assoc}
 use Rattle.std.specs.Prelude.{flat_map, slice_get}
 use Rattle.std.specs.Int.{w32, cast_unsigned}
@@ -7,11 +7,9 @@ use Rattle.std.proofs.Math.Nat.{mul-suc}
 use Rattle.std.proofs.lemmas.Option.{none-some, same_Some}
 use Rattle.byteorder.specs.Endian.{little_bytes}
 use Rattle.byteorder.specs.Numbers.{length-bytes_low_first}
-use Rattle.pcc_base.specs.Bytes.{zeros}
 use Rattle.pcc_base.specs.Objects.{Object}
-use Rattle.pcc_base.proofs.Zeros.{length-zeros}
-use Rattle.ia32_insn.specs.Items.{element_bytes, elements_size, object_addresses, object_bytes}
-use Rattle.ia32_programs.proofs.Objects.{elements-within}
+use Rattle.ia32_insn.specs.Items.{elements_size, object_addresses, object_bytes}
+use Rattle.ia32_insn.proofs.Objects.{length-object}
 
 -- ---- elements
 
@@ -24,13 +22,6 @@ all_elements width zs = flat_map (λ (z : ℤ). little_bytes width (cast_unsigne
 
 one-more : (w n : ℕ) → w + w * n ≡ w * suc n
 one-more w n = omega (arith, mul-suc w n)
-
-pub length-elements : (width : ℕ) (zs : List ℤ) → length (all_elements width zs) ≡ width * length zs
-length-elements width [] = omega arith
-length-elements width (z ∷ zs) =
-    length-append (one_element width z) (all_elements width zs)
-    ∙ ap (λ (n : ℕ). n + length (all_elements width zs)) (length-bytes_low_first 0 width (cast_unsigned w32 z))
-    ∙ ap (λ (n : ℕ). width + n) (length-elements width zs) ∙ one-more width (length zs)
 
 -- The bytes of an element stand behind those of the ones before it.
 pub record ElementIn (width : ℕ) (zs : List ℤ) (i : ℕ) (z : ℤ) : Type 0 where
@@ -64,19 +55,6 @@ element-in width (y ∷ zs) (suc i) z e =
     }
 
 -- ---- objects
-
-length-object : (o : Object) → length (object_bytes o) ≡ 4 + elements_size o
-length-object o =
-    let n : ℕ = o.width * length o.elements in
-    let size : ℕ = elements_size o in
-    length-append (little_bytes 4 (length o.elements) ++ element_bytes o) (zeros (size - n))
-    ∙ counted (length (little_bytes 4 (length o.elements) ++ element_bytes o)) (length (element_bytes o))
-    (length (zeros (size - n))) n size
-    (length-append (little_bytes 4 (length o.elements)) (element_bytes o)) (length-elements o.width o.elements)
-    (length-zeros (size - n)) (elements-within o)
-  where
-    counted : (a b c n size : ℕ) → a ≡ 4 + b → b ≡ n → c ≡ size - n → n ≤ size → a + c ≡ 4 + size
-    counted a b c n size e f g h = omega arith
 
 abbrev pub all_objects : List Object → List ℕ
 all_objects objects = flat_map object_bytes objects

@@ -11,13 +11,14 @@ use Rattle.pcc_base.proofs.Lists.{element-at}
 use Rattle.c_tree.specs.Objects.{data_object}
 use Rattle.c_tree.specs.Program.{LocalArray, Program, StaticObject}
 use Rattle.ia32_insn.specs.State as machine
-use Rattle.ia32_insn.specs.Items.{data_bytes, data_start, elements_size, object_addresses}
+use Rattle.ia32_insn.specs.Items.{data_bytes, data_start, object_addresses}
 use Rattle.flow_graph.specs.Graphs.{Flow, empty_flow}
 use Rattle.flow_graph.specs.States as graph
 use Rattle.flow_graph.specs.States.{Activation, active_of, flow_at}
 use Rattle.flow_graph.specs.WellFormed.{AreElementsOf, IsState}
 use Rattle.graph_states.proofs.Lists.{zip-first}
 use Rattle.lower_lines.specs.Lowering.{array_of}
+use Rattle.ia32_insn.proofs.Objects.{length-object_addresses}
 use Rattle.ia32_rows.specs.Placements.{Code, objects_of as image_objects, placement_of}
 use Rattle.ia32_rows.specs.Shows.{IsFrameArrayAt, Shows}
 use Rattle.ia32_programs.specs.Supports.{IsSupported, size_of}
@@ -117,10 +118,6 @@ belows-are (o ∷ os) [] same = absurd (omega (arith, same))
 belows-are (o ∷ os) (x ∷ belows) same =
     ap (λ (xs : List ℕ). x ∷ xs) (belows-are os belows (omega (arith, same)))
 
-length-addresses : (start : ℕ) (objects : List Object) → length (object_addresses start objects) ≡ length objects
-length-addresses start [] = refl
-length-addresses start (o ∷ objects) = ap suc (length-addresses (start + 4 + elements_size o) objects)
-
 -- the objects of a map are at the addresses of the code's
 map-objects : (program : Program) (code : Code) (m : Map) → HasMap program code m
     → objects_of m ≡ object_addresses (data_start code.text + 4) (image_objects code.program)
@@ -131,7 +128,7 @@ map-objects program code m h =
     sym (length-map program.objects data_object) ∙ sym (ap length h.objects)
     ∙ sym (length-map code.program.objects
     (λ (o : graph.Object). let p : Object = record { width = o.width; elements = o.elements } in p))
-    ∙ sym (length-addresses (data_start code.text + 4) image) ∙ ap length (sym symbols) in
+    ∙ sym (length-object_addresses (data_start code.text + 4) image) ∙ ap length (sym symbols) in
     ap (map (λ (o : MapObject). o.address)) h.belongs.objects
     ∙ objects-are program.objects code.symbols.objects many ∙ symbols
 
@@ -162,7 +159,7 @@ objects-differ : (start : ℕ) (objects : List Object) (j k one two : ℕ) → j
     → slice_get (object_addresses (start + 4) objects) j ≡ Some one
     → slice_get (object_addresses (start + 4) objects) k ≡ Some two → one ≢ two
 objects-differ start objects j k one two lt at there =
-    let many = length-addresses (start + 4) objects in
+    let many = length-object_addresses (start + 4) objects in
     let o = element-at objects j (omega (arith, slice_get_within (object_addresses (start + 4) objects) j one at, many))
     in
     let p = element-at objects k
@@ -180,7 +177,7 @@ object-within : (start bytes : ℕ) (objects : List Object) (k address : ℕ) �
     → slice_get (object_addresses (start + 4) objects) k ≡ Some address
     → (0 < address) × (address ≤ start + bytes)
 object-within start bytes objects k address is at =
-    let many = length-addresses (start + 4) objects in
+    let many = length-object_addresses (start + 4) objects in
     let o = element-at objects k
     (omega (arith, slice_get_within (object_addresses (start + 4) objects) k address at, many)) in
     let inside = object-in start objects k address o.0 o.1 at in

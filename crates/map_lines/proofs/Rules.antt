@@ -31,6 +31,7 @@ use Rattle.lower_lines.specs.Shown.{declared_before, local_widths}
 use Rattle.ia32_insn.specs.Items.{data_bytes, data_memory, data_start, object_addresses, round_up, stack_end}
 use Rattle.ia32_insn.specs.Items.{text_start}
 use Rattle.ia32_insn.specs.Items as items
+use Rattle.ia32_insn.proofs.Objects.{round-above}
 use Rattle.ia32_rows.specs.Paths.{IsAt}
 use Rattle.ia32_rows.specs.Placements.{Code, Placement, objects_of, point_address}
 use Rattle.ia32_rows.specs.Rows.{IsSlot}
@@ -137,9 +138,6 @@ held-at : (os : List objects.Object) (k : ℕ) (o : objects.Object) → slice_ge
 held-at [] k o at = absurd (none-some o at)
 held-at (x ∷ os) zero o at = (_, refl)
 held-at (x ∷ os) (suc k) o at = held-at os k o at
-
-no-less : (n : ℕ) → n ≤ round_up 4 n
-no-less n = omega arith
 
 -- ---- variables
 
@@ -365,7 +363,7 @@ objects-held program homes code is k address o at there =
     let inside = object-in (data_start code.text) os k address x held
     (ap (λ (xs : List ℕ). slice_get xs k) (sym text.objects_are) ∙ there) in
     counted (data_start code.text) (length (data_bytes os)) address (x.width * length x.elements)
-    (length o.elements) inside.1 (no-less (length (data_bytes os))) supported.fits whole.some_elements short
+    (length o.elements) inside.1 (round-above (length (data_bytes os))) supported.fits whole.some_elements short
   where
     counted : (start size address mine count : ℕ) → address + mine ≤ start + size → size ≤ round_up 4 size
         → start + (round_up 4 size + 0x04001000) < 4294967296 → 1 ≤ count → count ≤ 2147483648

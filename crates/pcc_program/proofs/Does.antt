@@ -25,6 +25,7 @@ use Rattle.ia32_sizes.specs.Sizes.{SelectedIsCode}
 use Rattle.ia32_programs.specs.StandingLaws.{IsSelected}
 use Rattle.pcc_headline.specs.Begins.{parts_of_text}
 use Rattle.lower_programs.specs.VisitsLaws.{VisitsAreKnown}
+use Rattle.elf_addresses.proofs.Data.{length-data}
 use Rattle.map_lines.specs.Laws.{IsOverSlots, MapBelongs, MapBySameAddresses, MapKeepsRules, MapListsLocals, map_in}
 use Rattle.map_lines.specs.Shown.{address_in, homes_of}
 use Rattle.map_lines.specs.VisitsLaws.{MapShowsVisits}
@@ -34,7 +35,6 @@ use Rattle.pcc_listing.specs.Maps.{Map}
 use Rattle.pcc_listing.specs.Marks.{listed}
 use Rattle.pcc_program.specs.Code.{HasFrame, HaveFrames, IsFramedCode, framed_items}
 use Rattle.pcc_program.specs.CodeLaws.{FramedIsSelected, GraphsHaveFrames}
-use Rattle.pcc_program.proofs.Data.{length-data}
 use Rattle.map_lines.specs.ProgramMap.{Homes, program_map}
 use Rattle.pcc_program.specs.Laws.{AreLinked, linked_map}
 use Rattle.pcc_program.proofs.Mapped.{frame-at, has-slots, placement-is}

@@ -17,9 +17,9 @@ use Rattle.ia32_programs.specs.Supports.{IsSupported, Supports}
 use Rattle.ia32_rows.specs.Rows.{selected}
 use Rattle.ia32_rows.specs.Placements.{Code, Placement, no_placement, objects_of, placement_of}
 use Rattle.flow_graph.specs.WellFormed.{IsGraphProgram}
+use Rattle.elf_addresses.proofs.Data.{length-data}
 use Rattle.pcc_program.specs.Code.{HasFrame, HaveFrames, IsFramedCode, framed_items}
 use Rattle.pcc_program.specs.CodeLaws.{FramedIsSelected}
-use Rattle.pcc_program.proofs.Data.{length-data}
 
 -- the placement of a function is its graph's frame
 placed-at : (flows : List Flow) (f : ℕ) → f < length flows

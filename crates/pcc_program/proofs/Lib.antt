@@ -6,6 +6,5 @@ mod Numbered
 mod Passed
 mod Placed
 mod Shows
-pub mod Data
 pub mod Framed
 mod Frames

@@ -18,10 +18,10 @@ use Rattle.ia32_frames.specs.Laws.{FramesSupport}
 use Rattle.ia32_insn.specs.declared.item.Item.{Item}
 use Rattle.ia32_sizes.specs.Sizes.{SelectedIsCode}
 use Rattle.lower_programs.specs.Lowered.{AreLowered}
+use Rattle.elf_addresses.proofs.Data.{length-data}
 use Rattle.map_lines.specs.Shown.{CanShowAll, address_in, homes_of}
 use Rattle.map_lines.specs.ProgramMap.{program_map}
 use Rattle.pcc_program.specs.Code.{HasFrame, HaveFrames, framed_items}
-use Rattle.pcc_program.proofs.Data.{length-data}
 use Rattle.pcc_program.specs.Laws.{AreLinked}
 use Rattle.pcc_program.specs.Passes.{AreSectionsFrom, IsFrameOf}
 use Rattle.pcc_program.specs.Programs.{IsCompilable}

@@ -16,10 +16,11 @@ use Rattle.flow_graph.specs.States.{GraphProgram}
 use Rattle.ia32_asm.specs.declared.section.Section.{Section}
 use Rattle.ia32_frames.specs.declared.frame.Frame.{Frame}
 use Rattle.ia32_frames.specs.Frames.{frame_arrays, frame_bytes, frame_placement, frame_slots, offset_of}
-use Rattle.ia32_insn.specs.Items.{Object, data_start, elements_size, object_addresses}
+use Rattle.ia32_insn.specs.Items.{data_start}
 use Rattle.ia32_programs.specs.Supports.{AreSlots}
 use Rattle.ia32_rows.specs.Rows.{IsSlot}
 use Rattle.lower_lines.specs.Lowering.{array_of, first_statement}
+use Rattle.ia32_insn.proofs.Objects.{length-object_addresses}
 use Rattle.map_lines.specs.Shown.{AreBelow, CanShow, CanShowAll}
 use Rattle.pcc_program.specs.Laws.{AreLinked}
 use Rattle.pcc_program.proofs.Does.{Laws, frame-of, have-frames}
@@ -56,10 +57,6 @@ slots-below flow h =
     omega (arith, (all-at (IsSlot (frame_bytes flow)) (frame_slots flow) k b h.within e).low))
 
 -- ---- objects
-
-addresses-many : (address : ℕ) (objects : List Object) → length (object_addresses address objects) ≡ length objects
-addresses-many address [] = refl
-addresses-many address (o ∷ objects) = ap suc (addresses-many (address + 4 + elements_size o) objects)
 
 few-elements : (objects : List StaticObject) → All (λ o. length o.elements ≤ 16777216) objects
     → AllByRecursion (λ o. length o.elements ≤ 4294967295) objects
@@ -111,7 +108,7 @@ module _ (laws : Laws) (program : Program) (graphs : GraphProgram) (frames : Lis
       let few = (have-frames laws program graphs frames sections linked h).few in
       record {
         as_many_objects = ap length h.linked_is.objects_are ∙ ap length h.linked_is.text.objects_are
-            ∙ addresses-many (data_start linked.image.text.items + 4) graphs.objects
+            ∙ length-object_addresses (data_start linked.image.text.items + 4) graphs.objects
             ∙ ap length h.lowered.objects ∙ length-mapped data_object program.objects;
         few_objects = omega (arith, h.compilable.memory.few_objects);
         few_elements = few-elements program.objects h.compilable.memory.few_elements;
