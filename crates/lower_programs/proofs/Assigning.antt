@@ -34,7 +34,7 @@ use Rattle.lower_programs.proofs.Binary.{Fits, compound-lowers, turns-fall}
 use Rattle.lower_programs.proofs.Converting.{as_type, begins-again, behind-number, behind-part, in_type-fits}
 use Rattle.lower_programs.proofs.Converting.{lowers-fit}
 use Rattle.lower_programs.proofs.Going.{stand-back, stand-front}
-use Rattle.lower_programs.proofs.Levels.{in_type-one, levels-one}
+use Rattle.lower_programs.proofs.Levels.{in_type-one, levels-one, levels-below}
 use Rattle.lower_programs.proofs.Operands.{number-operand}
 use Rattle.lower_programs.proofs.Pairs.{Falls, local-below}
 use Rattle.lower_programs.proofs.Reading.{locals-lower}
@@ -158,9 +158,6 @@ type-falls : (w : IntegerType) (turns : ℕ) (r : Evaluated Held) → (state_of 
 type-falls w turns (Gives v t) fall = fall
 type-falls w turns (Ends end t) fall = fall
 
-deeper : (level levels top : ℕ) → level + levels ≤ top → 1 ≤ levels → level < top
-deeper level levels top h one = omega (arith, h, one)
-
 module _ (S : Site) (site : IsSite S) (older : List Function) (k : ℕ) (l : Local) (w : IntegerType)
     (e : slice_get S.function.locals k ≡ Some l) (of : l.of ≡ Integer w) (a : Part)
     (run : source.State → Evaluated Held) (u : IntegerType) (la : Lowers S a run) (of' : a.of ≡ Integer u)
@@ -220,7 +217,7 @@ module _ (S : Site) (site : IsSite S) (older : List Function) (k : ℕ) (l : Loc
           shows keeps (omega arith) in
           let rest = stored-fits S site older k l w e of (block + (operand (context_of S) true a).blocks) level
           ((before ++ front) ++ low ∷ []) (with_local k (HoldsNumber m) t) (with_value to (Number m) h) m
-          (deeper level a.levels (levels_of S.function) room one) again
+          (levels-below level a.levels (levels_of S.function) room one) again
           (held-set S.program S.function older k l (HoldsNumber m) t (with_value to (Number m) h) e shows) wanted
           (stand-back S (before ++ front) (low ∷ []) behind_char stands) may in (
             follows-behind S (S.function ∷ older) (before ++ front) (low ∷ []) behind_char level wanted (Integer w) t
@@ -257,7 +254,7 @@ module _ (S : Site) (site : IsSite S) (older : List Function) (k : ℕ) (l : Loc
       (subst (λ (p : ValueType). GoesInto (Integer w) p) (sym of) into)) b)
       (λ v t h typed holds begins keeps. rest v t h typed begins
       (stand-back S before (value.lines block level (ToLocal k)) behind_value stands)
-      (deeper level value.levels (levels_of S.function) room
+      (levels-below level value.levels (levels_of S.function) room
       (in_type-one (context_of S) (Integer w) a one)) may))
     where
       rest : (v : Held) (t : source.State) (h : graph.State) → IsOf S.program (S.function ∷ older) (Integer w) v

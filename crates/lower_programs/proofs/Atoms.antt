@@ -1,6 +1,6 @@
 -- Constants, locals of type `char`, and `getchar`.
-use Rattle.std.proofs.Common.{◌≡◌, ℕ, ◌+◌, ◌<◌, ◌≤◌, ℤ, pos, negsuc, List, [], ◌∷◌, ◌++◌, Option, Some}
-use Rattle.std.proofs.Common.{refl, sym, ap, ◌∙◌, subst, arith, append-nil}
+use Rattle.std.proofs.Common.{◌≡◌, ℕ, ◌+◌, ◌<◌, ℤ, pos, negsuc, List, [], ◌∷◌, ◌++◌, Option, Some}
+use Rattle.std.proofs.Common.{refl, sym, ap, ◌∙◌, subst, append-nil}
 use Rattle.std.specs.Prelude.{slice_get}
 use Rattle.pcc_base.specs.Outcome.{Value, Number}
 use Rattle.c_tree.specs.declared.types.IntegerType.{IntegerType}
@@ -26,15 +26,13 @@ use Rattle.lower_lines.proofs.Locals.{same-some}
 use Rattle.lower_lines.proofs.Steps.{const-step, getchar-end, getchar-step, one-step}
 use Rattle.lower_programs.proofs.Made.{number-made}
 use Rattle.lower_programs.specs.ExpressionsLaws.{CharsLower, ConstantsLower, GetcharLowers}
+use Rattle.lower_programs.proofs.Levels.{level-below}
 
 -- the youngest of the active calls is one of the function
 pub with-older : (f : Function) (active : List Function) (P : List Function → Type 0) → slice_get active 0 ≡ Some f
     → ((older : List Function) → P (f ∷ older)) → P active
 with-older f [] P e all = absurd (cc)
 with-older f (h ∷ older) P e all = subst (λ (k : Function). P (k ∷ older)) (sym (same-some h f e)) (all older)
-
-deeper : (level levels : ℕ) → level + 1 ≤ levels → level < levels
-deeper level levels h = omega (arith, h)
 
 nothing-seen : {A : Type 0} (xs : List A) → xs ≡ xs ++ []
 nothing-seen xs = sym (append-nil xs)
@@ -46,7 +44,7 @@ constants-lower S site t n = record {
       ((constant_part (context_of S) t n).lines block level wanted) level wanted (Integer t) s g
       (Gives (HoldsNumber (converted t n)) s)) begins.youngest
       (λ older b. number-made S site older level before s s g g (converted t n) []
-      (λ to. Emit (op.Const to.number (converted t n)) ∷ []) (deeper level (levels_of S.function) room)
+      (λ to. Emit (op.Const to.number (converted t n)) ∷ []) (level-below level (levels_of S.function) room)
       b.shows b.function
       (kept-none _ level g) (nothing-seen s.visits)
       (λ to takes there o r. const-step S site before g b.function to.number (converted t n) s.turns o there takes.0 r)
@@ -96,7 +94,7 @@ chars-lower S site k l e of = record {
       ((local_part (context_of S) (Integer Char) k).lines block level wanted) level wanted (Integer Char) s g
       (Gives (held s k) s)) begins.youngest
       (λ older b. char-follows S site k l e of older block level wanted before s g stands
-      (deeper level (levels_of S.function) room) may b) begins;
+      (level-below level (levels_of S.function) room) may b) begins;
   typed = λ active block level wanted before s g stands room may begins.
       with-older S.function active (λ calls. Begins S calls s g → GivesOf S.program calls (Integer Char)
       (Gives (held s k) s)) begins.youngest
@@ -147,7 +145,7 @@ getchar-lowers S site = record {
       ((getchar_part (context_of S)).lines block level wanted) level wanted (Integer Int) s g (get_from s.left s))
       begins.youngest
       (λ older b. getchar-follows S site older block level wanted before s g s.left refl stands
-      (deeper level (levels_of S.function) room) may b) begins;
+      (level-below level (levels_of S.function) room) may b) begins;
   typed = λ active block level wanted before s g stands room may begins. getchar-typed S active s s.left;
   simple = λ same active s g begins. absurd (cc);
   stands = λ spot same. absurd (cc);

@@ -31,7 +31,7 @@ use Rattle.lower_lines.proofs.Locals.{get-set_same}
 use Rattle.lower_lines.proofs.Steps.{one-step}
 use Rattle.lower_programs.proofs.Binary.{Fits, compound-lowers, turns-fall, works-follow}
 use Rattle.lower_programs.proofs.Going.{stand-back, stand-front}
-use Rattle.lower_programs.proofs.Levels.{levels-one}
+use Rattle.lower_programs.proofs.Levels.{levels-one, levels-below}
 use Rattle.lower_programs.proofs.Made.{some-and, variable-there}
 use Rattle.lower_programs.proofs.Operands.{NumberStands, number-operand}
 use Rattle.lower_programs.proofs.Pairs.{Falls, goes-both}
@@ -244,9 +244,6 @@ module _ (S : Site) (site : IsSite S) (older : List Function) (level x : ℕ) (n
     λ to takes here. copied-goes S site before g to.number x t.turns n fits (value-number (value_at g x) n at_x) here,
   )
 
-deeper : (level levels top : ℕ) → level + levels ≤ top → 1 ≤ levels → level < top
-deeper level levels top h one = omega (arith, h, one)
-
 pub narrowed-fits : (S : Site) (site : IsSite S) (older : List Function) (w : IntegerType) (a : Part)
     (run : source.State → Evaluated Held) (u : IntegerType) → Lowers S a run → a.of ≡ Integer u → 1 ≤ a.levels
     → Falls run → (block level : ℕ) (wanted : Wanted) (before : List Line) (s : source.State) (g : graph.State)
@@ -265,12 +262,12 @@ narrowed-fits S site older w a run u la of one falls block level wanted before s
       works-follow S site older level
           (λ to. converting (context_of S) level w to ((operand (context_of S) true a).spot level).number)
           (before ++ (operand (context_of S) true a).lines block level) t h (Computes (HoldsNumber (converted w n)))
-          (block + (operand (context_of S) true a).blocks) wanted w (deeper level a.levels
+          (block + (operand (context_of S) true a).blocks) wanted w (levels-below level a.levels
           (levels_of S.function) room one)
           begins.shows begins.function
           (converting-works S site older level ((operand (context_of S) true a).spot level).number n
           (before ++ (operand (context_of S) true a).lines block level) t h begins.function begins.shows
-          (deeper level a.levels (levels_of S.function) room one) at w)
+          (levels-below level a.levels (levels_of S.function) room one) at w)
           (stand-back S before ((operand (context_of S) true a).lines block level) _ stands) may,
       tt,
     ))

@@ -1,6 +1,6 @@
 -- `!`, `&&` and `||`, whatever is wanted of them.
 use Rattle.std.proofs.Common.{◌≡◌, ◌≢◌, ℕ, suc, ◌+◌, ◌<◌, ◌≤◌, Bool, true, false, not, pos, List, [], ◌∷◌, ◌++◌}
-use Rattle.std.proofs.Common.{refl, sym, ap, subst, arith, append-nil, append_assoc}
+use Rattle.std.proofs.Common.{refl, sym, ap, subst, append-nil, append_assoc}
 use Rattle.std.specs.List.{Contains}
 use Rattle.std.specs.Ordering.{int_eq}
 use Rattle.std.specs.Prelude.{if◌then◌else◌}
@@ -29,7 +29,7 @@ use Rattle.lower_programs.proofs.Going.{Goes, stand-back, stand-front}
 use Rattle.lower_programs.proofs.Leading.{IsTruth, IsValue, LeadsTo, choose-leads, follows-lead, leads-behind}
 use Rattle.lower_programs.proofs.Leading.{leads-follow, one-way, seven-more, start-goes, start-there}
 use Rattle.lower_programs.proofs.Leading.{tests_place}
-use Rattle.lower_programs.proofs.Levels.{levels-one}
+use Rattle.lower_programs.proofs.Levels.{levels-one, levels-below}
 use Rattle.lower_programs.proofs.Pairs.{Falls}
 use Rattle.lower_programs.proofs.Stepping.{lowers-same}
 use Rattle.lower_programs.specs.ExpressionsLaws.{NotsLower}
@@ -260,9 +260,6 @@ negating-leads S active level yes' no' of s start g (Gives v t) leads =
     test-as S active level no' yes' yes' no' of s start g v (truth_value (not (is_true v))) t
     (flips (is_true v) yes' no') leads
 
-below : (level levels top : ℕ) → level + levels ≤ top → 1 ≤ levels → level < top
-below level levels top h one = omega (arith, h, one)
-
 module _ (S : Site) (site : IsSite S) (a : Part) (run : source.State → Evaluated Held) (la : Lowers S a run)
     (scalar : a.of ≢ Void) (one : 1 ≤ a.levels) (falls : Falls run) where
   abbrev negated_run : source.State → Evaluated Held
@@ -293,12 +290,12 @@ module _ (S : Site) (site : IsSite S) (a : Part) (run : source.State → Evaluat
       truth-fits S site older level (λ b holds fails. a.lines b level (Tests fails holds)) negated_run
       (negated-tests older level room) (λ t. negating-falls t.turns (run t) (falls t)) (λ t. negating-truth
       (run t)) block
-      Own tt before s g stands (below level a.levels (levels_of S.function) room one) may b
+      Own tt before s g stands (levels-below level a.levels (levels_of S.function) room one) may b
   negated-fits older block level (ToLocal k) before s g stands room may b =
       truth-fits S site older level (λ b holds fails. a.lines b level (Tests fails holds)) negated_run
       (negated-tests older level room) (λ t. negating-falls t.turns (run t) (falls t)) (λ t. negating-truth
       (run t)) block
-      (ToLocal k) tt before s g stands (below level a.levels (levels_of S.function) room one) may b
+      (ToLocal k) tt before s g stands (levels-below level a.levels (levels_of S.function) room one) may b
   negated-fits older block level (Tests yes' no') before s g stands room may b =
       tests-fit S older level (λ b holds fails. a.lines b level (Tests fails holds)) negated_run
       (negated-tests older level room) (λ t. negating-truth (run t)) block yes' no' before s g stands may b

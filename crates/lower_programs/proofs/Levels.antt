@@ -1,5 +1,5 @@
--- Every expression's lines take at least one level.
-use Rattle.std.proofs.Common.{ℕ, suc, ◌≤◌, max, arith}
+-- Every expression's lines take at least one level, and which levels there is room for.
+use Rattle.std.proofs.Common.{ℕ, suc, ◌+◌, ◌<◌, ◌≤◌, max, arith}
 use Rattle.std.proofs.Math.Nat.{le-max_left, le-max_right}
 use Rattle.c_tree.specs.declared.expression.BinaryOp.{BinaryOp}
 use Rattle.c_tree.specs.declared.expression.StepOp.{StepOp}
@@ -27,6 +27,22 @@ max-first a b h = let m = le-max_left a b in omega (arith, h, m)
 
 pub max-behind : (a b : ℕ) → 1 ≤ max a (suc b)
 max-behind a b = let m = le-max_right a (suc b) in omega (arith, m)
+
+-- where a part takes a level, the first one is below the top
+pub levels-below : (level levels top : ℕ) → level + levels ≤ top → 1 ≤ levels → level < top
+levels-below level levels top h one = omega (arith, h, one)
+
+-- where there is room for one more level, this one is below the top
+pub level-below : (level levels : ℕ) → level + 1 ≤ levels → level < levels
+level-below level levels h = omega (arith, h)
+
+-- of two parts of which the second begins a level higher, the first has room
+pub first-room : (level i j top : ℕ) → level + max i (suc j) ≤ top → level + i ≤ top
+first-room level i j top h = let m = le-max_left i (suc j) in omega (arith, h, m)
+
+-- and so has the second
+pub second-room : (level i j top : ℕ) → level + max i (suc j) ≤ top → suc level + j ≤ top
+second-room level i j top h = let m = le-max_right i (suc j) in omega (arith, h, m)
 
 -- a place whose address and its value take one level at least
 abbrev LevelsOf : Located → Type 0

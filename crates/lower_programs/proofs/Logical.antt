@@ -1,5 +1,5 @@
 -- `&&` and `||`, whatever is wanted of them.
-use Rattle.std.proofs.Common.{◌≡◌, ◌≢◌, ℕ, suc, ◌+◌, ◌<◌, ◌≤◌, Bool, true, false, List, [], ◌∷◌, ◌++◌}
+use Rattle.std.proofs.Common.{◌≡◌, ◌≢◌, ℕ, suc, ◌+◌, ◌≤◌, Bool, true, false, List, [], ◌∷◌, ◌++◌}
 use Rattle.std.proofs.Common.{max, refl, sym, ◌∙◌, subst, arith, append-nil, append_assoc}
 use Rattle.std.proofs.Math.Nat.{le-max_left, le-max_right}
 use Rattle.std.specs.List.{Contains}
@@ -28,7 +28,7 @@ use Rattle.lower_programs.proofs.Going.{Goes, stand-back, stand-front}
 use Rattle.lower_programs.proofs.Leading.{IsTruth, LeadsTo, choose-leads, follows-lead, leads-behind}
 use Rattle.lower_programs.proofs.Leading.{leads-follow, leads-on, one-more, start-goes, start-there}
 use Rattle.lower_programs.proofs.Leading.{tests_place}
-use Rattle.lower_programs.proofs.Levels.{levels-one}
+use Rattle.lower_programs.proofs.Levels.{levels-one, levels-below}
 use Rattle.lower_programs.proofs.Pairs.{Falls}
 use Rattle.lower_programs.proofs.Stepping.{lowers-same}
 use Rattle.lower_programs.proofs.ExpressionConditions.{TestsSo, dropped-any, tests-fit}
@@ -164,9 +164,6 @@ first-room level i j top h = let m = le-max_left i j in omega (arith, h, m)
 second-room : (level i j top : ℕ) → level + max i j ≤ top → level + j ≤ top
 second-room level i j top h = let m = le-max_right i j in omega (arith, h, m)
 
-below : (level levels top : ℕ) → level + levels ≤ top → 1 ≤ levels → level < top
-below level levels top h one = omega (arith, h, one)
-
 both-fall : (i j k : ℕ) → i ≤ j → j ≤ k → i ≤ k
 both-fall i j k p q = omega (arith, p, q)
 
@@ -281,11 +278,11 @@ module _ (S : Site) (site : IsSite S) (a b : Part) (run run' : source.State → 
   and-fits older block level Own before s g stands room may begins =
       truth-fits S site older level (and_test a b level) (and_run run run') (and-tests older level room)
       (λ t. and-falls run' falls' t.turns (run t) (falls t)) (λ t. and-truth run' (run t)) block Own tt before s g
-      stands (below level a.levels _ (first-room level a.levels b.levels _ room) one) may begins
+      stands (levels-below level a.levels _ (first-room level a.levels b.levels _ room) one) may begins
   and-fits older block level (ToLocal k) before s g stands room may begins =
       truth-fits S site older level (and_test a b level) (and_run run run') (and-tests older level room)
       (λ t. and-falls run' falls' t.turns (run t) (falls t)) (λ t. and-truth run' (run t)) block (ToLocal k) tt before
-      s g stands (below level a.levels _ (first-room level a.levels b.levels _ room) one) may begins
+      s g stands (levels-below level a.levels _ (first-room level a.levels b.levels _ room) one) may begins
   and-fits older block level (Tests yes' no') before s g stands room may begins =
       tests-fit S older level (and_test a b level) (and_run run run') (and-tests older level room)
       (λ t. and-truth run' (run t)) block yes' no' before s g stands may begins
@@ -411,11 +408,11 @@ module _ (S : Site) (site : IsSite S) (a b : Part) (run run' : source.State → 
   or-fits older block level Own before s g stands room may begins =
       truth-fits S site older level (or_test a b level) (or_run run run') (or-tests older level room)
       (λ t. or-falls run' falls' t.turns (run t) (falls t)) (λ t. or-truth run' (run t)) block Own tt before s g
-      stands (below level a.levels _ (first-room level a.levels b.levels _ room) one) may begins
+      stands (levels-below level a.levels _ (first-room level a.levels b.levels _ room) one) may begins
   or-fits older block level (ToLocal k) before s g stands room may begins =
       truth-fits S site older level (or_test a b level) (or_run run run') (or-tests older level room)
       (λ t. or-falls run' falls' t.turns (run t) (falls t)) (λ t. or-truth run' (run t)) block (ToLocal k) tt before
-      s g stands (below level a.levels _ (first-room level a.levels b.levels _ room) one) may begins
+      s g stands (levels-below level a.levels _ (first-room level a.levels b.levels _ room) one) may begins
   or-fits older block level (Tests yes' no') before s g stands room may begins =
       tests-fit S older level (or_test a b level) (or_run run run') (or-tests older level room)
       (λ t. or-truth run' (run t)) block yes' no' before s g stands may begins

@@ -1,5 +1,5 @@
 -- A pointer that goes from one place to another, and a local that is a pointer, read whatever is wanted of it.
-use Rattle.std.proofs.Common.{◌≡◌, ◌≢◌, ◌⊎◌, ℕ, zero, suc, ◌+◌, ◌*◌, ◌<◌, ◌≤◌, ℤ, List, [], ◌∷◌, ◌++◌, length}
+use Rattle.std.proofs.Common.{◌≡◌, ◌≢◌, ◌⊎◌, ℕ, zero, suc, ◌+◌, ◌*◌, ◌<◌, ℤ, List, [], ◌∷◌, ◌++◌, length}
 use Rattle.std.proofs.Common.{Option, Some, refl, sym, ap, ◌∙◌, subst, arith, append-nil, inl, inr}
 use Rattle.std.specs.Prelude.{slice_get, IsSomeAnd}
 use Rattle.pcc_base.specs.Outcome.{ArrayName, Value, Number}
@@ -29,6 +29,7 @@ use Rattle.lower_programs.proofs.Indexing.{copy-goes}
 use Rattle.lower_programs.proofs.Making.{IsPointerLocal, MayHold, pointer-made, put}
 use Rattle.lower_programs.proofs.Testing.{pointer-tested}
 use Rattle.lower_programs.specs.PointersLaws.{PointersAreRead}
+use Rattle.lower_programs.proofs.Levels.{level-below}
 
 -- no pointer's variables begin within those of another
 pub starts-apart : (ls : List Local) (k j : ℕ) (l m : Local) → slice_get ls k ≡ Some l → slice_get ls j ≡ Some m
@@ -183,9 +184,6 @@ module _ (S : Site) (site : IsSite S) (older : List Function) (k : ℕ) (l : Loc
       (Pointer u) s g (Gives (held s k) s)) (sym spot-is)
       (λ here. at-spot block level wanted before s g here room may b) stands
 
-deeper : (level levels : ℕ) → level + 1 ≤ levels → level < levels
-deeper level levels h = omega (arith, h)
-
 stands-there : (S : Site) (k : ℕ) (l : Local) (t : IntegerType) → slice_get S.function.locals k ≡ Some l
     → l.of ≡ Pointer t
     → IsSomeAnd (slice_get S.function.locals k) (λ m. (m.of ≡ Pointer t) × GoesInto (Pointer t) m.of)
@@ -200,7 +198,7 @@ pointers-read S site k l t e of = record {
       (reading (context_of S) block level wanted (Pointer t) (local_spot (context_of S) k)) level wanted (Pointer t) s g
       (Gives (held s k) s)) begins.youngest
       (λ older b. reading-follows S site older k l t e of block level wanted before s g stands
-      (deeper level (levels_of S.function) room) may b) begins;
+      (level-below level (levels_of S.function) room) may b) begins;
   typed = λ active block level wanted before s g stands room may begins.
       with-older S.function active (λ calls. Begins S calls s g → GivesOf S.program calls (Pointer t)
       (Gives (held s k) s)) begins.youngest

@@ -1,5 +1,5 @@
 -- `putchar`, the end of a program, and the comma.
-use Rattle.std.proofs.Common.{◌≡◌, ℕ, suc, ◌+◌, ◌<◌, ◌≤◌, pos, List, [], ◌∷◌, ◌++◌, max}
+use Rattle.std.proofs.Common.{◌≡◌, ℕ, suc, ◌+◌, ◌≤◌, pos, List, [], ◌∷◌, ◌++◌, max}
 use Rattle.std.proofs.Common.{true, refl, sym, arith, append-nil}
 use Rattle.std.proofs.Math.Nat.{le-max_left, le-max_right}
 use Rattle.pcc_base.specs.Outcome.{Ended}
@@ -25,14 +25,11 @@ use Rattle.lower_lines.proofs.Steps.{exit-step, putchar-step}
 use Rattle.lower_programs.proofs.Binary.{compound-lowers, trap-ends, turns-fall}
 use Rattle.lower_programs.proofs.Converting.{behind-number, behind-part, lowers-fit}
 use Rattle.lower_programs.proofs.Going.{stand-back, stand-front}
-use Rattle.lower_programs.proofs.Levels.{levels-one}
+use Rattle.lower_programs.proofs.Levels.{levels-one, levels-below}
 use Rattle.lower_programs.proofs.Made.{number-made}
 use Rattle.lower_programs.proofs.Operands.{number-operand}
 use Rattle.lower_programs.proofs.Pairs.{Falls}
 use Rattle.lower_programs.specs.ExpressionsLaws.{CommasLower, ExitsLower, PutcharsLower}
-
-deeper : (level levels top : ℕ) → level + levels ≤ top → 1 ≤ levels → level < top
-deeper level levels top h one = omega (arith, h, one)
 
 -- ---- `putchar`
 
@@ -62,7 +59,7 @@ putchar-lowers S site a run u la of one falls =
           (record t { written = t.written ++ low_byte (HoldsNumber n) ∷ [] }) h
           (record h { written = h.written ++ low_byte (HoldsNumber n) ∷ [] }) (pos (low_byte (HoldsNumber n))) []
           (λ to. Emit (op.Putchar to.number (x.spot level).number) ∷ [])
-          (deeper level a.levels (levels_of S.function) room one)
+          (levels-below level a.levels (levels_of S.function) room one)
           (bytes-written S.program (S.function ∷ older) t h (low_byte (HoldsNumber n)) begins.shows) begins.function
           (written-kept (local_variables S.function) level h (h.written ++ low_byte (HoldsNumber n) ∷ []))
           (sym (append-nil t.visits))

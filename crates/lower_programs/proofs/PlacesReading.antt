@@ -32,14 +32,11 @@ use Rattle.lower_lines.proofs.Steps.{get-step}
 use Rattle.lower_programs.proofs.Atoms.{with-older}
 use Rattle.lower_programs.proofs.Binary.{Fits, compound-lowers}
 use Rattle.lower_programs.proofs.Going.{Goes, goes-end, stand-back, stand-front}
-use Rattle.lower_programs.proofs.Levels.{levels-one}
+use Rattle.lower_programs.proofs.Levels.{levels-one, levels-below, level-below}
 use Rattle.lower_programs.proofs.Made.{number-made, some-and}
 use Rattle.lower_programs.proofs.Unary.{follows-behind}
 use Rattle.lower_programs.proofs.Accesses.{element-loads, load-trapped}
 use Rattle.lower_programs.specs.PlacesLaws.{ElementsAreRead, ObjectsAreRead, TargetsAreRead, TargetsFollow}
-
-deeper : (level levels top : ℕ) → level + levels ≤ top → 1 ≤ levels → level < top
-deeper level levels top h one = omega (arith, h, one)
 
 -- a trap of the graphs is one of the source
 pub trap-ends : (S : Site) (active : List Function) (u : source.State) (h : graph.State) (before : List Line)
@@ -126,7 +123,7 @@ elements-read S site t a run follows one =
     compound-lowers S (read_part (context_of S) (Integer t) (AtAddress t a)) _ refl refl
     (λ older block level wanted before s g stands room may b.
     place-fits S site older t before (a.lines true block level) (block + a.blocks) level wanted (a.spot true level) s g
-    (run s) stands (deeper level a.levels (levels_of S.function) room one) may b
+    (run s) stands (levels-below level a.levels (levels_of S.function) room one) may b
     (follows (S.function ∷ older) true block level before s g
     (stand-front S before (a.lines true block level) _ stands) room b))
 
@@ -283,9 +280,6 @@ object-alone S older k o s g e one b =
     let (n, there) = object-read S older k o s g e one b.shows in
     subst (λ (m : Option ℤ). GivesAlone s (element_read s m)) (sym there) refl
 
-single : (level levels : ℕ) → level + 1 ≤ levels → level < levels
-single level levels h = omega (arith, h)
-
 pub objects-read : ObjectsAreRead
 objects-read S site k o e one = record {
   follows = λ active block level wanted before s g stands room may begins.
@@ -293,12 +287,12 @@ objects-read S site k o e one = record {
       ((object_part (context_of S) o.element k).lines block level wanted) level wanted (Integer o.element) s g
       (load (InObject k) s)) begins.youngest
       (λ older b. (object-fits S site older k o e one block level wanted before s g stands
-      (single level (levels_of S.function) room) may b).0) begins;
+      (level-below level (levels_of S.function) room) may b).0) begins;
   typed = λ active block level wanted before s g stands room may begins.
       with-older S.function active (λ calls. Begins S calls s g → GivesOf S.program calls (Integer o.element)
       (load (InObject k) s)) begins.youngest
       (λ older b. (object-fits S site older k o e one block level wanted before s g stands
-      (single level (levels_of S.function) room) may b).1) begins;
+      (level-below level (levels_of S.function) room) may b).1) begins;
   simple = λ same active s g begins.
       with-older S.function active (λ calls. Begins S calls s g → GivesAlone s (load (InObject k) s)) begins.youngest
       (λ older b. object-alone S older k o s g e one b) begins;

@@ -1,7 +1,6 @@
 -- A pointer that is delivered where it is wanted, and `++` and `--` of locals that are pointers.
 use Rattle.std.proofs.Common.{◌≡◌, ℕ, suc, ◌+◌, ◌<◌, ◌≤◌, ℤ, pos, List, [], ◌∷◌, ◌++◌, max, Some, inl, refl, sym}
 use Rattle.std.proofs.Common.{◌∙◌, subst, arith, append-nil}
-use Rattle.std.proofs.Math.Nat.{le-max_left, le-max_right}
 use Rattle.std.specs.Prelude.{slice_get}
 use Rattle.pcc_base.specs.Outcome.{ArrayName}
 use Rattle.c_tree.specs.declared.expression.StepOp.{StepOp}
@@ -38,6 +37,7 @@ use Rattle.lower_programs.proofs.Summing.{index-apart, scratch-apart}
 use Rattle.lower_programs.proofs.Testing.{pointer-tested}
 use Rattle.lower_programs.proofs.PointersUpdating.{update-lowers, updating}
 use Rattle.lower_programs.specs.PointersLaws.{PointersAreStepped}
+use Rattle.lower_programs.proofs.Levels.{first-room, second-room}
 
 -- ---- a pointer that stands somewhere
 
@@ -103,12 +103,6 @@ new_given t operator k s = updated (Pointer t) (step_op operator) (InLocal k) (h
 -- lines after which an old value is given in place of the new one
 abbrev old_given : IntegerType → StepOp → ℕ → Held → source.State → Evaluated Held
 old_given t operator k v s = and_then (new_given t operator k s) (λ new u. Gives v u)
-
-first-room : (level i j top : ℕ) → level + max i (suc j) ≤ top → level + i ≤ top
-first-room level i j top h = let m = le-max_left i (suc j) in omega (arith, h, m)
-
-second-room : (level i j top : ℕ) → level + max i (suc j) ≤ top → suc level + j ≤ top
-second-room level i j top h = let m = le-max_right i (suc j) in omega (arith, h, m)
 
 same-room : (level j top : ℕ) → suc level + j ≤ top → level + j ≤ top
 same-room level j top h = omega (arith, h)

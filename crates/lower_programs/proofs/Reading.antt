@@ -36,6 +36,7 @@ use Rattle.lower_programs.proofs.Going.{Goes, stand-back, stand-front}
 use Rattle.lower_programs.proofs.Made.{number-made, start-stands, variable-there}
 use Rattle.lower_programs.proofs.Widths.{temporary-width}
 use Rattle.lower_programs.specs.ExpressionsLaws.{LocalsLower}
+use Rattle.lower_programs.proofs.Levels.{level-below}
 
 -- what is there already changes nothing
 set-same : {X : Type 0} (xs : List X) (i : ℕ) (x : X) → slice_get xs i ≡ Some x → slice_set xs i x ≡ xs
@@ -197,9 +198,6 @@ stands-there S k l t e of into =
     subst (λ (o : Option Local). IsSomeAnd o (λ m. (m.of ≡ Integer t) × GoesInto (Integer t) m.of)) (sym e)
     (of, subst (λ (m : ValueType). GoesInto (Integer t) m) (sym of) into)
 
-deeper : (level levels : ℕ) → level + 1 ≤ levels → level < levels
-deeper level levels h = omega (arith, h)
-
 typed-local : (S : Site) (k : ℕ) (l : Local) (t : IntegerType) → slice_get S.function.locals k ≡ Some l
     → l.of ≡ Integer t → (active : List Function) (s : source.State) (g : graph.State) → Begins S active s g
     → GivesOf S.program active (Integer t) (Gives (held s k) s)
@@ -222,7 +220,7 @@ read-local S site k l t e of active block level wanted before s g stands room ma
     (reading (context_of S) block level wanted (Integer t) (local_spot (context_of S) k)) level wanted (Integer t) s g
     (Gives (held s k) s)) begins.youngest
     (λ older b. reading-follows S site older k l t e of block level wanted before s g stands
-    (deeper level (levels_of S.function) room) may b) begins
+    (level-below level (levels_of S.function) room) may b) begins
 
 pub locals-lower : LocalsLower
 locals-lower S site k l Char e of wide = absurd (wide refl)

@@ -1,5 +1,5 @@
 -- The name of an array as a value.
-use Rattle.std.proofs.Common.{◌≡◌, ℕ, ◌+◌, ◌<◌, ◌≤◌, pos, List, [], ◌∷◌, ◌++◌, refl, sym, subst, arith}
+use Rattle.std.proofs.Common.{◌≡◌, ℕ, pos, List, [], ◌∷◌, ◌++◌, refl, sym, subst}
 use Rattle.std.proofs.Common.{append-nil, append_assoc}
 use Rattle.pcc_base.specs.Outcome.{ArrayName, Number}
 use Rattle.c_tree.specs.declared.expression.ArrayRef.{ArrayRef}
@@ -23,6 +23,7 @@ use Rattle.lower_programs.proofs.Naming.{names-alike}
 use Rattle.lower_programs.specs.PlacesLaws.{named}
 use Rattle.lower_programs.proofs.Making.{MayHold, pointer-made, put}
 use Rattle.lower_programs.specs.PointersLaws.{StartsLower}
+use Rattle.lower_programs.proofs.Levels.{level-below}
 
 abbrev start_lines : ArrayRef → Spot → List Line
 start_lines array to = array_line array to.array ∷ Emit (op.Const to.number (pos 0)) ∷ []
@@ -53,9 +54,6 @@ start-goes S site before g (refs.Frame k) turns level to fits takes stands o r =
     (index-goes S site before (Emit (op.Frame to.array k))
     (with_value to.array (array_value (named g (refs.Frame k))) g) 0 turns o level to fits takes stands r)
 
-deeper : (level levels : ℕ) → level + 1 ≤ levels → level < levels
-deeper level levels h = omega (arith, h)
-
 pub starts-lower : StartsLower
 starts-lower S site t array of = record {
   follows = λ active block level wanted before s g stands room may begins.
@@ -68,7 +66,7 @@ starts-lower S site t array of = record {
       ((start_part (context_of S) t array).lines block level wanted) level wanted (Pointer t) s g
       (Gives (HoldsPointer a (pos 0)) s)) (sym same)
       (pointer-made S site older level before s s g g t (named g array) (pos 0) [] (start_lines array)
-      (deeper level (levels_of S.function) room) b.shows b.function
+      (level-below level (levels_of S.function) room) b.shows b.function
       (kept-none (local_variables S.function) level g) (sym (append-nil s.visits))
       (subst (λ (a : ArrayName). IsArrayOf S.program (S.function ∷ older) t a) same is)
       (λ to takes here. start-goes S site before g array s.turns level to b.function takes here) block wanted stands

@@ -28,7 +28,7 @@ use Rattle.lower_programs.proofs.Assigning.{held-set}
 use Rattle.lower_programs.proofs.Binary.{Fits, compound-lowers, turns-fall}
 use Rattle.lower_programs.proofs.Converting.{as_type, behind-part, lowers-fit}
 use Rattle.lower_programs.proofs.Going.{Goes, stand-back, stand-front}
-use Rattle.lower_programs.proofs.Levels.{levels-one}
+use Rattle.lower_programs.proofs.Levels.{levels-one, levels-below}
 use Rattle.lower_programs.proofs.Made.{start-stands}
 use Rattle.lower_programs.proofs.Pairs.{Falls}
 use Rattle.lower_programs.proofs.Making.{MayHold, pointer-made, put}
@@ -98,9 +98,6 @@ null-fits S site older t level (Tests yes' no') before s g stands room may b =
 
 -- ---- a value that goes to a pointer
 
-deeper : (level levels top : ℕ) → level + levels ≤ top → 1 ≤ levels → level < top
-deeper level levels top h one = omega (arith, h, one)
-
 same-part : (S : Site) (t : IntegerType) (of : ValueType) (a : Part) → of ≡ Pointer t
     → as_pointer (context_of S) t of a ≡ a
 same-part S t of a e =
@@ -139,7 +136,7 @@ module _ (S : Site) (site : IsSite S) (older : List Function) (t : IntegerType) 
       rest (HoldsNumber n) w h typed begins =
           null-fits S site older t level wanted (before ++ a.lines block level Dropped) w h
           (stand-back S before (a.lines block level Dropped) (null_lines (context_of S) level wanted) stands)
-          (deeper level a.levels (levels_of S.function) room one) may begins
+          (levels-below level a.levels (levels_of S.function) room one) may begins
       rest (HoldsPointer array index) w h typed begins = absurd typed
 
   pointer-fits : a.of ≡ Pointer t → Fit a

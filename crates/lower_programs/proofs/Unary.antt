@@ -1,6 +1,6 @@
 -- Lines behind others, and the operators on one number.
 use Rattle.std.proofs.Common.{◌≡◌, ℕ, ◌+◌, ◌<◌, ◌≤◌, true, false, ℤ, neg_ℤ, List, [], ◌∷◌, ◌++◌}
-use Rattle.std.proofs.Common.{None, refl, sym, ap, ◌∙◌, subst, arith, append_assoc, append-nil}
+use Rattle.std.proofs.Common.{None, refl, sym, ap, ◌∙◌, subst, append_assoc, append-nil}
 use Rattle.std.specs.Int.{w32, int_wrap, int_bit_not}
 use Rattle.pcc_base.specs.Outcome.{Visit}
 use Rattle.c_tree.specs.declared.expression.UnaryOp.TheVariants.{Minus, Complement}
@@ -30,7 +30,7 @@ use Rattle.lower_lines.proofs.Changes.{kept-none, kept-twice}
 use Rattle.lower_lines.proofs.Steps.{one-step}
 use Rattle.lower_programs.proofs.Atoms.{with-older}
 use Rattle.lower_programs.proofs.Going.{Goes, goes-end, goes-then, stand-back, stand-front}
-use Rattle.lower_programs.proofs.Levels.{levels-one}
+use Rattle.lower_programs.proofs.Levels.{levels-one, levels-below}
 use Rattle.lower_programs.proofs.Made.{number-made}
 use Rattle.lower_programs.proofs.Operands.{NumberStands, number-operand}
 use Rattle.lower_programs.specs.ExpressionsLaws.{ComplementsLower, MinusesLower}
@@ -95,9 +95,6 @@ op-typed : (S : Site) (active : List Function) (f : Held → Held) (r : Evaluate
 op-typed S active f (Gives v t) all = all v
 op-typed S active f (Ends end t) all = tt
 
-high-enough : (level levels top : ℕ) → level + levels ≤ top → 1 ≤ levels → level < top
-high-enough level levels top h one = omega (arith, h, one)
-
 -- an op on a number does what the source's operator does
 pub op-lowers : (S : Site) (site : IsSite S) (made_by : ℕ → ℕ → Op) (f : Held → Held) (fz : ℤ → ℤ) (a : Part)
     (run : source.State → Evaluated Held) (u : IntegerType) → Lowers S a run → a.of ≡ Integer u → 1 ≤ a.levels
@@ -114,7 +111,7 @@ op-lowers S site made_by f fz a run u lowers of deep does kind value typed = rec
       (and_then (run s) (λ v t. Gives (f v) t))) begins.youngest
       (λ older b. op-follows S site older made_by f fz before ((operand (context_of S) true a).lines block level)
       (block + (operand (context_of S) true a).blocks) level wanted ((operand (context_of S) true a).spot level) s g
-      (run s) does kind value stands (high-enough level a.levels (levels_of S.function) room deep) may b
+      (run s) does kind value stands (levels-below level a.levels (levels_of S.function) room deep) may b
       (number-operand S older a run u lowers of block level before s g
       (stand-front S before ((operand (context_of S) true a).lines block level)
       (made (context_of S) (block + (operand (context_of S) true a).blocks) level wanted int

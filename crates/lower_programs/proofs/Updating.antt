@@ -1,7 +1,7 @@
 -- Static objects that are assigned to with an operator, and `++` and `--` of them.
 use Rattle.std.proofs.Common.{◌≡◌, ℕ, suc, ◌+◌, ◌≤◌, ◌<◌, max, ℤ, pos, List, ◌∷◌, ◌++◌, length, Some, refl, sym}
 use Rattle.std.proofs.Common.{ap, ◌∙◌, subst, arith, inl}
-use Rattle.std.proofs.Math.Nat.{le-max_left, le-max_right}
+use Rattle.std.proofs.Math.Nat.{le-max_right}
 use Rattle.std.specs.Prelude.{slice_get}
 use Rattle.c_eval_laws.specs.Bounds.{state_of}
 use Rattle.c_tree.specs.declared.expression.BinaryOp.{BinaryOp}
@@ -30,7 +30,7 @@ use Rattle.lower_programs.proofs.Atoms.{constants-lower}
 use Rattle.lower_programs.proofs.Binary.{Fits, after_both, binary-lowers, compound-lowers, turns-fall}
 use Rattle.lower_programs.proofs.Converting.{begins-again, lowers-fit}
 use Rattle.lower_programs.proofs.Going.{stand-back, stand-front}
-use Rattle.lower_programs.proofs.Levels.{max-behind}
+use Rattle.lower_programs.proofs.Levels.{max-behind, first-room, second-room}
 use Rattle.lower_programs.proofs.Pairs.{own-stays}
 use Rattle.lower_programs.proofs.Stepping.{delivered-fits, lowers-same}
 use Rattle.lower_programs.proofs.Unary.{follows-behind}
@@ -73,13 +73,6 @@ both-falls operator (Ends end t) run n falls h = h
 keep-new : (r : Evaluated Held) → r ≡ and_then r (λ v t. Gives v t)
 keep-new (Gives v t) = refl
 keep-new (Ends end t) = refl
-
--- levels of both parts of a step
-first : (level i j top : ℕ) → level + max i (suc j) ≤ top → level + i ≤ top
-first level i j top h = let m = le-max_left i (suc j) in omega (arith, h, m)
-
-second : (level i j top : ℕ) → level + max i (suc j) ≤ top → suc level + j ≤ top
-second level i j top h = let m = le-max_right i (suc j) in omega (arith, h, m)
 
 -- ---- an object
 
@@ -250,11 +243,11 @@ module _ (S : Site) (site : IsSite S) (k : ℕ) (o : StaticObject) (e : slice_ge
         level wanted (Integer t) s g (and_then (new_given (HoldsNumber n) s) (λ new u. Gives (HoldsNumber n) u))
     taken older block level wanted before s g n given stands room may b =
         by-after older block level wanted before s g n given stands
-        (second level name.levels update.levels (levels_of S.function) room) may b
+        (second-room level name.levels update.levels (levels_of S.function) room) may b
         (name-fits older block level before s g n given (stand-front S before (name.lines block level Own)
         (update.lines block (suc level) Dropped
         ++ delivered (context_of S) (block + update.blocks Dropped) level wanted (Integer t) (own (context_of S) level))
-        stands) (first level name.levels update.levels (levels_of S.function) room) b)
+        stands) (first-room level name.levels update.levels (levels_of S.function) room) b)
 
     old-fits : (older : List Function) (block level : ℕ) (wanted : Wanted) (before : List Line) (s : source.State)
         (g : graph.State) (n : ℤ) → load (InObject k) s ≡ Gives (HoldsNumber n) s

@@ -1,7 +1,6 @@
 -- Arguments of any type, as their parameters take them: each stays in its variables through those behind it.
 use Rattle.std.proofs.Common.{◌≡◌, ◌≢◌, ℕ, suc, ◌+◌, ◌≤◌, Bool, true, false, List, [], ◌∷◌, ◌++◌, map, max}
 use Rattle.std.proofs.Common.{inr, refl, sym, ap, ◌∙◌, subst, arith, append-nil, append_assoc}
-use Rattle.std.proofs.Math.Nat.{le-max_left, le-max_right}
 use Rattle.std.proofs.lemmas.Bool.{and_parts}
 use Rattle.c_eval_laws.specs.Bounds.{state_of}
 use Rattle.c_tree.specs.declared.types.IntegerType.{IntegerType}
@@ -30,6 +29,7 @@ use Rattle.lower_programs.proofs.Pairs.{Falls, goes-both}
 use Rattle.lower_programs.proofs.Storing.{pointers-convert}
 use Rattle.lower_programs.proofs.Standing.{Stays, operand-stays}
 use Rattle.lower_programs.specs.WholeLaws.{AllArgumentsPass, ArePassed, Does}
+use Rattle.lower_programs.proofs.Levels.{first-room, second-room}
 
 -- ---- one argument
 
@@ -161,12 +161,6 @@ alone-state : (s t : source.State) (values : List Held) (r : Evaluated (List Hel
 alone-state s t values (Gives others u) alone e = sym (cc) ∙ alone
 alone-state s t values (Ends end u) alone e = absurd alone
 
-deeper : (level i j top : ℕ) → level + max i (suc j) ≤ top → suc level + j ≤ top
-deeper level i j top h = let m = le-max_right i (suc j) in omega (arith, h, m)
-
-higher : (level i j top : ℕ) → level + max i (suc j) ≤ top → level + i ≤ top
-higher level i j top h = let m = le-max_left i (suc j) in omega (arith, h, m)
-
 module _ (S : Site) (l : Local) (a : Part) (run : source.State → Evaluated Held) (one : PassesOne S l.of a run)
     (falls : Falls run) (ls : List Local) (parts : List Part) (others : source.State → Evaluated (List Held))
     (rest : Passes S ls parts others) where
@@ -196,7 +190,7 @@ module _ (S : Site) (l : Local) (a : Part) (run : source.State → Evaluated Hel
       by (others t) refl
       (rest.follows older (block + (operand (context_of S) (all_simple parts) a).blocks) (suc level)
       (before ++ first block level) t h (stand-back S before (first block level) (behind_first block level) stands)
-      (deeper level a.levels (arguments_levels parts) (levels_of S.function) room)
+      (second-room level a.levels (arguments_levels parts) (levels_of S.function) room)
       (begins-again S older s t g h level b shows keeps fall))
     where
       by : (r : Evaluated (List Held)) → others t ≡ r
@@ -237,7 +231,7 @@ module _ (S : Site) (l : Local) (a : Part) (run : source.State → Evaluated Hel
       by (run s) (falls s)
       (one.stays older (all_simple parts) block level before s g
       (stand-front S before (first block level) (behind_first block level) stands)
-      (higher level a.levels (arguments_levels parts) (levels_of S.function) room) b)
+      (first-room level a.levels (arguments_levels parts) (levels_of S.function) room) b)
     where
       by : (r : Evaluated Held) → (state_of r).turns ≤ s.turns
           → Stays S (S.function ∷ older) (all_simple parts) before (first block level) level a.of (spot level) s g

@@ -1,6 +1,6 @@
 -- Elements of arrays and static objects that numbers are assigned to.
 use Rattle.std.proofs.Common.{◌≡◌, ◌≢◌, ℕ, ◌+◌, ◌<◌, ◌≤◌, Bool, true, false, ℤ, pos, List, [], ◌∷◌, ◌++◌}
-use Rattle.std.proofs.Common.{length, Option, Some, None, refl, sym, ap, ◌∙◌, subst, arith, append-nil}
+use Rattle.std.proofs.Common.{length, Option, Some, None, refl, sym, ap, ◌∙◌, subst, append-nil}
 use Rattle.std.specs.Prelude.{slice_get, IsSomeAnd, ◌==◌}
 use Rattle.pcc_base.specs.Outcome.{ArrayName, Null, Static, InFrame, Unknown}
 use Rattle.c_eval_laws.specs.Bounds.{state_of}
@@ -33,7 +33,7 @@ use Rattle.lower_lines.proofs.Steps.{put-step}
 use Rattle.lower_programs.proofs.Binary.{Fits, compound-lowers, turns-fall, works-follow}
 use Rattle.lower_programs.proofs.Converting.{behind-number, converting-works}
 use Rattle.lower_programs.proofs.Going.{stand-back, stand-front}
-use Rattle.lower_programs.proofs.Levels.{levels-one}
+use Rattle.lower_programs.proofs.Levels.{levels-one, levels-below}
 use Rattle.lower_programs.proofs.Operands.{number-operand}
 use Rattle.lower_programs.proofs.Unary.{follows-behind}
 use Rattle.lower_programs.proofs.Accesses.{element-stores, store-trapped, stored-is, stored-shows, with_stored}
@@ -165,9 +165,6 @@ module _ (S : Site) (site : IsSite S) (older : List Function) (t : IntegerType) 
 
 -- ---- static objects
 
-deeper : (level levels top : ℕ) → level + levels ≤ top → 1 ≤ levels → level < top
-deeper level levels top h one = omega (arith, h, one)
-
 module _ (S : Site) (site : IsSite S) (older : List Function) (k : ℕ) (o : StaticObject)
     (e : slice_get S.program.objects k ≡ Some o) (one : length o.elements ≡ 1) (before : List Line)
     (u : source.State) (h : graph.State) (begins : Begins S (S.function ∷ older) u h) (level x : ℕ) (n : ℤ)
@@ -250,7 +247,7 @@ object-assigned S site k o e one a run w lowers of falls some =
     (λ n t h at begins. put-fits S site older k o e one (before ++ (operand (context_of S) true a).lines block level)
     t h
     begins level ((operand (context_of S) true a).spot level).number n at
-    (deeper level a.levels (levels_of S.function) room some)
+    (levels-below level a.levels (levels_of S.function) room some)
     (block + (operand (context_of S) true a).blocks) wanted may
     (stand-back S before ((operand (context_of S) true a).lines block level) _ stands)))
 
