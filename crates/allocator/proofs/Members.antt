@@ -1,5 +1,5 @@
 -- Which pieces a point has, and which variables stand on its sides.
-use Rattle.std.proofs.Common.{ℕ, zero, suc, ◌≡◌, ◌⊎◌, inl, inr, Bool, true, false, ◌&&◌, not}
+use Rattle.std.proofs.Common.{ℕ, zero, suc, ◌≡◌, ◌⊎◌, inl, inr, Bool, true, false, ◌&&◌, not, true≢false}
 use Rattle.std.proofs.Common.{List, [], ◌∷◌, ◌++◌, Option, Some, None, refl, sym, ap, subst, ◌∙◌}
 use Rattle.std.specs.Prelude.{slice_get}
 use Rattle.std.proofs.lemmas.Option.{none-some, same_Some}
@@ -13,7 +13,7 @@ use Rattle.puzzle_board.specs.declared.piece.Piece.{Piece}
 use Rattle.elementary_form.specs.Names.{is_named}
 use Rattle.allocator_boards.specs.PointBoards.{fixed_result, fixed_use, fixed_variable, if_so, piece_of, pieces_of_all}
 use Rattle.allocator_boards.specs.PointBoards.{pieces_of_variable, point_pieces, use_kind, with_result}
-use Rattle.elementary_form.proofs.Naming.{equal-test, in-test, true-false}
+use Rattle.elementary_form.proofs.Naming.{equal-test, in-test}
 use Rattle.allocator_boards.proofs.OneMore.{in-one, in-one-old, in-one-self}
 
 -- ---- members by number
@@ -48,12 +48,12 @@ has-if false q p (k, e) = absurd (none-some p e)
 
 if-has : (b : Bool) (q : Piece) → b ≡ true → Has (if_so b q) q
 if-has true q e = (0, refl)
-if-has false q e = absurd (true-false (sym e))
+if-has false q e = absurd (true≢false (sym e))
 
 both-true : (b c : Bool) → (b && not c) ≡ true → (b ≡ true) × (c ≡ false)
-both-true true true e = absurd (true-false (sym e))
+both-true true true e = absurd (true≢false (sym e))
 both-true true false e = (refl, refl)
-both-true false c e = absurd (true-false (sym e))
+both-true false c e = absurd (true≢false (sym e))
 
 true-both : (b c : Bool) → b ≡ true → c ≡ false → (b && not c) ≡ true
 true-both b c e f = ap (λ (x : Bool). x && not c) e ∙ ap (λ (x : Bool). not x) f
@@ -133,7 +133,7 @@ module _ (flow : Flow) (lives : Lives) (point : ℕ) (op : Op) where
   in-result (Some d) vs v i = in-one-old v d vs i
 
   named-result : (d : Option ℕ) (vs : List ℕ) (v : ℕ) → is_named d v ≡ true → IsIn v (with_result d vs)
-  named-result None vs v e = absurd (true-false (sym e))
+  named-result None vs v e = absurd (true≢false (sym e))
   named-result (Some d) vs v e = subst (λ (w : ℕ). IsIn w (with_result (Some d) vs)) (eqb-true d v e) (in-one-self d vs)
 
   -- what is live before, and not fixed, has a piece
@@ -166,14 +166,14 @@ result-in (Some d) vs v i = elim (in-one v d vs i) [ inl e ↦ inl (equal-test d
 
 pub in-with-result : (d : Option ℕ) (vs : List ℕ) (v : ℕ) → (is_named d v ≡ true) ⊎ IsIn v vs
     → IsIn v (with_result d vs)
-in-with-result None vs v (inl e) = absurd (true-false (sym e))
+in-with-result None vs v (inl e) = absurd (true≢false (sym e))
 in-with-result None vs v (inr i) = i
 in-with-result (Some d) vs v (inl e) =
     subst (λ (w : ℕ). IsIn w (with_result (Some d) vs)) (eqb-true d v e) (in-one-self d vs)
 in-with-result (Some d) vs v (inr i) = in-one-old v d vs i
 
 pub named-some : (o : Option ℕ) (v : ℕ) → is_named o v ≡ true → o ≡ Some v
-named-some None v e = absurd (true-false (sym e))
+named-some None v e = absurd (true≢false (sym e))
 named-some (Some w) v e = ap Some (eqb-true w v e)
 
 pub some-named : (o : Option ℕ) (v : ℕ) → o ≡ Some v → is_named o v ≡ true

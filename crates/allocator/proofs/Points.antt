@@ -1,5 +1,5 @@
 -- A point is legal once its pieces and fixed pieces are put where its solution has them.
-use Rattle.std.proofs.Common.{ℕ, ℤ, zero, suc, ◌≡◌, ◌≢◌, ◌<◌, ◌≤◌, ◌⊎◌, inl, inr, Bool, true, false, cond}
+use Rattle.std.proofs.Common.{ℕ, ℤ, zero, suc, ◌≡◌, ◌≢◌, ◌<◌, ◌≤◌, ◌⊎◌, inl, inr, Bool, true, false, cond, true≢false}
 use Rattle.std.proofs.Common.{◌&&◌, List, [], ◌∷◌, ◌++◌, length, Option, Some, None, refl, sym, ap, subst}
 use Rattle.std.proofs.Common.{arith, ◌∙◌}
 use Rattle.std.specs.Prelude.{option_map, slice_get}
@@ -26,7 +26,7 @@ use Rattle.allocator_boards.specs.PointBoards.{point_pieces, use_kind, with_resu
 use Rattle.allocator_boards.specs.PointMaps.{InSlot, IsLegalPoint, SpilledInSlots, both_cells, cells_of, place_after}
 use Rattle.allocator_boards.specs.PointMaps.{place_before, same_columns, same_spot, spot_on, standing_at, standings_of}
 use Rattle.allocator_boards.specs.PointMaps.{unspilled}
-use Rattle.elementary_form.proofs.Naming.{equal-test, in-test, test-in, true-false}
+use Rattle.elementary_form.proofs.Naming.{equal-test, in-test, test-in}
 use Rattle.allocator_boards.specs.PointPuzzles.{pair_of}
 use Rattle.allocator_boards.proofs.Fixing.{fixed-defined, fixed-dies, fixed-used}
 use Rattle.allocator_boards.proofs.OneMore.{ascending-result}
@@ -51,7 +51,7 @@ fixed-beside :
 fixed-beside None entries v other = refl
 fixed-beside (Some f) entries v other =
     place-other entries f.variable v (Cells f.spot)
-    (λ e. true-false (sym (equal-test f.variable v (sym e)) ∙ other))
+    (λ e. true≢false (sym (equal-test f.variable v (sym e)) ∙ other))
 
 fixed-here :
     (o : Option Fixed) (entries : List Entry) (f : Fixed) → o ≡ Some f
@@ -77,7 +77,7 @@ fixed-found (Some f) entries v place e = by (cases_eq v f.variable)
 
 fixed-of : (o : Option Fixed) (v : ℕ) → is_named (fixed_variable o) v ≡ true
     → (f : Fixed) × (o ≡ Some f) × (f.variable ≡ v)
-fixed-of None v e = absurd (true-false (sym e))
+fixed-of None v e = absurd (true≢false (sym e))
 fixed-of (Some f) v e = (f, refl, same_Some f.variable v (named-some (Some f.variable) v e))
 
 two-tests : (b : Bool) → (b ≡ true) ⊎ (b ≡ false)
@@ -87,14 +87,14 @@ two-tests false = inr refl
 -- ---- kinds
 
 live-through : (a d : Bool) → is_lower (use_kind a d) ≡ true → (a ≡ true) × (d ≡ false)
-live-through true true e = absurd (true-false (sym e))
+live-through true true e = absurd (true≢false (sym e))
 live-through true false e = (refl, refl)
-live-through false d e = absurd (true-false (sym e))
+live-through false d e = absurd (true≢false (sym e))
 
 through : (a d : Bool) → a ≡ true → d ≡ false → is_lower (use_kind a d) ≡ true
 through true false e f = refl
-through true true e f = absurd (true-false f)
-through false d e f = absurd (true-false (sym e))
+through true true e f = absurd (true≢false f)
+through false d e f = absurd (true≢false (sym e))
 
 use-upper : (a d : Bool) → is_upper (use_kind a d) ≡ true
 use-upper true true = refl
@@ -190,7 +190,7 @@ module _
             ap (λ (w : ℕ). is_named (fixed_variable (fixed_use op)) w) (sym named) ∙ free,
           )
       by (v, inr (d, free, same)) =
-          absurd (true-false (sym on ∙ ap (λ (q : Piece). is_upper q.kind) (sym same)))
+          absurd (true≢false (sym on ∙ ap (λ (q : Piece). is_upper q.kind) (sym same)))
 
   lower-live : (p : Piece) → Has pieces p → is_lower p.kind ≡ true
       → IsIn p.var (with_result (defined op) (at_point lives.after point))
@@ -203,7 +203,7 @@ module _
       not-fixed v true e free =
           let (f, is, named) = fixed-of (fixed_result op) v e in
           let made = some-named (defined op) v (fixed-defined op f is ∙ ap Some named) in
-          absurd (true-false (sym made ∙ free))
+          absurd (true≢false (sym made ∙ free))
 
       by : (v : ℕ) × (IsUse flow lives point op p v ⊎ IsMade flow lives point op p v)
           → IsIn p.var (with_result (defined op) (at_point lives.after point))
@@ -321,7 +321,7 @@ module _
       undefined : IsDefinedAt flow v point → ⊥
       undefined (its, there, makes) =
           let same : op ≡ its = same_Some op its (sym has ∙ there) in
-          true-false (sym (some-named (defined op) v (ap defined same ∙ makes)) ∙ free)
+          true≢false (sym (some-named (defined op) v (ap defined same ∙ makes)) ∙ free)
 
   over-free : (v : ℕ) → IsIn v (at_point lives.after point) → is_named (fixed_variable (fixed_use op)) v ≡ false
   over-free v i = by (two-tests (is_named (fixed_variable (fixed_use op)) v))
@@ -356,7 +356,7 @@ module _
       by : (is_named (defined op) v ≡ true) ⊎ (is_named (defined op) v ≡ false)
           → (is_named (defined op) v ≡ true) ⊎ IsIn v (at_point lives.after point) → IsIn v (names_of all-after)
       by (inl d) h = made-after v d (two-tests (is_named (fixed_variable (fixed_result op)) v))
-      by (inr free) (inl d) = absurd (true-false (sym d ∙ free))
+      by (inr free) (inl d) = absurd (true≢false (sym d ∙ free))
       by (inr free) (inr later) =
           let (k, at) = use-there flow lives point op v (live-over v later free) (over-free v later) in
           let p = piece_of flow (use_kind (has_point v (at_point lives.after point)) (is_named (defined op) v)) v in

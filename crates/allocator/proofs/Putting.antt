@@ -1,5 +1,5 @@
 -- Pieces are put on the sides of a point.
-use Rattle.std.proofs.Common.{ℕ, ◌≡◌, ◌≢◌, ◌<◌, ◌+◌, ◌↔◌, ◌⊎◌, inl, inr, Bool, true, false, cond, ltb}
+use Rattle.std.proofs.Common.{ℕ, ◌≡◌, ◌≢◌, ◌<◌, ◌+◌, ◌↔◌, ◌⊎◌, inl, inr, Bool, true, false, cond, ltb, true≢false}
 use Rattle.std.proofs.Common.{◌==◌, List, [], ◌∷◌, length, map, get_or, Option, Some, None, refl, sym, ap, subst}
 use Rattle.std.proofs.Common.{arith, ◌∙◌}
 use Rattle.std.specs.Prelude.{slice_get}
@@ -10,7 +10,7 @@ use Rattle.std.proofs.lemmas.Option.{none-some, same_Some, slice_get-get_or}
 use Rattle.flow_graph.specs.Graphs.{IsIn}
 use Rattle.flow_graph.specs.Lives.{IsAscending}
 use Rattle.flow_graph.proofs.Points.{every-in}
-use Rattle.elementary_form.proofs.Naming.{equal-test, other-test, true-false}
+use Rattle.elementary_form.proofs.Naming.{equal-test, other-test}
 use Rattle.puzzle_board.specs.declared.piece.Kind.{Kind}
 use Rattle.puzzle_board.specs.declared.piece.Kind.TheVariants.{X, Y, Z}
 use Rattle.puzzle_board.specs.declared.piece.Piece.{Piece}
@@ -148,10 +148,10 @@ abbrev pub IsSide : (Kind → Bool) → Type 0
 IsSide side = side X ≡ true → side Z ≡ true → ⊥
 
 pub upper-side : IsSide is_upper
-upper-side x z = true-false (sym z)
+upper-side x z = true≢false (sym z)
 
 pub lower-side : IsSide is_lower
-lower-side x z = true-false (sym x)
+lower-side x z = true≢false (sym x)
 
 two-apart :
     (side : Kind → Bool) (p q : Piece) → IsSide side → Precedes p q → side p.kind ≡ true → side q.kind ≡ true
@@ -222,7 +222,7 @@ put-past side pieces places n p entries at off put = record {
   has-more k q r (inr same) e f s =
       let piece : p ≡ q =
       same_Some p q (sym at ∙ (ap (λ (j : ℕ). slice_get pieces j) (sym same) ∙ e)) in
-      absurd (true-false (sym s ∙ (ap (λ (x : Piece). side x.kind) (sym piece) ∙ off)))
+      absurd (true≢false (sym s ∙ (ap (λ (x : Piece). side x.kind) (sym piece) ∙ off)))
 
 -- ---- what changes of the map
 

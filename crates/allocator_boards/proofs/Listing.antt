@@ -9,12 +9,12 @@ use Rattle.pcc_base.proofs.Lists.{all-at, all-push}
 use Rattle.flow_graph.specs.Graphs.{Flow, IsDistinct, IsIn}
 use Rattle.flow_graph.specs.Lives.{IsAscending}
 use Rattle.flow_graph.proofs.Ascending.{ascending-push}
+use Rattle.flow_graph.proofs.Points.{every-from}
 use Rattle.liveness.specs.Distances.{AreDistances, distance_at}
 use Rattle.elementary_form.proofs.Naming.{in-either, in-left, in-right}
 use Rattle.puzzle_board.specs.declared.piece.Piece.{Piece}
 use Rattle.puzzle_choices.specs.declared.order.Candidate.{Candidate}
 use Rattle.allocator_boards.specs.Order.{AreInOrder, Precedes}
-use Rattle.allocator_boards.proofs.OneMore.{every-here}
 use Rattle.allocator_boards.specs.Spills.{AreCandidates, AreListed, HasDistance, HasPiece, IsNewAt, variables_of}
 
 -- ---- pieces by their numbers
@@ -125,7 +125,7 @@ push-new lists point ps p cs c below l is far = record {
   rising =
       subst IsAscending (sym (variables-push cs c))
       (ascending-push (variables_of cs) c.variable l.rising
-      (every-here (λ v. v < c.variable) (variables_of cs) (λ v i. low v ((l.each v).0 i))));
+      (every-from (λ v. v < c.variable) (variables_of cs) (λ v i. low v ((l.each v).0 i))));
   each = λ v. (
     (λ i. to v (in-either v (variables_of cs) (c.variable ∷ [])
         (subst (λ (vs : List ℕ). IsIn v vs) (variables-push cs c) i))),

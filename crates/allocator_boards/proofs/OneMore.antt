@@ -26,10 +26,6 @@ rises (v ∷ vs) h zero (suc j) le lt =
 rises (v ∷ vs) h (suc i) zero le lt = absurd (omega (arith, le))
 rises (v ∷ vs) h (suc i) (suc j) le lt = rises vs h.1 i j (omega (arith, le)) (omega (arith, lt))
 
-pub every-here : (P : ℕ → Type 0) (vs : List ℕ) → ((v : ℕ) → IsIn v vs → P v) → AllByRecursion P vs
-every-here P [] h = tt
-every-here P (v ∷ vs) h = (h v (inl refl), every-here P vs (λ w i. h w (inr i)))
-
 above-other : (m n : ℕ) → m < n → n ≢ m
 above-other m n h e = absurd (omega (arith, h, e))
 

@@ -19,6 +19,7 @@ use Rattle.flow_graph.specs.declared.op.Op.{Op}
 use Rattle.flow_graph.specs.Graphs.{Flow, IsFlow, IsPlaced, has_point}
 use Rattle.flow_graph.specs.Liveness.{defined}
 use Rattle.flow_graph.specs.Lives.{AreLive, IsAscending, Lives, at_point}
+use Rattle.flow_graph.proofs.Points.{every-from}
 use Rattle.live_searches.proofs.Placed.{op-fits, placed-within}
 use Rattle.liveness.proofs.Variables.{before-within}
 use Rattle.puzzle_board.specs.declared.piece.Kind.{Kind}
@@ -30,7 +31,7 @@ use Rattle.allocator_boards.specs.PointBoards.{width_at, with_result}
 use Rattle.allocator_boards.specs.Order.{AreInOrder, Precedes}
 use Rattle.allocator_boards.specs.PointPuzzles.{pair_of, pieces_at, puzzle_of, unplaced_states}
 use Rattle.allocator_boards.proofs.Fixing.{defined-within}
-use Rattle.allocator_boards.proofs.OneMore.{ascending-result, every-here, every-one, few}
+use Rattle.allocator_boards.proofs.OneMore.{ascending-result, every-one, few}
 
 -- ---- the pieces of one variable
 
@@ -145,7 +146,7 @@ pub vars-within :
 vars-within flow homes lives point op is live placed has =
     every-result (λ v. v < length flow.widths) (defined op) (at_point lives.before point)
     (λ v e. defined-within flow op v (op-fits flow homes is point placed op has) e)
-    (every-here (λ v. v < length flow.widths) (at_point lives.before point)
+    (every-from (λ v. v < length flow.widths) (at_point lives.before point)
     (λ v i. before-within flow homes is v point ((live.before point v (placed-within flow homes is point placed)).0 i)))
 
 pub pieces-order :

@@ -1,7 +1,7 @@
 -- The places of points, and which variables are listed.
 use Rattle.std.proofs.Common.{◌≡◌, ◌≢◌, ◌<◌, ◌≤◌, ◌+◌, ℕ, zero, suc, Bool, true, false, List, [], ◌∷◌, ◌++◌, length}
 use Rattle.std.proofs.Common.{get_or, take, replicate, Option, Some, None, IfSome, ◌↔◌, inl, inr, refl, sym, ap, ◌∙◌}
-use Rattle.std.proofs.Common.{subst}
+use Rattle.std.proofs.Common.{subst, true≢false}
 use Rattle.std.proofs.Common.{append_assoc, arith, ◌⊎◌, Result, Ok, Err}
 use Rattle.std.specs.Prelude.{◌==◌, slice_get, slice_set, is_ok, is_some, IsTrue, MatchResult}
 use Rattle.std.specs.List.{AllByRecursion}
@@ -18,7 +18,7 @@ use Rattle.live_searches.proofs.Placed.{placed-within}
 use Rattle.elementary_form.specs.Names.{joined, one_further, place_in, place_of}
 use Rattle.allocator_boards.specs.SplitForms.{ArePlaces, placed_count}
 use Rattle.elementary_form.proofs.Naming.{equal-test, in-either, in-test, other-test, place-at}
-use Rattle.elementary_form.proofs.Naming.{placed-place, test-in, true-false}
+use Rattle.elementary_form.proofs.Naming.{placed-place, test-in}
 
 -- ---- members by place
 
@@ -110,7 +110,7 @@ place-there flow p (Some i) e few =
 pub placed-told : (flow : Flow) (p : ℕ) (o : Option ℕ) → o ≡ place_of flow p
     → IfSome o (λ place. (place < 2147483648) × IsPlaced flow p) → IsTrue (is_some o) ↔ IsPlaced flow p
 placed-told flow p None e there = (
-  λ f. absurd (true-false (sym f)),
+  λ f. absurd (true≢false (sym f)),
   λ placed. let (i, h) = placed-place flow p placed in absurd (none-some i (e ∙ h)),
 )
 placed-told flow p (Some i) e there = (λ f. there.1, λ placed. refl)

@@ -1,15 +1,16 @@
 -- A board without the pieces of spilled variables, solved.
 use Rattle.std.proofs.Common.{ℕ, zero, suc, ◌≡◌, ◌<◌, ◌≤◌, ◌+◌, ◌↔◌, inl, inr, Bool, true, false, cond, ◌||◌, ◌==◌}
 use Rattle.std.proofs.Common.{List, [], ◌∷◌, ◌++◌, length, map, take, Option, Some, None, refl, sym, ap, subst}
-use Rattle.std.proofs.Common.{arith, ◌∙◌}
+use Rattle.std.proofs.Common.{arith, ◌∙◌, true≢false}
 use Rattle.std.specs.Prelude.{slice_get}
 use Rattle.std.specs.List.{AllByRecursion, Contains}
 use Rattle.std.proofs.lemmas.Bool.{cases_eq}
-use Rattle.std.proofs.lemmas.List.{take_all}
+use Rattle.std.proofs.lemmas.List.{take_all, length-map}
 use Rattle.std.proofs.lemmas.List.Sorted.{Contains-permutation, IsPermutation-sym}
 use Rattle.std.proofs.lemmas.Option.{none-some, same_Some}
 use Rattle.flow_graph.specs.Graphs.{Flow, IsIn, has_point}
-use Rattle.elementary_form.proofs.Naming.{equal-test, in-test, other-test, test-in, true-false}
+use Rattle.flow_graph.proofs.Points.{every-from}
+use Rattle.elementary_form.proofs.Naming.{equal-test, in-test, other-test, test-in}
 use Rattle.allocator_boards.specs.PointMaps.{unspilled}
 use Rattle.puzzle_board.specs.declared.area.Area.{Area}
 use Rattle.puzzle_board.specs.declared.piece.Piece.{Piece}
@@ -188,7 +189,7 @@ placed-all (p ∷ pieces) (Removed ∷ states) zero all lt e = absurd (cc)
 placed-all (p ∷ pieces) (Removed ∷ states) (suc k) all lt e = placed-all pieces states k all (omega (arith, lt)) e
 
 not-spilled : (v : ℕ) (vs : List ℕ) → false ≡ has_point v vs → IsIn v vs → ⊥
-not-spilled v vs e i = true-false (sym (in-test v vs i) ∙ sym e)
+not-spilled v vs e i = true≢false (sym (in-test v vs i) ∙ sym e)
 
 without-told :
     (pieces : List Piece) (states : List State) (vs : List ℕ) (k : ℕ) (p : Piece)
@@ -214,10 +215,6 @@ without-told (q ∷ pieces) (s ∷ states) vs (suc k) p e at un =
 spots-long : (states : List State) → length (spots_of states) ≡ length states
 spots-long [] = refl
 spots-long (s ∷ states) = let rest = spots-long states in omega (arith, rest)
-
-map-long : {A B : Type 0} (f : A → B) (xs : List A) → length (map f xs) ≡ length xs
-map-long f [] = refl
-map-long f (x ∷ xs) = let rest = map-long f xs in omega (arith, rest)
 
 within-get : (pieces : List Piece) (k : ℕ) (p : Piece) → slice_get pieces k ≡ Some p → k < length pieces
 within-get [] k p e = absurd (none-some p e)
@@ -253,13 +250,13 @@ module _
   unplaced k p at e =
       let many : length (remaining_in pieces new.states) ≡ length (standing_in pieces new.states) =
       sym (ap (λ (ps : List Piece). length ps) placed.each)
-      ∙ map-long (λ (s : Standing). s.piece) (standing_in pieces new.states) in
+      ∙ length-map (standing_in pieces new.states) (λ (s : Standing). s.piece) in
       placed-all pieces new.states k (omega (arith, many)) (within-get pieces k p at) e
 
   pub spots-are : AreSpots areas pieces vs (spots_of new.states)
   spots-are = record {
     many = spots-long new.states ∙ (sym (flags-long new.states) ∙ (ap (λ (bs : List Bool). length bs) flags
-        ∙ map-long (λ (p : Piece). has_point p.var vs) pieces));
+        ∙ length-map pieces (λ (p : Piece). has_point p.var vs)));
     without = λ k p at. without-told pieces new.states vs k p flags at (unplaced k p at);
     placed =
         subst (λ (ps : List Piece). IsLegalPlacement areas ps (standing_by pieces (spots_of new.states))) left
@@ -334,17 +331,13 @@ in-front (suc n) [] v i = absurd i
 in-front (suc n) (w ∷ vs) v (inl e) = inl e
 in-front (suc n) (w ∷ vs) v (inr h) = inr (in-front n vs v h)
 
-every-here : (P : ℕ → Type 0) (vs : List ℕ) → ((v : ℕ) → IsIn v vs → P v) → AllByRecursion P vs
-every-here P [] h = tt
-every-here P (v ∷ vs) h = (h v (inl refl), every-here P vs (λ w i. h w (inr i)))
-
 -- and each spilled variable has a piece
 pub spilled-pieces :
     (flow : Flow) (point : ℕ) (board : Puzzle) (pieces : List Piece) (cs : List Candidate) (order spilled : List ℕ)
     → AreCandidates flow point pieces cs → IsSpillOrder cs order → IsShortest board order spilled
     → AllByRecursion (HasPiece pieces) spilled
 spilled-pieces flow point board pieces cs order spilled are s short =
-    every-here (HasPiece pieces) spilled
+    every-from (HasPiece pieces) spilled
     (λ v i. (are.each v).0 (in-order cs order v s
     (in-front (length spilled) order v (subst (λ (vs : List ℕ). IsIn v vs) short.prefix i))))
 

@@ -6,6 +6,7 @@ use Rattle.std.specs.List.{AllByRecursion, range_with_len}
 use Rattle.std.proofs.lemmas.Bool.{cases_lt}
 use Rattle.std.proofs.lemmas.List.{take_at}
 use Rattle.std.proofs.lemmas.List.Elements.{All-from_recursion}
+use Rattle.std.proofs.lemmas.Option.{none-some}
 use Rattle.pcc_base.specs.declared.span.Span.{Span}
 use Rattle.pcc_base.specs.declared.fault.FaultKind.TheVariants.{TypeRule}
 use Rattle.pcc_base.proofs.Lists.{all-append}
@@ -230,13 +231,10 @@ units_first (u ∷ us) h s k =
     let t = next_file (after_unit u s) in
     both_first (typed_unit u s) (typed_units us t) (unit_first u h.0 s k) (units_first us h.1 t (tt, (tt, (tt, tt))))
 
-none_is_some : (p : Program) → None ≡ Some p → ⊥
-none_is_some p e = grind arith
-
 first_in : (c : Checked (List tree.Function)) (numbers : Numbers) (notes : List Note) (p : Program)
     → IfFits AreFirst c → program_with numbers notes (value_in c) ≡ Some p → AreFirst p.functions
 first_in (Fits fs ns) numbers notes p h e = subst AreFirst (ap (λ o. (unwrap_or o p).functions) e) h
-first_in (Fails f fs) numbers notes p h e = absurd (none_is_some p e)
+first_in (Fails f fs) numbers notes p h e = absurd (none-some p e)
 
 pub locals_declared_first : LocalsAreDeclaredFirst
 locals_declared_first units p trees t =

@@ -5,6 +5,7 @@ use Rattle.std.specs.Prelude.{Option, Some, None, is_some, unwrap_or, flat_map, 
 use Rattle.std.specs.List.{AllByRecursion}
 use Rattle.std.proofs.lemmas.List.Sums.{sum_by-cons}
 use Rattle.std.proofs.lemmas.List.Elements.{All-from_recursion, recursion_from_All}
+use Rattle.std.proofs.lemmas.Option.{none-some}
 use Rattle.pcc_base.specs.declared.span.Span.{Span}
 use Rattle.pcc_base.proofs.Lists.{all-append}
 use Rattle.c_tokens.specs.declared.token.Token.{Token}
@@ -283,14 +284,11 @@ units_fine (u ∷ us) s is h =
     both_fine (length (unit_tokens u)) (length (flat_map unit_tokens us)) _ (typed_unit u s) (typed_units us t)
     (omega (arith, l)) (unit_fine u s is.0 p.0) (units_fine us t is.1 p.1)
 
-none_is_some : (p : Program) → None ≡ Some p → ⊥
-none_is_some p e = grind arith
-
 fine_in : (n : ℕ) (c : Checked (List tree.Function)) (numbers : Numbers) (notes : List Note) (p : Program)
     → IfFits (FunctionsFine n) c → program_with numbers notes (value_in c) ≡ Some p → FunctionsFine n p.functions
 fine_in n (Fits fs ns) numbers notes p h e =
     subst (λ gs. FunctionsFine n gs) (ap (λ o. (unwrap_or o p).functions) e) h
-fine_in n (Fails f fs) numbers notes p h e = absurd (none_is_some p e)
+fine_in n (Fails f fs) numbers notes p h e = absurd (none-some p e)
 
 total_is : (fs : List tree.Function) → sum_by function_size fs ≡ functions_total fs
 total_is [] = refl

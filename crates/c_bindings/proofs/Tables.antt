@@ -9,10 +9,11 @@ use Rattle.std.specs.Map.{lookup, KeepsOthers}
 use Rattle.std.specs.Prelude.{option_map, IfSome, IsSome}
 use Rattle.std.proofs.lemmas.List.{reverse-append, reverse-reverse, length-reverse}
 use Rattle.std.proofs.lemmas.Option.{none-some, same_Some, get_or_from_slice_get, slice_get_within}
+use Rattle.std.proofs.lemmas.Bool.{false_from_ne_true}
 use Rattle.pcc_base.proofs.Lists.{get-last, get-append}
 use Rattle.c_typing.specs.Library.{same_name}
 use Rattle.c_typing.specs.Names.{binding_of}
-use Rattle.c_meanings.proofs.Names.{same_is, same_self, false_if}
+use Rattle.c_meanings.proofs.Names.{same_is, same_self}
 use Rattle.c_bindings.specs.declared.names.Entry.{Entry}
 use Rattle.c_bindings.specs.Bindings.{binding_from, innermost_first, of_binding, of_entry, place_of, AreChained}
 
@@ -32,8 +33,8 @@ module _ {K X : Type 0} (items : K → List ℕ) (old new : List (K × X)) (key 
       by true e = ap (λ (n : List ℕ). lookup (λ k. pointwise nat_eq n (items k)) new) (sym (same_is key name e)) ∙ at
       by false e = others (λ k. pointwise nat_eq name (items k))
           (λ x y h. ap (λ (n : List ℕ). pointwise nat_eq n (items y)) (same_is name (items x) h))
-          (λ k h. false_if (pointwise nat_eq name (items k)) (λ g. true≢false (sym (subst (λ n. same_name key n ≡ true)
-          (sym (same_is name (items k) g)) h) ∙ e)))
+          (λ k h. false_from_ne_true (pointwise nat_eq name (items k))
+          (λ g. true≢false (sym (subst (λ n. same_name key n ≡ true) (sym (same_is name (items k) g)) h) ∙ e)))
 
 -- ---- one more binding, and one less
 

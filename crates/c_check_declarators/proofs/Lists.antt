@@ -11,6 +11,7 @@ use Rattle.c_operands.specs.Parts.{Stands}
 use Rattle.c_operands.proofs.Together.{pair_stands}
 use Rattle.c_expressions.specs.Said.{IsSaid}
 use Rattle.c_expressions.proofs.Answered.{grown_pair, grown_row}
+use Rattle.c_expressions.proofs.Gathering.{fits_same}
 use Rattle.c_check_declarators.specs.Together.{items_answered, appended, maybe_appended, maybe_listed, one_behind}
 use Rattle.c_check_declarators.specs.Together.{some_behind}
 
@@ -26,10 +27,8 @@ one_after front c = both front c (λ xs x. fits (xs ++ x ∷ []))
 abbrev pub one_before : {X : Type 0} → Checked X → Checked (List X) → Checked (List X)
 one_before c rest = both c rest (λ x xs. fits (x ∷ xs))
 
-fits_same : {A : Type 0} (a b : A) (ns ms : List Note) → a ≡ b → ns ≡ ms → Fits a ns ≡ Fits b ms
-fits_same a b ns ms h k = ap (λ x. Fits x ns) h ∙ ap (Fits b) k
-
-notes_same : (ns ms ks : List Note) → ((((ns ++ ms) ++ []) ++ ks) ++ []) ≡ ((ns ++ ((ms ++ ks) ++ [])) ++ [])
+-- notes of three parts, in either grouping
+pub notes_same : (ns ms ks : List Note) → ((((ns ++ ms) ++ []) ++ ks) ++ []) ≡ ((ns ++ ((ms ++ ks) ++ [])) ++ [])
 notes_same ns ms ks = ap (λ xs. xs ++ []) (ap (λ xs. xs ++ ks) (append-nil (ns ++ ms)) ∙ append_assoc ns ms ks
     ∙ ap (λ xs. ns ++ xs) (sym (append-nil (ms ++ ks))))
 

@@ -9,15 +9,9 @@ use Rattle.c_operands.specs.Parts.{Stands}
 use Rattle.c_operands.proofs.Together.{pair_stands}
 use Rattle.c_expressions.specs.Said.{IsSaid}
 use Rattle.c_expressions.proofs.Answered.{grown_pair, grown_row}
-use Rattle.c_check_declarators.proofs.Lists.{rejoined}
+use Rattle.c_expressions.proofs.Gathering.{fits_same}
+use Rattle.c_check_declarators.proofs.Lists.{rejoined, notes_same}
 use Rattle.c_check_files.specs.OutsideAnswers.{AreNone, first_answered}
-
-fits_same : {A : Type 0} (a b : A) (ns ms : List Note) → a ≡ b → ns ≡ ms → Fits a ns ≡ Fits b ms
-fits_same a b ns ms h k = ap (λ x. Fits x ns) h ∙ ap (Fits b) k
-
-notes_same : (ns ms ks : List Note) → ((((ns ++ ms) ++ []) ++ ks) ++ []) ≡ ((ns ++ ((ms ++ ks) ++ [])) ++ [])
-notes_same ns ms ks = ap (λ xs. xs ++ []) (ap (λ xs. xs ++ ks) (append-nil (ns ++ ms)) ∙ append_assoc ns ms ks
-    ∙ ap (λ xs. ns ++ xs) (sym (append-nil (ms ++ ks))))
 
 -- parts may be put together in any grouping
 pub regrouped : {X : Type 0} (front c rest : Checked (List X))

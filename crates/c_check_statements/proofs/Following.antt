@@ -20,19 +20,14 @@ use Rattle.c_operands.specs.declared.judged.Judged.{Judged}
 use Rattle.c_operands.specs.declared.judged.Judged.TheVariants as answers
 use Rattle.c_operands.specs.Parts.{Stands}
 use Rattle.c_expressions.specs.Said.{IsSaid}
+use Rattle.c_expressions.proofs.Gathering.{fits_same}
+use Rattle.c_check_declarators.proofs.Lists.{notes_same}
 use Rattle.c_check_statements.specs.Answers.{AreListed, AreStatements}
 use Rattle.c_check_statements.specs.Together.{joined}
 
 -- statements before others
 abbrev pub rejoined : Checked (List Statement) → Checked Statements → Checked Statements
 rejoined front rest = both front rest (λ sts others. fits (row_before sts others))
-
-fits_same : {A : Type 0} (a b : A) (ns ms : List Note) → a ≡ b → ns ≡ ms → Fits a ns ≡ Fits b ms
-fits_same a b ns ms h k = ap (λ x. Fits x ns) h ∙ ap (Fits b) k
-
-notes_same : (ns ms ks : List Note) → ((((ns ++ ms) ++ []) ++ ks) ++ []) ≡ ((ns ++ ((ms ++ ks) ++ [])) ++ [])
-notes_same ns ms ks = ap (λ xs. xs ++ []) (ap (λ xs. xs ++ ks) (append-nil (ns ++ ms)) ∙ append_assoc ns ms ks
-    ∙ ap (λ xs. ns ++ xs) (sym (append-nil (ms ++ ks))))
 
 row_behind : (xs ys : List Statement) (zs : Statements) → row_before (xs ++ ys) zs ≡ row_before xs (row_before ys zs)
 row_behind [] ys zs = refl

@@ -2,7 +2,6 @@ mod Arms
 mod Following
 mod Leaving
 mod NamesGrow
-mod BlockRows
 mod Chains
 mod Ones
 mod QuietRows

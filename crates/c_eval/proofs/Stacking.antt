@@ -7,17 +7,17 @@ use Rattle.std.proofs.lemmas.List.{take-map, length-map, length-reverse}
 use Rattle.c_tree.specs.Erased.{expression_of}
 use Rattle.c_tree.specs.Program.{Argument, NoMore}
 use Rattle.c_tree.specs.declared.expression.Expression as built
-use Rattle.c_tree.specs.Erased.{statement_of, statements_of, row_of, local_of}
+use Rattle.c_tree.specs.Erased.{statements_of, local_of}
 use Rattle.c_tree.specs.declared.program.Local.{Local}
 use Rattle.c_tree.specs.declared.types.ValueType.{ValueType}
 use Rattle.c_tree.specs.declared.types.ValueType.TheVariants.{Void}
 use Rattle.c_tree.specs.Evaluation.{type_of}
-use Rattle.c_tree.specs.Program.{Statements, Done, Next}
-use Rattle.c_tree.specs.declared.statement.Statement.{Statement, Row_of-Statement, end_of-Statement, more_of-Statement}
-use Rattle.c_tree.specs.declared.statement.Statement.{items-the_row-Statement}
+use Rattle.c_tree.specs.Program.{Done}
+use Rattle.c_tree.specs.declared.statement.Statement.{Statement}
 use Rattle.c_eval.specs.Values.{held_of}
 use Rattle.c_eval.specs.declared.value.Value.{Value}
 use Rattle.c_tree.specs.Store.{Held}
+pub use Rattle.c_tree.proofs.Rows.{statements_are}
 use Rattle.c_eval_laws.specs.TasksLaws.{ArgumentsAreLast}
 use Rattle.c_eval_laws.specs.Steps.{statements_from}
 use Rattle.c_eval_laws.specs.Tasks.{below_by, put_before}
@@ -27,11 +27,6 @@ use Rattle.c_eval.specs.Views.{stack_of, arguments_from, arguments_list, element
 pub pushed : {A B : Type 0} (of : A → B) (xs : List A) (x : A) → stack_of of (xs ++ x ∷ []) ≡ of x ∷ stack_of of xs
 pushed {A} {B} of xs x = ap (λ (ys : List B). reverse ys) (map-append of xs (x ∷ []))
     ∙ reverse-append (map of xs) (of x ∷ [])
-
--- a row of statements as a list
-pub statements_are : {m : _} (row : Row_of-Statement m) → row_of row ≡ statements_of (items-the_row-Statement m row)
-statements_are end_of-Statement = refl
-statements_are (more_of-Statement x rest) = ap (λ (xs : Statements). Next (statement_of x) xs) (statements_are rest)
 
 -- the statements from a place on
 pub from_place : (xs : List Statement) (n : ℕ) → statements_from (statements_of xs) n ≡ statements_of (drop n xs)

@@ -3,6 +3,7 @@ use Rattle.std.proofs.Common.{◌≡◌, ◌≤◌, ◌<◌, ℕ, zero, suc, tru
 use Rattle.std.proofs.Common.{sym, ap}
 use Rattle.std.proofs.Common.{subst, ◌∙◌, arith}
 use Rattle.std.specs.Prelude.{map, option_map, slice_get, pos, Option, Some, None}
+use Rattle.std.proofs.lemmas.Bool.{false≢true}
 use Rattle.pcc_base.specs.Outcome.{Listing, nothing_listed}
 use Rattle.c_tree.specs.Erased.{function_of}
 use Rattle.c_tree.specs.declared.expression.Expression as built
@@ -26,9 +27,6 @@ use Rattle.c_eval.specs.declared.task.Task as memory
 use Rattle.c_eval.specs.declared.task.Task.TheVariants as tasks
 use Rattle.c_eval.proofs.Stacking.{arguments_past}
 use Rattle.c_eval_tasks.specs.Performs.{Done, Fits, IsPlain, is_loop}
-
-false_true : false ≡ true → ⊥
-false_true e = cc
 
 -- a task that visits nothing
 pub done_plain : (p : Program) (task : Task) (old new : Configuration) (kept kept' : Kept) → is_turn p task ≡ false
@@ -194,18 +192,18 @@ done_none p k count es old new kept h none ahead e =
 
 -- a loop waits for its turn, and any other statement has none
 pub loop_waits : (x : Statement) → is_loop x ≡ true → IsLoop x
-loop_waits (Declare item) h = absurd (false_true h)
-loop_waits (Empty n) h = absurd (false_true h)
-loop_waits (Evaluate n e) h = absurd (false_true h)
-loop_waits (Block body) h = absurd (false_true h)
-loop_waits (If n e a b) h = absurd (false_true h)
+loop_waits (Declare item) h = absurd (false≢true h)
+loop_waits (Empty n) h = absurd (false≢true h)
+loop_waits (Evaluate n e) h = absurd (false≢true h)
+loop_waits (Block body) h = absurd (false≢true h)
+loop_waits (If n e a b) h = absurd (false≢true h)
 loop_waits (While n e body) h = tt
 loop_waits (Do n body e) h = tt
 loop_waits (For n first test after body) h = tt
-loop_waits (Switch n e labels body) h = absurd (false_true h)
-loop_waits (Break n) h = absurd (false_true h)
-loop_waits (Continue n) h = absurd (false_true h)
-loop_waits (Return n value) h = absurd (false_true h)
+loop_waits (Switch n e labels body) h = absurd (false≢true h)
+loop_waits (Break n) h = absurd (false≢true h)
+loop_waits (Continue n) h = absurd (false≢true h)
+loop_waits (Return n value) h = absurd (false≢true h)
 
 pub done_other : (p : Program) (x : Statement) (old new : Configuration) (kept : Kept) → is_loop x ≡ false
     → ((s : State) → done p nothing_listed Drops old s ≡ Gives new s)
@@ -215,9 +213,9 @@ done_other p (Empty n) old new kept h e = done_plain p Drops old new kept kept r
 done_other p (Evaluate n x) old new kept h e = done_plain p Drops old new kept kept refl (λ s. e (over s kept))
 done_other p (Block body) old new kept h e = done_plain p Drops old new kept kept refl (λ s. e (over s kept))
 done_other p (If n x a b) old new kept h e = done_plain p Drops old new kept kept refl (λ s. e (over s kept))
-done_other p (While n x body) old new kept h e = absurd (false_true (sym h))
-done_other p (Do n body x) old new kept h e = absurd (false_true (sym h))
-done_other p (For n first test after body) old new kept h e = absurd (false_true (sym h))
+done_other p (While n x body) old new kept h e = absurd (false≢true (sym h))
+done_other p (Do n body x) old new kept h e = absurd (false≢true (sym h))
+done_other p (For n first test after body) old new kept h e = absurd (false≢true (sym h))
 done_other p (Switch n x labels body) old new kept h e =
     done_plain p Drops old new kept kept refl (λ s. e (over s kept))
 done_other p (Break n) old new kept h e = done_plain p Drops old new kept kept refl (λ s. e (over s kept))

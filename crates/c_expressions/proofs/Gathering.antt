@@ -39,7 +39,8 @@ behind_before : (es : List Expression) (e : Expression) (others : Arguments)
 behind_before [] e others = refl
 behind_before (x ∷ xs) e others = ap (Argument x) (behind_before xs e others)
 
-fits_same : {A : Type 0} (a b : A) (ns ms : List Note) → a ≡ b → ns ≡ ms → Fits a ns ≡ Fits b ms
+-- what fits is its tree and its notes
+pub fits_same : {A : Type 0} (a b : A) (ns ms : List Note) → a ≡ b → ns ≡ ms → Fits a ns ≡ Fits b ms
 fits_same a b ns ms h k = ap (λ x. Fits x ns) h ∙ ap (Fits b) k
 
 pub next_rejoined : (front : Checked (List Expression)) (c : Checked Expression) (rest : Checked Arguments)

@@ -1,5 +1,5 @@
 -- When names are the same.
-use Rattle.std.proofs.Common.{◌≡◌, ℕ, List, Bool, true, false, refl}
+use Rattle.std.proofs.Common.{◌≡◌, ℕ, List, true, refl}
 use Rattle.std.proofs.lemmas.Slice.Eq.{bytes_eq-Decides}
 use Rattle.c_typing.specs.Library.{same_name}
 
@@ -8,7 +8,3 @@ same_is a b e = (bytes_eq-Decides a b).0 e
 
 pub same_self : (a : List ℕ) → same_name a a ≡ true
 same_self a = (bytes_eq-Decides a a).1 refl
-
-pub false_if : (b : Bool) → (b ≡ true → ⊥) → b ≡ false
-false_if true never = absurd (never refl)
-false_if false never = refl

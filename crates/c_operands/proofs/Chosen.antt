@@ -1,5 +1,5 @@
 -- What `?:` is as a constant, by what is chosen.
-use Rattle.std.proofs.Common.{arith, ◌≡◌, sym, ap, ◌∙◌, ℤ, pos, Bool, true, false}
+use Rattle.std.proofs.Common.{◌≡◌, sym, ap, ◌∙◌, ℤ, pos, Bool, true, false, true≢false}
 use Rattle.std.specs.Prelude.{if◌then◌else◌, ◌&&◌, not}
 use Rattle.std.specs.Ordering.{int_eq}
 use Rattle.c_tree.specs.declared.types.IntegerType.{IntegerType}
@@ -34,15 +34,12 @@ evaluates of t a b n false s h e =
     ∙ ap (λ c. and_then (if c then evaluate no_calls a s else evaluate no_calls b s)
     (λ x w. Gives (in_type (Integer of) x) w)) e
 
-not_false : true ≡ false → ⊥
-not_false e = grind arith
-
 -- `?:` is what the cast of the chosen one is
 pub chosen : (of : IntegerType) (t a b : Expression) (n : ℤ) (test : Bool) (r : Constant) → IsConstant t (Value n)
     → has_constant_form a ≡ true → has_constant_form b ≡ true → not (int_eq n (pos 0)) ≡ test
     → IsConstant (Cast (Integer of) (if test then a else b)) r → IsConstant (Conditional (Integer of) t a b) r
-chosen of t a b n true NotConstant h k l e x = absurd (not_false (sym k ∙ x))
-chosen of t a b n false NotConstant h k l e x = absurd (not_false (sym l ∙ x))
+chosen of t a b n true NotConstant h k l e x = absurd (true≢false (sym k ∙ x))
+chosen of t a b n false NotConstant h k l e x = absurd (true≢false (sym l ∙ x))
 chosen of t a b n test (Traps trap) h k l e x =
     (forms t a b h.0 k l, λ s. evaluates of t a b n test s h e ∙ x.1 s)
 chosen of t a b n test (Value v) h k l e x =

@@ -1,7 +1,7 @@
 -- Operands of trees that are put together.
-use Rattle.std.proofs.Common.{◌≡◌, Bool, true, false, ◌&&◌, refl, sym, subst, ◌∙◌, true≢false}
+use Rattle.std.proofs.Common.{◌≡◌, true, false, ◌&&◌, sym, subst, ◌∙◌, true≢false}
 use Rattle.std.specs.Global.{Box}
-use Rattle.std.proofs.lemmas.Bool.{and_parts}
+use Rattle.std.proofs.lemmas.Bool.{and_parts, false_from_ne_true}
 use Rattle.c_tree.specs.declared.expression.BinaryOp.{BinaryOp}
 use Rattle.c_tree.specs.declared.types.ValueType.{ValueType}
 use Rattle.c_tree.specs.Program.{Expression, Binary, Conditional, Cast, value_type}
@@ -17,10 +17,6 @@ pub operand_of : (tree : Box Built) (constant : Constant) (e : Expression) → b
     → IsIntegral e → (boxed_of tree ≡ e) × (IsConstant (boxed_of tree) constant × IsIntegral (boxed_of tree))
 operand_of tree constant e is known integral =
     (is, (subst (λ x. IsConstant x constant) (sym is) known, subst IsIntegral (sym is) integral))
-
-false_if : (b : Bool) → (b ≡ true → ⊥) → b ≡ false
-false_if true never = absurd (never refl)
-false_if false never = refl
 
 pub integral_binary : (of : ValueType) (op : BinaryOp) (a b : Expression) → IsIntegral a → IsIntegral b
     → (is_integer_type (value_type a) ≡ true → is_integer_type (value_type b) ≡ true → is_integer_type of ≡ true)
@@ -42,7 +38,7 @@ pub not_constant : (of : ValueType) (t a b : Expression) → IsIntegral a → Is
     → (is_integer_type (value_type a) ≡ true → is_integer_type (value_type b) ≡ true → is_integer_type of ≡ true)
     → is_integer_type of ≡ false → has_constant_form (Conditional of t a b) ≡ false
 not_constant of t a b ia ib types other =
-    false_if (has_constant_form (Conditional of t a b)) (λ h. true≢false
+    false_from_ne_true (has_constant_form (Conditional of t a b)) (λ h. true≢false
     (sym (integral_conditional of t a b ia ib types h) ∙ other))
 
 pub integral_cast : (to : ValueType) (e : Expression) → IsIntegral (Cast to e)

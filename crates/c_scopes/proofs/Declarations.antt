@@ -7,6 +7,7 @@ use Rattle.std.specs.Map.{lookup, KeepsOthers}
 use Rattle.std.proofs.lemmas.List.{reverse-append}
 use Rattle.std.proofs.lemmas.List.Folds.{list_any-append}
 use Rattle.std.proofs.lemmas.Option.{none-some, same_Some}
+use Rattle.std.proofs.lemmas.Bool.{false_from_ne_true}
 use Rattle.pcc_base.proofs.Lists.{get-last, get-append}
 use Rattle.c_typing.specs.Library as library
 use Rattle.c_typing.specs.Library.{same_entity}
@@ -19,7 +20,6 @@ use Rattle.c_scopes.specs.Outers.{is_entity, IsSummed, SumsUp}
 use Rattle.c_meanings.specs.Views.{entity_of}
 use Rattle.c_meanings.proofs.Entities.{turned}
 use Rattle.c_meanings.proofs.Sameness.{thing_is, thing_self, type_is, type_self}
-use Rattle.c_meanings.proofs.Names.{false_if}
 
 -- the test of the table is that of the definition
 pub by_eq : {X : Type 0} (a : Entity) (es : List (Entity × X))
@@ -184,7 +184,7 @@ clash os o s known = by (same_type known.0.type o.type) refl
         ∙ sym (any_parts (λ x. same_entity o.entity x.entity) (λ x. not (same_type o.type x.type)) (λ x. x.whole)
         o.whole os)
     by false h =
-        let differs : same_type o.type known.0.type ≡ false = false_if (same_type o.type known.0.type) (λ g.
+        let differs : same_type o.type known.0.type ≡ false = false_from_ne_true (same_type o.type known.0.type) (λ g.
         true≢false (sym (ap (λ d. same_type d o.type) (sym (type_is o.type known.0.type g)) ∙ type_self o.type) ∙ h)) in
         let here : clashes o known.0 ≡ true =
         ap (λ b. b && (not (same_type o.type known.0.type) || (o.whole && known.0.whole))) known.2
@@ -211,7 +211,7 @@ put os o old new key s of sums known at others e = by (same_entity e o.entity) r
     by false h =
         let still : lookup (is_entity e) new ≡ lookup (is_entity e) old = others (is_entity e)
         (λ x y g. ap (same_entity (entity_of y)) (sym (thing_is (entity_of x) e g)) ∙ sym (turned x y))
-        (λ k g. false_if (is_entity e k) (λ j. true≢false (sym (ap (λ d. same_entity d o.entity)
+        (λ k g. false_from_ne_true (is_entity e k) (λ j. true≢false (sym (ap (λ d. same_entity d o.entity)
         (sym (thing_is (entity_of k) e j))
         ∙ subst (λ d. same_entity (entity_of k) d ≡ true) of (sym (turned key k) ∙ g)) ∙ h))) in
         subst (IsSummed (os ++ o ∷ []) e) (sym still) (apart os o e (lookup (is_entity e) old) h (sums e))

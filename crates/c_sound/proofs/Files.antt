@@ -33,6 +33,7 @@ use Rattle.std.proofs.Common.{◌≤◌, length}
 use Rattle.std.specs.List.{AllByRecursion, cons_option}
 use Rattle.std.proofs.lemmas.List.{map-append}
 use Rattle.std.proofs.lemmas.List.Elements.{All-from_recursion}
+use Rattle.std.proofs.lemmas.Option.{none-some}
 use Rattle.pcc_base.proofs.Lists.{all-append}
 use Rattle.c_tree.specs.Sizes.{function_size}
 use Rattle.c_typing.proofs.CountUp.{Always, IfFits, always, holds_also, holds_both, holds_if, holds_noted}
@@ -199,14 +200,11 @@ units_are (u ∷ us) s =
     both_are (filter_map defined_name u) (defined_names us) (typed_unit u s) (typed_units us t) (unit_are u s)
     (units_are us t)
 
-none_is_some : (p : Program) → None ≡ Some p → ⊥
-none_is_some p e = grind arith
-
 are_in : (names : List (List ℕ)) (c : Checked (List tree.Function)) (numbers : Numbers) (notes : List Note)
     (p : Program) → IfFits (Are names) c → program_with numbers notes (value_in c) ≡ Some p → Are names p.functions
 are_in names (Fits fs ns) numbers notes p h e =
     subst (λ gs. Are names gs) (ap (λ o. (unwrap_or o p).functions) e) h
-are_in names (Fails f fs) numbers notes p h e = absurd (none_is_some p e)
+are_in names (Fails f fs) numbers notes p h e = absurd (none-some p e)
 
 functions_are : (units : List (List ExternalTree)) (p : Program) → Typed units p
     → Are (defined_names units) p.functions

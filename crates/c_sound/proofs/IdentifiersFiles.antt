@@ -1,7 +1,8 @@
 -- The functions of files, their locals and their arrays have identifiers as names.
-use Rattle.std.proofs.Common.{◌≡◌, ap, sym, subst, List, [], ◌∷◌, ◌++◌, true, arith}
-use Rattle.std.specs.Prelude.{Some, None, flat_map, unwrap_or}
+use Rattle.std.proofs.Common.{◌≡◌, ap, sym, subst, List, [], ◌∷◌, ◌++◌, true}
+use Rattle.std.specs.Prelude.{Some, flat_map, unwrap_or}
 use Rattle.std.specs.List.{AllByRecursion}
+use Rattle.std.proofs.lemmas.Option.{none-some}
 use Rattle.c_syntax.specs.declared.expression.Specifier.{Specifier}
 use Rattle.c_syntax.specs.Declarations as trees
 use Rattle.c_syntax.specs.Declarations.{DeclaratorTree, PartTree}
@@ -129,13 +130,10 @@ units_named (u ∷ us) s is h =
     (unit_named u s is.0 (front (unit_tokens u) (flat_map unit_tokens us) h))
     (units_named us t is.1 (back (unit_tokens u) (flat_map unit_tokens us) h))
 
-none_is_some : (p : Program) → None ≡ Some p → ⊥
-none_is_some p e = grind arith
-
 named_in : (c : Checked (List tree.Function)) (numbers : Numbers) (notes : List Note) (p : Program)
     → IfFits Named c → program_with numbers notes (value_in c) ≡ Some p → Named p.functions
 named_in (Fits fs ns) numbers notes p h e = subst (λ gs. Named gs) (ap (λ o. (unwrap_or o p).functions) e) h
-named_in (Fails f fs) numbers notes p h e = absurd (none_is_some p e)
+named_in (Fails f fs) numbers notes p h e = absurd (none-some p e)
 
 pub programs_have_names : ProgramsHaveNames
 programs_have_names units p is h t =

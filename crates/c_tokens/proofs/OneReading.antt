@@ -2,6 +2,7 @@
 use Rattle.std.proofs.Common.{◌≡◌, ◌≢◌, ℕ, zero, suc, Bool, true, false, List, [], ◌∷◌, ◌++◌, length, ◌||◌, ◌&&◌, ◌==◌}
 use Rattle.std.proofs.Common.{cond, inl, inr, refl, sym, ap, ap₂, subst, ◌∙◌, arith, eq-eqb, ne_eqb}
 use Rattle.std.proofs.lemmas.Bool.Decides.{nat_tests}
+use Rattle.std.proofs.lemmas.Bool.{false_from_ne_true}
 use Rattle.pcc_base.specs.declared.fault.Fault.{Fault}
 use Rattle.pcc_base.specs.declared.span.Span.{Span}
 use Rattle.pcc_base.specs.declared.fault.FaultKind.{FaultKind}
@@ -87,11 +88,6 @@ no_comment : (b : ℕ) (rest : List ℕ) → (b ≡ 47 → StartsWithStar rest �
 no_comment b [] h = grind (arith, nat_tests)
 no_comment b (c ∷ rest) h = grind (arith, nat_tests)
 
--- what isn't true is false
-not_true : (x : Bool) → (x ≡ true → ⊥) → x ≡ false
-not_true true h = absurd (h refl)
-not_true false h = refl
-
 -- no quote begins the bytes
 no_quote : (b : ℕ) → b ≢ 39 → b ≢ 34 → (b == 39 || b == 34) ≡ false
 no_quote b h i = rw (ne_eqb b 39 h, ne_eqb b 34 i) refl
@@ -114,7 +110,7 @@ fault_is b rest kind (inr (inr (inr (single, double, number, slash, is)))) =
     let no_slash : (b == 47 && starts_with_star rest) ≡ false = no_comment b rest slash in
     let other : (b == 39 || b == 34) ≡ false = no_quote b single double in
     let none : starts_number (b ∷ rest) ≡ false =
-    not_true (starts_number (b ∷ rest)) (λ h. number (starts_back (b ∷ rest) h)) in
+    false_from_ne_true (starts_number (b ∷ rest)) (λ h. number (starts_back (b ∷ rest) h)) in
     is ∙ sym (rw (no_slash, other, none) refl)
 
 -- one fault stands there

@@ -6,6 +6,7 @@ use Rattle.std.specs.List.{list_any}
 use Rattle.std.specs.Map.{lookup, KeepsOthers}
 use Rattle.std.proofs.lemmas.List.Folds.{list_any-append}
 use Rattle.indexmap.specs.IndexSet.{insert_key}
+use Rattle.std.proofs.lemmas.Bool.{false_from_ne_true}
 use Rattle.c_typing.specs.Library.{Entity, same_entity}
 use Rattle.c_meanings.specs.declared.entity.Entity.{Entity as Stored}
 use Rattle.c_meanings.specs.contracts.entity.EntityPartialEq.TheImpl.{ghosts}
@@ -13,7 +14,6 @@ use Rattle.c_meanings.specs.Views.{entity_of}
 use Rattle.c_scopes.proofs.Declarations.{by_eq}
 use Rattle.c_meanings.proofs.Entities.{turned}
 use Rattle.c_meanings.proofs.Sameness.{thing_is, thing_self}
-use Rattle.c_meanings.proofs.Names.{false_if}
 use Rattle.c_types.specs.Tables.{is_entity, among, with_thing, with_values, values_or_none}
 
 -- the test of the table is that of the definition
@@ -61,7 +61,7 @@ changed key x old new e at others = by (same_entity (entity_of key) e) refl
     by true h = ap (λ d. lookup (is_entity d) new) (sym (thing_is (entity_of key) e h)) ∙ sym (by_eq key new) ∙ at
     by false h = others (is_entity e)
         (λ x y g. ap (same_entity (entity_of y)) (sym (thing_is (entity_of x) e g)) ∙ sym (turned x y))
-        (λ k g. false_if (is_entity e k) (λ j.
+        (λ k g. false_from_ne_true (is_entity e k) (λ j.
         let p : entity_of key ≡ e = sym (thing_is (entity_of k) (entity_of key) (sym (turned key k) ∙ g))
         ∙ thing_is (entity_of k) e j in
         true≢false (sym (ap (λ d. same_entity d e) p ∙ thing_self e) ∙ h)))

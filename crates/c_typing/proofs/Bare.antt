@@ -1,8 +1,8 @@
 -- Trees of expressions without the numbers of objects and functions, and what they have in common with those that have
 -- them.
-use Rattle.std.proofs.Common.{arith, ◌≡◌, refl, sym, ap, ◌∙◌, Bool, true, false}
+use Rattle.std.proofs.Common.{◌≡◌, refl, sym, ap, ◌∙◌, Bool, true, false}
 use Rattle.std.specs.Prelude.{None, option_map, ◌&&◌, if◌then◌else◌}
-use Rattle.std.proofs.lemmas.Bool.{and_parts}
+use Rattle.std.proofs.lemmas.Bool.{and_parts, false≢true}
 use Rattle.c_tree.specs.declared.expression.ArrayRef.{ArrayRef}
 use Rattle.c_tree.specs.declared.expression.ArrayRef.TheVariants as refs
 use Rattle.c_tree.specs.declared.types.ValueType.{ValueType}
@@ -98,15 +98,12 @@ form-bare (Putchar e) = refl
 form-bare Getchar = refl
 form-bare (Exit e) = refl
 
-not_true : false ≡ true → ⊥
-not_true e = grind arith
-
 -- a constant expression has no numbers
 bare-constant : (e : Expression) → has_constant_form e ≡ true → bare e ≡ e
 bare-constant (Constant of n) h = refl
-bare-constant (Start element array) h = absurd (not_true h)
-bare-constant (Read of place) h = absurd (not_true h)
-bare-constant (Address element place) h = absurd (not_true h)
+bare-constant (Start element array) h = absurd (false≢true h)
+bare-constant (Read of place) h = absurd (false≢true h)
+bare-constant (Address element place) h = absurd (false≢true h)
 bare-constant (Unary of op e) h = ap (Unary of op) (bare-constant e h)
 bare-constant (Binary of op a b) h = let p = and_parts (has_constant_form a) (has_constant_form b) h in
     ap (λ x. Binary of op x (bare b)) (bare-constant a p.0) ∙ ap (Binary of op a) (bare-constant b p.1)
@@ -120,14 +117,14 @@ bare-constant (Conditional of t a b) h = let p =
     ap (λ x. Conditional of x (bare a) (bare b)) (bare-constant t p.0)
     ∙ ap (λ x. Conditional of t x (bare b)) (bare-constant a q.0) ∙ ap (Conditional of t a) (bare-constant b q.1)
 bare-constant (Cast to e) h = ap (Cast to) (bare-constant e (and_parts (is_integer_type to) (has_constant_form e) h).1)
-bare-constant (Assign of place e) h = absurd (not_true h)
-bare-constant (Update of op place e) h = absurd (not_true h)
-bare-constant (Step of op place) h = absurd (not_true h)
-bare-constant (Comma a b) h = absurd (not_true h)
-bare-constant (Call of f arguments) h = absurd (not_true h)
-bare-constant (Putchar e) h = absurd (not_true h)
-bare-constant Getchar h = absurd (not_true h)
-bare-constant (Exit e) h = absurd (not_true h)
+bare-constant (Assign of place e) h = absurd (false≢true h)
+bare-constant (Update of op place e) h = absurd (false≢true h)
+bare-constant (Step of op place) h = absurd (false≢true h)
+bare-constant (Comma a b) h = absurd (false≢true h)
+bare-constant (Call of f arguments) h = absurd (false≢true h)
+bare-constant (Putchar e) h = absurd (false≢true h)
+bare-constant Getchar h = absurd (false≢true h)
+bare-constant (Exit e) h = absurd (false≢true h)
 
 no_form : (e : Expression) → has_constant_form e ≡ false → constant_value e ≡ None
 no_form e h = ap (λ b. if b then number_given (evaluate no_calls e no_state) else None) h

@@ -1,6 +1,7 @@
 -- The statements and declared items of files are numbered from 0, over all of them.
-use Rattle.std.proofs.Common.{arith, ◌≡◌, refl, sym, ap, subst, ◌∙◌, ℕ, Bool, true, false, List, [], ◌∷◌, ◌++◌}
+use Rattle.std.proofs.Common.{◌≡◌, refl, sym, ap, subst, ◌∙◌, ℕ, Bool, true, false, List, [], ◌∷◌, ◌++◌}
 use Rattle.std.specs.Prelude.{Option, Some, None, is_some, unwrap_or}
+use Rattle.std.proofs.lemmas.Option.{none-some}
 use Rattle.pcc_base.specs.declared.span.Span.{Span}
 use Rattle.c_syntax.specs.declared.expression.Identifier.{Identifier}
 use Rattle.c_syntax.specs.declared.expression.Specifier.{Specifier}
@@ -219,15 +220,12 @@ units_from (u ∷ us) s =
     both_from s.next t.next (after_units us t).next (typed_unit u s) (typed_units us t) (unit_from u s)
     (units_from us t)
 
-none_is_some : (p : Program) → None ≡ Some p → ⊥
-none_is_some p e = grind arith
-
 counted : (n m : ℕ) (c : Checked (List tree.Function)) (numbers : Numbers) (notes : List Note) (p : Program)
     → IfFits (FilesFrom n m) c → program_with numbers notes (value_in c) ≡ Some p
     → From n (functions_numbers p.functions) m
 counted n m (Fits fs ns) numbers notes p h e =
     subst (λ gs. From n (functions_numbers gs) m) (ap (λ o. (unwrap_or o p).functions) e) h
-counted n m (Fails f fs) numbers notes p h e = absurd (none_is_some p e)
+counted n m (Fails f fs) numbers notes p h e = absurd (none-some p e)
 
 -- the statements of a typed program are numbered from 0
 pub statements_count_up : StatementsCountUp

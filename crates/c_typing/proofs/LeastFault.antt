@@ -3,6 +3,7 @@ use Rattle.std.proofs.Common.{◌≡◌, refl, subst, inl, inr, sym, ap, ◌∙�
 use Rattle.std.proofs.Common.{if◌then◌else◌}
 use Rattle.std.specs.Prelude.{nat_lt, ◌==◌, Option, Some, None}
 use Rattle.std.proofs.lemmas.Bool.Decides.{nat_tests}
+use Rattle.std.proofs.lemmas.Bool.{false≢true}
 use Rattle.pcc_base.specs.declared.fault.Fault.{Fault}
 use Rattle.pcc_base.proofs.Lists.{all-weaker}
 use Rattle.c_typing.specs.Faults.{keys, is_below, precedes, earlier, least}
@@ -46,9 +47,6 @@ below_other (x ∷ xs) (y ∷ ys) (z ∷ zs) h k =
 abbrev chosen : Fault → Fault → Fault
 chosen f g = if precedes g f then g else f
 
-not_true : false ≡ true → ⊥
-not_true e = grind arith
-
 later_one : (f g : Fault) → precedes g f ≡ true → chosen f g ≡ g
 later_one f g e = ap (λ b. if b then g else f) e
 
@@ -66,7 +64,7 @@ chosen_by f g h true false c e d k on other =
     ∙ sym (ap (chosen f) (first_one g h d) ∙ later_one f g e)
 chosen_by f g h false true c e d k on other =
     ap (λ x. chosen x h) (first_one f g e) ∙ sym (ap (chosen f) (later_one g h d))
-chosen_by f g h false false true e d k on other = absurd (not_true (other refl refl))
+chosen_by f g h false false true e d k on other = absurd (false≢true (other refl refl))
 chosen_by f g h false false false e d k on other =
     ap (λ x. chosen x h) (first_one f g e) ∙ first_one f h k
     ∙ sym (ap (chosen f) (first_one g h d) ∙ first_one f g e)
@@ -99,13 +97,13 @@ not_before : (f g h : Fault) (a b : Bool) → precedes g f ≡ a → precedes h 
     → precedes h (chosen f g) ≡ false
 not_before f g h true b e d k = ap (precedes h) (later_one f g e) ∙ k
 not_before f g h false true e d k =
-    absurd (not_true (sym k ∙ below_other (keys h) (keys g) (keys f) d e))
+    absurd (false≢true (sym k ∙ below_other (keys h) (keys g) (keys f) d e))
 not_before f g h false false e d k = ap (precedes h) (first_one f g e) ∙ d
 
 -- no two faults precede each other
 after_all : (f g : Fault) (a : Bool) → precedes f g ≡ a → precedes g f ≡ true → precedes f g ≡ false
 after_all f g true e k =
-    absurd (not_true (sym (itself (keys f)) ∙ below_on (keys f) (keys g) (keys f) e k))
+    absurd (false≢true (sym (itself (keys f)) ∙ below_on (keys f) (keys g) (keys f) e k))
 after_all f g false e k = e
 
 -- the first of two doesn't precede the earlier one

@@ -5,6 +5,7 @@ use Rattle.std.specs.Prelude.{◌==◌, if◌then◌else◌, option_map, slice_g
 use Rattle.std.proofs.lemmas.Bool.{cases_eq}
 use Rattle.std.proofs.lemmas.Bool.Decides.{eqb_tells}
 use Rattle.std.proofs.lemmas.Option.{none-some, same_Some}
+use Rattle.std.proofs.Common.{true≢false}
 use Rattle.pcc_base.specs.Outcome.{Value, Number}
 use Rattle.flow_graph.specs.Graphs.{Flow, IsIn, IsPlaced, has_point}
 use Rattle.flow_graph.specs.Lives.{Lives, at_point}
@@ -21,9 +22,6 @@ equal-test a b e = elim (eqb_tells a b) [ inl same ↦ same.0 | inr other ↦ ab
 
 pub other-test : (a b : ℕ) → a ≢ b → (a == b) ≡ false
 other-test a b n = elim (eqb_tells a b) [ inl same ↦ absurd (n same.1) | inr other ↦ other.0 ]
-
-pub true-false : true ≡ false → ⊥
-true-false e = cc
 
 -- ---- members
 
@@ -67,7 +65,7 @@ further-some : (o : Option ℕ) (here : Bool) → (here ≡ true) ⊎ ((i : ℕ)
     → (place : ℕ) × (one_further o here ≡ Some place)
 further-some (Some i) here h = (suc i, refl)
 further-some None true h = (0, refl)
-further-some None false (inl e) = absurd (true-false (sym e))
+further-some None false (inl e) = absurd (true≢false (sym e))
 further-some None false (inr (i, e)) = absurd (none-some i e)
 
 in-place : (p : ℕ) (ps : List ℕ) → IsIn p ps → (place : ℕ) × (place_in p ps ≡ Some place)
@@ -93,7 +91,7 @@ place-at p (q ∷ ps) i e = by (place_in p ps) (q == p) refl (λ j f. place-at p
         → one_further o here ≡ Some i → slice_get (q ∷ ps) i ≡ Some p
     by (Some j) here g f e = subst (λ (k : ℕ). slice_get (q ∷ ps) k ≡ Some p) (same_Some (suc j) i e) (f j refl)
     by None true g f e =
-        let same : q ≡ p = elim (eqb_tells q p) [ inl s ↦ s.1 | inr n ↦ absurd (true-false (sym g ∙ n.0)) ] in
+        let same : q ≡ p = elim (eqb_tells q p) [ inl s ↦ s.1 | inr n ↦ absurd (true≢false (sym g ∙ n.0)) ] in
         subst (λ (k : ℕ). slice_get (q ∷ ps) k ≡ Some p) (same_Some 0 i e) (ap Some same)
     by None false g f e = absurd (none-some i e)
 

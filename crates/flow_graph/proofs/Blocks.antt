@@ -1,6 +1,6 @@
 -- The block that has a point.
 use Rattle.std.proofs.Common.{ℕ, zero, suc, ◌≡◌, ◌+◌, inl, inr, Bool, true, false, cond, not, List, [], ◌∷◌, get_or}
-use Rattle.std.proofs.Common.{refl, sym, ap, ◌∙◌, arith}
+use Rattle.std.proofs.Common.{refl, sym, ap, ◌∙◌, arith, true≢false}
 use Rattle.std.specs.List.{position_or_len}
 use Rattle.std.proofs.lemmas.Bool.Decides.{eqb_tells}
 use Rattle.std.proofs.lemmas.Option.{same_Some}
@@ -30,9 +30,6 @@ tells-in x (p ∷ ps) e =
       | inr other ↦ inr (tells-in x ps (sym (ap (λ (b : Bool). cond b true (has_point x ps)) other.0) ∙ e))
     ]
 
-true-false : true ≡ false → ⊥
-true-false e = cc
-
 -- a point that some block has is in the first one that has it
 first-has : (x : ℕ) (blocks : List (List ℕ)) (b : ℕ) → IsIn x (get_or blocks b [])
     → IsIn x (get_or blocks (position_or_len (has_point x) blocks) [])
@@ -41,7 +38,7 @@ first-has x (ps ∷ blocks) zero h =
     (elim (has_point x ps) as (λ v. has_point x ps ≡ v
     → IsIn x (get_or (ps ∷ blocks) (cond (not v) (1 + position_or_len (has_point x) blocks) 0) [])) [
       | true ↦ λ e. tells-in x ps e
-      | false ↦ λ e. absurd (true-false (sym (in-tells x ps h) ∙ e))
+      | false ↦ λ e. absurd (true≢false (sym (in-tells x ps h) ∙ e))
     ]) refl
 first-has x (ps ∷ blocks) (suc b) h =
     let step : 1 + position_or_len (has_point x) blocks ≡ suc (position_or_len (has_point x) blocks) = omega arith in

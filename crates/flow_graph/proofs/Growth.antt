@@ -1,11 +1,10 @@
 -- What a block keeps stays where the graph only grows.
 use Rattle.std.proofs.Common.{ℕ, ◌≡◌, ◌≤◌, List, [], ◌∷◌, ◌++◌, length, Some, arith}
 use Rattle.std.specs.List.{slice_get}
-use Rattle.pcc_base.proofs.Lists.{get-append}
+use Rattle.pcc_base.proofs.Lists.{get-append, all-weaker}
 use Rattle.flow_graph.specs.declared.op.Op.{Op}
 use Rattle.flow_graph.specs.Graphs.{Flow, Need, Variable, AnyWidth, SameWidth, FrameArray, Target, IsMet, needs, FitsOp}
 use Rattle.flow_graph.specs.Graphs.{HasFittingOp, IsPlainAt, EndsOnlyLast, IsBlock}
-use Rattle.flow_graph.proofs.Points.{every-map}
 
 -- what is in a list stays there
 pub record Keeps {X : Type 0} (xs ys : List X) : Type 0 where
@@ -36,7 +35,7 @@ met-grows f g h (Target x) m = let up = h.blocks in omega arith
 
 -- an op that fits still fits
 pub fits_op-grows : (f g : Flow) → Grows f g → (op : Op) → FitsOp f op → FitsOp g op
-fits_op-grows f g h op m = every-map (IsMet f) (IsMet g) (met-grows f g h) (needs op) m
+fits_op-grows f g h op m = all-weaker (IsMet f) (IsMet g) (needs op) (met-grows f g h) m
 
 -- a point whose op fits still has it
 pub fitting-grows : (f g : Flow) → Grows f g → (p : ℕ) → HasFittingOp f p → HasFittingOp g p
@@ -56,9 +55,9 @@ ends-grows xs ys h (p ∷ q ∷ ps) e = (plain-grows xs ys h p e.0, ends-grows x
 pub block-grows : (f g : Flow) (homes more : List ℕ) → Grows f g → Keeps homes more → (b : ℕ) (ps : List ℕ)
     → IsBlock f homes b ps → IsBlock g more b ps
 block-grows f g homes more h k b ps i = record {
-  at_home = every-map (λ p. slice_get homes p ≡ Some b) (λ p. slice_get more p ≡ Some b)
-      (λ p e. k.kept p b e) ps i.at_home;
-  fits = every-map (HasFittingOp f) (HasFittingOp g) (fitting-grows f g h) ps i.fits;
+  at_home = all-weaker (λ p. slice_get homes p ≡ Some b) (λ p. slice_get more p ≡ Some b) ps
+      (λ p e. k.kept p b e) i.at_home;
+  fits = all-weaker (HasFittingOp f) (HasFittingOp g) ps (fitting-grows f g h) i.fits;
   once = i.once;
   ends = ends-grows f.ops g.ops h.ops ps i.ends;
 }

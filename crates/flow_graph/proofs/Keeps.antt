@@ -7,13 +7,13 @@ use Rattle.std.specs.List.{AllByRecursion, slice_get}
 use Rattle.std.proofs.lemmas.Bool.{cases_eq}
 use Rattle.std.proofs.lemmas.Option.{slice_get_within}
 use Rattle.pcc_base.specs.declared.run.Width.{Width}
-use Rattle.pcc_base.proofs.Lists.{get-last, all-push}
+use Rattle.pcc_base.proofs.Lists.{get-last, all-push, all-weaker}
 use Rattle.flow_graph.specs.declared.op.Op.{Op}
 use Rattle.flow_graph.specs.Graphs.{Flow, IsIn, FitsOp, HasFittingOp, NumbersFit, IsPlainAt, IsEnded, IsArray, IsBlock}
 use Rattle.flow_graph.specs.Graphs.{IsFlow, IsPlaced, Stands, points_of, insert_after, is_end, with_variable}
 use Rattle.flow_graph.specs.Graphs.{with_array, with_block, with_points, with_op, with_op_after, without}
 use Rattle.flow_graph.specs.Graphs.{empty_flow, without_point_of}
-use Rattle.flow_graph.proofs.Points.{every-map, every-insert, every-without, every-in, distinct-push}
+use Rattle.flow_graph.proofs.Points.{every-insert, every-without, every-in, distinct-push}
 use Rattle.flow_graph.proofs.Points.{distinct-insert, distinct-without, all_plain, ends-push, ends-insert, ends-without}
 use Rattle.flow_graph.proofs.Growth.{Grows, keeps-append, keeps-same, fits_op-grows, plain-grows}
 use Rattle.flow_graph.proofs.Growth.{block-grows}
@@ -160,8 +160,8 @@ flow-points f homes b ps op i h room word w =
 -- the number of the new point stands nowhere yet
 fresh : (f : Flow) (ps : List ℕ) → AllByRecursion (HasFittingOp f) ps → AllByRecursion (λ q. q ≢ length f.ops) ps
 fresh f ps h =
-    every-map (HasFittingOp f) (λ q. q ≢ length f.ops)
-    (λ q m e. let below = slice_get_within f.ops q m.0 m.1 in absurd (omega (arith, below, e))) ps h
+    all-weaker (HasFittingOp f) (λ q. q ≢ length f.ops) ps
+    (λ q m e. let below = slice_get_within f.ops q m.0 m.1 in absurd (omega (arith, below, e))) h
 
 -- the new point is at home
 new_home : (f : Flow) (homes : List ℕ) (b : ℕ) → IsFlow f homes → slice_get (homes ++ b ∷ []) (length f.ops) ≡ Some b
@@ -185,9 +185,9 @@ flow-append f homes b op i h room open_block fit word =
       fits = all-push (HasFittingOp g) ps x grown.fits (op, get-last f.ops op, fits_op-grows f g grows op fit);
       once = distinct-push ps x old.once (fresh f ps old.fits);
       ends = ends-push g.ops ps x
-          (every-map (IsPlainAt f.ops) (IsPlainAt g.ops) (plain-grows f.ops g.ops grows.ops) ps
-          (all_plain f.ops ps (every-map (HasFittingOp f) (λ p. (o : Op) × (slice_get f.ops p ≡ Some o))
-          (λ p m. (m.0, m.1)) ps old.fits) old.ends open_block));
+          (all-weaker (IsPlainAt f.ops) (IsPlainAt g.ops) ps (plain-grows f.ops g.ops grows.ops)
+          (all_plain f.ops ps (all-weaker (HasFittingOp f) (λ p. (o : Op) × (slice_get f.ops p ≡ Some o)) ps
+          (λ p m. (m.0, m.1)) old.fits) old.ends open_block));
     })
 
 -- with a new point right after a point

@@ -12,12 +12,6 @@ pub choose : {A : Type 0} (p x : ℕ) (P : A → Type 0) (a b : A) → (p ≡ x 
 choose p x P a b t f =
     (elim (eqb p x) as (λ v. eqb p x ≡ v → P (cond v a b)) [ true ↦ λ e. t (eqb-true p x e) | false ↦ λ e. f ]) refl
 
--- what holds of each implies another
-pub every-map : {X : Type 0} (P Q : X → Type 0) → ((x : X) → P x → Q x) → (xs : List X) → AllByRecursion P xs
-    → AllByRecursion Q xs
-every-map P Q f [] h = tt
-every-map P Q f (x ∷ xs) h = (f x h.0, every-map P Q f xs h.1)
-
 -- what holds of each, and of a point that comes in
 pub every-insert : (P : ℕ → Type 0) (x y : ℕ) (ps : List ℕ) → AllByRecursion P ps → P y
     → AllByRecursion P (insert_after x y ps)
@@ -105,3 +99,8 @@ ends-without ops x (p ∷ []) e = choose p x (EndsOnlyLast ops) [] (p ∷ []) (�
 ends-without ops x (p ∷ q ∷ ps) e =
     choose p x (EndsOnlyLast ops) (q ∷ ps) (p ∷ without x (q ∷ ps)) (λ s. e.1)
     (ends-cons ops p (without x (q ∷ ps)) e.0 (ends-without ops x (q ∷ ps) e.1))
+
+-- what holds of each that is in a list holds of each
+pub every-from : (P : ℕ → Type 0) (ps : List ℕ) → ((p : ℕ) → IsIn p ps → P p) → AllByRecursion P ps
+every-from P [] h = tt
+every-from P (p ∷ ps) h = (h p (inl refl), every-from P ps (λ q within. h q (inr within)))

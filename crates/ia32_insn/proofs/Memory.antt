@@ -5,6 +5,7 @@ use Rattle.std.specs.Prelude.{map, Option, Some, None, option_map, nat_le, if◌
 use Rattle.std.specs.List.{AllByRecursion}
 use Rattle.std.proofs.Common.{sym, ◌∙◌, ap, arith, inl, inr}
 use Rattle.std.proofs.lemmas.Bool.{leb-true, le-leb, and_parts}
+use Rattle.std.proofs.lemmas.Option.{none-some}
 use Rattle.ia32_insn.specs.State.{Area, has_bytes, bytes_at, code_at, stored, with_bytes, Shape, shape_of, AreApart}
 use Rattle.ia32_insn.specs.State.{IsApart}
 use Rattle.ia32_insn.specs.Keeps.{IsCodeOrData, AreDisjoint}
@@ -40,10 +41,6 @@ has-with_bytes : (address b n : ℕ) (bytes : List ℕ) (area : Area) → IsInsi
     → has_bytes (with_bytes address bytes area) b n ≡ has_bytes area b n
 has-with_bytes address b n bytes area h =
     ap (λ (k : ℕ). nat_le area.address b && nat_le (b + n) (area.address + k)) (length-with_bytes address bytes area h)
-
--- something isn't nothing
-none-some : {X : Type 0} (x : X) → None ≡ Some x → ⊥
-none-some x e = absurd (let no : None ≡ Some x = e in cc)
 
 some-once : {X : Type 0} (x y : X) → Some x ≡ Some y → x ≡ y
 some-once x y e = cc

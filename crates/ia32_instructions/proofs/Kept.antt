@@ -3,6 +3,7 @@ use Rattle.std.specs.Prelude.{◌≡◌, ℕ, ◌+◌, ◌-◌, Bool, true, fals
 use Rattle.std.specs.Prelude.{Option, Some, None, option_map, Result, Ok, Err, IfOk, nat_le, if◌then◌else◌}
 use Rattle.std.proofs.Common.{sym, ◌∙◌, ap, subst, arith}
 use Rattle.std.proofs.lemmas.Bool.{and_parts}
+use Rattle.std.proofs.lemmas.Option.{none-some}
 use Rattle.pcc_base.specs.Outcome.{End}
 use Rattle.ia32_insn.specs.declared.insn.Insn.{Insn}
 use Rattle.ia32_insn.specs.State.{State, Area, has_bytes, code_at, may_store, stored, with_bytes, at_address}
@@ -39,10 +40,6 @@ passes-part false b x y e = refl
 -- what is kept at one address
 abbrev Keeps : ℕ → List Area → List Area → Type 0
 Keeps b old new = IsFixed b new × (code_at b new ≡ code_at b old)
-
--- something isn't nothing
-none-some : {X : Type 0} (x : X) → None ≡ Some x → ⊥
-none-some x e = absurd (let no : None ≡ Some x = e in cc)
 
 some-once : {X : Type 0} (x y : X) → Some x ≡ Some y → x ≡ y
 some-once x y e = cc

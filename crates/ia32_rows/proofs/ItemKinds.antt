@@ -4,7 +4,7 @@ use Rattle.std.proofs.Common.{◌≡◌, ℕ, zero, suc, ◌+◌, ◌<◌, ◌�
 use Rattle.std.proofs.Common.{subst, refl, ◌∙◌, arith, Option, map}
 use Rattle.std.specs.Prelude.{◌==◌, ◌||◌, ⊤, ℤ, Bool, true, false, if◌then◌else◌, option_map, slice_get, slice_index_or}
 use Rattle.std.proofs.lemmas.Option.{same_Some}
-pub use Rattle.pcc_base.proofs.Lists.{all-append, all-at, element-at}
+pub use Rattle.pcc_base.proofs.Lists.{all-append, all-at, all-weaker, element-at}
 use Rattle.ia32_regs.specs.declared.names.Reg32.{Reg32}
 use Rattle.ia32_regs.specs.declared.names.Reg32.TheVariants.{Eax, Edx, Esi, Edi}
 use Rattle.ia32_regs.specs.declared.names.Reg8.TheVariants.{Cl}
@@ -33,7 +33,6 @@ use Rattle.flow_graph.specs.declared.op.Op.{Op}
 use Rattle.flow_graph.specs.declared.op.Op.TheVariants as op
 use Rattle.flow_graph.specs.Graphs.{Flow}
 use Rattle.flow_graph.specs.Meaning.{bytes_of}
-use Rattle.flow_graph.proofs.Points.{every-map}
 use Rattle.ia32_rows.proofs.Spelled.{IsCommon, common-begins}
 use Rattle.ia32_rows.specs.Follows.{is_nop}
 use Rattle.ia32_rows.specs.Placements.{Placement, below}
@@ -142,7 +141,7 @@ plain-other (item.Plain i) h = h
 plain-other i h = absurd h
 
 plain-others : (items : List Item) → ArePlain items → AreOthers items
-plain-others items h = every-map IsPlain IsOther plain-other items h
+plain-others items h = all-weaker IsPlain IsOther items plain-other h
 
 plain-row : (items : List Item) → IsPlainRow items → IsOtherRow items
 plain-row items h = (plain-others items h.0, h.1)
@@ -159,7 +158,7 @@ other-room i h = tt
 
 other-row : (items : List Item) → IsOtherRow items → IsRow items
 other-row [] h = absurd h.1
-other-row (i ∷ items) h = (every-map IsOther IsRowItem other-item (i ∷ items) h.0, other-room i h.0.0)
+other-row (i ∷ items) h = (all-weaker IsOther IsRowItem (i ∷ items) other-item h.0, other-room i h.0.0)
 
 other-first : (items : List Item) → IsOtherRow items → BeginsWithOther items
 other-first [] h = absurd h.1

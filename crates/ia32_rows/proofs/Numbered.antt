@@ -6,12 +6,13 @@ use Rattle.std.proofs.Common.{None, refl, sym, ap, subst, ◌∙◌, inl, inr, a
 use Rattle.std.specs.Prelude.{◌⊎◌, slice_get, slice_index_or}
 use Rattle.std.proofs.lemmas.Bool.Decides.{eqb_tells}
 use Rattle.std.proofs.lemmas.Option.{same_Some, slice_get_within}
+use Rattle.pcc_base.proofs.Lists.{all-weaker}
 use Rattle.ia32_insn.specs.declared.item.Item.{Item}
 use Rattle.ia32_insn.specs.declared.item.Item.TheVariants as item
 use Rattle.flow_graph.specs.declared.op.Op.{Op}
 use Rattle.flow_graph.specs.declared.op.Op.TheVariants as op
 use Rattle.flow_graph.specs.Graphs.{Flow, IsIn, IsDistinct, IsEnded, IsFlow, LastIsEnd, points_of, without}
-use Rattle.flow_graph.proofs.Points.{every-in, every-map, every-without, distinct-without, choose}
+use Rattle.flow_graph.proofs.Points.{every-in, every-without, distinct-without, choose, every-from}
 use Rattle.ia32_rows.specs.Placements.{Placement}
 use Rattle.ia32_rows.specs.Once.{LabelsStandOnce, PointsArePlaced, PointsStandOnce}
 use Rattle.ia32_rows.specs.Rows.{entry_label, headers, loop_label, row, prologue, point_rows, block_rows, selected}
@@ -336,10 +337,6 @@ few (suc n) (p ∷ ps) d h =
     let long = length-without n (p ∷ ps) in
     omega arith
 
-every-from : (P : ℕ → Type 0) (ps : List ℕ) → ((n : ℕ) → IsIn n ps → P n) → AllByRecursion P ps
-every-from P [] h = tt
-every-from P (p ∷ ps) h = (h p (inl refl), every-from P ps (λ n i. h n (inr i)))
-
 -- the first block of a graph has a point, which is its end
 some-in : (ops : List Op) (points : List ℕ) → LastIsEnd ops points → 0 < length points
 some-in ops [] h = absurd h
@@ -363,8 +360,8 @@ few-points flow homes f =
     (every-from (λ q. q < length flow.ops) (all_points flow.blocks) (λ n i.
     let m = block-in flow.blocks n i in
     every-in (λ q. q < length flow.ops) n (points_of flow m.0)
-    (every-map _ (λ q. q < length flow.ops) (λ q fits. slice_get_within flow.ops q fits.0 fits.1)
-    (points_of flow m.0) (f.each_block m.0).fits) m.1))
+    (all-weaker _ (λ q. q < length flow.ops) (points_of flow m.0)
+    (λ q fits. slice_get_within flow.ops q fits.0 fits.1) (f.each_block m.0).fits) m.1))
 
 -- ---- no label twice
 

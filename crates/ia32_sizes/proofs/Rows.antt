@@ -27,7 +27,6 @@ use Rattle.flow_graph.specs.Graphs.{NumbersFit}
 use Rattle.flow_graph.specs.Meaning.{bytes_of}
 use Rattle.flow_graph.specs.Sizes.{words_of}
 use Rattle.flow_graph.specs.WellFormed.{NamesWithin}
-use Rattle.flow_graph.proofs.Points.{every-map}
 use Rattle.ia32_asm.specs.Parts.{IsInRange, IsIndex, IsIndexed}
 use Rattle.ia32_asm.specs.Sections.{Stands, items_size}
 use Rattle.ia32_asm.proofs.Laying.{items_size-append}
@@ -40,7 +39,7 @@ use Rattle.ia32_rows.specs.Rows.{set_row, pass, pass_all, argument_word, deepen,
 use Rattle.ia32_rows.specs.Rows.{before_call, behind_call, call_row, leave, return_row, prologue, size_of}
 use Rattle.ia32_rows.specs.Rows.{clear_row, loading, load_from, store_to, index_register, count_before, element}
 use Rattle.ia32_rows.specs.Rows.{check_array, check_index, checking, load_row, store_row}
-use Rattle.ia32_rows.proofs.ItemKinds.{all-append}
+use Rattle.ia32_rows.proofs.ItemKinds.{all-append, all-weaker}
 use Rattle.ia32_sizes.proofs.Fine.{AreFine, IsFine, IsNear, Within, argument-fits, changing-fine, commuting-fine}
 use Rattle.ia32_sizes.proofs.Fine.{comparing-fine, copy-fine, dividing-fine, element-index, fits-below, fits-near}
 use Rattle.ia32_sizes.proofs.Fine.{halving-fine, join, leaves, loading-fine, lowering-fine, multiplying-fine}
@@ -92,7 +91,7 @@ module _ (whole : List Item) (functions objects : ℕ) where
   fine-good (item.AddressOf r k) h = absurd h
 
   good : (n : ℕ) (items : List Item) → AreFine n items → Good n items
-  good n items h = (every-map IsFine (IsGood whole functions objects) fine-good items h.0, h.1)
+  good n items h = (all-weaker IsFine (IsGood whole functions objects) items fine-good h.0, h.1)
 
   both : (m n : ℕ) (xs ys : List Item) → Good m xs → Good n ys → Good (m + n) (xs ++ ys)
   both m n xs ys a b = join (IsGood whole functions objects) m n xs ys a b

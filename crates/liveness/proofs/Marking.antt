@@ -23,10 +23,6 @@ set-other (y ∷ xs) zero (suc j) x n = refl
 set-other (y ∷ xs) (suc i) zero x n = refl
 set-other (y ∷ xs) (suc i) (suc j) x n = set-other xs i j x (λ e. n (ap suc e))
 
--- the two truth values differ
-pub false-true : false ≡ true → ⊥
-false-true e = cc
-
 -- a mark is of the variable, or not
 marked-or-not : (o : Option (Option ℕ)) (v : ℕ) → (o ≡ Some (Some v)) ⊎ (o ≡ Some (Some v) → ⊥)
 marked-or-not None v = inr (λ e. cc)

@@ -3,6 +3,7 @@ use Rattle.std.proofs.Common.{◌≡◌, ◌<◌, ◌≤◌, ℕ, List, [], Some
 use Rattle.std.specs.Prelude.{slice_get, sum_by}
 use Rattle.std.specs.List.{AllByRecursion, range_with_len}
 use Rattle.std.proofs.lemmas.List.Elements.{recursion_from_All}
+use Rattle.std.proofs.lemmas.List.{length-map}
 use Rattle.c_tree.specs.Program.{Function, Program}
 use Rattle.c_tree.specs.Sizes.{array_bytes, function_size}
 use Rattle.c_tree.specs.WellTyped.{IsTypedFunction, WellTyped}
@@ -17,7 +18,7 @@ use Rattle.lower_lines.specs.Words.{FunctionHasWords, IsInMemory}
 use Rattle.lower_builder.specs.Graphs.{AllFit, AreClosed}
 use Rattle.lower_lines.proofs.Closing.{all-lines-close}
 use Rattle.lower_lines.proofs.Ordered.{graphs-are-laid-out}
-use Rattle.lower_lines.proofs.Shapes.{length-map, length-range}
+use Rattle.lower_lines.proofs.Shapes.{length-range}
 use Rattle.lower_programs.specs.FitsLaws.{IsGood, Room}
 use Rattle.lower_programs.proofs.Functions.{function-fits}
 use Rattle.lower_programs.proofs.Sizes.{counts-small, function-small}
@@ -37,7 +38,7 @@ module _ (p : Program) (well : WellTyped p) (memory : IsInMemory p) (k : ℕ) (f
     function = f;
     flow = blank;
     widths = refl;
-    arrays = length-map array_of f.arrays;
+    arrays = length-map f.arrays array_of;
   }
 
   functions : AllByRecursion (IsTypedFunction p) p.functions
@@ -56,7 +57,7 @@ module _ (p : Program) (well : WellTyped p) (memory : IsInMemory p) (k : ℕ) (f
   arrays-small = let h = words.frame in omega (arith, h)
 
   blocks-many : length blank.blocks ≡ blocks_of_function c
-  blocks-many = length-map (λ b. points_in b []) (range_with_len 0 (blocks_of_function c))
+  blocks-many = length-map (range_with_len 0 (blocks_of_function c)) (λ b. points_in b [])
       ∙ length-range 0 (blocks_of_function c)
 
   pub arrays-are : AllByRecursion IsArray (map array_of f.arrays)

@@ -4,10 +4,7 @@ use Rattle.std.proofs.Common.{append_assoc, map, drop, length, subst, pos, true}
 use Rattle.std.specs.Prelude.{get_or}
 use Rattle.std.proofs.lemmas.List.{drop-map, drop_all}
 use Rattle.c_tree.specs.declared.types.IntegerType.{IntegerType}
-use Rattle.c_tree.specs.Erased.{statement_of, statements_of, row_of}
-use Rattle.c_tree.specs.declared.statement.Statement.{Row_of-Statement, end_of-Statement, more_of-Statement}
-use Rattle.c_tree.specs.declared.statement.Statement.{items-the_row-Statement}
-use Rattle.c_tree.specs.Program.{Expression, Initialiser, Item, Next, Statements, Text}
+use Rattle.c_tree.specs.Program.{Expression, Initialiser, Item, Text}
 use Rattle.flow_graph.specs.declared.op.Op.TheVariants as op
 use Rattle.lower_builder.specs.Built.{Built, Adds}
 use Rattle.lower_lines.specs.Expressions.{part_of}
@@ -120,10 +117,3 @@ pub text-array : (c : Context) (k : ℕ) (t : IntegerType) (object : ℕ) {i : I
 text-array c k t object {i} {s} {u} {v} e clear text =
     subst (λ (j : Initialiser). Adds s v (array_blocks c j) (array_lines c k t j s.next)) (sym e)
     (next-to (λ (n : ℕ). text_lines c k t object n) clear text)
-
--- ---- statements
-
--- a row of statements as a list
-pub statements_are : {m : _} (row : Row_of-Statement m) → row_of row ≡ statements_of (items-the_row-Statement m row)
-statements_are end_of-Statement = refl
-statements_are (more_of-Statement x rest) = ap (λ (xs : Statements). Next (statement_of x) xs) (statements_are rest)

@@ -2,13 +2,14 @@
 use Rattle.std.proofs.Common.{◌≡◌, ◌≢◌, ℕ, zero, suc, ◌+◌, ◌<◌, Bool, true, false, List, [], ◌∷◌, ◌++◌, length, map}
 use Rattle.std.proofs.Common.{Some, refl, sym, ap, ◌∙◌, subst, arith, length-append, eq-eqb, get_or, take, drop}
 use Rattle.std.proofs.Common.{append_assoc, inl, inr, ◌⊎◌}
-use Rattle.std.specs.Prelude.{slice_get, slice_set, slice_index_or, if◌then◌else◌, ◌==◌}
+use Rattle.std.specs.Prelude.{slice_set, slice_index_or, if◌then◌else◌, ◌==◌}
 use Rattle.std.specs.List.{AllByRecursion, range_with_len}
 use Rattle.std.proofs.lemmas.Bool.Decides.{eqb_tells}
 use Rattle.std.proofs.lemmas.List.FromFn.{length-map-range_with_len}
 use Rattle.std.proofs.lemmas.List.{append-nil}
+use Rattle.std.proofs.lemmas.Bool.{false≢true}
 use Rattle.pcc_base.specs.declared.run.Width.{Width}
-use Rattle.pcc_base.proofs.Lists.{all-left, all-right}
+use Rattle.pcc_base.proofs.Lists.{all-left, all-right, get-seam}
 use Rattle.flow_graph.specs.declared.op.Op.{Op}
 use Rattle.flow_graph.specs.Graphs.{Flow, FitsOp, IsDistinct, LastIsEnd, is_end, points_of}
 use Rattle.flow_graph.proofs.Growth.{Grows, fits_op-grows, keeps-same}
@@ -21,10 +22,6 @@ use Rattle.lower_builder.specs.Graphs.{AllFit, AreClosed, CanFollow, graph_behin
 
 -- ---- lists
 
-get-seam : {X : Type 0} (front : List X) (x : X) (xs : List X) → slice_get (front ++ x ∷ xs) (length front) ≡ Some x
-get-seam [] x xs = refl
-get-seam (y ∷ front) x xs = get-seam front x xs
-
 distinct-front : (b : ℕ) (xs ys : List ℕ) → IsDistinct (xs ++ b ∷ ys) → AllByRecursion (λ c. c ≢ b) xs
 distinct-front b [] ys h = tt
 distinct-front b (x ∷ xs) ys h =
@@ -33,9 +30,6 @@ distinct-front b (x ∷ xs) ys h =
 map-same : {X Y : Type 0} (f g : X → Y) (xs : List X) → ((x : X) → f x ≡ g x) → map f xs ≡ map g xs
 map-same f g [] h = refl
 map-same f g (x ∷ xs) h = ap (λ (y : _). y ∷ map f xs) (h x) ∙ ap (λ (ys : _). g x ∷ ys) (map-same f g xs h)
-
-false-true : false ≡ true → ⊥
-false-true e = cc
 
 -- an element of a list over a range, and what is left where it changes
 index-range : {X : Type 0} (f : ℕ → X) (a n j : ℕ) (d : X) → j < n
@@ -106,7 +100,7 @@ no-end : (block : ℕ) (front ops : List Op) → AllPlain ops
     → LastIsEnd (front ++ ops) (points_from block (length front) true (emitted ops)) → ⊥
 no-end block front [] plain last = last
 no-end block front (i ∷ []) plain last =
-    false-true (sym plain.0 ∙ ap is_end (same i last.0 (sym (get-seam front i []) ∙ last.1)) ∙ last.2)
+    false≢true (sym plain.0 ∙ ap is_end (same i last.0 (sym (get-seam front i []) ∙ last.1)) ∙ last.2)
   where
     same : (x y : Op) → Some x ≡ Some y → x ≡ y
     same x y e = cc
@@ -131,7 +125,7 @@ not-ended : (lines : List Line) → Closes false lines true → IsDistinct (star
     → LastIsEnd (ops_in lines) (points_in (open_after 0 lines) lines) → ⊥
 not-ended lines c once last =
     elim (split false lines c) [
-      | inl found ↦ false-true found.0
+      | inl found ↦ false≢true found.0
       | inr found ↦
           let before = found.0 in
           let block = found.1 in
@@ -180,7 +174,7 @@ module _ (widths : List Width) (arrays : List (ℕ × ℕ)) (blocks : ℕ) where
   open-there : (before rest : List Line) → AreClosed blocks (before ++ rest) → Closes false before true
       → open_after 0 before < blocks
   open-there before rest are c =
-      open-started (λ b. b < blocks) 0 false before c (λ f. absurd (false-true f))
+      open-started (λ b. b < blocks) 0 false before c (λ f. absurd (false≢true f))
       (all-left (λ b. b < blocks) (starts_in before) (starts_in rest)
       (subst (λ (bs : List ℕ). AllByRecursion (λ b. b < blocks) bs) (starts-append before rest) are.inside))
 
@@ -225,7 +219,7 @@ module _ (widths : List Width) (arrays : List (ℕ × ℕ)) (blocks : ℕ) where
       points-append b 0 false before (Emit i ∷ [])
       ∙ ap (λ (k : ℕ). points_in b before ++ points_from b k (here_after b false before) (Emit i ∷ [])) plain
       ∙ ap (λ (t : Bool). points_in b before ++ points_from b n t (Emit i ∷ []))
-      (here-open b 0 false false before c (λ f. absurd (false-true f)))
+      (here-open b 0 false false before c (λ f. absurd (false≢true f)))
 
   pub graph-behind : (before : List Line) (line : Line) (rest : List Line) → AreClosed blocks (before ++ line ∷ rest)
       → graph_behind (graph before) (open_after 0 before) line ≡ graph (before ++ line ∷ [])

@@ -2,7 +2,6 @@
 use Rattle.std.proofs.Common.{◌≡◌, ◌≤◌, ℕ, zero, suc, ◌+◌, ◌*◌, Bool, true, false, ℤ, List, [], ◌∷◌}
 use Rattle.std.proofs.Common.{◌++◌, Option, Some, None, refl, sym, ap, subst, arith, length, length-append}
 use Rattle.std.specs.Prelude.{if◌then◌else◌, ◌==◌, ◌||◌}
-use Rattle.std.proofs.lemmas.Bool.Decides.{nat_tests}
 use Rattle.c_tree.specs.declared.statement.Label.{Label}
 use Rattle.c_tree.specs.declared.types.ValueType.{ValueType}
 use Rattle.c_tree.specs.declared.types.ValueType.TheVariants.{Void, Integer, Pointer}
@@ -24,13 +23,10 @@ use Rattle.lower_lines.specs.Statements.{second_block, second_lines, sequence_li
 use Rattle.lower_lines.specs.Statements.{started, straight, switch_run, test_blocks_if_any, test_if_any, towards}
 use Rattle.lower_lines.specs.Statements.{while_run}
 use Rattle.lower_lines.specs.Variables.{Context}
-use Rattle.lower_lines.proofs.Filling.{one, under}
+use Rattle.lower_lines.proofs.Filling.{one, under, under-one}
 use Rattle.lower_lines.proofs.Weighed.{weighed}
 use Rattle.lower_lines.proofs.Weights.{Quiet, Weighs, quiet-ops, quiet-then, weighs-mark, weighs-none, weighs-op}
 use Rattle.lower_lines.proofs.Weights.{weighs-start, weighs-then, weighs-to}
-
-under-one : (b n : ℕ) → under b n ≤ 1
-under-one b n = grind (arith, nat_tests)
 
 no-more : (ms : List ℕ) → ms ++ [] ≡ ms
 no-more [] = refl

@@ -26,7 +26,7 @@ use Rattle.lower_lines.specs.Statements.{levels_if_any}
 use Rattle.lower_lines.specs.Statements.{run_of, runs_levels, runs_of}
 use Rattle.lower_lines.specs.Variables.{Context, Spot, local_spot}
 use Rattle.lower_lines.proofs.Bodies.{runs-laid}
-use Rattle.lower_lines.proofs.Filling.{Lays, IsPlain, emit-lays, lays-to, plain-append, plain-then, same}
+use Rattle.lower_lines.proofs.Filling.{Lays, IsPlain, emit-lays, lays-to, plain-append, plain-then, same, under-one}
 use Rattle.lower_lines.proofs.Filling.{start-lays, starting, under}
 use Rattle.lower_lines.proofs.Levels.{within}
 use Rattle.lower_lines.proofs.Statements.{block-laid}
@@ -66,9 +66,6 @@ inside n (Start x ∷ lines) h =
     less : (x n : ℕ) → (n ≤ x → ⊥) → x < n
     less x n h = grind arith
 inside n (Emit i ∷ lines) h = inside n lines h
-
-under-one : (b n : ℕ) → under b n ≤ 1
-under-one b n = grind (arith, nat_tests)
 
 under-none : (b n : ℕ) → n ≤ b → under b n ≡ 0
 under-none b n h = grind (arith, nat_tests)

@@ -4,15 +4,12 @@ use Rattle.std.proofs.Common.{length, map, Option, Some, None, refl, sym, ap, �
 use Rattle.std.proofs.lemmas.Bool.{leb-false, leb-true, ne_eqb}
 use Rattle.std.specs.Prelude.{slice_get, nat_le, option_map, if◌then◌else◌, ◌==◌}
 use Rattle.std.specs.List.{AllZip}
+use Rattle.std.proofs.lemmas.List.{length-map}
 use Rattle.flow_graph.specs.States as graph
 use Rattle.flow_graph.specs.States.{active_of, depth_of, frame_at, waiting_place, waiting_with, with_elements}
 use Rattle.lower_lines.specs.Relation.{SameWaiting}
 
 -- ---- lists
-
-pub length-mapped : {A B : Type 0} (f : A → B) (xs : List A) → length (map f xs) ≡ length xs
-length-mapped f [] = refl
-length-mapped f (x ∷ xs) = ap suc (length-mapped f xs)
 
 none-past : {A : Type 0} (xs : List A) → slice_get xs (length xs) ≡ None
 none-past [] = refl
@@ -31,11 +28,11 @@ deep-place : (ws : List graph.Waiting) (depth j : ℕ) → j + depth ≡ length 
     → option_map (λ (w : graph.Waiting). w.activation) (slice_get ws j) ≡ deep (calls_in ws) depth
 deep-place [] depth j e = refl
 deep-place (w ∷ ws) depth zero e =
-    let many = length-mapped (λ (v : graph.Waiting). v.activation) ws in
+    let many = length-map ws (λ (v : graph.Waiting). v.activation) in
     sym (ap (λ (b : Bool). if b then Some w.activation else deep (calls_in ws) depth)
     (eq-eqb depth (suc (length (calls_in ws))) (omega (arith, e, many))))
 deep-place (w ∷ ws) depth (suc j) e =
-    let many = length-mapped (λ (v : graph.Waiting). v.activation) ws in
+    let many = length-map ws (λ (v : graph.Waiting). v.activation) in
     deep-place ws depth j (omega (arith, e))
     ∙ sym (ap (λ (b : Bool). if b then Some w.activation else deep (calls_in ws) depth)
     (ne_eqb depth (suc (length (calls_in ws))) (λ same. omega (arith, e, many, same))))
@@ -43,7 +40,7 @@ deep-place (w ∷ ws) depth (suc j) e =
 deep-past : (ws : List graph.Waiting) (depth : ℕ) → length ws < depth → deep (calls_in ws) depth ≡ None
 deep-past [] depth lt = refl
 deep-past (w ∷ ws) depth lt =
-    let many = length-mapped (λ (v : graph.Waiting). v.activation) ws in
+    let many = length-map ws (λ (v : graph.Waiting). v.activation) in
     ap (λ (b : Bool). if b then Some w.activation else deep (calls_in ws) depth)
     (ne_eqb depth (suc (length (calls_in ws))) (λ same. omega (arith, lt, many, same)))
     ∙ deep-past ws depth (omega (arith, lt))
@@ -70,7 +67,7 @@ deep-waits ws depth = by (nat_le depth (length ws)) refl
 -- the call that a name of a frame array names
 pub frame-deep : (g : graph.State) (depth : ℕ) → frame_at g depth ≡ deep (active_of g) depth
 frame-deep g depth =
-    let many = length-mapped (λ (v : graph.Waiting). v.activation) g.waiting in
+    let many = length-map g.waiting (λ (v : graph.Waiting). v.activation) in
     ap (λ (n : ℕ). if depth == suc n then Some g.current
     else option_map (λ (w : graph.Waiting). w.activation) (slice_get g.waiting (waiting_place g depth))) (sym many)
     ∙ ap (λ (x : Option graph.Activation). if depth == suc (length (calls_in g.waiting)) then Some g.current else x)
@@ -92,12 +89,12 @@ with-place : (ws : List graph.Waiting) (k depth j : ℕ) (elements : List ℤ) �
     → calls_in (waiting_with k elements j (slice_get ws j) ws) ≡ with_deep k depth elements (calls_in ws)
 with-place [] k depth j elements e = refl
 with-place (w ∷ ws) k depth zero elements e =
-    let many = length-mapped (λ (v : graph.Waiting). v.activation) ws in
+    let many = length-map ws (λ (v : graph.Waiting). v.activation) in
     sym (ap (λ (b : Bool). if b then with_elements k elements w.activation ∷ calls_in ws
     else w.activation ∷ with_deep k depth elements (calls_in ws))
     (eq-eqb depth (suc (length (calls_in ws))) (omega (arith, e, many))))
 with-place (w ∷ ws) k depth (suc j) elements e =
-    let many = length-mapped (λ (v : graph.Waiting). v.activation) ws in
+    let many = length-map ws (λ (v : graph.Waiting). v.activation) in
     ap calls_in (waiting-more k j elements w ws (slice_get ws j))
     ∙ ap (λ (bs : List graph.Activation). w.activation ∷ bs) (with-place ws k depth j elements (omega (arith, e)))
     ∙ sym (ap (λ (b : Bool). if b then with_elements k elements w.activation ∷ calls_in ws
@@ -108,7 +105,7 @@ with-past : (ws : List graph.Waiting) (k depth : ℕ) (elements : List ℤ) → 
     → with_deep k depth elements (calls_in ws) ≡ calls_in ws
 with-past [] k depth elements lt = refl
 with-past (w ∷ ws) k depth elements lt =
-    let many = length-mapped (λ (v : graph.Waiting). v.activation) ws in
+    let many = length-map ws (λ (v : graph.Waiting). v.activation) in
     ap (λ (b : Bool). if b then with_elements k elements w.activation ∷ calls_in ws
     else w.activation ∷ with_deep k depth elements (calls_in ws))
     (ne_eqb depth (suc (length (calls_in ws))) (λ same. omega (arith, lt, many, same)))
@@ -146,7 +143,7 @@ active-with g k depth elements =
     by (depth == depth_of g)
     ∙ ap (λ (n : ℕ). if depth == suc n then with_elements k elements g.current ∷ calls_in g.waiting
     else g.current ∷ with_deep k depth elements (calls_in g.waiting))
-    (sym (length-mapped (λ (v : graph.Waiting). v.activation) g.waiting))
+    (sym (length-map g.waiting (λ (v : graph.Waiting). v.activation)))
   where
     by : (mine : Bool) → active_of (with_frame mine k depth elements g)
         ≡ (if mine then with_elements k elements g.current ∷ calls_in g.waiting

@@ -15,7 +15,7 @@ use Rattle.lower_lines.specs.Programs.{blocks_of_function, lines_of_function}
 use Rattle.lower_lines.specs.Variables.{Context}
 use Rattle.lower_lines.specs.BoundsLaws.{PointsAreFew}
 use Rattle.lower_lines.proofs.Closing.{function-lays}
-use Rattle.lower_lines.proofs.Filling.{same, starting, under}
+use Rattle.lower_lines.proofs.Filling.{same, starting, under, under-one}
 use Rattle.lower_lines.proofs.Shapes.{blocks-are}
 use Rattle.lower_lines.proofs.Weighings.{function-weighs}
 
@@ -49,9 +49,6 @@ below-none : (n : ℕ) → started_below n [] ≡ 0
 unfolding started_below
 below-none zero = refl
 below-none (suc n) = let h = below-none n in omega (arith, h)
-
-under-one : (b n : ℕ) → under b n ≤ 1
-under-one b n = grind (arith, nat_tests)
 
 below-few : (n : ℕ) (lines : List Line) → started_below n lines ≤ length (starts_in lines)
 below-few n [] = let h = below-none n in omega (arith, h)

@@ -1,5 +1,5 @@
 -- How often lines start a block; lines that start each block of a range once, and close what they open.
-use Rattle.std.proofs.Common.{◌≡◌, ℕ, suc, ◌+◌, Bool, true, false, List, [], ◌∷◌, ◌++◌}
+use Rattle.std.proofs.Common.{◌≡◌, ℕ, suc, ◌+◌, Bool, true, false, List, [], ◌∷◌, ◌++◌, ◌≤◌}
 use Rattle.std.proofs.Common.{refl, sym, subst, arith}
 use Rattle.std.specs.Prelude.{if◌then◌else◌, ◌==◌, nat_lt}
 use Rattle.std.proofs.lemmas.Bool.Decides.{nat_tests}
@@ -16,6 +16,9 @@ same b x = if b == x then 1 else 0
 -- 1 where the first number is less than the second
 abbrev pub under : ℕ → ℕ → ℕ
 under b n = if nat_lt b n then 1 else 0
+
+pub under-one : (b n : ℕ) → under b n ≤ 1
+under-one b n = grind (arith, nat_tests)
 
 -- how often lines start a block
 abbrev pub starting : ℕ → List Line → ℕ

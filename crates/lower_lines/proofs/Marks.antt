@@ -8,6 +8,8 @@ use Rattle.std.specs.List.{AllByRecursion, range_with_len}
 use Rattle.std.proofs.lemmas.List.Elements.{recursion_from_All}
 use Rattle.std.proofs.lemmas.List.Sums.{sum_by-cons}
 use Rattle.std.proofs.lemmas.Option.{slice_get_within}
+use Rattle.std.proofs.lemmas.Bool.{false≢true}
+use Rattle.std.proofs.lemmas.List.{length-map}
 use Rattle.pcc_base.proofs.Lists.{all-at}
 use Rattle.c_tree.specs.Program.{First, Nothing, Evaluated, Declared, Statement, Declare, Empty, Evaluate, Block, If}
 use Rattle.c_tree.specs.Program.{While, Do, For, Switch, Break, Continue, Return, Statements, Done, Next}
@@ -29,7 +31,7 @@ use Rattle.lower_lines.specs.Shown.{numbers_in, numbers_in_first, numbers_of}
 use Rattle.lower_lines.specs.Variables.{Context}
 use Rattle.lower_lines.proofs.Closing.{function-lays, lines-close}
 use Rattle.lower_lines.proofs.Filling.{Lays}
-use Rattle.lower_lines.proofs.Shapes.{get-map, get-range, length-map, points-are}
+use Rattle.lower_lines.proofs.Shapes.{get-map, get-range, points-are}
 use Rattle.lower_lines.proofs.Weighings.{function-weighs}
 
 -- ---- how many numbers there are
@@ -37,7 +39,7 @@ use Rattle.lower_lines.proofs.Weighings.{function-weighs}
 numbers-first : (first : First) → length (first_numbers first) ≡ numbers_in_first first
 numbers-first Nothing = refl
 numbers-first (Evaluated e) = refl
-numbers-first (Declared items) = length-map item_number items
+numbers-first (Declared items) = length-map items item_number
 
 mutual
   numbers-in : (x : Statement) → length (statement_numbers x) ≡ numbers_in x
@@ -211,9 +213,6 @@ placed P open' p o (Emit i ∷ lines) c h all (suc j) less =
         let e : suc p + j ≡ p + suc j = omega arith in
         subst (λ (n : ℕ). IsIn n (points_from block (suc p) false lines)) e h
 
-false-true : false ≡ true → ⊥
-false-true e = cc
-
 pub point-placed : (p : Program) (f : Function)
     → Lays 0 (blocks_of_function (record { program = p; function = f })) false false
     (lines_of_function (record { program = p; function = f })) → (point : ℕ)
@@ -223,12 +222,12 @@ point-placed p f h point less =
     let lines = lines_of_function c in
     let close = lines-close c h in
     let (block, is, at) = placed (λ b. b < blocks_of_function c) 0 0 false lines close.closed
-    (λ e. absurd (false-true e))
+    (λ e. absurd (false≢true e))
     (recursion_from_All (λ b. b < blocks_of_function c) (starts_in lines) close.inside) point less in
     let plain : 0 + point ≡ point = omega arith in (
       block,
       subst (λ (ps : List ℕ). IsIn point ps) (sym (points-are p f block is))
-          (subst (λ (n : ℕ). IsIn n (points_in block lines)) plain (at false (λ e. absurd (false-true e)))),
+          (subst (λ (n : ℕ). IsIn n (points_in block lines)) plain (at false (λ e. absurd (false≢true e)))),
     )
 
 -- ---- all marks

@@ -5,6 +5,7 @@ use Rattle.std.specs.Prelude.{if◌then◌else◌, slice_get, IfSome}
 use Rattle.std.specs.List.{AllByRecursion}
 use Rattle.std.proofs.lemmas.List.Elements.{All-from_recursion, recursion_from_All}
 use Rattle.std.proofs.lemmas.Option.{slice_get_within}
+use Rattle.std.proofs.lemmas.List.{length-map}
 use Rattle.pcc_base.proofs.Lists.{all-at}
 use Rattle.c_tree.specs.declared.expression.ArrayRef.{ArrayRef}
 use Rattle.c_tree.specs.declared.expression.ArrayRef.TheVariants as refs
@@ -50,7 +51,6 @@ use Rattle.lower_lines.proofs.Naming.{cast-named}
 use Rattle.lower_lines.proofs.Naming.{comma-named, conditional-named, constant-named, element-named, exit-named}
 use Rattle.lower_lines.proofs.Naming.{getchar-named, named-then, number-named, operand-named, or-named, read-named}
 use Rattle.lower_lines.proofs.Naming.{start-named, step-named, target-named, turned-named, unary-named, update-named}
-use Rattle.lower_lines.proofs.Shapes.{length-map}
 use Rattle.lower_lines.proofs.Types.{some-and}
 
 module _ (p : Program) (f : Function) where
@@ -449,7 +449,7 @@ pub names-are-there : NamesAreThere
 names-are-there p well k f at =
     let typed = all-at (IsTypedFunction p) p.functions k f
     (recursion_from_All (IsTypedFunction p) p.functions well.functions) at in
-    let functions = length-map (graph_of_function p) p.functions in
-    let objects = length-map data_object p.objects in
+    let functions = length-map p.functions (graph_of_function p) in
+    let objects = length-map p.objects data_object in
     rw functions (rw objects (All-from_recursion (NamesWithin (length p.functions) (length p.objects))
     (graph_of_function p f).ops (function-named p f typed)))

@@ -5,6 +5,7 @@ use Rattle.std.specs.Prelude.{if◌then◌else◌, ◌==◌, nat_le, slice_get, 
 use Rattle.std.specs.List.{All, AllByRecursion, range_with_len}
 use Rattle.std.proofs.lemmas.Bool.Decides.{nat_tests}
 use Rattle.std.proofs.lemmas.List.Elements.{All-from_recursion, All-map, recursion_from_All}
+use Rattle.std.proofs.lemmas.Bool.{false≢true}
 use Rattle.pcc_base.proofs.Lists.{all-at}
 use Rattle.c_tree.specs.declared.types.IntegerType.{IntegerType}
 use Rattle.c_tree.specs.declared.types.IntegerType.TheVariants.{Char, Short, Int}
@@ -20,7 +21,7 @@ use Rattle.lower_lines.specs.Programs.{blocks_of_function, graph_of_function, li
 use Rattle.lower_lines.specs.Variables.{Context}
 use Rattle.lower_lines.specs.BoundsLaws.{GraphsAreLaidOut, IsOrdered}
 use Rattle.lower_lines.proofs.Closing.{function-lays}
-use Rattle.lower_lines.proofs.Filling.{Lays, same, starting, under}
+use Rattle.lower_lines.proofs.Filling.{Lays, same, starting, under-one}
 use Rattle.lower_lines.proofs.Shapes.{StandFrom, block-ended, blocks-are}
 use Rattle.lower_lines.proofs.Shapes.{points-are, stand-behind}
 
@@ -39,9 +40,6 @@ homes-length open' (Emit i ∷ lines) = let h = homes-length open' lines in omeg
 
 equal-test : (m n : ℕ) → true ≡ (m == n) → m ≡ n
 equal-test m n e = grind (arith, nat_tests)
-
-false-true : false ≡ true → ⊥
-false-true e = cc
 
 at-home : (homes : List ℕ) (block open' p : ℕ) (here o : Bool) (lines : List Line) → Closes o lines false
     → (o ≡ true → here ≡ (open' == block))
@@ -149,7 +147,7 @@ block-order ops block p [] at = record {
 block-order ops block p (Start b ∷ lines) at =
     let r = block-order ops block p lines at in
     record {
-      opened = λ c s. absurd (false-true (sym c.0));
+      opened = λ c s. absurd (false≢true (sym c.0));
       shut = λ here c s. start-order ops block p b lines r c.1 s (b == block) refl;
       other = λ o c s. start-order ops block p b lines r c.1 s (b == block) refl;
       shut_none = λ here c s. start-none ops block p b lines r c.1 s (b == block) refl;
@@ -159,9 +157,9 @@ block-order ops block p (Emit i ∷ lines) at =
     let r = block-order ops block (suc p) lines (stand-behind ops p i lines at) in
     record {
       opened = λ c s. op-order ops block p i lines at r s (is_end i) refl c.1;
-      shut = λ here c s. absurd (false-true c.0);
+      shut = λ here c s. absurd (false≢true c.0);
       other = λ o c s. r.other (if is_end i then false else true) c.1 s;
-      shut_none = λ here c s. absurd (false-true c.0);
+      shut_none = λ here c s. absurd (false≢true c.0);
       other_none = λ o c s. r.other_none (if is_end i then false else true) c.1 s;
     }
 
@@ -171,9 +169,6 @@ index-none : {X : Type 0} (xs : List X) (k : ℕ) (d : X) → length xs ≤ k �
 index-none [] k d h = refl
 index-none (x ∷ xs) zero d h = absurd (omega (arith, h))
 index-none (x ∷ xs) (suc k) d h = index-none xs k d (omega (arith, h))
-
-under-few : (b n : ℕ) → under b n ≤ 1
-under-few b n = grind (arith, nat_tests)
 
 less-or-not : (m n : ℕ) → (m < n) ⊎ (n ≤ m)
 less-or-not m n = by_test (nat_le n m) refl
@@ -195,11 +190,11 @@ ordered-by p f h block (inl less) =
     let lines = lines_of_function c in
     let ops = ops_in lines in
     let e = sym (points-are p f block less) in
-    let few = under-few block (blocks_of_function c) in
+    let few = under-one block (blocks_of_function c) in
     let fill = h.fills block in
     record {
       at_home = subst (λ (ps : List ℕ). AllByRecursion (λ q. slice_get (homes_from 0 lines) q ≡ Some block) ps) e
-          (at-home (homes_from 0 lines) block 0 0 false false lines h.closes (λ k. absurd (false-true k))
+          (at-home (homes_from 0 lines) block 0 0 false false lines h.closes (λ k. absurd (false≢true k))
           (λ j. ap (λ (n : ℕ). slice_get (homes_from 0 lines) n) (plain j)));
       once = subst (λ (ps : List ℕ). IsDistinct ps) e (points-once block 0 false lines);
       ends = subst (λ (ps : List ℕ). EndsOnlyLast ops ps) e

@@ -4,7 +4,8 @@ use Rattle.std.proofs.Common.{Some, refl, sym, ap, ◌∙◌, subst, arith, leng
 use Rattle.std.specs.Prelude.{slice_get, slice_index_or, if◌then◌else◌, ◌==◌}
 use Rattle.std.specs.List.{AllByRecursion, range_with_len}
 use Rattle.std.proofs.lemmas.List.Elements.{recursion_from_All}
-use Rattle.pcc_base.proofs.Lists.{all-left, all-right}
+use Rattle.std.proofs.lemmas.Bool.{false≢true}
+use Rattle.pcc_base.proofs.Lists.{all-left, all-right, get-seam}
 use Rattle.c_tree.specs.Program.{Function, Program}
 use Rattle.flow_graph.specs.declared.op.Op.{Op}
 use Rattle.flow_graph.specs.Graphs.{Flow, IsDistinct, empty_flow, following, points_of}
@@ -53,17 +54,10 @@ points-there S site block h =
 
 -- ---- lists
 
-get-seam : {X : Type 0} (front : List X) (x : X) (xs : List X) → slice_get (front ++ x ∷ xs) (length front) ≡ Some x
-get-seam [] x xs = refl
-get-seam (y ∷ front) x xs = get-seam front x xs
-
 distinct-front : (b : ℕ) (xs ys : List ℕ) → IsDistinct (xs ++ b ∷ ys) → AllByRecursion (λ c. c ≢ b) xs
 distinct-front b [] ys h = tt
 distinct-front b (x ∷ xs) ys h =
     ((λ e. (all-right (λ q. q ≢ x) xs (b ∷ ys) h.0).0 (sym e)), distinct-front b xs ys h.1)
-
-false-true : false ≡ true → ⊥
-false-true e = cc
 
 -- ---- what stands behind lines
 
@@ -86,7 +80,7 @@ open-inside S site before rest e c =
     let front = all-left (λ b. b < blocks_of_function (context_of S)) (starts_in before) (starts_in rest)
     (subst (λ (bs : List ℕ). AllByRecursion (λ b. b < blocks_of_function (context_of S)) bs)
     (ap starts_in e ∙ starts-append before rest) inside) in
-    open-started (λ b. b < blocks_of_function (context_of S)) 0 false before c (λ f. absurd (false-true f)) front
+    open-started (λ b. b < blocks_of_function (context_of S)) 0 false before c (λ f. absurd (false≢true f)) front
 
 -- the open block has the point of the next op, and then that of one behind it
 points-behind : (before rest : List Line) (i j : Op) → Closes false before true
@@ -98,7 +92,7 @@ points-behind before rest i j c =
     let front = points_from o 0 false before in
     let plain : 0 + n ≡ n = omega arith in
     let here : here_after o false before ≡ true =
-    here-open o 0 false false before c (λ f. absurd (false-true f)) ∙ eq-eqb o o refl in
+    here-open o 0 false false before c (λ f. absurd (false≢true f)) ∙ eq-eqb o o refl in
     ap (following n) (points-append o 0 false before (Emit i ∷ Emit j ∷ rest)
     ∙ ap (λ (k : ℕ). front ++ points_from o k (here_after o false before) (Emit i ∷ Emit j ∷ rest)) plain
     ∙ ap (λ (b : Bool). front ++ points_from o n b (Emit i ∷ Emit j ∷ rest)) here)
@@ -125,8 +119,8 @@ behind-op before i g =
 next-of : (S : Site) → IsSite S → (before rest : List Line) (i : Op) (g : graph.State)
     → site_lines S ≡ before ++ (Emit i ∷ rest) → Closes false before true → Closes true rest false
     → g.current.function ≡ S.number → onward (graphs_of S) (behind before g) ≡ Moves (behind (before ++ Emit i ∷ []) g)
-next-of S site before [] i g e c d same = absurd (false-true (sym d))
-next-of S site before (Start b ∷ rest) i g e c d same = absurd (false-true (sym d.0))
+next-of S site before [] i g e c d same = absurd (false≢true (sym d))
+next-of S site before (Start b ∷ rest) i g e c d same = absurd (false≢true (sym d.0))
 next-of S site before (Emit j ∷ rest) i g e c d same =
     let n = length (ops_in before) in
     let o = open_after 0 before in
@@ -174,8 +168,8 @@ start-of : (S : Site) → IsSite S → (before rest : List Line) (block : ℕ) (
     → site_lines S ≡ before ++ (Start block ∷ rest) → Closes true rest false
     → g.current.function ≡ S.number → (into_block (graphs_of S) block g ≡ Moves (at_start S block g))
     × (at_start S block g ≡ behind (before ++ Start block ∷ []) g)
-start-of S site before [] block g e d same = absurd (false-true (sym d))
-start-of S site before (Start b ∷ rest) block g e d same = absurd (false-true (sym d.0))
+start-of S site before [] block g e d same = absurd (false≢true (sym d))
+start-of S site before (Start b ∷ rest) block g e d same = absurd (false≢true (sym d.0))
 start-of S site before (Emit j ∷ rest) block g e d same =
     let n = length (ops_in before) in
     let starts : starts_in (site_lines S) ≡ starts_in before ++ block ∷ starts_in rest =

@@ -1,11 +1,12 @@
 -- The graphs have their shapes: every block is ended, and frames are within their bound.
-use Rattle.std.proofs.Common.{◌≡◌, ◌≤◌, ◌<◌, ℕ, zero, suc, ◌+◌, ◌*◌, Bool, true, false, List, [], ◌∷◌}
+use Rattle.std.proofs.Common.{◌≡◌, ◌≤◌, ◌<◌, ℕ, zero, suc, ◌+◌, ◌*◌, Bool, true, false, List, [], ◌∷◌, true≢false}
 use Rattle.std.proofs.Common.{Some, inl, inr, refl, sym, ap, ◌∙◌, subst, arith, length, length-append, map}
 use Rattle.std.specs.Prelude.{if◌then◌else◌, ◌==◌, ◌⊎◌, slice_get, slice_index_or, sum_by}
 use Rattle.std.specs.List.{range_with_len}
 use Rattle.std.proofs.lemmas.Bool.Decides.{nat_tests}
 use Rattle.std.proofs.lemmas.List.Elements.{recursion_from_All}
 use Rattle.std.proofs.lemmas.List.Sums.{sum_by-cons}
+use Rattle.std.proofs.lemmas.List.{length-map}
 use Rattle.pcc_base.proofs.Lists.{all-at}
 use Rattle.c_tree.specs.declared.types.IntegerType.TheVariants.{Char, Short, Int}
 use Rattle.c_tree.specs.declared.types.ValueType.{ValueType}
@@ -49,9 +50,6 @@ end-here ops p i lines h e =
     let k : p ≡ p + 0 = omega arith in
     (i, ap (λ (n : ℕ). slice_get ops n) k ∙ h 0, e)
 
-true-false : true ≡ false → ⊥
-true-false e = cc
-
 -- points of which the last has an end, or none, and then the block isn't started
 abbrev EndsOrNone : List Op → ℕ → List Line → List ℕ → Type 0
 EndsOrNone ops block lines ps = LastIsEnd ops ps ⊎ ((ps ≡ []) × (starting block lines ≡ 0))
@@ -94,14 +92,14 @@ start-ends ops block p b lines r c false e =
 
 block-ends : (ops : List Op) (block p : ℕ) (lines : List Line) → StandFrom ops p lines → BlockEnds ops block p lines
 block-ends ops block p [] at = record {
-  opened = λ c. absurd (true-false c);
+  opened = λ c. absurd (true≢false c);
   shut = λ here c. inr (refl, refl);
   other = λ o c. inr (refl, refl);
 }
 block-ends ops block p (Start b ∷ lines) at =
     let r = block-ends ops block p lines at in
     record {
-      opened = λ c. absurd (true-false c.0);
+      opened = λ c. absurd (true≢false c.0);
       shut = λ here c. start-ends ops block p b lines r c.1 (b == block) refl;
       other = λ o c. start-ends ops block p b lines r c.1 (b == block) refl;
     }
@@ -109,7 +107,7 @@ block-ends ops block p (Emit i ∷ lines) at =
     let r = block-ends ops block (suc p) lines (stand-behind ops p i lines at) in
     record {
       opened = λ c. op-ends ops block p i lines at r (is_end i) refl c.1;
-      shut = λ here c. absurd (true-false (sym c.0));
+      shut = λ here c. absurd (true≢false (sym c.0));
       other = λ o c. r.other (if is_end i then false else true) c.1;
     }
 
@@ -134,10 +132,6 @@ get-range a (suc n) (suc j) h =
 pub length-range : (a n : ℕ) → length (range_with_len a n) ≡ n
 length-range a zero = refl
 length-range a (suc n) = let h = length-range (a + 1) n in omega (arith, h)
-
-pub length-map : {A B : Type 0} (f : A → B) (xs : List A) → length (map f xs) ≡ length xs
-length-map f [] = refl
-length-map f (x ∷ xs) = let h = length-map f xs in omega (arith, h)
 
 pub get-map : {A B : Type 0} (f : A → B) (xs : List A) (k : ℕ) (x : A) (y : B) → slice_get xs k ≡ Some x
     → slice_get (map f xs) k ≡ Some y → y ≡ f x
@@ -168,7 +162,7 @@ pub blocks-are : (p : Program) (f : Function) → length (graph_of_function p f)
     ≡ blocks_of_function (record { program = p; function = f })
 blocks-are p f =
     let c : Context = record { program = p; function = f } in
-    length-map (λ b. points_in b (lines_of_function c)) (range_with_len 0 (blocks_of_function c))
+    length-map (range_with_len 0 (blocks_of_function c)) (λ b. points_in b (lines_of_function c))
     ∙ length-range 0 (blocks_of_function c)
 
 started-once : (b n s : ℕ) → b < n → s + under b 0 ≡ under b n → s ≡ 0 → ⊥
@@ -242,7 +236,7 @@ function-shape p f h = record {
 
 pub shapes-hold : ShapesHold
 shapes-hold p well = record {
-  as_many = length-map (graph_of_function p) p.functions;
+  as_many = length-map p.functions (graph_of_function p);
   each = λ k f flow at at'.
       let typed = all-at (IsTypedFunction p) p.functions k f
       (recursion_from_All (IsTypedFunction p) p.functions well.functions) at in

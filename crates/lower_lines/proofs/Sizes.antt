@@ -4,12 +4,12 @@ use Rattle.std.specs.Prelude.{sum_by}
 use Rattle.std.specs.List.{AllByRecursion}
 use Rattle.std.proofs.lemmas.List.Elements.{recursion_from_All}
 use Rattle.std.proofs.lemmas.List.Sums.{sum_by-cons}
+use Rattle.std.proofs.lemmas.List.{length-map}
 use Rattle.c_tree.specs.Program.{Function, Program}
 use Rattle.c_tree.specs.Sizes.{function_size, statements_height}
 use Rattle.lower_lines.specs.Lowering.{array_of, arrays_in, points_in, words_in}
 use Rattle.lower_lines.specs.Programs.{graph_of_function}
 use Rattle.lower_lines.specs.Laws.{GraphsAreSmall}
-use Rattle.lower_lines.proofs.Shapes.{length-map}
 use Rattle.lower_lines.proofs.Weights.{all-words}
 use Rattle.lower_lines.proofs.Weighings.{function-weighs}
 
@@ -41,7 +41,7 @@ arrays-small : (p : Program) (fs : List Function) → AllByRecursion (λ f. leng
 arrays-small p [] few = omega arith
 arrays-small p (f ∷ fs) few =
     let w = few.0 in
-    let l = length-map array_of f.arrays in
+    let l = length-map f.arrays array_of in
     let s = sum_by-cons arrays_in (graph_of_function p f) (map (graph_of_function p) fs) in
     let s' = sum_by-cons function_size f fs in
     let h = arrays-small p fs few.1 in

@@ -4,7 +4,7 @@ use Rattle.std.proofs.Common.{refl, sym, ap, ◌∙◌, subst, arith, append_ass
 use Rattle.std.proofs.Common.{eq-eqb, map}
 use Rattle.std.specs.Prelude.{max, if◌then◌else◌, slice_get, slice_index_or, replicate, ◌==◌, IsSomeAnd}
 use Rattle.std.specs.List.{AllByRecursion}
-use Rattle.std.proofs.lemmas.List.{length-replicate}
+use Rattle.std.proofs.lemmas.List.{length-replicate, length-map}
 use Rattle.pcc_base.specs.Outcome.{ArrayName, Null, InFrame, Array as ArrayValue, Number, Outcome}
 use Rattle.pcc_base.specs.declared.run.Width.TheVariants.{Two}
 use Rattle.c_eval_laws.specs.Bounds.{state_of}
@@ -38,7 +38,6 @@ use Rattle.lower_lines.proofs.Types.{part-type}
 use Rattle.lower_lines.proofs.Arrays.{arrays-fit, arrays-reached, arrays-set, as-many, element-fits}
 use Rattle.lower_lines.proofs.Arrays.{kept-by-arrays, zeros-fit}
 use Rattle.lower_lines.proofs.Changes.{kept-below, kept-by-change, kept-twice, temporaries-free}
-use Rattle.lower_lines.proofs.Depths.{length-mapped}
 use Rattle.lower_lines.proofs.Locals.{get-set_other, get-set_same, length-slice_set, local-within, same-some}
 use Rattle.lower_lines.proofs.Steps.{change-step, const-step, frame-step, store-step}
 use Rattle.lower_programs.proofs.Going.{stand-back, stand-front}
@@ -110,7 +109,7 @@ module _ (S : Site) (site : IsSite S) (older : List Function) (k : ℕ) (a : Loc
       → (depth_of g ≡ suc (length older)) × (length s.active ≡ suc (length older))
   depths s g shows =
       let many = as-many S.program active s.active (graph.active_of g) shows.calls in
-      let waiting = length-mapped (λ (w : graph.Waiting). w.activation) g.waiting in
+      let waiting = length-map g.waiting (λ (w : graph.Waiting). w.activation) in
       (ap suc (sym waiting) ∙ many.1 ∙ sym many.0, sym many.0)
 
   -- its elements, on both sides

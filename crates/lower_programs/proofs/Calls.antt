@@ -5,6 +5,7 @@ use Rattle.std.specs.Prelude.{if◌then◌else◌, nat_le, slice_get}
 use Rattle.std.specs.List.{AllZip}
 use Rattle.std.proofs.lemmas.List.{length-map}
 use Rattle.std.proofs.lemmas.List.Elements.{All-from_recursion, recursion_from_All}
+use Rattle.std.proofs.lemmas.Bool.{false≢true}
 use Rattle.pcc_base.specs.declared.run.Trap.TheVariants.{Check}
 use Rattle.pcc_base.specs.Outcome.{End, Goes, Listing, Outcome, Trapped, Value, Visit, after_visits}
 use Rattle.pcc_base.proofs.Lists.{all-at}
@@ -62,9 +63,6 @@ FollowsBegun S active s g (Gives left t) =
     × ((outcome : Outcome) → ComesBack S t.turns h (returned_by left) outcome
     → Comes S s.turns (behind (Start 0 ∷ []) g) (after_visits visits outcome))
 FollowsBegun S active s g (Ends end t) = EndsSo S end s t (behind (Start 0 ∷ []) g)
-
-false-true : false ≡ true → ⊥
-false-true e = cc
 
 -- a turn before a call that goes back is one before all of it
 pub turn-over : (n : ℕ) (s : source.State) (go : source.State → Evaluated Left)
@@ -139,8 +137,8 @@ module _ (p : Program) (listing : Listing) (typed : WellTyped p) (memory : IsInM
       more ∙ ap (λ (vs : List Visit). vs ++ visits) seen,
       λ o r. first (after_visits visits o) (comes o r),
     )
-    after-body active s t g h (Gives Breaks u) same seen first is follows = absurd (false-true is)
-    after-body active s t g h (Gives Continues u) same seen first is follows = absurd (false-true is)
+    after-body active s t g h (Gives Breaks u) same seen first is follows = absurd (false≢true is)
+    after-body active s t g h (Gives Continues u) same seen first is follows = absurd (false≢true is)
     after-body active s t g h (Gives (Returns value) u) same seen first is (i, visits, shows, keeps, more, comes) = (
       i,
       visits,
@@ -210,7 +208,7 @@ module _ (p : Program) (listing : Listing) (typed : WellTyped p) (memory : IsInM
         s1 is.body)
         (body.follows (f ∷ active) no_exits 1 Leaves (entry ++ taking) s1 takes.0
         ([], ap (λ (ls : List Line). entry ++ (taking ++ ls)) (sym (append-nil running))) (close k f at).1
-        (record { break_goes = λ no. absurd (false-true no); continue_goes = λ no. absurd (false-true no) }) tt
+        (record { break_goes = λ no. absurd (false≢true no); continue_goes = λ no. absurd (false≢true no) }) tt
         (record { shows = takes.1; function = takes.2 ∙ own; youngest = refl; turns = omega (arith, lt) }))
       where
         inside : (j : ℕ) (l : Local) → slice_get (parameters_in f) j ≡ Some l → slice_get f.locals (0 + j) ≡ Some l
@@ -243,8 +241,8 @@ module _ (p : Program) (listing : Listing) (typed : WellTyped p) (memory : IsInM
   number-same : (of : ValueType) (left : Left) → IsLeft of false false left
       → number_returned of (returned_by left) ≡ number_returned of (Some (value_left left))
   number-same of Falls is = nothing-returned of
-  number-same of Breaks is = absurd (false-true is)
-  number-same of Continues is = absurd (false-true is)
+  number-same of Breaks is = absurd (false≢true is)
+  number-same of Continues is = absurd (false≢true is)
   number-same of (Returns None) is = nothing-returned of
   number-same of (Returns (Some value)) is = refl
 
@@ -262,8 +260,8 @@ module _ (p : Program) (listing : Listing) (typed : WellTyped p) (memory : IsInM
   value-of : (active : List Function) (of : ValueType) (left : Left) → IsResult of → IsLeft of false false left
       → IsOf p active of (value_left left)
   value-of active of Falls result is = zero-result active of result
-  value-of active of Breaks result is = absurd (false-true is)
-  value-of active of Continues result is = absurd (false-true is)
+  value-of active of Breaks result is = absurd (false≢true is)
+  value-of active of Continues result is = absurd (false≢true is)
   value-of active of (Returns None) result is = zero-result active of result
   value-of active of (Returns (Some value)) result (x, e) =
       subst (λ (y : Held). IsOf p active of y) (sym e) (integer-of active of x result)

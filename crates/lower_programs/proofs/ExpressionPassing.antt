@@ -37,6 +37,7 @@ use Rattle.lower_programs.proofs.Pairs.{Falls, any-operand, goes-both, local-num
 use Rattle.lower_programs.proofs.Pairs.{same-number}
 use Rattle.lower_programs.proofs.Working.{value-number}
 use Rattle.lower_programs.specs.ExpressionsLaws.{AreNumbers, NumbersPass}
+use Rattle.lower_programs.proofs.Types.{integer-of}
 
 -- ---- an operand stays where nothing is stored
 
@@ -228,11 +229,6 @@ module _ (S : Site) (a : Part) (run : source.State → Evaluated Held) (u : Inte
         (la.simple (and_parts a.simple (all_simple parts) e).0 (S.function ∷ older) s g b)
         (rest.simple (and_parts a.simple (all_simple parts) e).1 older s g b);
   }
-
-integer-of : (v : ValueType) → IsInteger v → (t : IntegerType) × (v ≡ Integer t)
-integer-of Void h = absurd h
-integer-of (Integer t) h = (t, refl)
-integer-of (Pointer t) h = absurd h
 
 pass-all : (S : Site) (site : IsSite S) (arguments : Arguments) → AreNumbers S arguments
     → Passes S (parts_of (context_of S) arguments) (evaluate_all S.calls arguments)

@@ -39,6 +39,7 @@ use Rattle.lower_programs.proofs.Pieces.{context_in}
 use Rattle.lower_programs.proofs.FitsPlaces.{PlaceFits, address-part, assign-part, call-part, element-address}
 use Rattle.lower_programs.proofs.FitsPlaces.{exit-part, getchar-part, passed-part, read-part, step-part, target-address}
 use Rattle.lower_programs.proofs.FitsPlaces.{update-part}
+use Rattle.lower_programs.proofs.Types.{integer-of}
 
 -- ---- numbers
 
@@ -56,11 +57,6 @@ converted-fits Short n h = short-fits (int_wrap w16 n) (SFits-int_wrap w16 n)
 converted-fits Int n h = h
 
 -- ---- types
-
-pub integer-of : (of : ValueType) → IsInteger of → (u : IntegerType) × (of ≡ Integer u)
-integer-of Void h = absurd h
-integer-of (Integer u) h = (u, refl)
-integer-of (Pointer u) h = absurd h
 
 unary-number : (R : Room) (operator : UnaryOp) (s : ValueType) (of : IntegerType) → UnaryGives operator s of
     → UnaryFits R operator s

@@ -34,7 +34,7 @@ use Rattle.lower_programs.proofs.FitsParts.{number-there, operand-fit}
 use Rattle.lower_programs.proofs.Pieces.{Fit, blocks_in, byte-holds, context_in, fit-then, levels_in, local-holds, temp}
 use Rattle.lower_programs.proofs.Statements.{FitsRun, do-run, ending-run, expr, first-fit, if-run, item-fit, loop-fit}
 use Rattle.lower_programs.proofs.Statements.{none-labels, sequence-alike', sequence-fit, straight-run, switch-run}
-use Rattle.lower_programs.proofs.FitsWalk.{integer-of}
+use Rattle.lower_programs.proofs.Types.{integer-of}
 
 get-take : {X : Type 0} (n : ℕ) (xs : List X) (j : ℕ) (x : X) → slice_get (take n xs) j ≡ Some x
     → slice_get xs j ≡ Some x

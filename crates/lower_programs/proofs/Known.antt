@@ -26,7 +26,6 @@ use Rattle.lower_lines.specs.Parts.{Part}
 use Rattle.lower_lines.specs.Variables.{Context, local_spot, local_variables}
 use Rattle.lower_lines.proofs.Types.{part-type, place-scalar, some-and}
 use Rattle.lower_programs.proofs.FitsCompound.{Becomes, assign-becomes, cast-becomes, conditional-becomes}
-use Rattle.lower_programs.proofs.FitsWalk.{integer-of}
 use Rattle.lower_programs.specs.Flows.{Within}
 use Rattle.lower_programs.specs.Settled.{context_in}
 use Rattle.lower_programs.proofs.Addresses.{address-part, call-part, element-address, target-address}
@@ -38,6 +37,7 @@ use Rattle.lower_programs.proofs.Steps.{step-part}
 use Rattle.lower_programs.proofs.Updates.{PlaceLive, assign-part, passed-part, read-part, update-part}
 use Rattle.lower_programs.proofs.LiveWalk.{low-known, place-live as any-place-live}
 use Rattle.lower_programs.specs.Declared.{ArgumentsNameOnly, NamesOnly, PlaceNamesOnly}
+use Rattle.lower_programs.proofs.Types.{integer-of}
 
 -- the variables of a local, and those of some
 abbrev pub words_at : Context → ℕ → List ℕ

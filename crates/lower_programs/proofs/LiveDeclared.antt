@@ -28,7 +28,6 @@ use Rattle.lower_lines.specs.Statements.{run_of, runs_of, text_count}
 use Rattle.lower_lines.specs.Variables.{Context, local_variables}
 use Rattle.lower_lines.proofs.Types.{part-type, some-and}
 use Rattle.lower_programs.proofs.FitsCompound.{Becomes, assign-becomes}
-use Rattle.lower_programs.proofs.FitsWalk.{integer-of}
 use Rattle.lower_programs.specs.Flows.{Within}
 use Rattle.lower_programs.specs.Settled.{Settled, context_in}
 use Rattle.lower_programs.proofs.Compound.{turned-part}
@@ -44,6 +43,7 @@ use Rattle.lower_programs.proofs.Known.{AreLocals, named-live, variables, variab
 use Rattle.lower_programs.proofs.LiveLoops.{LiveAny, do-live, for-live, while-live}
 use Rattle.lower_programs.proofs.Runs.{Chain, Ends, LiveRun, block-live, ending-live, run-less, straight-live}
 use Rattle.lower_programs.proofs.Switches.{switch-live}
+use Rattle.lower_programs.proofs.Types.{integer-of}
 
 module _ (p : Program) (f : Function) (functions : AllByRecursion (IsTypedFunction p) p.functions)
     (typed : IsTypedFunction p f) where

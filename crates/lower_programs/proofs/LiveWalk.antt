@@ -33,7 +33,6 @@ use Rattle.lower_lines.specs.Variables.{Context, Spot, local_spot, local_variabl
 use Rattle.lower_lines.proofs.Types.{part-type, place-scalar, some-and}
 use Rattle.lower_programs.proofs.Widths.{local-width}
 use Rattle.lower_programs.proofs.FitsCompound.{Becomes, assign-becomes, cast-becomes, conditional-becomes}
-use Rattle.lower_programs.proofs.FitsWalk.{integer-of}
 use Rattle.lower_programs.specs.Flows.{Within}
 use Rattle.lower_programs.specs.LiveLaws.{ExpressionsSettle}
 use Rattle.lower_programs.specs.Settled.{context_in}
@@ -44,6 +43,7 @@ use Rattle.lower_programs.proofs.Parts.{LivePart, binary-part, constant-part, nu
 use Rattle.lower_programs.proofs.PlaceSets.{conditional-part', exit-part, getchar-part}
 use Rattle.lower_programs.proofs.Steps.{step-part}
 use Rattle.lower_programs.proofs.Updates.{PlaceLive, assign-part, passed-part, read-part, update-part}
+use Rattle.lower_programs.proofs.Types.{integer-of}
 
 -- ---- the variables of locals
 

@@ -1,7 +1,7 @@
 -- Arrays that a function names: their names are the same on both sides, and they become zero on both.
 use Rattle.std.proofs.Common.{◌≡◌, ◌≢◌, ℕ, suc, Bool, ℤ, pos, List, ◌∷◌, length, Option, Some, None}
 use Rattle.std.proofs.Common.{refl, sym, ap, ◌∙◌, subst, eq-eqb}
-use Rattle.std.proofs.lemmas.List.{length-replicate}
+use Rattle.std.proofs.lemmas.List.{length-replicate, length-map}
 use Rattle.std.specs.Prelude.{slice_get, replicate, IsSomeAnd, if◌then◌else◌, option_map}
 use Rattle.pcc_base.specs.Outcome.{ArrayName, Null, InFrame}
 use Rattle.c_tree.specs.declared.expression.ArrayRef.{ArrayRef}
@@ -19,7 +19,6 @@ use Rattle.flow_graph.specs.States.{waiting_place}
 use Rattle.lower_lines.specs.Programs.{lowered}
 use Rattle.lower_lines.specs.Relation.{IsArrayOf, Shows, function_of_depth}
 use Rattle.lower_lines.proofs.Arrays.{arrays-set, arrays-there, as-many, zeros-fit}
-use Rattle.lower_lines.proofs.Depths.{length-mapped}
 use Rattle.lower_lines.proofs.Locals.{same-some}
 use Rattle.lower_programs.specs.PlacesLaws.{ArraysAreCleared, NamesAreAlike}
 
@@ -27,7 +26,7 @@ depths-same : (p : Program) (active : List Function) (s : source.State) (g : gra
     → length s.active ≡ depth_of g
 depths-same p active s g shows =
     sym (as-many p active s.active (active_of g) shows.calls).1
-    ∙ ap suc (length-mapped (λ (w : graph.Waiting). w.activation) g.waiting)
+    ∙ ap suc (length-map g.waiting (λ (w : graph.Waiting). w.activation))
 
 name-is : (p : Program) (f : Function) (older : List Function) (s : source.State) (g : graph.State)
     (t : IntegerType) (array : ArrayRef) → Shows p (f ∷ older) s g → IsArray p f array t

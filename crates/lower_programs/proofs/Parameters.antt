@@ -6,6 +6,7 @@ use Rattle.std.specs.Int.{w8, w16, int_wrap}
 use Rattle.std.specs.List.{AllByRecursion, AllZip}
 use Rattle.std.proofs.lemmas.List.Elements.{recursion_from_All}
 use Rattle.pcc_base.specs.Outcome.{ArrayName, Outcome, Value, Number}
+use Rattle.pcc_base.proofs.Lists.{get-seam}
 use Rattle.c_tree.specs.declared.types.IntegerType.{IntegerType}
 use Rattle.c_tree.specs.declared.types.IntegerType.TheVariants.{Char, Short, Int}
 use Rattle.c_tree.specs.declared.types.ValueType.{ValueType}
@@ -75,10 +76,6 @@ comes-joined S before xs ys g turns o r =
     subst (λ (ls : List Line). Comes S turns (behind ls g) o) (sym (append_assoc before xs ys)) r
 
 -- ---- lists
-
-get-seam : {X : Type 0} (front : List X) (x : X) (xs : List X) → slice_get (front ++ x ∷ xs) (length front) ≡ Some x
-get-seam [] x xs = refl
-get-seam (y ∷ front) x xs = get-seam front x xs
 
 get-next : {X : Type 0} (front : List X) (x y : X) (xs : List X)
     → slice_get (front ++ x ∷ y ∷ xs) (suc (length front)) ≡ Some y

@@ -6,6 +6,7 @@ use Rattle.std.specs.List.{range_with_len}
 use Rattle.std.proofs.lemmas.Bool.{cases_lt}
 use Rattle.std.proofs.lemmas.Bool.Decides.{eqb_tells}
 use Rattle.std.proofs.lemmas.Option.{none-some, same_Some}
+use Rattle.std.proofs.lemmas.List.{length-map}
 use Rattle.pcc_base.specs.declared.run.Width.{Width}
 use Rattle.flow_graph.specs.declared.op.Op.{Op}
 use Rattle.flow_graph.specs.declared.op.Op.TheVariants as op
@@ -17,7 +18,7 @@ use Rattle.lower_lines.specs.Following.{Closes}
 use Rattle.lower_lines.specs.Lines.{Line, Start, Emit, graph_of_lines, ops_in, points_from, points_in}
 use Rattle.lower_lines.specs.Programs.{blocks_of_function, graph_of_function, lines_of_function}
 use Rattle.lower_lines.specs.Variables.{Context, local_variables}
-use Rattle.lower_lines.proofs.Shapes.{get-range, index-map, length-map, length-range}
+use Rattle.lower_lines.proofs.Shapes.{get-range, index-map, length-range}
 use Rattle.lower_programs.specs.Flows.{Flows, Passes, Within, fixed, targets}
 use Rattle.lower_programs.specs.LiveLaws.{FlowsSuffice}
 
@@ -243,7 +244,7 @@ module _ (widths : List Width) (arrays : List (ℕ × ℕ)) (count : ℕ) (lines
         | inl less ↦ inl (index-map (λ b. points_in b lines) (range_with_len 0 count) block block []
             (get-range 0 count block less ∙ ap Some (plain block)))
         | inr more ↦ inr (beyond (map (λ b. points_in b lines) (range_with_len 0 count)) block
-            (let e = length-map (λ b. points_in b lines) (range_with_len 0 count) in
+            (let e = length-map (range_with_len 0 count) (λ b. points_in b lines) in
             let k = length-range 0 count in omega (arith, e, k, more)))
       ]
     where

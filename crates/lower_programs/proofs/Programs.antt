@@ -1,11 +1,12 @@
 -- Lowering keeps the outcome of a program, given the laws of bounds, bodies and expressions.
-use Rattle.std.proofs.Common.{◌≡◌, ℕ, suc, true, false, ℤ, pos, negsuc, List, [], ◌∷◌, ◌++◌, length, map}
+use Rattle.std.proofs.Common.{◌≡◌, ℕ, suc, false, ℤ, pos, negsuc, List, [], ◌∷◌, ◌++◌, length, map}
 use Rattle.std.proofs.Common.{take, Option, Some, None, refl, sym, ap, ◌∙◌, subst, arith, append-nil}
 use Rattle.std.specs.Prelude.{IsSomeAnd, option_map, slice_get, slice_index_or, ◌<ℤ◌, ◌≤ℤ◌}
 use Rattle.std.proofs.lemmas.Int.{int_wrap_fits, ints}
 use Rattle.std.proofs.lemmas.List.Elements.{All-tail}
 use Rattle.std.specs.Int.{w8, w16}
 use Rattle.std.specs.List.{All, AllZip}
+use Rattle.std.proofs.lemmas.Bool.{false≢true}
 use Rattle.pcc_base.specs.Objects.{FitsBytes}
 use Rattle.c_tree.specs.declared.types.IntegerType.{IntegerType}
 use Rattle.c_tree.specs.declared.types.IntegerType.TheVariants.{Char, Short, Int}
@@ -40,9 +41,6 @@ use Rattle.lower_lines.proofs.Points.{starts-stand}
 use Rattle.lower_programs.specs.CallsLaws.{IsLeft, ProgramsLowerSo, all_words_passed}
 use Rattle.lower_programs.proofs.Beginning.{calls-fresh}
 use Rattle.lower_programs.proofs.Calls.{FollowsBegun, begun, body_of, calls-follow, returned_by, site-there, turn-over}
-
-false-true : false ≡ true → ⊥
-false-true e = cc
 
 -- ---- the first state
 
@@ -112,8 +110,8 @@ in-int (HoldsPointer array index) = refl
 -- `main` returns the number that the exit status is of
 number-left : (left : Left) → IsLeft int false false left → number_held (returned_by left) ≡ number_in (value_left left)
 number-left Falls is = refl
-number-left Breaks is = absurd (false-true is)
-number-left Continues is = absurd (false-true is)
+number-left Breaks is = absurd (false≢true is)
+number-left Continues is = absurd (false≢true is)
 number-left (Returns None) is = refl
 number-left (Returns (Some value)) (x, e) =
     subst (λ (y : Held). number_held (Some y) ≡ number_in y) (sym e) (in-int x)

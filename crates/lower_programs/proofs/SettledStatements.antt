@@ -27,7 +27,6 @@ use Rattle.lower_lines.specs.Statements.{returned_lines, run_of, runs_of, text_c
 use Rattle.lower_lines.specs.Variables.{Context, local_spot, local_variables}
 use Rattle.lower_lines.proofs.Types.{part-type, some-and}
 use Rattle.lower_programs.proofs.FitsCompound.{Becomes, assign-becomes}
-use Rattle.lower_programs.proofs.FitsWalk.{integer-of}
 use Rattle.lower_programs.specs.Flows.{Within}
 use Rattle.lower_programs.specs.Settled.{Settled, context_in}
 use Rattle.lower_programs.proofs.Compound.{turned-part}
@@ -40,6 +39,7 @@ use Rattle.lower_programs.proofs.Items.{LiveInitialiser, LiveNumber, filled-sett
 use Rattle.lower_programs.proofs.LiveLoops.{LiveAny, do-live, for-live, while-live}
 use Rattle.lower_programs.proofs.Runs.{Ends, LiveRun, block-live, ending-live, straight-live}
 use Rattle.lower_programs.proofs.Switches.{constant-chain, switch-live}
+use Rattle.lower_programs.proofs.Types.{integer-of}
 
 module _ (p : Program) (f : Function) (functions : AllByRecursion (IsTypedFunction p) p.functions)
     (typed : IsTypedFunction p f) where

@@ -26,7 +26,7 @@ use Rattle.c_tree.specs.Program as tree
 use Rattle.c_tree.specs.Store as source
 use Rattle.c_tree.specs.Store.{Gives, Ends, Held, HoldsNumber, HoldsPointer, and_then, converted, in_type, visited}
 use Rattle.c_tree.specs.Store.{array_of, with_local, with_youngest, youngest}
-use Rattle.c_tree.specs.WellTyped.{AreStatements, CanAssign, CanReturn, IsAssigned, IsCondition, IsFirst, IsInteger}
+use Rattle.c_tree.specs.WellTyped.{AreStatements, CanAssign, CanReturn, IsAssigned, IsCondition, IsFirst}
 use Rattle.c_tree.specs.WellTyped.{AreLabels, IsItem, IsResult, IsScalar, IsStatement, IsTyped, IsTypedFunction}
 use Rattle.c_tree.specs.WellTyped.{WellTyped}
 use Rattle.c_tree.specs.WellTyped.{count_of, first_numbers, item_number, statement_numbers, statements_numbers}
@@ -58,6 +58,7 @@ use Rattle.lower_programs.proofs.Switching.{switches-lower}
 use Rattle.lower_programs.proofs.Ways.{from-made}
 use Rattle.lower_programs.specs.Laws.{AfterLowers, TestLowers}
 use Rattle.lower_programs.specs.Ways.{Keeping, LowersFrom, LowersLines}
+use Rattle.lower_programs.proofs.Types.{integer-of}
 
 -- ---- lists and runs
 
@@ -125,11 +126,6 @@ not-void : (of : ValueType) → IsScalar of → of ≢ Void
 not-void Void h e = h
 not-void (Integer t) h e = cc
 not-void (Pointer t) h e = cc
-
-integer-of : (of : ValueType) → IsInteger of → (u : IntegerType) × (of ≡ Integer u)
-integer-of Void h = absurd h
-integer-of (Integer t) h = (t, refl)
-integer-of (Pointer t) h = absurd h
 
 counts-same : (S : Site) (xs : Statements) → count_of xs ≡ length (runs_of (context_of S) xs)
 counts-same S Done = refl

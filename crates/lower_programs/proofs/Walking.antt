@@ -41,13 +41,9 @@ use Rattle.lower_programs.proofs.Stepping.{assigned-of, lowers-same, steps-lower
 use Rattle.lower_programs.proofs.Unary.{complements-lower, minuses-lower}
 use Rattle.lower_programs.specs.Numeric.{AreNumeric, CastsNumber, IsNumeric}
 use Rattle.lower_programs.specs.Walk.{NumbersLower}
+use Rattle.lower_programs.proofs.Types.{integer-of}
 
 -- ---- types
-
-integer-of : (v : ValueType) → IsInteger v → (t : IntegerType) × (v ≡ Integer t)
-integer-of Void h = absurd h
-integer-of (Integer t) h = (t, refl)
-integer-of (Pointer t) h = absurd h
 
 not-void : (v : ValueType) (t : IntegerType) → v ≡ Integer t → v ≢ Void
 not-void v t e f = cc

@@ -5,6 +5,7 @@ use Rattle.std.specs.Prelude.{slice_get, sum_by}
 use Rattle.std.specs.List.{All, AllByRecursion}
 use Rattle.std.proofs.lemmas.List.Elements.{All-from_recursion, recursion_from_All}
 use Rattle.std.proofs.lemmas.Option.{slice_get_within}
+use Rattle.std.proofs.lemmas.List.{length-map}
 use Rattle.pcc_base.proofs.Lists.{all-weaker, all-at, element-at}
 use Rattle.c_tree.specs.Objects.{data_object}
 use Rattle.c_tree.specs.Program.{Function, LocalArray, Program}
@@ -24,7 +25,7 @@ use Rattle.lower_lines.proofs.Few.{points-are-few}
 use Rattle.lower_lines.proofs.Marks.{marks-hold}
 use Rattle.lower_lines.proofs.Names.{names-are-there}
 use Rattle.lower_lines.proofs.Ordered.{graphs-are-laid-out}
-use Rattle.lower_lines.proofs.Shapes.{blocks-are, function-shape, length-map}
+use Rattle.lower_lines.proofs.Shapes.{blocks-are, function-shape}
 use Rattle.lower_lines.proofs.Types.{some-and}
 use Rattle.lower_programs.specs.FitsLaws.{IsGood, Room, SmallNumber}
 use Rattle.lower_programs.proofs.Functions.{function-fits}
@@ -115,7 +116,7 @@ module _ (p : Program) (well : WellTyped p) (memory : IsInMemory p) (k : ℕ) (f
     function = f;
     flow = flow;
     widths = refl;
-    arrays = length-map array_of f.arrays;
+    arrays = length-map f.arrays array_of;
   }
 
   size-small : function_size f ≤ 65536
@@ -139,8 +140,8 @@ module _ (p : Program) (well : WellTyped p) (memory : IsInMemory p) (k : ℕ) (f
 
   names : AllByRecursion (NamesWithin (length p.functions) (length p.objects)) flow.ops
   names =
-      let fs = length-map (graph_of_function p) p.functions in
-      let os = length-map data_object p.objects in
+      let fs = length-map p.functions (graph_of_function p) in
+      let os = length-map p.objects data_object in
       recursion_from_All (NamesWithin (length p.functions) (length p.objects)) flow.ops
       (subst (λ (n : ℕ). All (NamesWithin n (length p.objects)) flow.ops) fs
       (subst (λ (n : ℕ). All (NamesWithin (length (map (graph_of_function p) p.functions)) n) flow.ops) os
@@ -178,7 +179,7 @@ module _ (p : Program) (well : WellTyped p) (memory : IsInMemory p) (k : ℕ) (f
       let laid = graphs-are-laid-out p well k f at in
       let few = points-are-few p well k f at in
       let size = size-small in
-      let many = length-map array_of f.arrays in
+      let many = length-map f.arrays array_of in
       let declared = words.declared in
       record {
         keeps = (
@@ -219,6 +220,6 @@ graphs-are-there p well memory = record {
   main =
       let (f, at, is) = some-and (slice_get p.functions p.main) IsMain well.main in
       let below = slice_get_within p.functions p.main f at in
-      let many = length-map (graph_of_function p) p.functions in
+      let many = length-map p.functions (graph_of_function p) in
       omega (arith, below, many);
 }

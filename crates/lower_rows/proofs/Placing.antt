@@ -2,6 +2,7 @@
 use Rattle.std.proofs.Common.{◌≡◌, ℕ, suc, ◌+◌, List, [], ◌∷◌, ◌++◌, refl, sym, ap, ◌∙◌, arith, subst}
 use Rattle.std.proofs.Common.{true, false, Option, Some, None}
 use Rattle.std.specs.Prelude.{Bool, ◌&&◌}
+use Rattle.std.proofs.lemmas.Option.{none-some}
 use Rattle.c_tree.specs.declared.expression.BinaryOp.{BinaryOp}
 use Rattle.c_tree.specs.declared.expression.StepOp.{StepOp}
 use Rattle.c_tree.specs.declared.types.IntegerType.{IntegerType}
@@ -155,9 +156,6 @@ step-element c of o t to level w at {s} {u} {v} h e m =
     counted count (two (λ n. M n (to.spot true level)) h m')
 
 -- ---- finding
-
-none-some : {X : Type 0} (x : X) → None ≡ Some x → ⊥
-none-some x e = cc
 
 -- a part that stands somewhere takes no block
 pub free : (c : Context) (e : Expression) (spot : Spot) → (part_of c e).stands ≡ Some spot

@@ -7,7 +7,7 @@ use Rattle.std.specs.Prelude.{◌⊎◌, flat_map, slice_get, slice_index_or}
 use Rattle.std.proofs.lemmas.Option.{same_Some}
 use Rattle.pcc_base.proofs.Lists.{all-append}
 use Rattle.flow_graph.specs.Graphs.{Flow, IsDistinct, IsFlow, IsIn, IsPlaced, Stands, points_of}
-use Rattle.flow_graph.proofs.Points.{every-in}
+use Rattle.flow_graph.proofs.Points.{every-in, every-from}
 use Rattle.map_lines.specs.ProgramMap.{all_points}
 
 -- ---- lists
@@ -26,11 +26,6 @@ in-either p [] ys within = inr within
 in-either p (x ∷ xs) ys (inl same) = inl (inl same)
 in-either p (x ∷ xs) ys (inr within) =
     elim (in-either p xs ys within) [ inl front ↦ inl (inr front) | inr back ↦ inr back ]
-
--- what holds of each that is in the list holds of each
-pub every-from : (P : ℕ → Type 0) (xs : List ℕ) → ((p : ℕ) → IsIn p xs → P p) → AllByRecursion P xs
-every-from P [] all = tt
-every-from P (x ∷ xs) all = (all x (inl refl), every-from P xs (λ p within. all p (inr within)))
 
 pub distinct-both : (xs ys : List ℕ) → IsDistinct xs → IsDistinct ys → ((p q : ℕ) → IsIn p xs → IsIn q ys → q ≢ p)
     → IsDistinct (xs ++ ys)

@@ -4,6 +4,7 @@ use Rattle.std.proofs.Common.{arith}
 use Rattle.std.specs.Prelude.{slice_get, slice_index}
 use Rattle.std.proofs.lemmas.Option.{get_or_from_slice_get, slice_get-map, slice_get_within}
 use Rattle.std.proofs.lemmas.Slice.Zip.{AllZip-long}
+use Rattle.std.proofs.lemmas.List.{length-map}
 use Rattle.pcc_base.specs.Bytes.{AreBytes}
 use Rattle.c_tree.specs.Program.{Program}
 use Rattle.elf_image.specs.Layout.{Fits, image_bytes}
@@ -38,7 +39,7 @@ use Rattle.pcc_program.specs.CodeLaws.{FramedIsSelected, GraphsHaveFrames}
 use Rattle.map_lines.specs.ProgramMap.{Homes, program_map}
 use Rattle.pcc_program.specs.Laws.{AreLinked, linked_map}
 use Rattle.pcc_program.proofs.Mapped.{frame-at, has-slots, placement-is}
-use Rattle.pcc_program.proofs.Placed.{framed, length-mapped, linked_code, objects-small, point-entry, same-objects}
+use Rattle.pcc_program.proofs.Placed.{framed, linked_code, objects-small, point-entry, same-objects}
 
 -- the laws that this rests on
 pub record Laws : Type 0 where
@@ -128,7 +129,7 @@ module _ (laws : Laws) (program : Program) (graphs : GraphProgram) (frames : Lis
         once = h.lowered.once;
         few_functions = omega (arith, have-frames.few, h.lowered.shapes.as_many);
         few_objects = omega (arith, h.compilable.memory.few_objects);
-        as_many = length-mapped homes_of frames ∙ AllZip-long _ graphs.functions frames h.frames_of
+        as_many = length-map frames homes_of ∙ AllZip-long _ graphs.functions frames h.frames_of
             ∙ h.lowered.shapes.as_many;
         placed = placed;
         slots = slots;
@@ -143,8 +144,8 @@ module _ (laws : Laws) (program : Program) (graphs : GraphProgram) (frames : Lis
       let stands = ((laws.is_code (length graphs.functions) (length graphs.objects) flow (frame_placement flow)
       has.graph (laws.support flow has.graph.keeps.0 has.graph.keeps.1) has.small).points p).1 is in
       let tables : List (List ℕ) = map (λ v. v.items) linked.points.items in
-      let many : length tables ≡ length graphs.functions = length-mapped (λ v. v.items) linked.points.items
-      ∙ h.linked_is.points_are ∙ length-mapped framed_items graphs.functions in
+      let many : length tables ≡ length graphs.functions = length-map linked.points.items (λ v. v.items)
+      ∙ h.linked_is.points_are ∙ length-map graphs.functions framed_items in
       let (entries, there) = entries-at tables k (length graphs.functions) many below in
       let entry = point-entry graphs (order_of sections) linked h.linked_is k flow entries e below there p stands in
       ap (λ (xs : List ℕ). slice_index xs p) (get_or_from_slice_get tables k entries [] there)

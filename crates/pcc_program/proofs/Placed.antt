@@ -7,6 +7,7 @@ use Rattle.std.proofs.Math.Nat.{mul_comm}
 use Rattle.std.proofs.lemmas.List.Elements.{All-head, All-tail}
 use Rattle.std.proofs.lemmas.List.Sums.{sum_by-cons}
 use Rattle.std.proofs.lemmas.Option.{none-some, same_Some, slice_get-map}
+use Rattle.std.proofs.lemmas.List.{length-map}
 use Rattle.pcc_base.specs.Objects.{IsObject, Object}
 use Rattle.c_tree.specs.Objects.{data_object, data_objects}
 use Rattle.c_tree.specs.Program.{Program, StaticObject}
@@ -69,10 +70,6 @@ linked_code graphs order linked is = record {
   text = linked.image.text.items;
 }
 
-pub length-mapped : {A B : Type 0} (f : A → B) (xs : List A) → length (map f xs) ≡ length xs
-length-mapped f [] = refl
-length-mapped f (x ∷ xs) = ap suc (length-mapped f xs)
-
 pub framed : (graphs : GraphProgram) (order : List ℕ) (linked : Linked)
     (is : IsLinked (map framed_items graphs.functions) order graphs.objects graphs.main linked)
     → length linked.image.text.items < 2 ^ 30 + 1024 → objects_size graphs.objects ≤ 0x01000000
@@ -82,8 +79,8 @@ framed graphs order linked is small held =
       laid = record {
         text = subst (λ (os : List Object). IsText (map framed_items graphs.functions) order os graphs.main is.places
             is.symbols linked.image.text.items) (sym (same-objects graphs.objects)) is.text;
-        functions = length-mapped framed_items graphs.functions;
-        placements = length-mapped frame_placement graphs.functions;
+        functions = length-map graphs.functions framed_items;
+        placements = length-map graphs.functions frame_placement;
       };
       placements = refl;
       items = refl;
@@ -110,7 +107,7 @@ pub point-entry : (graphs : GraphProgram) (order : List ℕ) (linked : Linked)
     → slice_get entries p ≡ Some (point_address (linked_code graphs order linked is) f p)
 point-entry graphs order linked is f flow entries there below entry p stands =
     let (place, at) = place-at is.places (length graphs.functions) f
-    (is.text.places_are ∙ length-mapped framed_items graphs.functions) below in
+    (is.text.places_are ∙ length-map graphs.functions framed_items) below in
     (is.points f (framed_items flow) place entries
     (slice_get-map framed_items graphs.functions f ∙ ap (option_map framed_items) there) at entry).addresses p stands
     ∙ ap Some (ap (λ (o : Option Places). address_in o p) (sym at))

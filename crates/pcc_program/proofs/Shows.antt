@@ -6,6 +6,7 @@ use Rattle.std.specs.List.{All, AllByRecursion}
 use Rattle.std.proofs.lemmas.List.Elements.{All-head, All-tail}
 use Rattle.std.proofs.lemmas.Option.{none-some, slice_get_within}
 use Rattle.std.proofs.lemmas.Slice.Zip.{AllZip-long}
+use Rattle.std.proofs.lemmas.List.{length-map}
 use Rattle.pcc_base.proofs.Lists.{all-at}
 use Rattle.c_tree.specs.Objects.{data_object}
 use Rattle.c_tree.specs.Program.{Function, Program, StaticObject}
@@ -26,7 +27,7 @@ use Rattle.pcc_program.specs.Laws.{AreLinked}
 use Rattle.pcc_program.proofs.Does.{Laws, frame-of, have-frames}
 use Rattle.pcc_program.proofs.Mapped.{frame-there}
 use Rattle.pcc_program.proofs.Numbered.{few-statements, numbered}
-use Rattle.pcc_program.proofs.Placed.{length-mapped, point-entry}
+use Rattle.pcc_program.proofs.Placed.{point-entry}
 
 -- ---- offsets
 
@@ -93,10 +94,10 @@ module _ (laws : Laws) (program : Program) (graphs : GraphProgram) (frames : Lis
         shape = shape;
         marks = h.lowered.marks k f flow e e';
         bytes = is.bytes;
-        as_many_arrays = ap length is.arrays ∙ length-mapped offset_of (frame_arrays flow) ∙ slots.arrays_in.as_many
-            ∙ ap length shape.arrays ∙ length-mapped array_of f.arrays;
+        as_many_arrays = ap length is.arrays ∙ length-map (frame_arrays flow) offset_of ∙ slots.arrays_in.as_many
+            ∙ ap length shape.arrays ∙ length-map f.arrays array_of;
         arrays_below = subst AreBelow (sym is.arrays) (arrays-below flow slots);
-        as_many_variables = ap length is.variables ∙ length-mapped offset_of (frame_slots flow) ∙ slots.as_many;
+        as_many_variables = ap length is.variables ∙ length-map (frame_slots flow) offset_of ∙ slots.as_many;
         variables_below = subst AreBelow (sym is.variables) (slots-below flow slots);
         few_variables = omega (arith, (frame-of laws program graphs frames sections linked h k flow e').small);
         placed = λ p is. placed k p flow points e' there is;
@@ -109,13 +110,13 @@ module _ (laws : Laws) (program : Program) (graphs : GraphProgram) (frames : Lis
       record {
         as_many_objects = ap length h.linked_is.objects_are ∙ ap length h.linked_is.text.objects_are
             ∙ length-object_addresses (data_start linked.image.text.items + 4) graphs.objects
-            ∙ ap length h.lowered.objects ∙ length-mapped data_object program.objects;
+            ∙ ap length h.lowered.objects ∙ length-map program.objects data_object;
         few_objects = omega (arith, h.compilable.memory.few_objects);
         few_elements = few-elements program.objects h.compilable.memory.few_elements;
         as_many_graphs = h.lowered.shapes.as_many;
         as_many_frames = AllZip-long _ graphs.functions frames h.frames_of ∙ h.lowered.shapes.as_many;
-        as_many_points = length-mapped (λ v. v.items) linked.points.items ∙ h.linked_is.points_are
-            ∙ length-mapped _ graphs.functions ∙ h.lowered.shapes.as_many;
+        as_many_points = length-map linked.points.items (λ v. v.items) ∙ h.linked_is.points_are
+            ∙ length-map graphs.functions _ ∙ h.lowered.shapes.as_many;
         few_functions = omega (arith, few, h.lowered.shapes.as_many);
         few_statements = omega (arith, few-statements program.functions, h.compilable.memory.small);
         each = can-show;

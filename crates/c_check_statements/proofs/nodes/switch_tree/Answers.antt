@@ -1,7 +1,7 @@
 use Rattle.std.proofs.Common.{rules}
 use Rattle.c_tree.specs.declared.statement.Statement.TheViews.{the_lemmas}
-use Rattle.c_check_statements.proofs.BlockRows.{row_is}
+use Rattle.c_tree.proofs.Rows.{statements_are}
 use Rattle.c_check_statements.proofs.nodes.switch_tree.Goals as goal
 
 pub returns : goal.returns
-returns c = search (rules, the_lemmas, row_is)
+returns c = search (rules, the_lemmas, statements_are)

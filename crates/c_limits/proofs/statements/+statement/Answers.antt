@@ -1,6 +1,6 @@
 use Rattle.std.proofs.Common.{rules}
 use Rattle.c_tree.specs.declared.statement.Statement.TheViews.{the_lemmas}
-use Rattle.c_limits.proofs.Rows.{statements_are}
+use Rattle.c_tree.proofs.Rows.{statements_are}
 use Rattle.c_limits.proofs.statements.+statement.Goals as goal
 
 pub statement-returns-in-Block : goal.statement-returns-in-Block

@@ -1,8 +1,8 @@
 use Rattle.std.proofs.Common.{ℕ, ◌≡◌, ◌<◌, Some, length, get_or, refl, arith, ◌∙◌}
 use Rattle.std.proofs.Math.ListN.{length-set}
 use Rattle.std.specs.List.{slice_get}
+use Rattle.std.proofs.lemmas.Bool.{false≢true}
 use Rattle.live_searches.proofs.Adding.{has-item}
-use Rattle.liveness.proofs.Marking.{false-true}
 use Rattle.liveness.proofs.Starting.{start-again, start-more, start-none, start-same, upto-end, upto-more}
 use Rattle.liveness.proofs.search.start.Goals.{then-not-has+in_ok-push, else-not-has}
 use Rattle.liveness.proofs.search.start.Goals as goal
@@ -38,7 +38,7 @@ loop-point-preserved c =
         start = rw (w.in_ok-push.ensures.items, w.set.ensures) (start-same c.args.var _ _ _ _
             (upto-more c.args.uses.now c.loop-point.point-index y at)
             (start-more c.args.var _ c.loop-point.search.nexts.items c.loop-point.search.used y within
-            (λ m. false-true (w.if-not-has.ensures.1 m)) c.loop-point.invariant.start));
+            (λ m. false≢true (w.if-not-has.ensures.1 m)) c.loop-point.invariant.start));
         after = c.loop-point.invariant.after;
         points = rw w.set.ensures (length-set c.loop-point.search.used y (Some c.args.var)
             ∙ c.loop-point.invariant.points);

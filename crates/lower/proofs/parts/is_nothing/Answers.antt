@@ -1,6 +1,6 @@
 use Rattle.std.proofs.Common.{rules}
 use Rattle.c_tree.specs.declared.statement.Statement.TheViews.{the_lemmas}
-use Rattle.lower.proofs.Resting.{statements_are}
+use Rattle.c_tree.proofs.Rows.{statements_are}
 use Rattle.lower.proofs.parts.is_nothing.Goals as goal
 
 pub returns-in-Block : goal.returns-in-Block

@@ -5,12 +5,12 @@ use Rattle.c_tree.specs.Erased.{boxed_of, expression_of, first_of, statement_of,
 use Rattle.c_tree.specs.Program as typed
 use Rattle.c_tree.specs.declared.statement.Statement.{Statement}
 use Rattle.c_tree.specs.declared.statement.Statement.TheViews.{the_lemmas}
+use Rattle.c_tree.proofs.Rows.{statements_are}
 use Rattle.lower.specs.Walks.{AddsIf}
 use Rattle.lower_loops.specs.Starts.{starts_at}
 use Rattle.lower.proofs.Arms.{do-arm, for-arm, if-none-arm, if-some-arm, since, while-arm}
 use Rattle.lower.proofs.Switched.{switch-none, switch-some}
 use Rattle.lower.proofs.Ordered.{row-first, row-more, row-none}
-use Rattle.lower.proofs.Resting.{statements_are}
 use Rattle.lower_lines.specs.Statements.{run_of}
 use Rattle.lower_moves.specs.Sites.{context_of}
 use Rattle.lower_rows.specs.Views.{after_of, exits_of}

@@ -1,6 +1,6 @@
 use Rattle.std.proofs.Common.{rules}
 use Rattle.c_tree.specs.declared.statement.Statement.TheViews.{the_lemmas}
-use Rattle.lower_builder.proofs.Rows.{statements_are}
+use Rattle.c_tree.proofs.Rows.{statements_are}
 use Rattle.lower_builder.proofs.heights.+statement_height.Goals as goal
 
 pub statement_height-returns-in-Block : goal.statement_height-returns-in-Block

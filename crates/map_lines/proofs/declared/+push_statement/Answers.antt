@@ -2,7 +2,7 @@ use Rattle.std.proofs.Common.{◌≡◌, ◌∷◌, ◌++◌, [], Bool, false, L
 use Rattle.std.proofs.lemmas.Result.{on_ok_weaker}
 use Rattle.c_tree.specs.declared.statement.Statement.TheViews.{the_lemmas}
 use Rattle.c_tree.specs.Erased.{statement_of, statements_of}
-use Rattle.lower_builder.proofs.Rows.{statements_are}
+use Rattle.c_tree.proofs.Rows.{statements_are}
 use Rattle.map_lines.specs.Shown.{body_declares, statement_declares}
 use Rattle.map_lines.proofs.declared.+push_statement.Goals as goal
 
