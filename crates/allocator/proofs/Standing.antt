@@ -1,9 +1,10 @@
 -- The places of pieces, one after another.
-use Rattle.std.proofs.Common.{ℕ, ℤ, zero, suc, ◌≡◌, ◌<◌, ◌+◌, ◌⊎◌, inl, inr, List, [], ◌∷◌, ◌++◌, length, Option, Some}
+use Rattle.std.proofs.Common.{ℕ, ℤ, ◌≡◌, ◌<◌, ◌+◌, ◌⊎◌, inl, inr, List, [], ◌∷◌, ◌++◌, length, Option, Some}
 use Rattle.std.proofs.Common.{get_or, refl, sym, ap, subst, arith, ◌∙◌}
 use Rattle.std.specs.Prelude.{slice_get}
 use Rattle.std.proofs.lemmas.List.{length-append}
-use Rattle.std.proofs.lemmas.Option.{none-some, same_Some, slice_get-get_or, slice_get_within}
+use Rattle.std.proofs.lemmas.Option.{same_Some, slice_get-get_or, slice_get_within}
+use Rattle.pcc_base.proofs.Lists.{get-append, get-last}
 use Rattle.puzzle_board.specs.declared.piece.Piece.{Piece}
 use Rattle.puzzle_board.specs.declared.piece.Spot.{Spot}
 use Rattle.puzzle_board.specs.declared.place.Place.{Place}
@@ -26,15 +27,6 @@ places-none slots pieces spots = record {
   each = λ k piece spot lt. absurd (omega (arith, lt));
 }
 
-get-front : (xs : List Place) (y x : Place) (k : ℕ) → slice_get xs k ≡ Some x → slice_get (xs ++ y ∷ []) k ≡ Some x
-get-front [] y x k e = absurd (none-some x e)
-get-front (z ∷ xs) y x zero e = e
-get-front (z ∷ xs) y x (suc k) e = get-front xs y x k e
-
-get-last : (xs : List Place) (y : Place) → slice_get (xs ++ y ∷ []) (length xs) ≡ Some y
-get-last [] y = refl
-get-last (z ∷ xs) y = get-last xs y
-
 less-one : (k n : ℕ) → k < n + 1 → (k < n) ⊎ (k ≡ n)
 less-one k n lt = grind arith
 
@@ -52,7 +44,7 @@ places-more n slots pieces spots places p s place at seen stands far = record {
       → slice_get spots k ≡ Some spot
       → (q : Place) × (slice_get (places ++ place ∷ []) k ≡ Some q) × StandsIn spot (slot_in slots piece.var) q
   each-more k piece spot (inl less) e f =
-      let (q, is, in-it) = far.each k piece spot less e f in (q, get-front places place q k is, in-it)
+      let (q, is, in-it) = far.each k piece spot less e f in (q, get-append places (place ∷ []) k q is, in-it)
   each-more k piece spot (inr same) e f =
       let piece-is : p ≡ piece = same_Some p piece (sym at ∙ (ap (λ (j : ℕ). slice_get pieces j) (sym same) ∙ e)) in
       let spot-is : s ≡ spot = same_Some s spot (sym seen ∙ (ap (λ (j : ℕ). slice_get spots j) (sym same) ∙ f)) in (

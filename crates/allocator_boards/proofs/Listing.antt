@@ -5,7 +5,7 @@ use Rattle.std.proofs.Common.{◌∙◌}
 use Rattle.std.specs.Prelude.{slice_get}
 use Rattle.std.specs.List.{AllByRecursion}
 use Rattle.std.proofs.lemmas.Option.{none-some, same_Some, slice_get-get_or}
-use Rattle.pcc_base.proofs.Lists.{all-at, all-push}
+use Rattle.pcc_base.proofs.Lists.{all-at, all-push, element-at}
 use Rattle.flow_graph.specs.Graphs.{Flow, IsDistinct, IsIn}
 use Rattle.flow_graph.specs.Lives.{IsAscending}
 use Rattle.flow_graph.proofs.Ascending.{ascending-push}
@@ -232,14 +232,9 @@ pub listed-new-at :
 listed-new-at lists point pieces i d cs c o new lt l is far =
     listed-new lists point pieces i (get_or pieces i d) cs c o new (slice_get-get_or pieces i d lt) l is far
 
-piece-at : (pieces : List Piece) (i : ℕ) → i < length pieces → (p : Piece) × (slice_get pieces i ≡ Some p)
-piece-at [] i lt = absurd (omega (arith, lt))
-piece-at (p ∷ pieces) zero lt = (p, refl)
-piece-at (p ∷ pieces) (suc i) lt = piece-at pieces i (omega (arith, lt))
-
 pub listed-same-at :
     (lists : List (List (ℕ × ℕ))) (point : ℕ) (pieces : List Piece) (i : ℕ) (cs : List Candidate)
     → IsNewAt pieces i false → i < length pieces → AreListed lists point (take i pieces) cs
     → AreListed lists point (take (i + 1) pieces) cs
 listed-same-at lists point pieces i cs old lt l =
-    let (p, e) = piece-at pieces i lt in listed-same lists point pieces i p cs old e l
+    let (p, e) = element-at pieces i lt in listed-same lists point pieces i p cs old e l

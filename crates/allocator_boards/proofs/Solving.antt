@@ -7,7 +7,7 @@ use Rattle.std.specs.List.{AllByRecursion, Contains}
 use Rattle.std.proofs.lemmas.Bool.{cases_eq}
 use Rattle.std.proofs.lemmas.List.{take_all, length-map}
 use Rattle.std.proofs.lemmas.List.Sorted.{Contains-permutation, IsPermutation-sym}
-use Rattle.std.proofs.lemmas.Option.{none-some, same_Some}
+use Rattle.std.proofs.lemmas.Option.{none-some, same_Some, slice_get_within}
 use Rattle.flow_graph.specs.Graphs.{Flow, IsIn, has_point}
 use Rattle.flow_graph.proofs.Points.{every-from}
 use Rattle.elementary_form.proofs.Naming.{equal-test, in-test, other-test, test-in}
@@ -216,11 +216,6 @@ spots-long : (states : List State) → length (spots_of states) ≡ length state
 spots-long [] = refl
 spots-long (s ∷ states) = let rest = spots-long states in omega (arith, rest)
 
-within-get : (pieces : List Piece) (k : ℕ) (p : Piece) → slice_get pieces k ≡ Some p → k < length pieces
-within-get [] k p e = absurd (none-some p e)
-within-get (x ∷ pieces) zero p e = omega arith
-within-get (x ∷ pieces) (suc k) p e = let rest = within-get pieces k p e in omega (arith, rest)
-
 -- the spots of a board that is solved without these variables
 module _
     (areas : List Area) (pieces : List Piece) (vs : List ℕ) (new : Puzzle)
@@ -251,7 +246,7 @@ module _
       let many : length (remaining_in pieces new.states) ≡ length (standing_in pieces new.states) =
       sym (ap (λ (ps : List Piece). length ps) placed.each)
       ∙ length-map (standing_in pieces new.states) (λ (s : Standing). s.piece) in
-      placed-all pieces new.states k (omega (arith, many)) (within-get pieces k p at) e
+      placed-all pieces new.states k (omega (arith, many)) (slice_get_within pieces k p at) e
 
   pub spots-are : AreSpots areas pieces vs (spots_of new.states)
   spots-are = record {

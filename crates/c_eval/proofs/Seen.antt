@@ -4,9 +4,10 @@ use Rattle.std.proofs.Common.{take, drop, refl, sym, ap, subst, arith, length-ap
 use Rattle.std.specs.Prelude.{Bool, true, false, slice_get, slice_index_or, slice_set, Some, None, Option}
 use Rattle.std.proofs.lemmas.List.{length-map, take-map, length-take-le, map_push, append_assoc, take-append-le}
 use Rattle.std.proofs.lemmas.List.{length-take, get_or_read}
-use Rattle.std.proofs.lemmas.Option.{slice_get-get_or, slice_get_past, same_Some}
+use Rattle.std.proofs.lemmas.Option.{slice_get_past, same_Some}
 use Rattle.pcc_base.specs.Outcome as outcome
 use Rattle.pcc_base.specs.declared.run.Trap.TheVariants.{Check}
+use Rattle.pcc_base.proofs.Lists.{element-at}
 use Rattle.c_tree.specs.declared.program.Local.{Local}
 use Rattle.c_tree.specs.Erased.{local_of}
 use Rattle.c_tree.specs.Store.{Held, HoldsNumber, Gives, Ends, Activation, State, youngest, with_youngest}
@@ -164,10 +165,6 @@ local-kept calls n first local values new arrays v long is are =
 
 -- ---- an element
 
--- an element that is there
-there : (row : List ℤ) (i : ℕ) → i < length row → (old : ℤ) × (slice_get row i ≡ Some old)
-there row i w = (slice_index_or row i (pos 0), slice_get-get_or row i (pos 0) w)
-
 pub static-written : (s : State) (objects new : List (List ℤ)) (active : List Activation) (object i : ℕ) (v : ℤ)
     (b : Bool)
     → SetsElement objects new object i v b
@@ -175,7 +172,7 @@ pub static-written : (s : State) (objects new : List (List ℤ)) (active : List 
     (record { objects = new; active = active }))
     (outcome.Static object) (pos i) v b
 static-written s objects new active object i v true h =
-    let found = there (slice_index_or objects object []) i h.0 in
+    let found = element-at (slice_index_or objects object []) i h.0 in
     (found.0, found.1, objects-changed s _ _ active h.1)
 static-written s objects new active object i v false h =
     (slice_get_past (slice_index_or objects object []) i h.0, objects-changed s _ _ active h.1)
@@ -189,7 +186,7 @@ pub frame-element-written : (s : State) (objects : List (List ℤ)) (calls : Lis
     (outcome.InFrame k depth) (pos i) v b
 frame-element-written s objects calls values arrays new count k depth at i v true h is sets =
     let read = frame-read calls values arrays count k depth at h is in
-    let found = there (slice_index_or arrays at []) i sets.0 in (
+    let found = element-at (slice_index_or arrays at []) i sets.0 in (
       found.0,
       ap (λ row. slice_get row i) read ∙ found.1,
       active-changed s objects _ _ (ap (active_in calls (length calls) values) sets.1

@@ -5,6 +5,7 @@ use Rattle.std.proofs.Common.{None, refl, ap, sym, ◌∙◌, subst, arith, appe
 use Rattle.std.proofs.lemmas.List.{append-nil}
 use Rattle.pcc_base.specs.declared.span.Span.{Span}
 use Rattle.pcc_base.specs.declared.keyword.Keyword.TheVariants as words
+use Rattle.pcc_base.proofs.Lists.{all-push}
 use Rattle.c_tokens.specs.declared.token.Token.{Token}
 use Rattle.c_tokens.specs.declared.token.Punct.TheVariants as marks
 use Rattle.c_syntax.specs.declared.expression.Specifier.{Specifier}
@@ -504,11 +505,6 @@ labels_push [] l = append-nil (label_tokens l)
 labels_push (x ∷ xs) l = ap (λ zs. label_tokens x ++ zs) (labels_push xs l)
     ∙ sym (append_assoc (label_tokens x) (labels_tokens xs) (label_tokens l))
 
-labels_all : (ls : List LabelTree) (l : LabelTree) → AllByRecursion IsLabel ls → IsLabel l
-    → AllByRecursion IsLabel (ls ++ l ∷ [])
-labels_all [] l all is = (is, tt)
-labels_all (x ∷ xs) l all is = (all.0, labels_all xs l all.1 is)
-
 labels_low : (ls : List LabelTree) (l : LabelTree) → greatest label_height (ls ++ l ∷ [])
     ≡ max (greatest label_height ls) (label_height l)
 labels_low [] l = omega arith
@@ -521,7 +517,7 @@ one_label h ts ls us l vs s f is low =
     record {
       tokens = s.tokens ∙ (ap (λ zs. labels_tokens ls ++ zs) f
           ∙ (sym (append_assoc (labels_tokens ls) (label_tokens l) vs) ∙ ap (λ zs. zs ++ vs) (sym (labels_push ls l))));
-      all = labels_all ls l s.all is;
+      all = all-push IsLabel ls l s.all is;
       low = omega (arith, labels_low ls l, s.low, low);
     }
 
@@ -713,11 +709,6 @@ unit_push [] e = append-nil (external_tokens e)
 unit_push (x ∷ xs) e = ap (λ zs. external_tokens x ++ zs) (unit_push xs e)
     ∙ sym (append_assoc (external_tokens x) (unit_tokens xs) (external_tokens e))
 
-unit_all : (es : List ExternalTree) (e : ExternalTree) → AllByRecursion IsExternal es → IsExternal e
-    → AllByRecursion IsExternal (es ++ e ∷ [])
-unit_all [] e all is = (is, tt)
-unit_all (x ∷ xs) e all is = (all.0, unit_all xs e all.1 is)
-
 unit_low : (es : List ExternalTree) (e : ExternalTree) → greatest external_height (es ++ e ∷ [])
     ≡ max (greatest external_height es) (external_height e)
 unit_low [] e = omega arith
@@ -732,7 +723,7 @@ sound_unit_step n b sb ts a (t ∷ us) s =
     record {
       tokens = s.tokens ∙ (ap (λ zs. unit_tokens a ++ zs) g.0
           ∙ (sym (append_assoc (unit_tokens a) (external_tokens e) vs) ∙ ap (λ zs. zs ++ vs) (sym (unit_push a e))));
-      all = unit_all a e s.all g.1.0;
+      all = all-push IsExternal a e s.all g.1.0;
       low = omega (arith, unit_low a e, s.low, g.1.1);
     })
 

@@ -1,26 +1,20 @@
 -- Items that are written out can be assembled, one item after the other.
 use Rattle.std.specs.Prelude.{◌≡◌, ◌<◌, ◌^◌, ℕ, zero, suc, List, [], ◌∷◌, slice_get, Some}
 use Rattle.std.specs.List.{AllByRecursion}
-use Rattle.std.proofs.Common.{refl, sym, ◌∙◌, subst, arith}
+use Rattle.std.proofs.Common.{refl, sym, ◌∙◌, arith}
 use Rattle.std.proofs.lemmas.Option.{same_Some}
+use Rattle.pcc_base.proofs.Lists.{all-at}
 use Rattle.ia32_insn.specs.declared.item.Item.{Item}
 use Rattle.ia32_insn.specs.declared.item.Item.TheVariants as item
 use Rattle.ia32_asm.specs.Sections.{Stands, StandOnce, IsSpelled, HasLabel, items_size, CanAssemble}
-
--- what holds of each item
-all_at : (P : Item → Type 0) (items : List Item) → AllByRecursion P items → (j : ℕ) (i : Item) → slice_get items j
-    ≡ Some i → P i
-all_at P [] h j i e = absurd (cc)
-all_at P (x ∷ xs) h zero i e = subst P (same_Some x i e) h.0
-all_at P (x ∷ xs) h (suc j) i e = all_at P xs h.1 j i e
 
 pub can_assemble : (items : List Item) → AllByRecursion IsSpelled items → AllByRecursion (HasLabel items) items
     → StandOnce item.Label items → StandOnce item.Point items
     → items_size items < 2 ^ 30 → CanAssemble items
 can_assemble items s l labels points size =
     record {
-      spelled = all_at IsSpelled items s;
-      labelled = all_at (HasLabel items) items l;
+      spelled = λ j i. all-at IsSpelled items j i s;
+      labelled = λ j i. all-at (HasLabel items) items j i l;
       labels_once =
           labels;
       points_once = points;

@@ -5,13 +5,13 @@ use Rattle.std.proofs.Common.{refl, sym, ap, ◌∙◌, subst, arith, inl, inr, 
 use Rattle.std.proofs.lemmas.List.{take-append-le, take_at, take_more}
 use Rattle.std.proofs.lemmas.Option.{slice_get_within, slice_get-get_or}
 use Rattle.std.proofs.lemmas.Bool.{cases_eq, eq-eqb, ne_eqb}
-use Rattle.pcc_base.proofs.Lists.{get-last}
+use Rattle.pcc_base.proofs.Lists.{get-last, get-append}
 use Rattle.ia32_insn.specs.declared.item.Item.{Item}
 use Rattle.ia32_insn.specs.declared.item.Item.TheVariants as item
 use Rattle.ia32_asm.specs.declared.offsets.Offsets.{Offsets}
 use Rattle.ia32_asm.specs.Sections.{Stands, StandOnce, item_size, items_size, CanAssemble}
 use Rattle.ia32_asm.specs.Pieces.{IsPut, AreOffsets, AreLaid, Adds, IsLonger}
-use Rattle.ia32_asm.proofs.Lists.{slice_get-push, slice_get-kept, slice_get-taken}
+use Rattle.ia32_asm.proofs.Lists.{slice_get-push, slice_get-taken}
 
 -- ---- sizes
 
@@ -48,8 +48,8 @@ offsets_more mark xs x offsets other h =
       bound = λ n. omega (arith, h.bound n, items_size-push xs x);
       numbered = record {
         within = λ n s. h.numbered.within n (back n s);
-        greatest = λ n e. let s = h.numbered.greatest n e in (s.0, slice_get-kept xs x (mark n) s.0 s.1);
-        others = λ n none. h.numbered.others n (λ s. none (s.0, slice_get-kept xs x (mark n) s.0 s.1));
+        greatest = λ n e. let s = h.numbered.greatest n e in (s.0, get-append xs (x ∷ []) s.0 (mark n) s.1);
+        others = λ n none. h.numbered.others n (λ s. none (s.0, get-append xs (x ∷ []) s.0 (mark n) s.1));
       };
     }
 
@@ -81,12 +81,12 @@ offsets_put mark xs k size old new one fresh sized put h =
           | inr p ↦ omega (arith, one k n p.1, put.within)
         ];
         greatest = λ n e. elim (put.greatest n e) [
-          | inl p ↦ let s = h.numbered.greatest n p in (s.0, slice_get-kept xs (mark k) (mark n) s.0 s.1)
+          | inl p ↦ let s = h.numbered.greatest n p in (s.0, get-append xs (mark k ∷ []) s.0 (mark n) s.1)
           | inr p ↦ (length xs, get-last xs (mark k) ∙ ap (λ (m : ℕ). Some (mark m)) (sym p))
         ];
         others = λ n none. elim (cases_eq n k) [
           | inl p ↦ absurd (none (length xs, get-last xs (mark k) ∙ ap (λ (m : ℕ). Some (mark m)) (sym p)))
-          | inr p ↦ elsewhere n p ∙ h.numbered.others n (λ s. none (s.0, slice_get-kept xs (mark k) (mark n) s.0 s.1))
+          | inr p ↦ elsewhere n p ∙ h.numbered.others n (λ s. none (s.0, get-append xs (mark k ∷ []) s.0 (mark n) s.1))
         ];
       };
     }

@@ -11,13 +11,6 @@ slice_get-push (z ∷ xs) x y zero e = inl e
 slice_get-push (z ∷ xs) x y (suc j) e =
     elim (slice_get-push xs x y j e) [ inl p ↦ inl p | inr p ↦ inr (omega (arith, p.0), p.1) ]
 
--- an element stays where it is
-pub slice_get-kept : {X : Type 0} (xs : List X) (x y : X) (j : ℕ) → slice_get xs j ≡ Some y → slice_get (xs ++ x ∷ []) j
-    ≡ Some y
-slice_get-kept [] x y j e = absurd (cc)
-slice_get-kept (z ∷ xs) x y zero e = e
-slice_get-kept (z ∷ xs) x y (suc j) e = slice_get-kept xs x y j e
-
 -- an element of the first k is one of the list, before place k
 pub slice_get-taken : {X : Type 0} (k : ℕ) (xs : List X) (y : X) (j : ℕ) → slice_get (take k xs) j ≡ Some y
     → (slice_get xs j ≡ Some y) × (j < k)

@@ -5,7 +5,7 @@ use Rattle.std.proofs.Common.{ap, subst, ◌∙◌, arith, append_assoc, length-
 use Rattle.std.specs.Prelude.{drop, slice_get}
 use Rattle.std.proofs.lemmas.List.{length-map}
 use Rattle.std.proofs.lemmas.Option.{get_or_from_slice_get, same_Some}
-use Rattle.pcc_base.proofs.Lists.{all-append}
+use Rattle.pcc_base.proofs.Lists.{all-append, get-seam}
 use Rattle.ia32_regs.specs.Places.{Place, InWord, InByte, InSlot}
 use Rattle.ia32_insn.specs.declared.item.Item.{Item}
 use Rattle.ia32_insn.specs.declared.item.Item.TheVariants as item
@@ -19,7 +19,6 @@ use Rattle.ia32_rows.specs.Sites.{Site, StandsFrom}
 use Rattle.ia32_rows.proofs.Steps.{at-back, at-front, items-split}
 use Rattle.ia32_rows.specs.Rows.{before_call, behind_call, deepen, pass, pass_all, place_before, selected}
 use Rattle.ia32_rows.proofs.ItemKinds.{PointsTakeRoom, behind-point, point-address, strictly-later}
-use Rattle.ia32_rows.proofs.Laid.{at-place}
 use Rattle.ia32_programs.specs.Supports.{no_places, site_of}
 use Rattle.ia32_programs.proofs.Memory.{address-at}
 use Rattle.ia32_programs.specs.StandingLaws.{CallsReturn, CallsStand, MarkedStand, MarksSayWhere, place_behind}
@@ -46,7 +45,7 @@ nowhere-else symbols places address x xs front back p bytes room (first, rest, w
     let own = here.1 in
     let after = strictly-later symbols places (address + length first) xs rest (length front) p
     (behind-point x p xs is room.0) more
-    (ap (λ (l : List Item). slice_get l (length front)) e ∙ at-place front back (item.Point p)) in
+    (ap (λ (l : List Item). slice_get l (length front)) e ∙ get-seam front (item.Point p) back) in
     absurd (omega (arith, none, own, after))
 
 -- what stands behind a point is the same, however the items are parted

@@ -5,6 +5,7 @@ use Rattle.std.specs.Prelude.{slice_get, slice_index_or}
 use Rattle.std.proofs.lemmas.Option.{same_Some}
 use Rattle.std.proofs.lemmas.Bool.{eq-eqb}
 use Rattle.std.proofs.lemmas.List.{append-nil}
+use Rattle.pcc_base.proofs.Lists.{get-seam}
 use Rattle.ia32_insn.specs.declared.insn.Insn.TheVariants as insn
 use Rattle.ia32_insn.specs.declared.item.Item.{Item}
 use Rattle.ia32_insn.specs.declared.item.Item.TheVariants as item
@@ -160,15 +161,10 @@ row-in-graph flow placement p b h =
     behind-two : (a b c : List Item) → (a ++ b) ++ (c ++ []) ≡ a ++ (b ++ c)
     behind-two a b c = simp append_assoc (ap (λ (l : List Item). a ++ (b ++ l)) (append-nil c))
 
--- an item stands behind those before it
-pub at-place : (front back : List Item) (i : Item) → slice_get (front ++ (i ∷ back)) (length front) ≡ Some i
-at-place [] back i = refl
-at-place (x ∷ front) back i = at-place front back i
-
 -- a point of the graph stands among the items, over any placement
 pub point-among : (flow : Flow) (placement : Placement) (p b : ℕ) → Stands flow p b → (j : ℕ)
     × (slice_get (selected flow placement) j ≡ Some (item.Point p))
 point-among flow placement p b h =
     let r = row-in-graph flow placement p b h in
     let back : List Item = row flow placement p (slice_index_or flow.ops p op.Turn) ++ r.rest in
-    (length r.front, ap (λ (l : List Item). slice_get l (length r.front)) r.is ∙ at-place r.front back (item.Point p))
+    (length r.front, ap (λ (l : List Item). slice_get l (length r.front)) r.is ∙ get-seam r.front (item.Point p) back)

@@ -1,8 +1,8 @@
 -- A node that is in no list, by the lists: what a caller of a call that wants one shows, or has of it.
-use Rattle.std.proofs.Common.{ℕ, zero, suc, ◌≡◌, ◌≢◌, ◌∙◌, List, [], ◌∷◌, ◌++◌, Some, refl, sym, ap, subst}
+use Rattle.std.proofs.Common.{ℕ, ◌≡◌, ◌≢◌, ◌∙◌, List, [], ◌∷◌, ◌++◌, Some, refl, sym, ap, subst}
 use Rattle.std.proofs.Common.{append_assoc}
 use Rattle.std.specs.List.{AllByRecursion, slice_get}
-use Rattle.std.proofs.lemmas.Option.{same_Some}
+use Rattle.pcc_base.proofs.Lists.{all-at}
 use Rattle.index_lists.specs.Lists.{Lists, IsAbsent, IsListed}
 use Rattle.index_lists.proofs.Links.{all-split}
 
@@ -20,14 +20,7 @@ pub absent-all : (s : Lists) (node : ℕ) → (IsListed s node → ⊥) → (m :
     → slice_get s.lists m ≡ Some ys → IsAbsent node ys
 absent-all s node f m ys e = absent-from s node m [] ys f e
 
--- what holds of each list holds of one of them
-list-holds : (P : List ℕ → Type 0) (lists : List (List ℕ)) (m : ℕ) (ys : List ℕ) → AllByRecursion P lists
-    → slice_get lists m ≡ Some ys → P ys
-list-holds P [] m ys h e = absurd (cc)
-list-holds P (xs ∷ lists) zero ys h e = subst P (same_Some xs ys e) h.0
-list-holds P (xs ∷ lists) (suc m) ys h e = list-holds P lists m ys h.1 e
-
 -- a node that is absent from each list is in none
 pub unlisted : (s : Lists) (node : ℕ) → AllByRecursion (IsAbsent node) s.lists → IsListed s node → ⊥
 unlisted s node h (l, before, after, e) =
-    (all-split (λ x. x ≢ node) before (node ∷ after) (list-holds (IsAbsent node) s.lists l _ h e)).1.0 refl
+    (all-split (λ x. x ≢ node) before (node ∷ after) (all-at (IsAbsent node) s.lists l _ h e)).1.0 refl

@@ -4,7 +4,7 @@ use Rattle.std.proofs.Common.{refl, sym, ap, arith, ◌∙◌}
 use Rattle.std.specs.List.{AllByRecursion, slice_get}
 use Rattle.std.proofs.lemmas.List.{length-set}
 use Rattle.std.proofs.lemmas.Option.{slice_get_within, same_Some}
-use Rattle.pcc_base.proofs.Lists.{all-append}
+use Rattle.pcc_base.proofs.Lists.{all-append, all-left, all-right}
 use Rattle.index_lists.specs.declared.link.Link.{Link}
 use Rattle.index_lists.specs.Lists.{IsAbsent, AreApart, IsOnce}
 use Rattle.index_lists.specs.Links.{AreLinked, first_or, last_or, linked_next, linked_previous, with_link, with_next}
@@ -29,8 +29,7 @@ get-same (x ∷ xs) (suc i) v l = get-same xs i v (omega arith)
 -- what holds of each of two lists that were joined
 pub all-split : {X : Type 0} (P : X → Type 0) (xs ys : List X) → AllByRecursion P (xs ++ ys)
     → AllByRecursion P xs × AllByRecursion P ys
-all-split P [] ys h = (tt, h)
-all-split P (x ∷ xs) ys h = let r = all-split P xs ys h.1 in ((h.0, r.0), r.1)
+all-split P xs ys h = (all-left P xs ys h, all-right P xs ys h)
 
 -- ---- nodes that are apart
 

@@ -2,6 +2,7 @@
 use Rattle.std.proofs.Common.{◌≡◌, ◌≤◌, ℕ, zero, suc, ◌+◌, ◌*◌, Bool, true, false, ℤ, List, [], ◌∷◌}
 use Rattle.std.proofs.Common.{◌++◌, Option, Some, None, refl, sym, ap, subst, arith, length, length-append}
 use Rattle.std.specs.Prelude.{if◌then◌else◌, ◌==◌, ◌||◌}
+use Rattle.std.proofs.lemmas.List.{append-nil}
 use Rattle.c_tree.specs.declared.statement.Label.{Label}
 use Rattle.c_tree.specs.declared.types.ValueType.{ValueType}
 use Rattle.c_tree.specs.declared.types.ValueType.TheVariants.{Void, Integer, Pointer}
@@ -28,10 +29,6 @@ use Rattle.lower_lines.proofs.Weighed.{weighed}
 use Rattle.lower_lines.proofs.Weights.{Quiet, Weighs, quiet-ops, quiet-then, weighs-mark, weighs-none, weighs-op}
 use Rattle.lower_lines.proofs.Weights.{weighs-start, weighs-then, weighs-to}
 
-no-more : (ms : List ℕ) → ms ++ [] ≡ ms
-no-more [] = refl
-no-more (n ∷ ms) = ap (λ (l : List ℕ). n ∷ l) (no-more ms)
-
 -- how many ops lead on behind a statement
 abbrev pub leave : After → ℕ
 leave Here = 0
@@ -47,7 +44,7 @@ jumps labelled place (r ∷ q ∷ rs) = leave (towards (labelled (suc place))) +
 module _ (W : ℕ) (c : Context) where
   then-quiet : (m k n l : ℕ) (a : List ℕ) (xs ys : List Line) → Weighs W m k a xs → Quiet W n l ys
       → Weighs W (m + n) (k + l) a (xs ++ ys)
-  then-quiet m k n l a xs ys h h' = subst (λ (b : List ℕ). Weighs W (m + n) (k + l) b (xs ++ ys)) (no-more a)
+  then-quiet m k n l a xs ys h h' = subst (λ (b : List ℕ). Weighs W (m + n) (k + l) b (xs ++ ys)) (append-nil a)
       (weighs-then W m k n l a [] xs ys h h')
 
   quiet-before : (m k n l : ℕ) (a : List ℕ) (xs ys : List Line) → Quiet W m k xs → Weighs W n l a ys
@@ -310,7 +307,7 @@ module _ (W : ℕ) (c : Context) where
     k = h.k;
     few = let e = h.few in omega (arith, e);
     fewer = let e = h.fewer in omega (arith, e);
-    is = λ labelled place exits block after. rw (no-more marks)
+    is = λ labelled place exits block after. rw (append-nil marks)
         (weighs-to (0 + (h.n + leave after)) (0 + h.k) (h.n + 0 + leave after) h.k (omega arith) (omega arith)
         (quiet-before 0 0 (h.n + leave after) h.k marks (started (labelled place)) (r.lines exits block after)
         (started-weighs (labelled place)) (h.is.weighs exits block after)));

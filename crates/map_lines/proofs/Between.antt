@@ -7,6 +7,7 @@ use Rattle.std.specs.Prelude.{slice_get, slice_index_or}
 use Rattle.std.proofs.lemmas.Bool.{cases_order, true≢false}
 use Rattle.std.proofs.lemmas.Bool.Decides.{eqb_tells}
 use Rattle.std.proofs.lemmas.Option.{same_Some}
+use Rattle.pcc_base.proofs.Lists.{get-seam}
 use Rattle.ia32_insn.specs.declared.item.Item.{Item}
 use Rattle.ia32_insn.specs.declared.item.Item.TheVariants as item
 use Rattle.ia32_insn.specs.Items.{ItemsAt, Places, Symbols}
@@ -20,7 +21,7 @@ use Rattle.ia32_rows.specs.Placements.{Code, Placement, address_in, placement_of
 use Rattle.ia32_rows.specs.Shows.{IsInside, ReturnsTo}
 use Rattle.ia32_rows.specs.Rows.{behind_call, selected}
 use Rattle.ia32_rows.proofs.ItemKinds.{item-room, later, point-address}
-use Rattle.ia32_rows.proofs.Laid.{at-place, point-among}
+use Rattle.ia32_rows.proofs.Laid.{point-among}
 use Rattle.ia32_programs.specs.Supports.{site_of}
 use Rattle.ia32_programs.proofs.Memory.{address-at}
 use Rattle.ia32_programs.specs.StandingLaws.{IsSelected, place_behind}
@@ -58,7 +59,7 @@ around symbols places address (x ∷ front) middle back p f zero q before after 
     let here = point-address symbols places address x q first e at in
     let tail : List Item = middle ++ (item.CallFunction f ∷ []) in
     let call = later symbols places (address + length first) (front ++ (item.Point p ∷ tail)) rest (length front) p more
-    (at-place front tail (item.Point p)) in
+    (get-seam front (item.Point p) tail) in
     inl (omega (arith, here.1, call))
 around symbols places address (x ∷ front) middle back p f (suc j) q before after inside (first, rest, whole, at, more)
     behind e =
@@ -157,7 +158,7 @@ returns-within code w younger address q is_selected below waits returns next =
     b.stands.bytes) more.1 b.stands.stand in
     subst (λ (n : ℕ). address ≤ n) (sym (address-at code.places f q))
     (later (site_of code f).symbols (site_of code f).places address (behind ++ (item.Point q ∷ more.0)) b.stands.bytes
-    (length behind) q stand (at-place behind more.0 (item.Point q)))
+    (length behind) q stand (get-seam behind (item.Point q) more.0))
 
 -- ---- the law
 

@@ -5,7 +5,7 @@ use Rattle.std.proofs.Common.{sym, ap, ◌∙◌, subst}
 use Rattle.std.proofs.Common.{arith, inl, inr}
 use Rattle.std.specs.Prelude.{◌⊎◌, flat_map, slice_get, slice_index_or}
 use Rattle.std.proofs.lemmas.Option.{same_Some}
-use Rattle.pcc_base.proofs.Lists.{all-append}
+use Rattle.pcc_base.proofs.Lists.{all-append, all-left, all-right}
 use Rattle.flow_graph.specs.Graphs.{Flow, IsDistinct, IsFlow, IsIn, IsPlaced, Stands, points_of}
 use Rattle.flow_graph.proofs.Points.{every-in, every-from}
 use Rattle.map_lines.specs.ProgramMap.{all_points}
@@ -114,8 +114,7 @@ all-distinct flow homes is =
 
 pub every-parts : (P : ℕ → Type 0) (xs ys : List ℕ) → AllByRecursion P (xs ++ ys)
     → AllByRecursion P xs × AllByRecursion P ys
-every-parts P [] ys all = (tt, all)
-every-parts P (x ∷ xs) ys all = let more = every-parts P xs ys all.1 in ((all.0, more.0), more.1)
+every-parts P xs ys h = (all-left P xs ys h, all-right P xs ys h)
 
 pub record AreParts (xs ys : List ℕ) : Type 0 where
   pub front : IsDistinct xs

@@ -1,5 +1,5 @@
 -- What a map of a typed program lists are locals of the program.
-use Rattle.std.proofs.Common.{◌≡◌, ◌<◌, ◌≤◌, ℕ, zero, suc, ◌+◌, Bool, true, false, List, [], ◌∷◌, ◌++◌, length, map}
+use Rattle.std.proofs.Common.{◌≡◌, ◌<◌, ◌≤◌, ℕ, suc, ◌+◌, Bool, true, false, List, [], ◌∷◌, ◌++◌, length, map}
 use Rattle.std.proofs.Common.{eqb, Option}
 use Rattle.std.proofs.Common.{Some, None, refl, sym, ap, ◌∙◌, subst, arith, inl, inr}
 use Rattle.std.specs.Prelude.{filter_map, flat_map, if◌then◌else◌, option_map, slice_get}
@@ -8,7 +8,7 @@ use Rattle.std.proofs.lemmas.Bool.{eqb-true}
 use Rattle.std.proofs.lemmas.List.Elements.{recursion_from_All}
 use Rattle.std.proofs.lemmas.Option.{none-some, same_Some, slice_get_within}
 use Rattle.pcc_base.specs.Outcome.{Part}
-use Rattle.pcc_base.proofs.Lists.{all-append, element-at}
+use Rattle.pcc_base.proofs.Lists.{all-append, element-at, all-at}
 use Rattle.c_tree.specs.Program.{Function, Local, Program}
 use Rattle.c_tree.specs.WellTyped.{IsScalar, IsTypedFunction}
 use Rattle.flow_graph.specs.declared.op.Op.{Op}
@@ -103,12 +103,6 @@ typed-locals : (program : Program) (f : Function) → IsTypedFunction program f
     → AllByRecursion (λ l. IsScalar l.of) f.locals
 typed-locals program f typed = recursion_from_All (λ l. IsScalar l.of) f.locals typed.locals
 
-function-typed : (program : Program) (fs : List Function) (k : ℕ) (f : Function)
-    → AllByRecursion (IsTypedFunction program) fs → slice_get fs k ≡ Some f → IsTypedFunction program f
-function-typed program [] k f all at = absurd (none-some f at)
-function-typed program (g ∷ fs) zero f all at = subst (IsTypedFunction program) (same_Some g f at) all.0
-function-typed program (g ∷ fs) (suc k) f all at = function-typed program fs k f all.1 at
-
 -- what the variables of a function are, are parts of its locals
 parts-local : (m : Map) (k : ℕ) (x : MapFunction) (f : Function) (first : ℕ) (flow : Flow) (placement : Placement)
     (addresses : ℕ → ℕ)
@@ -136,7 +130,7 @@ lists-locals program code m typed shapes is statement =
     let first = first_statement fs k in
     let mine = is.functions k f flow x there graph at in
     let scalar = typed-locals program f
-    (function-typed program fs k f (recursion_from_All (IsTypedFunction program) fs typed.functions) there) in
+    (all-at (IsTypedFunction program) fs k f (recursion_from_All (IsTypedFunction program) fs typed.functions) there) in
     let Q : MapPoint → Type 0 = λ p. IsPointOf first f flow (placement_of code k) (point_address code k) p in
     subst (λ (n : ℕ). AllByRecursion (ShowsParts P m statement) (filter_map (mark_at n) (points_of x))) from
     (points-all (ShowsParts P m statement) Q k (points_of x)

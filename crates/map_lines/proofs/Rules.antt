@@ -10,7 +10,7 @@ use Rattle.pcc_base.specs.declared.run.Width.{Width}
 use Rattle.pcc_base.specs.declared.run.Width.TheVariants.{One, Two}
 use Rattle.pcc_base.specs.Names.{IsName}
 use Rattle.pcc_base.specs.Objects as objects
-use Rattle.pcc_base.proofs.Lists.{all-append, element-at}
+use Rattle.pcc_base.proofs.Lists.{all-append, element-at, all-at}
 use Rattle.c_tree.specs.declared.types.IntegerType.{IntegerType}
 use Rattle.c_tree.specs.declared.types.IntegerType.TheVariants.{Char, Short, Int}
 use Rattle.c_tree.specs.declared.types.ValueType.{ValueType}
@@ -107,23 +107,6 @@ mapped-at : (arrays : List LocalArray) (k : ℕ) (a : LocalArray) → slice_get 
 mapped-at [] k a at = absurd (none-some a at)
 mapped-at (x ∷ arrays) zero a at = ap (λ (y : LocalArray). Some (array_of y)) (same_Some x a at)
 mapped-at (x ∷ arrays) (suc k) a at = mapped-at arrays k a at
-
-array-all : (P : ℕ × ℕ → Type 0) (arrays : List (ℕ × ℕ)) (k : ℕ) (a : ℕ × ℕ) → AllByRecursion P arrays
-    → slice_get arrays k ≡ Some a → P a
-array-all P [] k a all at = absurd (none-some a at)
-array-all P (x ∷ arrays) zero a all at = subst P (same_Some x a at) all.0
-array-all P (x ∷ arrays) (suc k) a all at = array-all P arrays k a all.1 at
-
-op-all : (P : Op → Type 0) (ops : List Op) (p : ℕ) (o : Op) → AllByRecursion P ops → slice_get ops p ≡ Some o → P o
-op-all P [] p o all at = absurd (none-some o at)
-op-all P (x ∷ ops) zero o all at = subst P (same_Some x o at) all.0
-op-all P (x ∷ ops) (suc p) o all at = op-all P ops p o all.1 at
-
-object-all : (P : objects.Object → Type 0) (os : List objects.Object) (k : ℕ) (o : objects.Object)
-    → AllByRecursion P os → slice_get os k ≡ Some o → P o
-object-all P [] k o all at = absurd (none-some o at)
-object-all P (x ∷ os) zero o all at = subst P (same_Some x o at) all.0
-object-all P (x ∷ os) (suc k) o all at = object-all P os k o all.1 at
 
 data-at : (os : List StaticObject) (k : ℕ) (o : StaticObject) → slice_get os k ≡ Some o
     → slice_get (map data_object os) k ≡ Some (data_object o)
@@ -237,7 +220,7 @@ points-ruled stand program homes code k f flow h is at =
     record {
       number = number p (op.Mark n) has;
       address = where-at p (op.Mark n) within has;
-      op = record { fits = tt; names = tt; numbers = op-all NumbersFit flow.ops p (op.Mark n) flows.numbers has };
+      op = record { fits = tt; names = tt; numbers = all-at NumbersFit flow.ops p (op.Mark n) flows.numbers has };
       listed = tt;
       before = (
         All-from_recursion (IsStanding (variables_over f flow)) (standings_from 0 mine)
@@ -255,7 +238,7 @@ points-ruled stand program homes code k f flow h is at =
     let o = op.Call d callee words in
     let fs = program.functions in
     let inside : NamesWithin (length code.program.functions) (length code.program.objects) o =
-    op-all (NamesWithin (length code.program.functions) (length code.program.objects)) flow.ops p o
+    all-at (NamesWithin (length code.program.functions) (length code.program.objects)) flow.ops p o
     (recursion_from_All (NamesWithin (length code.program.functions) (length code.program.objects)) flow.ops
     graph.names)
     has in
@@ -284,8 +267,8 @@ arrays-held program homes code k f flow h own is at flows small j below a has th
     let mine : slice_get flow.arrays j ≡ Some (array_of a) = ap (λ (xs : List (ℕ × ℕ)). slice_get xs j) arrays
     ∙ mapped-at f.arrays j a has in
     let inside = (is.slots k flow h at.graph at.home).arrays_in.inside j below (array_of a) mine there in
-    let fits = array-all IsArray flow.arrays j (array_of a) flows.arrays_fit mine in
-    let few = array-all (λ array. array.1 ≤ 4294967295) flow.arrays j (array_of a) flows.few_elements mine in
+    let fits = all-at IsArray flow.arrays j (array_of a) flows.arrays_fit mine in
+    let few = all-at (λ (array : ℕ × ℕ). array.1 ≤ 4294967295) flow.arrays j (array_of a) flows.few_elements mine in
     counted below (size_of (array_of a)) (frame_bytes flow) a.count inside.low inside.high small fits.1 few
   where
     counted : (below size frame count : ℕ) → 16 + size ≤ below → below + 4 ≤ frame → frame ≤ 16384 → 1 ≤ count
@@ -340,12 +323,6 @@ function-ruled stand program homes code k f flow h is at named =
 
 -- ---- the whole
 
-function-all : (P : Function → Type 0) (fs : List Function) (k : ℕ) (f : Function) → AllByRecursion P fs
-    → slice_get fs k ≡ Some f → P f
-function-all P [] k f all at = absurd (none-some f at)
-function-all P (x ∷ fs) zero f all at = subst P (same_Some x f at) all.0
-function-all P (x ∷ fs) (suc k) f all at = function-all P fs k f all.1 at
-
 objects-held : (program : Program) (homes : List Homes) (code : Code) → IsOverSlots program homes code
     → (k address : ℕ) (o : StaticObject) → slice_get program.objects k ≡ Some o
     → slice_get code.symbols.objects k ≡ Some address → IsHeld o address
@@ -353,9 +330,10 @@ objects-held program homes code is k address o at there =
     let supported = is.selected.supported in
     let mine : slice_get code.program.objects k ≡ Some (data_object o) =
     ap (λ (xs : List objects.Object). slice_get xs k) is.objects ∙ data-at program.objects k o at in
-    let whole = object-all objects.IsObject code.program.objects k (data_object o)
+    let whole = all-at objects.IsObject code.program.objects k (data_object o)
     (recursion_from_All objects.IsObject code.program.objects supported.program.objects) mine in
-    let short = object-all (λ object. length object.elements ≤ 2147483648) code.program.objects k (data_object o)
+    let short = all-at (λ (object : objects.Object). length object.elements ≤ 2147483648) code.program.objects k
+    (data_object o)
     (recursion_from_All (λ object. length object.elements ≤ 2147483648) code.program.objects supported.few) mine in
     let (x, held) = held-at code.program.objects k (data_object o) mine in
     let os = objects_of code.program in
@@ -389,6 +367,6 @@ keeps-rules stand program homes code is named =
           let from : j ≡ 0 + j = omega arith in
           subst (λ (i : ℕ). IsMapFunction m (function_over f flow h (point_address code i))) from
           (function-ruled stand program homes code j f flow h is
-          (record { function = at; graph = there; home = home }) (function-all IsNamedFunction fs j f names at))));
+          (record { function = at; graph = there; home = home }) (all-at IsNamedFunction fs j f names at))));
       few_functions = omega (arith, as_many, is.few_functions);
     }
