@@ -95,7 +95,7 @@ fn base(specifiers: &[Specifier]) -> Option<ValueType>
     the_type(specifiers)
 }
 
-/// A base with `*` or without; none is a pointer to void, which the profile hasn't.
+/// A base with `*` or without; none is a pointer to void, which the language hasn't.
 pub fn pointed(base: ValueType, pointer: &Option<Pointer>) -> Option<ValueType>
     ensures { result ≡ pointed base (star_of pointer.now) }
 {

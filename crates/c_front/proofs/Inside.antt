@@ -1,4 +1,4 @@
--- A raw tree has no keyword outside the profile.
+-- A raw tree has no keyword that the language leaves out.
 use Rattle.std.proofs.Common.{◌≡◌, List, [], ◌∷◌, ◌++◌, Option, Some, None, false, refl}
 use Rattle.pcc_base.specs.declared.span.Span.{Span}
 use Rattle.c_tokens.specs.declared.token.Token.{Token}
@@ -261,7 +261,7 @@ external (FunctionTree ss d body) =
     both (specifiers_tokens ss) _ (specifiers ss) (both (declarator_tokens d) _ (declarator d) (stmt body))
 external (DeclaredTree d) = declaration d
 
--- no token of a unit is a keyword outside the profile
+-- no token of a unit is a keyword that the language leaves out
 pub unit_inside : (unit : List ExternalTree) → NoneUnsupported (unit_tokens unit)
 unit_inside [] = tt
 unit_inside (e ∷ es) = both (external_tokens e) (unit_tokens es) (external e) (unit_inside es)

@@ -1,4 +1,4 @@
--- The search for a keyword outside the profile.
+-- The search for a keyword that the language leaves out.
 use Rattle.std.proofs.Common.{◌≡◌, List, [], ◌∷◌, ◌++◌, append_assoc, ap, sym, ◌∙◌}
 use Rattle.c_tokens.specs.declared.token.Token.{Token}
 use Rattle.c_front.specs.ParserRefusals.{IsInside, NoneUnsupported}

@@ -59,12 +59,12 @@ abbrev pub IsInside : TokenKind → Type 0
 IsInside (kinds.Word w) = is_outside w ≡ false
 IsInside _ = ⊤
 
--- no token is a keyword outside the profile
+-- no token is a keyword that the language leaves out
 abbrev pub NoneUnsupported : List Token → Type 0
 NoneUnsupported [] = ⊤
 NoneUnsupported (t ∷ ts) = IsInside t.kind × NoneUnsupported ts
 
--- the first token that is a keyword outside the profile is this keyword at this place
+-- the first token that is a keyword left out of the language is this keyword at this place
 abbrev pub FirstUnsupported : List Token → Keyword → Span → Type 0
 FirstUnsupported tokens keyword at =
     (before : List Token) × (after : List Token) × NoneUnsupported before × (is_outside keyword ≡ true)
@@ -74,7 +74,7 @@ FirstUnsupported tokens keyword at =
 abbrev pub NoTree : List Token → Type 0
 NoTree tokens = (h : ℕ) (t : List ExternalTree) → h ≤ 256 → Tree tokens h t → ⊥
 
--- a fault of this kind at this place: the first keyword outside the profile; without such a keyword,
+-- a fault of this kind at this place: the first keyword left out of the language; without such a keyword,
 -- Syntax or TooDeep where there is no tree
 abbrev pub IsFaulty : List Token → FaultKind → Span → Type 0
 IsFaulty tokens (Unsupported keyword) at = FirstUnsupported tokens keyword at

@@ -1,4 +1,4 @@
-//! The keywords of C99 outside the profile.
+//! The keywords of C99 that the language leaves out.
 
 ghost use Rattle.std.specs.Prelude.{◌≡◌, true, IfSome, IfNone};
 ghost use Rattle.c_tokens.specs.declared.token.TokenKind.TheVariants as kinds;
@@ -52,7 +52,7 @@ fn is_outside(word: Keyword) -> bool
     }
 }
 
-/// The keyword outside the profile that a token is, if it is one.
+/// The keyword left out of the language that a token is, if it is one.
 fn outside_of(kind: &TokenKind) -> Option<Keyword>
     ensures is { IfSome result (λ word. kind.now ≡ kinds.Word word) }
     ensures some { IfSome result (λ word. is_outside word ≡ true) }
@@ -70,7 +70,7 @@ fn outside_of(kind: &TokenKind) -> Option<Keyword>
     }
 }
 
-/// The first token that is a keyword outside the profile, and where it stands.
+/// The first token that is a keyword left out of the language, and where it stands.
 pub(crate) fn first_outside(tokens: &[Token]) -> Option<(Keyword, Span)>
     ensures some { IfSome result (λ found. FirstUnsupported tokens.now found.0 found.1) }
     ensures none { IfNone result (NoneUnsupported tokens.now) }

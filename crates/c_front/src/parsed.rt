@@ -16,7 +16,7 @@ use c_tokens::Token;
 use pcc_base::{Fault, FaultKind, Refusal, Span};
 use std::alloc::Global;
 
-/// A fault of this file. A keyword outside the profile stands where its token does.
+/// A fault of this file. A keyword that the language leaves out stands where its token does.
 fn in_file(file: u32, fault: Fault) -> Fault
     ensures { (tokens : List Token) → IsFaulty tokens fault.kind fault.at
         → IsFaultyIn file tokens result.kind result.at }

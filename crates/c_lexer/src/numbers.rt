@@ -4,7 +4,7 @@ ghost use Rattle.c_tokens.specs.Scans.{IsFound};
 
 use c_tokens::{Radix, Scanned, TokenKind, number_length, value_in};
 
-/// The value of an integer constant (C99 6.4.4.1), and None where the text is no constant of the profile.
+/// The value of an integer constant (C99 6.4.4.1), and None where the text is no constant of the language.
 fn constant_value(text: &[u8]) -> Option<i32>
     ensures { MatchOption result ((value : ℕ) → IsConstant text.now value → ⊥) (λ z. (value : ℕ)
         × IsConstant text.now value × (z ≡ pos value)) }
@@ -22,7 +22,7 @@ fn constant_value(text: &[u8]) -> Option<i32>
 }
 
 /// The integer constant that begins the rest (C99 6.4.4.1, 6.4.8), and None where the longest
-/// preprocessing number there is no constant of the profile.
+/// preprocessing number there is no constant of the language.
 pub fn number_at(rest: &[u8]) -> Option<(usize, Scanned)>
     requires { StartsNumber rest.now }
     ensures { (fresh : Bool) → IsFound fresh rest.now result }

@@ -34,7 +34,7 @@ pub enum Storage {
     Extern,
 }
 
-/// What a declarator says of its name; no type where it is a pointer to `void`, which the profile hasn't.
+/// What a declarator says of its name; no type where it is a pointer to `void`, which the language hasn't.
 #[derive(Drop)]
 pub enum Declared {
     Value(Option<ValueType>),

@@ -6,7 +6,7 @@ ghost use Rattle.c_tokens.specs.Radixes.{base_of, is_digit_of};
 
 use crate::radix::{Radix, base_in, worth_of};
 
-/// The greatest constant of the profile.
+/// The greatest constant of the language.
 const LIMIT: u64 = 2_147_483_647;
 
 /// Whether a byte goes on with a preprocessing number behind another: a digit, a letter, a dot, or a sign

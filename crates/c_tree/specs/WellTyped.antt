@@ -1,6 +1,6 @@
 -- What evaluation and lowering rely on in a typed program: the types of values fit each other where they meet, what is
 -- named is there and of the right sort, and statements are numbered in order. Every program that C99 allows in this
--- profile keeps it; where only a null constant may become a pointer (C99 6.3.2.3p3), any number may here.
+-- language keeps it; where only a null constant may become a pointer (C99 6.3.2.3p3), any number may here.
 use Rattle.std.specs.Prelude.{◌≡◌, ◌<◌, ◌≤◌, ℕ, suc, Bool, true, false, List, [], ◌∷◌, ◌++◌, length, map, take}
 use Rattle.std.specs.Prelude.{slice_get, Option, Some, None, IsSomeAnd, IfSome}
 use Rattle.std.specs.List.{All, AllPairs, range_with_len}

@@ -1,4 +1,4 @@
-/// The integer types of the profile (C99 6.2.5); `char` is signed.
+/// The integer types of the language (C99 6.2.5); `char` is signed.
 #[derive(Clone, Copy, Debug, PartialEq, Eq)]
 pub enum IntegerType {
     /// 8 bits.

@@ -68,7 +68,7 @@ first_token (trees.Assignment op l at r) = first_token l
 abbrev pub specifiers_at : Position → List Specifier → Checked Specified
 specifiers_at position specifiers = or_fails (specified position specifiers) TypeRule (first_word specifiers)
 
--- the type that a cast names (C99 6.7.6); one that the profile hasn't is a fault at its `(`
+-- the type that a cast names (C99 6.7.6); one that the language hasn't is a fault at its `(`
 abbrev pub type_name : Span → List Specifier → Option Star → Checked ValueType
 type_name o specifiers pointer =
     if_fits (specifiers_at InCast specifiers) (λ said. or_fails (pointed said.base pointer) PointerUse o)

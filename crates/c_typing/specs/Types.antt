@@ -83,7 +83,7 @@ abbrev pub name_a_type : List SpecifierWord → List SpecifierWord → Bool
 name_a_type these all = list_all (λ word. times word these == times word all)
     (words.Void ∷ words.Char ∷ words.Short ∷ words.Int ∷ words.Signed ∷ [])
 
--- C99 6.7.2p2, for the types of the profile; `char` is signed
+-- C99 6.7.2p2, for the types of the language; `char` is signed
 abbrev pub type_rows : List (List SpecifierWord × ValueType)
 type_rows =
     (words.Void ∷ [], Void)
@@ -155,7 +155,7 @@ is_extern Extern = true
 
 -- ---- declared types (C99 6.7.5)
 
--- A base with `*` or without. None is a pointer to void, which the profile hasn't.
+-- A base with `*` or without. None is a pointer to void, which the language hasn't.
 abbrev pub pointed : ValueType → Option Star → Option ValueType
 pointed base None = Some base
 pointed Void (Some star) = None

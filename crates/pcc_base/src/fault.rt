@@ -9,7 +9,7 @@ use crate::span::Span;
 pub enum FaultKind {
     /// A byte begins no token.
     BadByte,
-    /// A preprocessing number (C99 6.4.8) is no constant of the profile.
+    /// A preprocessing number (C99 6.4.8) is no constant of the language.
     BadNumber,
     /// A comment, character or string isn't closed.
     Unclosed,
@@ -18,7 +18,7 @@ pub enum FaultKind {
     BadEscape,
     /// The tokens are no program.
     Syntax,
-    /// A keyword of C99 outside the profile.
+    /// A keyword of C99 that the language leaves out.
     Unsupported(Keyword),
     /// The program is nested too deep.
     TooDeep,
