@@ -118,13 +118,13 @@ no_lexical file (text ∷ texts) n fault (tokens ∷ files) (inr (own, has, m, i
 
 -- ---- trees of files
 
--- the keyword stands inside the tokens, so it would have to be inside the profile
+-- the keyword stands inside the tokens, so it would have to be one of the language
 first_outside : (before after : List Token) (keyword : Keyword) (at : Span)
     → NoneUnsupported (before ++ word keyword at ∷ after) → is_outside keyword ≡ false
 first_outside [] after keyword at h = h.0
 first_outside (t ∷ ts) after keyword at h = first_outside ts after keyword at h.1
 
--- tokens with a tree have no keyword outside the profile
+-- tokens with a tree have no keyword that the language leaves out
 tree_inside : (tokens : List Token) (height : ℕ) (unit : List ExternalTree) → Tree tokens height unit
     → NoneUnsupported tokens
 tree_inside tokens height unit tree = subst NoneUnsupported (sym tree.tokens_are) (unit_inside unit)
@@ -172,4 +172,4 @@ trees_once (tokens ∷ files) (x ∷ a) (y ∷ b) p q =
 -- texts with a lexical fault have at most 65,536 tokens before it
 pub lexical_or_limit : (texts : List (List ℕ)) (fault : Fault) → HaveLexicalFault texts fault → HaveManyTokens texts → ⊥
 lexical_or_limit texts fault (n, behind, few) many =
-    omega (arith, stand_fewer_fault 0 texts 65537 n fault many behind, few)
+    omega (arith, stand_fewer_fault 0 texts 0x10001 n fault many behind, few)

@@ -3,6 +3,7 @@ use Rattle.std.proofs.Common.{◌≡◌, ◌==◌, inl, inr, ℕ, zero, suc, Boo
 use Rattle.std.proofs.Common.{refl, sym, ◌∙◌, ap, subst, rules, arith, IsTrue, IsFalse}
 use Rattle.std.proofs.lemmas.List.Sums.{take_while-cons}
 use Rattle.std.proofs.lemmas.Bool.Decides.{nat_tests}
+use Rattle.pcc_base.specs.Ascii.{newline, double_quote, hash, apostrophe, dot, slash}
 use Rattle.c_tokens.specs.declared.token.TokenKind.TheVariants as kinds
 use Rattle.c_tokens.specs.declared.token.Punct.{Punct}
 use Rattle.c_tokens.specs.declared.token.Punct.TheVariants as marks
@@ -16,12 +17,12 @@ use Rattle.c_tokens.specs.Pieces.{Piece, Space, Comment, Skipped, Spelled, IsPie
 -- what a piece of m bytes is, by the first byte of the rest
 pub data Kind (b : ℕ) (rest : List ℕ) (m : ℕ) : Type 0 where
   Spaced : IsTrue (is_space b) → Kind b rest m
-  Slashed : b ≡ 47 → Kind b rest m
-  Hashed : b ≡ 35 → Kind b rest m
+  Slashed : b ≡ slash → Kind b rest m
+  Hashed : b ≡ hash → Kind b rest m
   Worded : IsTrue (is_letter b) → AllPass is_word_byte (take m rest) → Kind b rest m
   Numbered : StartsNumber rest → Kind b rest m
-  Quoted : b ≡ 39 → Kind b rest m
-  DoubleQuoted : b ≡ 34 → Kind b rest m
+  Quoted : b ≡ apostrophe → Kind b rest m
+  DoubleQuoted : b ≡ double_quote → Kind b rest m
   Marked : (mark : Punct) → IsMark mark (take m rest) → Kind b rest m
 
 -- word bytes, the first of which is a letter
@@ -39,7 +40,7 @@ pub letter_in_word : (b : ℕ) → IsTrue (is_letter b) → IsTrue (is_word_byte
 letter_in_word b h = rw h
 
 -- a line's first byte is the text's
-line_first : (t : Bool) (b : ℕ) (xs ys : List ℕ) → cond t (b ∷ xs) [] ≡ 35 ∷ ys → b ≡ 35
+line_first : (t : Bool) (b : ℕ) (xs ys : List ℕ) → cond t (b ∷ xs) [] ≡ hash ∷ ys → b ≡ hash
 line_first true b xs ys e = cc
 line_first false b xs ys e = cc
 
@@ -58,7 +59,7 @@ kind_of fresh b others m Space h = let same : h.0 ≡ b = cc in Spaced (subst (�
 kind_of fresh b others m Comment (inl h) = let e = h.1 in Slashed cc
 kind_of fresh b others m Comment (inr h) = let e = h.1 in Slashed cc
 kind_of fresh b others m Skipped h =
-    Hashed (line_first _ b _ _ (sym (take_while-cons (λ x. not (x == 10)) b others) ∙ h.1.2))
+    Hashed (line_first _ b _ _ (sym (take_while-cons (λ x. not (x == newline)) b others) ∙ h.1.2))
 kind_of fresh b others m (Spelled (kinds.Word word)) h =
     let w = subst IsWord (sym h) (keyword_is_word word) in Worded w.0 w.1
 kind_of fresh b others m (Spelled (kinds.Ident name)) h =
@@ -107,17 +108,17 @@ letter_is_not b k l other e = let clash : true ≡ false = sym l ∙ ap is_lette
 pub letter_starts_no_number : (b : ℕ) (others : List ℕ) → IsTrue (is_letter b) → StartsNumber (b ∷ others) → ⊥
 letter_starts_no_number b [] l h = letter_no_digit b l h
 letter_starts_no_number b (c ∷ others) l (inl h) = letter_no_digit b l h
-letter_starts_no_number b (c ∷ others) l (inr h) = letter_is_not b 46 l refl h.0
+letter_starts_no_number b (c ∷ others) l (inr h) = letter_is_not b dot l refl h.0
 
 -- where a letter begins the rest, only word bytes make a piece
 pub letter_kind : (b : ℕ) (others : List ℕ) (m : ℕ) → IsTrue (is_letter b) → Kind b (b ∷ others) (suc m)
     → AllPass is_word_byte (take (suc m) (b ∷ others))
 letter_kind b others m l (Spaced h) = absurd (letter_no_space b l h)
-letter_kind b others m l (Slashed h) = absurd (letter_is_not b 47 l refl h)
-letter_kind b others m l (Hashed h) = absurd (letter_is_not b 35 l refl h)
+letter_kind b others m l (Slashed h) = absurd (letter_is_not b slash l refl h)
+letter_kind b others m l (Hashed h) = absurd (letter_is_not b hash l refl h)
 letter_kind b others m l (Worded h all) = all
 letter_kind b others m l (Numbered h) = absurd (letter_starts_no_number b others l h)
-letter_kind b others m l (Quoted h) = absurd (letter_is_not b 39 l refl h)
-letter_kind b others m l (DoubleQuoted h) = absurd (letter_is_not b 34 l refl h)
+letter_kind b others m l (Quoted h) = absurd (letter_is_not b apostrophe l refl h)
+letter_kind b others m l (DoubleQuoted h) = absurd (letter_is_not b double_quote l refl h)
 letter_kind b others m l (Marked mark h) =
     let clash : true ≡ false = sym l ∙ mark_begins_no_word mark _ h in absurd cc

@@ -8,6 +8,7 @@ use Rattle.std.proofs.lemmas.List.{take-append-drop, drop_all, drop_at, length-t
 use Rattle.std.proofs.lemmas.Bool.{cases_lt, cases_Bool, cond_both, cond-true, eqb-true, eqb-false, ne_eqb, eq-eqb}
 use Rattle.std.proofs.lemmas.Bool.{le-leb}
 use Rattle.std.proofs.Math.Seq.{take-append-add}
+use Rattle.pcc_base.specs.Ascii.{newline, double_quote, apostrophe, backslash, letter_x}
 use Rattle.c_tokens.specs.declared.quotes.Reading.{Reading}
 use Rattle.c_tokens.specs.declared.quotes.Reading.TheVariants.{Character, Closing, Faulty}
 use Rattle.c_tokens.specs.Bytes.{is_octal_digit, is_hexadecimal_digit, number_in}
@@ -53,7 +54,8 @@ octal_stops ds [] xs e s =
 octal_stops ds (b ∷ bs) xs e s = inr s
 
 -- an octal escape that is read stands there
-octal_is : (q : ℕ) (xs : List ℕ) → IsReading q (92 ∷ xs) (coded_reading 8 1 (front_of is_octal_digit (take 3 xs)))
+octal_is : (q : ℕ) (xs : List ℕ)
+    → IsReading q (backslash ∷ xs) (coded_reading 8 1 (front_of is_octal_digit (take 3 xs)))
 octal_is q xs =
     let ds : List ℕ = front_of is_octal_digit (take 3 xs) in
     let s : FrontSplit is_octal_digit (take 3 xs) ds = front_split is_octal_digit (take 3 xs) in
@@ -61,24 +63,24 @@ octal_is q xs =
     sym (take-append-drop 3 xs) ∙ ap (λ t. t ++ drop 3 xs) s.is ∙ append_assoc ds s.rest (drop 3 xs) in
     let lengths : length (take 3 xs) ≡ length (ds ++ s.rest) = ap length s.is in
     let few : length ds ≤ 3 = omega (arith, lengths, length-take 3 xs, length-append ds s.rest) in
-    coded_is q (92 ∷ xs) 8 1 ds (λ some. (
-      92 ∷ ds,
+    coded_is q (backslash ∷ xs) 8 1 ds (λ some. (
+      backslash ∷ ds,
       s.rest ++ drop 3 xs,
-      ap (λ t. 92 ∷ t) whole,
+      ap (λ t. backslash ∷ t) whole,
       omega arith,
       inr (inr (inl (ds, refl, some, few, s.passes, octal_stops ds s.rest xs s.is s.stops, refl))),
     ))
 
 -- a hexadecimal escape that is read stands there
 hexadecimal_is : (q : ℕ) (xs : List ℕ)
-    → IsReading q (92 ∷ 120 ∷ xs) (coded_reading 16 2 (front_of is_hexadecimal_digit xs))
+    → IsReading q (backslash ∷ letter_x ∷ xs) (coded_reading 16 2 (front_of is_hexadecimal_digit xs))
 hexadecimal_is q xs =
     let ds : List ℕ = front_of is_hexadecimal_digit xs in
     let s : FrontSplit is_hexadecimal_digit xs ds = front_split is_hexadecimal_digit xs in
-    coded_is q (92 ∷ 120 ∷ xs) 16 2 ds (λ some. (
-      92 ∷ 120 ∷ ds,
+    coded_is q (backslash ∷ letter_x ∷ xs) 16 2 ds (λ some. (
+      backslash ∷ letter_x ∷ ds,
       s.rest,
-      ap (λ t. 92 ∷ 120 ∷ t) s.is,
+      ap (λ t. backslash ∷ letter_x ∷ t) s.is,
       omega arith,
       inr (inr (inr (ds, refl, some, s.passes, s.stops, refl))),
     ))
@@ -100,41 +102,43 @@ escape_found (e ∷ es) letter value h =
 
 -- an escape of one letter that is read stands there
 simple_is : (q e : ℕ) (rest : List ℕ) (found : Option ℕ) → value_in simple_escapes e ≡ found
-    → IsReading q (92 ∷ e ∷ rest) (simple_reading found)
+    → IsReading q (backslash ∷ e ∷ rest) (simple_reading found)
 simple_is q e rest None h = tt
 simple_is q e rest (Some value) h =
-    (92 ∷ e ∷ [], rest, refl, refl, inr (inl (e, refl, escape_found simple_escapes e value h)))
+    (backslash ∷ e ∷ [], rest, refl, refl, inr (inl (e, refl, escape_found simple_escapes e value h)))
 
 -- an escape that is read stands there
-escape_is : (q : ℕ) (xs : List ℕ) → IsReading q (92 ∷ xs) (read_escape xs)
+escape_is : (q : ℕ) (xs : List ℕ) → IsReading q (backslash ∷ xs) (read_escape xs)
 escape_is q [] = tt
 escape_is q (e ∷ rest) =
     let octal : Reading = coded_reading 8 1 (front_of is_octal_digit (take 3 (e ∷ rest))) in
     let hexadecimal : Reading = coded_reading 16 2 (front_of is_hexadecimal_digit rest) in
     let simple : Reading = simple_reading (value_in simple_escapes e) in
-    cond_both (is_octal_digit e) octal (cond (eqb e 120) hexadecimal simple) (IsReading q (92 ∷ e ∷ rest))
+    cond_both (is_octal_digit e) octal (cond (eqb e letter_x) hexadecimal simple) (IsReading q (backslash ∷ e ∷ rest))
     (λ _. octal_is q (e ∷ rest))
-    (λ _. cond_both (eqb e 120) hexadecimal simple (IsReading q (92 ∷ e ∷ rest))
-    (λ t. subst (λ (x : ℕ). IsReading q (92 ∷ x ∷ rest) hexadecimal) (sym (eqb-true e 120 t)) (hexadecimal_is q rest))
+    (λ _. cond_both (eqb e letter_x) hexadecimal simple (IsReading q (backslash ∷ e ∷ rest))
+    (λ t. subst (λ (x : ℕ). IsReading q (backslash ∷ x ∷ rest) hexadecimal) (sym (eqb-true e letter_x t))
+    (hexadecimal_is q rest))
     (λ _. simple_is q e rest (value_in simple_escapes e) refl))
 
 -- the reader tells what stands there
 pub character_is : (q : ℕ) (t : List ℕ) → IsReading q t (read_character q t)
 character_is q [] = tt
 character_is q (b ∷ rest) =
-    let plain : Reading = cond (eqb b 92) (read_escape rest) (Character b 1) in
-    cond_both (eqb b q) Closing (cond (eqb b 10) Faulty plain) (IsReading q (b ∷ rest))
+    let plain : Reading = cond (eqb b backslash) (read_escape rest) (Character b 1) in
+    cond_both (eqb b q) Closing (cond (eqb b newline) Faulty plain) (IsReading q (b ∷ rest))
     (λ t. (rest, ap (λ (x : ℕ). x ∷ rest) (eqb-true b q t)))
-    (λ no_quote. cond_both (eqb b 10) Faulty plain (IsReading q (b ∷ rest))
+    (λ no_quote. cond_both (eqb b newline) Faulty plain (IsReading q (b ∷ rest))
     (λ _. tt)
-    (λ no_newline. cond_both (eqb b 92) (read_escape rest) (Character b 1) (IsReading q (b ∷ rest))
-    (λ t. subst (λ (x : ℕ). IsReading q (x ∷ rest) (read_escape rest)) (sym (eqb-true b 92 t)) (escape_is q rest))
+    (λ no_newline. cond_both (eqb b backslash) (read_escape rest) (Character b 1) (IsReading q (b ∷ rest))
+    (λ t. subst (λ (x : ℕ). IsReading q (x ∷ rest) (read_escape rest)) (sym (eqb-true b backslash t))
+    (escape_is q rest))
     (λ no_backslash. (
       b ∷ [],
       rest,
       refl,
       refl,
-      inl (refl, eqb-false b q no_quote, eqb-false b 92 no_backslash, eqb-false b 10 no_newline),
+      inl (refl, eqb-false b q no_quote, eqb-false b backslash no_backslash, eqb-false b newline no_newline),
     ))))
 
 -- ---- what is there is read
@@ -194,14 +198,14 @@ octal_read (d ∷ ds) tail some few passes stops small =
 
 -- a hexadecimal escape is read
 hexadecimal_read : (ds tail : List ℕ) → 0 < length ds → AllPass is_hexadecimal_digit ds
-    → StartsNot is_hexadecimal_digit tail → number_in 16 ds ≤ 255 → read_escape (120 ∷ ds ++ tail)
+    → StartsNot is_hexadecimal_digit tail → number_in 16 ds ≤ 255 → read_escape (letter_x ∷ ds ++ tail)
     ≡ Character (number_in 16 ds) (2 + length ds)
 hexadecimal_read ds tail some passes stops small =
     ap (coded_reading 16 2) (front_is is_hexadecimal_digit ds tail passes stops) ∙ coded_read 16 2 ds some small
 
 -- behind a backslash stands an escape
-escape_way : (q : ℕ) (xs : List ℕ) → 92 ≢ q → read_character q (92 ∷ xs) ≡ read_escape xs
-escape_way q xs h = let e : eqb 92 q ≡ false = ne_eqb 92 q h in rw e refl
+escape_way : (q : ℕ) (xs : List ℕ) → backslash ≢ q → read_character q (backslash ∷ xs) ≡ read_escape xs
+escape_way q xs h = let e : eqb backslash q ≡ false = ne_eqb backslash q h in rw e refl
 
 -- a byte that fails the test ends what doesn't begin so
 stops_before : (test : ℕ → Bool) (q : ℕ) (rest more : List ℕ) → test q ≡ false → StartsNot test rest
@@ -216,10 +220,10 @@ stops_front test (b ∷ bs) more s = s
 
 -- the quote of a character constant, or that of a string literal
 abbrev pub IsQuote : ℕ → Type 0
-IsQuote q = (q ≡ 39) ⊎ (q ≡ 34)
+IsQuote q = (q ≡ apostrophe) ⊎ (q ≡ double_quote)
 
 -- what holds of both quotes holds of a quote
-pub at_quote : (P : ℕ → Type 0) (q : ℕ) → P 39 → P 34 → IsQuote q → P q
+pub at_quote : (P : ℕ → Type 0) (q : ℕ) → P apostrophe → P double_quote → IsQuote q → P q
 at_quote P q a b (inl e) = subst P (sym e) a
 at_quote P q a b (inr e) = subst P (sym e) b
 
@@ -229,43 +233,44 @@ character_read : (q : ℕ) (bytes rest more : List ℕ) (value : ℕ) → IsQuot
 character_read q bytes rest more value is (inl plain) small =
     let tail : List ℕ = rest ++ q ∷ more in
     let no_quote : eqb value q ≡ false = ne_eqb value q plain.1 in
-    let no_backslash : eqb value 92 ≡ false = ne_eqb value 92 plain.2 in
-    let no_newline : eqb value 10 ≡ false = ne_eqb value 10 plain.3 in
+    let no_backslash : eqb value backslash ≡ false = ne_eqb value backslash plain.2 in
+    let no_newline : eqb value newline ≡ false = ne_eqb value newline plain.3 in
     let here : read_character q (value ∷ tail) ≡ Character value 1 = rw (no_quote, no_newline, no_backslash) refl in
     subst (λ (bs : List ℕ). read_character q (bs ++ tail) ≡ Character value (length bs)) (sym plain.0) here
 character_read q bytes rest more value is (inr (inl simple)) small =
     let tail : List ℕ = rest ++ q ∷ more in
-    let other : 92 ≢ q = at_quote (λ (x : ℕ). 92 ≢ x) q (λ e. omega arith) (λ e. omega arith) is in
-    let here : read_character q (92 ∷ simple.0 ∷ tail) ≡ Character value 2 =
+    let other : backslash ≢ q = at_quote (λ (x : ℕ). backslash ≢ x) q (λ e. omega arith) (λ e. omega arith) is in
+    let here : read_character q (backslash ∷ simple.0 ∷ tail) ≡ Character value 2 =
     escape_way q (simple.0 ∷ tail) other ∙ simple_read simple.0 value tail simple.2 in
     subst (λ (bs : List ℕ). read_character q (bs ++ tail) ≡ Character value (length bs)) (sym simple.1) here
 character_read q bytes rest more value is (inr (inr (inl octal))) small =
     let tail : List ℕ = rest ++ q ∷ more in
     let ds : List ℕ = octal.0 in
-    let other : 92 ≢ q = at_quote (λ (x : ℕ). 92 ≢ x) q (λ e. omega arith) (λ e. omega arith) is in
+    let other : backslash ≢ q = at_quote (λ (x : ℕ). backslash ≢ x) q (λ e. omega arith) (λ e. omega arith) is in
     let fails : is_octal_digit q ≡ false = at_quote (λ (x : ℕ). is_octal_digit x ≡ false) q refl refl is in
     let spells : value ≡ number_in 8 ds = octal.6 in
     let stops : (length ds ≡ 3) ⊎ StartsNot is_octal_digit tail =
     elim octal.5 [ inl full ↦ inl full | inr s ↦ inr (stops_before is_octal_digit q rest more fails s) ] in
     let there : read_escape (ds ++ tail) ≡ Character (number_in 8 ds) (1 + length ds) =
     octal_read ds tail octal.2 octal.3 octal.4 stops (omega arith) in
-    let lengths : 1 + length ds ≡ length (92 ∷ ds) = omega arith in
-    let here : read_character q (92 ∷ ds ++ tail) ≡ Character value (length (92 ∷ ds)) =
+    let lengths : 1 + length ds ≡ length (backslash ∷ ds) = omega arith in
+    let here : read_character q (backslash ∷ ds ++ tail) ≡ Character value (length (backslash ∷ ds)) =
     escape_way q (ds ++ tail) other ∙ there ∙ ap (λ (v : ℕ). Character v (1 + length ds)) (sym spells) ∙ ap
     (Character value) lengths in
     subst (λ (bs : List ℕ). read_character q (bs ++ tail) ≡ Character value (length bs)) (sym octal.1) here
 character_read q bytes rest more value is (inr (inr (inr hexadecimal))) small =
     let tail : List ℕ = rest ++ q ∷ more in
     let ds : List ℕ = hexadecimal.0 in
-    let other : 92 ≢ q = at_quote (λ (x : ℕ). 92 ≢ x) q (λ e. omega arith) (λ e. omega arith) is in
+    let other : backslash ≢ q = at_quote (λ (x : ℕ). backslash ≢ x) q (λ e. omega arith) (λ e. omega arith) is in
     let fails : is_hexadecimal_digit q ≡ false = at_quote (λ (x : ℕ). is_hexadecimal_digit x ≡ false) q refl refl is in
     let spells : value ≡ number_in 16 ds = hexadecimal.5 in
-    let there : read_escape (120 ∷ ds ++ tail) ≡ Character (number_in 16 ds) (2 + length ds) =
+    let there : read_escape (letter_x ∷ ds ++ tail) ≡ Character (number_in 16 ds) (2 + length ds) =
     hexadecimal_read ds tail hexadecimal.2 hexadecimal.3
     (stops_before is_hexadecimal_digit q rest more fails hexadecimal.4) (omega arith) in
-    let lengths : 2 + length ds ≡ length (92 ∷ 120 ∷ ds) = omega arith in
-    let here : read_character q (92 ∷ 120 ∷ ds ++ tail) ≡ Character value (length (92 ∷ 120 ∷ ds)) =
-    escape_way q (120 ∷ ds ++ tail) other ∙ there ∙ ap (λ (v : ℕ). Character v (2 + length ds)) (sym spells) ∙ ap
+    let lengths : 2 + length ds ≡ length (backslash ∷ letter_x ∷ ds) = omega arith in
+    let here : read_character q (backslash ∷ letter_x ∷ ds ++ tail)
+    ≡ Character value (length (backslash ∷ letter_x ∷ ds)) =
+    escape_way q (letter_x ∷ ds ++ tail) other ∙ there ∙ ap (λ (v : ℕ). Character v (2 + length ds)) (sym spells) ∙ ap
     (Character value) lengths in
     subst (λ (bs : List ℕ). read_character q (bs ++ tail) ≡ Character value (length bs)) (sym hexadecimal.1) here
 

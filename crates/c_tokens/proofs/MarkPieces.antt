@@ -2,6 +2,7 @@
 use Rattle.std.proofs.Common.{◌≡◌, ◌≢◌, ◌<◌, ◌≤◌, inl, inr, ℕ, zero, suc, Bool, true, false, List, [], ◌∷◌, take}
 use Rattle.std.proofs.Common.{length, get_or, refl, sym, ◌∙◌, ap, subst, arith, IsFalse}
 use Rattle.std.proofs.lemmas.List.{length-take-le}
+use Rattle.pcc_base.specs.Ascii.{double_quote, hash, percent, apostrophe, slash, colon, capital_l}
 use Rattle.c_tokens.specs.declared.token.TokenKind.TheVariants as kinds
 use Rattle.c_tokens.specs.declared.token.Punct.{Punct}
 use Rattle.c_tokens.specs.declared.token.Punct.TheVariants as marks
@@ -140,7 +141,8 @@ none_at_all rest threes twos ones mark (suc n) within h =
 
 -- the first byte is one with which only marks begin
 abbrev pub IsMarkByte : ℕ → Type 0
-IsMarkByte b = IsFalse (is_letter b) × IsFalse (is_space b) × (b ≢ 39) × (b ≢ 34) × (b ≢ 47) × (b ≢ 35)
+IsMarkByte b =
+    IsFalse (is_letter b) × IsFalse (is_space b) × (b ≢ apostrophe) × (b ≢ double_quote) × (b ≢ slash) × (b ≢ hash)
 
 -- a piece that such a byte begins is a mark, by its kind
 mark_kind : (b : ℕ) (others : List ℕ) (m : ℕ) → IsMarkByte b → (StartsNumber (b ∷ others) → ⊥) → Kind b (b ∷ others) m
@@ -164,29 +166,29 @@ only_marks fresh b others (suc m) piece byte number positive is =
 
 -- such a byte isn't where no piece may begin, but for `%:`
 mark_free : (b : ℕ) (others : List ℕ) → IsMarkByte b → (StartsNumber (b ∷ others) → ⊥)
-    → ((more : List ℕ) → b ∷ others ≢ 37 ∷ 58 ∷ more) → IsBarred (b ∷ others) → ⊥
-mark_free b others byte number hash (inl h) = let e : b ≡ 47 = (let e = h.1 in cc) in byte.4 e
-mark_free b others byte number hash (inr (inl h)) = hash h.0 h.1
-mark_free b others byte number hash (inr (inr (inl h))) =
-    let e : b ≡ 76 = (let e = h.2 in cc) in
+    → ((more : List ℕ) → b ∷ others ≢ percent ∷ colon ∷ more) → IsBarred (b ∷ others) → ⊥
+mark_free b others byte number digraph (inl h) = let e : b ≡ slash = (let e = h.1 in cc) in byte.4 e
+mark_free b others byte number digraph (inr (inl h)) = digraph h.0 h.1
+mark_free b others byte number digraph (inr (inr (inl h))) =
+    let e : b ≡ capital_l = (let e = h.2 in cc) in
     let clash : true ≡ false = sym (ap is_letter e) ∙ byte.0 in
     cc
-mark_free b others byte number hash (inr (inr (inr h))) = number h.0
+mark_free b others byte number digraph (inr (inr (inr h))) = number h.0
 
 -- the rest begins with such a byte
 abbrev pub BeginsWithMarkByte : List ℕ → Type 0
 BeginsWithMarkByte rest =
-    (b : ℕ) × (others : List ℕ) × (rest ≡ b ∷ others) × IsFalse (is_letter b) × IsFalse (is_space b) × (b ≢ 39)
-    × (b ≢ 34) × (b ≢ 47) × (b ≢ 35)
+    (b : ℕ) × (others : List ℕ) × (rest ≡ b ∷ others) × IsFalse (is_letter b) × IsFalse (is_space b) × (b ≢ apostrophe)
+    × (b ≢ double_quote) × (b ≢ slash) × (b ≢ hash)
 
 -- the longest mark begins the rest
 pub mark_begins : (fresh : Bool) (rest : List ℕ) (n : ℕ) (mark : Punct) → BeginsWithMarkByte rest
-    → (StartsNumber rest → ⊥) → ((more : List ℕ) → rest ≢ 37 ∷ 58 ∷ more) → IsLongest rest n mark
+    → (StartsNumber rest → ⊥) → ((more : List ℕ) → rest ≢ percent ∷ colon ∷ more) → IsLongest rest n mark
     → Begins fresh rest n (Spelled (kinds.Mark mark))
-mark_begins fresh rest n mark (b, others, e, letter, space, quote, double, slash, hash) =
-    subst (λ r. (StartsNumber r → ⊥) → ((more : List ℕ) → r ≢ 37 ∷ 58 ∷ more) → IsLongest r n mark
+mark_begins fresh rest n mark (b, others, e, letter, space, quote, double, slashed, hashed) =
+    subst (λ r. (StartsNumber r → ⊥) → ((more : List ℕ) → r ≢ percent ∷ colon ∷ more) → IsLongest r n mark
     → Begins fresh r n (Spelled (kinds.Mark mark))) (sym e) (λ number digraph h. let byte : IsMarkByte b =
-    (letter, space, quote, double, slash, hash) in record {
+    (letter, space, quote, double, slashed, hashed) in record {
       within = h.1;
       nonempty = h.0;
       is = h.2;
@@ -198,8 +200,8 @@ mark_begins fresh rest n mark (b, others, e, letter, space, quote, double, slash
 -- where no mark is none of the pieces begins the rest
 pub no_mark_begins : (fresh : Bool) (rest : List ℕ) → BeginsWithMarkByte rest → (StartsNumber rest → ⊥)
     → ((mark : Punct) (n : ℕ) → n ≤ length rest → IsMark mark (take n rest) → ⊥) → NoneBegins fresh rest
-no_mark_begins fresh rest (b, others, e, letter, space, quote, double, slash, hash) =
+no_mark_begins fresh rest (b, others, e, letter, space, quote, double, slashed, hashed) =
     subst (λ r. (StartsNumber r → ⊥) → ((mark : Punct) (n : ℕ) → n ≤ length r → IsMark mark (take n r) → ⊥)
     → NoneBegins fresh r) (sym e) (λ number none n piece begins. let k =
-    only_marks fresh b others n piece (letter, space, quote, double, slash, hash) number begins.nonempty begins.is
+    only_marks fresh b others n piece (letter, space, quote, double, slashed, hashed) number begins.nonempty begins.is
     in none k.0 n begins.within k.1)

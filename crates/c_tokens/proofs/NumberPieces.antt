@@ -11,6 +11,8 @@ use Rattle.std.proofs.Math.Numerals.{one-add}
 use Rattle.std.proofs.lemmas.Bool.{false≢true, cases_lt, and_parts}
 use Rattle.std.proofs.lemmas.Bool.Decides.{nat_tests}
 use Rattle.std.specs.Prelude.{◌==◌}
+use Rattle.pcc_base.specs.Ascii.{percent, apostrophe, star, plus, minus, dot, slash, digit_zero, colon, capital_l}
+use Rattle.pcc_base.specs.Ascii.{capital_x, letter_x}
 use Rattle.c_tokens.specs.declared.token.TokenKind.TheVariants as kinds
 use Rattle.c_tokens.specs.Bytes.{is_digit, is_octal_digit, is_hexadecimal_digit, is_letter, digit_worth, number_after}
 use Rattle.c_tokens.specs.Bytes.{number_in}
@@ -26,11 +28,11 @@ use Rattle.c_tokens.proofs.PieceStarts.{piece_starts, same_first}
 
 -- a byte that belongs to a number behind any other
 abbrev pub is_plain : ℕ → Bool
-is_plain b = is_digit b || (is_letter b || b == 46)
+is_plain b = is_digit b || (is_letter b || b == dot)
 
 -- a byte that belongs to a number behind this one
 abbrev pub goes : ℕ → ℕ → Bool
-goes before b = is_plain b || (is_exponent_letter before && (b == 43 || b == 45))
+goes before b = is_plain b || (is_exponent_letter before && (b == plus || b == minus))
 
 -- each byte goes on behind the one before
 abbrev pub Follows : ℕ → List ℕ → Type 0
@@ -45,7 +47,8 @@ run before (b ∷ bs) = cond (goes before b) (1 + run b bs) 0
 plain_goes : (before b : ℕ) → IsTrue (is_plain b) → IsTrue (goes before b)
 plain_goes before b h = rw h refl
 
-sign_goes : (before b : ℕ) → IsTrue (is_exponent_letter before) → IsTrue (b == 43 || b == 45) → IsTrue (goes before b)
+sign_goes : (before b : ℕ) → IsTrue (is_exponent_letter before) → IsTrue (b == plus || b == minus)
+    → IsTrue (goes before b)
 sign_goes before b h s = grind (arith, nat_tests)
 
 exponent_plain : (b : ℕ) → IsTrue (is_exponent_letter b) → IsTrue (is_plain b)
@@ -63,8 +66,8 @@ goes_plain : (before b : ℕ) → is_exponent_letter before ≡ false → IsTrue
 goes_plain before b no_letter h = grind (arith, nat_tests)
 
 goes_sign : (before b : ℕ) → is_plain b ≡ false → IsTrue (goes before b) → IsTrue (is_exponent_letter before)
-    × IsTrue (b == 43 || b == 45)
-goes_sign before b no_plain h = and_parts (is_exponent_letter before) (b == 43 || b == 45) (rw no_plain at h)
+    × IsTrue (b == plus || b == minus)
+goes_sign before b no_plain h = and_parts (is_exponent_letter before) (b == plus || b == minus) (rw no_plain at h)
 
 plain_no : (b : ℕ) → is_plain b ≡ false → is_exponent_letter b ≡ false
 plain_no b h = grind (arith, nat_tests)
@@ -76,7 +79,9 @@ goes_on_from before (b ∷ []) no_letter h = goes_plain before b no_letter h.0
 goes_on_from before (b ∷ c ∷ rest) no_letter h =
     let more : (r : Bool) → is_plain c ≡ r → GoesOnAsNumber (b ∷ c ∷ rest) =
     λ r. elim r as (λ q. is_plain c ≡ q → GoesOnAsNumber (b ∷ c ∷ rest)) [
-      | true ↦ λ e. inl (goes_plain before b no_letter h.0, goes_on_from 48 (c ∷ rest) refl (plain_goes 48 c e, h.1.1))
+      | true ↦ λ e.
+          let next = goes_on_from digit_zero (c ∷ rest) refl (plain_goes digit_zero c e, h.1.1) in
+          inl (goes_plain before b no_letter h.0, next)
       | false ↦ λ e. let sign = goes_sign b c e h.1.0 in inr (sign.0, sign.1, goes_on_from c rest (plain_no c e) h.1.1)
     ] in
     more (is_plain c) refl
@@ -106,7 +111,7 @@ digit_goes_on b [] digit text = tt
 digit_goes_on b (c ∷ cs) digit (inl h) = h.1
 digit_goes_on b (c ∷ cs) digit (inr h) = absurd (false≢true (subst (λ (x : ℕ). IsTrue (is_digit x)) h.0 digit))
 
-dot_goes_on : (c : ℕ) (bs : List ℕ) → IsNumberText (46 ∷ c ∷ bs) → GoesOnAsNumber bs
+dot_goes_on : (c : ℕ) (bs : List ℕ) → IsNumberText (dot ∷ c ∷ bs) → GoesOnAsNumber bs
 dot_goes_on c bs (inl h) = absurd (false≢true h.0)
 dot_goes_on c bs (inr h) = h.2
 
@@ -114,22 +119,23 @@ dot_goes_on c bs (inr h) = h.2
 abbrev pub IsNumberStart : List ℕ → ℕ → Type 0
 IsNumberStart rest start =
     ((start ≡ 1) × (0 < length rest) × IsTrue (is_digit (get_or rest 0 0)))
-    ⊎ ((start ≡ 2) × (1 < length rest) × (get_or rest 0 0 ≡ 46) × IsTrue (is_digit (get_or rest 1 0)))
+    ⊎ ((start ≡ 2) × (1 < length rest) × (get_or rest 0 0 ≡ dot) × IsTrue (is_digit (get_or rest 1 0)))
 
-pub start_at_dot : (rest : List ℕ) → StartsNumber rest → get_or rest 0 0 ≡ 46 → IsNumberStart rest 2
-start_at_dot [] starts_so dot = absurd starts_so
-start_at_dot (b ∷ []) starts_so dot = absurd (false≢true (subst (λ (x : ℕ). IsTrue (is_digit x)) dot starts_so))
-start_at_dot (b ∷ c ∷ bs) (inl h) dot = absurd (false≢true (subst (λ (x : ℕ). IsTrue (is_digit x)) dot h))
-start_at_dot (b ∷ c ∷ bs) (inr h) dot = inr (refl, omega arith, dot, h.1)
+pub start_at_dot : (rest : List ℕ) → StartsNumber rest → get_or rest 0 0 ≡ dot → IsNumberStart rest 2
+start_at_dot [] starts_so first = absurd starts_so
+start_at_dot (b ∷ []) starts_so first = absurd (false≢true (subst (λ (x : ℕ). IsTrue (is_digit x)) first starts_so))
+start_at_dot (b ∷ c ∷ bs) (inl h) first = absurd (false≢true (subst (λ (x : ℕ). IsTrue (is_digit x)) first h))
+start_at_dot (b ∷ c ∷ bs) (inr h) first = inr (refl, omega arith, first, h.1)
 
-pub start_at_digit : (rest : List ℕ) → StartsNumber rest → get_or rest 0 0 ≢ 46 → IsNumberStart rest 1
+pub start_at_digit : (rest : List ℕ) → StartsNumber rest → get_or rest 0 0 ≢ dot → IsNumberStart rest 1
 start_at_digit [] starts_so no_dot = absurd starts_so
 start_at_digit (b ∷ []) starts_so no_dot = inl (refl, omega arith, starts_so)
 start_at_digit (b ∷ c ∷ bs) (inl h) no_dot = inl (refl, omega arith, h)
 start_at_digit (b ∷ c ∷ bs) (inr h) no_dot = absurd (no_dot h.0)
 
 -- the longest number is one
-pub number_text : (rest : List ℕ) (start n : ℕ) → IsNumberStart rest start → n ≡ start + run 48 (drop start rest)
+pub number_text : (rest : List ℕ) (start n : ℕ) → IsNumberStart rest start
+    → n ≡ start + run digit_zero (drop start rest)
     → IsNumberText (take n rest)
 number_text [] start n (inl h) count = absurd (omega (arith, h.1))
 number_text [] start n (inr h) count = absurd (omega (arith, h.1))
@@ -138,31 +144,34 @@ number_text (b ∷ bs) start n (inl h) count =
       count,
       h.0,
       one-add,
-    ) (digit_text b (take (run 48 bs) bs) h.2
-    (goes_on_from 48 (take (run 48 bs) bs) refl (run_follows 48 bs)))
+    ) (digit_text b (take (run digit_zero bs) bs) h.2
+    (goes_on_from digit_zero (take (run digit_zero bs) bs) refl (run_follows digit_zero bs)))
 number_text (b ∷ []) start n (inr h) count = absurd (omega (arith, h.1))
 number_text (b ∷ c ∷ bs) start n (inr h) count =
-    let k : ℕ = run 48 bs in
+    let k : ℕ = run digit_zero bs in
     let two : 2 + k ≡ suc (suc k) = omega arith in
-    rw (count, h.0, two) (inr (h.2, h.3, goes_on_from 48 (take k bs) refl (run_follows 48 bs)))
+    rw (count, h.0, two) (inr (h.2, h.3, goes_on_from digit_zero (take k bs) refl (run_follows digit_zero bs)))
 
 -- no longer prefix is one
-pub number_longest : (rest : List ℕ) (start n : ℕ) → IsNumberStart rest start → n ≡ start + run 48 (drop start rest)
+pub number_longest : (rest : List ℕ) (start n : ℕ) → IsNumberStart rest start
+    → n ≡ start + run digit_zero (drop start rest)
     → (m : ℕ) → n < m → m ≤ length rest → IsNumberText (take m rest) → ⊥
 number_longest [] start n (inl h) count m less within text = omega (arith, h.1)
 number_longest [] start n (inr h) count m less within text = omega (arith, h.1)
 number_longest rest start n is count zero less within text = omega arith
 number_longest (b ∷ bs) start n (inl h) count (suc m) less within text =
     let longest =
-    run_longest 48 m bs (omega arith) (follows_from 48 (take m bs) (digit_goes_on b (take m bs) h.2 text)) in
-    let counted : n ≡ 1 + run 48 bs = rw h.0 at count in
+    run_longest digit_zero m bs (omega arith)
+    (follows_from digit_zero (take m bs) (digit_goes_on b (take m bs) h.2 text)) in
+    let counted : n ≡ 1 + run digit_zero bs = rw h.0 at count in
     omega arith
 number_longest (b ∷ []) start n (inr h) count (suc m) less within text = omega (arith, h.1)
 number_longest (b ∷ c ∷ bs) start n (inr h) count (suc zero) less within text = omega (arith, h.0)
 number_longest (b ∷ c ∷ bs) start n (inr h) count (suc (suc m)) less within text =
-    let dotted : IsNumberText (46 ∷ c ∷ take m bs) = subst (λ (x : ℕ). IsNumberText (x ∷ c ∷ take m bs)) h.2 text in
-    let longest = run_longest 48 m bs (omega arith) (follows_from 48 (take m bs) (dot_goes_on c (take m bs) dotted)) in
-    let counted : n ≡ 2 + run 48 bs = rw h.0 at count in
+    let dotted : IsNumberText (dot ∷ c ∷ take m bs) = subst (λ (x : ℕ). IsNumberText (x ∷ c ∷ take m bs)) h.2 text in
+    let longest = run_longest digit_zero m bs (omega arith)
+    (follows_from digit_zero (take m bs) (dot_goes_on c (take m bs) dotted)) in
+    let counted : n ≡ 2 + run digit_zero bs = rw h.0 at count in
     omega arith
 
 run_stops : (before : ℕ) (rest : List ℕ) (i : ℕ) → i < length rest → goes before (get_or rest i 0) ≡ false
@@ -171,12 +180,13 @@ run_stops before rest i less stops = at_drop_more (run before) rest i 0 less ∙
 
 -- a run ends where a byte doesn't go on
 pub count_stops : (before : ℕ) (rest : List ℕ) (i start : ℕ) → i < length rest → goes before (get_or rest i 0) ≡ false
-    → i + run before (drop i rest) ≡ start + run 48 (drop start rest) → i ≡ start + run 48 (drop start rest)
+    → i + run before (drop i rest) ≡ start + run digit_zero (drop start rest)
+    → i ≡ start + run digit_zero (drop start rest)
 count_stops before rest i start less stops count = omega (arith, run_stops before rest i less stops)
 
 -- and where the bytes end
 pub count_ends : (before : ℕ) (rest : List ℕ) (i start : ℕ) → i ≡ length rest → i + run before (drop i rest)
-    ≡ start + run 48 (drop start rest) → length rest ≡ start + run 48 (drop start rest)
+    ≡ start + run digit_zero (drop start rest) → length rest ≡ start + run digit_zero (drop start rest)
 count_ends before rest i start end count = omega (arith, at_drop_all (run before) rest i (omega arith))
 
 pub start_fits : (rest : List ℕ) (start : ℕ) → IsNumberStart rest start → start ≤ length rest
@@ -250,7 +260,8 @@ digit_piece fresh b others m (Spelled (kinds.Ident name)) digit is = let first =
     piece_starts fresh b others m (Spelled (kinds.Ident name)) is in absurd (grind (arith, nat_tests))
 digit_piece fresh b others m (Spelled (kinds.Number z)) digit (inl h) = h.0
 digit_piece fresh b others m (Spelled (kinds.Number z)) digit (inr (value, (inside, e, has), is)) =
-    let quote : IsTrue (b == 39) = same_first (λ x. x == 39) b (take m others) (39 ∷ inside ++ 39 ∷ []) e refl in
+    let quote : IsTrue (b == apostrophe) =
+    same_first (λ x. x == apostrophe) b (take m others) (apostrophe ∷ inside ++ apostrophe ∷ []) e refl in
     absurd (grind (arith, nat_tests))
 digit_piece fresh b others m (Spelled (kinds.Text bytes)) digit is = let first =
     piece_starts fresh b others m (Spelled (kinds.Text bytes)) is in absurd (grind (arith, nat_tests))
@@ -260,20 +271,20 @@ digit_piece fresh b others m (Spelled (kinds.Mark mark)) digit is = let first =
 -- a constant begins with a digit
 constant_digit : (b : ℕ) (bs : List ℕ) (value : ℕ) → IsConstant (b ∷ bs) value → IsTrue (is_digit b)
 constant_digit b bs value (inl (d, ds, e, digit, apart, passes, is), low) = same_first is_digit b bs (d ∷ ds) e digit
-constant_digit b bs value (inr (inl (ds, e, passes, is)), low) = same_first is_digit b bs (48 ∷ ds) e refl
+constant_digit b bs value (inr (inl (ds, e, passes, is)), low) = same_first is_digit b bs (digit_zero ∷ ds) e refl
 constant_digit b bs value (inr (inr (x, ds, e, letter, some, passes, is)), low) =
-    same_first is_digit b bs (48 ∷ x ∷ ds) e refl
+    same_first is_digit b bs (digit_zero ∷ x ∷ ds) e refl
 
 -- only a number that is no constant bars a piece that begins with a digit
 digit_free : (b : ℕ) (others : List ℕ) (n value : ℕ) → IsTrue (is_digit b) → IsNumberText (take n (b ∷ others))
     → ((m : ℕ) → n < m → m ≤ length (b ∷ others) → IsNumberText (take m (b ∷ others)) → ⊥)
     → IsConstant (take n (b ∷ others)) value → IsBarred (b ∷ others) → ⊥
-digit_free b others n value digit text longest constant (inl (body, e, open_)) = let first : IsTrue (b == 47) =
-    same_first (λ x. x == 47) b others (47 ∷ 42 ∷ body) e refl in grind (arith, nat_tests)
-digit_free b others n value digit text longest constant (inr (inl (rest, e))) = let first : IsTrue (b == 37) =
-    same_first (λ x. x == 37) b others (37 ∷ 58 ∷ rest) e refl in grind (arith, nat_tests)
+digit_free b others n value digit text longest constant (inl (body, e, open_)) = let first : IsTrue (b == slash) =
+    same_first (λ x. x == slash) b others (slash ∷ star ∷ body) e refl in grind (arith, nat_tests)
+digit_free b others n value digit text longest constant (inr (inl (rest, e))) = let first : IsTrue (b == percent) =
+    same_first (λ x. x == percent) b others (percent ∷ colon ∷ rest) e refl in grind (arith, nat_tests)
 digit_free b others n value digit text longest constant (inr (inr (inl (quote, rest, e, h)))) =
-    let first : IsTrue (b == 76) = same_first (λ x. x == 76) b others (76 ∷ quote ∷ rest) e refl in
+    let first : IsTrue (b == capital_l) = same_first (λ x. x == capital_l) b others (capital_l ∷ quote ∷ rest) e refl in
     grind (arith, nat_tests)
 digit_free b others n value digit text longest constant (inr (inr (inr (starts_so, none)))) =
     none n value text longest constant
@@ -303,25 +314,25 @@ number_begins fresh (b ∷ others) (suc n) value within text longest constant =
 
 -- ---- hexadecimal constants
 
-hexadecimal_to : (text : List ℕ) → 2 < length text → get_or text 0 0 ≡ 48
-    → ((get_or text 1 0 ≡ 120) ⊎ (get_or text 1 0 ≡ 88)) → AllPass is_hexadecimal_digit (drop 2 text)
+hexadecimal_to : (text : List ℕ) → 2 < length text → get_or text 0 0 ≡ digit_zero
+    → ((get_or text 1 0 ≡ letter_x) ⊎ (get_or text 1 0 ≡ capital_x)) → AllPass is_hexadecimal_digit (drop 2 text)
     → ConstantValue text (number_in 16 (drop 2 text))
 hexadecimal_to [] long zero_first letter passes = absurd (omega arith)
 hexadecimal_to (a ∷ []) long zero_first letter passes = absurd (omega arith)
 hexadecimal_to (a ∷ x ∷ ds) long zero_first letter passes =
     inr (inr (x, ds, ap (λ (b : ℕ). b ∷ x ∷ ds) zero_first, letter, omega arith, passes, refl))
 
-letter_apart : (x : ℕ) → ((x ≡ 120) ⊎ (x ≡ 88)) → IsTrue (is_octal_digit x) → ⊥
+letter_apart : (x : ℕ) → ((x ≡ letter_x) ⊎ (x ≡ capital_x)) → IsTrue (is_octal_digit x) → ⊥
 letter_apart x (inl e) h = false≢true (subst (λ (b : ℕ). IsTrue (is_octal_digit b)) e h)
 letter_apart x (inr e) h = false≢true (subst (λ (b : ℕ). IsTrue (is_octal_digit b)) e h)
 
-hexadecimal_from : (text : List ℕ) → 2 < length text → get_or text 0 0 ≡ 48
-    → ((get_or text 1 0 ≡ 120) ⊎ (get_or text 1 0 ≡ 88)) → (value : ℕ) → ConstantValue text value
+hexadecimal_from : (text : List ℕ) → 2 < length text → get_or text 0 0 ≡ digit_zero
+    → ((get_or text 1 0 ≡ letter_x) ⊎ (get_or text 1 0 ≡ capital_x)) → (value : ℕ) → ConstantValue text value
     → AllPass is_hexadecimal_digit (drop 2 text) × (value ≡ number_in 16 (drop 2 text))
 hexadecimal_from [] long zero_first letter value h = absurd (omega arith)
 hexadecimal_from (a ∷ []) long zero_first letter value h = absurd (omega arith)
 hexadecimal_from (a ∷ x ∷ rest) long zero_first letter value (inl (d, ds, e, digit, apart, passes, is)) =
-    let same : d ≡ 48 = cc in absurd (apart same)
+    let same : d ≡ digit_zero = cc in absurd (apart same)
 hexadecimal_from (a ∷ x ∷ rest) long zero_first letter value (inr (inl (ds, e, passes, is))) =
     let same : ds ≡ x ∷ rest = cc in
     let octal : AllPass is_octal_digit (x ∷ rest) = subst (λ (bs : List ℕ). AllPass is_octal_digit bs) same passes in
@@ -333,10 +344,10 @@ hexadecimal_from (a ∷ x ∷ rest) long zero_first letter value (inr (inr (y, d
     )
 
 -- what hexadecimal digits behind `0x` say of the constant
-pub hexadecimal_result : (r : Option ℤ) (text : List ℕ) → 2 < length text → get_or text 0 0 ≡ 48
-    → ((get_or text 1 0 ≡ 120) ⊎ (get_or text 1 0 ≡ 88))
-    → MatchOption r (AllPass is_hexadecimal_digit (drop 2 text) → number_in 16 (drop 2 text) ≤ 2147483647 → ⊥)
-    (λ z. AllPass is_hexadecimal_digit (drop 2 text) × (number_in 16 (drop 2 text) ≤ 2147483647)
+pub hexadecimal_result : (r : Option ℤ) (text : List ℕ) → 2 < length text → get_or text 0 0 ≡ digit_zero
+    → ((get_or text 1 0 ≡ letter_x) ⊎ (get_or text 1 0 ≡ capital_x))
+    → MatchOption r (AllPass is_hexadecimal_digit (drop 2 text) → number_in 16 (drop 2 text) ≤ 0x7FFFFFFF → ⊥)
+    (λ z. AllPass is_hexadecimal_digit (drop 2 text) × (number_in 16 (drop 2 text) ≤ 0x7FFFFFFF)
     × (z ≡ pos (number_in 16 (drop 2 text))))
     → MatchOption r ((value : ℕ) → IsConstant text value → ⊥) (λ z. (value : ℕ) × IsConstant text value
     × (z ≡ pos value))
@@ -346,6 +357,6 @@ hexadecimal_result None text long zero_first letter none = λ value constant.
 hexadecimal_result (Some z) text long zero_first letter found =
     (number_in 16 (drop 2 text), (hexadecimal_to text long zero_first letter found.0, found.1), found.2)
 
--- a constant of the profile is its own 32 bits, read as signed
-pub signed_same : (z : ℤ) (n : ℕ) → n ≤ 2147483647 → z ≡ pos n → to_z w32 (of_z w32 z) ≡ pos n
+-- a constant of the language is its own 32 bits, read as signed
+pub signed_same : (z : ℤ) (n : ℕ) → n ≤ 0x7FFFFFFF → z ≡ pos n → to_z w32 (of_z w32 z) ≡ pos n
 signed_same z n low e = rw e (to_z_pos w32 n (omega arith))

@@ -4,6 +4,7 @@ use Rattle.std.proofs.Common.{take_while, ◌||◌, ◌==◌, IsTrue, inl, inr, 
 use Rattle.std.specs.List.{prefix_len}
 use Rattle.std.proofs.lemmas.List.{take_min}
 use Rattle.std.proofs.lemmas.Bool.Decides.{nat_tests}
+use Rattle.pcc_base.specs.Ascii.{double_quote, apostrophe}
 use Rattle.c_tokens.specs.declared.token.TokenKind.{TokenKind}
 use Rattle.c_tokens.specs.declared.token.TokenKind.TheVariants as kinds
 use Rattle.c_tokens.specs.Bytes.{is_space, is_letter, is_digit}
@@ -40,7 +41,7 @@ pub class_digit : (b : ℕ) (bs : List ℕ) → IsTrue (is_digit b) → class_of
 class_digit b bs digit =
     let space : is_space b ≡ false = grind (arith, nat_tests) in
     let letter : is_letter b ≡ false = grind (arith, nat_tests) in
-    let number : (is_digit b || b == 39) ≡ true = grind (arith, nat_tests) in
+    let number : (is_digit b || b == apostrophe) ≡ true = grind (arith, nat_tests) in
     rw (space, letter, number) refl
 
 -- as many bytes as pass the test are those that pass it
@@ -72,9 +73,9 @@ piece_class fresh rest n (Spelled (kinds.Mark mark)) spelled = class_mark mark (
 no_character : (bytes : List ℕ) (value : ℕ) (z : ℤ) → ConstantValue bytes value → IsCharacterConstant bytes z → ⊥
 no_character bytes value z p q =
     let first = constant_digit bytes value p in
-    let both : first.0 ∷ first.1 ≡ 39 ∷ q.1.0 ++ 39 ∷ [] = sym first.2 ∙ q.1.1 in
-    let quote : first.0 ≡ 39 = cc in
-    let digit : is_digit 39 ≡ true = subst (λ (b : ℕ). is_digit b ≡ true) quote first.3 in
+    let both : first.0 ∷ first.1 ≡ apostrophe ∷ q.1.0 ++ apostrophe ∷ [] = sym first.2 ∙ q.1.1 in
+    let quote : first.0 ≡ apostrophe = cc in
+    let digit : is_digit apostrophe ≡ true = subst (λ (b : ℕ). is_digit b ≡ true) quote first.3 in
     cc
 
 -- numbers of the same bytes are one
@@ -96,7 +97,7 @@ same_kind fresh rest n (kinds.Ident x) (kinds.Ident y) e a b = ap (λ x. kinds.I
 same_kind fresh rest n (kinds.Number y) (kinds.Number z) e a b =
     ap (λ x. kinds.Number x) (one_number fresh rest n y z a b)
 same_kind fresh rest n (kinds.Text x) (kinds.Text y) e a b =
-    ap (λ x. kinds.Text x) (one_literal 34 (take n rest) x y a b)
+    ap (λ x. kinds.Text x) (one_literal double_quote (take n rest) x y a b)
 same_kind fresh rest n (kinds.Mark l) (kinds.Mark m) e a b = ap (λ x. kinds.Mark x) (one_mark l m (take n rest) a b)
 same_kind fresh rest n _ _ e a b = absurd (omega arith)
 

@@ -3,6 +3,7 @@ use Rattle.std.proofs.Common.{◌≡◌, ◌≢◌, ℕ, zero, suc, Bool, true, 
 use Rattle.std.proofs.Common.{cond, inl, inr, refl, sym, ap, ap₂, subst, ◌∙◌, arith, eq-eqb, ne_eqb}
 use Rattle.std.proofs.lemmas.Bool.Decides.{nat_tests}
 use Rattle.std.proofs.lemmas.Bool.{false_from_ne_true}
+use Rattle.pcc_base.specs.Ascii.{double_quote, apostrophe, star, dot, slash}
 use Rattle.pcc_base.specs.declared.fault.Fault.{Fault}
 use Rattle.pcc_base.specs.declared.span.Span.{Span}
 use Rattle.pcc_base.specs.declared.fault.FaultKind.{FaultKind}
@@ -45,14 +46,14 @@ leads_once (suc k) (suc l) from to other a b p q s t =
 abbrev starts_number : List ℕ → Bool
 starts_number [] = false
 starts_number (b ∷ []) = is_digit b
-starts_number (b ∷ c ∷ rest) = is_digit b || (b == 46 && is_digit c)
+starts_number (b ∷ c ∷ rest) = is_digit b || (b == dot && is_digit c)
 
 -- it says so where one does
 starts : (bytes : List ℕ) → StartsNumber bytes → starts_number bytes ≡ true
 starts [] h = absurd h
 starts (b ∷ []) h = h
 starts (b ∷ c ∷ rest) (inl digit) = rw digit refl
-starts (b ∷ c ∷ rest) (inr (dot, digit)) = grind (arith, nat_tests)
+starts (b ∷ c ∷ rest) (inr (first, digit)) = grind (arith, nat_tests)
 
 -- and only there
 starts_back : (bytes : List ℕ) → starts_number bytes ≡ true → StartsNumber bytes
@@ -63,52 +64,53 @@ starts_back (b ∷ c ∷ rest) h = grind (arith, nat_tests)
 -- whether `*` begins the bytes
 abbrev starts_with_star : List ℕ → Bool
 starts_with_star [] = false
-starts_with_star (b ∷ rest) = b == 42
+starts_with_star (b ∷ rest) = b == star
 
 -- it says so where it does
-star : (bytes : List ℕ) → StartsWithStar bytes → starts_with_star bytes ≡ true
-star [] h = absurd h
-star (b ∷ rest) h = eq-eqb b 42 h
+star_first : (bytes : List ℕ) → StartsWithStar bytes → starts_with_star bytes ≡ true
+star_first [] h = absurd h
+star_first (b ∷ rest) h = eq-eqb b star h
 
 -- the fault at a byte where no piece begins
 abbrev fault_at : ℕ → List ℕ → FaultKind
 fault_at b rest =
-    cond (b == 47 && starts_with_star rest) Unclosed
-    (cond (b == 39 || b == 34) (cond (is_closed b rest) BadEscape Unclosed)
+    cond (b == slash && starts_with_star rest) Unclosed
+    (cond (b == apostrophe || b == double_quote) (cond (is_closed b rest) BadEscape Unclosed)
     (cond (starts_number (b ∷ rest)) BadNumber BadByte))
 
 -- a number begins with no `/` and no quote
-number_first : (b : ℕ) (rest : List ℕ) → StartsNumber (b ∷ rest) → (b ≢ 47) × (b ≢ 39) × (b ≢ 34)
+number_first : (b : ℕ) (rest : List ℕ) → StartsNumber (b ∷ rest) → (b ≢ slash) × (b ≢ apostrophe) × (b ≢ double_quote)
 number_first b [] h = grind (arith, nat_tests)
 number_first b (c ∷ rest) (inl digit) = grind (arith, nat_tests)
-number_first b (c ∷ rest) (inr (dot, digit)) = grind (arith, nat_tests)
+number_first b (c ∷ rest) (inr (first, digit)) = grind (arith, nat_tests)
 
 -- `/*` doesn't begin the bytes
-no_comment : (b : ℕ) (rest : List ℕ) → (b ≡ 47 → StartsWithStar rest → ⊥) → (b == 47 && starts_with_star rest) ≡ false
+no_comment : (b : ℕ) (rest : List ℕ) → (b ≡ slash → StartsWithStar rest → ⊥)
+    → (b == slash && starts_with_star rest) ≡ false
 no_comment b [] h = grind (arith, nat_tests)
 no_comment b (c ∷ rest) h = grind (arith, nat_tests)
 
 -- no quote begins the bytes
-no_quote : (b : ℕ) → b ≢ 39 → b ≢ 34 → (b == 39 || b == 34) ≡ false
-no_quote b h i = rw (ne_eqb b 39 h, ne_eqb b 34 i) refl
+no_quote : (b : ℕ) → b ≢ apostrophe → b ≢ double_quote → (b == apostrophe || b == double_quote) ≡ false
+no_quote b h i = rw (ne_eqb b apostrophe h, ne_eqb b double_quote i) refl
 
 -- the fault where no piece begins is this one
 fault_is : (b : ℕ) (rest : List ℕ) (kind : FaultKind) → IsFaultOf (b ∷ rest) kind → kind ≡ fault_at b rest
-fault_is b rest kind (inl (slash, is, starred)) =
-    let comment : fault_at 47 rest ≡ Unclosed = rw (star rest starred) refl in
-    is ∙ sym comment ∙ sym (ap (λ (x : ℕ). fault_at x rest) slash)
+fault_is b rest kind (inl (slashed, is, starred)) =
+    let comment : fault_at slash rest ≡ Unclosed = rw (star_first rest starred) refl in
+    is ∙ sym comment ∙ sym (ap (λ (x : ℕ). fault_at x rest) slashed)
 fault_is b rest kind (inr (inl (inl quote, is))) =
     is ∙ ap (λ (x : ℕ). cond (is_closed x rest) BadEscape Unclosed) quote ∙ sym (ap (λ (x : ℕ). fault_at x rest) quote)
 fault_is b rest kind (inr (inl (inr quote, is))) =
     is ∙ ap (λ (x : ℕ). cond (is_closed x rest) BadEscape Unclosed) quote ∙ sym (ap (λ (x : ℕ). fault_at x rest) quote)
 fault_is b rest kind (inr (inr (inl (number, is)))) =
     let first = number_first b rest number in
-    let no_slash : (b == 47 && starts_with_star rest) ≡ false = no_comment b rest (λ e h. first.0 e) in
-    let other : (b == 39 || b == 34) ≡ false = no_quote b first.1 first.2 in
+    let no_slash : (b == slash && starts_with_star rest) ≡ false = no_comment b rest (λ e h. first.0 e) in
+    let other : (b == apostrophe || b == double_quote) ≡ false = no_quote b first.1 first.2 in
     is ∙ sym (rw (no_slash, other, starts (b ∷ rest) number) refl)
-fault_is b rest kind (inr (inr (inr (single, double, number, slash, is)))) =
-    let no_slash : (b == 47 && starts_with_star rest) ≡ false = no_comment b rest slash in
-    let other : (b == 39 || b == 34) ≡ false = no_quote b single double in
+fault_is b rest kind (inr (inr (inr (single, double, number, slashed, is)))) =
+    let no_slash : (b == slash && starts_with_star rest) ≡ false = no_comment b rest slashed in
+    let other : (b == apostrophe || b == double_quote) ≡ false = no_quote b single double in
     let none : starts_number (b ∷ rest) ≡ false =
     false_from_ne_true (starts_number (b ∷ rest)) (λ h. number (starts_back (b ∷ rest) h)) in
     is ∙ sym (rw (no_slash, other, none) refl)

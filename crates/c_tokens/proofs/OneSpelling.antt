@@ -2,6 +2,7 @@
 -- piece it may be.
 use Rattle.std.proofs.Common.{◌≡◌, ℕ, List, [], ◌∷◌, ◌++◌, map, ◌||◌, ◌==◌, cond, Option, Some, None, inl, inr, refl}
 use Rattle.std.proofs.Common.{sym, ap, ◌∙◌, bytes_eq, codes}
+use Rattle.pcc_base.specs.Ascii.{double_quote, hash, apostrophe, star, slash}
 use Rattle.pcc_base.specs.declared.keyword.Keyword.{Keyword}
 use Rattle.pcc_base.specs.declared.keyword.Keyword.TheVariants as words
 use Rattle.c_tokens.specs.declared.token.Punct.{Punct}
@@ -99,7 +100,7 @@ one_mark l m bytes p q =
 -- behind `/`: 1 for a comment, 6 for a punctuator
 abbrev class_behind_slash : List ℕ → ℕ
 class_behind_slash [] = 6
-class_behind_slash (b ∷ bs) = cond (b == 47 || b == 42) 1 6
+class_behind_slash (b ∷ bs) = cond (b == slash || b == star) 1 6
 
 -- which kind of piece the bytes may be: 0 white space, 1 a comment, 2 a skipped line, 3 a word,
 -- 4 a number, 5 a text, 6 a punctuator
@@ -109,7 +110,8 @@ class_of (b ∷ bs) =
     cond (is_space b) 0
     (cond (is_letter b) 3
     (cond (is_digit b
-    || b == 39) 4 (cond (b == 34) 5 (cond (b == 35) 2 (cond (b == 47) (class_behind_slash bs) 6)))))
+    || b == apostrophe) 4
+    (cond (b == double_quote) 5 (cond (b == hash) 2 (cond (b == slash) (class_behind_slash bs) 6)))))
 
 -- a keyword is a word
 pub class_keyword : (w : Keyword) → class_of (keyword_text w) ≡ 3

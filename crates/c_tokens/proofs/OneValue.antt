@@ -5,6 +5,9 @@ use Rattle.std.proofs.Common.{length-append}
 use Rattle.std.proofs.lemmas.List.{append_cancel_right}
 use Rattle.std.proofs.lemmas.Bool.Decides.{nat_tests}
 use Rattle.byteorder.specs.Endian.{twos_complement}
+use Rattle.pcc_base.specs.Ascii.{bell, backspace, tab, newline, vertical_tab, form_feed, carriage_return, double_quote}
+use Rattle.pcc_base.specs.Ascii.{apostrophe, digit_zero, question_mark, capital_x, backslash, letter_a, letter_b}
+use Rattle.pcc_base.specs.Ascii.{letter_f, letter_n, letter_r, letter_t, letter_v, letter_x}
 use Rattle.c_tokens.specs.Bytes.{is_digit, is_octal_digit, is_hexadecimal_digit, number_in}
 use Rattle.c_tokens.specs.Literals.{AllPass, StartsNot, ConstantValue, EscapeIn, simple_escapes, IsCharacter, HasValues}
 use Rattle.c_tokens.specs.Literals.{IsLiteral, IsCharacterConstant}
@@ -14,29 +17,30 @@ use Rattle.c_tokens.specs.Literals.{IsLiteral, IsCharacterConstant}
 -- the value of what stands behind a constant's first zero
 abbrev pub value_behind_zero : List ℕ → ℕ
 value_behind_zero [] = 0
-value_behind_zero (x ∷ ds) = cond (x == 120 || x == 88) (number_in 16 ds) (number_in 8 (x ∷ ds))
+value_behind_zero (x ∷ ds) = cond (x == letter_x || x == capital_x) (number_in 16 ds) (number_in 8 (x ∷ ds))
 
 -- the value of a constant with these bytes
 abbrev pub constant_value : List ℕ → ℕ
 constant_value [] = 0
-constant_value (b ∷ ds) = cond (b == 48) (value_behind_zero ds) (number_in 10 (b ∷ ds))
+constant_value (b ∷ ds) = cond (b == digit_zero) (value_behind_zero ds) (number_in 10 (b ∷ ds))
 
 -- an octal constant has it
 octal_value : (ds : List ℕ) → AllPass is_octal_digit ds → value_behind_zero ds ≡ number_in 8 ds
 octal_value [] all = refl
 octal_value (x ∷ ds) all =
     let digit : is_octal_digit x ≡ true = all.0 in
-    let other : (x == 120 || x == 88) ≡ false = grind (arith, nat_tests) in
+    let other : (x == letter_x || x == capital_x) ≡ false = grind (arith, nat_tests) in
     rw other refl
 
 -- a hexadecimal constant has it
-hexadecimal_value : (x : ℕ) (ds : List ℕ) → (x ≡ 120) ⊎ (x ≡ 88) → value_behind_zero (x ∷ ds) ≡ number_in 16 ds
+hexadecimal_value : (x : ℕ) (ds : List ℕ) → (x ≡ letter_x) ⊎ (x ≡ capital_x)
+    → value_behind_zero (x ∷ ds) ≡ number_in 16 ds
 hexadecimal_value x ds (inl e) = rw e refl
 hexadecimal_value x ds (inr e) = rw e refl
 
 -- a decimal constant has it
-decimal_value : (d : ℕ) (ds : List ℕ) → d ≢ 48 → constant_value (d ∷ ds) ≡ number_in 10 (d ∷ ds)
-decimal_value d ds other = rw (ne_eqb d 48 other) refl
+decimal_value : (d : ℕ) (ds : List ℕ) → d ≢ digit_zero → constant_value (d ∷ ds) ≡ number_in 10 (d ∷ ds)
+decimal_value d ds other = rw (ne_eqb d digit_zero other) refl
 
 -- and so has any constant
 pub constant_is : (bytes : List ℕ) (value : ℕ) → ConstantValue bytes value → value ≡ constant_value bytes
@@ -54,8 +58,8 @@ one_constant bytes v w p q = constant_is bytes v p ∙ sym (constant_is bytes w 
 pub constant_digit : (bytes : List ℕ) (value : ℕ) → ConstantValue bytes value → (d : ℕ) × (ds : List ℕ)
     × (bytes ≡ d ∷ ds) × IsTrue (is_digit d)
 constant_digit bytes value (inl (d, ds, e, digit, other, all, is)) = (d, ds, e, digit)
-constant_digit bytes value (inr (inl (ds, e, all, is))) = (48, ds, e, refl)
-constant_digit bytes value (inr (inr (x, ds, e, letter, some, all, is))) = (48, x ∷ ds, e, refl)
+constant_digit bytes value (inr (inl (ds, e, all, is))) = (digit_zero, ds, e, refl)
+constant_digit bytes value (inr (inr (x, ds, e, letter, some, all, is))) = (digit_zero, x ∷ ds, e, refl)
 
 -- ---- runs of digits
 
@@ -98,7 +102,7 @@ abbrev pub escape : List ℕ → ℕ × List ℕ
 escape [] = (0, [])
 escape (c ∷ others) =
     cond (is_octal_digit c) (number_in 8 (front is_octal_digit 3 (c ∷ others)), back is_octal_digit 3 (c ∷ others))
-    (cond (c == 120) (
+    (cond (c == letter_x) (
       number_in 16 (front is_hexadecimal_digit (length others) others),
       back is_hexadecimal_digit (length others) others,
     )
@@ -107,7 +111,7 @@ escape (c ∷ others) =
 -- the value of the character that begins the bytes, and the rest
 abbrev pub character : List ℕ → ℕ × List ℕ
 character [] = (0, [])
-character (b ∷ others) = cond (b == 92) (escape others) (b, others)
+character (b ∷ others) = cond (b == backslash) (escape others) (b, others)
 
 -- an escape of one letter
 escape_letter : (letter value l v : ℕ) (rest : List ℕ) → letter ≡ l → value ≡ v → escape (l ∷ rest) ≡ (v, rest)
@@ -117,23 +121,26 @@ escape_letter letter value l v rest p q e = ap (λ (x : ℕ). escape (x ∷ rest
 -- each of them
 escape_simple : (letter value : ℕ) (rest : List ℕ) → EscapeIn simple_escapes letter value → escape (letter ∷ rest)
     ≡ (value, rest)
-escape_simple letter value rest (inl h) = escape_letter letter value 39 39 rest h.0 h.1 refl
-escape_simple letter value rest (inr (inl h)) = escape_letter letter value 34 34 rest h.0 h.1 refl
-escape_simple letter value rest (inr (inr (inl h))) = escape_letter letter value 63 63 rest h.0 h.1 refl
-escape_simple letter value rest (inr (inr (inr (inl h)))) = escape_letter letter value 92 92 rest h.0 h.1 refl
-escape_simple letter value rest (inr (inr (inr (inr (inl h))))) = escape_letter letter value 97 7 rest h.0 h.1 refl
+escape_simple letter value rest (inl h) = escape_letter letter value apostrophe apostrophe rest h.0 h.1 refl
+escape_simple letter value rest (inr (inl h)) = escape_letter letter value double_quote double_quote rest h.0 h.1 refl
+escape_simple letter value rest (inr (inr (inl h))) =
+    escape_letter letter value question_mark question_mark rest h.0 h.1 refl
+escape_simple letter value rest (inr (inr (inr (inl h)))) =
+    escape_letter letter value backslash backslash rest h.0 h.1 refl
+escape_simple letter value rest (inr (inr (inr (inr (inl h))))) =
+    escape_letter letter value letter_a bell rest h.0 h.1 refl
 escape_simple letter value rest (inr (inr (inr (inr (inr (inl h)))))) =
-    escape_letter letter value 98 8 rest h.0 h.1 refl
+    escape_letter letter value letter_b backspace rest h.0 h.1 refl
 escape_simple letter value rest (inr (inr (inr (inr (inr (inr (inl h))))))) =
-    escape_letter letter value 102 12 rest h.0 h.1 refl
+    escape_letter letter value letter_f form_feed rest h.0 h.1 refl
 escape_simple letter value rest (inr (inr (inr (inr (inr (inr (inr (inl h)))))))) =
-    escape_letter letter value 110 10 rest h.0 h.1 refl
+    escape_letter letter value letter_n newline rest h.0 h.1 refl
 escape_simple letter value rest (inr (inr (inr (inr (inr (inr (inr (inr (inl h))))))))) =
-    escape_letter letter value 114 13 rest h.0 h.1 refl
+    escape_letter letter value letter_r carriage_return rest h.0 h.1 refl
 escape_simple letter value rest (inr (inr (inr (inr (inr (inr (inr (inr (inr (inl h)))))))))) =
-    escape_letter letter value 116 9 rest h.0 h.1 refl
+    escape_letter letter value letter_t tab rest h.0 h.1 refl
 escape_simple letter value rest (inr (inr (inr (inr (inr (inr (inr (inr (inr (inr (inl h))))))))))) =
-    escape_letter letter value 118 11 rest h.0 h.1 refl
+    escape_letter letter value letter_v vertical_tab rest h.0 h.1 refl
 escape_simple letter value rest (inr (inr (inr (inr (inr (inr (inr (inr (inr (inr (inr h))))))))))) = absurd h
 
 -- an octal escape
@@ -150,7 +157,7 @@ escape_octal (d ∷ ds) rest some few all stop =
 
 -- a hexadecimal escape
 escape_hexadecimal : (ds rest : List ℕ) → AllPass is_hexadecimal_digit ds → StartsNot is_hexadecimal_digit rest
-    → escape (120 ∷ ds ++ rest) ≡ (number_in 16 ds, rest)
+    → escape (letter_x ∷ ds ++ rest) ≡ (number_in 16 ds, rest)
 escape_hexadecimal ds rest all stop =
     let run =
     run_is is_hexadecimal_digit (length (ds ++ rest)) ds rest all (omega (arith, length-append ds rest)) (inr stop)
@@ -161,7 +168,7 @@ escape_hexadecimal ds rest all stop =
 pub character_is : (quote : ℕ) (bytes rest : List ℕ) (value : ℕ) → IsCharacter quote bytes rest value
     → character (bytes ++ rest) ≡ (value, rest)
 character_is quote bytes rest value (inl (e, unlike, plain, line)) =
-    let is : character (value ∷ rest) ≡ (value, rest) = rw (ne_eqb value 92 plain) refl in
+    let is : character (value ∷ rest) ≡ (value, rest) = rw (ne_eqb value backslash plain) refl in
     ap (λ (l : List ℕ). character (l ++ rest)) e ∙ is
 character_is quote bytes rest value (inr (inl (letter, e, known))) =
     ap (λ (l : List ℕ). character (l ++ rest)) e ∙ escape_simple letter value rest known
@@ -212,6 +219,6 @@ one_literal quote bytes vs ws p q =
 -- a character constant has one value
 pub one_character : (bytes : List ℕ) (x y : ℤ) → IsCharacterConstant bytes x → IsCharacterConstant bytes y → x ≡ y
 one_character bytes x y p q =
-    let values : p.0 ∷ [] ≡ q.0 ∷ [] = one_literal 39 bytes (p.0 ∷ []) (q.0 ∷ []) p.1 q.1 in
+    let values : p.0 ∷ [] ≡ q.0 ∷ [] = one_literal apostrophe bytes (p.0 ∷ []) (q.0 ∷ []) p.1 q.1 in
     let value : p.0 ≡ q.0 = cc in
     p.2 ∙ ap (twos_complement 1) value ∙ sym q.2

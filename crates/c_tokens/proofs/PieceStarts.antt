@@ -1,9 +1,11 @@
 -- What the first bytes of each kind of piece are.
 use Rattle.std.proofs.Common.{◌≡◌, ℕ, zero, suc, Bool, true, false, not, ◌||◌, ◌&&◌, List, [], ◌∷◌, ◌++◌, take, IsTrue}
-use Rattle.std.proofs.Common.{refl, sym, subst, inl, inr, arith}
+use Rattle.std.proofs.Common.{refl, sym, subst, inl, inr, arith, codes}
 use Rattle.std.proofs.lemmas.Bool.Decides.{nat_tests}
-use Rattle.std.specs.Prelude.{nat_le, ◌==◌}
+use Rattle.std.specs.Prelude.{◌==◌}
 use Rattle.std.specs.List.{prefix_len}
+use Rattle.pcc_base.specs.Ascii.{newline, exclamation_mark, double_quote, hash, percent, apostrophe, star, dot, slash}
+use Rattle.pcc_base.specs.Ascii.{colon, equals_sign, capital_l, left_bracket, is_between}
 use Rattle.pcc_base.specs.declared.keyword.Keyword.{Keyword}
 use Rattle.pcc_base.specs.declared.keyword.Keyword.TheVariants as words
 use Rattle.c_tokens.specs.declared.token.Punct.{Punct}
@@ -17,10 +19,10 @@ use Rattle.c_tokens.specs.Pieces.{Piece, Space, Comment, Skipped, Spelled, IsPie
 -- a byte that begins a punctuator
 abbrev pub is_mark_byte : ℕ → Bool
 is_mark_byte b =
-    (b == 33 || (nat_le 37 b && nat_le b 38))
-    || ((nat_le 40 b && nat_le b 47)
-    || ((nat_le 58 b && nat_le b 63)
-    || ((b == 91 || (nat_le 93 b && nat_le b 94)) || (nat_le 123 b && nat_le b 126))))
+    (b == exclamation_mark || is_between (codes "%&") b)
+    || (is_between (codes "(/") b
+    || (is_between (codes ":?") b
+    || ((b == left_bracket || is_between (codes "]^") b) || is_between (codes "{~") b)))
 
 abbrev pub is_empty : List ℕ → Bool
 is_empty [] = true
@@ -30,7 +32,8 @@ is_empty (b ∷ bs) = false
 abbrev pub may_be_mark : List ℕ → Bool
 may_be_mark [] = false
 may_be_mark (b ∷ []) = is_mark_byte b
-may_be_mark (b ∷ c ∷ bs) = is_mark_byte b && ((not (b == 47) || (c == 61 && is_empty bs)) && (not (b == 46) || c == 46))
+may_be_mark (b ∷ c ∷ bs) =
+    is_mark_byte b && ((not (b == slash) || (c == equals_sign && is_empty bs)) && (not (b == dot) || c == dot))
 
 -- the first byte passes
 abbrev pub begins_with : (ℕ → Bool) → List ℕ → Bool
@@ -60,22 +63,22 @@ keyword_letter _ = refl
 -- which first byte each kind of piece may have
 abbrev pub starts : Piece → ℕ → Bool
 starts Space b = is_space b
-starts Comment b = b == 47
-starts Skipped b = b == 35
+starts Comment b = b == slash
+starts Skipped b = b == hash
 starts (Spelled (kinds.Word word)) b = is_letter b
 starts (Spelled (kinds.Ident name)) b = is_letter b
-starts (Spelled (kinds.Number z)) b = is_digit b || (b == 46 || b == 39)
-starts (Spelled (kinds.Text bytes)) b = b == 34
+starts (Spelled (kinds.Number z)) b = is_digit b || (b == dot || b == apostrophe)
+starts (Spelled (kinds.Text bytes)) b = b == double_quote
 starts (Spelled (kinds.Mark mark)) b = is_mark_byte b
 
 mark_first : (b : ℕ) (bs : List ℕ) → IsTrue (may_be_mark (b ∷ bs)) → IsTrue (is_mark_byte b)
 mark_first b [] h = h
 mark_first b (c ∷ cs) h = grind (arith, nat_tests)
 
-number_first : (b : ℕ) (bs : List ℕ) → IsNumberText (b ∷ bs) → IsTrue (is_digit b || (b == 46 || b == 39))
+number_first : (b : ℕ) (bs : List ℕ) → IsNumberText (b ∷ bs) → IsTrue (is_digit b || (b == dot || b == apostrophe))
 number_first b [] h = grind (arith, nat_tests)
 number_first b (c ∷ cs) (inl h) = let d : IsTrue (is_digit b) = h.0 in grind (arith, nat_tests)
-number_first b (c ∷ cs) (inr h) = subst (λ (x : ℕ). IsTrue (is_digit x || (x == 46 || x == 39))) (sym h.0) refl
+number_first b (c ∷ cs) (inr h) = subst (λ (x : ℕ). IsTrue (is_digit x || (x == dot || x == apostrophe))) (sym h.0) refl
 
 pub same_first : (test : ℕ → Bool) (b : ℕ) (bs text : List ℕ) → b ∷ bs ≡ text → IsTrue (begins_with test text)
     → IsTrue (test b)
@@ -90,11 +93,12 @@ take_first (suc k) b others c xs e = cc
 pub piece_starts : (fresh : Bool) (b : ℕ) (others : List ℕ) (m : ℕ) (other : Piece)
     → IsPiece fresh (b ∷ others) (suc m) other → IsTrue (starts other b)
 piece_starts fresh b others m Space (c, e, h) = same_first is_space b (take m others) (c ∷ []) e h
-piece_starts fresh b others m Comment (inl (body, e, h)) = same_first (λ x. x == 47) b (take m others) _ e refl
+piece_starts fresh b others m Comment (inl (body, e, h)) = same_first (λ x. x == slash) b (take m others) _ e refl
 piece_starts fresh b others m Comment (inr (body, e, h)) =
-    same_first (λ x. x == 47) b (take m others) (47 ∷ 42 ∷ body ++ 42 ∷ 47 ∷ []) e refl
+    same_first (λ x. x == slash) b (take m others) (slash ∷ star ∷ body ++ star ∷ slash ∷ []) e refl
 piece_starts fresh b others m Skipped (f, (blanks, more, e, passes, rest), is) =
-    let first : b ≡ 35 = take_first (prefix_len (λ x. not (x == 10)) (b ∷ others)) b others 35 (blanks ++ more) e in
+    let first : b ≡ hash =
+    take_first (prefix_len (λ x. not (x == newline)) (b ∷ others)) b others hash (blanks ++ more) e in
     grind (arith, nat_tests)
 piece_starts fresh b others m (Spelled (kinds.Word word)) e =
     same_first is_letter b (take m others) (keyword_text word) e (keyword_letter word)
@@ -104,15 +108,16 @@ piece_starts fresh b others m (Spelled (kinds.Ident name)) (e, (c, cs, is, lette
 piece_starts fresh b others m (Spelled (kinds.Number z)) (inl (text, longest, more)) =
     number_first b (take m others) text
 piece_starts fresh b others m (Spelled (kinds.Number z)) (inr (value, (inside, e, has), is)) =
-    same_first (λ x. is_digit x || (x == 46 || x == 39)) b (take m others) (39 ∷ inside ++ 39 ∷ []) e refl
+    same_first (λ x. is_digit x || (x == dot || x == apostrophe)) b (take m others) (apostrophe ∷ inside
+    ++ apostrophe ∷ []) e refl
 piece_starts fresh b others m (Spelled (kinds.Text bytes)) (inside, e, has) =
-    same_first (λ x. x == 34) b (take m others) (34 ∷ inside ++ 34 ∷ []) e refl
+    same_first (λ x. x == double_quote) b (take m others) (double_quote ∷ inside ++ double_quote ∷ []) e refl
 piece_starts fresh b others m (Spelled (kinds.Mark mark)) h =
     mark_first b (take m others) (IsMark-may mark (b ∷ take m others) h)
 
 -- a byte with which what bars a piece may begin
 abbrev pub may_bar : ℕ → Bool
-may_bar b = (b == 47 || (b == 37 || b == 76)) || (is_digit b || b == 46)
+may_bar b = (b == slash || (b == percent || b == capital_l)) || (is_digit b || b == dot)
 
 number_bars : (b : ℕ) (others : List ℕ) → StartsNumber (b ∷ others) → IsTrue (may_bar b)
 number_bars b [] h = grind (arith, nat_tests)
@@ -121,7 +126,8 @@ number_bars b (c ∷ cs) (inr h) = subst (λ (x : ℕ). IsTrue (may_bar x)) (sym
 
 -- what bars a piece begins with such a byte
 pub barred_starts : (b : ℕ) (others : List ℕ) → IsBarred (b ∷ others) → IsTrue (may_bar b)
-barred_starts b others (inl (body, e, h)) = same_first may_bar b others (47 ∷ 42 ∷ body) e refl
-barred_starts b others (inr (inl (rest, e))) = same_first may_bar b others (37 ∷ 58 ∷ rest) e refl
-barred_starts b others (inr (inr (inl (quote, rest, e, h)))) = same_first may_bar b others (76 ∷ quote ∷ rest) e refl
+barred_starts b others (inl (body, e, h)) = same_first may_bar b others (slash ∷ star ∷ body) e refl
+barred_starts b others (inr (inl (rest, e))) = same_first may_bar b others (percent ∷ colon ∷ rest) e refl
+barred_starts b others (inr (inr (inl (quote, rest, e, h)))) =
+    same_first may_bar b others (capital_l ∷ quote ∷ rest) e refl
 barred_starts b others (inr (inr (inr (h, none)))) = number_bars b others h

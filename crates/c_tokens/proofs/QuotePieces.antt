@@ -7,6 +7,7 @@ use Rattle.std.proofs.lemmas.List.Sums.{take_while-cons}
 use Rattle.std.proofs.lemmas.Bool.{true≢false, false≢true}
 use Rattle.std.proofs.Math.Seq.{take-append-add}
 use Rattle.byteorder.specs.Endian.{twos_complement}
+use Rattle.pcc_base.specs.Ascii.{newline, double_quote, hash, percent, apostrophe, star, dot, slash, colon, capital_l}
 use Rattle.pcc_base.specs.declared.keyword.Keyword.{Keyword}
 use Rattle.pcc_base.specs.declared.keyword.Keyword.TheVariants as words
 use Rattle.c_tokens.specs.declared.token.Punct.{Punct}
@@ -28,7 +29,7 @@ use Rattle.c_tokens.proofs.LiteralReading.{closing_read, IsQuote, at_quote}
 -- the first byte is a quote
 abbrev starts_with_quote : List ℕ → Bool
 starts_with_quote [] = false
-starts_with_quote (b ∷ bs) = b == 39 || b == 34
+starts_with_quote (b ∷ bs) = b == apostrophe || b == double_quote
 
 -- no keyword begins with a quote
 keyword_plain : (word : Keyword) → starts_with_quote (keyword_text word) ≡ false
@@ -56,7 +57,8 @@ not_plain b bs q e =
     true≢false (sym quoted ∙ e)
 
 -- a quote fails a test that both quotes fail
-fails : (test : ℕ → Bool) (b x : ℕ) → IsQuote b → test 39 ≡ false → test 34 ≡ false → b ≡ x → IsTrue (test x) → ⊥
+fails : (test : ℕ → Bool) (b x : ℕ) → IsQuote b → test apostrophe ≡ false → test double_quote ≡ false → b ≡ x
+    → IsTrue (test x) → ⊥
 fails test b x q one other e h =
     let failed : test b ≡ false = at_quote (λ (y : ℕ). test y ≡ false) b one other q in
     false≢true (sym failed ∙ ap test e ∙ h)
@@ -73,29 +75,30 @@ tail_is b x bs xs e = cc
 no_number_text : (b : ℕ) (bs : List ℕ) → IsQuote b → IsNumberText (b ∷ bs) → ⊥
 no_number_text b [] q h = fails is_digit b b q refl refl refl h
 no_number_text b (c ∷ cs) q (inl h) = fails is_digit b b q refl refl refl h.0
-no_number_text b (c ∷ cs) q (inr h) = at_quote (λ (x : ℕ). x ≢ 46) b (λ e. omega arith) (λ e. omega arith) q h.0
+no_number_text b (c ∷ cs) q (inr h) = at_quote (λ (x : ℕ). x ≢ dot) b (λ e. omega arith) (λ e. omega arith) q h.0
 
 -- no number starts at a quote
 no_number : (b : ℕ) (bs : List ℕ) → IsQuote b → StartsNumber (b ∷ bs) → ⊥
 no_number b [] q h = fails is_digit b b q refl refl refl h
 no_number b (c ∷ cs) q (inl h) = fails is_digit b b q refl refl refl h
-no_number b (c ∷ cs) q (inr h) = at_quote (λ (x : ℕ). x ≢ 46) b (λ e. omega arith) (λ e. omega arith) q h.0
+no_number b (c ∷ cs) q (inr h) = at_quote (λ (x : ℕ). x ≢ dot) b (λ e. omega arith) (λ e. omega arith) q h.0
 
 -- no literal is barred
 quote_free : (b : ℕ) (bs : List ℕ) → IsQuote b → IsBarred (b ∷ bs) → ⊥
 quote_free b bs q (inl h) =
-    at_quote (λ (x : ℕ). x ≢ 47) b (λ e. omega arith) (λ e. omega arith) q (head_is b 47 bs (42 ∷ h.0) h.1)
+    at_quote (λ (x : ℕ). x ≢ slash) b (λ e. omega arith) (λ e. omega arith) q (head_is b slash bs (star ∷ h.0) h.1)
 quote_free b bs q (inr (inl h)) =
-    at_quote (λ (x : ℕ). x ≢ 37) b (λ e. omega arith) (λ e. omega arith) q (head_is b 37 bs (58 ∷ h.0) h.1)
+    at_quote (λ (x : ℕ). x ≢ percent) b (λ e. omega arith) (λ e. omega arith) q (head_is b percent bs (colon ∷ h.0) h.1)
 quote_free b bs q (inr (inr (inl h))) =
-    at_quote (λ (x : ℕ). x ≢ 76) b (λ e. omega arith) (λ e. omega arith) q (head_is b 76 bs (h.0 ∷ h.1) h.2)
+    at_quote (λ (x : ℕ). x ≢ capital_l) b (λ e. omega arith) (λ e. omega arith) q
+    (head_is b capital_l bs (h.0 ∷ h.1) h.2)
 quote_free b bs q (inr (inr (inr h))) = no_number b bs q h.0
 
 -- the bytes are a literal in quotes b, and hold one character where that is the quote of a character constant
 record LiteralThere (b : ℕ) (bytes : List ℕ) : Type 0 where
   values : List ℕ
   is : IsLiteral b bytes values
-  one : b ≡ 39 → length values ≡ 1
+  one : b ≡ apostrophe → length values ≡ 1
 
 -- a piece that begins with a quote is a literal
 only_literal : (fresh : Bool) (b : ℕ) (bs : List ℕ) (n : ℕ) (piece : Piece) → IsQuote b → 0 < n
@@ -104,17 +107,20 @@ only_literal fresh b bs zero piece q some h = absurd (omega arith)
 only_literal fresh b bs (suc n) Space q some h =
     absurd (fails is_space b h.0 q refl refl (head_is b h.0 (take n bs) [] h.1) h.2)
 only_literal fresh b bs (suc n) Comment q some (inl h) =
-    absurd (at_quote (λ (x : ℕ). x ≢ 47) b (λ e. omega arith) (λ e. omega arith) q
-    (head_is b 47 (take n bs) (47 ∷ h.0) h.1))
+    absurd (at_quote (λ (x : ℕ). x ≢ slash) b (λ e. omega arith) (λ e. omega arith) q
+    (head_is b slash (take n bs) (slash ∷ h.0) h.1))
 only_literal fresh b bs (suc n) Comment q some (inr h) =
-    absurd (at_quote (λ (x : ℕ). x ≢ 47) b (λ e. omega arith) (λ e. omega arith) q (head_is b 47 (take n bs) (42 ∷ h.0
-    ++ 42 ∷ 47 ∷ []) h.1))
+    absurd (at_quote (λ (x : ℕ). x ≢ slash) b (λ e. omega arith) (λ e. omega arith) q
+    (head_is b slash (take n bs) (star ∷ h.0
+    ++ star ∷ slash ∷ []) h.1))
 only_literal fresh b bs (suc n) Skipped q some h =
     let line : line_of (b ∷ bs) ≡ b ∷ line_of bs =
-    at_quote (λ (x : ℕ). line_of (x ∷ bs) ≡ x ∷ line_of bs) b (take_while-cons (λ (x : ℕ). not (x == 10)) 39 bs)
-    (take_while-cons (λ (x : ℕ). not (x == 10)) 34 bs) q in
+    at_quote (λ (x : ℕ). line_of (x ∷ bs) ≡ x ∷ line_of bs) b
+    (take_while-cons (λ (x : ℕ). not (x == newline)) apostrophe bs)
+    (take_while-cons (λ (x : ℕ). not (x == newline)) double_quote bs) q in
     let marker = h.1 in
-    absurd (at_quote (λ (x : ℕ). x ≢ 35) b (λ e. omega arith) (λ e. omega arith) q (head_is b 35 (line_of bs) (marker.0
+    absurd (at_quote (λ (x : ℕ). x ≢ hash) b (λ e. omega arith) (λ e. omega arith) q
+    (head_is b hash (line_of bs) (marker.0
     ++ marker.1) (sym line ∙ marker.2)))
 only_literal fresh b bs (suc n) (Spelled (kinds.Word word)) q some h =
     absurd (not_plain b (take n bs) q (ap starts_with_quote h ∙ keyword_plain word))
@@ -124,7 +130,7 @@ only_literal fresh b bs (suc n) (Spelled (kinds.Ident name)) q some h =
 only_literal fresh b bs (suc n) (Spelled (kinds.Number z)) q some (inl h) =
     absurd (no_number_text b (take n bs) q h.0)
 only_literal fresh b bs (suc n) (Spelled (kinds.Number z)) q some (inr h) =
-    let same : b ≡ 39 = head_is b 39 (take n bs) (h.1.0 ++ 39 ∷ []) h.1.1 in
+    let same : b ≡ apostrophe = head_is b apostrophe (take n bs) (h.1.0 ++ apostrophe ∷ []) h.1.1 in
     record {
       values = h.0 ∷ [];
       is = subst (λ (x : ℕ). IsLiteral x (b ∷ take n bs) (h.0 ∷ [])) (sym same) h.1;
@@ -132,7 +138,7 @@ only_literal fresh b bs (suc n) (Spelled (kinds.Number z)) q some (inr h) =
           λ _. refl;
     }
 only_literal fresh b bs (suc n) (Spelled (kinds.Text bytes)) q some h =
-    let same : b ≡ 34 = head_is b 34 (take n bs) (h.0 ++ 34 ∷ []) h.1 in
+    let same : b ≡ double_quote = head_is b double_quote (take n bs) (h.0 ++ double_quote ∷ []) h.1 in
     record {
       values = bytes;
       is = subst (λ (x : ℕ). IsLiteral x (b ∷ take n bs) bytes) (sym same) h;
@@ -240,7 +246,7 @@ none_unclosed fresh b text q h n piece begins =
     never_literal b text n literal.values q h literal.is
 
 -- none begins where a character constant doesn't hold one character
-pub none_many : (fresh : Bool) (b : ℕ) (text values : List ℕ) (n : ℕ) → b ≡ 39 → IsClosedBehind b text values n
+pub none_many : (fresh : Bool) (b : ℕ) (text values : List ℕ) (n : ℕ) → b ≡ apostrophe → IsClosedBehind b text values n
     → length values ≢ 1 → NoneBegins fresh (b ∷ text)
 none_many fresh b text values n e h many k piece begins =
     let literal : LiteralThere b (take k (b ∷ text)) =
@@ -250,7 +256,8 @@ none_many fresh b text values n e h many k piece begins =
     many (sym (ap length same.1) ∙ literal.one e)
 
 -- the string literal that was read
-pub text_begins : (fresh : Bool) (b : ℕ) (text values : List ℕ) (n : ℕ) → b ≡ 34 → IsClosedBehind b text values n
+pub text_begins : (fresh : Bool) (b : ℕ) (text values : List ℕ) (n : ℕ) → b ≡ double_quote
+    → IsClosedBehind b text values n
     → Begins fresh (b ∷ text) (n + 2) (Spelled (kinds.Text values))
 text_begins fresh b text values n e h =
     let is : IsLiteral b (take (n + 2) (b ∷ text)) values = (closed_literal b text values n h).1 in
@@ -258,12 +265,12 @@ text_begins fresh b text values n e h =
     (subst (λ (x : ℕ). IsLiteral x (take (n + 2) (b ∷ text)) values) e is)
 
 -- the character constant that was read
-pub constant_begins : (fresh : Bool) (b : ℕ) (text values : List ℕ) (n value : ℕ) → b ≡ 39
+pub constant_begins : (fresh : Bool) (b : ℕ) (text values : List ℕ) (n value : ℕ) → b ≡ apostrophe
     → IsClosedBehind b text values n → values ≡ value ∷ []
     → Begins fresh (b ∷ text) (n + 2) (Spelled (kinds.Number (twos_complement 1 value)))
 constant_begins fresh b text values n value e h one =
     let is : IsLiteral b (take (n + 2) (b ∷ text)) values = (closed_literal b text values n h).1 in
-    let quoted : IsLiteral 39 (take (n + 2) (b ∷ text)) (value ∷ []) =
+    let quoted : IsLiteral apostrophe (take (n + 2) (b ∷ text)) (value ∷ []) =
     subst (λ (x : ℕ). IsLiteral x (take (n + 2) (b ∷ text)) (value ∷ [])) e
     (subst (λ (vs : List ℕ). IsLiteral b (take (n + 2) (b ∷ text)) vs) one is) in
     literal_begins fresh b text values n (Spelled (kinds.Number (twos_complement 1 value))) (inl e) h

@@ -1,6 +1,7 @@
 -- The longest run of word bytes behind a letter is a piece.
 use Rattle.std.proofs.Common.{◌≡◌, ◌⊎◌, ◌<◌, ◌≤◌, inl, inr, ℕ, zero, suc, Bool, true, false, List, [], ◌∷◌, eqb}
 use Rattle.std.proofs.Common.{take, drop, length, refl, sym, ◌∙◌, ap, subst, arith, IsTrue}
+use Rattle.pcc_base.specs.Ascii.{double_quote, percent, apostrophe, slash, capital_l}
 use Rattle.c_tokens.specs.declared.token.TokenKind.TheVariants as kinds
 use Rattle.std.specs.List.{starts_with}
 use Rattle.pcc_base.specs.declared.keyword.Keyword.{Keyword}
@@ -22,12 +23,14 @@ stops test (b ∷ rest) (suc n) (suc m) all end below within = stops test rest n
 
 -- the rest begins with no `L` before a quote
 abbrev pub IsUnprefixed : List ℕ → Type 0
-IsUnprefixed rest = (quote : ℕ) (others : List ℕ) → rest ≡ 76 ∷ quote ∷ others → (quote ≡ 39) ⊎ (quote ≡ 34) → ⊥
+IsUnprefixed rest =
+    (quote : ℕ) (others : List ℕ) → rest ≡ capital_l ∷ quote ∷ others → (quote ≡ apostrophe) ⊎ (quote ≡ double_quote)
+    → ⊥
 
 -- a letter that is no such `L` isn't where no piece may begin
 word_free : (b : ℕ) (others : List ℕ) → IsTrue (is_letter b) → IsUnprefixed (b ∷ others) → IsBarred (b ∷ others) → ⊥
-word_free b others l un (inl h) = let e : b ≡ 47 = (let e = h.1 in cc) in letter_is_not b 47 l refl e
-word_free b others l un (inr (inl h)) = let e : b ≡ 37 = (let e = h.1 in cc) in letter_is_not b 37 l refl e
+word_free b others l un (inl h) = let e : b ≡ slash = (let e = h.1 in cc) in letter_is_not b slash l refl e
+word_free b others l un (inr (inl h)) = let e : b ≡ percent = (let e = h.1 in cc) in letter_is_not b percent l refl e
 word_free b others l un (inr (inr (inl h))) = un h.0 h.1 h.2 h.3
 word_free b others l un (inr (inr (inr h))) = letter_starts_no_number b others l h.0
 
@@ -94,9 +97,9 @@ ident_begins fresh rest n first within all end un none =
     (λ a e k. ident_at fresh first.0 first.1 n first.3 a e k) all end none)
 
 -- so no `L` before a quote is there where both tests fail
-pub unprefixed : (rest : List ℕ) (r s : Bool) → r ≡ starts_with eqb rest (76 ∷ 39 ∷ []) → r ≡ false
-    → s ≡ starts_with eqb rest (76 ∷ 34 ∷ []) → s ≡ false → IsUnprefixed rest
+pub unprefixed : (rest : List ℕ) (r s : Bool) → r ≡ starts_with eqb rest (capital_l ∷ apostrophe ∷ []) → r ≡ false
+    → s ≡ starts_with eqb rest (capital_l ∷ double_quote ∷ []) → s ≡ false → IsUnprefixed rest
 unprefixed rest r s is fails is_too fails_too quote others e (inl q) =
-    starts_not rest (76 ∷ 39 ∷ []) r is fails others (e ∙ ap (λ x. 76 ∷ x ∷ others) q)
+    starts_not rest (capital_l ∷ apostrophe ∷ []) r is fails others (e ∙ ap (λ x. capital_l ∷ x ∷ others) q)
 unprefixed rest r s is fails is_too fails_too quote others e (inr q) =
-    starts_not rest (76 ∷ 34 ∷ []) s is_too fails_too others (e ∙ ap (λ x. 76 ∷ x ∷ others) q)
+    starts_not rest (capital_l ∷ double_quote ∷ []) s is_too fails_too others (e ∙ ap (λ x. capital_l ∷ x ∷ others) q)

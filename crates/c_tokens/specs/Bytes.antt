@@ -1,6 +1,7 @@
 -- The classes of bytes that tokens are made of (C99 5.2.1, 6.4.2.1, 6.4.4).
 use Rattle.std.specs.Prelude.{◌||◌, ◌&&◌, ℕ, ◌-◌, ◌*◌, ◌+◌, Bool, List, [], ◌∷◌, nat_le, ◌==◌, if◌then◌else◌, codes}
-use Rattle.pcc_base.specs.Ascii.{tab, carriage_return, space, underscore, is_between}
+use Rattle.pcc_base.specs.Ascii.{tab, carriage_return, space, digit_zero, digit_nine, capital_a, capital_f, underscore}
+use Rattle.pcc_base.specs.Ascii.{letter_a, is_between}
 
 -- space, and tab to carriage return: tab, newline, vertical tab, form feed and carriage return
 abbrev pub is_space : ℕ → Bool
@@ -29,7 +30,9 @@ is_word_byte b = is_letter b || is_digit b
 
 -- what a digit is worth
 abbrev pub digit_worth : ℕ → ℕ
-digit_worth b = if nat_le b 57 then b - 48 else (if nat_le b 70 then b - 55 else b - 87)
+digit_worth b =
+    if nat_le b digit_nine then b - digit_zero
+    else (if nat_le b capital_f then b - (capital_a - 10) else b - (letter_a - 10))
 
 -- the number that digits spell in a base, after digits that are worth n
 abbrev pub number_after : ℕ → ℕ → List ℕ → ℕ

@@ -1,7 +1,7 @@
 -- How the inside of a literal is read from left to right, one character at a time (C99 6.4.4.4, 6.4.5).
 use Rattle.std.specs.Prelude.{◌≡◌, ◌≤◌, ◌<◌, ℕ, ◌+◌, Bool, List, [], ◌∷◌, length, take, drop, nat_le, Option, Some}
 use Rattle.std.specs.Prelude.{None, ⊤, ◌==◌, if◌then◌else◌}
-use Rattle.pcc_base.specs.Ascii.{newline, backslash}
+use Rattle.pcc_base.specs.Ascii.{newline, backslash, letter_x}
 use Rattle.c_tokens.specs.declared.quotes.Reading.{Reading}
 use Rattle.c_tokens.specs.declared.quotes.Reading.TheVariants.{Character, Closing, Faulty}
 use Rattle.c_tokens.specs.Bytes.{is_octal_digit, is_hexadecimal_digit, number_in}
@@ -40,7 +40,7 @@ abbrev pub read_escape : List ℕ → Reading
 read_escape [] = Faulty
 read_escape (e ∷ rest) =
     if is_octal_digit e then coded_reading 8 1 (front_of is_octal_digit (take 3 (e ∷ rest)))
-    else (if e == 120 then coded_reading 16 2 (front_of is_hexadecimal_digit rest)
+    else (if e == letter_x then coded_reading 16 2 (front_of is_hexadecimal_digit rest)
     else simple_reading (value_in simple_escapes e))
 
 -- what stands at the front of the rest of a literal

@@ -4,7 +4,10 @@ use Rattle.std.specs.Prelude.{codes}
 use Rattle.std.specs.Prelude.{if◌then◌else◌, IsTrue, IsFalse, ℤ}
 use Rattle.std.specs.List.{AllByRecursion}
 use Rattle.byteorder.specs.Endian.{twos_complement}
-use Rattle.pcc_base.specs.Ascii.{newline, apostrophe, plus, minus, dot, backslash}
+use Rattle.pcc_base.specs.Ascii.{bell, backspace, tab, newline, vertical_tab, form_feed, carriage_return, double_quote}
+use Rattle.pcc_base.specs.Ascii.{apostrophe, plus, minus, dot, digit_zero, question_mark, capital_e, capital_p}
+use Rattle.pcc_base.specs.Ascii.{capital_x, backslash, letter_a, letter_b, letter_e, letter_f, letter_n, letter_p}
+use Rattle.pcc_base.specs.Ascii.{letter_r, letter_t, letter_v, letter_x}
 use Rattle.c_tokens.specs.Bytes.{is_digit, is_octal_digit, is_hexadecimal_digit, is_letter, number_in}
 
 -- each of the bytes passes the test
@@ -15,7 +18,7 @@ AllPass test bytes = AllByRecursion (λ b. IsTrue (test b)) bytes
 
 -- e, E, p and P, behind which a sign belongs to a preprocessing number
 abbrev pub is_exponent_letter : ℕ → Bool
-is_exponent_letter b = (b == 101 || b == 69) || (b == 112 || b == 80)
+is_exponent_letter b = (b == letter_e || b == capital_e) || (b == letter_p || b == capital_p)
 
 -- what may follow in a preprocessing number behind its start: digits, letters and dots, and signs
 -- behind the letter of an exponent (C99 6.4.8)
@@ -41,23 +44,24 @@ StartsNumber (b ∷ c ∷ rest) = IsTrue (is_digit b) ⊎ ((b ≡ dot) × IsTrue
 -- an integer constant without suffix: decimal, octal or hexadecimal (C99 6.4.4.1)
 abbrev pub ConstantValue : List ℕ → ℕ → Type 0
 ConstantValue bytes value =
-    ((d : ℕ) × (ds : List ℕ) × (bytes ≡ d ∷ ds) × IsTrue (is_digit d) × (d ≢ 48) × AllPass is_digit ds
+    ((d : ℕ) × (ds : List ℕ) × (bytes ≡ d ∷ ds) × IsTrue (is_digit d) × (d ≢ digit_zero) × AllPass is_digit ds
     × (value ≡ number_in 10 bytes))
-    ⊎ ((ds : List ℕ) × (bytes ≡ 48 ∷ ds) × AllPass is_octal_digit ds × (value ≡ number_in 8 ds))
-    ⊎ ((x : ℕ) × (ds : List ℕ) × (bytes ≡ 48 ∷ x ∷ ds) × ((x ≡ 120) ⊎ (x ≡ 88)) × (0 < length ds)
-    × AllPass is_hexadecimal_digit ds × (value ≡ number_in 16 ds))
+    ⊎ ((ds : List ℕ) × (bytes ≡ digit_zero ∷ ds) × AllPass is_octal_digit ds × (value ≡ number_in 8 ds))
+    ⊎ ((x : ℕ) × (ds : List ℕ) × (bytes ≡ digit_zero ∷ x ∷ ds) × ((x ≡ letter_x) ⊎ (x ≡ capital_x))
+    × (0 < length ds) × AllPass is_hexadecimal_digit ds × (value ≡ number_in 16 ds))
 
--- a constant of the profile
+-- a constant of the language
 abbrev pub IsConstant : List ℕ → ℕ → Type 0
-IsConstant bytes value = ConstantValue bytes value × (value ≤ 2147483647)
+IsConstant bytes value = ConstantValue bytes value × (value ≤ 0x7FFFFFFF)
 
 -- ---- characters
 
 -- the escapes of one letter and what they are worth (C99 6.4.4.4)
 abbrev pub simple_escapes : List (ℕ × ℕ)
 simple_escapes =
-    (39, 39) ∷ (34, 34) ∷ (63, 63) ∷ (92, 92) ∷ (97, 7) ∷ (98, 8) ∷ (102, 12) ∷ (110, 10) ∷ (114, 13) ∷ (116, 9)
-    ∷ (118, 11) ∷ []
+    (apostrophe, apostrophe) ∷ (double_quote, double_quote) ∷ (question_mark, question_mark) ∷ (backslash, backslash)
+    ∷ (letter_a, bell) ∷ (letter_b, backspace) ∷ (letter_f, form_feed) ∷ (letter_n, newline)
+    ∷ (letter_r, carriage_return) ∷ (letter_t, tab) ∷ (letter_v, vertical_tab) ∷ []
 
 abbrev pub EscapeIn : List (ℕ × ℕ) → ℕ → ℕ → Type 0
 EscapeIn [] letter value = ⊥

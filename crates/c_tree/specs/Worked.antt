@@ -1,5 +1,6 @@
 -- Programs that the definitions are read on, as their sources' typed trees.
 use Rattle.std.specs.Prelude.{ℕ, zero, suc, ℤ, pos, List, [], ◌∷◌, codes, map, replicate, Some, None}
+use Rattle.pcc_base.specs.Ascii.{letter_a, letter_b}
 use Rattle.pcc_base.specs.Outcome.{Listing, Number, Scalar as ScalarPart, Visit}
 use Rattle.c_tree.specs.declared.expression.BinaryOp.TheVariants.{Add, Subtract, Less}
 use Rattle.c_tree.specs.declared.expression.ArrayRef.TheVariants.{Frame}
@@ -138,7 +139,7 @@ main_with_switch = record {
 -- the program of both, whose `main` has this number
 abbrev pub two_functions : ℕ → Program
 two_functions main = record {
-  objects = record { element = Char; elements = pos 97 ∷ pos 98 ∷ pos 0 ∷ [] } ∷ [];
+  objects = record { element = Char; elements = pos letter_a ∷ pos letter_b ∷ pos 0 ∷ [] } ∷ [];
   functions = f_with_pointer ∷ main_with_switch ∷ [];
   main = main;
 }

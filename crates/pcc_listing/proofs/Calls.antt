@@ -2,8 +2,9 @@
 use Rattle.std.proofs.Common.{◌≡◌, ℕ, List, [], ◌∷◌, ◌++◌, codes, decimal, flat_map, map, Option, sym, ap, ◌∙◌}
 use Rattle.std.proofs.Common.{append_assoc}
 use Rattle.std.proofs.lemmas.List.{append-nil}
+use Rattle.pcc_base.specs.Ascii.{newline, space}
 use Rattle.flow_graph.specs.declared.op.Op.TheVariants as op
-use Rattle.pcc_listing.specs.Lines.{argument_text, if_any_text, newline, op_text, spaced}
+use Rattle.pcc_listing.specs.Lines.{argument_text, if_any_text, op_text, spaced}
 
 -- a word and then numbers
 spaced-numbers : (w : List ℕ) (xs : List ℕ) → spaced (w ∷ map decimal xs) ≡ w ++ flat_map argument_text xs
@@ -22,12 +23,12 @@ call-words d f xs =
     (spaced-numbers (decimal f) xs)
 
 pub call-text : (d : Option ℕ) (f : ℕ) (xs r : List ℕ) → op_text (op.Call d f xs) ++ r
-    ≡ codes "call " ++ (if_any_text d ++ (32 ∷ (decimal f ++ (flat_map argument_text xs ++ r))))
+    ≡ codes "call " ++ (if_any_text d ++ (space ∷ (decimal f ++ (flat_map argument_text xs ++ r))))
 call-text d f xs r =
     ap (λ (t : List ℕ). t ++ r) (call-words d f xs) ∙ spread (if_any_text d) (decimal f) (flat_map argument_text xs)
   where
     spread : (a b c : List ℕ) → (codes "call" ++ codes " " ++ (a ++ codes " " ++ (b ++ c))) ++ r
-        ≡ codes "call " ++ (a ++ (32 ∷ (b ++ (c ++ r))))
+        ≡ codes "call " ++ (a ++ (space ∷ (b ++ (c ++ r))))
     spread a b c = simp append_assoc
 
 -- the words of a call that are put behind others, one after the other

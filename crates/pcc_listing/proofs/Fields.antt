@@ -6,6 +6,7 @@ use Rattle.std.proofs.lemmas.Bool.Decides.{nat_tests}
 use Rattle.std.specs.Prelude.{⊤}
 use Rattle.std.specs.List.{AllByRecursion}
 use Rattle.std.proofs.lemmas.Fmt.{decimal_injective, decimal_by_steps}
+use Rattle.pcc_base.specs.Ascii.{digit_zero}
 use Rattle.pcc_listing.specs.Lines.{hexadecimal, hexadecimal_digit, address_text}
 use Rattle.pcc_base.specs.Names.{IsDigit}
 use Rattle.pcc_base.proofs.Lists.{all-append}
@@ -47,7 +48,7 @@ fixed-one (x ∷ xs) (y ∷ ys) r s l e =
 pub decimal-digits : (n : ℕ) → n < 2 ^ 64 → AllByRecursion IsDigit (decimal n)
 decimal-digits = decimal_by_steps (λ n ds. AllByRecursion IsDigit ds)
     (λ n h. ((omega arith, omega arith), tt))
-    (λ n ds h all. all-append IsDigit ds ((48 + n % 10) ∷ []) all ((omega arith, omega arith), tt))
+    (λ n ds h all. all-append IsDigit ds ((digit_zero + n % 10) ∷ []) all ((omega arith, omega arith), tt))
 
 -- a number with no digit behind it
 pub number-one : (n m : ℕ) (r s : List ℕ) → IsNumber n → IsNumber m → Stops IsDigit r → Stops IsDigit s → decimal n ++ r

@@ -2,6 +2,7 @@
 use Rattle.std.proofs.Common.{◌≡◌, ◌<◌, ℕ, List, [], ◌∷◌, ◌++◌, codes, get_or, ap, sym, refl, ◌∙◌, arith, append_assoc}
 use Rattle.std.specs.List.{AllByRecursion}
 use Rattle.std.proofs.lemmas.List.Elements.{recursion_from_All}
+use Rattle.pcc_base.specs.Ascii.{newline, minus, dot, digit_zero}
 use Rattle.pcc_listing.specs.Lines.{named_text}
 use Rattle.pcc_listing.specs.Maps.{Named, NamesScalar, NamesArray, NamesIndex, Temporary, IsNamed}
 use Rattle.pcc_base.specs.Names.{IsName, IsNameByte}
@@ -15,19 +16,19 @@ front (NamesIndex name) = name
 front Temporary = []
 
 abbrev back : Named → List ℕ → List ℕ
-back (NamesScalar name) r = 10 ∷ r
-back (NamesArray name) r = codes ".base" ++ (10 ∷ r)
-back (NamesIndex name) r = codes ".index" ++ (10 ∷ r)
-back Temporary r = 45 ∷ 10 ∷ r
+back (NamesScalar name) r = newline ∷ r
+back (NamesArray name) r = codes ".base" ++ (newline ∷ r)
+back (NamesIndex name) r = codes ".index" ++ (newline ∷ r)
+back Temporary r = minus ∷ newline ∷ r
 
-named-parts : (x : Named) (r : List ℕ) → named_text x ++ (10 ∷ r) ≡ front x ++ back x r
+named-parts : (x : Named) (r : List ℕ) → named_text x ++ (newline ∷ r) ≡ front x ++ back x r
 named-parts (NamesScalar name) r = refl
-named-parts (NamesArray name) r = append_assoc name (codes ".base") (10 ∷ r)
-named-parts (NamesIndex name) r = append_assoc name (codes ".index") (10 ∷ r)
+named-parts (NamesArray name) r = append_assoc name (codes ".base") (newline ∷ r)
+named-parts (NamesIndex name) r = append_assoc name (codes ".index") (newline ∷ r)
 named-parts Temporary r = refl
 
 -- the bytes below the digits are in no name
-pub no-name-byte : (c : ℕ) → c < 48 → IsNameByte c → ⊥
+pub no-name-byte : (c : ℕ) → c < digit_zero → IsNameByte c → ⊥
 no-name-byte c low h = grind arith
 
 pub name-bytes : (name : List ℕ) → IsName name → AllByRecursion IsNameByte name
@@ -40,10 +41,10 @@ front-bytes (NamesIndex name) ok = name-bytes name ok
 front-bytes Temporary ok = tt
 
 back-stops : (x : Named) (r : List ℕ) → Stops IsNameByte (back x r)
-back-stops (NamesScalar name) r = no-name-byte 10 (omega arith)
-back-stops (NamesArray name) r = no-name-byte 46 (omega arith)
-back-stops (NamesIndex name) r = no-name-byte 46 (omega arith)
-back-stops Temporary r = no-name-byte 45 (omega arith)
+back-stops (NamesScalar name) r = no-name-byte newline (omega arith)
+back-stops (NamesArray name) r = no-name-byte dot (omega arith)
+back-stops (NamesIndex name) r = no-name-byte dot (omega arith)
+back-stops Temporary r = no-name-byte minus (omega arith)
 
 kinds-one : (x y : Named) (r s : List ℕ) → front x ≡ front y → back x r ≡ back y s → (x ≡ y) × (r ≡ s)
 kinds-one (NamesScalar name) (NamesScalar other) r s f b = (ap NamesScalar f, cc)
@@ -56,8 +57,8 @@ kinds-one (NamesIndex name) (NamesArray other) r s f b = let h = ap (λ (l : Lis
     absurd (omega arith)
 kinds-one x y r s f b = let h = ap (λ (l : List ℕ). get_or l 0 0) b in absurd (omega arith)
 
-pub named-one : (x y : Named) (r s : List ℕ) → IsNamed x → IsNamed y → named_text x ++ (10 ∷ r)
-    ≡ named_text y ++ (10 ∷ s) → (x ≡ y) × (r ≡ s)
+pub named-one : (x y : Named) (r s : List ℕ) → IsNamed x → IsNamed y → named_text x ++ (newline ∷ r)
+    ≡ named_text y ++ (newline ∷ s) → (x ≡ y) × (r ≡ s)
 named-one x y r s ok ok' e =
     let parts = field-one IsNameByte (front x) (front y) (back x r) (back y s) (front-bytes x ok) (front-bytes y ok')
     (back-stops x r) (back-stops y s)

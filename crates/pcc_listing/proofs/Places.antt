@@ -1,8 +1,9 @@
 -- The text of a place determines it.
-use Rattle.std.proofs.Common.{◌≡◌, ◌≤◌, ℕ, ◌+◌, ◌*◌, List, ◌∷◌, ◌++◌, length, codes, decimal, get_or, ap, sym, refl}
-use Rattle.std.proofs.Common.{◌∙◌, arith, append_assoc}
+use Rattle.std.proofs.Common.{◌≡◌, ◌≤◌, ℕ, ◌+◌, ◌*◌, List, ◌∷◌, ◌++◌, length, drop, codes, decimal}
+use Rattle.std.proofs.Common.{get_or, ap, sym, refl, ◌∙◌, arith, append_assoc}
 use Rattle.std.proofs.lemmas.List.{append_cancel_left}
 use Rattle.std.specs.Prelude.{if◌then◌else◌, ◌==◌}
+use Rattle.pcc_base.specs.Ascii.{right_bracket, letter_a, letter_d, letter_e}
 use Rattle.ia32_regs.specs.declared.names.Reg32.{Reg32}
 use Rattle.ia32_regs.specs.declared.names.Reg32.TheVariants.{Eax, Ecx, Edx, Ebx, Esp, Ebp, Esi, Edi}
 use Rattle.ia32_regs.specs.declared.names.Reg8.{Reg8}
@@ -11,14 +12,20 @@ use Rattle.pcc_listing.specs.Lines.{register_text, byte_text, place_text}
 use Rattle.ia32_regs.specs.Places.{Place, InWord, InByte, InSlot, IsPlace}
 use Rattle.pcc_listing.proofs.Fields.{fixed-one, number-at}
 
--- the register whose name ends in these two bytes
+-- two letters as one number, of which each letter has a byte
+abbrev letters : List ℕ → ℕ
+letters text = get_or text 0 0 * 0x100 + get_or text 1 0
+
+-- the register whose name ends in these two letters
 abbrev register_by : ℕ → Reg32
 register_by n =
-    if n == 24952 then Eax else (if n == 25464 then Ecx else (if n == 25720 then Edx else (if n == 25208 then Ebx else
-    (if n == 29552 then Esp else (if n == 25200 then Ebp else (if n == 29545 then Esi else Edi))))))
+    if n == letters (codes "ax") then Eax else (if n == letters (codes "cx") then Ecx else
+    (if n == letters (codes "dx") then Edx else (if n == letters (codes "bx") then Ebx else
+    (if n == letters (codes "sp") then Esp else (if n == letters (codes "bp") then Ebp else
+    (if n == letters (codes "si") then Esi else Edi))))))
 
 abbrev register_named : List ℕ → Reg32
-register_named text = register_by (get_or text 1 0 * 256 + get_or text 2 0)
+register_named text = register_by (letters (drop 1 text))
 
 register-back : (r : Reg32) → register_named (register_text r) ≡ r
 register-back Eax = refl
@@ -40,7 +47,7 @@ register-length Ebp = refl
 register-length Esi = refl
 register-length Edi = refl
 
-register-first : (r : Reg32) (rest : List ℕ) → get_or (register_text r ++ rest) 0 0 ≡ 101
+register-first : (r : Reg32) (rest : List ℕ) → get_or (register_text r ++ rest) 0 0 ≡ letter_e
 register-first Eax rest = refl
 register-first Ecx rest = refl
 register-first Edx rest = refl
@@ -53,11 +60,13 @@ register-first Edi rest = refl
 -- the byte register with this name
 abbrev byte_by : ℕ → Reg8
 byte_by n =
-    if n == 24940 then Al else (if n == 25452 then Cl else (if n == 25708 then Dl else (if n == 25196 then Bl else
-    (if n == 24936 then Ah else (if n == 25448 then Ch else (if n == 25704 then Dh else Bh))))))
+    if n == letters (codes "al") then Al else (if n == letters (codes "cl") then Cl else
+    (if n == letters (codes "dl") then Dl else (if n == letters (codes "bl") then Bl else
+    (if n == letters (codes "ah") then Ah else (if n == letters (codes "ch") then Ch else
+    (if n == letters (codes "dh") then Dh else Bh))))))
 
 abbrev byte_named : List ℕ → Reg8
-byte_named text = byte_by (get_or text 0 0 * 256 + get_or text 1 0)
+byte_named text = byte_by (letters text)
 
 byte-back : (r : Reg8) → byte_named (byte_text r) ≡ r
 byte-back Al = refl
@@ -80,8 +89,8 @@ byte-length Dh = refl
 byte-length Bh = refl
 
 -- the name of a byte register begins with one of the letters a to d
-byte-first : (r : Reg8) (rest : List ℕ) → (97 ≤ get_or (byte_text r ++ rest) 0 0)
-    × (get_or (byte_text r ++ rest) 0 0 ≤ 100)
+byte-first : (r : Reg8) (rest : List ℕ) → (letter_a ≤ get_or (byte_text r ++ rest) 0 0)
+    × (get_or (byte_text r ++ rest) 0 0 ≤ letter_d)
 byte-first Al rest = (omega arith, omega arith)
 byte-first Cl rest = (omega arith, omega arith)
 byte-first Dl rest = (omega arith, omega arith)
@@ -95,15 +104,17 @@ byte-first Bh rest = (omega arith, omega arith)
 pub first-same : (xs ys : List ℕ) → xs ≡ ys → get_or xs 0 0 ≡ get_or ys 0 0
 first-same xs ys e = ap (λ (l : List ℕ). get_or l 0 0) e
 
-slot-text : (below : ℕ) (r : List ℕ) → place_text (InSlot below) ++ r ≡ codes "[ebp-" ++ (decimal below ++ (93 ∷ r))
+slot-text : (below : ℕ) (r : List ℕ)
+    → place_text (InSlot below) ++ r ≡ codes "[ebp-" ++ (decimal below ++ (right_bracket ∷ r))
 slot-text below r = simp append_assoc
 
 slot-one : (n m : ℕ) (r s : List ℕ) → IsPlace (InSlot n) → IsPlace (InSlot m) → place_text (InSlot n) ++ r
     ≡ place_text (InSlot m) ++ s → (n ≡ m) × (r ≡ s)
 slot-one n m r s ok ok' e =
-    let e1 : codes "[ebp-" ++ (decimal n ++ (93 ∷ r)) ≡ codes "[ebp-" ++ (decimal m ++ (93 ∷ s)) = sym (slot-text n r)
-    ∙ e ∙ slot-text m s in
-    number-at 93 n m r s (λ h. omega arith) (omega arith) (omega arith) (append_cancel_left (codes "[ebp-") _ _ e1)
+    let e1 : codes "[ebp-" ++ (decimal n ++ (right_bracket ∷ r)) ≡ codes "[ebp-" ++ (decimal m ++ (right_bracket ∷ s)) =
+    sym (slot-text n r) ∙ e ∙ slot-text m s in
+    number-at right_bracket n m r s (λ h. omega arith) (omega arith) (omega arith)
+    (append_cancel_left (codes "[ebp-") _ _ e1)
 
 pub place-one : (x y : Place) (r s : List ℕ) → IsPlace x → IsPlace y → place_text x ++ r ≡ place_text y ++ s → (x ≡ y)
     × (r ≡ s)

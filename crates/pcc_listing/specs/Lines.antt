@@ -3,6 +3,7 @@
 use Rattle.std.specs.Prelude.{ℕ, zero, suc, ◌+◌, ◌/◌, ◌%◌, List, [], ◌∷◌, ◌++◌, flat_map, map, codes, decimal, nat_lt}
 use Rattle.std.specs.Prelude.{if◌then◌else◌, Option, Some, None}
 use Rattle.std.specs.Fmt.{signed_decimal}
+use Rattle.pcc_base.specs.Ascii.{newline, digit_zero, letter_a}
 use Rattle.pcc_base.specs.declared.run.Width.{Width}
 use Rattle.pcc_base.specs.declared.run.Width.TheVariants.{One, Two}
 use Rattle.ia32_regs.specs.declared.names.Reg32.{Reg32}
@@ -62,11 +63,8 @@ lines_of m = numbered object_lines 0 m.objects ++ numbered function_lines 0 m.fu
 
 -- ---- fields
 
-abbrev pub newline : ℕ
-newline = 10
-
 abbrev pub hexadecimal_digit : ℕ → ℕ
-hexadecimal_digit d = if nat_lt d 10 then 48 + d else 87 + d
+hexadecimal_digit d = if nat_lt d 10 then digit_zero + d else letter_a - 10 + d
 
 -- the lowest k hexadecimal digits of n, the highest first
 abbrev pub hexadecimal : ℕ → ℕ → List ℕ

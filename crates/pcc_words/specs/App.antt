@@ -4,6 +4,7 @@ use Rattle.clap.specs.Lexer.{usize_max}
 use Rattle.clap.specs.Words.{App, Rule, Text, new_app, new_rule, with_rule, with_subcommand}
 use Rattle.clap.specs.declared.builder.action.ArgAction.TheVariants.{Set, Append}
 use Rattle.clap.specs.declared.builder.value_parser.ValueParser.TheVariants.{Unsigned}
+use Rattle.pcc_base.specs.Ascii.{letter_o}
 
 -- an argument that has one value, and has to be there
 abbrev pub wanted : Text → Rule
@@ -11,7 +12,7 @@ wanted id = record (new_rule id) { action = Some Set; required = true }
 
 -- `-o NAME`
 abbrev pub name : Rule
-name = record (wanted (codes "NAME")) { short = Some 111 }
+name = record (wanted (codes "NAME")) { short = Some letter_o }
 
 -- `SRC..`
 abbrev pub sources : Rule
@@ -27,7 +28,7 @@ number option standard = record (new_rule (codes "N")) {
   long = Some option;
   action = Some Set;
   defaults = standard ∷ [];
-  parser = Some (Unsigned 0 18446744073709551615);
+  parser = Some (Unsigned 0 0xFFFF_FFFF_FFFF_FFFF);
 }
 
 -- `--steps N`

@@ -6,6 +6,7 @@ use Rattle.std.proofs.lemmas.Bool.{eqb-true}
 use Rattle.std.proofs.lemmas.Bool.Decides.{Decides-eqb}
 use Rattle.std.proofs.lemmas.List.{length-append, length-drop, length-map, take_all}
 use Rattle.std.proofs.lemmas.Slice.Eq.{starts_is}
+use Rattle.pcc_base.specs.Ascii.{newline}
 use Rattle.pcc_base.specs.declared.run.Width.{Width}
 use Rattle.puzzle_board.specs.declared.area.Area.{Area}
 use Rattle.puzzle_board.specs.declared.piece.Kind.{Kind}
@@ -29,16 +30,16 @@ clash r e d = absurd (cc)
 pub no-second :
     (text middle : List ℕ) (q r : Bool) → q ≡ starts_with eqb text (codes "areas") → q ≡ true
     → middle ≡ (words_read area_of (take (length text - 5) (drop 5 text))).1
-    → r ≡ starts_with eqb middle (10 ∷ codes "pieces") → r ≡ false → (areas : List Area)
+    → r ≡ starts_with eqb middle (newline ∷ codes "pieces") → r ≡ false → (areas : List Area)
     (shapes : List (Kind × Width)) → text ≢ shapes_text areas shapes
 no-second text middle q r first begins middle_is second fails areas shapes e =
     let front : text ≡ codes "areas" ++ drop 5 text = (starts_is Decides-eqb text (codes "areas") q first).0 begins in
     let behind = first-line (drop 5 text) areas shapes (sym front ∙ e) in
-    let rest : List ℕ = spaced (map shape_word shapes) ++ 10 ∷ [] in
-    let is : middle ≡ (10 ∷ codes "pieces") ++ rest =
+    let rest : List ℕ = spaced (map shape_word shapes) ++ newline ∷ [] in
+    let is : middle ≡ (newline ∷ codes "pieces") ++ rest =
     middle_is
     ∙ (ap (λ (t : List ℕ). (words_read area_of t).1) (rest-of text 5) ∙ ap (λ (w : List Area × List ℕ). w.1) behind) in
-    clash r ((starts_is Decides-eqb middle (10 ∷ codes "pieces") r second).1 rest is) fails
+    clash r ((starts_is Decides-eqb middle (newline ∷ codes "pieces") r second).1 rest is) fails
 
 -- nor is one with more behind it
 pub no-end :
@@ -47,23 +48,23 @@ pub no-end :
     → end ≡ (words_read shape_of (take (length middle - 7) (drop 7 middle))).1
     → r ≡ is_newline end → r ≡ false → (areas : List Area) (shapes : List (Kind × Width))
     → text ≢ shapes_text areas shapes
-no-end text middle end q r first begins middle_is end_is newline fails areas shapes e =
+no-end text middle end q r first begins middle_is end_is is_line fails areas shapes e =
     let front : text ≡ codes "areas" ++ drop 5 text = (starts_is Decides-eqb text (codes "areas") q first).0 begins in
     let behind = first-line (drop 5 text) areas shapes (sym front ∙ e) in
-    let rest : List ℕ = spaced (map shape_word shapes) ++ 10 ∷ [] in
-    let is : middle ≡ (10 ∷ codes "pieces") ++ rest =
+    let rest : List ℕ = spaced (map shape_word shapes) ++ newline ∷ [] in
+    let is : middle ≡ (newline ∷ codes "pieces") ++ rest =
     middle_is
     ∙ (ap (λ (t : List ℕ). (words_read area_of t).1) (rest-of text 5) ∙ ap (λ (w : List Area × List ℕ). w.1) behind) in
     let line : drop 7 middle ≡ rest = ap (λ (t : List ℕ). drop 7 t) is in
-    let last : end ≡ 10 ∷ [] =
+    let last : end ≡ newline ∷ [] =
     end_is
     ∙ (ap (λ (t : List ℕ). (words_read shape_of t).1) (rest-of middle 7 ∙ line)
     ∙ ap (λ (w : List (Kind × Width) × List ℕ). w.1) (shapes-read shapes [])) in
-    clash r (newline ∙ ap is_newline last) fails
+    clash r (is_line ∙ ap is_newline last) fails
 
-newline-is : (text : List ℕ) → is_newline text ≡ true → text ≡ 10 ∷ []
+newline-is : (text : List ℕ) → is_newline text ≡ true → text ≡ newline ∷ []
 newline-is [] e = absurd (cc)
-newline-is (b ∷ []) e = ap (λ n. n ∷ []) (eqb-true b 10 e)
+newline-is (b ∷ []) e = ap (λ n. n ∷ []) (eqb-true b newline e)
 newline-is (b ∷ c ∷ rest) e = absurd (cc)
 
 -- the parts of a text of two lines
@@ -72,21 +73,21 @@ pub two-lines :
     → q ≡ starts_with eqb text (codes "areas") → q ≡ true
     → areas ≡ (words_read area_of (take (length text - 5) (drop 5 text))).0
     → middle ≡ (words_read area_of (take (length text - 5) (drop 5 text))).1
-    → r ≡ starts_with eqb middle (10 ∷ codes "pieces") → r ≡ true
+    → r ≡ starts_with eqb middle (newline ∷ codes "pieces") → r ≡ true
     → shapes ≡ (words_read shape_of (take (length middle - 7) (drop 7 middle))).0
     → end ≡ (words_read shape_of (take (length middle - 7) (drop 7 middle))).1
     → t ≡ is_newline end → t ≡ true → text ≡ shapes_text areas shapes
-two-lines text middle end areas shapes q r t first begins areas_are middle_is second goes shapes_are end_is newline
+two-lines text middle end areas shapes q r t first begins areas_are middle_is second goes shapes_are end_is is_line
     ends =
     let front : text ≡ codes "areas" ++ drop 5 text = (starts_is Decides-eqb text (codes "areas") q first).0 begins in
-    let line : middle ≡ 10 ∷ (codes "pieces" ++ drop 7 middle) =
-    (starts_is Decides-eqb middle (10 ∷ codes "pieces") r second).0 goes in
+    let line : middle ≡ newline ∷ (codes "pieces" ++ drop 7 middle) =
+    (starts_is Decides-eqb middle (newline ∷ codes "pieces") r second).0 goes in
     parts-are text (drop 5 text) (drop 7 middle) [] areas shapes front
     (areas_are ∙ ap (λ (s : List ℕ). (words_read area_of s).0) (rest-of text 5))
     (sym (middle_is ∙ ap (λ (s : List ℕ). (words_read area_of s).1) (rest-of text 5)) ∙ line)
     (shapes_are ∙ ap (λ (s : List ℕ). (words_read shape_of s).0) (rest-of middle 7))
     (sym (end_is ∙ ap (λ (s : List ℕ). (words_read shape_of s).1) (rest-of middle 7))
-    ∙ newline-is end (sym newline ∙ ends))
+    ∙ newline-is end (sym is_line ∙ ends))
 
 -- ---- boards
 
@@ -96,8 +97,8 @@ pub no-board :
     → IsNoBoard text
 no-board text none areas pieces numbered e =
     none areas (map (λ (p : Piece). let s : Kind × Width = (p.kind, p.width) in s) pieces)
-    (e ∙ ap (λ (ws : List (List ℕ)). codes "areas" ++ (spaced (map area_word areas) ++ 10 ∷ (codes "pieces"
-    ++ (spaced ws ++ 10 ∷ [])))) (shapes-of pieces))
+    (e ∙ ap (λ (ws : List (List ℕ)). codes "areas" ++ (spaced (map area_word areas) ++ newline ∷ (codes "pieces"
+    ++ (spaced ws ++ newline ∷ [])))) (shapes-of pieces))
 
 pub read-as :
     (text : List ℕ) (board : Puzzle) (areas : List Area) (shapes : List (Kind × Width))
@@ -106,8 +107,8 @@ read-as text board areas shapes text_is is =
     rw is (record {
       numbered = numbered-from 0 shapes;
       text_is = text_is
-          ∙ ap (λ (ws : List (List ℕ)). codes "areas" ++ (spaced (map area_word areas) ++ 10 ∷ (codes "pieces"
-          ++ (spaced ws ++ 10 ∷ [])))) (sym (words-from 0 shapes));
+          ∙ ap (λ (ws : List (List ℕ)). codes "areas" ++ (spaced (map area_word areas) ++ newline ∷ (codes "pieces"
+          ++ (spaced ws ++ newline ∷ [])))) (sym (words-from 0 shapes));
       fresh = refl;
     })
 
@@ -120,7 +121,7 @@ pub few-areas :
     (text : List ℕ) (areas : List Area) (shapes : List (Kind × Width)) → text ≡ shapes_text areas shapes
     → length areas ≤ length text
 few-areas text areas shapes e =
-    let rest : List ℕ = 10 ∷ (codes "pieces" ++ (spaced (map shape_word shapes) ++ 10 ∷ [])) in
+    let rest : List ℕ = newline ∷ (codes "pieces" ++ (spaced (map shape_word shapes) ++ newline ∷ [])) in
     omega (
       arith,
       ap length e,
@@ -133,8 +134,8 @@ pub few-shapes :
     (text : List ℕ) (areas : List Area) (shapes : List (Kind × Width)) → text ≡ shapes_text areas shapes
     → length shapes ≤ length text
 few-shapes text areas shapes e =
-    let rest : List ℕ = 10 ∷ (codes "pieces" ++ (spaced (map shape_word shapes) ++ 10 ∷ [])) in
-    let end : List ℕ = 10 ∷ [] in
+    let rest : List ℕ = newline ∷ (codes "pieces" ++ (spaced (map shape_word shapes) ++ newline ∷ [])) in
+    let end : List ℕ = newline ∷ [] in
     omega (
       arith,
       ap length e,

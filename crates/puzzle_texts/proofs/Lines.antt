@@ -4,6 +4,7 @@ use Rattle.std.proofs.Common.{refl, sym, ap, arith, ◌∙◌, add-one, append_a
 use Rattle.std.specs.List.{slice_get}
 use Rattle.std.proofs.lemmas.List.{append-nil}
 use Rattle.std.proofs.lemmas.Option.{none-some, same_Some}
+use Rattle.pcc_base.specs.Ascii.{newline, space}
 use Rattle.pcc_base.specs.declared.run.Width.TheVariants.{One}
 use Rattle.puzzle_board.specs.declared.piece.Kind.TheVariants.{X}
 use Rattle.puzzle_board.specs.declared.piece.Piece.{Piece}
@@ -44,10 +45,10 @@ lines-more pieces states i p s e d =
 
 -- a line that is put together piece by piece
 pub put-line :
-    (out a b c d e f g h i number area columns : List ℕ) (k w : ℕ) → a ≡ out ++ number → b ≡ a ++ 32 ∷ []
-    → c ≡ b ++ k ∷ [] → d ≡ c ++ w ∷ [] → e ≡ d ++ 32 ∷ [] → f ≡ e ++ area → g ≡ f ++ 32 ∷ [] → h ≡ g ++ columns
-    → i ≡ h ++ 10 ∷ []
-    → i ≡ out ++ (number ++ (32 ∷ ((k ∷ w ∷ []) ++ (32 ∷ (area ++ (32 ∷ (columns ++ 10 ∷ [])))))))
+    (out a b c d e f g h i number area columns : List ℕ) (k w : ℕ) → a ≡ out ++ number → b ≡ a ++ space ∷ []
+    → c ≡ b ++ k ∷ [] → d ≡ c ++ w ∷ [] → e ≡ d ++ space ∷ [] → f ≡ e ++ area → g ≡ f ++ space ∷ [] → h ≡ g ++ columns
+    → i ≡ h ++ newline ∷ []
+    → i ≡ out ++ (number ++ (space ∷ ((k ∷ w ∷ []) ++ (space ∷ (area ++ (space ∷ (columns ++ newline ∷ [])))))))
 put-line out a b c d e f g h i number area columns k w is-a is-b is-c is-d is-e is-f is-g is-h is-i =
     rw (is-i, is-h, is-g, is-f, is-e, is-d, is-c, is-b, is-a) (simp append_assoc refl)
 

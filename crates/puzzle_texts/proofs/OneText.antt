@@ -1,5 +1,6 @@
 -- A text is that of one board at most.
 use Rattle.std.proofs.Common.{ℕ, suc, ◌≡◌, List, [], ◌∷◌, ◌++◌, map, refl, sym, ap, ◌∙◌, arith}
+use Rattle.pcc_base.specs.Ascii.{newline}
 use Rattle.pcc_base.specs.declared.run.Width.{Width}
 use Rattle.pcc_base.specs.declared.run.Width.TheVariants.{One, Two}
 use Rattle.puzzle_board.specs.declared.area.Area.{Area}
@@ -75,9 +76,9 @@ same-piece p q e f g =
 -- areas, and what is behind them, from the text of both
 areas-one :
     (areas others : List Area) (xs ys : List ℕ)
-    → spaced (map area_word areas) ++ 10 ∷ xs ≡ spaced (map area_word others) ++ 10 ∷ ys
+    → spaced (map area_word areas) ++ newline ∷ xs ≡ spaced (map area_word others) ++ newline ∷ ys
     → (areas ≡ others) × (xs ≡ ys)
-areas-one [] [] xs ys e = (refl, rest-same 10 10 xs ys e)
+areas-one [] [] xs ys e = (refl, rest-same newline newline xs ys e)
 areas-one [] (b ∷ others) xs ys e =
     let first = first-same _ _ _ _ e in absurd (omega (arith, first))
 areas-one (a ∷ areas) [] xs ys e =
@@ -94,7 +95,7 @@ areas-one (a ∷ areas) (b ∷ others) xs ys e =
 -- pieces that are numbered from the same number on
 pieces-one :
     (n : ℕ) (pieces others : List Piece) (xs ys : List ℕ) → IsNumbered n pieces → IsNumbered n others
-    → spaced (map piece_word pieces) ++ 10 ∷ xs ≡ spaced (map piece_word others) ++ 10 ∷ ys → pieces ≡ others
+    → spaced (map piece_word pieces) ++ newline ∷ xs ≡ spaced (map piece_word others) ++ newline ∷ ys → pieces ≡ others
 pieces-one n [] [] xs ys h g e = refl
 pieces-one n [] (q ∷ others) xs ys h g e =
     let first = first-same _ _ _ _ e in absurd (omega (arith, first))

@@ -3,6 +3,8 @@ use Rattle.std.proofs.Common.{ℕ, ◌≡◌, ◌==◌, Bool, true, false, cond,
 use Rattle.std.proofs.Common.{refl, sym, ap, arith, ◌∙◌, ◌≤◌, ◌<◌, length, drop, get_or, append_assoc, codes, suc}
 use Rattle.std.proofs.lemmas.Bool.{eqb-true}
 use Rattle.std.proofs.lemmas.Option.{none-some, same_Some}
+use Rattle.pcc_base.specs.Ascii.{newline, space, digit_one, digit_two, capital_x, capital_y, capital_z, letter_b}
+use Rattle.pcc_base.specs.Ascii.{letter_l, letter_n, letter_u}
 use Rattle.pcc_base.specs.declared.run.Width.{Width}
 use Rattle.pcc_base.specs.declared.run.Width.TheVariants.{One, Two}
 use Rattle.puzzle_board.specs.declared.area.Area.{Area}
@@ -27,23 +29,32 @@ tested n m x other y P false differ e hit miss = miss e
 
 pub column-is : (n : ℕ) (c : Column) → column_of n ≡ Some c → letter_of c ≡ n
 column-is n c e =
-    tested n 98 Both _ c (letter_of c ≡ n) (n == 98) refl e (λ s h. sym (ap letter_of h) ∙ sym s) (λ e.
-    tested n 117 Upper _ c (letter_of c ≡ n) (n == 117) refl e (λ s h. sym (ap letter_of h) ∙ sym s) (λ e.
-    tested n 108 Lower _ c (letter_of c ≡ n) (n == 108) refl e (λ s h. sym (ap letter_of h) ∙ sym s) (λ e.
-    tested n 110 Neither None c (letter_of c ≡ n) (n == 110) refl e (λ s h. sym (ap letter_of h) ∙ sym s) (λ e.
+    tested n letter_b Both _ c (letter_of c ≡ n) (n == letter_b) refl e
+    (λ s h. sym (ap letter_of h) ∙ sym s) (λ e.
+    tested n letter_u Upper _ c (letter_of c ≡ n) (n == letter_u) refl e
+    (λ s h. sym (ap letter_of h) ∙ sym s) (λ e.
+    tested n letter_l Lower _ c (letter_of c ≡ n) (n == letter_l) refl e
+    (λ s h. sym (ap letter_of h) ∙ sym s) (λ e.
+    tested n letter_n Neither None c (letter_of c ≡ n) (n == letter_n) refl e
+    (λ s h. sym (ap letter_of h) ∙ sym s) (λ e.
     absurd (none-some c e)))))
 
 pub kind-is : (n : ℕ) (k : Kind) → kind_of_letter n ≡ Some k → kind_letter k ≡ n
 kind-is n k e =
-    tested n 88 X _ k (kind_letter k ≡ n) (n == 88) refl e (λ s h. sym (ap kind_letter h) ∙ sym s) (λ e.
-    tested n 89 Y _ k (kind_letter k ≡ n) (n == 89) refl e (λ s h. sym (ap kind_letter h) ∙ sym s) (λ e.
-    tested n 90 Z None k (kind_letter k ≡ n) (n == 90) refl e (λ s h. sym (ap kind_letter h) ∙ sym s) (λ e.
+    tested n capital_x X _ k (kind_letter k ≡ n) (n == capital_x) refl e
+    (λ s h. sym (ap kind_letter h) ∙ sym s) (λ e.
+    tested n capital_y Y _ k (kind_letter k ≡ n) (n == capital_y) refl e
+    (λ s h. sym (ap kind_letter h) ∙ sym s) (λ e.
+    tested n capital_z Z None k (kind_letter k ≡ n) (n == capital_z) refl e
+    (λ s h. sym (ap kind_letter h) ∙ sym s) (λ e.
     absurd (none-some k e))))
 
 pub width-is : (n : ℕ) (w : Width) → width_of_digit n ≡ Some w → width_digit w ≡ n
 width-is n w e =
-    tested n 49 One _ w (width_digit w ≡ n) (n == 49) refl e (λ s h. sym (ap width_digit h) ∙ sym s) (λ e.
-    tested n 50 Two None w (width_digit w ≡ n) (n == 50) refl e (λ s h. sym (ap width_digit h) ∙ sym s) (λ e.
+    tested n digit_one One _ w (width_digit w ≡ n) (n == digit_one) refl e
+    (λ s h. sym (ap width_digit h) ∙ sym s) (λ e.
+    tested n digit_two Two None w (width_digit w ≡ n) (n == digit_two) refl e
+    (λ s h. sym (ap width_digit h) ∙ sym s) (λ e.
     absurd (none-some w e)))
 
 pub column-read : (c : Column) → column_of (letter_of c) ≡ Some c
@@ -89,15 +100,16 @@ shape-is a b x e =
 words-are-by :
     {A : Type 0} (f : ℕ → ℕ → Option A) (word : A → List ℕ)
     → ((a b : ℕ) (x : A) → f a b ≡ Some x → word x ≡ a ∷ b ∷ []) → (s a b : ℕ) (rest : List ℕ) (more : List A × List ℕ)
-    (t : Bool) (o : Option A) → (s == 32) ≡ t → cond t (f a b) None ≡ o
+    (t : Bool) (o : Option A) → (s == space) ≡ t → cond t (f a b) None ≡ o
     → rest ≡ spaced (map word more.0) ++ more.1
     → s ∷ a ∷ b ∷ rest
     ≡ spaced (map word (words_by o (s ∷ a ∷ b ∷ rest) more).0) ++ (words_by o (s ∷ a ∷ b ∷ rest) more).1
 words-are-by f word is s a b rest more t None test e behind = refl
 words-are-by f word is s a b rest more false (Some x) test e behind = absurd (none-some x e)
 words-are-by f word is s a b rest more true (Some x) test e behind =
-    ap (λ n. n ∷ a ∷ b ∷ rest) (eqb-true s 32 test)
-    ∙ (ap (λ r. 32 ∷ a ∷ b ∷ r) behind ∙ ap (λ w. (32 ∷ (w ++ spaced (map word more.0))) ++ more.1) (sym (is a b x e)))
+    ap (λ n. n ∷ a ∷ b ∷ rest) (eqb-true s space test)
+    ∙ (ap (λ r. space ∷ a ∷ b ∷ r) behind
+    ∙ ap (λ w. (space ∷ (w ++ spaced (map word more.0))) ++ more.1) (sym (is a b x e)))
 
 pub words-are :
     {A : Type 0} (f : ℕ → ℕ → Option A) (word : A → List ℕ)
@@ -107,11 +119,12 @@ words-are f word is [] = refl
 words-are f word is (s ∷ []) = refl
 words-are f word is (s ∷ a ∷ []) = refl
 words-are f word is (s ∷ a ∷ b ∷ rest) =
-    words-are-by f word is s a b rest (words_read f rest) (s == 32) (word_at f (s ∷ a ∷ b ∷ rest)) refl refl
+    words-are-by f word is s a b rest (words_read f rest) (s == space) (word_at f (s ∷ a ∷ b ∷ rest)) refl refl
     (words-are f word is rest)
 
 -- no words begin with a newline
-newline-read : {A : Type 0} (f : ℕ → ℕ → Option A) (rest : List ℕ) → words_read f (10 ∷ rest) ≡ ([], 10 ∷ rest)
+newline-read : {A : Type 0} (f : ℕ → ℕ → Option A) (rest : List ℕ)
+    → words_read f (newline ∷ rest) ≡ ([], newline ∷ rest)
 newline-read f [] = refl
 newline-read f (a ∷ []) = refl
 newline-read f (a ∷ b ∷ rest) = refl
@@ -119,7 +132,7 @@ newline-read f (a ∷ b ∷ rest) = refl
 -- the areas of a text are read again
 pub areas-read :
     (areas : List Area) (rest : List ℕ)
-    → words_read area_of (spaced (map area_word areas) ++ 10 ∷ rest) ≡ (areas, 10 ∷ rest)
+    → words_read area_of (spaced (map area_word areas) ++ newline ∷ rest) ≡ (areas, newline ∷ rest)
 areas-read [] rest = newline-read area_of rest
 areas-read (a ∷ areas) rest =
     rw (column-read a.low, column-read a.high, areas-read areas rest) refl
@@ -127,7 +140,7 @@ areas-read (a ∷ areas) rest =
 -- and so are kinds and widths
 pub shapes-read :
     (shapes : List (Kind × Width)) (rest : List ℕ)
-    → words_read shape_of (spaced (map shape_word shapes) ++ 10 ∷ rest) ≡ (shapes, 10 ∷ rest)
+    → words_read shape_of (spaced (map shape_word shapes) ++ newline ∷ rest) ≡ (shapes, newline ∷ rest)
 shapes-read [] rest = newline-read shape_of rest
 shapes-read (s ∷ shapes) rest =
     rw (kind-read s.0, width-read s.1, shapes-read shapes rest) refl
@@ -169,7 +182,7 @@ word-short f (s ∷ a ∷ b ∷ rest) h = absurd (omega arith)
 -- by its bytes
 pub word-by :
     {A : Type 0} (f : ℕ → ℕ → Option A) (text : List ℕ) (d e g : ℕ) → 3 ≤ length text
-    → word_at f text ≡ cond (get_or text 0 d == 32) (f (get_or text 1 e) (get_or text 2 g)) None
+    → word_at f text ≡ cond (get_or text 0 d == space) (f (get_or text 1 e) (get_or text 2 g)) None
 word-by f [] d e g h = absurd (omega arith)
 word-by f (s ∷ []) d e g h = absurd (omega arith)
 word-by f (s ∷ a ∷ []) d e g h = absurd (omega arith)
@@ -194,32 +207,33 @@ word-step f text rest next words more x e is pushed (front, behind) =
 pub parts-are :
     (text : List ℕ) (behind areas_rest pieces_rest : List ℕ) (areas : List Area) (shapes : List (Kind × Width))
     → text ≡ codes "areas" ++ behind → areas ≡ (words_read area_of behind).0
-    → (words_read area_of behind).1 ≡ 10 ∷ (codes "pieces" ++ areas_rest)
-    → shapes ≡ (words_read shape_of areas_rest).0 → (words_read shape_of areas_rest).1 ≡ 10 ∷ []
+    → (words_read area_of behind).1 ≡ newline ∷ (codes "pieces" ++ areas_rest)
+    → shapes ≡ (words_read shape_of areas_rest).0 → (words_read shape_of areas_rest).1 ≡ newline ∷ []
     → text ≡ shapes_text areas shapes
 parts-are text behind areas_rest pieces_rest areas shapes is areas_are middle shapes_are end =
-    let one : behind ≡ spaced (map area_word areas) ++ 10 ∷ (codes "pieces" ++ areas_rest) =
+    let one : behind ≡ spaced (map area_word areas) ++ newline ∷ (codes "pieces" ++ areas_rest) =
     words-are area_of area_word area-is behind
     ∙ (ap (λ (all : List Area). spaced (map area_word all) ++ (words_read area_of behind).1) (sym areas_are)
     ∙ ap (λ (r : List ℕ). spaced (map area_word areas) ++ r) middle) in
-    let two : areas_rest ≡ spaced (map shape_word shapes) ++ 10 ∷ [] =
+    let two : areas_rest ≡ spaced (map shape_word shapes) ++ newline ∷ [] =
     words-are shape_of shape_word shape-is areas_rest
     ∙ (ap (λ (ss : List (Kind × Width)). spaced (map shape_word ss) ++ (words_read shape_of areas_rest).1)
     (sym shapes_are)
     ∙ ap (λ (r : List ℕ). spaced (map shape_word shapes) ++ r) end) in
     is ∙ (ap (λ (r : List ℕ). codes "areas" ++ r) one
-    ∙ ap (λ (r : List ℕ). codes "areas" ++ (spaced (map area_word areas) ++ 10 ∷ (codes "pieces" ++ r))) two)
+    ∙ ap (λ (r : List ℕ). codes "areas" ++ (spaced (map area_word areas) ++ newline ∷ (codes "pieces" ++ r))) two)
 
 -- the words of a text of two lines are its areas, and behind them stands the second line
 pub first-line :
     (behind : List ℕ) (areas : List Area) (shapes : List (Kind × Width))
     → codes "areas" ++ behind ≡ shapes_text areas shapes
-    → words_read area_of behind ≡ (areas, 10 ∷ (codes "pieces" ++ (spaced (map shape_word shapes) ++ 10 ∷ [])))
+    → words_read area_of behind
+    ≡ (areas, newline ∷ (codes "pieces" ++ (spaced (map shape_word shapes) ++ newline ∷ [])))
 first-line behind areas shapes e =
     let same : behind
-    ≡ spaced (map area_word areas) ++ 10 ∷ (codes "pieces" ++ (spaced (map shape_word shapes) ++ 10 ∷ [])) =
+    ≡ spaced (map area_word areas) ++ newline ∷ (codes "pieces" ++ (spaced (map shape_word shapes) ++ newline ∷ [])) =
     cc in
-    rw same (areas-read areas (codes "pieces" ++ (spaced (map shape_word shapes) ++ 10 ∷ [])))
+    rw same (areas-read areas (codes "pieces" ++ (spaced (map shape_word shapes) ++ newline ∷ [])))
 
 -- pieces are numbered, and have the words of their kinds and widths
 pub numbered-from : (n : ℕ) (shapes : List (Kind × Width)) → IsNumbered n (pieces_from n shapes)

@@ -1,6 +1,8 @@
 -- The text of a board as a map from bytes: words of two letters behind a space, as far as there are any.
 use Rattle.std.specs.Prelude.{ℕ, suc, Bool, false, ◌≡◌, ◌≢◌, ◌==◌, if◌then◌else◌, List}
 use Rattle.std.specs.Prelude.{[], ◌∷◌, ◌++◌, codes, map, Option, Some, None}
+use Rattle.pcc_base.specs.Ascii.{newline, space, digit_one, digit_two, capital_x, capital_y, capital_z, letter_b}
+use Rattle.pcc_base.specs.Ascii.{letter_l, letter_n, letter_u}
 use Rattle.pcc_base.specs.declared.run.Width.{Width}
 use Rattle.pcc_base.specs.declared.run.Width.TheVariants.{One, Two}
 use Rattle.puzzle_board.specs.declared.area.Area.{Area}
@@ -17,14 +19,16 @@ use Rattle.puzzle_texts.specs.Texts.{IsNumbered, area_word, board_text, kind_let
 
 abbrev pub column_of : ℕ → Option Column
 column_of n =
-    if n == 98 then Some Both
-    else (if n == 117 then Some Upper else (if n == 108 then Some Lower else (if n == 110 then Some Neither else None)))
+    if n == letter_b then Some Both
+    else (if n == letter_u then Some Upper else
+    (if n == letter_l then Some Lower else (if n == letter_n then Some Neither else None)))
 
 abbrev pub kind_of_letter : ℕ → Option Kind
-kind_of_letter n = if n == 88 then Some X else (if n == 89 then Some Y else (if n == 90 then Some Z else None))
+kind_of_letter n =
+    if n == capital_x then Some X else (if n == capital_y then Some Y else (if n == capital_z then Some Z else None))
 
 abbrev pub width_of_digit : ℕ → Option Width
-width_of_digit n = if n == 49 then Some One else (if n == 50 then Some Two else None)
+width_of_digit n = if n == digit_one then Some One else (if n == digit_two then Some Two else None)
 
 abbrev pub both_of : {A B C : Type 0} → (A → B → C) → Option A → Option B → Option C
 both_of f (Some a) (Some b) = Some (f a b)
@@ -46,7 +50,7 @@ abbrev pub word_at : {A : Type 0} → (ℕ → ℕ → Option A) → List ℕ �
 word_at f [] = None
 word_at f (s ∷ []) = None
 word_at f (s ∷ a ∷ []) = None
-word_at f (s ∷ a ∷ b ∷ rest) = if s == 32 then f a b else None
+word_at f (s ∷ a ∷ b ∷ rest) = if s == space then f a b else None
 
 abbrev pub words_by : {A : Type 0} → Option A → List ℕ → List A × List ℕ → List A × List ℕ
 words_by None text more = ([], text)
@@ -62,7 +66,7 @@ words_read f (s ∷ a ∷ b ∷ rest) =
 
 abbrev pub is_newline : List ℕ → Bool
 is_newline [] = false
-is_newline (b ∷ []) = b == 10
+is_newline (b ∷ []) = b == newline
 is_newline (b ∷ c ∷ rest) = false
 
 -- ---- boards
@@ -75,7 +79,7 @@ shape_word s = kind_letter s.0 ∷ width_digit s.1 ∷ []
 abbrev pub shapes_text : List Area → List (Kind × Width) → List ℕ
 shapes_text areas shapes =
     codes "areas"
-    ++ (spaced (map area_word areas) ++ 10 ∷ (codes "pieces" ++ (spaced (map shape_word shapes) ++ 10 ∷ [])))
+    ++ (spaced (map area_word areas) ++ newline ∷ (codes "pieces" ++ (spaced (map shape_word shapes) ++ newline ∷ [])))
 
 -- pieces of these kinds and widths, with the variables from n on
 abbrev pub pieces_from : ℕ → List (Kind × Width) → List Piece

@@ -1,5 +1,7 @@
 -- The text of a board, and that of a placement. Lines end in a newline, and words are separated by one space (ours).
 use Rattle.std.specs.Prelude.{ℕ, suc, ◌≡◌, List, [], ◌∷◌, ◌++◌, codes, decimal, map}
+use Rattle.pcc_base.specs.Ascii.{newline, space, digit_one, digit_two, capital_x, capital_y, capital_z, letter_b}
+use Rattle.pcc_base.specs.Ascii.{letter_l, letter_n, letter_u}
 use Rattle.pcc_base.specs.declared.run.Width.{Width}
 use Rattle.pcc_base.specs.declared.run.Width.TheVariants.{One, Two}
 use Rattle.puzzle_board.specs.declared.area.Area.{Area}
@@ -19,23 +21,23 @@ use Rattle.puzzle_board.specs.Boards.{Puzzle}
 
 -- which rows of a column are free: `b` both, `u` upper, `l` lower, `n` neither
 abbrev pub letter_of : Column → ℕ
-letter_of Both = 98
-letter_of Upper = 117
-letter_of Lower = 108
-letter_of Neither = 110
+letter_of Both = letter_b
+letter_of Upper = letter_u
+letter_of Lower = letter_l
+letter_of Neither = letter_n
 
 -- an area, its low column first
 abbrev pub area_word : Area → List ℕ
 area_word a = letter_of a.low ∷ letter_of a.high ∷ []
 
 abbrev pub kind_letter : Kind → ℕ
-kind_letter X = 88
-kind_letter Y = 89
-kind_letter Z = 90
+kind_letter X = capital_x
+kind_letter Y = capital_y
+kind_letter Z = capital_z
 
 abbrev pub width_digit : Width → ℕ
-width_digit One = 49
-width_digit Two = 50
+width_digit One = digit_one
+width_digit Two = digit_two
 
 -- a piece, without its variable
 abbrev pub piece_word : Piece → List ℕ
@@ -44,7 +46,7 @@ piece_word p = kind_letter p.kind ∷ width_digit p.width ∷ []
 -- each of these words behind a space
 abbrev pub spaced : List (List ℕ) → List ℕ
 spaced [] = []
-spaced (w ∷ words) = 32 ∷ (w ++ spaced words)
+spaced (w ∷ words) = space ∷ (w ++ spaced words)
 
 -- ---- boards
 
@@ -57,7 +59,7 @@ IsNumbered n (p ∷ pieces) = (p.var ≡ n) × IsNumbered (suc n) pieces
 abbrev pub board_text : List Area → List Piece → List ℕ
 board_text areas pieces =
     codes "areas"
-    ++ (spaced (map area_word areas) ++ 10 ∷ (codes "pieces" ++ (spaced (map piece_word pieces) ++ 10 ∷ [])))
+    ++ (spaced (map area_word areas) ++ newline ∷ (codes "pieces" ++ (spaced (map piece_word pieces) ++ newline ∷ [])))
 
 -- ---- placements
 
@@ -70,7 +72,8 @@ columns_word All = codes "all"
 abbrev pub placed_line : ℕ → Piece → Spot → List ℕ
 placed_line number p spot =
     decimal number
-    ++ (32 ∷ (piece_word p ++ (32 ∷ (decimal spot.area ++ (32 ∷ (columns_word spot.columns ++ 10 ∷ []))))))
+    ++ (space ∷ (piece_word p
+    ++ (space ∷ (decimal spot.area ++ (space ∷ (columns_word spot.columns ++ newline ∷ []))))))
 
 -- any other piece has none
 abbrev pub line_of : ℕ → Piece → State → List ℕ

@@ -1,5 +1,6 @@
 use Rattle.std.proofs.Common.{arith}
 use Rattle.std.proofs.Common.{[], ◌∷◌}
+use Rattle.pcc_base.specs.Ascii.{percent, colon}
 use Rattle.c_tokens.proofs.Fronts.{starts_not}
 use Rattle.c_tokens.proofs.MarkPieces.{mark_begins, no_mark_begins}
 use Rattle.c_lexer.proofs.marks.mark_at.Goals as goal
@@ -12,7 +13,8 @@ returns-in_err-length c =
 pub returns : goal.returns
 returns c = λ fresh.
     mark_begins fresh c.args.rest.now _ _ c.requires.byte c.requires.number
-    (λ more. starts_not c.args.rest.now (37 ∷ 58 ∷ []) _ c.starts_with.ensures.value c.if-starts_with.false more)
+    (λ more. starts_not c.args.rest.now (percent ∷ colon ∷ []) _ c.starts_with.ensures.value c.if-starts_with.false
+    more)
     c.in_ok-length.ensures
 
 pub returns-then-starts_with : goal.returns-then-starts_with

@@ -2,6 +2,7 @@
 use Rattle.std.proofs.Common.{◌≡◌, ◌+◌, get_or, arith, ◌∙◌}
 use Rattle.std.proofs.lemmas.List.{get_or_past}
 use Rattle.std.proofs.lemmas.Bool.Decides.{nat_tests}
+use Rattle.pcc_base.specs.Ascii.{newline}
 use Rattle.c_tokens.proofs.Closing.{closed_at, closed_other, closed_escape}
 use Rattle.c_tokens.proofs.faults.is_closed.Goals as goal
 use Rattle.c_tokens.proofs.faults.is_closed.Goals.{then-byte-eq92+else-at-inside}
@@ -22,12 +23,12 @@ loop-at-preserved c =
       | then-byte-eq92+else-at-inside w ↦
           elim w.else-at-inside.branch [
             | else-at-inside-via-then-at-inside+else-inside-at-eq10 v ↦
-                let n : get_or c.args.inside.now (c.loop-at.at + 1) 0 ≡ 10 → ⊥ = v.if-inside-at-eq10.false in
+                let n : get_or c.args.inside.now (c.loop-at.at + 1) 0 ≡ newline → ⊥ = v.if-inside-at-eq10.false in
                 c.loop-at.invariant ∙ closed_escape c.args.quote c.args.inside.now c.loop-at.at _ c.loop-at-test.true
                 c.if-byte-quote.false w.if-byte-eq92.true n (omega arith)
             | else-at-inside-via-else-at-inside v ↦
                 let past = get_or_past c.args.inside.now (c.loop-at.at + 1) 0 (omega arith) in
-                let n : get_or c.args.inside.now (c.loop-at.at + 1) 0 ≡ 10 → ⊥ = λ e. omega arith in
+                let n : get_or c.args.inside.now (c.loop-at.at + 1) 0 ≡ newline → ⊥ = λ e. omega arith in
                 c.loop-at.invariant ∙ closed_escape c.args.quote c.args.inside.now c.loop-at.at _ c.loop-at-test.true
                 c.if-byte-quote.false w.if-byte-eq92.true n (omega arith)
           ]

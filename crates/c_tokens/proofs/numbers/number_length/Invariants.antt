@@ -1,9 +1,10 @@
 use Rattle.std.proofs.Common.{◌≡◌, ◌+◌, drop}
+use Rattle.pcc_base.specs.Ascii.{digit_zero}
 use Rattle.c_tokens.proofs.NumberPieces.{run, IsNumberStart}
 use Rattle.c_tokens.proofs.numbers.number_length.Given as goal
 
 abbrev pub invariant-loop-i : goal.invariant-loop-i
 invariant-loop-i l = record {
   begun : IsNumberStart l.rest l.start;
-  count : l.i + run l.before (drop l.i l.rest) ≡ l.start + run 48 (drop l.start l.rest);
+  count : l.i + run l.before (drop l.i l.rest) ≡ l.start + run digit_zero (drop l.start l.rest);
 }

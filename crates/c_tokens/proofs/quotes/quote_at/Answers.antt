@@ -4,6 +4,7 @@ use Rattle.std.proofs.lemmas.Slice.{first_rest}
 use Rattle.std.specs.Int.{w32, cast_signed, cast_unsigned}
 use Rattle.std.proofs.lemmas.Int.{to_z-of_z, ints}
 use Rattle.std.proofs.lemmas.Option.{MatchOption-at_none}
+use Rattle.pcc_base.specs.Ascii.{double_quote, apostrophe}
 use Rattle.c_tokens.specs.declared.token.TokenKind.TheVariants as kinds
 use Rattle.c_tokens.specs.Characters.{IsClosedBehind, IsNeverClosed}
 use Rattle.c_tokens.specs.Pieces.{NoneBegins, Begins, Spelled}
@@ -16,12 +17,12 @@ abbrev text_of : List ℕ → List ℕ
 text_of rest = take (length rest - 1) (drop 1 rest)
 
 -- the first byte is a quote
-quoted : (rest : List ℕ) → ((b : ℕ) × (others : List ℕ) × (rest ≡ b ∷ others) × ((b ≡ 39) ⊎ (b ≡ 34)))
+quoted : (rest : List ℕ) → ((b : ℕ) × (others : List ℕ) × (rest ≡ b ∷ others) × ((b ≡ apostrophe) ⊎ (b ≡ double_quote)))
     → IsQuote (get_or rest 0 0)
 quoted rest h = subst (λ (r : List ℕ). IsQuote (get_or r 0 0)) (sym h.2) h.3
 
 -- the text is its first byte and what stands behind it
-whole : (rest : List ℕ) → ((b : ℕ) × (others : List ℕ) × (rest ≡ b ∷ others) × ((b ≡ 39) ⊎ (b ≡ 34)))
+whole : (rest : List ℕ) → ((b : ℕ) × (others : List ℕ) × (rest ≡ b ∷ others) × ((b ≡ apostrophe) ⊎ (b ≡ double_quote)))
     → rest ≡ get_or rest 0 0 ∷ text_of rest
 whole rest h = first_rest rest 0 (omega (arith, ap length h.2))
 
@@ -61,7 +62,7 @@ returns-then-quote-eq34 c fresh =
     (text_begins fresh (get_or rest 0 0) (text_of rest) c.in-Some.values.items n c.if-quote-eq34.true there))
 
 -- a quote that isn't that of a string literal
-char_quote : (q : ℕ) → IsQuote q → q ≢ 34 → q ≡ 39
+char_quote : (q : ℕ) → IsQuote q → q ≢ double_quote → q ≡ apostrophe
 char_quote q (inl e) h = e
 char_quote q (inr e) h = absurd (h e)
 

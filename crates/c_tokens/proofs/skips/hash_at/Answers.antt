@@ -1,6 +1,7 @@
 use Rattle.std.proofs.Common.{◌≡◌, ◌∷◌, ◌∙◌, Bool, true, ap, sym, subst, List, ℕ}
 use Rattle.std.proofs.lemmas.Bool.{false≢true}
 use Rattle.std.specs.List.{prefix_len}
+use Rattle.pcc_base.specs.Ascii.{hash}
 use Rattle.c_tokens.specs.Pieces.{Begins, NoneBegins, IsMarker, Skipped, line_of}
 use Rattle.c_tokens.proofs.SkipPieces.{no_newline, skipped_begins, hash_begins_none, behind_hash}
 use Rattle.c_tokens.proofs.skips.hash_at.Goals as goal
@@ -20,11 +21,11 @@ returns-then-is_marker c =
     let line = behind_hash rest starts.0 end starts.1 count in
     let marker = subst IsMarker (line ∙ ap line_of starts.1) (c.is_marker.ensures.0 c.if-is_marker.true) in
     let begins = skipped_begins starts.0 marker in
-    let counted : end ≡ prefix_len no_newline (35 ∷ starts.0) =
+    let counted : end ≡ prefix_len no_newline (hash ∷ starts.0) =
     count ∙ ap (λ (bs : List ℕ). prefix_len no_newline bs) starts.1 in
     subst (λ (f : Bool). Begins f rest end Skipped) (sym c.if-not-fresh.false)
     (subst (λ (bs : List ℕ). Begins true bs end Skipped) (sym starts.1)
-    (subst (λ (n : ℕ). Begins true (35 ∷ starts.0) n Skipped) (sym counted) begins))
+    (subst (λ (n : ℕ). Begins true (hash ∷ starts.0) n Skipped) (sym counted) begins))
 
 pub returns-else-is_marker : goal.returns-else-is_marker
 returns-else-is_marker c =

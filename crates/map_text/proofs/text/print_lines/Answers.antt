@@ -1,6 +1,7 @@
 use Rattle.std.proofs.Common.{[], ◌∷◌, ◌++◌, flat_map, map}
 use Rattle.std.specs.Prelude.{codes}
-use Rattle.pcc_listing.specs.Lines.{line_text, newline}
+use Rattle.pcc_base.specs.Ascii.{newline}
+use Rattle.pcc_listing.specs.Lines.{line_text}
 use Rattle.pcc_listing.specs.Views.{line_of}
 use Rattle.map_text.proofs.Lines.{all_of, ended, one_more}
 use Rattle.map_text.proofs.text.print_lines.Goals as goal
