@@ -16,7 +16,7 @@ use Rattle.c_front.proofs.Totals.{total_more}
 -- ---- tokens
 
 -- nothing is read at first
-pub lexed_none : (texts : List (List ℕ)) → LexedSoFar texts [] 0 65536 texts
+pub lexed_none : (texts : List (List ℕ)) → LexedSoFar texts [] 0 0x10000 texts
 lexed_none texts = record {
   counted = omega arith;
   left_is = omega arith;
@@ -74,7 +74,7 @@ lexed_all texts files file left [] so none =
     subst (λ (all : List (List Token)). HaveTokens 0 texts all) (append-nil files) (so.tokens [] tt)
 
 pub lexed_few : (texts : List (List ℕ)) (files : List (List Token)) (file left : ℕ) (rest : List (List ℕ))
-    → LexedSoFar texts files file left rest → total files ≤ 65536
+    → LexedSoFar texts files file left rest → total files ≤ 0x10000
 lexed_few texts files file left rest so = let left_is = so.left_is in omega (arith, left_is)
 
 -- why this one has no tokens is why all have none

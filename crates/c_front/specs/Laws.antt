@@ -13,7 +13,7 @@ UnitsAreSources = (texts : List (List ℕ)) (units : List (List ExternalTree)) �
 -- they have no more tokens than are read
 abbrev pub UnitsAreFew : Type 0
 UnitsAreFew = (texts : List (List ℕ)) (units : List (List ExternalTree)) → HaveUnits texts units
-    → length (flat_map unit_tokens units) ≤ 65536
+    → length (flat_map unit_tokens units) ≤ 0x10000
 
 -- their identifiers are names
 abbrev pub UnitsHaveNames : Type 0

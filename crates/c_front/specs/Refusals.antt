@@ -33,20 +33,20 @@ FaultBehind file (text ∷ texts) n fault =
 
 -- more than 65,536 tokens stand before any lexical fault
 abbrev pub HaveManyTokens : List (List ℕ) → Type 0
-HaveManyTokens texts = StandBefore 0 texts 65537
+HaveManyTokens texts = StandBefore 0 texts 0x10001
 
 -- the texts have this lexical fault, behind at most 65,536 tokens
 abbrev pub HaveLexicalFault : List (List ℕ) → Fault → Type 0
-HaveLexicalFault texts fault = (n : ℕ) × FaultBehind 0 texts n fault × (n ≤ 65536)
+HaveLexicalFault texts fault = (n : ℕ) × FaultBehind 0 texts n fault × (n ≤ 0x10000)
 
 -- the texts have at most 65,536 tokens, and no lexical fault, and this holds of the tokens
 abbrev pub WithTokens : List (List ℕ) → (List (List Token) → Type 0) → Type 0
-WithTokens texts P = (files : List (List Token)) × HaveTokens 0 texts files × (total files ≤ 65536) × P files
+WithTokens texts P = (files : List (List Token)) × HaveTokens 0 texts files × (total files ≤ 0x10000) × P files
 
 -- why texts have no tokens
 abbrev pub AreUnread : List (List ℕ) → Refusal → Type 0
 AreUnread texts (refusals.Fault fault) = HaveLexicalFault texts fault
-AreUnread texts (refusals.Limit (Tokens n)) = (n ≡ 65537) × HaveManyTokens texts
+AreUnread texts (refusals.Limit (Tokens n)) = (n ≡ 0x10001) × HaveManyTokens texts
 AreUnread texts refusals.NoMemory = ⊤
 AreUnread texts _ = ⊥
 

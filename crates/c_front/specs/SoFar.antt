@@ -18,7 +18,7 @@ pub record LexedSoFar (texts : List (List ℕ)) (files : List (List Token)) (fil
     (rest : List (List ℕ)) : Type 0
   where
     pub counted : file + length rest ≡ length texts
-    pub left_is : total files + left ≡ 65536
+    pub left_is : total files + left ≡ 0x10000
     pub tokens : (others : List (List Token)) → HaveTokens file rest others → HaveTokens 0 texts (files ++ others)
     pub fault : (n : ℕ) (fault : Fault) → FaultBehind file rest n fault → FaultBehind 0 texts (total files + n) fault
     pub many : (n : ℕ) → StandBefore file rest n → StandBefore 0 texts (total files + n)
@@ -34,7 +34,7 @@ pub record ParsedSoFar (files : List (List Token)) (units : List (List ExternalT
 abbrev pub IsUnread : ℕ → List ℕ → ℕ → Refusal → Type 0
 IsUnread file text left (refusals.Fault fault) = (before : List Token) × HasFault file text before fault
     × (length before ≤ left)
-IsUnread file text left (refusals.Limit (Tokens n)) = (n ≡ 65537)
+IsUnread file text left (refusals.Limit (Tokens n)) = (n ≡ 0x10001)
     × ((before : List Token) × BeginsWith file text before × (length before ≡ left + 1))
 IsUnread file text left refusals.NoMemory = ⊤
 IsUnread file text left _ = ⊥

@@ -8,7 +8,7 @@ use Rattle.c_front.specs.Accepted.{HaveTokens, HaveTrees, total}
 pub record HaveUnits (texts : List (List ℕ)) (units : List (List ExternalTree)) : Type 0 where
   pub files : List (List Token)
   pub tokens : HaveTokens 0 texts files
-  pub few : total files ≤ 65536
+  pub few : total files ≤ 0x10000
   pub trees : HaveTrees files units
 
 -- the texts have raw trees, and this holds of them

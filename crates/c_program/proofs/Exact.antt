@@ -42,7 +42,7 @@ no_syntax_fault texts units fault have (files, lexed, few, faulty) =
 
 not_many : (texts : List (List ℕ)) (units : List (List ExternalTree)) → HaveUnits texts units → HaveManyTokens texts → ⊥
 not_many texts units have many =
-    let few = have.few in omega (arith, stand_fewer 0 texts 65537 have.files many have.tokens, few)
+    let few = have.few in omega (arith, stand_fewer 0 texts 0x10001 have.files many have.tokens, few)
 
 -- so its fault is one of typing
 typing_fault : (texts : List (List ℕ)) (units : List (List ExternalTree)) (fault : Fault) → HaveUnits texts units
@@ -141,7 +141,7 @@ within texts p excess (units, have, is) h = not_above (above_or_many texts exces
 many_or_fault : (texts : List (List ℕ)) (fault : Fault) → HaveFault texts fault → HaveManyTokens texts → ⊥
 many_or_fault texts fault (inl h) many = lexical_or_limit texts fault h many
 many_or_fault texts fault (inr (inl (files, lexed, most, h))) many =
-    omega (arith, stand_fewer 0 texts 65537 files many lexed, most)
+    omega (arith, stand_fewer 0 texts 0x10001 files many lexed, most)
 many_or_fault texts fault (inr (inr (units, have, h))) many = not_many texts units have many
 
 pub fault_or_limit : (texts : List (List ℕ)) (fault : Fault) (excess : Excess) → HaveFault texts fault

@@ -68,7 +68,7 @@ Exceed texts (LargeFrame name bytes) = WithUnits texts (λ units. HaveLargeFrame
 -- why texts have no program; no more than 65,537 tokens are counted
 abbrev pub AreRefused : List (List ℕ) → Refused → Type 0
 AreRefused texts (refusals.Fault fault) = HaveFault texts fault
-AreRefused texts (refusals.Tokens n) = (n ≡ 65537) × Exceed texts ManyTokens
+AreRefused texts (refusals.Tokens n) = (n ≡ 0x10001) × Exceed texts ManyTokens
 AreRefused texts (refusals.Arrays bytes) = Exceed texts (LargeArrays bytes)
 AreRefused texts (refusals.Frame name bytes) = Exceed texts (LargeFrame name.items bytes)
 AreRefused texts refusals.NoMemory = ⊤

@@ -45,7 +45,7 @@ HaveNoProgram files sources (reports.TooLong (Source i)) = StopsAt files read.To
 HaveNoProgram files sources (reports.ReadFault (Source i)) = StopsAt files read.Failed sources i
 HaveNoProgram files sources (reports.SourceFault fault) = HoldAll files sources (λ texts. HaveFault texts fault)
 HaveNoProgram files sources (reports.TooManyTokens tokens) =
-    (tokens ≡ 65537) × HoldAll files sources (λ texts. Exceed texts ManyTokens)
+    (tokens ≡ 0x10001) × HoldAll files sources (λ texts. Exceed texts ManyTokens)
 HaveNoProgram files sources (reports.LargeArrays bytes) =
     HoldAll files sources (λ texts. Exceed texts (LargeArrays bytes))
 HaveNoProgram files sources (reports.LargeFrame name bytes) =

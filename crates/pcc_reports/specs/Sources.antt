@@ -6,7 +6,7 @@ use Rattle.pcc_reports.specs.Outside.{Files}
 
 -- the most bytes of one file that is read
 abbrev pub file_limit : ℕ
-file_limit = 1342177280
+file_limit = 0x5000_0000
 
 -- the file holds a text that may be read, and of which this holds
 abbrev pub Holds : Option (List ℕ) → (List ℕ → Type 0) → Type 0
