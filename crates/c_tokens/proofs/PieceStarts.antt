@@ -108,8 +108,8 @@ piece_starts fresh b others m (Spelled (kinds.Ident name)) (e, (c, cs, is, lette
 piece_starts fresh b others m (Spelled (kinds.Number z)) (inl (text, longest, more)) =
     number_first b (take m others) text
 piece_starts fresh b others m (Spelled (kinds.Number z)) (inr (value, (inside, e, has), is)) =
-    same_first (λ x. is_digit x || (x == dot || x == apostrophe)) b (take m others) (apostrophe ∷ inside
-    ++ apostrophe ∷ []) e refl
+    same_first (λ x. is_digit x || (x == dot || x == apostrophe)) b (take m others)
+    (apostrophe ∷ inside ++ apostrophe ∷ []) e refl
 piece_starts fresh b others m (Spelled (kinds.Text bytes)) (inside, e, has) =
     same_first (λ x. x == double_quote) b (take m others) (double_quote ∷ inside ++ double_quote ∷ []) e refl
 piece_starts fresh b others m (Spelled (kinds.Mark mark)) h =

@@ -111,8 +111,7 @@ only_literal fresh b bs (suc n) Comment q some (inl h) =
     (head_is b slash (take n bs) (slash ∷ h.0) h.1))
 only_literal fresh b bs (suc n) Comment q some (inr h) =
     absurd (at_quote (λ (x : ℕ). x ≢ slash) b (λ e. omega arith) (λ e. omega arith) q
-    (head_is b slash (take n bs) (star ∷ h.0
-    ++ star ∷ slash ∷ []) h.1))
+    (head_is b slash (take n bs) (star ∷ h.0 ++ star ∷ slash ∷ []) h.1))
 only_literal fresh b bs (suc n) Skipped q some h =
     let line : line_of (b ∷ bs) ≡ b ∷ line_of bs =
     at_quote (λ (x : ℕ). line_of (x ∷ bs) ≡ x ∷ line_of bs) b
@@ -120,8 +119,7 @@ only_literal fresh b bs (suc n) Skipped q some h =
     (take_while-cons (λ (x : ℕ). not (x == newline)) double_quote bs) q in
     let marker = h.1 in
     absurd (at_quote (λ (x : ℕ). x ≢ hash) b (λ e. omega arith) (λ e. omega arith) q
-    (head_is b hash (line_of bs) (marker.0
-    ++ marker.1) (sym line ∙ marker.2)))
+    (head_is b hash (line_of bs) (marker.0 ++ marker.1) (sym line ∙ marker.2)))
 only_literal fresh b bs (suc n) (Spelled (kinds.Word word)) q some h =
     absurd (not_plain b (take n bs) q (ap starts_with_quote h ∙ keyword_plain word))
 only_literal fresh b bs (suc n) (Spelled (kinds.Ident name)) q some h =

@@ -1,6 +1,7 @@
 -- The pieces that aren't tokens, and `/` and `/=`.
 use Rattle.std.proofs.Common.{◌≡◌, ◌≢◌, ◌<◌, ◌≤◌, ◌+◌, ◌-◌, ℕ, zero, suc, Bool, true, false, not, cond, List, [], ◌∷◌}
-use Rattle.std.proofs.Common.{◌++◌, take, drop, get_or, length, IsTrue, refl, sym, ap, subst, inl, inr, ◌⊎◌, ◌∙◌, arith}
+use Rattle.std.proofs.Common.{◌++◌, take, drop, get_or, length, IsTrue, refl, sym, ap, subst, inl, inr, ◌⊎◌, ◌∙◌, codes}
+use Rattle.std.proofs.Common.{arith}
 use Rattle.std.proofs.lemmas.List.{length-take, length-take-le, get_or-take, take-append-drop, get_or_at}
 use Rattle.std.proofs.lemmas.List.{get_or-append-add, length-append, take_more, drop_more, append_assoc}
 use Rattle.std.proofs.lemmas.List.{get_or_append_left}
@@ -11,8 +12,7 @@ use Rattle.std.proofs.lemmas.Bool.{false≢true}
 use Rattle.std.proofs.lemmas.Bool.Decides.{nat_tests}
 use Rattle.std.specs.Prelude.{◌==◌}
 use Rattle.std.specs.List.{prefix_len}
-use Rattle.pcc_base.specs.Ascii.{newline, hash, percent, star, slash, colon, equals_sign, capital_l, letter_a, letter_p}
-use Rattle.pcc_base.specs.Ascii.{letter_r}
+use Rattle.pcc_base.specs.Ascii.{newline, hash, percent, star, slash, colon, equals_sign, capital_l, letter_p}
 use Rattle.c_tokens.specs.declared.token.TokenKind.TheVariants as kinds
 use Rattle.c_tokens.specs.declared.token.Punct.TheVariants as marks
 use Rattle.c_tokens.specs.Bytes.{is_space, is_blank}
@@ -390,7 +390,7 @@ directive_first : (more : List ℕ) → IsDirective more → (c : ℕ) × (rest 
     × (is_blank c ≡ false)
 directive_first more (inl (d, rest, e, digit)) = let stops : is_blank d ≡ false = grind (arith, nat_tests) in
     (d, rest, e, stops)
-directive_first more (inr (rest, e, word)) = (letter_p, letter_r ∷ letter_a ∷ 103 ∷ 109 ∷ letter_a ∷ rest, e, refl)
+directive_first more (inr (rest, e, word)) = (letter_p, codes "ragma" ++ rest, e, refl)
 
 pub marker_to : (behind : List ℕ) → IsMarker (hash ∷ behind) → IsDirective (drop (prefix_len is_blank behind) behind)
 marker_to behind (blanks, more, e, passes, directive) =

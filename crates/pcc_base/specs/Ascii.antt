@@ -1,4 +1,4 @@
--- Characters by name (ASCII; C99 5.2.1).
+-- Characters by name (ASCII; C99 5.2.1): digits as `digit_zero`, letters as `letter_x` and `capital_x`.
 use Rattle.std.specs.Prelude.{◌≤◌, ◌&&◌, ℕ, Bool, false, List, [], ◌∷◌, nat_le}
 
 abbrev pub bell : ℕ
@@ -37,14 +37,8 @@ hash = 35
 abbrev pub percent : ℕ
 percent = 37
 
-abbrev pub ampersand : ℕ
-ampersand = 38
-
 abbrev pub apostrophe : ℕ
 apostrophe = 39
-
-abbrev pub left_parenthesis : ℕ
-left_parenthesis = 40
 
 abbrev pub star : ℕ
 star = 42
@@ -115,9 +109,6 @@ backslash = 92
 abbrev pub right_bracket : ℕ
 right_bracket = 93
 
-abbrev pub caret : ℕ
-caret = 94
-
 abbrev pub underscore : ℕ
 underscore = 95
 
@@ -162,12 +153,6 @@ letter_v = 118
 
 abbrev pub letter_x : ℕ
 letter_x = 120
-
-abbrev pub left_brace : ℕ
-left_brace = 123
-
-abbrev pub tilde : ℕ
-tilde = 126
 
 -- a byte from the first of two characters to the second, as in `codes "az"`
 abbrev pub is_between : List ℕ → ℕ → Bool

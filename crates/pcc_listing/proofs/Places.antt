@@ -12,7 +12,7 @@ use Rattle.pcc_listing.specs.Lines.{register_text, byte_text, place_text}
 use Rattle.ia32_regs.specs.Places.{Place, InWord, InByte, InSlot, IsPlace}
 use Rattle.pcc_listing.proofs.Fields.{fixed-one, number-at}
 
--- two letters as one number, of which each letter has a byte
+-- two letters as one number, with a byte for each
 abbrev letters : List ℕ → ℕ
 letters text = get_or text 0 0 * 0x100 + get_or text 1 0
 
