@@ -37,13 +37,13 @@ bytes-most (x ∷ arrays) (suc i) a e =
     next-most (array_bytes x) (bytes_of_arrays (take i arrays)) (array_bytes a) (bytes_of_arrays arrays)
     (bytes-most arrays i a e)
 
-fit-by : (bytes r s t all : ℕ) → bytes ≡ s → r ≡ t → s + t ≤ all → all < 2147483648 → bytes + r < 4294967296
+fit-by : (bytes r s t all : ℕ) → bytes ≡ s → r ≡ t → s + t ≤ all → all < 0x80000000 → bytes + r < 0x1_0000_0000
 fit-by bytes r s t all e f h small = omega arith
 
 pub bytes-fit :
     (arrays : List (ℕ × ℕ)) (i : ℕ) (a : ℕ × ℕ) (bytes r : ℕ) → slice_get arrays i ≡ Some a
-    → bytes ≡ bytes_of_arrays (take i arrays) → r ≡ array_bytes a → bytes_of_arrays arrays < 2147483648
-    → bytes + r < 4294967296
+    → bytes ≡ bytes_of_arrays (take i arrays) → r ≡ array_bytes a → bytes_of_arrays arrays < 0x80000000
+    → bytes + r < 0x1_0000_0000
 bytes-fit arrays i a bytes r e far is small =
     fit-by bytes r (bytes_of_arrays (take i arrays)) (array_bytes a) (bytes_of_arrays arrays) far is
     (bytes-most arrays i a e) small

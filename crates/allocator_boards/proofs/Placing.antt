@@ -98,8 +98,8 @@ placed-joined p (ps ∷ blocks) i =
     ]
 
 -- a point that has a place is in a block, and its place is below their points' number
-pub place-there : (flow : Flow) (p : ℕ) (o : Option ℕ) → o ≡ place_of flow p → placed_count flow < 2147483648
-    → IfSome o (λ place. (place < 2147483648) × IsPlaced flow p)
+pub place-there : (flow : Flow) (p : ℕ) (o : Option ℕ) → o ≡ place_of flow p → placed_count flow < 0x80000000
+    → IfSome o (λ place. (place < 0x80000000) × IsPlaced flow p)
 place-there flow p None e few = tt
 place-there flow p (Some i) e few =
     let at = place-at p (joined flow.blocks) i (sym e) in
@@ -108,7 +108,7 @@ place-there flow p (Some i) e few =
 
 -- a point has a place exactly where it is in a block
 pub placed-told : (flow : Flow) (p : ℕ) (o : Option ℕ) → o ≡ place_of flow p
-    → IfSome o (λ place. (place < 2147483648) × IsPlaced flow p) → IsTrue (is_some o) ↔ IsPlaced flow p
+    → IfSome o (λ place. (place < 0x80000000) × IsPlaced flow p) → IsTrue (is_some o) ↔ IsPlaced flow p
 placed-told flow p None e there = (
   λ f. absurd (true≢false (sym f)),
   λ placed. let (i, h) = placed-place flow p placed in absurd (none-some i (e ∙ h)),

@@ -25,7 +25,7 @@ placed_count flow = length (joined flow.blocks)
 pub record IsForm (form : Form) : Type 0 where
   pub live : AreLive form.graph form.lives
   pub dies : FixedOperandsDie form.graph
-  pub few : placed_count form.graph < 2147483648
+  pub few : placed_count form.graph < 0x80000000
 
 -- for each point its place among these points; one that isn't there has none
 abbrev pub ArePlaces : List ℕ → List (Option ℕ) → Type 0

@@ -26,7 +26,7 @@ below-limit m n l rest e = by (nat_lt m n) refl e
     by false t e = (grind (arith, nat_tests, t), e)
 
 pub frames-below : (k : ℕ) (fs : List Function) → large_frame k fs ≡ None
-    → AllByRecursion (λ f. frame_bound f ≤ 16384) fs
+    → AllByRecursion (λ f. frame_bound f ≤ 0x4000) fs
 frames-below k [] e = tt
 frames-below k (f ∷ fs) e =
     let h = below-limit most_frame (frame_bound f) _ (large_frame (suc k) fs) e in
@@ -52,20 +52,20 @@ objects-small (o ∷ os) n h =
     let e = elements-small o.element (length o.elements) in
     (omega (arith, h, s, e), objects-small os n (omega (arith, h, s)))
 
-counts-small : (arrays : List LocalArray) → sum_by array_bytes arrays ≤ 16384
-    → AllByRecursion (λ a. a.count ≤ 4294967295) arrays
+counts-small : (arrays : List LocalArray) → sum_by array_bytes arrays ≤ 0x4000
+    → AllByRecursion (λ a. a.count ≤ 0xffffffff) arrays
 counts-small [] h = tt
 counts-small (a ∷ arrays) h =
     let s = sum_by-cons array_bytes a arrays in
     let e = elements-small a.element a.count in
     (omega (arith, h, s, e), counts-small arrays (omega (arith, h, s)))
 
-functions-bound : (fs : List Function) → AllByRecursion (λ f. frame_bound f ≤ 16384) fs → AllByRecursion KeepsWords fs
+functions-bound : (fs : List Function) → AllByRecursion (λ f. frame_bound f ≤ 0x4000) fs → AllByRecursion KeepsWords fs
     → AllByRecursion FunctionHasWords fs
 functions-bound [] h keeps = tt
 functions-bound (f ∷ fs) h keeps = (
   record {
-    arrays = All-from_recursion (λ (a : LocalArray). a.count ≤ 4294967295) f.arrays
+    arrays = All-from_recursion (λ (a : LocalArray). a.count ≤ 0xffffffff) f.arrays
         (counts-small f.arrays (let k = h.0 in omega (arith, k)));
     body = keeps.0.body;
     declared = keeps.0.declared;
@@ -82,7 +82,7 @@ limits-bound p none keeps small =
           (functions-bound p.functions (frames-below 0 p.functions h.1)
           (recursion_from_All KeepsWords p.functions keeps));
       small = small;
-      few_objects = objects-few p.objects 16777216 h.0;
-      few_elements = All-from_recursion (λ (o : StaticObject). length o.elements ≤ 16777216) p.objects
-          (objects-small p.objects 16777216 h.0);
+      few_objects = objects-few p.objects 0x01000000 h.0;
+      few_elements = All-from_recursion (λ (o : StaticObject). length o.elements ≤ 0x01000000) p.objects
+          (objects-small p.objects 0x01000000 h.0);
     }

@@ -14,4 +14,4 @@ pub record KeepsWords (f : Function) : Type 0 where
 -- A program that is above no limit is one in memory as lowering asks for it, where its constants are of 32 bits, items
 -- declare its arrays, and its tokens are no more than a program may have.
 abbrev pub LimitsBound : Type 0
-LimitsBound = (p : Program) → limit_of p ≡ None → All KeepsWords p.functions → size_of p ≤ 65536 → IsInMemory p
+LimitsBound = (p : Program) → limit_of p ≡ None → All KeepsWords p.functions → size_of p ≤ 0x10000 → IsInMemory p

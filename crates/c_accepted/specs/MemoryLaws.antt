@@ -10,4 +10,4 @@ use Rattle.lower_lines.specs.Words.{IsInMemory}
 -- The limit on tokens is on those of all files together.
 abbrev pub SourcesAreInMemory : Type 0
 SourcesAreInMemory = (units : List (List ExternalTree)) (p : Program) → AreSources units
-    → length (flat_map unit_tokens units) ≤ 65536 → IsAccepted units p → IsInMemory p
+    → length (flat_map unit_tokens units) ≤ 0x10000 → IsAccepted units p → IsInMemory p

@@ -12,7 +12,7 @@ use Rattle.lower_programs.specs.Declared.{IsDeclaredFirst}
 
 -- a frame is within its limit
 abbrev pub IsSmallFrame : Function → Type 0
-IsSmallFrame f = frame_bound f ≤ 16384
+IsSmallFrame f = frame_bound f ≤ 0x4000
 
 pub record IsReady (p : Program) : Type 0 where
   pub typed : WellTyped p
@@ -24,9 +24,9 @@ pub record IsReady (p : Program) : Type 0 where
   pub names : AllByRecursion IsNamed p.functions
   pub frames : AllByRecursion IsSmallFrame p.functions
   -- the bytes of all static objects
-  pub objects : arrays_bytes p ≤ 16777216
+  pub objects : arrays_bytes p ≤ 0x01000000
   -- each part has a token of its own, of which texts have no more
-  pub small : size_of p ≤ 65536
+  pub small : size_of p ≤ 0x10000
 
 -- The accepted program of texts is ready: the texts have raw trees, which have this typed program within the limits.
 abbrev pub ProgramsAreReady : Type 0

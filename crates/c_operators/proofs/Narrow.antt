@@ -12,16 +12,16 @@ unfolding int_wrap
 low_8 (pos a) f = refl
 low_8 (negsuc a) f = ap (cast_signed w8) (omega (arith, f))
 
-pub low_16 : (n : ℤ) → FitsSigned w32 n → cast_signed w16 (cast_unsigned w32 n % 65536) ≡ int_wrap w16 n
+pub low_16 : (n : ℤ) → FitsSigned w32 n → cast_signed w16 (cast_unsigned w32 n % 0x10000) ≡ int_wrap w16 n
 unfolding int_wrap
 low_16 (pos a) f = refl
 low_16 (negsuc a) f = ap (cast_signed w16) (omega (arith, f))
 
-signed_word : (n : ℕ) → n < 4294967296 → cast_signed w32 n ≡ int_wrap w32 (pos n)
+signed_word : (n : ℕ) → n < 0x1_0000_0000 → cast_signed w32 n ≡ int_wrap w32 (pos n)
 unfolding int_wrap
 signed_word n h = ap (cast_signed w32) (sym (mod-eq_of_lt h))
 
-word_below : (n : ℤ) → FitsSigned w32 n → cast_unsigned w32 n < 4294967296
+word_below : (n : ℤ) → FitsSigned w32 n → cast_unsigned w32 n < 0x1_0000_0000
 word_below (pos a) f = omega (arith, f)
 word_below (negsuc a) f = omega (arith, f)
 

@@ -16,7 +16,7 @@ use Rattle.c_typing.specs.Laws.{IsInt, HasIntIfAny}
 abbrev pub HaveInts : List Token → Type 0
 HaveInts ts = AllByRecursion (λ (t : Token). HasIntIfAny t.kind) ts
 
-constant_int : (value : ℕ) → value ≤ 2147483647 → IsInt (pos value)
+constant_int : (value : ℕ) → value ≤ 0x7fffffff → IsInt (pos value)
 constant_int value h = (omega (arith, ints, h), omega (arith, ints, h))
 
 byte_int : (value : ℕ) → value ≤ 255 → IsInt (twos_complement 1 value)

@@ -79,22 +79,22 @@ if_false false b h = (refl, h)
 
 no_zero : (a b : ℤ) → no_quotient a b ≡ false → b ≡ pos 0 → ⊥
 no_zero a b h e =
-    let p = if_false (int_eq b (pos 0)) (int_eq a (negsuc 2147483647) && int_eq b (negsuc 0)) h in
+    let p = if_false (int_eq b (pos 0)) (int_eq a (negsuc 0x7fffffff) && int_eq b (negsuc 0)) h in
     not_true (sym p.0 ∙ (Decides-int_eq b (pos 0)).1 e)
 
 both_false : (a b : Bool) → (a && b) ≡ false → b ≡ true → a ≡ false
 both_false true b h k = not_true (sym h ∙ k)
 both_false false b h k = refl
 
-not_least : (m : ℕ) → no_quotient (negsuc m) (negsuc 0) ≡ false → m ≡ 2147483647 → ⊥
+not_least : (m : ℕ) → no_quotient (negsuc m) (negsuc 0) ≡ false → m ≡ 0x7fffffff → ⊥
 not_least m h e =
-    let p = if_false (int_eq (negsuc 0) (pos 0)) (int_eq (negsuc m) (negsuc 2147483647)
+    let p = if_false (int_eq (negsuc 0) (pos 0)) (int_eq (negsuc m) (negsuc 0x7fffffff)
     && int_eq (negsuc 0) (negsuc 0)) h in
-    let q = both_false (int_eq (negsuc m) (negsuc 2147483647)) (int_eq (negsuc 0) (negsuc 0)) p.1
+    let q = both_false (int_eq (negsuc m) (negsuc 0x7fffffff)) (int_eq (negsuc 0) (negsuc 0)) p.1
     ((Decides-int_eq (negsuc 0) (negsuc 0)).1 refl) in
-    not_true (sym q ∙ (Decides-int_eq (negsuc m) (negsuc 2147483647)).1 (ap negsuc e))
+    not_true (sym q ∙ (Decides-int_eq (negsuc m) (negsuc 0x7fffffff)).1 (ap negsuc e))
 
-least_off : (m : ℕ) → (m ≡ 2147483647 → ⊥) → suc m ≤ 2147483648 → suc m / 1 < 2147483648
+least_off : (m : ℕ) → (m ≡ 0x7fffffff → ⊥) → suc m ≤ 0x80000000 → suc m / 1 < 0x80000000
 least_off m h l = grind arith
 
 div_int : (a b : ℤ) → IsInt a → no_quotient a b ≡ false → IsInt (int_div a b)

@@ -63,7 +63,7 @@ unary_value of _ (HoldsPointer array index) = HoldsNumber (pos 0)
 
 -- A zero divisor traps, and so does the quotient that doesn't fit.
 abbrev pub no_quotient : ℤ → ℤ → Bool
-no_quotient a b = if int_eq b (pos 0) then true else int_eq a (negsuc 2147483647) && int_eq b (negsuc 0)
+no_quotient a b = if int_eq b (pos 0) then true else int_eq a (negsuc 0x7fffffff) && int_eq b (negsuc 0)
 
 abbrev pub quotient : ℤ → ℤ → Computed
 quotient a b = if no_quotient a b then Traps Divide else number (int_div a b)

@@ -53,7 +53,7 @@ NumbersChangeNothing = (m n : Numbers) (units : List (List ExternalTree))
 -- ---- typed programs are well typed
 
 abbrev pub IsInt : ℤ → Type 0
-IsInt n = (negsuc 2147483647 ≤ℤ n) × (n <ℤ pos 2147483648)
+IsInt n = (negsuc 0x7fffffff ≤ℤ n) × (n <ℤ pos 0x80000000)
 
 abbrev pub HasIntIfAny : TokenKind → Type 0
 HasIntIfAny (tokens.Word word) = Unit {0}

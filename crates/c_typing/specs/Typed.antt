@@ -109,10 +109,10 @@ abbrev pub arrays_bytes : Program → ℕ
 arrays_bytes p = sum_by object_bytes p.objects
 
 abbrev pub most_arrays : ℕ
-most_arrays = 16777216
+most_arrays = 0x01000000
 
 abbrev pub most_frame : ℕ
-most_frame = 16384
+most_frame = 0x4000
 
 -- the first function, from a number on, whose frame is too large
 abbrev pub large_frame : ℕ → List Function → Option Limit

@@ -151,8 +151,8 @@ same-place flow p q i j e f same =
     same_Some p q (sym (place-at p (joined flow.blocks) i e)
     ∙ (ap (slice_get (joined flow.blocks)) same ∙ place-at q (joined flow.blocks) j f))
 
-one-number : (i j v w : ℕ) → v < 4294967296 → w < 4294967296
-    → 2 * (i * 4294967296 + v) ≡ 2 * (j * 4294967296 + w) → (i ≡ j) × (v ≡ w)
+one-number : (i j v w : ℕ) → v < 0x1_0000_0000 → w < 0x1_0000_0000
+    → 2 * (i * 0x1_0000_0000 + v) ≡ 2 * (j * 0x1_0000_0000 + w) → (i ≡ j) × (v ≡ w)
 one-number i j v w l m e = (omega (arith, l, m, e), omega (arith, l, m, e))
 
 pub one_before : OneBefore
@@ -166,11 +166,11 @@ pub one_after : OneAfter
 one_after flow lives p q v w name l m e f =
     let a = after-is flow lives p v name e in
     let b = after-is flow lives q w name f in
-    let same : 2 * (a.at * 4294967296 + v) + 1 ≡ 2 * (b.at * 4294967296 + w) + 1 = a.name ∙ sym b.name in
+    let same : 2 * (a.at * 0x1_0000_0000 + v) + 1 ≡ 2 * (b.at * 0x1_0000_0000 + w) + 1 = a.name ∙ sym b.name in
     let (places, variables) = one-number a.at b.at v w l m (omega (arith, same)) in
     (same-place flow p q a.at b.at a.place b.place places, variables)
 
-odd : (i j v w name : ℕ) → 2 * (i * 4294967296 + v) ≡ name → 2 * (j * 4294967296 + w) + 1 ≡ name → ⊥
+odd : (i j v w name : ℕ) → 2 * (i * 0x1_0000_0000 + v) ≡ name → 2 * (j * 0x1_0000_0000 + w) + 1 ≡ name → ⊥
 odd i j v w name e f = omega (arith, e, f)
 
 pub before_is_not_after : BeforeIsNotAfter
@@ -188,7 +188,7 @@ fresh-before flow lives p v w name e f =
     let at : a.at ≡ b.at = same_Some a.at b.at (sym a.place ∙ b.place) in
     one-of a.at b.at v w name at a.name b.name
   where
-    one-of : (i j v w name : ℕ) → i ≡ j → 2 * (i * 4294967296 + v) ≡ name → 2 * (j * 4294967296 + w) ≡ name → w ≡ v
+    one-of : (i j v w name : ℕ) → i ≡ j → 2 * (i * 0x1_0000_0000 + v) ≡ name → 2 * (j * 0x1_0000_0000 + w) ≡ name → w ≡ v
     one-of i j v w name same e f = omega (arith, same, e, f)
 
 pub fresh-after : (flow : Flow) (lives : Lives) (p v w name : ℕ) → name_after flow lives p v ≡ Some name
@@ -199,8 +199,8 @@ fresh-after flow lives p v w name e f =
     let at : a.at ≡ b.at = same_Some a.at b.at (sym a.place ∙ b.place) in
     one-of a.at b.at v w name at a.name b.name
   where
-    one-of : (i j v w name : ℕ) → i ≡ j → 2 * (i * 4294967296 + v) + 1 ≡ name
-        → 2 * (j * 4294967296 + w) + 1 ≡ name → w ≡ v
+    one-of : (i j v w name : ℕ) → i ≡ j → 2 * (i * 0x1_0000_0000 + v) + 1 ≡ name
+        → 2 * (j * 0x1_0000_0000 + w) + 1 ≡ name → w ≡ v
     one-of i j v w name same e f = omega (arith, same, e, f)
 
 -- ---- names that are set

@@ -112,12 +112,12 @@ FormKeepsOutcome =
 -- a name stands for one variable at one point
 abbrev pub OneBefore : Type 0
 OneBefore =
-    (flow : Flow) (lives : Lives) (p q v w name : ℕ) → v < 4294967296 → w < 4294967296
+    (flow : Flow) (lives : Lives) (p q v w name : ℕ) → v < 0x1_0000_0000 → w < 0x1_0000_0000
     → name_before flow lives p v ≡ Some name → name_before flow lives q w ≡ Some name → (p ≡ q) × (v ≡ w)
 
 abbrev pub OneAfter : Type 0
 OneAfter =
-    (flow : Flow) (lives : Lives) (p q v w name : ℕ) → v < 4294967296 → w < 4294967296
+    (flow : Flow) (lives : Lives) (p q v w name : ℕ) → v < 0x1_0000_0000 → w < 0x1_0000_0000
     → name_after flow lives p v ≡ Some name → name_after flow lives q w ≡ Some name → (p ≡ q) × (v ≡ w)
 
 -- and none before a point is one after a point

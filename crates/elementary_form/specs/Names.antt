@@ -33,10 +33,10 @@ place_of flow point = place_in point (joined flow.blocks)
 -- ---- names: two of each place and variable
 
 abbrev pub first_name : ℕ → ℕ → ℕ
-first_name variable place = 2 * (place * 4294967296 + variable)
+first_name variable place = 2 * (place * 0x1_0000_0000 + variable)
 
 abbrev pub second_name : ℕ → ℕ → ℕ
-second_name variable place = 2 * (place * 4294967296 + variable) + 1
+second_name variable place = 2 * (place * 0x1_0000_0000 + variable) + 1
 
 abbrev pub where_named : Bool → Option ℕ → Option ℕ
 where_named true name = name

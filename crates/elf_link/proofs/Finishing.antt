@@ -402,7 +402,7 @@ linked_is sections objects main a linked can laid code data_same entry points_ma
       objects_are = objects_same;
     }
   where
-    round_bound : (n : ℕ) → n ≤ 0x01000000 → round_up 4 (4 + n) ≤ 16777300
+    round_bound : (n : ℕ) → n ≤ 0x01000000 → round_up 4 (4 + n) ≤ 0x01000054
     round_bound n h = omega arith
 
 -- there are as many addresses as sections and objects

@@ -144,7 +144,7 @@ argument_address = (
       refl,
       omega arith,
       refl,
-      inr (refl, (36, 8 ∷ [], refl, omega arith, near_stack 8 (record { count = refl; reads = refl }))),
+      inr (refl, (0x24, 8 ∷ [], refl, omega arith, near_stack 8 (record { count = refl; reads = refl }))),
     ),
   ),
 )
@@ -161,7 +161,7 @@ argument_byte = (
       refl,
       omega arith,
       refl,
-      inr (refl, (36, 8 ∷ [], refl, omega arith, near_stack 8 (record { count = refl; reads = refl }))),
+      inr (refl, (0x24, 8 ∷ [], refl, omega arith, near_stack 8 (record { count = refl; reads = refl }))),
     ),
   ),
 )
@@ -178,7 +178,7 @@ argument_word = (
       refl,
       omega arith,
       refl,
-      inr (refl, (36, 4 ∷ [], refl, omega arith, near_stack 4 (record { count = refl; reads = refl }))),
+      inr (refl, (0x24, 4 ∷ [], refl, omega arith, near_stack 4 (record { count = refl; reads = refl }))),
     ),
   ),
 )

@@ -61,7 +61,7 @@ has_block (x ∷ xs) zero p h = omega arith
 has_block (x ∷ xs) (suc b) p h = omega (arith, has_block xs b p h)
 
 -- with one more variable
-pub flow-variable : (f : Flow) (homes : List ℕ) (w : Width) → IsFlow f homes → length f.widths < 4294967295
+pub flow-variable : (f : Flow) (homes : List ℕ) (w : Width) → IsFlow f homes → length f.widths < 0xffffffff
     → IsFlow (with_variable f w) homes
 flow-variable f homes w i h =
     let grows : Grows f (with_variable f w) =
@@ -86,8 +86,8 @@ flow-variable f homes w i h =
     }
 
 -- with one more frame array
-pub flow-array : (f : Flow) (homes : List ℕ) (w n : ℕ) → IsFlow f homes → IsArray (w, n) → n ≤ 4294967295
-    → length f.arrays < 4294967295
+pub flow-array : (f : Flow) (homes : List ℕ) (w n : ℕ) → IsFlow f homes → IsArray (w, n) → n ≤ 0xffffffff
+    → length f.arrays < 0xffffffff
     → IsFlow (with_array f w n) homes
 flow-array f homes w n i fit few h =
     let more = length-push f.arrays (w, n) in
@@ -98,7 +98,7 @@ flow-array f homes w n i fit few h =
       each_block = λ b. block-grows f (with_array f w n) homes homes grows (keeps-same homes) b
           (points_of f b) (i.each_block b);
       arrays_fit = all-push IsArray f.arrays (w, n) i.arrays_fit fit;
-      few_elements = all-push (λ (array : ℕ × ℕ). array.1 ≤ 4294967295) f.arrays (w, n) i.few_elements few;
+      few_elements = all-push (λ (array : ℕ × ℕ). array.1 ≤ 0xffffffff) f.arrays (w, n) i.few_elements few;
       numbers = i.numbers;
       few_variables = i.few_variables;
       few_arrays = omega (arith, more);
@@ -107,7 +107,7 @@ flow-array f homes w n i fit few h =
     }
 
 -- with one more block
-pub flow-block : (f : Flow) (homes : List ℕ) → IsFlow f homes → length f.blocks < 4294967295
+pub flow-block : (f : Flow) (homes : List ℕ) → IsFlow f homes → length f.blocks < 0xffffffff
     → IsFlow (with_block f) homes
 flow-block f homes i h =
     let more : length (f.blocks ++ [] ∷ []) ≡ length f.blocks + 1 = length-push f.blocks [] in
@@ -137,7 +137,7 @@ points-grow f b ps op = record {
 
 -- with one more point, where the block that it comes into keeps what it has to
 flow-points : (f : Flow) (homes : List ℕ) (b : ℕ) (ps : List ℕ) (op : Op) → IsFlow f homes → b < length f.blocks
-    → length f.ops < 4294967295 → NumbersFit op → IsBlock (with_points f b ps op) (homes ++ b ∷ []) b ps
+    → length f.ops < 0xffffffff → NumbersFit op → IsBlock (with_points f b ps op) (homes ++ b ∷ []) b ps
     → IsFlow (with_points f b ps op) (homes ++ b ∷ [])
 flow-points f homes b ps op i h room word w =
     let all_homes = length-push homes b in
@@ -169,7 +169,7 @@ new_home f homes b i = subst (λ (n : ℕ). slice_get (homes ++ b ∷ []) n ≡ 
 
 -- with a new point at the end of a block
 pub flow-append : (f : Flow) (homes : List ℕ) (b : ℕ) (op : Op) → IsFlow f homes → b < length f.blocks
-    → length f.ops < 4294967295 → (IsEnded f b → ⊥) → FitsOp f op → NumbersFit op
+    → length f.ops < 0xffffffff → (IsEnded f b → ⊥) → FitsOp f op → NumbersFit op
     → IsFlow (with_op f b op) (homes ++ b ∷ [])
 flow-append f homes b op i h room open_block fit word =
     let ps : List ℕ = points_of f b in
@@ -192,7 +192,7 @@ flow-append f homes b op i h room open_block fit word =
 
 -- with a new point right after a point
 pub flow-insert : (f : Flow) (homes : List ℕ) (b point : ℕ) (op : Op) → IsFlow f homes → b < length f.blocks
-    → length f.ops < 4294967295 → IsPlainAt f.ops point → is_end op ≡ false → FitsOp f op → NumbersFit op
+    → length f.ops < 0xffffffff → IsPlainAt f.ops point → is_end op ≡ false → FitsOp f op → NumbersFit op
     → IsFlow (with_op_after f b point op) (homes ++ b ∷ [])
 flow-insert f homes b point op i h room plain no_end fit word =
     let ps : List ℕ = points_of f b in

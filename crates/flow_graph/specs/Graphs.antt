@@ -162,19 +162,19 @@ NumbersFit (Div d a b) = Unit {0}
 NumbersFit (Rem d a b) = Unit {0}
 NumbersFit (Set how d a b) = Unit {0}
 NumbersFit (Frame d k) = Unit {0}
-NumbersFit (Static d k) = k < 4294967296
+NumbersFit (Static d k) = k < 0x1_0000_0000
 NumbersFit (Load bits d p i) = Unit {0}
 NumbersFit (Store bits p i s) = Unit {0}
-NumbersFit (Get bits d k) = k < 4294967296
-NumbersFit (Put bits k s) = k < 4294967296
+NumbersFit (Get bits d k) = k < 0x1_0000_0000
+NumbersFit (Put bits k s) = k < 0x1_0000_0000
 NumbersFit (Clear k) = Unit {0}
-NumbersFit (Param d k) = k < 4294967296
-NumbersFit (Call d f arguments) = f < 4294967296
+NumbersFit (Param d k) = k < 0x1_0000_0000
+NumbersFit (Call d f arguments) = f < 0x1_0000_0000
 NumbersFit (Putchar d s) = Unit {0}
 NumbersFit (Getchar d) = Unit {0}
 NumbersFit (Exit s) = Unit {0}
 NumbersFit (Same a b) = Unit {0}
-NumbersFit (Mark s) = s < 4294967296
+NumbersFit (Mark s) = s < 0x1_0000_0000
 NumbersFit Turn = Unit {0}
 NumbersFit (Jump x) = Unit {0}
 NumbersFit (Branch how a b x y) = Unit {0}
@@ -328,12 +328,12 @@ pub record IsFlow (flow : Flow) (homes : List ℕ) : Type 0 where
   pub one_home : length homes ≡ length flow.ops
   pub each_block : (block : ℕ) → IsBlock flow homes block (points_of flow block)
   pub arrays_fit : AllByRecursion IsArray flow.arrays
-  pub few_elements : AllByRecursion (λ array. array.1 ≤ 4294967295) flow.arrays
+  pub few_elements : AllByRecursion (λ array. array.1 ≤ 0xffffffff) flow.arrays
   pub numbers : AllByRecursion NumbersFit flow.ops
-  pub few_variables : length flow.widths ≤ 4294967295
-  pub few_arrays : length flow.arrays ≤ 4294967295
-  pub few_blocks : length flow.blocks ≤ 4294967295
-  pub few_points : length flow.ops ≤ 4294967295
+  pub few_variables : length flow.widths ≤ 0xffffffff
+  pub few_arrays : length flow.arrays ≤ 0xffffffff
+  pub few_blocks : length flow.blocks ≤ 0xffffffff
+  pub few_points : length flow.ops ≤ 0xffffffff
 
 -- ---- laws
 

@@ -67,7 +67,7 @@ shifted_right (negsuc n) k = negsuc (n / 2 ^ k)
 
 -- A zero divisor traps, and so does the quotient that doesn't fit.
 abbrev pub no_quotient : ℤ → ℤ → Bool
-no_quotient a b = if int_eq b (pos 0) then true else int_eq a (negsuc 2147483647) && int_eq b (negsuc 0)
+no_quotient a b = if int_eq b (pos 0) then true else int_eq a (negsuc 0x7fffffff) && int_eq b (negsuc 0)
 
 abbrev pub divided : GraphProgram → State → ℕ → ℕ → ℕ → (ℤ → ℤ → ℤ) → Moved
 divided program s d a b f =

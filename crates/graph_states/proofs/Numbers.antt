@@ -71,7 +71,7 @@ negated zero a le lt = zero-word
 negated (suc q) a le lt = record { sfits = omega (arith, le, lt) }
 
 -- the least number isn't divided by -1
-not-least : (a : ℕ) → no_quotient (negsuc a) (negsuc 0) ≡ false → a ≢ 2147483647
+not-least : (a : ℕ) → no_quotient (negsuc a) (negsuc 0) ≡ false → a ≢ 0x7fffffff
 not-least a e least = false≢true (sym (subst (λ (n : ℕ). no_quotient (negsuc n) (negsuc 0) ≡ false) least e))
 
 -- the quotient of two negative numbers

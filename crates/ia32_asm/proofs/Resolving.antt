@@ -54,14 +54,14 @@ right_rest labels points bound o x xs h =
 object_found : (symbols : Symbols) (k address : ℕ) → target_address symbols (object_target k) ≡ Some address
     → IsObject symbols k address
 object_found symbols k address e =
-    elim (cases_eq k 4294967295) [
-      | inl p ↦ let found : Some symbols.depth ≡ Some address = rw (eq-eqb k 4294967295 p) at e in inl (p, (cc found))
-      | inr p ↦ let found : slice_get symbols.objects k ≡ Some address = rw (ne_eqb k 4294967295 p) at e in inr found
+    elim (cases_eq k 0xffffffff) [
+      | inl p ↦ let found : Some symbols.depth ≡ Some address = rw (eq-eqb k 0xffffffff p) at e in inl (p, (cc found))
+      | inr p ↦ let found : slice_get symbols.objects k ≡ Some address = rw (ne_eqb k 0xffffffff p) at e in inr found
     ]
 
 object_not_relative : (k : ℕ) → is_relative (object_target k) ≡ false
 object_not_relative k =
-    elim (cases_eq k 4294967295) [ inl p ↦ rw (eq-eqb k 4294967295 p) refl | inr p ↦ rw (ne_eqb k 4294967295 p) refl ]
+    elim (cases_eq k 0xffffffff) [ inl p ↦ rw (eq-eqb k 0xffffffff p) refl | inr p ↦ rw (ne_eqb k 0xffffffff p) refl ]
 
 -- what stands at an item's place once its word is there
 abbrev OneAt : Symbols → ℕ → ℕ → List ℕ → List ℕ → Item → List ℕ → List ℕ → List ℕ → Type 0
@@ -85,60 +85,60 @@ one_at symbols base bound o labels points front tail (item.JumpTo l) xs e room h
   piece (distance_in labels o (item.JumpTo l)) (item.JumpTo l),
   refl,
   refl,
-  label_leads insn.Jmp (233 ∷ []) (λ z four r. inl (four, refl, r)) base o (slice_index labels l)
+  label_leads insn.Jmp (0xe9 ∷ []) (λ z four r. inl (four, refl, r)) base o (slice_index labels l)
       (omega (arith, h.within l)) (omega (arith, h.room)),
 )
 one_at symbols base bound o labels points front tail (item.JumpIf c l) xs e room h a = (
   piece (distance_in labels o (item.JumpIf c l)) (item.JumpIf c l),
   refl,
   refl,
-  label_leads (insn.Jcc c) (15 ∷ (128 + cond_number c)
+  label_leads (insn.Jcc c) (0x0f ∷ (0x80 + cond_number c)
       ∷ []) (λ z four r. inl (four, refl, r)) base o (slice_index labels l) (omega (arith, h.within l))
       (omega (arith, h.room)),
 )
 one_at symbols base bound o labels points front tail (item.CallFunction f) xs e room h a =
     let t : Target = target.Function f in (
-      232 ∷ little_bytes 4 (word_for symbols base (last_four (o + 5) t)),
-      word-placed symbols base o front (232 ∷ []) tail t e,
+      0xe8 ∷ little_bytes 4 (word_for symbols base (last_four (o + 5) t)),
+      word-placed symbols base o front (0xe8 ∷ []) tail t e,
       refl,
       (
         a.0,
         a.1,
-        target_leads insn.Call (232 ∷ []) (λ z four r. (four, refl, r)) symbols base o a.0 t refl a.1 a.2
+        target_leads insn.Call (0xe8 ∷ []) (λ z four r. (four, refl, r)) symbols base o a.0 t refl a.1 a.2
             (omega (arith, h.room)),
       ),
     )
 one_at symbols base bound o labels points front tail (item.CallStub s) xs e room h a =
     let t : Target = target.Stub s in
     let same : stub_address symbols s ≡ a.0 = (cc a.1) in (
-      232 ∷ little_bytes 4 (word_for symbols base (last_four (o + 5) t)),
-      word-placed symbols base o front (232 ∷ []) tail t e,
+      0xe8 ∷ little_bytes 4 (word_for symbols base (last_four (o + 5) t)),
+      word-placed symbols base o front (0xe8 ∷ []) tail t e,
       refl,
-      target_leads insn.Call (232 ∷ []) (λ z four r. (four, refl, r)) symbols base o (stub_address symbols s) t refl
+      target_leads insn.Call (0xe8 ∷ []) (λ z four r. (four, refl, r)) symbols base o (stub_address symbols s) t refl
           refl (omega (arith, same, a.2)) (omega (arith, h.room)),
     )
 one_at symbols base bound o labels points front tail (item.JumpTrap None) xs e room h a =
     let same : symbols.check ≡ a.0 = (cc a.1) in (
-      233 ∷ little_bytes 4 (word_for symbols base (last_four (o + 5) target.Check)),
-      word-placed symbols base o front (233 ∷ []) tail target.Check e,
+      0xe9 ∷ little_bytes 4 (word_for symbols base (last_four (o + 5) target.Check)),
+      word-placed symbols base o front (0xe9 ∷ []) tail target.Check e,
       refl,
-      target_leads (jump_if None) (233 ∷ []) (λ z four r. inl (four, refl, r)) symbols base o symbols.check target.Check
+      target_leads (jump_if None) (0xe9 ∷ []) (λ z four r. inl (four, refl, r)) symbols base o symbols.check target.Check
           refl refl (omega (arith, same, a.2)) (omega (arith, h.room)),
     )
 one_at symbols base bound o labels points front tail (item.JumpTrap (Some c)) xs e room h a =
     let same : symbols.check ≡ a.0 = (cc a.1) in (
-      15 ∷ (128 + cond_number c) ∷ little_bytes 4 (word_for symbols base (last_four (o + 6) target.Check)),
-      word-placed symbols base o front (15 ∷ (128 + cond_number c) ∷ []) tail target.Check e,
+      0x0f ∷ (0x80 + cond_number c) ∷ little_bytes 4 (word_for symbols base (last_four (o + 6) target.Check)),
+      word-placed symbols base o front (0x0f ∷ (0x80 + cond_number c) ∷ []) tail target.Check e,
       refl,
-      target_leads (jump_if (Some c)) (15 ∷ (128 + cond_number c) ∷ []) (λ z four r. inl (four, refl, r)) symbols base o
+      target_leads (jump_if (Some c)) (0x0f ∷ (0x80 + cond_number c) ∷ []) (λ z four r. inl (four, refl, r)) symbols base o
           symbols.check target.Check refl refl (omega (arith, same, a.2)) (omega (arith, h.room)),
     )
 one_at symbols base bound o labels points front tail (item.AddressOf r k) xs e room h a =
     let t : Target = object_target k in
     let word : word_for symbols base (last_four (o + 5) t) ≡ a.0 =
     target_word symbols base (o + 5) a.0 t (object_not_relative k) a.1 in (
-      (184 + number32 r) ∷ little_bytes 4 (word_for symbols base (last_four (o + 5) t)),
-      word-placed symbols base o front ((184 + number32 r) ∷ []) tail t e,
+      (0xb8 + number32 r) ∷ little_bytes 4 (word_for symbols base (last_four (o + 5) t)),
+      word-placed symbols base o front ((0xb8 + number32 r) ∷ []) tail t e,
       refl,
       (
         a.0,

@@ -99,13 +99,13 @@ zeros_one labels o front tail (item.Label l) e = tt
 zeros_one labels o front tail (item.Point p) e = tt
 zeros_one labels o front tail (item.JumpTo l) e = tt
 zeros_one labels o front tail (item.JumpIf c l) e = tt
-zeros_one labels o front tail (item.CallFunction f) e = zeros_last front (232 ∷ []) tail (o + 5 - 4) (omega (arith, e))
-zeros_one labels o front tail (item.CallStub s) e = zeros_last front (232 ∷ []) tail (o + 5 - 4) (omega (arith, e))
-zeros_one labels o front tail (item.JumpTrap None) e = zeros_last front (233 ∷ []) tail (o + 5 - 4) (omega (arith, e))
+zeros_one labels o front tail (item.CallFunction f) e = zeros_last front (0xe8 ∷ []) tail (o + 5 - 4) (omega (arith, e))
+zeros_one labels o front tail (item.CallStub s) e = zeros_last front (0xe8 ∷ []) tail (o + 5 - 4) (omega (arith, e))
+zeros_one labels o front tail (item.JumpTrap None) e = zeros_last front (0xe9 ∷ []) tail (o + 5 - 4) (omega (arith, e))
 zeros_one labels o front tail (item.JumpTrap (Some c)) e =
-    zeros_last front (15 ∷ (128 + cond_number c) ∷ []) tail (o + 6 - 4) (omega (arith, e))
+    zeros_last front (0x0f ∷ (0x80 + cond_number c) ∷ []) tail (o + 6 - 4) (omega (arith, e))
 zeros_one labels o front tail (item.AddressOf r k) e =
-    zeros_last front ((184 + number32 r) ∷ []) tail (o + 5 - 4) (omega (arith, e))
+    zeros_last front ((0xb8 + number32 r) ∷ []) tail (o + 5 - 4) (omega (arith, e))
 
 zeros_are : (labels : List ℕ) (o : ℕ) (front : List ℕ) (items : List Item) → length front ≡ o
     → (j : ℕ) (r : Relocation) → slice_get (relocations_of o items) j ≡ Some r

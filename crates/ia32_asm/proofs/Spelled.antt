@@ -21,19 +21,19 @@ spelled_in : (z : ℤ) (i : Item) → FitsSigned w32 z → IsSpelled i → IfSom
 spelled_in z (item.Plain i) f h = h
 spelled_in z (item.Label l) f h = tt
 spelled_in z (item.Point p) f h = tt
-spelled_in z (item.JumpTo l) f h = (233 ∷ word_bytes z, inl (word_bytes z, refl, reads_signed z f))
+spelled_in z (item.JumpTo l) f h = (0xe9 ∷ word_bytes z, inl (word_bytes z, refl, reads_signed z f))
 spelled_in z (item.JumpIf c l) f h =
-    (15 ∷ (128 + cond_number c) ∷ word_bytes z, inl (word_bytes z, refl, reads_signed z f))
+    (0x0f ∷ (0x80 + cond_number c) ∷ word_bytes z, inl (word_bytes z, refl, reads_signed z f))
 spelled_in z (item.CallFunction g) f h =
-    (232 ∷ word_bytes (pos 0), (word_bytes (pos 0), refl, reads_signed (pos 0) no_distance))
+    (0xe8 ∷ word_bytes (pos 0), (word_bytes (pos 0), refl, reads_signed (pos 0) no_distance))
 spelled_in z (item.CallStub s) f h =
-    (232 ∷ word_bytes (pos 0), (word_bytes (pos 0), refl, reads_signed (pos 0) no_distance))
+    (0xe8 ∷ word_bytes (pos 0), (word_bytes (pos 0), refl, reads_signed (pos 0) no_distance))
 spelled_in z (item.JumpTrap None) f h =
-    (233 ∷ word_bytes (pos 0), inl (word_bytes (pos 0), refl, reads_signed (pos 0) no_distance))
+    (0xe9 ∷ word_bytes (pos 0), inl (word_bytes (pos 0), refl, reads_signed (pos 0) no_distance))
 spelled_in z (item.JumpTrap (Some c)) f h =
-    (15 ∷ (128 + cond_number c) ∷ word_bytes (pos 0), inl (word_bytes (pos 0), refl, reads_signed (pos 0) no_distance))
+    (0x0f ∷ (0x80 + cond_number c) ∷ word_bytes (pos 0), inl (word_bytes (pos 0), refl, reads_signed (pos 0) no_distance))
 spelled_in z (item.AddressOf r k) f h =
-    ((184 + number32 r) ∷ word_bytes (pos 0), inl (word_bytes (pos 0), refl, reads_signed (pos 0) no_distance))
+    ((0xb8 + number32 r) ∷ word_bytes (pos 0), inl (word_bytes (pos 0), refl, reads_signed (pos 0) no_distance))
 
 pub spelled_some : (z : ℤ) (i : Item) (x : Insn) → FitsSigned w32 z → IsSpelled i → instruction_in z i ≡ Some x
     → HasSpelling x

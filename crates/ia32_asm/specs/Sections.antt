@@ -19,7 +19,7 @@ use Rattle.ia32_asm.specs.declared.section.Target.TheVariants as target
 
 -- the static object of a number, and for this number the depth word
 abbrev pub object_target : ℕ → Target
-object_target k = if k == 4294967295 then target.Depth else target.Object k
+object_target k = if k == 0xffffffff then target.Depth else target.Object k
 
 -- the target of an item that has one
 abbrev pub target_of : Item → Option Target

@@ -42,7 +42,7 @@ variable-computed n z h e =
     ∙ ap (λ (x : ℤ). to_z w32 (of_z w32 (negsuc 19 -ℤ x))) four ∙ whole
 
 -- that of an array, from its header's place
-pub array-computed : (header : ℕ) (z : ℤ) → 4 ≤ header → header ≤ 16384 → z ≡ pos header
+pub array-computed : (header : ℕ) (z : ℤ) → 4 ≤ header → header ≤ 0x4000 → z ≡ pos header
     → to_z w32 (of_z w32 (pos 4 -ℤ z)) ≡ offset_of (header - 4)
 array-computed header z low high e =
     ap (λ (x : ℤ). to_z w32 (of_z w32 (pos 4 -ℤ x))) e

@@ -269,8 +269,8 @@ opcode_found : (opcode : ℕ) (rest : List ℕ) → IfSome (read_opcode opcode r
 unfolding read_opcode
 opcode_found opcode rest =
     let Holds : Option (Insn × ℕ) → Type 0 = λ o. IfSome o (Found (opcode ∷ rest)) in
-    cond_both (opcode == 15) _ _ Holds
-    (λ e. known opcode 15 rest (λ n. read_two_byte rest) (eqb-true opcode 15 e) (two_byte_found rest))
+    cond_both (opcode == 0x0f) _ _ Holds
+    (λ e. known opcode 0x0f rest (λ n. read_two_byte rest) (eqb-true opcode 0x0f e) (two_byte_found rest))
     (λ e. cond_both (opcode == 0x66) _ _ Holds
     (λ e. known opcode 0x66 rest (λ n. read_sixteen rest) (eqb-true opcode 0x66 e) (sixteen_found rest))
     (λ e. cond_both (has_fields32 opcode) _ _ Holds

@@ -259,7 +259,7 @@ none-past (x ∷ elements) (suc i) e = let rest = none-past elements i e in omeg
 
 -- by where the index is: past the elements, as a word, or at one
 pub by-element : (P : Moved → Type 0) (elements : List ℤ) (z : ℤ) (go : ℤ → Moved) → FitsSigned w32 z
-    → length elements ≤ 2147483648 → (length elements ≤ cast_unsigned w32 z → P (Halts (Trapped Check)))
+    → length elements ≤ 0x80000000 → (length elements ≤ cast_unsigned w32 z → P (Halts (Trapped Check)))
     → ((i : ℕ) (n : ℤ) → z ≡ pos i → cast_unsigned w32 z ≡ i → slice_get elements i ≡ Some n → P (go n))
     → P (checked (element_at elements z) go)
 by-element P elements (negsuc i) go fits few past some =
@@ -275,18 +275,18 @@ by-element P elements (pos i) go fits few past some = chosen (slice_get elements
 pub record IsThere (code : Code) (s : machine.State) (word width : ℕ) (elements : List ℤ) : Type 0 where
   pub low : data_start code.text ≤ word
   pub now : StandNow s word width elements
-  pub few : length elements ≤ 2147483648
+  pub few : length elements ≤ 0x80000000
 
 few-elements : (code : Code) (input : List ℕ) (g : graph.State) (s : machine.State) (word width : ℕ)
     (elements : List ℤ) → IsSupported code → IsState code.program g → (shown : Shows code input g s) → 0 < width
     → IsNamed code g shown.frames word width elements
-    → (data_start code.text ≤ word) × (length elements ≤ 2147483648)
+    → (data_start code.text ≤ word) × (length elements ≤ 0x80000000)
 few-elements code input g s word width elements supported state shown some (inl (k, h)) =
     let ends = static-ends code g k word width elements supported state h in
     let low = ends.0 in
     let many = (zip-at AreElementsIn code.program.objects g.objects k h.object elements state.objects h.declared
     h.has).many in
-    let few = All-at (λ (x : graph.Object). length x.elements ≤ 2147483648) code.program.objects k h.object
+    let few = All-at (λ (x : graph.Object). length x.elements ≤ 0x80000000) code.program.objects k h.object
     supported.few h.declared in
     (omega (arith, low), omega (arith, many, few))
 few-elements code input g s word width elements supported state shown some (inr (c, k, h)) =
@@ -302,8 +302,8 @@ few-elements code input g s word width elements supported state shown some (inr 
     start : (d m w : ℕ) → d + m + 4 ≤ w → d ≤ w
     start d m w h = omega (arith, h)
 
-    counted : (w l z b size words : ℕ) → 0 < w → w * l ≤ z → 16 + z ≤ b → b + 4 ≤ size → 8 + size + words ≤ 16384
-        → l ≤ 2147483648
+    counted : (w l z b size words : ℕ) → 0 < w → w * l ≤ z → 16 + z ≤ b → b + 4 ≤ size → 8 + size + words ≤ 0x4000
+        → l ≤ 0x80000000
     counted w l z b size words some all inside header bytes =
         let more = mul-le 1 l w l some (omega arith) in
         omega (arith, more, all, inside, header, bytes)

@@ -145,7 +145,7 @@ points-apart code f h block other p q selected below under one two e =
 nop-at : (code : Code) (f block p : ℕ) (o : Op) → IsSelected code → f < length code.program.functions
     → Stands (flow_at code.program f) p block → op_of code.program f p ≡ Some o
     → row (flow_at code.program f) (placement_of code f) p o ≡ plain insn.Nop ∷ []
-    → IsAt code.text (point_address code f p) (144 ∷ [])
+    → IsAt code.text (point_address code f p) (0x90 ∷ [])
 nop-at code f block p o h below stands has e =
     let site : Site = site_of code f in
     let address : ℕ = point_address code f p in

@@ -89,8 +89,8 @@ module _ (code : Code) (input : List ℕ) (g : graph.State) (s t : machine.State
   -- arrays of the caller, and of those that wait for it
   arrays-behind : IsSupported code → IsState code.program G → (shown : Shows code input G s)
       → shown.frames ≡ word_of Ebp s ∷ base ∷ rest
-      → WaitFrom code (active_of G) shown.frames s w.activation base waiting rest → data_end code + 4096 ≤ word_of Esp s
-      → word_of Esp s ≤ base → data_end code + 4096 + frame_size code w.activation ≤ base
+      → WaitFrom code (active_of G) shown.frames s w.activation base waiting rest → data_end code + 0x1000 ≤ word_of Esp s
+      → word_of Esp s ≤ base → data_end code + 0x1000 + frame_size code w.activation ≤ base
       → data_start code.text + 4 ≤ data_end code
       → KeptBehind code H base s t → (i : ℕ) (a : Activation) (at : ℕ) → slice_get Active i ≡ Some a
       → slice_get (base ∷ rest) i ≡ Some at → FrameArraysStand code t at a
@@ -151,11 +151,11 @@ module _ (code : Code) (input : List ℕ) (g : graph.State) (s t : machine.State
           inr (inl (above base (frame_size code a) at distance b (frames-above code (active_of G) shown.frames s
           w.activation base waiting rest i a at chain e f) inside.high spans.0))
 
-      own-over : (low more size base at d x b : ℕ) → low + 4 ≤ more → more + 4096 + size ≤ base → base ≡ at
+      own-over : (low more size base at d x b : ℕ) → low + 4 ≤ more → more + 0x1000 + size ≤ base → base ≡ at
           → d + 4 ≤ size → x + d ≡ at → x ≤ b + 4 → low + 4 ≤ b
       own-over low more size base at d x b h k l m n o = omega arith
 
-      far-over : (low more size base at other d x b : ℕ) → low + 4 ≤ more → more + 4096 + size ≤ base
+      far-over : (low more size base at other d x b : ℕ) → low + 4 ≤ more → more + 0x1000 + size ≤ base
           → base + 8 + other ≤ at → d + 4 ≤ other → x + d ≡ at → x ≤ b + 4 → low + 4 ≤ b
       far-over low more size base at other d x b h k l m n o = omega arith
 
@@ -173,8 +173,8 @@ module _ (code : Code) (input : List ℕ) (g : graph.State) (s t : machine.State
 
   pub back-shows : IsSupported code → IsState code.program G → (shown : Shows code input G s)
       → shown.frames ≡ word_of Ebp s ∷ base ∷ rest
-      → WaitFrom code (active_of G) shown.frames s w.activation base waiting rest → data_end code + 4096 ≤ word_of Esp s
-      → word_of Esp s ≤ base → data_end code + 4096 + frame_size code w.activation ≤ base
+      → WaitFrom code (active_of G) shown.frames s w.activation base waiting rest → data_end code + 0x1000 ≤ word_of Esp s
+      → word_of Esp s ≤ base → data_end code + 0x1000 + frame_size code w.activation ≤ base
       → data_start code.text + 4 ≤ data_end code
       → base ≡ word_of Ebp s + 8 + 4 * length g.current.arguments + frame_size code w.activation
       → IsBehind code g w waiting variables point base s t
@@ -253,7 +253,7 @@ module _ (code : Code) (input : List ℕ) (g : graph.State) (s t : machine.State
           → esp + size ≡ ebp → base ≡ ebp + 8 + words + other → new + other ≡ base → top ≤ new + rest
       stacked top esp ebp size words other rest base new h e k l = omega arith
 
-      far : (low more size base a : ℕ) → low + 4 ≤ more → more + 4096 + size ≤ base → base ≤ a + 4 → low + 4 ≤ a
+      far : (low more size base a : ℕ) → low + 4 ≤ more → more + 0x1000 + size ≤ base → base ≤ a + 4 → low + 4 ≤ a
       far low more size base a h k l = omega arith
 
       alike : AreAlike Active (active_of H)
@@ -301,7 +301,7 @@ module _ (code : Code) (input : List ℕ) (g : graph.State) (s t : machine.State
           raised : (base at k : ℕ) → base ≤ at → base ≤ at + 8 + 4 * k + 4
           raised base at k h = omega arith
 
-          lifted : (low more size base at k : ℕ) → low + 4 ≤ more → more + 4096 + size ≤ base → base ≤ at
+          lifted : (low more size base at k : ℕ) → low + 4 ≤ more → more + 0x1000 + size ≤ base → base ≤ at
               → low + 4 ≤ at + 8 + 4 * k
           lifted low more size base at k h l m = omega arith
 

@@ -125,7 +125,7 @@ made site size point frame arrays belows one two rest s v u four room above at i
 -- the new frame has room above the data
 pub called-room : (code : Code) (input : List ℕ) (g : graph.State) (s : machine.State) → IsSupported code
     → IsState code.program g → (c : Called code input g s)
-    → data_end code + 4096 + frame_size code g.current ≤ c.frame
+    → data_end code + 0x1000 + frame_size code g.current ≤ c.frame
 called-room code input g s h state c =
     let small = stack-small code g.current g.waiting h state.active state.waiting in
     counted (data_start code.text) (length (data_bytes (objects_of code.program))) c.frame
@@ -134,7 +134,7 @@ called-room code input g s h state c =
   where
     counted : (low bytes frame words rest size most n : ℕ)
         → low + (round_up 4 bytes + 0x04001000) ≤ frame + 8 + words + rest
-        → 8 + size + words + rest + 4 * most ≤ 16384 * suc n → suc n ≤ 4096 → low + bytes + 4096 + size ≤ frame
+        → 8 + size + words + rest + 4 * most ≤ 0x4000 * suc n → suc n ≤ 4096 → low + bytes + 0x1000 + size ≤ frame
     counted low bytes frame words rest size most n room small few = omega arith
 
 -- the return address is in memory
@@ -199,16 +199,16 @@ begins code input g s h state c at =
           (same-plus (word_of Ebp v) c.frame (word_of Esp s) (p.1).ebp above) supports.arrays p.1 q.1 (sym point.0),
     )
   where
-    lower : (low bytes size frame : ℕ) → low + bytes + 4096 + size ≤ frame → low ≤ frame + 4
+    lower : (low bytes size frame : ℕ) → low + bytes + 0x1000 + size ≤ frame → low ≤ frame + 4
     lower low bytes size frame h = omega arith
 
-    enough : (low bytes size frame e : ℕ) → low + bytes + 4096 + size ≤ frame → frame + 4 ≡ e → low + size + 64 ≤ e
+    enough : (low bytes size frame e : ℕ) → low + bytes + 0x1000 + size ≤ frame → frame + 4 ≡ e → low + size + 64 ≤ e
     enough low bytes size frame e h k = omega arith
 
     ended : (frame e high : ℕ) → frame + 4 ≡ e → frame + 4 + 4 ≤ high → e + 4 ≤ high
     ended frame e high h k = omega arith
 
-    within : (d size frame : ℕ) → d + 4096 + size ≤ frame → size ≤ frame
+    within : (d size frame : ℕ) → d + 0x1000 + size ≤ frame → size ≤ frame
     within d size frame h = omega arith
 
     same-plus : (a b e : ℕ) → a + 4 ≡ e → b + 4 ≡ e → a ≡ b

@@ -45,7 +45,7 @@ own-address site items s sound ready =
     ap (λ (e : ℕ). let t : State = record s { eip = e } in t) (mod-eq_of_lt small)
   where
     counted : (e d r n low m high : ℕ) → e ≡ text_start + d → n ≡ d + r → text_start + n ≤ low → low + m ≡ high
-        → high < 4294967296 → e < 2 ^ 32
+        → high < 0x1_0000_0000 → e < 2 ^ 32
     counted e d r n low m high h i j k l = omega arith
 
 -- ---- up to the call

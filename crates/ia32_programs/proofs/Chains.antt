@@ -195,13 +195,13 @@ words-most (p ∷ ops) (suc k) o e =
 pub stack-small : (code : Code) (a : Activation) (waiting : List Waiting) → IsSupported code
     → AreActivations code.program (a ∷ map (λ w. w.activation) waiting) → AreWaiting code.program a waiting
     → stack_bytes code (a ∷ map (λ w. w.activation) waiting) + 4 * most_words (flow_at code.program a.function).ops
-    ≤ 16384 * suc (length waiting)
+    ≤ 0x4000 * suc (length waiting)
 stack-small code a [] h active waits =
     let none : length a.arguments ≡ 0 = ap length waits.1 in
     let bytes = h.bytes a.function active.0.function in
     counted (frame_size code a) (length a.arguments) (most_words (flow_at code.program a.function).ops) none bytes
   where
-    counted : (f n m : ℕ) → n ≡ 0 → 8 + f + 4 * m ≤ 16384 → 8 + f + 4 * n + 0 + 4 * m ≤ 16384 * 1
+    counted : (f n m : ℕ) → n ≡ 0 → 8 + f + 4 * m ≤ 0x4000 → 8 + f + 4 * n + 0 + 4 * m ≤ 0x4000 * 1
     counted f n m e b = omega arith
 stack-small code a (w ∷ waiting) h active waits =
     let bytes = h.bytes a.function active.0.function in
@@ -216,6 +216,6 @@ stack-small code a (w ∷ waiting) h active waits =
     (length one.words) (most_words (flow_at code.program w.activation.function).ops)
     (stack_bytes code (w.activation ∷ map (λ v. v.activation) waiting)) (length waiting) many most bytes rest
   where
-    counted : (f n m k l r c : ℕ) → k ≡ n → k ≤ l → 8 + f + 4 * m ≤ 16384 → r + 4 * l ≤ 16384 * suc c
-        → 8 + f + 4 * n + r + 4 * m ≤ 16384 * suc (suc c)
+    counted : (f n m k l r c : ℕ) → k ≡ n → k ≤ l → 8 + f + 4 * m ≤ 0x4000 → r + 4 * l ≤ 0x4000 * suc c
+        → 8 + f + 4 * n + r + 4 * m ≤ 0x4000 * suc (suc c)
     counted f n m k l r c e h b s = omega arith

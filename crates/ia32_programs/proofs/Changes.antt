@@ -67,10 +67,10 @@ negated =
         let bits = wrapping_sub-bits w32 0 n (omega arith) small in
         let same : neg_ℤ x ≡ cast_signed w32 0 -ℤ cast_signed w32 n =
         from-zero x ∙ ap (λ (z : ℤ). cast_signed w32 0 -ℤ z) (sym (to_z-of_z w32 x f)) in
-        let back : cast_unsigned w32 (int_wrap w32 (neg_ℤ x)) ≡ (0 + (4294967296 - n)) % 4294967296 =
+        let back : cast_unsigned w32 (int_wrap w32 (neg_ℤ x)) ≡ (0 + (0x1_0000_0000 - n)) % 0x1_0000_0000 =
         ap (λ (z : ℤ). cast_unsigned w32 (int_wrap w32 z)) same ∙ ap (cast_unsigned w32) (sym bits)
-        ∙ of_z-to_z w32 ((0 + (4294967296 - n)) % 4294967296) (omega arith) in
-        back ∙ ap (λ (k : ℕ). k % 4294967296) (let e : 0 + (4294967296 - n) ≡ 4294967296 - n = omega arith in e)
+        ∙ of_z-to_z w32 ((0 + (0x1_0000_0000 - n)) % 0x1_0000_0000) (omega arith) in
+        back ∙ ap (λ (k : ℕ). k % 0x1_0000_0000) (let e : 0 + (0x1_0000_0000 - n) ≡ 0x1_0000_0000 - n = omega arith in e)
 
 -- NOT
 complemented : IsChangedBy complement (int_bit_not w32)

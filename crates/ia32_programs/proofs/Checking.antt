@@ -127,7 +127,7 @@ test-makes site t w s sound is =
     })
 
 -- the four bytes before an address
-count-address : (w : ℕ) → 4 ≤ w → w < 4294967296 → (w + 0 + 4294967292) % 4294967296 ≡ w - 4
+count-address : (w : ℕ) → 4 ≤ w → w < 0x1_0000_0000 → (w + 0 + 0xfffffffc) % 0x1_0000_0000 ≡ w - 4
 count-address w h k = omega (arith, h, k)
 
 compare-makes : (site : Site) (t r : Reg32) (w i n : ℕ) (s : State) → SoundAt site s → word_of t s ≡ w
@@ -136,7 +136,7 @@ compare-makes : (site : Site) (t r : Reg32) (w i n : ℕ) (s : State) → SoundA
 compare-makes site t r w i n s sound base index front held =
     let below = word-below site.text site.low site.high t s sound in
     let at : address_of (count_before t) s ≡ w - 4 =
-    ap (λ (b : ℕ). (b + 0 + 4294967292) % 4294967296) base ∙ count-address w front (omega (arith, base, below)) in
+    ap (λ (b : ℕ). (b + 0 + 0xfffffffc) % 0x1_0000_0000) base ∙ count-address w front (omega (arith, base, below)) in
     let loaded : load 4 (address_of (count_before t) s) s ≡ Ok n = ap (λ (a : ℕ). load 4 a s) at ∙ held in
     subst (λ (v : ℕ). Makes site (insn.AluLoad alu.Cmp r (count_before t)) s
     (with_flags (Some (alu_flags alu.Cmp v n)) s))

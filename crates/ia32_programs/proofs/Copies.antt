@@ -78,7 +78,7 @@ word-small code input g s (Array (Static k)) w supported state shown h =
     (word_of Ebp s)
     (stack_end code.text (objects_of code.program)) at.high b.room b.esp b.top supported.fits
   where
-    counted : (w m d x z e t : ℕ) → w + m ≤ d → d + 4096 ≤ x → x + z ≡ e → e + 8 ≤ t → t < 4294967296 → w < 2 ^ 32
+    counted : (w m d x z e t : ℕ) → w + m ≤ d → d + 0x1000 ≤ x → x + z ≡ e → e + 8 ≤ t → t < 0x1_0000_0000 → w < 2 ^ 32
     counted w m d x z e t h i j k l = omega arith
 word-small code input g s (Array (InFrame k depth)) w supported state shown h =
     let i : ℕ = length (active_of g) - depth in
@@ -97,10 +97,10 @@ word-small code input g s (Array (InFrame k depth)) w supported state shown h =
     returns.1 (omega arith) in
     counted w h.below h.frame (stack_end code.text (objects_of code.program)) h.address top supported.fits
   where
-    low : (s m x z f : ℕ) → s + m + 4096 ≤ x → x + z ≤ f → s ≤ f + 4
+    low : (s m x z f : ℕ) → s + m + 0x1000 ≤ x → x + z ≤ f → s ≤ f + 4
     low s m x z f h k = omega arith
 
-    counted : (w b f t : ℕ) → w + b ≡ f → f + 4 + 4 ≤ t → t < 4294967296 → w < 2 ^ 32
+    counted : (w b f t : ℕ) → w + b ≡ f → f + 4 + 4 ≤ t → t < 0x1_0000_0000 → w < 2 ^ 32
     counted w b f t h i j = omega arith
 
 -- ---- the copy

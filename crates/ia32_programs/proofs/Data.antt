@@ -147,7 +147,7 @@ width-some w (inr (inr e)) = omega (arith, e)
 
 -- an object's number of elements and its elements stand at its address
 object-elements : (text : List ℕ) (objects : List Object) (input : List ℕ) (k : ℕ) (o : Object)
-    → stack_end text objects < 2 ^ 32 → IsObject o → length o.elements ≤ 2147483648
+    → stack_end text objects < 2 ^ 32 → IsObject o → length o.elements ≤ 0x80000000
     → (at : ObjectIn (data_start text + 4) objects k o)
     → ElementsStand (text_state text objects input) at.address o.width o.elements
 unfolding begins-sound
@@ -173,7 +173,7 @@ object-elements text objects input k o fits is few at =
     count-place : (low f l a : ℕ) → l ≡ 4 + f → low + 4 + f + 4 ≡ a → low + l ≡ a - 4
     count-place low f l a e h = omega arith
 
-    small : (n : ℕ) → n ≤ 2147483648 → n < 256 ^ 4
+    small : (n : ℕ) → n ≤ 0x80000000 → n < 256 ^ 4
     small n h = omega arith
 
     element-place : (low f g c l a w : ℕ) → l ≡ 4 + (f + (c + g)) → c ≡ 4 → g ≡ w → low + 4 + f + 4 ≡ a
@@ -349,7 +349,7 @@ objects-begin code input h k elements e =
     let objects : List Object = code.program.objects in
     let (o, declared, same) = map-of (λ (x : Object). x.elements) objects k elements e in
     let is : IsObject o = All-at IsObject objects k o (h.program).objects declared in
-    let few = All-at (λ (x : Object). length x.elements ≤ 2147483648) objects k o h.few declared in
+    let few = All-at (λ (x : Object). length x.elements ≤ 0x80000000) objects k o h.few declared in
     let there : slice_get (objects_of code.program) k ≡ Some (copied o) =
     slice_get-map copied objects k ∙ ap (λ (x : Option Object). option_map copied x) declared in
     let at = object-in (data_start code.text + 4) (objects_of code.program) k (copied o) there in

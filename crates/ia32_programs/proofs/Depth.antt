@@ -98,7 +98,7 @@ points site items s sound has ready =
     )
 
 -- the word that ESI points to
-pointed-address : (base : ℕ) → base < 4294967296 → (base + 0 + 0) % 4294967296 ≡ base
+pointed-address : (base : ℕ) → base < 0x1_0000_0000 → (base + 0 + 0) % 0x1_0000_0000 ≡ base
 pointed-address base h = omega (arith, h)
 
 pointed-loaded : (site : Site) (d : ℕ) (s : State) → SoundAt site s → HasDepth site

@@ -133,7 +133,7 @@ record Divides (site : Site) (frame : ℕ) (q r : Place) (x y : ℕ) (s u : Stat
 sign-small : (x : ℕ) → sign_word x < 2 ^ 32
 sign-small x = by (is_negative x)
   where
-    by : (b : Bool) → (if b then 4294967295 else 0) < 4294967296
+    by : (b : Bool) → (if b then 0xffffffff else 0) < 0x1_0000_0000
     by true = omega arith
     by false = omega arith
 

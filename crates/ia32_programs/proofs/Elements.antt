@@ -235,7 +235,7 @@ stored-follows code input g s u o array address width elements i z after rest su
 
 -- ---- stored numbers
 
-half-back : (h : ℕ) → h < 65536 → extended16 h % 65536 ≡ h
+half-back : (h : ℕ) → h < 0x10000 → extended16 h % 0x10000 ≡ h
 half-back h small = grind (arith, ints)
 
 -- the low bits of a number are those of what is stored
@@ -246,8 +246,8 @@ stored-low Eight n fits =
     low-byte n fits ∙ sym (low-byte m (element-fits Eight m (stored-fits Eight n fits))
     ∙ ap (cast_unsigned w8) (int_wrap_fits w8 m (SFits-int_wrap w8 n)))
 stored-low Sixteen n fits =
-    let h : ℕ = cast_unsigned w32 n % 65536 in
-    sym (ap (λ (k : ℕ). k % 65536) (low-half-is n fits) ∙ half-back h (omega arith))
+    let h : ℕ = cast_unsigned w32 n % 0x10000 in
+    sym (ap (λ (k : ℕ). k % 0x10000) (low-half-is n fits) ∙ half-back h (omega arith))
 stored-low ThirtyTwo n fits = refl
 
 -- ---- the op

@@ -57,14 +57,14 @@ use Rattle.ia32_programs.proofs.Younger.{all-younger, old-deeper, word-younger}
 -- the stack has room for the words that an op passes, above the data
 call-room : (code : Code) (input : List ℕ) (g : graph.State) (s : machine.State) → IsSupported code
     → IsState code.program g → Shows code input g s
-    → data_end code + 4096 + 4 * most_words (flow_at code.program g.current.function).ops ≤ word_of Esp s
+    → data_end code + 0x1000 + 4 * most_words (flow_at code.program g.current.function).ops ≤ word_of Esp s
 call-room code input g s h state shown =
     counted (data_start code.text) (length (data_bytes (objects_of code.program))) (word_of Esp s)
     (stack_bytes code (active_of g)) (most_words (flow_at code.program g.current.function).ops) (length g.waiting)
     shown.room (stack-small code g.current g.waiting h state.active state.waiting) shown.few
   where
     counted : (low bytes esp stack most n : ℕ) → low + (round_up 4 bytes + 0x04001000) ≤ esp + stack
-        → stack + 4 * most ≤ 16384 * suc n → suc n ≤ 4096 → low + bytes + 4096 + 4 * most ≤ esp
+        → stack + 4 * most ≤ 0x4000 * suc n → suc n ≤ 4096 → low + bytes + 0x1000 + 4 * most ≤ esp
     counted low bytes esp stack most n room small few = omega arith
 
 -- ---- the state with the call begun
@@ -87,7 +87,7 @@ KeptByCall code s u =
 kept-by-call : (code : Code) (g : graph.State) (site : Site) (back : List Item) (f d : ℕ) (words : List ℕ)
     (s u : machine.State) → site.symbols ≡ code.symbols → code.symbols.depth ≡ data_start code.text
     → 4 ≤ length (data_bytes (objects_of code.program))
-    → data_end code + 4096 + 4 * length words ≤ word_of Esp s → CallMade site back f words d s u → KeptByCall code s u
+    → data_end code + 0x1000 + 4 * length words ≤ word_of Esp s → CallMade site back f words d s u → KeptByCall code s u
 kept-by-call code g site back f d words s u same depth four room made n b w (inl above) e =
     let down = made.esp in
     made.kept n b w (subst (λ (x : ℕ). AreDisjoint x 4 b n) (sym (ap (λ (y : Symbols). y.depth) same))
@@ -95,7 +95,7 @@ kept-by-call code g site back f d words s u same depth four room made n b w (inl
     (length words) (word_of Esp s) b depth four room above)))
     (inl (omega (arith, down, above))) e
   where
-    counted : (low depth bytes m esp b : ℕ) → depth ≡ low → 4 ≤ bytes → low + bytes + 4096 + 4 * m ≤ esp → esp ≤ b
+    counted : (low depth bytes m esp b : ℕ) → depth ≡ low → 4 ≤ bytes → low + bytes + 0x1000 + 4 * m ≤ esp → esp ≤ b
         → depth + 4 ≤ b
     counted low depth bytes m esp b e h room k = omega arith
 kept-by-call code g site back f d words s u same depth four room made n b w (inr inside) e =
@@ -106,7 +106,7 @@ kept-by-call code g site back f d words s u same depth four room made n b w (inr
     (inl (omega (arith, low, depth))))
     (inr (counted (data_end code) (length words) (word_of Esp s) (word_of Esp u) (b + n) room down high)) e
   where
-    counted : (d m esp u a : ℕ) → d + 4096 + 4 * m ≤ esp → u + 4 + 4 * m ≡ esp → a ≤ d → a ≤ u
+    counted : (d m esp u a : ℕ) → d + 0x1000 + 4 * m ≤ esp → u + 4 + 4 * m ≡ esp → a ≤ d → a ≤ u
     counted d m esp u a room down h = omega arith
 
 -- ---- the parts of what is shown
@@ -275,7 +275,7 @@ begun-called : (code : Code) (input : List ℕ) (g : graph.State) (s u : machine
     → AreWords code g shown.frames s arguments values words → depth_of g < 4096
     → site.symbols ≡ code.symbols → site.text ≡ code.text → site.low ≡ data_start code.text
     → site.high ≡ stack_end code.text (objects_of code.program)
-    → data_end code + 4096 + 4 * length words ≤ word_of Esp s
+    → data_end code + 0x1000 + 4 * length words ≤ word_of Esp s
     → (made : CallMade site back f words (depth_of g) s u)
     → ReturnsTo code (record { activation = g.current; block = g.block; point = g.point }) f made.return_address
     → entry_of code.program f 0 ≡ Some point → Called code input (begun code g f values point) u
@@ -354,7 +354,7 @@ begun-called code input g s u site back d f arguments values words point h state
       of_input = made.left ∙ shown.of_input ∙ ap (λ (k : ℕ). drop k input) (sym made.taken);
     }
   where
-    lower : (d m u s : ℕ) → d + 4096 + 4 * m ≤ s → u + 4 + 4 * m ≡ s → u - 4 + 4 ≡ u
+    lower : (d m u s : ℕ) → d + 0x1000 + 4 * m ≤ s → u + 4 + 4 * m ≡ s → u - 4 + 4 ≡ u
     lower d m u s room down = omega arith
 
     counted : (f u m n s : ℕ) → f + 4 ≡ u → m ≡ n → u + 4 + 4 * m ≡ s → f + 8 + 4 * n ≡ s
@@ -438,7 +438,7 @@ call-comes d f arguments code input g s h state shown has at =
         let most = words-most (flow_at code.program g.current.function).ops g.point (op.Call d f arguments) has in
         let many = are.many in
         let long = are.long in
-        let room : data_end code + 4096 + 4 * length words ≤ word_of Esp s =
+        let room : data_end code + 0x1000 + 4 * length words ≤ word_of Esp s =
         counted (data_end code) (most_words (flow_at code.program g.current.function).ops) (length words)
         (length values) (length arguments) (word_of Esp s) (call-room code input g s h state shown) most many long in
         let made = call-makes site size f places words (depth_of g) (item.Point 0 ∷ []) s framed depth
@@ -456,10 +456,10 @@ call-comes d f arguments code input g s h state shown has at =
               at.returns_to) first,
         )
       where
-        counted : (d m n v a esp : ℕ) → d + 4096 + 4 * m ≤ esp → a ≤ m → n ≡ v → v ≡ a → d + 4096 + 4 * n ≤ esp
+        counted : (d m n v a esp : ℕ) → d + 0x1000 + 4 * m ≤ esp → a ≤ m → n ≡ v → v ≡ a → d + 0x1000 + 4 * n ≤ esp
         counted d m n v a esp room most h k = omega arith
 
-        enough : (low depth bytes n esp : ℕ) → depth ≡ low → 4 ≤ bytes → low + bytes + 4096 + 4 * n ≤ esp
+        enough : (low depth bytes n esp : ℕ) → depth ≡ low → 4 ≤ bytes → low + bytes + 0x1000 + 4 * n ≤ esp
             → depth + 4 * n + 16 ≤ esp
         enough low depth bytes n esp e h room = omega arith
 

@@ -231,18 +231,18 @@ entered-shows code input g s u h state c b =
       of_input = b.left ∙ c.of_input ∙ ap (λ (k : ℕ). drop k input) (sym b.taken);
     }
   where
-    less : (d size f : ℕ) → d + 4096 + size ≤ f → size ≤ f
+    less : (d size f : ℕ) → d + 0x1000 + size ≤ f → size ≤ f
     less d size f h = omega arith
 
     stacked : (top f words rest size esp : ℕ) → top ≤ f + 8 + words + rest → esp + size ≡ f
         → top ≤ esp + (8 + size + words + rest)
     stacked top f words rest size esp h e = omega arith
 
-    counted : (low depth bytes size f : ℕ) → depth ≡ low → 4 ≤ bytes → low + bytes + 4096 + size ≤ f
+    counted : (low depth bytes size f : ℕ) → depth ≡ low → 4 ≤ bytes → low + bytes + 0x1000 + size ≤ f
         → depth + 4 + size ≤ f
     counted low depth bytes size f e h room = omega arith
 
-    beneath : (d size f a n : ℕ) → d + 4096 + size ≤ f → a + n ≤ d → a + n + size ≤ f
+    beneath : (d size f a n : ℕ) → d + 0x1000 + size ≤ f → a + n ≤ d → a + n + size ≤ f
     beneath d size f a n h k = omega arith
 
     argument-above : (i : ℕ) (a : Activation) (at number : ℕ) → slice_get (active_of g) i ≡ Some a

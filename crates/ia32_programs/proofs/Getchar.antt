@@ -63,17 +63,17 @@ read-does a s eax ebx ecx edx =
 
 -- where the input is at its end
 takes-none : (site : Site) (items : List Item) (a : ℕ) (s : State) → SoundAt site s
-    → ReadyAt site (plain (insn.Int 128) ∷ items) s → word_of Eax s ≡ 3 → word_of Ebx s ≡ 0 → word_of Ecx s ≡ a
+    → ReadyAt site (plain (insn.Int 0x80) ∷ items) s → word_of Eax s ≡ 3 → word_of Ebx s ≡ 0 → word_of Ecx s ≡ a
     → word_of Edx s ≡ 1 → load 4 a s ≡ Ok 0 → site.low ≤ a → a + 4 ≤ site.high → s.left ≡ []
     → (u : State) × Took site items a 0 0 s.left s.taken s u
 takes-none site items a s sound ready eax ebx ecx edx held low high none =
     let may = (byte-stores site a 0 s sound low high held (omega arith)).1.may in
     let t : State = with_word Eax 0 s in
-    let does : effect (insn.Int 128) 0 s ≡ Ok t =
+    let does : effect (insn.Int 0x80) 0 s ≡ Ok t =
     read-does a s eax ebx ecx edx
     ∙ ap (λ (b : Bool). if b then take_byte a s.left s else Err (denied a s)) may
     ∙ ap (λ (l : List ℕ). take_byte a l s) none in
-    let went = plain-goes site.symbols site.places site.text site.low site.high (insn.Int 128) items s t sound ready tt
+    let went = plain-goes site.symbols site.places site.text site.low site.high (insn.Int 0x80) items s t sound ready tt
     (λ after. does) (λ after. refl) in
     let u : State = at_address went.0 t in (
       u,
@@ -95,7 +95,7 @@ takes-none site items a s sound ready eax ebx ecx edx held low high none =
 
 -- and where it has a byte
 takes-one : (site : Site) (items : List Item) (a y : ℕ) (rest : List ℕ) (s : State) → SoundAt site s
-    → ReadyAt site (plain (insn.Int 128) ∷ items) s → word_of Eax s ≡ 3 → word_of Ebx s ≡ 0 → word_of Ecx s ≡ a
+    → ReadyAt site (plain (insn.Int 0x80) ∷ items) s → word_of Eax s ≡ 3 → word_of Ebx s ≡ 0 → word_of Ecx s ≡ a
     → word_of Edx s ≡ 1 → load 4 a s ≡ Ok 0 → site.low ≤ a → a + 4 ≤ site.high → s.left ≡ y ∷ rest → y < 256
     → (u : State) × Took site items a 1 y rest (s.taken + 1) s u
 takes-one site items a y rest s sound ready eax ebx ecx edx held low high some small =
@@ -112,13 +112,13 @@ takes-one site items a y rest s sound ready eax ebx ecx edx held low high some s
       registers = h.sound.registers;
     } in
     let t : State = with_word Eax 1 m in
-    let does : effect (insn.Int 128) 0 s ≡ Ok t =
+    let does : effect (insn.Int 0x80) 0 s ≡ Ok t =
     read-does a s eax ebx ecx edx
     ∙ ap (λ (b : Bool). if b then take_byte a s.left s else Err (denied a s)) h.may
     ∙ ap (λ (l : List ℕ). take_byte a l s) some
     ∙ ap (λ (x : Result State End). and_then x (λ w. let q : Result State End =
     Ok (with_word Eax 1 (record w { left = rest; taken = w.taken + 1 })) in q)) h.is in
-    let went = plain-goes site.symbols site.places site.text site.low site.high (insn.Int 128) items s t sound ready tt
+    let went = plain-goes site.symbols site.places site.text site.low site.high (insn.Int 0x80) items s t sound ready tt
     (λ after. does) (λ after. refl) in
     let u : State = at_address went.0 t in (
       u,
@@ -145,7 +145,7 @@ takes-one site items a y rest s sound ready eax ebx ecx edx held low high some s
 -- the items from the system call on
 abbrev reading : List Item
 reading =
-    plain (insn.Int 128)
+    plain (insn.Int 0x80)
     ∷ plain (insn.AluImm alu.Sub (rm.Reg Eax) (pos 1))
     ∷ plain (insn.Pop Ecx)
     ∷ plain (insn.Alu alu.Or (rm.Reg Eax) Ecx)
@@ -559,17 +559,17 @@ answers site n y r address left taken s m u sound p k small is fits also held ba
 -- at the end of the input it gives -1
 pub gets-none : (site : Site) (address : ℕ) (s : State) → SoundAt site s → ReadyAt site getchar_items s
     → site.low + 8 ≤ word_of Esp s → word_of Esp s + 4 ≤ site.high → load 4 (word_of Esp s) s ≡ Ok address
-    → address < 2 ^ 32 → s.left ≡ [] → (t : State) × Got site 4294967295 address s.left s.taken s t
+    → address < 2 ^ 32 → s.left ≡ [] → (t : State) × Got site 0xffffffff address s.left s.taken s t
 gets-none site address s sound ready room top held fits none =
     let p = asks site s sound ready room top in
     let m : State = p.0 in
     let k = takes-none site answering (word_of Esp s - 8) m p.1.sound p.1.ready p.1.eax p.1.ebx p.1.ecx p.1.edx p.1.zero
     (omega (arith, room)) (omega (arith, room, top)) (p.1.left ∙ none) in
-    let g = answers site 0 0 4294967295 address m.left m.taken s m k.0 sound p.1 k.1 (omega arith)
-    (or_zero_r 4294967295) (omega arith) (omega arith) held fits room top in (
+    let g = answers site 0 0 0xffffffff address m.left m.taken s m k.0 sound p.1 k.1 (omega arith)
+    (or_zero_r 0xffffffff) (omega arith) (omega arith) held fits room top in (
       g.0,
-      subst (λ (l : List ℕ). Got site 4294967295 address l s.taken s g.0) p.1.left
-          (subst (λ (n : ℕ). Got site 4294967295 address m.left n s g.0) p.1.taken g.1),
+      subst (λ (l : List ℕ). Got site 0xffffffff address l s.taken s g.0) p.1.left
+          (subst (λ (n : ℕ). Got site 0xffffffff address m.left n s g.0) p.1.taken g.1),
     )
 
 -- and else the next byte

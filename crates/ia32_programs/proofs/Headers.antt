@@ -75,7 +75,7 @@ two-apart base size d other z y a b c (inl h) = inl (omega arith)
 two-apart base size d other z y a b c (inr h) = inr (omega arith)
 
 pub headers-go : (site : Site) (size : ℕ) (arrays : List (ℕ × ℕ)) (belows : List ℕ) (items : List Item) (s : State)
-    → Framed site size s → AreArraysIn arrays size belows → AllByRecursion (λ array. array.1 ≤ 4294967295) arrays
+    → Framed site size s → AreArraysIn arrays size belows → AllByRecursion (λ array. array.1 ≤ 0xffffffff) arrays
     → ReadyAt site (headers arrays belows ++ items) s → (u : State) × Headed site size items arrays belows s u
 headers-go site size arrays [] items s framed inside few ready =
     (s, none-headed site size items arrays [] s framed ready (λ k distance array e f. none-some distance f))
@@ -118,7 +118,7 @@ headers-go site size (array ∷ arrays) (d ∷ belows) items s framed inside few
       },
     )
   where
-    fits : (n : ℕ) → n ≤ 4294967295 → cast_unsigned w32 (pos n) < 2 ^ 32
+    fits : (n : ℕ) → n ≤ 0xffffffff → cast_unsigned w32 (pos n) < 2 ^ 32
     fits n h = omega arith
 
     each : (base : ℕ) (m u : State) → base ≡ word_of Ebp s → load 4 (word_of Ebp s - (d + 4)) u ≡ Ok array.1

@@ -325,7 +325,7 @@ protected-is-apart code input g s a n supported state shown reads =
     placed b four (InWord r) for h = tt
     placed b four (InByte r) for (inl h) = inr (less (data_end code) (word_of Esp s) frame E a n b.room b.esp four h)
       where
-        less : (d x m e a n : ℕ) → d + 4096 ≤ x → x + m ≡ e → 16 ≤ m → a + n ≤ d → a + n ≤ e - 16
+        less : (d x m e a n : ℕ) → d + 0x1000 ≤ x → x + m ≡ e → 16 ≤ m → a + n ≤ d → a + n ≤ e - 16
         less d x m e a n r h f l = omega arith
     placed b four (InByte r) for (inr (inl h)) = inl (less (word_of Esp s) frame E a b.esp four h)
       where
@@ -339,7 +339,7 @@ protected-is-apart code input g s a n supported state shown reads =
     placed b four (InSlot slot) for (inl h) =
         inr (less (data_end code) (word_of Esp s) frame E slot a n b.room b.esp for.inside.high h)
       where
-        less : (d x m e k a n : ℕ) → d + 4096 ≤ x → x + m ≡ e → k ≤ m → a + n ≤ d → a + n ≤ e - k
+        less : (d x m e k a n : ℕ) → d + 0x1000 ≤ x → x + m ≡ e → k ≤ m → a + n ≤ d → a + n ≤ e - k
         less d x m e k a n r h f l = omega arith
     placed b four (InSlot slot) for (inr (inl h)) =
         inl (less (word_of Esp s) frame E slot a b.esp for.inside.low for.inside.high h)
@@ -373,13 +373,13 @@ pushed-is-apart code input g s bytes supported state shown few =
           for.inside.high few);
     }
   where
-    stacked : (d x m a : ℕ) → d + 4096 ≤ x → m ≤ 4096 → x ≤ a → x - m + m ≤ a
+    stacked : (d x m a : ℕ) → d + 0x1000 ≤ x → m ≤ 0x1000 → x ≤ a → x - m + m ≤ a
     stacked d x m a h k l = omega arith
 
-    behind : (d x m a n : ℕ) → d + 4096 ≤ x → m ≤ 4096 → a + n ≤ d → a + n ≤ x - m
+    behind : (d x m a n : ℕ) → d + 0x1000 ≤ x → m ≤ 0x1000 → a + n ≤ d → a + n ≤ x - m
     behind d x m a n h k l = omega arith
 
-    slotted : (d x w e k m : ℕ) → d + 4096 ≤ x → x + w ≡ e → k ≤ w → m ≤ 4096 → x - m + m ≤ e - k
+    slotted : (d x w e k m : ℕ) → d + 0x1000 ≤ x → x + w ≡ e → k ≤ w → m ≤ 0x1000 → x - m + m ≤ e - k
     slotted d x w e k m h i j l = omega arith
 
     either : Bounds code g s → (a n : ℕ) → (word_of Esp s ≤ a) ⊎ (a + n ≤ data_end code)

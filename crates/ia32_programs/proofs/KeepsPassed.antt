@@ -107,12 +107,12 @@ exit-ends site x s sound ready held fits top =
     let below = sound.below in
     let at : address_of (near Esp 4) s ≡ word_of Esp s + 4 = near-address 4 s (omega (arith, top, below)) in
     let loaded : load 4 (address_of (near Esp 4) s) s ≡ Ok x = ap (λ (a : ℕ). load 4 a s) at ∙ held in
-    let two : List Item = plain (insn.MovImm (rm.Reg Eax) (pos 1)) ∷ plain (insn.Int 128) ∷ [] in
+    let two : List Item = plain (insn.MovImm (rm.Reg Eax) (pos 1)) ∷ plain (insn.Int 0x80) ∷ [] in
     let p = set-goes site two (insn.MovLoad Ebx (near Esp 4)) Ebx x s.flags s sound ready tt fits
     (λ after. ap (λ (r : Result ℕ End). and_then r
     (λ value. let q : Result State End = Ok (with_word Ebx value s) in q)) loaded) (λ after. refl) in
     let b : State = p.0 in
-    let q = set-goes site (plain (insn.Int 128) ∷ []) (insn.MovImm (rm.Reg Eax) (pos 1)) Eax 1 b.flags b p.3.sound p.2
+    let q = set-goes site (plain (insn.Int 0x80) ∷ []) (insn.MovImm (rm.Reg Eax) (pos 1)) Eax 1 b.flags b p.3.sound p.2
     tt one_fits (λ after. refl) (λ after. refl) in
     let t : State = q.0 in
     let ends = exit-halts site [] x t q.3.sound q.2 q.3.value (q.3.others Ebx (unlike 3 0 refl) ∙ p.3.value) in

@@ -49,10 +49,10 @@ same-bytes : (v : ℕ) → little_bytes 4 (v % 2 ^ 32) ≡ little_bytes 4 v
 same-bytes v =
     let a : v % 2 ^ 32 % 256 ≡ v % 256 = omega arith in
     let b : v % 2 ^ 32 / 256 % 256 ≡ v / 256 % 256 = omega arith in
-    let c : v % 2 ^ 32 / 65536 % 256 ≡ v / 65536 % 256 = omega arith in
-    let d : v % 2 ^ 32 / 16777216 % 256 ≡ v / 16777216 % 256 = omega arith in
-    listed (v % 2 ^ 32 % 256) (v % 2 ^ 32 / 256 % 256) (v % 2 ^ 32 / 65536 % 256) (v % 2 ^ 32 / 16777216 % 256)
-    (v % 256) (v / 256 % 256) (v / 65536 % 256) (v / 16777216 % 256) a b c d
+    let c : v % 2 ^ 32 / 0x10000 % 256 ≡ v / 0x10000 % 256 = omega arith in
+    let d : v % 2 ^ 32 / 0x01000000 % 256 ≡ v / 0x01000000 % 256 = omega arith in
+    listed (v % 2 ^ 32 % 256) (v % 2 ^ 32 / 256 % 256) (v % 2 ^ 32 / 0x10000 % 256) (v % 2 ^ 32 / 0x01000000 % 256)
+    (v % 256) (v / 256 % 256) (v / 0x10000 % 256) (v / 0x01000000 % 256) a b c d
   where
     listed : (a b c d e f g h : ℕ) → a ≡ e → b ≡ f → c ≡ g → d ≡ h → a ∷ b ∷ c ∷ d ∷ [] ≡ e ∷ f ∷ g ∷ h ∷ []
     listed a b c d e f g h i j k l = cc

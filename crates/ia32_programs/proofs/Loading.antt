@@ -113,9 +113,9 @@ index-at (Some i) address s = refl
 
 pub place-at : (m : Mem) (address : ℕ) (s : State) → address_of m (at_address address s) ≡ address_of m s
 place-at m address s =
-    ap (λ (b : ℕ). (b + index_value m.index (at_address address s) + cast_unsigned w32 m.disp) % 4294967296)
+    ap (λ (b : ℕ). (b + index_value m.index (at_address address s) + cast_unsigned w32 m.disp) % 0x1_0000_0000)
     (base-at m.base address s)
-    ∙ ap (λ (i : ℕ). (base_value m.base s + i + cast_unsigned w32 m.disp) % 4294967296) (index-at m.index address s)
+    ∙ ap (λ (i : ℕ). (base_value m.base s + i + cast_unsigned w32 m.disp) % 0x1_0000_0000) (index-at m.index address s)
 
 -- what is loaded there doesn't either
 pub loaded-at : (n : ℕ) (m : Mem) (v address : ℕ) (s : State) → load n (address_of m s) s ≡ Ok v
@@ -169,7 +169,7 @@ load-puts site frame bits p m address v s framed room to at held small =
 -- ---- a static object of one element
 
 -- the address in a register is that of what is near it
-pub near-address : (base : ℕ) → base < 4294967296 → (base + 0 + 0) % 4294967296 ≡ base
+pub near-address : (base : ℕ) → base < 0x1_0000_0000 → (base + 0 + 0) % 0x1_0000_0000 ≡ base
 near-address base h = omega (arith, h)
 
 -- a number in ESI, and the element at that address
@@ -187,7 +187,7 @@ got-puts site frame bits p z v s framed room to fits held small =
     (number-makes site Esi z s framed.sound) in
     let m : State = first.0 in
     let at : address_of (near Esi 0) m ≡ a =
-    ap (λ (b : ℕ). (b + 0 + 0) % 4294967296) first.1.value ∙ near-address a fits in
+    ap (λ (b : ℕ). (b + 0 + 0) % 0x1_0000_0000) first.1.value ∙ near-address a fits in
     let second = loading-gives site frame bits t (near Esi 0) a v m first.1.framed works at
     (first.1.keeps.loads (bytes_of bits) a v tt held) small in
     let n : State = second.0 in

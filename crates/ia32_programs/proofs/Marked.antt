@@ -81,6 +81,6 @@ has-depth code f r h =
     to : (low depth bytes : ℕ) → depth ≡ low → 4 ≤ bytes → depth + 4 ≤ low + (round_up 4 bytes + 0x04001000)
     to low depth bytes e h = omega arith
 
-    number : (n m r w low : ℕ) → n ≡ m → m ≤ r → w ≡ 4 + r → low + (round_up 4 w + 0x04001000) < 4294967296
-        → n ≤ 4294967295
+    number : (n m r w low : ℕ) → n ≡ m → m ≤ r → w ≡ 4 + r → low + (round_up 4 w + 0x04001000) < 0x1_0000_0000
+        → n ≤ 0xffffffff
     number n m r w low e h k b = omega arith

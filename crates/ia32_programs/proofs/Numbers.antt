@@ -18,7 +18,7 @@ unfolding int_wrap
 low-half-is (pos a) h = refl
 low-half-is (negsuc a) h =
     let small = h.sfits in
-    let same : 65536 - 1 - a % 65536 ≡ (4294967296 - suc a) % 65536 = omega (arith, small) in
+    let same : 0x10000 - 1 - a % 0x10000 ≡ (0x1_0000_0000 - suc a) % 0x10000 = omega (arith, small) in
     ap (λ (k : ℕ). cast_unsigned w32 (cast_signed w16 k)) same
 
 -- ---- shifts

@@ -36,16 +36,16 @@ use Rattle.ia32_programs.proofs.Goes.{goes-of, puts-plain, target-within, target
 use Rattle.ia32_programs.specs.RoutinesOps.{ParamFollows}
 
 -- a word so far above EBP, at its address
-argument-address : (base k : ℕ) → base + 8 + 4 * k + 4 ≤ 4294967295
-    → (base + 0 + cast_unsigned w32 (cast_signed w32 ((8 + 4 * k) % 2 ^ 32))) % 4294967296 ≡ base + 8 + 4 * k
+argument-address : (base k : ℕ) → base + 8 + 4 * k + 4 ≤ 0xffffffff
+    → (base + 0 + cast_unsigned w32 (cast_signed w32 ((8 + 4 * k) % 2 ^ 32))) % 0x1_0000_0000 ≡ base + 8 + 4 * k
 argument-address base k h =
     let n : ℕ = 8 + 4 * k in
     let small : n % 2 ^ 32 < 2 ^ 32 = omega arith in
     let none : n % 2 ^ 32 ≡ n = omega (arith, h) in
-    ap (λ (m : ℕ). (base + 0 + m) % 4294967296) (of_z-to_z w32 (n % 2 ^ 32) small ∙ none) ∙ last base k h
+    ap (λ (m : ℕ). (base + 0 + m) % 0x1_0000_0000) (of_z-to_z w32 (n % 2 ^ 32) small ∙ none) ∙ last base k h
   where
-    last : (base k : ℕ) → base + 8 + 4 * k + 4 ≤ 4294967295
-        → (base + 0 + (8 + 4 * k)) % 4294967296 ≡ base + 8 + 4 * k
+    last : (base k : ℕ) → base + 8 + 4 * k + 4 ≤ 0xffffffff
+        → (base + 0 + (8 + 4 * k)) % 0x1_0000_0000 ≡ base + 8 + 4 * k
     last base k h = omega (arith, h)
 
 -- MOV of an argument word to a register
@@ -72,7 +72,7 @@ argument-makes site frame t k w s framed held =
     above : (low esp frame base k : ℕ) → low + 4 ≤ esp → esp + frame ≡ base → low ≤ base + 8 + 4 * k
     above low esp frame base k room e = omega arith
 
-    fits : (a high : ℕ) → a + 4 ≤ high → high < 4294967296 → a + 4 ≤ 4294967295
+    fits : (a high : ℕ) → a + 4 ≤ high → high < 0x1_0000_0000 → a + 4 ≤ 0xffffffff
     fits a high h l = omega arith
 
 -- it comes to a place

@@ -186,7 +186,7 @@ at-own-address code f items s supported ready =
     supported.fits in
     ap (λ (e : ℕ). let t : machine.State = record s { eip = e } in t) (mod-eq_of_lt small)
   where
-    counted : (e d r n low m : ℕ) → e ≡ text_start + d → n ≡ d + r → text_start + n ≤ low → low + m < 4294967296
+    counted : (e d r n low m : ℕ) → e ≡ text_start + d → n ≡ d + r → text_start + n ≤ low → low + m < 0x1_0000_0000
         → e < 2 ^ 32
     counted e d r n low m h i j k = omega arith
 

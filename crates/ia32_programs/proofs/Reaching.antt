@@ -62,14 +62,14 @@ use Rattle.ia32_programs.proofs.Storing.{element-stores}
 
 -- the address of an element, by the array's word and the index in registers
 element-address : (code : Code) (f : ℕ) (bits : Bits) (p q : Place) (w i : ℕ) (u : machine.State)
-    → word_of (target_of p) u ≡ w → word_of (index_register q) u ≡ i → w + bytes_of bits * i < 4294967296
+    → word_of (target_of p) u ≡ w → word_of (index_register q) u ≡ i → w + bytes_of bits * i < 0x1_0000_0000
     → address_of (element (bytes_of bits) (target_of p) (index_register q)) u ≡ w + bytes_of bits * i
 element-address code f bits p q w i u base index fits =
-    ap (λ (b : ℕ). (b + word_of (index_register q) u * bytes_of bits + 0) % 4294967296) base
-    ∙ ap (λ (j : ℕ). (w + j * bytes_of bits + 0) % 4294967296) index
+    ap (λ (b : ℕ). (b + word_of (index_register q) u * bytes_of bits + 0) % 0x1_0000_0000) base
+    ∙ ap (λ (j : ℕ). (w + j * bytes_of bits + 0) % 0x1_0000_0000) index
     ∙ counted w i (bytes_of bits) (mul_comm i (bytes_of bits)) fits
   where
-    counted : (w i n : ℕ) → i * n ≡ n * i → w + n * i < 4294967296 → (w + i * n + 0) % 4294967296 ≡ w + n * i
+    counted : (w i n : ℕ) → i * n ≡ n * i → w + n * i < 0x1_0000_0000 → (w + i * n + 0) % 0x1_0000_0000 ≡ w + n * i
     counted w i n e h = omega (arith, e, h)
 
 -- ---- loads
@@ -321,7 +321,7 @@ store-follows bits p i c code input g s supported state shown has r =
                 came
                 there.now.front there.now.stand.0 (subst (λ (j : ℕ). j < length elements) (sym f) lt) in
                 let u : machine.State = pass.0 in
-                let fits_a : a < 4294967296 = omega (arith, top, high) in
+                let fits_a : a < 0x1_0000_0000 = omega (arith, top, high) in
                 let at : address_of m u ≡ a =
                 element-address code g.current.function bits one.place two.place one.word k u pass.3 (pass.4 ∙ f) fits_a
                 in

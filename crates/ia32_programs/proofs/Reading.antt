@@ -147,9 +147,9 @@ none-follows d code input g s supported state shown has h none =
     let got = gets-none (site_of code g.current.function) h.address h.begun p.sound h.ask.called.ready h.ask.low
     h.ask.high p.word h.ask.called.fits (p.left ∙ shown.left ∙ none) in
     let b = came (site_of code g.current.function) (placement_of code g.current.function).frame
-    (write h.place Eax ++ h.row.rest) 4294967295 h.address h.begun.left h.begun.taken s h.begun got.0 h.framed h.low
+    (write h.place Eax ++ h.row.rest) 0xffffffff h.address h.begun.left h.begun.taken s h.begun got.0 h.framed h.low
     h.ask.called got.1 in
-    answered-follows code input g s got.0 (op.Getchar d) d 4294967295 (Number (negsuc 0)) h.place h.row.rest g.left
+    answered-follows code input g s got.0 (op.Getchar d) d 0xffffffff (Number (negsuc 0)) h.place h.row.rest g.left
     g.taken g.written supported state shown has refl (λ q k. k) (λ next k. k) h.wide h.at
     (record {
       comes = b.comes;

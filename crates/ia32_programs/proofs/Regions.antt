@@ -315,7 +315,7 @@ array-above code input g s c k address width elements supported state shown h =
     counted (data_end code) (word_of Esp s) (frame_size code h.activation) h.frame address h.below b.room
     (call-above code input g s c h.activation h.frame shown h.is) r.at_frame r.header
   where
-    counted : (d x w f y b : ℕ) → d + 4096 ≤ x → x + w ≤ f → y + b ≡ f → b + 4 ≤ w → d + 4 ≤ y
+    counted : (d x w f y b : ℕ) → d + 0x1000 ≤ x → x + w ≤ f → y + b ≡ f → b + 4 ≤ w → d + 4 ≤ y
     counted d x w f y b h i j k = omega arith
 
 -- a part of a call is
@@ -333,12 +333,12 @@ part-above code input g s j a frame at n supported state shown other part = by p
     by : IsPart code a frame at n → data_end code ≤ at
     by (inl p) = counted (data_end code) (word_of Esp s) (frame_size code a) frame at b.room above p.0
       where
-        counted : (d x w f a : ℕ) → d + 4096 ≤ x → x + w ≤ f → f ≤ a + 4 → d ≤ a
+        counted : (d x w f a : ℕ) → d + 0x1000 ≤ x → x + w ≤ f → f ≤ a + 4 → d ≤ a
         counted d x w f a h i j = omega arith
     by (inr (v, slot, place, is, long)) =
         counted (data_end code) (word_of Esp s) (frame_size code a) frame slot at b.room above place.inside.high is
       where
-        counted : (d x w f k a : ℕ) → d + 4096 ≤ x → x + w ≤ f → k ≤ w → a ≡ f - k → d ≤ a
+        counted : (d x w f k a : ℕ) → d + 0x1000 ≤ x → x + w ≤ f → k ≤ w → a ≡ f - k → d ≤ a
         counted d x w f k a h i j l = omega arith
 
 -- ---- the elements of a static object or a frame array

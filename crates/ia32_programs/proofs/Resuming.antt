@@ -118,9 +118,9 @@ record AtCaller (code : Code) (g : graph.State) (w : Waiting) (waiting : List Wa
 
 -- where things stand
 record Sizes (code : Code) (g : graph.State) (s : machine.State) (w : Waiting) (base : ℕ) : Type 0 where
-  pub room : data_end code + 4096 ≤ word_of Esp s
+  pub room : data_end code + 0x1000 ≤ word_of Esp s
   pub high : word_of Esp s ≤ base
-  pub large : data_end code + 4096 + frame_size code w.activation ≤ base
+  pub large : data_end code + 0x1000 + frame_size code w.activation ≤ base
   pub more : data_start code.text + 4 ≤ data_end code
   pub higher : base ≡ word_of Ebp s + 8 + 4 * length g.current.arguments + frame_size code w.activation
 
@@ -144,8 +144,8 @@ sizes code input g s w waiting base rest h =
     up : (esp size ebp m other base : ℕ) → esp + size ≡ ebp → base ≡ ebp + 8 + m + other → esp ≤ base
     up esp size ebp m other base h k = omega arith
 
-    wide : (d esp size ebp m other base : ℕ) → d + 4096 ≤ esp → esp + size ≡ ebp → base ≡ ebp + 8 + m + other
-        → d + 4096 + other ≤ base
+    wide : (d esp size ebp m other base : ℕ) → d + 0x1000 ≤ esp → esp + size ≡ ebp → base ≡ ebp + 8 + m + other
+        → d + 0x1000 + other ≤ base
     wide d esp size ebp m other base r h k = omega arith
 
     four : (low bytes : ℕ) → 4 ≤ bytes → low + 4 ≤ low + bytes
@@ -179,7 +179,7 @@ frame-top code input g s w waiting base rest h =
     ended : (base high : ℕ) → base + 4 + 4 ≤ high → base + 8 ≤ high
     ended base high k = omega arith
 
-    low : (start bytes size base : ℕ) → start + bytes + 4096 + size ≤ base → start ≤ base + 4
+    low : (start bytes size base : ℕ) → start + bytes + 0x1000 + size ≤ base → start ≤ base + 4
     low start bytes size base k = omega arith
 
 at-caller : (code : Code) (input : List ℕ) (g : graph.State) (s u : machine.State) (w : Waiting)
@@ -327,7 +327,7 @@ others-stand code input g s m w waiting base rest x items variables q v value pl
     (load-same n (base - slot) y k s refl held))) same)
     ((h.link).variables v value place e other behind)
   where
-    over : (low d size base slot : ℕ) → low + 4 ≤ d → d + 4096 + size ≤ base → slot ≤ size → low + 4 ≤ base - slot
+    over : (low d size base slot : ℕ) → low + 4 ≤ d → d + 0x1000 + size ≤ base → slot ≤ size → low + 4 ≤ base - slot
     over low d size base slot h k l = omega arith
 
 -- ---- without a result
@@ -536,7 +536,7 @@ resume-follows code input g s u w waiting base rest n x r h back brings is behin
     small : base < 2 ^ 32
     small = below base site.high (frame-top code input g s w waiting base rest h) (h.supported).fits
       where
-        below : (b high : ℕ) → b + 8 ≤ high → high < 4294967296 → b < 2 ^ 32
+        below : (b high : ℕ) → b + 8 ≤ high → high < 0x1_0000_0000 → b < 2 ^ 32
         below b high a c = omega arith
 
     before : List Item

@@ -50,7 +50,7 @@ address-fits code f items address h stands =
     below low m = omega arith
 
     counted : (e d r n low high : ℕ) → e ≡ text_start + d → n ≡ d + r → text_start + n ≤ low → low ≤ high
-        → high < 4294967296 → e < 2 ^ 32
+        → high < 0x1_0000_0000 → e < 2 ^ 32
     counted e d r n low high h i j k l = omega arith
 
 -- so is the address behind the start's call
@@ -66,7 +66,7 @@ start-fits code address h (before, after, places, start, end, (done, rest, whole
     below low m = omega arith
 
     counted : (e d b a x y r n low high : ℕ) → n ≡ d + x → x ≡ y + r → y ≡ b + a → e ≡ text_start + b
-        → text_start + n ≤ low → low ≤ high → high < 4294967296 → e < 2 ^ 32
+        → text_start + n ≤ low → low ≤ high → high < 0x1_0000_0000 → e < 2 ^ 32
     counted e d b a x y r n low high f g i j k l m = omega arith
 
 -- ---- where it leads

@@ -55,11 +55,11 @@ plain-until site items i last s t sound h common e k =
 
 -- ---- the three items
 
-no-base : (d : ℕ) → d < 4294967296 → (0 + 0 + d) % 4294967296 ≡ d
+no-base : (d : ℕ) → d < 0x1_0000_0000 → (0 + 0 + d) % 0x1_0000_0000 ≡ d
 no-base d h = omega arith
 
-absolute-address : (d : ℕ) (s : State) → d < 4294967296 → address_of (absolute d) s ≡ d
-absolute-address d s h = ap (λ (k : ℕ). (0 + 0 + k) % 4294967296) (of_z-to_z w32 d h) ∙ no-base d h
+absolute-address : (d : ℕ) (s : State) → d < 0x1_0000_0000 → address_of (absolute d) s ≡ d
+absolute-address d s h = ap (λ (k : ℕ). (0 + 0 + k) % 0x1_0000_0000) (of_z-to_z w32 d h) ∙ no-base d h
 
 -- a number's low bits to ESP
 sets-esp : (site : Site) (items : List Item) (last n : ℕ) (s : State) → SoundAt site s
@@ -75,7 +75,7 @@ sets-esp site items last n s sound h fits =
 -- 1 to a word of the data
 stores-one : (site : Site) (items : List Item) (last d : ℕ) (s : State) → SoundAt site s
     → Until site (plain (insn.MovImm (rm.Mem (absolute d)) (pos 1)) ∷ items) last s → site.low ≤ d → d + 4 ≤ site.high
-    → d < 4294967296
+    → d < 0x1_0000_0000
     → (u : State) × Comes site.text s u × Until site items last u × Stores site d 1 s u
 stores-one site items last d s sound h from to fits =
     let stored = store-in site.text site.low site.high d 1 s sound from to one_fits in
@@ -172,7 +172,7 @@ started symbols text objects main address last input a b t depth returns pa qa p
 
 -- from the state in which ESP is the stack's end
 starts-behind : (symbols : Symbols) (text : List ℕ) (objects : List Object) (main address last : ℕ) (input : List ℕ)
-    → symbols.depth ≡ data_start text → stack_end text objects < 4294967296
+    → symbols.depth ≡ data_start text → stack_end text objects < 0x1_0000_0000
     → ReturnsToStart symbols text objects main last → slice_get symbols.functions main ≡ Some address
     → ((a : State) × Comes text (text_state text objects input) a
     × Until (start_site symbols text objects) (storing symbols.depth main) last a

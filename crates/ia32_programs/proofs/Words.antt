@@ -24,7 +24,7 @@ unfolding int_wrap
 low-byte (pos a) h = sym (of_z-to_z w8 (a % 256) (mod-lt a (omega arith)))
 low-byte (negsuc a) h =
     let small = h.sfits in
-    let same : (4294967296 - ℕ.suc a) % 256 ≡ 256 - 1 - a % 256 = omega (arith, small) in
+    let same : (0x1_0000_0000 - ℕ.suc a) % 256 ≡ 256 - 1 - a % 256 = omega (arith, small) in
     same ∙ sym (of_z-to_z w8 (256 - 1 - a % 256) (omega arith))
 
 -- What an operation makes of the words of two numbers is the word of what the function makes of the numbers.

@@ -50,14 +50,14 @@ words-most (p ∷ ops) (suc k) o e =
 stack-small : (code : Code) (a : Activation) (waiting : List Waiting) → IsSupported code
     → AreActivations code.program (a ∷ map (λ w. w.activation) waiting) → AreWaiting code.program a waiting
     → stack_bytes code (a ∷ map (λ w. w.activation) waiting) + 4 * most_words (flow_at code.program a.function).ops
-    ≤ 16384 * suc (length waiting)
+    ≤ 0x4000 * suc (length waiting)
 stack-small code a [] h active waits =
     let none : length a.arguments ≡ 0 = ap length waits.1 in
     let bytes = h.bytes a.function active.0.function in
     counted (placement_of code a.function).frame (length a.arguments) (most_words (flow_at code.program a.function).ops)
     none bytes
   where
-    counted : (f n m : ℕ) → n ≡ 0 → 8 + f + 4 * m ≤ 16384 → 8 + f + 4 * n + 0 + 4 * m ≤ 16384 * 1
+    counted : (f n m : ℕ) → n ≡ 0 → 8 + f + 4 * m ≤ 0x4000 → 8 + f + 4 * n + 0 + 4 * m ≤ 0x4000 * 1
     counted f n m e b = omega arith
 stack-small code a (w ∷ waiting) h active waits =
     let bytes = h.bytes a.function active.0.function in
@@ -72,8 +72,8 @@ stack-small code a (w ∷ waiting) h active waits =
     (length one.words) (most_words (flow_at code.program w.activation.function).ops)
     (stack_bytes code (w.activation ∷ map (λ v. v.activation) waiting)) (length waiting) many most bytes rest
   where
-    counted : (f n m k l r c : ℕ) → k ≡ n → k ≤ l → 8 + f + 4 * m ≤ 16384 → r + 4 * l ≤ 16384 * suc c
-        → 8 + f + 4 * n + r + 4 * m ≤ 16384 * suc (suc c)
+    counted : (f n m k l r c : ℕ) → k ≡ n → k ≤ l → 8 + f + 4 * m ≤ 0x4000 → r + 4 * l ≤ 0x4000 * suc c
+        → 8 + f + 4 * n + r + 4 * m ≤ 0x4000 * suc (suc c)
     counted f n m k l r c e h b s = omega arith
 
 -- ---- in the frame
@@ -82,7 +82,7 @@ stack-small code a (w ∷ waiting) h active waits =
 pub record Bounds (code : Code) (g : graph.State) (s : machine.State) : Type 0 where
   pub sound : IsSound code.text (data_start code.text) (stack_end code.text (objects_of code.program)) s
   pub esp : word_of Esp s + (placement_of code g.current.function).frame ≡ word_of Ebp s
-  pub room : data_end code + 4096 ≤ word_of Esp s
+  pub room : data_end code + 0x1000 ≤ word_of Esp s
   pub top : word_of Ebp s + 8 ≤ stack_end code.text (objects_of code.program)
 
 -- the return address of the youngest call is in the data
@@ -108,7 +108,7 @@ bounds code input g s h state shown =
       registers = shown.registers;
     } in
     let small = stack-small code g.current g.waiting h state.active state.waiting in
-    let room : data_start code.text + length (data_bytes objects) + 4096 ≤ word_of Esp s =
+    let room : data_start code.text + length (data_bytes objects) + 0x1000 ≤ word_of Esp s =
     counted (data_start code.text) (length (data_bytes objects)) (word_of Esp s)
     (stack_bytes code (active_of g)) (most_words (flow_at code.program g.current.function).ops) (length g.waiting)
     shown.room small shown.few in
@@ -129,10 +129,10 @@ bounds code input g s h state shown =
     }
   where
     counted : (low bytes esp stack words n : ℕ) → low + (round_up 4 bytes + 0x04001000) ≤ esp + stack
-        → stack + 4 * words ≤ 16384 * suc n → suc n ≤ 4096 → low + bytes + 4096 ≤ esp
+        → stack + 4 * words ≤ 0x4000 * suc n → suc n ≤ 4096 → low + bytes + 0x1000 ≤ esp
     counted low bytes esp stack words n room small few = omega arith
 
-    above : (low bytes esp frame ebp : ℕ) → low + bytes + 4096 ≤ esp → esp + frame ≡ ebp → low ≤ ebp + 4
+    above : (low bytes esp frame ebp : ℕ) → low + bytes + 0x1000 ≤ esp → esp + frame ≡ ebp → low ≤ ebp + 4
     above low bytes esp frame ebp room e = omega arith
 
     ended : (ebp high : ℕ) → ebp + 4 + 4 ≤ high → ebp + 8 ≤ high
@@ -151,7 +151,7 @@ shown-in-frame code input g s h state shown =
       room = b.room;
     }
   where
-    enough : (low bytes esp : ℕ) → low + bytes + 4096 ≤ esp → low + 4 ≤ esp
+    enough : (low bytes esp : ℕ) → low + bytes + 0x1000 ≤ esp → low + 4 ≤ esp
     enough low bytes esp room = omega arith
 
 -- ---- zones

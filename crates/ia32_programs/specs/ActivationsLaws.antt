@@ -30,7 +30,7 @@ use Rattle.ia32_rows.specs.Contains.{Contains, HoldsWord, IsPlaceIn}
 pub record HasDepth (site : Site) : Type 0 where
   pub low : site.low ≤ site.symbols.depth
   pub high : site.symbols.depth + 4 ≤ site.high
-  pub few : length site.symbols.objects ≤ 4294967295
+  pub few : length site.symbols.objects ≤ 0xffffffff
   pub check : StandsFrom site check_items site.symbols.check
 
 -- The items are ready and the depth word is this; of registers only ESI changed, and of memory only the depth word.

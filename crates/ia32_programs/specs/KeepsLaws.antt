@@ -32,7 +32,7 @@ data_end code = data_start code.text + length (data_bytes (objects_of code.progr
 -- bytes or more above the data.
 pub record InFrame (code : Code) (g : graph.State) (s : machine.State) : Type 0 where
   pub framed : Framed (site_of code g.current.function) (placement_of code g.current.function).frame s
-  pub room : data_end code + 4096 ≤ word_of Esp s
+  pub room : data_end code + 0x1000 ≤ word_of Esp s
 
 abbrev pub ShownInFrame : Type 0
 ShownInFrame =
@@ -66,7 +66,7 @@ pub record IsAbovePushed (code : Code) (g : graph.State) (frames : List ℕ) (s 
 abbrev pub PushedIsApart : Type 0
 PushedIsApart =
     (code : Code) (input : List ℕ) (g : graph.State) (s : machine.State) (bytes : ℕ) → IsSupported code
-    → IsState code.program g → (shown : Shows code input g s) → bytes ≤ 4096
+    → IsState code.program g → (shown : Shows code input g s) → bytes ≤ 0x1000
     → IsAbovePushed code g shown.frames s bytes
 
 -- ---- what stays shown

@@ -113,7 +113,7 @@ abbrev pub MarksAreNops : Type 0
 MarksAreNops =
     (code : Code) (f block point : ℕ) (o : Op) → IsSelected code → f < length code.program.functions
     → Stands (flow_at code.program f) point block → op_of code.program f point ≡ Some o → is_nop (Some o) ≡ true
-    → IsAt code.text (point_address code f point) (144 ∷ [])
+    → IsAt code.text (point_address code f point) (0x90 ∷ [])
 
 -- and at that of any other op none
 abbrev pub OthersAreClear : Type 0

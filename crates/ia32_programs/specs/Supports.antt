@@ -186,9 +186,9 @@ pub record IsSupported (code : Code) : Type 0 where
   pub supports : (f : ℕ) → f < length code.program.functions
       → Supports (flow_at code.program f) (placement_of code f)
   pub bytes : (f : ℕ) → f < length code.program.functions
-      → 8 + (placement_of code f).frame + 4 * most_words (flow_at code.program f).ops ≤ 16384
-  pub fits : stack_end code.text (objects_of code.program) < 4294967296
-  pub few : All (λ object. length object.elements ≤ 2147483648) code.program.objects
+      → 8 + (placement_of code f).frame + 4 * most_words (flow_at code.program f).ops ≤ 0x4000
+  pub fits : stack_end code.text (objects_of code.program) < 0x1_0000_0000
+  pub few : All (λ object. length object.elements ≤ 0x80000000) code.program.objects
 
 -- where code and data of a function stand
 abbrev pub no_places : Places

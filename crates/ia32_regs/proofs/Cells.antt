@@ -37,7 +37,7 @@ with_register-words r k v ws bs e h same =
 
 -- a word's lowest byte or its second, shifted down and masked, is the cell
 pub get_or-shifted : (k s p : ℕ) (ws bs : List ℕ) → k < length ws → (s ≡ 0) ⊎ (s ≡ 8) → 4 * k + s / 8 ≡ p
-    → bytes_of_words ws ≡ bs → bit_and (get_or ws k 0 / 2 ^ s) 255 ≡ get_or bs p 0
+    → bytes_of_words ws ≡ bs → bit_and (get_or ws k 0 / 2 ^ s) 0xff ≡ get_or bs p 0
 get_or-shifted k s p ws bs h (inl e) at same =
     let place : 4 * k + 0 ≡ p = omega arith in
     let byte : get_or ws k 0 / 2 ^ 0 % 256 ≡ get_or ws k 0 % 256 = omega arith in
@@ -57,12 +57,12 @@ get_or-shifted k s p ws bs h (inr e) at same =
 
 -- what `set8` writes: the word with its lowest byte, or its second, masked out and v in its place
 abbrev pub merged : ℕ → ℕ → ℕ → ℕ
-merged w s v = bit_or (bit_and w (0xffffffff - 255 * 2 ^ s % 0x1_0000_0000)) (v * 2 ^ s % 0x1_0000_0000)
+merged w s v = bit_or (bit_and w (0xffffffff - 0xff * 2 ^ s % 0x1_0000_0000)) (v * 2 ^ s % 0x1_0000_0000)
 
 -- the lowest byte
 merged-low : (w v : ℕ) → w < 2 ^ 32 → v < 256 → merged w 0 v ≡ w / 256 * 256 + v
 merged-low w v h b =
-    let kept : bit_and w (0xffffffff - 255 * 2 ^ 0 % 0x1_0000_0000) ≡ w / 256 * 256 =
+    let kept : bit_and w (0xffffffff - 0xff * 2 ^ 0 % 0x1_0000_0000) ≡ w / 256 * 256 =
     and_high_mask 32 8 (omega arith) w h in
     let moved : v * 2 ^ 0 % 0x1_0000_0000 ≡ v = omega arith in
     ap (λ (x : ℕ). bit_or x (v * 2 ^ 0 % 0x1_0000_0000)) kept
@@ -74,12 +74,12 @@ merged-second : (w v : ℕ) → w < 2 ^ 32 → v < 256 → merged w 8 v ≡ w / 
 merged-second w v h b =
     let split : w ≡ w / 0x10000 * 0x10000 + w % 0x10000 = omega arith in
     let high : bit_and (w / 0x10000) 0xffff ≡ w / 0x10000 = and_mask (w / 0x10000) 16 ∙ omega arith in
-    let low : bit_and (w % 0x10000) 255 ≡ w % 256 = and_mask (w % 0x10000) 8 ∙ omega arith in
+    let low : bit_and (w % 0x10000) 0xff ≡ w % 256 = and_mask (w % 0x10000) 8 ∙ omega arith in
     let block : bit_and (w / 0x10000 * 0x10000 + w % 0x10000) 0xffff00ff
-    ≡ bit_and (w / 0x10000) 0xffff * 0x10000 + bit_and (w % 0x10000) 255 =
-    and_block 16 (w / 0x10000) 0xffff (w % 0x10000) 255 (omega arith) (omega arith) in
+    ≡ bit_and (w / 0x10000) 0xffff * 0x10000 + bit_and (w % 0x10000) 0xff =
+    and_block 16 (w / 0x10000) 0xffff (w % 0x10000) 0xff (omega arith) (omega arith) in
     let kept : bit_and w 0xffff00ff ≡ w / 0x10000 * 0x10000 + w % 256 =
-    ap (λ (x : ℕ). bit_and x 0xffff00ff) split ∙ block ∙ ap (λ (x : ℕ). x * 0x10000 + bit_and (w % 0x10000) 255) high
+    ap (λ (x : ℕ). bit_and x 0xffff00ff) split ∙ block ∙ ap (λ (x : ℕ). x * 0x10000 + bit_and (w % 0x10000) 0xff) high
     ∙ ap (λ (x : ℕ). w / 0x10000 * 0x10000 + x) low in
     let moved : v * 2 ^ 8 % 0x1_0000_0000 ≡ v * 256 = omega arith in
     let lower : bit_or (w % 256) (v * 256) ≡ v * 256 + w % 256 =

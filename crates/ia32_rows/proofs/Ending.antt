@@ -17,12 +17,12 @@ use Rattle.ia32_rows.specs.Sites.{Site, SoundAt, ReadyAt}
 
 -- the items behind the start's call
 abbrev exiting : List Item
-exiting = plain (insn.Mov (rm.Reg Ebx) Eax) ∷ plain (insn.MovImm (rm.Reg Eax) (pos 1)) ∷ plain (insn.Int 128) ∷ []
+exiting = plain (insn.Mov (rm.Reg Ebx) Eax) ∷ plain (insn.MovImm (rm.Reg Eax) (pos 1)) ∷ plain (insn.Int 0x80) ∷ []
 
 ends : (site : Site) (x : ℕ) (s : State) → SoundAt site s → ReadyAt site exiting s → word_of Eax s ≡ x → (t : State)
     × Ending site.text x s t
 ends site x s sound ready is =
-    let two : List Item = plain (insn.Int 128) ∷ [] in
+    let two : List Item = plain (insn.Int 0x80) ∷ [] in
     let p = set-goes site (plain (insn.MovImm (rm.Reg Eax) (pos 1)) ∷ two) (insn.Mov (rm.Reg Ebx) Eax) Ebx
     (word_of Eax s) s.flags s sound ready tt (word-below site.text site.low site.high Eax s sound) (λ after. refl)
     (λ after. refl) in

@@ -38,7 +38,7 @@ exit-does s eax = ap (λ (k : ℕ). make_call (call_of k (word_of Ebx s)) s) eax
 
 -- INT 0x80 that writes the byte at an address
 pub write-goes : (site : Site) (items : List Item) (y a : ℕ) (s : State) → SoundAt site s
-    → ReadyAt site (item.Plain (insn.Int 128) ∷ items) s
+    → ReadyAt site (item.Plain (insn.Int 0x80) ∷ items) s
     → word_of Eax s ≡ 4 → word_of Ebx s ≡ 1 → word_of Ecx s ≡ a → word_of Edx s ≡ 1 → load 1 a s ≡ Ok y → site.low ≤ a
     → a + 1 ≤ site.high
     → (u : State) × Comes site.text s u × ReadyAt site items u × Sets site Eax 1 (s.written ++ y ∷ []) s u
@@ -54,7 +54,7 @@ write-goes site items y a s sound ready eax ebx ecx edx held from to =
       registers = sound.registers;
     } in
     let does = write-does y a s eax ebx ecx edx (one-byte site.text site.low site.high a y s sound from to held) in
-    let went = plain-goes site.symbols site.places site.text site.low site.high (insn.Int 128) items s
+    let went = plain-goes site.symbols site.places site.text site.low site.high (insn.Int 0x80) items s
     (written_state y s) sound ready tt (λ after. does) (λ after. refl) in (
       at_address went.0 (written_state y s),
       went.1,
@@ -73,16 +73,16 @@ write-goes site items y a s sound ready eax ebx ecx edx held from to =
 
 -- INT 0x80 that ends the run
 pub exit-halts : (site : Site) (items : List Item) (x : ℕ) (s : State) → SoundAt site s
-    → ReadyAt site (item.Plain (insn.Int 128) ∷ items) s → word_of Eax s ≡ 1 → word_of Ebx s ≡ x
+    → ReadyAt site (item.Plain (insn.Int 0x80) ∷ items) s → word_of Eax s ≡ 1 → word_of Ebx s ≡ x
     → Steps s (Halts (Ended (x % 256))) × IsClear site.text s.eip
 exit-halts site items x s sound ready eax ebx =
     let first : List ℕ = ready.stand.0 in
     let front = at-front site.text s.eip first ready.stand.1 (subst (IsAt site.text s.eip) ready.stand.2 ready.here) in
     let some : 0 < length first = let l = ap length ready.stand.3 in omega (arith, l) in
     let after : ℕ = s.eip + length first in
-    let halts = perform-halts (insn.Int 128) after s (Ended (x % 256))
+    let halts = perform-halts (insn.Int 0x80) after s (Ended (x % 256))
     (exit-does s eax ∙ ap (λ (k : ℕ). let r : Result State End = Err (Ended (k % 256)) in r) ebx) in (
-      subst (Steps s) halts (step-at site.text site.low site.high (insn.Int 128) first s sound front some
+      subst (Steps s) halts (step-at site.text site.low site.high (insn.Int 0x80) first s sound front some
           ready.stand.3),
-      clear-at site.text s.eip first front (common-begins (insn.Int 128) first tt ready.stand.3),
+      clear-at site.text s.eip first front (common-begins (insn.Int 0x80) first tt ready.stand.3),
     )

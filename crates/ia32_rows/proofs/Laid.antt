@@ -63,11 +63,11 @@ behind-there symbols places text p items address h =
 
 -- where a NOP comes first, its byte stands
 pub nop-there : (symbols : Symbols) (places : Places) (text : List ℕ) (items : List Item) (address : ℕ)
-    → StandsThere symbols places text (plain insn.Nop ∷ items) address → IsAt text address (144 ∷ [])
+    → StandsThere symbols places text (plain insn.Nop ∷ items) address → IsAt text address (0x90 ∷ [])
 nop-there symbols places text items address h =
     let rest : List ℕ = h.stand.1 in
-    let is : h.stand.0 ≡ 144 ∷ [] = h.stand.3 in
-    at-front text address (144 ∷ []) rest (subst (IsAt text address) (h.stand.2 ∙ ap (λ (l : List ℕ). l ++ rest) is)
+    let is : h.stand.0 ≡ 0x90 ∷ [] = h.stand.3 in
+    at-front text address (0x90 ∷ []) rest (subst (IsAt text address) (h.stand.2 ∙ ap (λ (l : List ℕ). l ++ rest) is)
     h.here)
 
 -- ---- points among the items

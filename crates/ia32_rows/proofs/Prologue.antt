@@ -370,7 +370,7 @@ lea-goes site items r d s sound ready some within =
     let fits = word-below site.text site.low site.high Ebp s sound in
     let at = below-address d s some within fits in
     set-goes site items (insn.Lea r (below d)) r (word_of Ebp s - d) s.flags s sound ready tt
-    (difference-below (word_of Ebp s) d 4294967296 fits)
+    (difference-below (word_of Ebp s) d 0x1_0000_0000 fits)
     (λ after. ap (λ (k : ℕ). let o : Result State End = Ok (with_word r k s) in o) at) (λ after. refl)
 
 twelve-within : (f b c : ℕ) → 16 ≤ f → f ≤ b → c ≡ b → 12 ≤ c

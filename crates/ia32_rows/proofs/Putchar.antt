@@ -26,10 +26,10 @@ use Rattle.ia32_rows.specs.Sites.{Site, SoundAt, ReadyAt, StandsFrom}
 -- ---- numbers
 
 -- an address so far above a register's word
-no_wrap : (e d : ℕ) → e + d < 4294967296 → (e + 0 + d) % 4294967296 ≡ e + d
+no_wrap : (e d : ℕ) → e + d < 0x1_0000_0000 → (e + 0 + d) % 0x1_0000_0000 ≡ e + d
 no_wrap e d h = omega arith
 
-pub near-address : (distance : ℕ) (s : State) → word_of Esp s + distance < 4294967296 → address_of (near Esp distance) s
+pub near-address : (distance : ℕ) (s : State) → word_of Esp s + distance < 0x1_0000_0000 → address_of (near Esp distance) s
     ≡ word_of Esp s + distance
 near-address distance s h = no_wrap (word_of Esp s) distance h
 
@@ -63,7 +63,7 @@ higher-below a e h p q = omega arith
 -- the items of the routine from its system call on
 abbrev writing : List Item
 writing =
-    plain (insn.Int 128)
+    plain (insn.Int 0x80)
     ∷ plain (insn.MovZx8 Eax (rm8.Mem (near Esp 8)))
     ∷ plain (insn.Pop Ebx)
     ∷ plain insn.Ret
@@ -118,11 +118,11 @@ readied site s b c d u p q r v w x y z ready =
 -- the argument's address to ECX, and one byte to EDX
 readies-two : (site : Site) (s b : State) → Comes site.text s b → Sets site Eax 4 s.written s b
     → ((c : State) × Comes site.text b c × ReadyAt site setting_two c × Sets site Ebx 1 b.written b c)
-    → word_of Esp s + 8 < 4294967296 → (u : State) × Readied site s u
+    → word_of Esp s + 8 < 0x1_0000_0000 → (u : State) × Readied site s u
 readies-two site s b p q (c, r, ready, v) fits =
     let esp : word_of Esp c ≡ word_of Esp s = v.others Esp (unlike 4 3 refl) ∙ q.others Esp (unlike 4 0 refl) in
     let there : address_of (near Esp 8) c ≡ word_of Esp s + 8 =
-    near-address 8 c (subst (λ (k : ℕ). k + 8 < 4294967296) (sym esp) fits) ∙ ap (λ (k : ℕ). k + 8) esp in
+    near-address 8 c (subst (λ (k : ℕ). k + 8 < 0x1_0000_0000) (sym esp) fits) ∙ ap (λ (k : ℕ). k + 8) esp in
     let w = set-goes site (plain (insn.MovImm (rm.Reg Edx) (pos 1)) ∷ writing) (insn.Lea Ecx (near Esp 8)) Ecx
     (word_of Esp s + 8) c.flags c v.sound ready tt fits
     (λ after. ap (λ (k : ℕ). let o : Result State End = Ok (with_word Ecx k c) in o) there) (λ after. refl) in
@@ -131,7 +131,7 @@ readies-two site s b p q (c, r, ready, v) fits =
     (λ after. refl) (λ after. refl) in
     (y.0, readied site s b c d y.0 p q r v w.1 w.3 y.1 y.3 y.2)
 
-readies : (site : Site) (s : State) → SoundAt site s → ReadyAt site setting_four s → word_of Esp s + 8 < 4294967296
+readies : (site : Site) (s : State) → SoundAt site s → ReadyAt site setting_four s → word_of Esp s + 8 < 0x1_0000_0000
     → (u : State) × Readied site s u
 readies site s sound ready fits =
     let p = set-goes site (plain (insn.MovImm (rm.Reg Ebx) (pos 1)) ∷ setting_two) (insn.MovImm (rm.Reg Eax) (pos 4))
@@ -184,7 +184,7 @@ prepares-behind : (site : Site) (s : State) → word_of Esp s + 8 ≤ site.high
     → ((a : State) × Comes site.text s a × ReadyAt site setting_four a × Pushed site (word_of Ebx s) s a) → (u : State)
     × Prepared site s u
 prepares-behind site s top (a, comes, ready, p) =
-    let r = readies site a p.sound ready (less-than (word_of Esp a + 8) site.high 4294967296
+    let r = readies site a p.sound ready (less-than (word_of Esp a + 8) site.high 0x1_0000_0000
     (higher-below (word_of Esp a) (word_of Esp s) site.high p.esp top) p.sound.below) in
     (r.0, prepared site s a r.0 comes p r.1)
 
@@ -287,8 +287,8 @@ answering-read site y s a top sound p byte small (b, q, ready, r) =
     let esp : word_of Esp b ≡ word_of Esp a = r.others Esp (unlike 4 0 refl) in
     let at : word_of Esp b + 8 ≡ word_of Esp s + 4 = ap (λ (k : ℕ). k + 8) esp
     ∙ four-higher (word_of Esp a) (word_of Esp s) p.esp in
-    let room : word_of Esp b + 8 < 4294967296 =
-    less-than (word_of Esp b + 8) site.high 4294967296
+    let room : word_of Esp b + 8 < 0x1_0000_0000 =
+    less-than (word_of Esp b + 8) site.high 0x1_0000_0000
     (subst (λ (k : ℕ). k ≤ site.high) (sym at) (next-four (word_of Esp s) site.high top)) sound.below in
     let there : address_of (near Esp 8) b ≡ word_of Esp s + 4 = near-address 8 b room ∙ at in
     let read : load 1 (address_of (near Esp 8) b) b ≡ Ok y = ap (λ (k : ℕ). load 1 k b) there

@@ -112,10 +112,10 @@ pub clear-at : (text : List ℕ) (address : ℕ) (bytes : List ℕ) → IsAt tex
 clear-at text address bytes h (first, rest, begins, other) nop =
     let one = h.place in
     let two = nop.place in
-    let same : bytes ++ h.rest ≡ 144 ∷ nop.rest =
-    same-front h.done nop.done (bytes ++ h.rest) (144 ∷ nop.rest) (omega arith) (sym h.whole ∙ nop.whole) in
-    let heads : first ∷ (rest ++ h.rest) ≡ 144 ∷ nop.rest = ap (λ (l : List ℕ). l ++ h.rest) (sym begins) ∙ same in
-    let e : first ≡ 144 = cc in
+    let same : bytes ++ h.rest ≡ 0x90 ∷ nop.rest =
+    same-front h.done nop.done (bytes ++ h.rest) (0x90 ∷ nop.rest) (omega arith) (sym h.whole ∙ nop.whole) in
+    let heads : first ∷ (rest ++ h.rest) ≡ 0x90 ∷ nop.rest = ap (λ (l : List ℕ). l ++ h.rest) (sym begins) ∙ same in
+    let e : first ≡ 0x90 = cc in
     other e
 
 -- an address in the text is below 2 ^ 32
@@ -202,14 +202,14 @@ label-passed symbols places text l items s ready =
 -- the NOP goes on to the next instruction
 pub nop-goes : (symbols : Symbols) (places : Places) (text : List ℕ) (low high : ℕ) (items : List Item) (s : State)
     → IsSound text low high s → Ready symbols places text (item.Plain insn.Nop ∷ items) s
-    → (address : ℕ) × Steps s (Moves (at_address address s)) × IsAt text s.eip (144 ∷ [])
+    → (address : ℕ) × Steps s (Moves (at_address address s)) × IsAt text s.eip (0x90 ∷ [])
     × Ready symbols places text items (at_address address s)
 nop-goes symbols places text low high items s sound ready =
     let first : List ℕ = ready.stand.0 in
     let rest : List ℕ = ready.stand.1 in
     let whole : IsAt text s.eip (first ++ rest) = subst (IsAt text s.eip) ready.stand.2 ready.here in
     let front = at-front text s.eip first rest whole in
-    let is : first ≡ 144 ∷ [] = ready.stand.3 in
+    let is : first ≡ 0x90 ∷ [] = ready.stand.3 in
     let address : ℕ = s.eip + length first in
     let some : 0 < length first = let l = ap length is in omega (arith, l) in
     let small : address % 2 ^ 32 ≡ address = mod-eq_of_lt (after-fits text low high s.eip first s sound front) in (

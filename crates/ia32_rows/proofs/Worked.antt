@@ -14,8 +14,8 @@ use Rattle.ia32_rows.specs.ShowsWorked.{InputsAreBytes, NoneAboveTheStack, NoneB
 use Rattle.ia32_rows.specs.ShowsWorked.{OldestIsMain, WaitingCalls, WaitsForCurrent}
 
 -- 2^32 is no byte
-no-bytes : AreBytes (4294967296 ∷ []) → ⊥
-no-bytes h = let one : 4294967296 < 256 = h 0 0 (omega arith) in omega (arith, one)
+no-bytes : AreBytes (0x1_0000_0000 ∷ []) → ⊥
+no-bytes h = let one : 0x1_0000_0000 < 256 = h 0 0 (omega arith) in omega (arith, one)
 
 pub inputs-are-bytes : InputsAreBytes
 inputs-are-bytes = (no-bytes, λ program g is h. no-bytes (subst AreBytes is h.left))

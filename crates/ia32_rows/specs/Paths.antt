@@ -25,7 +25,7 @@ pub record IsAt (text : List ℕ) (address : ℕ) (bytes : List ℕ) : Type 0 wh
 
 -- no NOP is spelled at the address
 abbrev pub IsClear : List ℕ → ℕ → Type 0
-IsClear text address = IsAt text address (144 ∷ []) → ⊥
+IsClear text address = IsAt text address (0x90 ∷ []) → ⊥
 
 -- the machine comes from one state to another, and passes no NOP
 pub record Comes (text : List ℕ) (s t : State) : Type 0 where

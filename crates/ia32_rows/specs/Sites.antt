@@ -21,7 +21,7 @@ pub record IsSound (text : List ℕ) (low high : ℕ) (s : State) : Type 0 where
   pub memory : s.memory ≡ text_area text ∷ data_from low bytes ∷ []
   pub size : low + length bytes ≡ high
   pub above : text_start + length text ≤ low
-  pub below : high < 4294967296
+  pub below : high < 0x1_0000_0000
   pub registers : AreRegisters s.registers
 
 -- ---- items at EIP

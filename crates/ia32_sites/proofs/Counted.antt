@@ -65,7 +65,7 @@ at-place (x ∷ xs) (suc i) d h = at-place xs i d (omega arith)
 
 -- an array of a frame is near EBP, and has few elements
 pub near-array : (flow : Flow) (frame : ℕ) (belows : List ℕ) (i : ℕ) → AreArraysIn flow.arrays frame belows
-    → frame ≤ 16384 → i < length flow.arrays → slice_index_or belows i 0 < 2 ^ 31 - 4
+    → frame ≤ 0x4000 → i < length flow.arrays → slice_index_or belows i 0 < 2 ^ 31 - 4
 near-array flow frame belows i inside small h =
     let many = inside.as_many in
     let array : IsArrayIn frame (slice_index_or flow.arrays i (0, 0)) (slice_index_or belows i 0) =
@@ -80,7 +80,7 @@ elements-fit width count (inr (inl e)) = subst (λ (w : ℕ). count ≤ (w * cou
 elements-fit width count (inr (inr e)) = subst (λ (w : ℕ). count ≤ (w * count + 3) / 4 * 4) (sym e) (omega arith)
 
 pub few-elements : (flow : Flow) (frame : ℕ) (belows : List ℕ) (i : ℕ) → AreArraysIn flow.arrays frame belows
-    → AllByRecursion IsArray flow.arrays → frame ≤ 16384 → i < length flow.arrays
+    → AllByRecursion IsArray flow.arrays → frame ≤ 0x4000 → i < length flow.arrays
     → (slice_index_or flow.arrays i (0, 0)).1 < 2 ^ 31
 few-elements flow frame belows i inside arrays small h =
     let many = inside.as_many in

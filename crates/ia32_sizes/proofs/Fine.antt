@@ -88,13 +88,13 @@ three i j k h l m = ((h, (l, (m, tt))), omega arith)
 abbrev pub IsNear : Place → Type 0
 IsNear (InWord r) = IsGeneral r
 IsNear (InByte r) = ⊤
-IsNear (InSlot k) = k ≤ 16384
+IsNear (InSlot k) = k ≤ 0x4000
 
-pub fits-below : (d : ℕ) → d ≤ 16384 → FitsSigned w32 (neg_ℤ (pos d))
+pub fits-below : (d : ℕ) → d ≤ 0x4000 → FitsSigned w32 (neg_ℤ (pos d))
 fits-below zero h = grind (arith, ints)
 fits-below (suc n) h = omega (arith, ints)
 
-pub fits-near : (d : ℕ) → d ≤ 16384 → FitsSigned w32 (pos d)
+pub fits-near : (d : ℕ) → d ≤ 0x4000 → FitsSigned w32 (pos d)
 fits-near d h = omega (arith, ints)
 
 scratch-fits : FitsSigned w32 (neg_ℤ (pos scratch))

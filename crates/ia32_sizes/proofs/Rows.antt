@@ -61,7 +61,7 @@ IsGood whole functions objects (item.JumpIf c l) = Stands (item.Label l) whole
 IsGood whole functions objects (item.CallFunction f) = f < functions
 IsGood whole functions objects (item.CallStub s) = ⊤
 IsGood whole functions objects (item.JumpTrap c) = ⊤
-IsGood whole functions objects (item.AddressOf r k) = (k < objects) ⊎ (k ≡ 4294967295)
+IsGood whole functions objects (item.AddressOf r k) = (k < objects) ⊎ (k ≡ 0xffffffff)
 
 -- all of them are, and have at most 200 bytes and 8 for each of so many argument words
 pub record IsFitRow (whole : List Item) (functions objects words : ℕ) (items : List Item) : Type 0 where
@@ -228,10 +228,10 @@ module _ (whole : List Item) (functions objects : ℕ) where
     omega arith,
   )
 
-  clear-good : (label distance bytes : ℕ) → Stands (item.Label label) whole → distance ≤ 16384
+  clear-good : (label distance bytes : ℕ) → Stands (item.Label label) whole → distance ≤ 0x4000
       → Good 7 (clear_row label distance bytes)
   clear-good label distance bytes stands h =
-      let less : distance - bytes ≤ 16384 = omega arith in (
+      let less : distance - bytes ≤ 0x4000 = omega arith in (
         (
           (fits-below distance h, tt),
           (
@@ -249,7 +249,7 @@ module _ (whole : List Item) (functions objects : ℕ) where
       )
 
   -- a function's first items, of which there are thirteen
-  pub prologue-good : (frame label : ℕ) → frame ≤ 16384 → Stands (item.Label label) whole
+  pub prologue-good : (frame label : ℕ) → frame ≤ 0x4000 → Stands (item.Label label) whole
       → Good 13 (prologue frame label)
   prologue-good frame label h stands = (
     (
@@ -281,7 +281,7 @@ module _ (whole : List Item) (functions objects : ℕ) where
 
   pub row-fits : (label : ℕ) (arrays : List (ℕ × ℕ)) (distances : List ℕ) (before after : ℕ → Place) (o : Op)
       → ((v : ℕ) → IsNear (before v)) → ((v : ℕ) → IsNear (after v))
-      → ((k : ℕ) → slice_index_or distances k 0 ≤ 16384)
+      → ((k : ℕ) → slice_index_or distances k 0 ≤ 0x4000)
       → NumbersFit o → NamesWithin functions objects o → LabelsStand whole label o → words_of o ≤ 4096
       → IsFitRow whole functions objects (words_of o) (items_between label arrays distances before after o)
   row-fits label arrays distances before after (op.Const d n) b a k numbers names labels few =

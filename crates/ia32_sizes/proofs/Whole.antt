@@ -92,7 +92,7 @@ loop-there flow placement p b k placed e =
 
 -- ---- what is near
 
-near-of : (frame : ℕ) (place : Option Place) → ((x : Place) → place ≡ Some x → IsPlaceIn frame x) → frame ≤ 16384
+near-of : (frame : ℕ) (place : Option Place) → ((x : Place) → place ≡ Some x → IsPlaceIn frame x) → frame ≤ 0x4000
     → IsNear (unwrap_or place (InSlot 0))
 near-of frame None h small = omega arith
 near-of frame (Some (InWord r)) h small = h (InWord r) refl
@@ -110,7 +110,7 @@ there-or-none (x ∷ xs) (suc k) = there-or-none xs k
 
 -- frame arrays stand near EBP
 near-distance : (arrays : List (ℕ × ℕ)) (frame : ℕ) (belows : List ℕ) (k : ℕ) → AreArraysIn arrays frame belows
-    → frame ≤ 16384 → slice_index_or belows k 0 ≤ 16384
+    → frame ≤ 0x4000 → slice_index_or belows k 0 ≤ 0x4000
 near-distance arrays frame belows k inside small =
     elim (there-or-none belows k) [
       | inl has ↦
@@ -128,7 +128,7 @@ near-distance arrays frame belows k inside small =
 
 module _ (functions objects : ℕ) (flow : Flow) (placement : Placement) (homes : List ℕ)
     (g : IsGraph functions objects flow) (f : IsFlow flow homes) (s : Supports flow placement)
-    (small : 8 + placement.frame + 4 * most_words flow.ops ≤ 16384) where
+    (small : 8 + placement.frame + 4 * most_words flow.ops ≤ 0x4000) where
   abbrev whole : List Item
   whole = selected flow placement
 
@@ -138,7 +138,7 @@ module _ (functions objects : ℕ) (flow : Flow) (placement : Placement) (homes 
   abbrev Fits : ℕ → Type 0
   Fits p = IsFitRow whole functions objects (words_of (op_at p)) (row flow placement p (op_at p))
 
-  frame-small : placement.frame ≤ 16384
+  frame-small : placement.frame ≤ 0x4000
   frame-small = omega arith
 
   -- the labels that a point's row jumps to stand there
@@ -239,7 +239,7 @@ module _ (functions objects : ℕ) (flow : Flow) (placement : Placement) (homes 
 
   abbrev IsHeader : List (ℕ × ℕ) → List ℕ → Type 0
   IsHeader arrays belows = (k distance : ℕ) (array : ℕ × ℕ) → slice_get arrays k ≡ Some array
-      → slice_get belows k ≡ Some distance → (distance + 4 ≤ 16384) × (array.1 ≤ 16384)
+      → slice_get belows k ≡ Some distance → (distance + 4 ≤ 0x4000) × (array.1 ≤ 0x4000)
 
   headers-good : (arrays : List (ℕ × ℕ)) (belows : List ℕ) → IsHeader arrays belows → Good (headers arrays belows)
   headers-good arrays [] h = tt
@@ -331,9 +331,9 @@ module _ (functions objects : ℕ) (flow : Flow) (placement : Placement) (homes 
   good-labelled (item.JumpTrap c) h = tt
   good-labelled (item.AddressOf r k) h = tt
 
-  object-there : (k : ℕ) → (k < objects) ⊎ (k ≡ 4294967295) → IsThere functions objects (object_target k)
+  object-there : (k : ℕ) → (k < objects) ⊎ (k ≡ 0xffffffff) → IsThere functions objects (object_target k)
   object-there k (inl h) =
-      either-way (IsThere functions objects) (k == 4294967295) target.Depth (target.Object k) tt h
+      either-way (IsThere functions objects) (k == 0xffffffff) target.Depth (target.Object k) tt h
   object-there k (inr e) = subst (λ (n : ℕ). IsThere functions objects (object_target n)) (sym e) tt
 
   good-there : (i : Item) (t : Target) → IsGood whole functions objects i → target_of i ≡ Some t

@@ -34,7 +34,7 @@ pub record IsCodeIn (functions objects : ℕ) (flow : Flow) (items : List Item) 
 abbrev pub SelectedIsCode : Type 0
 SelectedIsCode =
     (functions objects : ℕ) (flow : Flow) (placement : Placement) → IsGraph functions objects flow
-    → Supports flow placement → 8 + placement.frame + 4 * most_words flow.ops ≤ 16384
+    → Supports flow placement → 8 + placement.frame + 4 * most_words flow.ops ≤ 0x4000
     → IsCodeIn functions objects flow (selected flow placement)
 
 -- Each block of such a graph has a point, so that there are no more blocks than points.

@@ -96,6 +96,6 @@ points_once = (once_mark item.Point (item.Point 1) from_1
 pub table_can : (items : List Item) → items ≡ from_0 → CanAssemble items
 table_can items e =
     subst CanAssemble (sym e) (can_assemble from_0
-    (tt, (tt, ((144 ∷ [], refl), (tt, (tt, (tt, (tt, (tt, (tt, ((195 ∷ [], refl), tt))))))))))
+    (tt, (tt, ((0x90 ∷ [], refl), (tt, (tt, (tt, (tt, (tt, (tt, ((0xc3 ∷ [], refl), tt))))))))))
     (tt, (tt, (tt, ((7, refl), (tt, (tt, ((1, refl), (tt, (tt, (tt, tt)))))))))) labels_once points_once
     (omega arith))

@@ -48,7 +48,7 @@ walks-are links ends lists h =
 
 -- links and ends that stand for lists are an index
 pub index-of : (links : List Link) (ends : List Ends) (lists : List (List ℕ)) → AreIndexed links ends lists
-    → length links ≤ 4294967295 → IsIndex links ends
+    → length links ≤ 0xffffffff → IsIndex links ends
 index-of links ends lists h few = record {
   indexed = subst (AreIndexed links ends) (sym (walks-are links ends lists h)) h;
   few_nodes = few;

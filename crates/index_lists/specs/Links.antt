@@ -56,7 +56,7 @@ walks links ends = map (λ e. walk links e.count e.first) ends
 -- the lists that the links stand for are those that they are walked in, and there are fewer than 2^32 nodes
 pub record IsIndex (links : List Link) (ends : List Ends) : Type 0 where
   pub indexed : AreIndexed links ends (walks links ends)
-  pub few_nodes : length links ≤ 4294967295
+  pub few_nodes : length links ≤ 0xffffffff
 
 -- the node has a link, if it is one
 abbrev pub IsOneOf : List Link → Option ℕ → Type 0

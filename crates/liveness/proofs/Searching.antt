@@ -360,7 +360,7 @@ module _ (flow : Flow) (v head level point at : ℕ) (nexts : List (ℕ × ℕ))
       ]
 
   -- a point not passed yet leaves room for one step more
-  pub room : length flow.ops ≤ 4294967295 → IsMarked passed v point ⊎ (level < 4294967295)
+  pub room : length flow.ops ≤ 0xffffffff → IsMarked passed v point ⊎ (level < 0xffffffff)
   room few =
       elim (mark-decides passed v point) [
         | inl m ↦ inl m

@@ -50,10 +50,10 @@ module _ (p : Program) (well : WellTyped p) (memory : IsInMemory p) (k : ℕ) (f
   typed : IsTypedFunction p f
   typed = all-at (IsTypedFunction p) p.functions k f functions at
 
-  size-small : function_size f ≤ 65536
+  size-small : function_size f ≤ 0x10000
   size-small = let s = function-small p.functions k f at in let m = memory.small in omega (arith, s, m)
 
-  arrays-small : sum_by array_bytes f.arrays ≤ 16384
+  arrays-small : sum_by array_bytes f.arrays ≤ 0x4000
   arrays-small = let h = words.frame in omega (arith, h)
 
   blocks-many : length blank.blocks ≡ blocks_of_function c
@@ -78,7 +78,7 @@ module _ (p : Program) (well : WellTyped p) (memory : IsInMemory p) (k : ℕ) (f
 
   pub lines-fit : AllFit blank (lines_of_function c)
   lines-fit = all-weaker (IsGood blank) (FitsOp blank) (ops_in (lines_of_function c)) (λ i good. good.0)
-      (function-fits room functions typed (counts-small f.arrays 16384 arrays-small (omega arith)) words.body
+      (function-fits room functions typed (counts-small f.arrays 0x4000 arrays-small (omega arith)) words.body
       (let s = size-small in omega (arith, s)) (all-lines-close p well k f at).1 blocks-many)
 
   -- the same of what is made in memory, which is equal to it

@@ -79,17 +79,17 @@ abbrev mutual
   StatementsHaveWords (Next s others) = StatementHasWords s × StatementsHaveWords others
 
 pub record FunctionHasWords (f : Function) : Type 0 where
-  pub arrays : All (λ a. a.count ≤ 4294967295) f.arrays
+  pub arrays : All (λ a. a.count ≤ 0xffffffff) f.arrays
   pub body : StatementsHaveWords f.body
   -- an item of its own declares each array
   pub declared : length f.arrays ≤ function_size f
   -- the limit on frames, in bytes
-  pub frame : frame_bound f ≤ 16384
+  pub frame : frame_bound f ≤ 0x4000
 
 -- a program in memory, of no more than the tokens that a program may have, and within the limits
 pub record IsInMemory (p : Program) : Type 0 where
   pub functions : All FunctionHasWords p.functions
-  pub small : size_of p ≤ 65536
+  pub small : size_of p ≤ 0x10000
   -- of the limit on static objects, which is on the bytes of all of them: each has some, and so has each element
-  pub few_objects : length p.objects ≤ 16777216
-  pub few_elements : All (λ o. length o.elements ≤ 16777216) p.objects
+  pub few_objects : length p.objects ≤ 0x01000000
+  pub few_elements : All (λ o. length o.elements ≤ 0x01000000) p.objects

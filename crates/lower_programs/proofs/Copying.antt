@@ -83,7 +83,7 @@ six-behind xs ys a b c d e f =
 module _ (S : Site) (site : IsSite S) (older : List Function) (k : ℕ) (a : LocalArray)
     (at : slice_get S.function.arrays k ≡ Some a) (object : ℕ) (text : StaticObject)
     (at_text : slice_get S.program.objects object ≡ Some text) (same : text.element ≡ a.element) (block left : ℕ)
-    (few : suc left ≤ 16777216) (front : List Line) (s0 : source.State) (g : graph.State)
+    (few : suc left ≤ 0x01000000) (front : List Line) (s0 : source.State) (g : graph.State)
     (begins : Begins S (S.function ∷ older) s0 g) where
   abbrev active : List Function
   active = S.function ∷ older
@@ -286,9 +286,9 @@ texts-lower S site well memory n k element object h mine =
         object text at)).some_elements
 
     few-elements : (text : StaticObject) → slice_get S.program.objects object ≡ Some text
-        → length text.elements ≤ 16777216
-    few-elements text at = all-at (λ (o : StaticObject). length o.elements ≤ 16777216) S.program.objects object text
-        (recursion_from_All (λ (o : StaticObject). length o.elements ≤ 16777216) S.program.objects
+        → length text.elements ≤ 0x01000000
+    few-elements text at = all-at (λ (o : StaticObject). length o.elements ≤ 0x01000000) S.program.objects object text
+        (recursion_from_All (λ (o : StaticObject). length o.elements ≤ 0x01000000) S.program.objects
         memory.few_elements) at
 
     by : (a : LocalArray) → slice_get S.function.arrays k ≡ Some a → (text : StaticObject)

@@ -12,7 +12,7 @@ use Rattle.lower_programs.specs.ExpressionsLaws.{BytesCount}
 bits-count : (z : ℤ) → FitsSigned w8 z → shift_count z ≡ cast_unsigned w8 z % 32
 bits-count (pos m) f = refl
 bits-count (negsuc k) f =
-    let small : k < 128 = f.sfits in
+    let small : k < 0x80 = f.sfits in
     let split = div-add-mod' k 32 in
     let split' = div-add-mod' (256 - suc k) 32 in
     let below : k % 32 < 32 = mod-lt k (omega arith) in

@@ -44,12 +44,12 @@ use Rattle.lower_programs.proofs.Types.{integer-of}
 -- ---- numbers
 
 byte-fits : (z : ℤ) → FitsSigned w8 z → FitsSigned w32 z
-byte-fits (pos m) f = let h : m < 128 = f.sfits in record { sfits = omega (arith, h) }
-byte-fits (negsuc m) f = let h : m < 128 = f.sfits in record { sfits = omega (arith, h) }
+byte-fits (pos m) f = let h : m < 0x80 = f.sfits in record { sfits = omega (arith, h) }
+byte-fits (negsuc m) f = let h : m < 0x80 = f.sfits in record { sfits = omega (arith, h) }
 
 short-fits : (z : ℤ) → FitsSigned w16 z → FitsSigned w32 z
-short-fits (pos m) f = let h : m < 32768 = f.sfits in record { sfits = omega (arith, h) }
-short-fits (negsuc m) f = let h : m < 32768 = f.sfits in record { sfits = omega (arith, h) }
+short-fits (pos m) f = let h : m < 0x8000 = f.sfits in record { sfits = omega (arith, h) }
+short-fits (negsuc m) f = let h : m < 0x8000 = f.sfits in record { sfits = omega (arith, h) }
 
 pub converted-fits : (t : IntegerType) (n : ℤ) → FitsSigned w32 n → FitsSigned w32 (converted t n)
 converted-fits Char n h = byte-fits (int_wrap w8 n) (SFits-int_wrap w8 n)

@@ -50,7 +50,7 @@ take-few (suc n) (x ∷ xs) = let h = take-few n xs in omega (arith, h)
 
 module _ (R : Room) (functions : AllByRecursion (IsTypedFunction R.program) R.program.functions)
     (typed : IsTypedFunction R.program R.function)
-    (counts : AllByRecursion (λ a. a.count ≤ 2147483647) R.function.arrays) where
+    (counts : AllByRecursion (λ a. a.count ≤ 0x7fffffff) R.function.arrays) where
   abbrev p : Program
   p = R.program
 
@@ -185,7 +185,7 @@ module _ (R : Room) (functions : AllByRecursion (IsTypedFunction R.program) R.pr
   -- ---- functions
 
   parameter-fit : (k word : ℕ) (l : Local) → slice_get f.locals k ≡ Some l → (of : ValueType) → l.of ≡ of
-      → word + 1 < 4294967296 → Fit R (parameter_of c of (local_spot c k) word)
+      → word + 1 < 0x1_0000_0000 → Fit R (parameter_of c of (local_spot c k) word)
   parameter-fit k word l at Void e few = tt
   parameter-fit k word l at (Integer Char) e few =
       let y = temp R 0 ForNumber some-level in
@@ -206,7 +206,7 @@ module _ (R : Room) (functions : AllByRecursion (IsTypedFunction R.program) R.pr
 
   parameters-fit : (ls : List Local) (k word : ℕ)
       → ((j : ℕ) (l : Local) → slice_get ls j ≡ Some l → slice_get f.locals (k + j) ≡ Some l)
-      → word + 2 * length ls < 4294967296 → Fit R (parameters_lines c ls k word)
+      → word + 2 * length ls < 0x1_0000_0000 → Fit R (parameters_lines c ls k word)
   parameters-fit [] k word inside few = tt
   parameters-fit (l ∷ ls) k word inside few =
       let plain : k + 0 ≡ k = omega arith in
@@ -218,7 +218,7 @@ module _ (R : Room) (functions : AllByRecursion (IsTypedFunction R.program) R.pr
       (λ j m e. let next : k + suc j ≡ suc k + j = omega arith in
       subst (λ (n : ℕ). slice_get f.locals n ≡ Some m) next (inside (suc j) m e)) (omega (arith, few, words)))
 
-  pub function-fits : StatementsHaveWords f.body → f.parameters ≤ 65536 → (body_run c).levels ≤ L
+  pub function-fits : StatementsHaveWords f.body → f.parameters ≤ 0x10000 → (body_run c).levels ≤ L
       → B ≡ blocks_of_function c → Fit R (lines_of_function c)
   function-fits words few room many =
       let hs = runs-fit false false f.body typed.body words in

@@ -36,7 +36,7 @@ use Rattle.lower_lines.specs.Variables.{levels_of, levels_widths, local_spot, mo
 use Rattle.lower_programs.proofs.Widths.{get-before, local-width, role_width, temporary-width}
 use Rattle.lower_programs.specs.FitsLaws.{IsGood, Room}
 
-pub small : (n : ℕ) → n < 2147483648 → FitsSigned w32 (pos n)
+pub small : (n : ℕ) → n < 0x80000000 → FitsSigned w32 (pos n)
 small n h = record { sfits = h }
 
 abbrev pub context_in : Room → Context

@@ -67,14 +67,14 @@ objects-many (o ∷ os) = ap (λ (ns : List ℕ). length o.elements ∷ ns) (obj
 -- numbers of so many bytes are numbers of the type
 bytes-fit : (t : IntegerType) (n : ℤ) → FitsBytes (bytes_of t) n → IsNumberOf t n
 bytes-fit Char (pos m) h =
-    let top : pos m <ℤ pos 128 = h.1 in int_wrap_fits w8 (pos m) (record { sfits = omega (arith, ints, top) })
+    let top : pos m <ℤ pos 0x80 = h.1 in int_wrap_fits w8 (pos m) (record { sfits = omega (arith, ints, top) })
 bytes-fit Char (negsuc m) h =
-    let low : negsuc 127 ≤ℤ negsuc m = h.0 in
+    let low : negsuc 0x7f ≤ℤ negsuc m = h.0 in
     int_wrap_fits w8 (negsuc m) (record { sfits = omega (arith, ints, low) })
 bytes-fit Short (pos m) h =
-    let top : pos m <ℤ pos 32768 = h.1 in int_wrap_fits w16 (pos m) (record { sfits = omega (arith, ints, top) })
+    let top : pos m <ℤ pos 0x8000 = h.1 in int_wrap_fits w16 (pos m) (record { sfits = omega (arith, ints, top) })
 bytes-fit Short (negsuc m) h =
-    let low : negsuc 32767 ≤ℤ negsuc m = h.0 in
+    let low : negsuc 0x7fff ≤ℤ negsuc m = h.0 in
     int_wrap_fits w16 (negsuc m) (record { sfits = omega (arith, ints, low) })
 bytes-fit Int n h = refl
 

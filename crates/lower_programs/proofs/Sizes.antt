@@ -105,8 +105,8 @@ count-small Char n = omega arith
 count-small Short n = omega arith
 count-small Int n = omega arith
 
-pub counts-small : (arrays : List LocalArray) (n : ℕ) → sum_by array_bytes arrays ≤ n → n ≤ 2147483647
-    → AllByRecursion (λ a. a.count ≤ 2147483647) arrays
+pub counts-small : (arrays : List LocalArray) (n : ℕ) → sum_by array_bytes arrays ≤ n → n ≤ 0x7fffffff
+    → AllByRecursion (λ a. a.count ≤ 0x7fffffff) arrays
 counts-small [] n h k = tt
 counts-small (a ∷ arrays) n h k =
     let s = sum_by-cons array_bytes a arrays in

@@ -107,7 +107,7 @@ or-true false b e = e
 
 module _ (R : Room) (functions : AllByRecursion (IsTypedFunction R.program) R.program.functions)
     (typed : IsTypedFunction R.program R.function)
-    (counts : AllByRecursion (λ a. a.count ≤ 2147483647) R.function.arrays) where
+    (counts : AllByRecursion (λ a. a.count ≤ 0x7fffffff) R.function.arrays) where
   abbrev p : Program
   p = R.program
 
@@ -171,7 +171,7 @@ module _ (R : Room) (functions : AllByRecursion (IsTypedFunction R.program) R.pr
 
   elements-fit : (t : IntegerType) (u : IntegerType) (place count : ℕ) (es : List Expression) (block : ℕ)
       → AllByRecursion (IsAssigned p f (Integer u)) es → AllByRecursion HasWords es → place + length es ≤ count
-      → count ≤ 2147483647 → elements_levels c es ≤ L → block + elements_blocks c es ≤ B
+      → count ≤ 0x7fffffff → elements_levels c es ≤ L → block + elements_blocks c es ≤ B
       → Fit R (elements_lines c t place es block)
   elements-fit t u place count [] block h words fits small' room more = tt
   elements-fit t u place count (e ∷ es) block h words fits small' room more =
@@ -205,7 +205,7 @@ module _ (R : Room) (functions : AllByRecursion (IsTypedFunction R.program) R.pr
   array-fit k t (Elements es) a block at h words room more =
       let there = slice_get_within f.arrays k a at in
       let same = R.arrays in
-      let few = all-at (λ (x : LocalArray). x.count ≤ 2147483647) f.arrays k a counts at in
+      let few = all-at (λ (x : LocalArray). x.count ≤ 0x7fffffff) f.arrays k a counts at in
       let q = temp R 0 ForArray some-level in
       let inside : k < length R.flow.arrays = omega (arith, there, same) in (
         ((inside, tt), tt),
@@ -219,7 +219,7 @@ module _ (R : Room) (functions : AllByRecursion (IsTypedFunction R.program) R.pr
   array-fit k t (Text object) a block at h words room more =
       let there = slice_get_within f.arrays k a at in
       let same = R.arrays in
-      let few = all-at (λ (x : LocalArray). x.count ≤ 2147483647) f.arrays k a counts at in
+      let few = all-at (λ (x : LocalArray). x.count ≤ 0x7fffffff) f.arrays k a counts at in
       let q = temp R 0 ForArray some-level in
       let y = temp R 0 ForNumber some-level in
       let o = temp R 0 ForOld some-level in

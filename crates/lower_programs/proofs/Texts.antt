@@ -134,7 +134,7 @@ below-holds m n h = grind (arith, nat_tests, h)
 last-fails : (m : ℕ) → int_lt (pos m) (pos m) ≡ false
 last-fails m = grind (arith, nat_tests)
 
-one-more : (i : ℕ) → i < 2147483647 → int_wrap w32 (pos i +ℤ pos 1) ≡ pos (suc i)
+one-more : (i : ℕ) → i < 0x7fffffff → int_wrap w32 (pos i +ℤ pos 1) ≡ pos (suc i)
 one-more i h =
     let e : i + 1 ≡ suc i = omega arith in
     ap (λ (m : ℕ). int_wrap w32 (pos m)) e ∙ int_wrap_fits w32 (pos (suc i)) (record { sfits = omega (arith, h) })
@@ -253,7 +253,7 @@ named-set S older k a at s g es shows =
 module _ (S : Site) (site : IsSite S) (older : List Function) (k : ℕ) (a : LocalArray)
     (at : slice_get S.function.arrays k ≡ Some a) (object : ℕ) (text : StaticObject)
     (at_text : slice_get S.program.objects object ≡ Some text) (same : text.element ≡ a.element) (count block : ℕ)
-    (few : count ≤ 16777216) (front : List Line) (s0 : source.State) (g : graph.State)
+    (few : count ≤ 0x01000000) (front : List Line) (s0 : source.State) (g : graph.State)
     (begun : Shows S.program (S.function ∷ older) s0 g) where
   abbrev active : List Function
   active = S.function ∷ older

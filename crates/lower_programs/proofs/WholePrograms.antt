@@ -54,8 +54,8 @@ get-mapped f (y ∷ xs) (suc k) x e = get-mapped f xs k x e
 
 -- ---- the numbers of an op
 
-number-fits : (F O : ℕ) (i : Op) → F ≤ 4294967295 → O ≤ 4294967295 → NamesWithin F O i → SmallNumber i
-    → ((s : ℕ) → i ≡ op.Mark s → s < 4294967296) → NumbersFit i
+number-fits : (F O : ℕ) (i : Op) → F ≤ 0xffffffff → O ≤ 0xffffffff → NamesWithin F O i → SmallNumber i
+    → ((s : ℕ) → i ≡ op.Mark s → s < 0x1_0000_0000) → NumbersFit i
 number-fits F O (op.Const d n) f o names number mark = number
 number-fits F O (op.Copy d s) f o names number mark = tt
 number-fits F O (op.Wide d s) f o names number mark = tt
@@ -119,18 +119,18 @@ module _ (p : Program) (well : WellTyped p) (memory : IsInMemory p) (k : ℕ) (f
     arrays = length-map f.arrays array_of;
   }
 
-  size-small : function_size f ≤ 65536
+  size-small : function_size f ≤ 0x10000
   size-small = let s = function-small p.functions k f at in let m = memory.small in omega (arith, s, m)
 
-  arrays-small : sum_by array_bytes f.arrays ≤ 16384
+  arrays-small : sum_by array_bytes f.arrays ≤ 0x4000
   arrays-small = let h = words.frame in omega (arith, h)
 
   good : AllByRecursion (IsGood flow) flow.ops
   good =
-      function-fits room functions typed (counts-small f.arrays 16384 arrays-small (omega arith)) words.body
+      function-fits room functions typed (counts-small f.arrays 0x4000 arrays-small (omega arith)) words.body
       (let s = size-small in omega (arith, s)) (all-lines-close p well k f at).1 (blocks-are p f)
 
-  marks : (point s : ℕ) → slice_get flow.ops point ≡ Some (op.Mark s) → s < 4294967296
+  marks : (point s : ℕ) → slice_get flow.ops point ≡ Some (op.Mark s) → s < 0x1_0000_0000
   marks point s e =
       let (low, high) = ((marks-hold p well).1 k f flow at (get-mapped (graph_of_function p) p.functions k f at)).only
       point s e in
@@ -163,14 +163,14 @@ module _ (p : Program) (well : WellTyped p) (memory : IsInMemory p) (k : ℕ) (f
       let (i, there) = element-at flow.ops point (omega (arith, below, many)) in
       (i, there, (all-at (IsGood flow) flow.ops point i good there).0)
 
-  few-widths : length flow.widths ≤ 4294967295
+  few-widths : length flow.widths ≤ 0xffffffff
   few-widths =
       let shape = (function-shape p f (function-lays p f well.functions typed)).frame in
       let h = words.frame in
       omega (arith, shape, h)
 
-  few-elements : (arrays : List LocalArray) → AllByRecursion (λ a. a.count ≤ 4294967295) arrays
-      → AllByRecursion (λ array. array.1 ≤ 4294967295) (map array_of arrays)
+  few-elements : (arrays : List LocalArray) → AllByRecursion (λ a. a.count ≤ 0xffffffff) arrays
+      → AllByRecursion (λ array. array.1 ≤ 0xffffffff) (map array_of arrays)
   few-elements [] h = tt
   few-elements (a ∷ arrays) h = (h.0, few-elements arrays h.1)
 
@@ -197,7 +197,7 @@ module _ (p : Program) (well : WellTyped p) (memory : IsInMemory p) (k : ℕ) (f
                 };
             arrays_fit = laid.arrays_fit;
             few_elements = few-elements f.arrays
-                (recursion_from_All (λ (a : LocalArray). a.count ≤ 4294967295) f.arrays words.arrays);
+                (recursion_from_All (λ (a : LocalArray). a.count ≤ 0xffffffff) f.arrays words.arrays);
             numbers = numbers;
             few_variables = few-widths;
             few_arrays = omega (arith, many, declared, size);

@@ -10,7 +10,7 @@ use Rattle.lower_lines.specs.Variables.{variable_widths}
 -- the numbers of a `const` and of a `param` are of 32 bits
 abbrev pub SmallNumber : Op → Type 0
 SmallNumber (op.Const d n) = FitsSigned w32 n
-SmallNumber (op.Param d k) = k < 4294967296
+SmallNumber (op.Param d k) = k < 0x1_0000_0000
 SmallNumber _ = Unit {0}
 
 -- what an op asks for is there, and its number fits

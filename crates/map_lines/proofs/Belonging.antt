@@ -190,7 +190,7 @@ belongs nops program homes code is =
     let flows = code.program.functions in
     let one = is.shapes.as_many in
     let xs = functions_over 0 fs flows homes address in
-    let P : MarkAt → Type 0 = λ mark. IsAt code.text mark.address (144 ∷ []) in
+    let P : MarkAt → Type 0 = λ mark. IsAt code.text mark.address (0x90 ∷ []) in
     record {
       objects = refl;
       as_many = functions-many 0 fs flows homes address one is.as_many;
@@ -223,7 +223,7 @@ belongs nops program homes code is =
           let (b, stands) = placed-in flow p within in
           let from : 0 + j ≡ j = omega arith in
           let whole = flow-is code j flow there in
-          subst (λ (i : ℕ). IsAt code.text (address i p) (144 ∷ [])) (sym from)
+          subst (λ (i : ℕ). IsAt code.text (address i p) (0x90 ∷ [])) (sym from)
           (nops code j b p (op.Mark n) is.selected (slice_get_within flows j flow there)
           (subst (λ (w : Flow). Stands w p b) (sym whole) stands)
           (ap (λ (w : Flow). slice_get w.ops p) whole ∙ has) refl)));

@@ -198,7 +198,7 @@ points-ruled stand program homes code k f flow h is at =
     let bytes = is.selected.supported.bytes k below in
     let placed = is.placed k flow h at.graph at.home in
     let whole = flow-is code k flow at.graph in
-    let small : frame_bytes flow ≤ 16384 = let e = ap (λ (x : Placement). x.frame) placed in omega (arith, e, bytes) in
+    let small : frame_bytes flow ≤ 0x4000 = let e = ap (λ (x : Placement). x.frame) placed in omega (arith, e, bytes) in
     let many : length (variables_over f flow) ≡ length flow.widths =
     sym (length-map (variables_over f flow) (λ (v : MapVariable). v.width)) ∙ ap length widths in
     let end = stack_end code.text (objects_of code.program) in
@@ -260,7 +260,7 @@ points-ruled stand program homes code k f flow h is at =
 arrays-held : (program : Program) (homes : List Homes) (code : Code) (k : ℕ) (f : Function) (flow : Flow)
     (h : Homes) (own : List ℕ)
     → IsOverSlots program homes code → IsFunction program homes code k f flow h → IsFlow flow own
-    → frame_bytes flow ≤ 16384 → (j below : ℕ) (a : LocalArray) → slice_get f.arrays j ≡ Some a
+    → frame_bytes flow ≤ 0x4000 → (j below : ℕ) (a : LocalArray) → slice_get f.arrays j ≡ Some a
     → slice_get h.arrays j ≡ Some below → IsHeldArray a below
 arrays-held program homes code k f flow h own is at flows small j below a has there =
     let arrays = (is.shapes.each k f flow at.function at.graph).arrays in
@@ -268,11 +268,11 @@ arrays-held program homes code k f flow h own is at flows small j below a has th
     ∙ mapped-at f.arrays j a has in
     let inside = (is.slots k flow h at.graph at.home).arrays_in.inside j below (array_of a) mine there in
     let fits = all-at IsArray flow.arrays j (array_of a) flows.arrays_fit mine in
-    let few = all-at (λ (array : ℕ × ℕ). array.1 ≤ 4294967295) flow.arrays j (array_of a) flows.few_elements mine in
+    let few = all-at (λ (array : ℕ × ℕ). array.1 ≤ 0xffffffff) flow.arrays j (array_of a) flows.few_elements mine in
     counted below (size_of (array_of a)) (frame_bytes flow) a.count inside.low inside.high small fits.1 few
   where
-    counted : (below size frame count : ℕ) → 16 + size ≤ below → below + 4 ≤ frame → frame ≤ 16384 → 1 ≤ count
-        → count ≤ 4294967295
+    counted : (below size frame count : ℕ) → 16 + size ≤ below → below + 4 ≤ frame → frame ≤ 0x4000 → 1 ≤ count
+        → count ≤ 0xffffffff
         → (1 ≤ below) × (below ≤ 2 ^ 31) × (1 ≤ count) × (count < 2 ^ 32)
     counted below size frame count low high small some few =
         (omega (arith, low), omega (arith, high, small), some, omega (arith, few))
@@ -293,7 +293,7 @@ function-ruled stand program homes code k f flow h is at named =
     let below = slice_get_within code.program.functions k flow at.graph in
     let bytes = is.selected.supported.bytes k below in
     let placed = is.placed k flow h at.graph at.home in
-    let small : frame_bytes flow ≤ 16384 = let e = ap (λ (x : Placement). x.frame) placed in omega (arith, e, bytes) in
+    let small : frame_bytes flow ≤ 0x4000 = let e = ap (λ (x : Placement). x.frame) placed in omega (arith, e, bytes) in
     let vs = variables_over f flow in
     let many : length vs ≡ length flow.widths =
     sym (length-map vs (λ (v : MapVariable). v.width)) ∙ ap length widths in
@@ -332,9 +332,9 @@ objects-held program homes code is k address o at there =
     ap (λ (xs : List objects.Object). slice_get xs k) is.objects ∙ data-at program.objects k o at in
     let whole = all-at objects.IsObject code.program.objects k (data_object o)
     (recursion_from_All objects.IsObject code.program.objects supported.program.objects) mine in
-    let short = all-at (λ (object : objects.Object). length object.elements ≤ 2147483648) code.program.objects k
+    let short = all-at (λ (object : objects.Object). length object.elements ≤ 0x80000000) code.program.objects k
     (data_object o)
-    (recursion_from_All (λ object. length object.elements ≤ 2147483648) code.program.objects supported.few) mine in
+    (recursion_from_All (λ object. length object.elements ≤ 0x80000000) code.program.objects supported.few) mine in
     let (x, held) = held-at code.program.objects k (data_object o) mine in
     let os = objects_of code.program in
     let text = supported.is_code.text in
@@ -344,7 +344,7 @@ objects-held program homes code is k address o at there =
     (length o.elements) inside.1 (round-above (length (data_bytes os))) supported.fits whole.some_elements short
   where
     counted : (start size address mine count : ℕ) → address + mine ≤ start + size → size ≤ round_up 4 size
-        → start + (round_up 4 size + 0x04001000) < 4294967296 → 1 ≤ count → count ≤ 2147483648
+        → start + (round_up 4 size + 0x04001000) < 0x1_0000_0000 → 1 ≤ count → count ≤ 0x80000000
         → (address < 2 ^ 32) × (1 ≤ count) × (count < 2 ^ 32)
     counted start size address mine count inside most fits some few =
         (omega (arith, inside, most, fits), some, omega (arith, few))

@@ -88,7 +88,7 @@ takes-slot Two slot = tt
 -- variables that are there stand as the rules of a map ask for
 pub standings-ruled : (variables : List MapVariable) (frame k : ℕ) (slots : List ℕ)
     → ((v : ℕ) → k ≤ v → v < k + length slots → (x : MapVariable) × (slice_get variables v ≡ Some x))
-    → AllByRecursion (IsSlot frame) slots → frame ≤ 16384
+    → AllByRecursion (IsSlot frame) slots → frame ≤ 0x4000
     → AllByRecursion (IsStanding variables) (standings_from k slots)
 standings-ruled variables frame k [] there within small = tt
 standings-ruled variables frame k (slot ∷ slots) there within small =

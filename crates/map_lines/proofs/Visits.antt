@@ -141,7 +141,7 @@ read-at program code m mark input g s standing variable h state shown r here has
           (shown.variables v value standing.place e placed);
     }
   where
-    lower : (e t : ℕ) → e + 8 ≤ t → t < 4294967296 → e < 2 ^ 32
+    lower : (e t : ℕ) → e + 8 ≤ t → t < 0x1_0000_0000 → e < 2 ^ 32
     lower e t h k = omega arith
 
     below : (x z e : ℕ) → x + z ≡ e → z ≤ e
@@ -303,8 +303,8 @@ elsewhere-shown : (program : Program) (code : Code) (m : Map) (s : machine.State
 elsewhere-shown program code m s h clear =
     not-visited m s (marks_of m)
     (λ mark among at.
-    clear (subst (λ (a : ℕ). IsAt code.text a (144 ∷ [])) at
-    (all-among (λ (x : MarkAt). IsAt code.text x.address (144 ∷ [])) mark (marks_of m) h.belongs.nops among)))
+    clear (subst (λ (a : ℕ). IsAt code.text a (0x90 ∷ [])) at
+    (all-among (λ (x : MarkAt). IsAt code.text x.address (0x90 ∷ [])) mark (marks_of m) h.belongs.nops among)))
 
 pub map-shows-visits : MapShowsVisits
 map-shows-visits program code m h = record {

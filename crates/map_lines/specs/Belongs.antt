@@ -128,4 +128,4 @@ pub record IsMapOf (program : Program) (code : Code) (m : Map) : Type 0 where
   pub each : (n : ℕ) → n < sum_by (λ f. numbers_of f.body) program.functions
       → IsIn n (map (λ mark. mark.statement) (marks_of m))
   pub once : IsDistinct (map (λ mark. mark.statement) (marks_of m))
-  pub nops : All (λ mark. IsAt code.text mark.address (144 ∷ [])) (marks_of m)
+  pub nops : All (λ mark. IsAt code.text mark.address (0x90 ∷ [])) (marks_of m)

@@ -24,8 +24,8 @@ pub record IsOverSlots (program : Program) (homes : List Homes) (code : Code) : 
   pub objects : HasObjects program code.program
   pub marks : HaveMarks program code.program
   pub once : MarksOnce code.program
-  pub few_functions : length program.functions ≤ 4294967295
-  pub few_objects : length program.objects ≤ 4294967295
+  pub few_functions : length program.functions ≤ 0xffffffff
+  pub few_objects : length program.objects ≤ 0xffffffff
   pub as_many : length homes ≡ length program.functions
   pub placed : (k : ℕ) (flow : Flow) (h : Homes) → slice_get code.program.functions k ≡ Some flow
       → slice_get homes k ≡ Some h → placement_of code k ≡ in_slots (frame_bytes flow) h.arrays h.slots

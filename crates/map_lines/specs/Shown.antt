@@ -92,7 +92,7 @@ pub record CanShow (first : ℕ) (f : Function) (flow : Flow) (frame : Frame) (a
   pub shape : HasShape f flow
   pub marks : MarksStatements first f flow
   pub bytes : frame.bytes ≡ frame_bytes flow
-  pub few_variables : length flow.widths ≤ 4294967295
+  pub few_variables : length flow.widths ≤ 0xffffffff
   pub as_many_arrays : length frame.arrays.items ≡ length f.arrays
   pub arrays_below : AreBelow frame.arrays.items
   pub as_many_variables : length frame.variables.items ≡ length flow.widths
@@ -103,13 +103,13 @@ pub record CanShow (first : ℕ) (f : Function) (flow : Flow) (frame : Frame) (a
 pub record CanShowAll (program : Program) (flows : List Flow) (frames : List Frame) (objects : List ℕ)
     (addresses : List (List ℕ)) : Type 0 where
   pub as_many_objects : length objects ≡ length program.objects
-  pub few_objects : length program.objects ≤ 4294967295
-  pub few_elements : AllByRecursion (λ o. length o.elements ≤ 4294967295) program.objects
+  pub few_objects : length program.objects ≤ 0xffffffff
+  pub few_elements : AllByRecursion (λ o. length o.elements ≤ 0xffffffff) program.objects
   pub as_many_graphs : length flows ≡ length program.functions
   pub as_many_frames : length frames ≡ length program.functions
   pub as_many_points : length addresses ≡ length program.functions
-  pub few_functions : length program.functions ≤ 4294967295
-  pub few_statements : sum_by (λ f. numbers_of f.body) program.functions ≤ 4294967295
+  pub few_functions : length program.functions ≤ 0xffffffff
+  pub few_statements : sum_by (λ f. numbers_of f.body) program.functions ≤ 0xffffffff
   pub each : (k : ℕ) (f : Function) (flow : Flow) (frame : Frame) (points : List ℕ)
       → slice_get program.functions k ≡ Some f → slice_get flows k ≡ Some flow → slice_get frames k ≡ Some frame
       → slice_get addresses k ≡ Some points → CanShow (first_statement program.functions k) f flow frame points

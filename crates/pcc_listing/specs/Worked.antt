@@ -85,7 +85,7 @@ worked_state word =
       flags = None;
       eip = 1100;
       memory =
-          record { address = 1000; bytes = replicate 200 144; readable = true; writable = false; runnable = true }
+          record { address = 1000; bytes = replicate 200 0x90; readable = true; writable = false; runnable = true }
           ∷ record { address = 2000; bytes = worked_data; readable = true; writable = true; runnable = false }
           ∷ [];
       left = [];

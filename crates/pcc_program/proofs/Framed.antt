@@ -68,17 +68,17 @@ few-elements object n is size = by object.width is.width size
 
 all-few : (objects : List Object) → All IsObject objects
     → objects_size (map (λ (o : Object). record { width = o.width; elements = o.elements }) objects) ≤ 0x01000000
-    → All (λ (o : Object). length o.elements ≤ 2147483648) objects
-all-few [] is size = All-nil (λ (o : Object). length o.elements ≤ 2147483648)
+    → All (λ (o : Object). length o.elements ≤ 0x80000000) objects
+all-few [] is size = All-nil (λ (o : Object). length o.elements ≤ 0x80000000)
 all-few (o ∷ objects) is size =
     let here = few-elements o 0x01000000 (All-head IsObject o objects is) (omega (arith, size)) in
-    All-cons (λ (o : Object). length o.elements ≤ 2147483648) o objects (omega (arith, here))
+    All-cons (λ (o : Object). length o.elements ≤ 0x80000000) o objects (omega (arith, here))
     (all-few objects (All-tail IsObject o objects is) (omega (arith, size)))
 
 -- ---- addresses
 
-end-fits : (n m : ℕ) → n < 2 ^ 30 + 1024 → m ≤ 0x01000004
-    → text_start + round_up 0x1000 n + (round_up 4 m + 0x04001000) < 4294967296
+end-fits : (n m : ℕ) → n < 2 ^ 30 + 0x400 → m ≤ 0x01000004
+    → text_start + round_up 0x1000 n + (round_up 4 m + 0x04001000) < 0x1_0000_0000
 end-fits n m h k = omega (arith, h, k)
 
 framed-is-supported : FramesSupport → (code : Code) → IsGraphProgram code.program → HaveFrames code.program
@@ -97,7 +97,7 @@ framed-is-supported support code is frames framed =
           subst (λ (p : Placement). Supports (flow_at code.program f) p) (sym (frame-at code f framed.placements below))
           (support (flow_at code.program f) graph.keeps.0 graph.keeps.1);
       bytes = λ f below.
-          subst (λ (p : Placement). 8 + p.frame + 4 * most_words (flow_at code.program f).ops ≤ 16384)
+          subst (λ (p : Placement). 8 + p.frame + 4 * most_words (flow_at code.program f).ops ≤ 0x4000)
           (sym (frame-at code f framed.placements below)) (each f below).small;
       fits = end-fits (length code.text) (length (data_bytes objects)) framed.fits
           (omega (arith, length-data objects, framed.held));

@@ -30,11 +30,11 @@ use Rattle.pcc_program.proofs.Placed.{can-hold, objects-small}
 
 -- frames are within their limit
 pub small-frames : (functions objects : ℕ) (flows : List Flow) → All (HasFrame functions objects) flows
-    → All (λ flow. frame_bytes flow ≤ 16384) flows
-small-frames functions objects [] all = All-nil (λ (flow : Flow). frame_bytes flow ≤ 16384)
+    → All (λ flow. frame_bytes flow ≤ 0x4000) flows
+small-frames functions objects [] all = All-nil (λ (flow : Flow). frame_bytes flow ≤ 0x4000)
 small-frames functions objects (flow ∷ flows) all =
     let here = (All-head (HasFrame functions objects) flow flows all).small in
-    All-cons (λ (x : Flow). frame_bytes x ≤ 16384) flow flows (omega (arith, here))
+    All-cons (λ (x : Flow). frame_bytes x ≤ 0x4000) flow flows (omega (arith, here))
     (small-frames functions objects flows (All-tail (HasFrame functions objects) flow flows all))
 
 -- the sections can be linked

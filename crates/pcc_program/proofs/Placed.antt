@@ -43,7 +43,7 @@ objects-bytes (o ∷ objects) =
 
 -- so they have no more bytes than the program's
 pub objects-small : (program : Program) (graphs : GraphProgram) → graphs.objects ≡ data_objects program
-    → arrays_bytes program ≤ 16777216 → objects_size graphs.objects ≤ 0x01000000
+    → arrays_bytes program ≤ 0x01000000 → objects_size graphs.objects ≤ 0x01000000
 objects-small program graphs same small =
     omega (arith, ap objects_size same, objects-bytes program.objects, small)
 
@@ -72,7 +72,7 @@ linked_code graphs order linked is = record {
 
 pub framed : (graphs : GraphProgram) (order : List ℕ) (linked : Linked)
     (is : IsLinked (map framed_items graphs.functions) order graphs.objects graphs.main linked)
-    → length linked.image.text.items < 2 ^ 30 + 1024 → objects_size graphs.objects ≤ 0x01000000
+    → length linked.image.text.items < 2 ^ 30 + 0x400 → objects_size graphs.objects ≤ 0x01000000
     → IsFramedCode (linked_code graphs order linked is)
 framed graphs order linked is small held =
     record {

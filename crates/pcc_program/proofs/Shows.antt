@@ -59,13 +59,13 @@ slots-below flow h =
 
 -- ---- objects
 
-few-elements : (objects : List StaticObject) → All (λ o. length o.elements ≤ 16777216) objects
-    → AllByRecursion (λ o. length o.elements ≤ 4294967295) objects
+few-elements : (objects : List StaticObject) → All (λ o. length o.elements ≤ 0x01000000) objects
+    → AllByRecursion (λ o. length o.elements ≤ 0xffffffff) objects
 few-elements [] all = tt
 few-elements (o ∷ objects) all =
-    let here = All-head (λ (x : StaticObject). length x.elements ≤ 16777216) o objects all in (
+    let here = All-head (λ (x : StaticObject). length x.elements ≤ 0x01000000) o objects all in (
       omega (arith, here),
-      few-elements objects (All-tail (λ (x : StaticObject). length x.elements ≤ 16777216) o objects all),
+      few-elements objects (All-tail (λ (x : StaticObject). length x.elements ≤ 0x01000000) o objects all),
     )
 
 module _ (laws : Laws) (program : Program) (graphs : GraphProgram) (frames : List Frame) (sections : List Section)

@@ -17,13 +17,13 @@ use Rattle.ia32_rows.specs.Placements.{Code, IsCode, objects_of}
 -- bits together.
 pub record HasFrame (functions objects : ℕ) (flow : Flow) : Type 0 where
   pub graph : IsGraph functions objects flow
-  pub small : 8 + frame_bytes flow + 4 * most_words flow.ops ≤ 16384
+  pub small : 8 + frame_bytes flow + 4 * most_words flow.ops ≤ 0x4000
   pub labels : length flow.blocks + length flow.ops < 2 ^ 32
 
 -- So are all graphs of a program, which has no more functions than tokens, and fewer than 2 ^ 30 bytes of code.
 pub record HaveFrames (program : GraphProgram) : Type 0 where
   pub each : All (HasFrame (length program.functions) (length program.objects)) program.functions
-  pub few : length program.functions ≤ 65536
+  pub few : length program.functions ≤ 0x10000
   pub code : sum_by most_bytes program.functions < 2 ^ 30
 
 -- the items of a graph over its frame
@@ -36,5 +36,5 @@ pub record IsFramedCode (code : Code) : Type 0 where
   pub laid : IsCode code
   pub placements : code.placements ≡ map frame_placement code.program.functions
   pub items : code.items ≡ map framed_items code.program.functions
-  pub fits : length code.text < 2 ^ 30 + 1024
+  pub fits : length code.text < 2 ^ 30 + 0x400
   pub held : objects_size (objects_of code.program) ≤ 0x01000000

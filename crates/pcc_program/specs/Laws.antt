@@ -29,7 +29,7 @@ pub record AreLinked (program : Program) (graphs : GraphProgram) (frames : List 
   pub frames_of : AllZip IsFrameOf graphs.functions frames
   pub sections_of : AreSectionsFrom 0 graphs.functions sections
   pub linked_is : IsLinked (map framed_items graphs.functions) (order_of sections) graphs.objects graphs.main linked
-  pub small : length linked.image.text.items < 2 ^ 30 + 1024
+  pub small : length linked.image.text.items < 2 ^ 30 + 0x400
   pub text : AreBytes linked.image.text.items
   pub data_bytes : AreBytes linked.image.data_bytes.items
 

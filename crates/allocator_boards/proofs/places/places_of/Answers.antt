@@ -28,7 +28,7 @@ overflow_cast-first c =
     (omega (arith, c.loop-block-test.true, c.blocks-block-end.ensures)) in
     let points : length c.in_ok-points.points.items ≡ length (points_of c.args.graph.now c.loop-block.block) =
     ap length c.in_ok-points.ensures in
-    let small : c.len.result < 4294967296 = omega (
+    let small : c.len.result < 0x1_0000_0000 = omega (
       arith,
       few,
       points,
@@ -44,7 +44,7 @@ overflow_add-first c =
     (omega (arith, c.loop-block-test.true, c.blocks-block-end.ensures)) in
     let points : length c.in_ok-points.points.items ≡ length (points_of c.args.graph.now c.loop-block.block) =
     ap length c.in_ok-points.ensures in
-    let small : c.loop-block.first + c.len.result < 4294967296 = omega (
+    let small : c.loop-block.first + c.len.result < 0x1_0000_0000 = omega (
       arith,
       few,
       points,

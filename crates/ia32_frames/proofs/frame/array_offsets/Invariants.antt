@@ -9,5 +9,5 @@ invariant-loop-array l = record {
   offsets : l.offsets.items ++ map offset_of (arrays_from l.header (drop l.array l.graph.arrays))
       ≡ map offset_of (arrays_from l.fn.bytes l.graph.arrays);
   room : sum_by array_bytes (drop l.array l.graph.arrays) ≤ l.header;
-  small : l.header ≤ 16384;
+  small : l.header ≤ 0x4000;
 }

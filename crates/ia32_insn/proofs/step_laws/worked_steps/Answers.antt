@@ -3,4 +3,4 @@ use Rattle.ia32_insn.proofs.step_laws.worked_steps.Goals as goal
 
 pub returns-clause-add_minus_one : goal.returns-clause-add_minus_one
 returns-clause-add_minus_one c =
-    inl (192 ∷ [], 255 ∷ [], refl, (192, refl, refl, refl, refl), record { count = refl; reads = refl })
+    inl (0xc0 ∷ [], 0xff ∷ [], refl, (0xc0, refl, refl, refl, refl), record { count = refl; reads = refl })

@@ -20,9 +20,9 @@ entries v = v.items
 
 pub push_objects-requires-clause-small : goal.push_objects-requires-clause-small
 push_objects-requires-clause-small c =
-    subst (λ (os : List StaticObject). AllByRecursion (λ (o : StaticObject). length o.elements.items ≤ 4294967295) os)
+    subst (λ (os : List StaticObject). AllByRecursion (λ (o : StaticObject). length o.elements.items ≤ 0xffffffff) os)
     (sym c.as_slice.ensures.value)
-    (small-objects 4294967295 c.args.program.now.objects.items c.requires.few_elements)
+    (small-objects 0xffffffff c.args.program.now.objects.items c.requires.few_elements)
 
 pub push_function-requires-clause-can : goal.push_function-requires-clause-can
 push_function-requires-clause-can c =

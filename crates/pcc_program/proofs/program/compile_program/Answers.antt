@@ -23,7 +23,7 @@ frames_of-requires c =
     let graphs = graphs_of c.in_ok-graphs.graphs in
     let have = c.graphs_have_frames.ensures (program_of c.args.program.now) graphs c.requires.memory g.shapes g.small
     g.well_formed in
-    subst (λ (fs : List Flow). All (λ flow. frame_bytes flow ≤ 16384) fs) (sym c.as_slice.ensures.value)
+    subst (λ (fs : List Flow). All (λ flow. frame_bytes flow ≤ 0x4000) fs) (sym c.as_slice.ensures.value)
     (small-frames (length graphs.functions) (length graphs.objects) graphs.functions have.each)
 
 pub sections_of-requires-clause-graphs : goal.sections_of-requires-clause-graphs
@@ -43,7 +43,7 @@ sections_of-requires-clause-few c =
     let g = c.in_ok-graphs.ensures in
     let have = c.graphs_have_frames.ensures (program_of c.args.program.now) (graphs_of c.in_ok-graphs.graphs)
     c.requires.memory g.shapes g.small g.well_formed in
-    subst (λ (fs : List Flow). length fs ≤ 65536) (sym c.as_slice-2.ensures.value) have.few
+    subst (λ (fs : List Flow). length fs ≤ 0x10000) (sym c.as_slice-2.ensures.value) have.few
 
 pub sections_of-requires-clause-small : goal.sections_of-requires-clause-small
 sections_of-requires-clause-small c =

@@ -26,7 +26,7 @@ invariant_of-self-2 c =
     let b = c.args.block in
     let within : b < length v.blocks =
     subst (λ (f : Flow). b < length f.blocks) (sym c.self.view_is) c.requires.in_range in
-    let room = subst (λ (f : Flow). length f.ops < 4294967295) (sym c.self.view_is) c.requires.room in
+    let room = subst (λ (f : Flow). length f.ops < 0xffffffff) (sym c.self.view_is) c.requires.room in
     let open_block = subst (λ (f : Flow). IsEnded f b → ⊥) (sym c.self.view_is) c.requires.not_ended in
     let fits = subst (λ (f : Flow). FitsOp f c.args.op) (sym c.self.view_is) c.requires.fits in
     let ops_are : c.push_reserved.new.self.items ≡ c.self.inside.ops.items ++ c.args.op ∷ [] = cc in

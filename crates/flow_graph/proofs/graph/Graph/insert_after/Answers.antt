@@ -58,7 +58,7 @@ invariant_of-self-2 c =
     ∙ (ap (λ (s : Lists). with_list s b (h.before ++ c.args.point ∷ c.len-new.result ∷ h.after)) grown
     ∙ (ap (λ (n : ℕ). with_list (with_nodes order nodes) b (h.before ++ c.args.point ∷ n ∷ h.after)) count
     ∙ ap (with_list (with_nodes order nodes) b) (sym (found-insert v order c.args.point (length v.ops) h)))) in
-    let room = subst (λ (f : Flow). length f.ops < 4294967295) (sym c.self.view_is) c.requires.room in
+    let room = subst (λ (f : Flow). length f.ops < 0xffffffff) (sym c.self.view_is) c.requires.room in
     let plain = subst (λ (f : Flow). IsPlainAt f.ops c.args.point) (sym c.self.view_is) c.requires.plain in
     let fits = subst (λ (f : Flow). FitsOp f c.args.op) (sym c.self.view_is) c.requires.fits in
     rw (whole, ops_are) (
