@@ -7,7 +7,7 @@ use Rattle.c_tree.specs.Program.{Function}
 use Rattle.c_tree.specs.declared.types.ValueType.{ValueType}
 use Rattle.c_tree.specs.Store.{Held, Activation, State, Evaluated, Gives, Ends, zero_of, in_type, array_named}
 use Rattle.c_tree.specs.Store.{with_array, element_at, with_element}
-use Rattle.c_tree.specs.Evaluation.{first_activation, older}
+use Rattle.c_tree.specs.Evaluation.{first_activation, most_active, older}
 use Rattle.c_eval.specs.declared.calls.Call.{Call}
 
 -- the static objects, and the active calls, the youngest first
@@ -45,7 +45,7 @@ AreCalls calls (suc n) values arrays =
 -- what the vectors of a store always keep: where calls begin, and how many may be active
 pub record IsKept (calls : List Call) (values arrays : ℕ) : Type 0 where
   pub nested : AreCalls calls (length calls) values arrays
-  pub few : length calls ≤ 4096
+  pub few : length calls ≤ most_active
 
 -- what a local of the type holds first: its argument in the type, or 0 or null where there is none
 abbrev pub first_value : ValueType → Option Held → Held

@@ -90,8 +90,7 @@ no_main true end = None
 no_main false end = Some (fault NoMain end)
 
 -- The fault that is answered: a definition that is missing is one where there is no other but a missing `main`, and
--- that
--- only where there is no other.
+-- that only where there is no other.
 abbrev pub fault_of : List (List ExternalTree) → Span → Option Fault
 fault_of units end =
     or_else (least (faults_of units)) (or_else (least (missing_bodies units)) (no_main (has_main units) end))

@@ -188,7 +188,8 @@ fresh-before flow lives p v w name e f =
     let at : a.at ≡ b.at = same_Some a.at b.at (sym a.place ∙ b.place) in
     one-of a.at b.at v w name at a.name b.name
   where
-    one-of : (i j v w name : ℕ) → i ≡ j → 2 * (i * 0x1_0000_0000 + v) ≡ name → 2 * (j * 0x1_0000_0000 + w) ≡ name → w ≡ v
+    one-of : (i j v w name : ℕ) → i ≡ j → 2 * (i * 0x1_0000_0000 + v) ≡ name
+        → 2 * (j * 0x1_0000_0000 + w) ≡ name → w ≡ v
     one-of i j v w name same e f = omega (arith, same, e, f)
 
 pub fresh-after : (flow : Flow) (lives : Lives) (p v w name : ℕ) → name_after flow lives p v ≡ Some name

@@ -17,12 +17,12 @@ front parts =
     ++ program_header 0x1000 text_address (length parts.text) (length parts.text) 5
     ++ program_header (0x1000 + text_span parts) (text_address + text_span parts) (length parts.data_bytes)
     (data_memory parts) 6
-    ++ zeros (0x1000 - 116)
+    ++ zeros (0x1000 - 0x74)
 
 -- the text begins at the first page
 pub length-front : (parts : Parts) → length (front parts) ≡ 0x1000
 unfolding front
-length-front parts = let e = length-zeros 3980 in omega (arith, e)
+length-front parts = let e = length-zeros (0x1000 - 0x74) in omega (arith, e)
 
 -- an image is what stands before the text, the text, zeros and the data
 pub image-parts : (parts : Parts) → image_bytes parts
@@ -96,34 +96,34 @@ data_header parts =
 
 -- e_entry is the entry
 pub entry-reads : (parts : Parts) → Fits parts → entry_in (image_bytes parts) ≡ parts.entry
-entry-reads parts fits = word-reads parts.entry (drop 28 (image_bytes parts)) fits.entry
+entry-reads parts fits = word-reads parts.entry (drop 0x1c (image_bytes parts)) fits.entry
 
 -- the first program header is that of the text
-pub text_header-reads : (parts : Parts) → Fits parts → header_at 52 (image_bytes parts) ≡ text_header parts
+pub text_header-reads : (parts : Parts) → Fits parts → header_at 0x34 (image_bytes parts) ≡ text_header parts
 text_header-reads parts fits =
     let file : length parts.text < 2 ^ 32 = omega (arith, fits.size) in
     headers-equal
     refl
     refl
     refl
-    (word-reads (length parts.text) (drop 72 (image_bytes parts)) file)
-    (word-reads (length parts.text) (drop 76 (image_bytes parts)) file)
+    (word-reads (length parts.text) (drop 0x48 (image_bytes parts)) file)
+    (word-reads (length parts.text) (drop 0x4c (image_bytes parts)) file)
     refl
 
 -- the second program header is that of the data
-pub data_header-reads : (parts : Parts) → Fits parts → header_at 84 (image_bytes parts) ≡ data_header parts
+pub data_header-reads : (parts : Parts) → Fits parts → header_at 0x54 (image_bytes parts) ≡ data_header parts
 data_header-reads parts fits =
     let size = fits.size in
     headers-equal
     refl
-    (word-reads (0x1000 + text_span parts) (drop 92 (image_bytes parts)) (omega arith))
-    (word-reads (text_address + text_span parts) (drop 96 (image_bytes parts)) (omega arith))
-    (word-reads (length parts.data_bytes) (drop 104 (image_bytes parts)) (omega arith))
-    (word-reads (data_memory parts) (drop 108 (image_bytes parts)) (omega arith))
+    (word-reads (0x1000 + text_span parts) (drop 0x5c (image_bytes parts)) (omega arith))
+    (word-reads (text_address + text_span parts) (drop 0x60 (image_bytes parts)) (omega arith))
+    (word-reads (length parts.data_bytes) (drop 0x68 (image_bytes parts)) (omega arith))
+    (word-reads (data_memory parts) (drop 0x6c (image_bytes parts)) (omega arith))
     refl
 
 -- an image has these two, and both are loaded
 pub loads-both : (parts : Parts) → Fits parts
     → loads_in 2 (image_bytes parts) ≡ text_header parts ∷ data_header parts ∷ []
-loads-both parts fits = ap (λ (h : Header). h ∷ header_at 84 (image_bytes parts) ∷ []) (text_header-reads parts fits)
+loads-both parts fits = ap (λ (h : Header). h ∷ header_at 0x54 (image_bytes parts) ∷ []) (text_header-reads parts fits)
     ∙ ap (λ (h : Header). text_header parts ∷ h ∷ []) (data_header-reads parts fits)

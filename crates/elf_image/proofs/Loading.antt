@@ -113,7 +113,7 @@ loads-image parts fits =
     let bytes = image_bytes parts in
     let long = length-image parts in
     let P : List Header → Type 0 = λ hs. All (IsInFile bytes) hs in
-    let two : 52 + 32 * 2 ≤ length bytes = omega (arith, long) in
+    let two : 0x34 + 0x20 * 2 ≤ length bytes = omega (arith, long) in
     record {
       executable = record {
         long = omega (arith, long);
@@ -148,18 +148,18 @@ left-out true g e = absurd (let wrong : Some g ≡ None = e in cc)
 left-out false g e = refl
 
 -- one header more, where it loads a segment
-pub one-more : (k : ℕ) (bytes : List ℕ) (h : Header) → load_header_at (headers_offset bytes + 32 * k) bytes ≡ Some h
+pub one-more : (k : ℕ) (bytes : List ℕ) (h : Header) → load_header_at (headers_offset bytes + 0x20 * k) bytes ≡ Some h
     → loads_in (k + 1) bytes ≡ loads_in k bytes ++ h ∷ []
 one-more k bytes h found =
-    let at : ℕ → Header = λ j. header_at (headers_offset bytes + 32 * j) bytes in
+    let at : ℕ → Header = λ j. header_at (headers_offset bytes + 0x20 * j) bytes in
     filter_of_map_range_with_len_more is_load at 0 k k (omega arith)
     ∙ ap (λ (hs : List Header). loads_in k bytes ++ hs) (taken (is_load (at k)) (at k) h found)
 
 -- and where it doesn't
-pub one-not : (k : ℕ) (bytes : List ℕ) → load_header_at (headers_offset bytes + 32 * k) bytes ≡ None
+pub one-not : (k : ℕ) (bytes : List ℕ) → load_header_at (headers_offset bytes + 0x20 * k) bytes ≡ None
     → loads_in (k + 1) bytes ≡ loads_in k bytes
 one-not k bytes none =
-    let at : ℕ → Header = λ j. header_at (headers_offset bytes + 32 * j) bytes in
+    let at : ℕ → Header = λ j. header_at (headers_offset bytes + 0x20 * j) bytes in
     filter_of_map_range_with_len_more is_load at 0 k k (omega arith)
     ∙ ap (λ (hs : List Header). loads_in k bytes ++ hs) (left-out (is_load (at k)) (at k) none)
     ∙ append-nil (loads_in k bytes)
@@ -198,7 +198,7 @@ read-are bytes entry pieces headers same-entry are read =
 
 -- a file whose header, program headers and segments are sound loads them
 pub loads-read : (bytes : List ℕ) (segments : Segments) → IsExecutable bytes
-    → IsFilePart bytes (headers_offset bytes) (32 * header_count bytes)
+    → IsFilePart bytes (headers_offset bytes) (0x20 * header_count bytes)
     → All (λ h. IsInFile bytes h × IsPiece (piece_at bytes h)) (loads_in (header_count bytes) bytes)
     → segments ≡ segments_in bytes → IsLoadable segments → Loads bytes segments
 loads-read bytes segments executable headers sound are loadable =

@@ -15,27 +15,27 @@ word_at offset bytes = little_number 4 (drop offset bytes)
 
 -- e_entry, e_phoff, e_phnum
 abbrev pub entry_in : List ℕ → ℕ
-entry_in bytes = word_at 24 bytes
+entry_in bytes = word_at 0x18 bytes
 
 abbrev pub headers_offset : List ℕ → ℕ
-headers_offset bytes = word_at 28 bytes
+headers_offset bytes = word_at 0x1c bytes
 
 abbrev pub header_count : List ℕ → ℕ
-header_count bytes = half_at 44 bytes
+header_count bytes = half_at 0x2c bytes
 
 -- EI_MAG0 to EI_MAG3, ELFCLASS32, ELFDATA2LSB and EV_CURRENT
 abbrev pub identity : List ℕ
 identity = 0x7f ∷ 0x45 ∷ 0x4c ∷ 0x46 ∷ 1 ∷ 1 ∷ 1 ∷ []
 
 -- The header is that of a program for the Intel 80386: e_type ET_EXEC, e_machine EM_386, e_version EV_CURRENT, and
--- at least one program header, of 32 bytes.
+-- at least one program header, of 0x20 bytes.
 pub record IsExecutable (bytes : List ℕ) : Type 0 where
-  pub long : 52 ≤ length bytes
+  pub long : 0x34 ≤ length bytes
   pub identified : take 7 bytes ≡ identity
-  pub kind : half_at 16 bytes ≡ 2
-  pub processor : half_at 18 bytes ≡ 3
-  pub version : word_at 20 bytes ≡ 1
-  pub header_size : half_at 42 bytes ≡ 32
+  pub kind : half_at 0x10 bytes ≡ 2
+  pub processor : half_at 0x12 bytes ≡ 3
+  pub version : word_at 0x14 bytes ≡ 1
+  pub header_size : half_at 0x2a bytes ≡ 0x20
   pub some : 1 ≤ header_count bytes
 
 -- ---- program headers
@@ -56,14 +56,14 @@ header_at offset bytes =
       kind = word_at offset bytes;
       offset = word_at (offset + 4) bytes;
       address = word_at (offset + 8) bytes;
-      file_size = word_at (offset + 16) bytes;
-      memory_size = word_at (offset + 20) bytes;
-      flags = word_at (offset + 24) bytes;
+      file_size = word_at (offset + 0x10) bytes;
+      memory_size = word_at (offset + 0x14) bytes;
+      flags = word_at (offset + 0x18) bytes;
     }
 
 -- the first so many program headers of a file, in order
 abbrev pub headers_in : ℕ → List ℕ → List Header
-headers_in count bytes = map (λ k. header_at (headers_offset bytes + 32 * k) bytes) (range_with_len 0 count)
+headers_in count bytes = map (λ k. header_at (headers_offset bytes + 0x20 * k) bytes) (range_with_len 0 count)
 
 -- p_type is PT_LOAD
 abbrev pub is_load : Header → Bool

@@ -33,13 +33,13 @@ text_span parts = next_multiple_of (length parts.text) 0x1000
 abbrev pub data_memory : Parts → ℕ
 data_memory parts = next_multiple_of (length parts.data_bytes) 4 + 0x04001000
 
--- e_ident (0x7f and "ELF"), e_type 2, e_machine 3, e_version 1, e_entry, e_phoff 52, e_shoff 0, e_flags 0, e_ehsize 52,
--- e_phentsize 32, e_phnum 2, and no sections
+-- e_ident (0x7f and "ELF"), e_type 2, e_machine 3, e_version 1, e_entry, e_phoff 0x34, e_shoff 0, e_flags 0,
+-- e_ehsize 0x34, e_phentsize 0x20, e_phnum 2, and no sections
 abbrev pub elf_header : ℕ → List ℕ
 elf_header entry =
     (0x7f ∷ 0x45 ∷ 0x4c ∷ 0x46 ∷ 1 ∷ 1 ∷ 1 ∷ 0 ∷ 0 ∷ 0 ∷ 0 ∷ 0 ∷ 0 ∷ 0 ∷ 0 ∷ 0 ∷ 2 ∷ 0 ∷ 3 ∷ 0 ∷ [])
-    ++ word 1 ++ word entry ++ word 52 ++ word 0 ++ word 0
-    ++ (52 ∷ 0 ∷ 32 ∷ 0 ∷ 2 ∷ 0 ∷ 0 ∷ 0 ∷ 0 ∷ 0 ∷ 0 ∷ 0 ∷ [])
+    ++ word 1 ++ word entry ++ word 0x34 ++ word 0 ++ word 0
+    ++ (0x34 ∷ 0 ∷ 0x20 ∷ 0 ∷ 2 ∷ 0 ∷ 0 ∷ 0 ∷ 0 ∷ 0 ∷ 0 ∷ 0 ∷ [])
 
 -- p_type 1, p_offset, p_vaddr, p_paddr, p_filesz, p_memsz, p_flags, p_align 0x1000
 abbrev pub program_header : ℕ → ℕ → ℕ → ℕ → ℕ → List ℕ
@@ -54,7 +54,7 @@ image_bytes parts =
     ++ program_header 0x1000 text_address (length parts.text) (length parts.text) 5
     ++ program_header (0x1000 + text_span parts) (text_address + text_span parts) (length parts.data_bytes)
     (data_memory parts) 6
-    ++ zeros (0x1000 - 116)
+    ++ zeros (0x1000 - 0x74)
     ++ parts.text
     ++ zeros (text_span parts - length parts.text)
     ++ parts.data_bytes

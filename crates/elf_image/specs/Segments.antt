@@ -101,7 +101,7 @@ IsInFile bytes header = IsFilePart bytes header.offset header.file_size
 -- so do the bytes of each segment that is loaded.
 pub record Loads (bytes : List ℕ) (segments : Segments) : Type 0 where
   pub executable : IsExecutable bytes
-  pub headers : IsFilePart bytes (headers_offset bytes) (32 * header_count bytes)
+  pub headers : IsFilePart bytes (headers_offset bytes) (0x20 * header_count bytes)
   pub parts : All (IsInFile bytes) (loads_in (header_count bytes) bytes)
   pub are : segments ≡ segments_in bytes
   pub loadable : IsLoadable segments

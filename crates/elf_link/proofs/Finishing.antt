@@ -24,7 +24,8 @@ use Rattle.elf_link.specs.Linking.{FitsIn, CanLink, AreSections, HasPoints, IsLi
 use Rattle.elf_addresses.specs.Parts.{sections_size, objects_size}
 use Rattle.elf_addresses.specs.Symbols.{symbols_of}
 use Rattle.elf_addresses.proofs.Data.{length-data}
-use Rattle.elf_link.specs.Placed.{addresses_from, AreAddresses, AreNumbered}
+use Rattle.elf_link.specs.Placed.{addresses_from, AreAddresses, AreNumbered, exit_size, getchar_size, putchar_size}
+use Rattle.elf_link.specs.Placed.{routines_size, start_size}
 use Rattle.elf_link.specs.Laid.{code_from, points_from, HasCode}
 use Rattle.elf_link.proofs.RoutineItems.{any_places, start_plainly, putchar_plainly, getchar_plainly, exit_plainly}
 use Rattle.elf_link.proofs.RoutineItems.{check_plainly}
@@ -41,7 +42,7 @@ objects_bound address (o ∷ objects) (suc k) x e =
     omega (arith, objects_bound (address + 4 + elements_size o) objects k x e)
 
 -- the depth word is behind the text, below this bound
-depth_bound : (n : ℕ) → n < 0x40000000 → text_start + round_up 0x1000 (n + 104) < 1300000000
+depth_bound : (n : ℕ) → n < 0x40000000 → text_start + round_up 0x1000 (n + routines_size) < 1300000000
 depth_bound n h = omega arith
 
 -- each target that is there has an address
@@ -297,23 +298,23 @@ length-code symbols address nf mo (s ∷ sections) fits =
 length-put : (old new bytes : List ℕ) (n : ℕ) → new ≡ old ++ bytes → length bytes ≡ n → length new ≡ length old + n
 length-put old new bytes n e size = ap length e ∙ length-append old bytes ∙ ap (λ (k : ℕ). length old + k) size
 
--- the text has the bytes of the sections, and 104 of the start and the routines
+-- the text has the bytes of the sections, of the start and of the routines
 pub length-linked : {nf mo : ℕ} (sections : List Section) (main : ℕ) (a : Addresses) (text : List ℕ)
     → ((i : ℕ) (s : Section) → slice_get sections i ≡ Some s → FitsIn nf mo s) → HasCode sections main a text
-    → length text ≡ sections_size sections + 104
+    → length text ≡ sections_size sections + routines_size
 length-linked {nf = nf} {mo = mo} sections main a text fits code =
-    let start : length code.start ≡ 0 + 29 = length-put [] code.start code.starts.bytes 29 code.starts.text
-    code.starts.size in
+    let start : length code.start ≡ 0 + start_size =
+    length-put [] code.start code.starts.bytes start_size code.starts.text code.starts.size in
     let calls : length code.functions ≡ length code.start + sections_size sections =
     length-put code.start code.functions _ (sections_size sections) code.calls
-    (length-code (symbols_of a) (text_start + 29) nf mo sections fits)
+    (length-code (symbols_of a) (text_start + start_size) nf mo sections fits)
     in
-    let puts : length code.putchar ≡ length code.functions + 29 =
-    length-put code.functions code.putchar code.puts.bytes 29 code.puts.text code.puts.size in
-    let gets : length code.getchar ≡ length code.putchar + 33 =
-    length-put code.putchar code.getchar code.gets.bytes 33 code.gets.text code.gets.size in
-    let exits : length code.exit ≡ length code.getchar + 11 =
-    length-put code.getchar code.exit code.exits.bytes 11 code.exits.text code.exits.size in
+    let puts : length code.putchar ≡ length code.functions + putchar_size =
+    length-put code.functions code.putchar code.puts.bytes putchar_size code.puts.text code.puts.size in
+    let gets : length code.getchar ≡ length code.putchar + getchar_size =
+    length-put code.putchar code.getchar code.gets.bytes getchar_size code.gets.text code.gets.size in
+    let exits : length code.exit ≡ length code.getchar + exit_size =
+    length-put code.getchar code.exit code.exits.bytes exit_size code.exits.text code.exits.size in
     let checks : length text ≡ length code.exit + 2 =
     length-put code.exit text code.checks.bytes 2 code.checks.text code.checks.size in
     omega (arith, start, calls, puts, gets, exits, checks)
@@ -323,7 +324,7 @@ pub linked_is : (sections : List Section) (objects : List Object) (main : ℕ) (
     → HasCode sections main a linked.image.text.items → linked.image.data_bytes.items ≡ data_bytes objects
     → linked.image.entry ≡ text_start
     → length linked.points.items ≡ length sections
-    → AreNumbered (order_of sections) (points_from (text_start + 29) sections)
+    → AreNumbered (order_of sections) (points_from (text_start + start_size) sections)
     (map (λ v. v.items) linked.points.items) → linked.objects.items ≡ a.objects.items
     → (functions : List (List Item)) → AreSections functions sections
     → IsLinked functions (order_of sections) objects main linked
@@ -332,11 +333,11 @@ linked_is sections objects main a linked can laid code data_same entry points_ma
     let symbols : Symbols = symbols_of a in
     let text : List ℕ = linked.image.text.items in
     let held = can.held.size in
-    let p = placed symbols (length sections) (length objects) (text_start + 29) functions sections
+    let p = placed symbols (length sections) (length objects) (text_start + start_size) functions sections
     (map (λ v. v.items) linked.points.items) (there_has sections objects a can.order laid can.code held) can.each
     (omega (arith, can.code)) can.order are laid.in_text.functions points_same
     in
-    let body : List ℕ = code_from symbols (text_start + 29) sections in
+    let body : List ℕ = code_from symbols (text_start + start_size) sections in
     let start : List ℕ = code.starts.bytes in
     let front : code.functions ≡ start ++ body = code.calls ∙ ap (λ (xs : List ℕ). xs ++ body) code.starts.text in
     let whole : text ≡ start ++ body ++ code.puts.bytes ++ code.gets.bytes ++ code.exits.bytes ++ code.checks.bytes =
@@ -346,14 +347,14 @@ linked_is sections objects main a linked can laid code data_same entry points_ma
     (code.gets.text ∙ ap (λ (xs : List ℕ). xs ++ code.gets.bytes)
     (code.puts.text ∙ ap (λ (xs : List ℕ). xs ++ code.puts.bytes) front)))
     in
-    let start_long : length start ≡ 29 = code.starts.size in
+    let start_long : length start ≡ start_size = code.starts.size in
     let size_1 = length-append start body in
     let body_long : length body ≡ sections_size sections =
-    length-code symbols (text_start + 29) (length sections) (length objects) sections can.each in
-    let puts_long : length code.puts.bytes ≡ 29 = code.puts.size in
-    let gets_long : length code.gets.bytes ≡ 33 = code.gets.size in
-    let exits_long : length code.exits.bytes ≡ 11 = code.exits.size in
-    let long : length text ≡ sections_size sections + 104 = length-linked sections main a text can.each code in
+    length-code symbols (text_start + start_size) (length sections) (length objects) sections can.each in
+    let puts_long : length code.puts.bytes ≡ putchar_size = code.puts.size in
+    let gets_long : length code.gets.bytes ≡ getchar_size = code.gets.size in
+    let exits_long : length code.exits.bytes ≡ exit_size = code.exits.size in
+    let long : length text ≡ sections_size sections + routines_size = length-linked sections main a text can.each code in
     let depth : a.depth ≡ data_start text = laid.depth ∙ ap (λ (n : ℕ). text_start + round_up 0x1000 n) (sym long) in
     let stack : a.stack ≡ stack_end text objects =
     laid.stack ∙ ap (λ (n : ℕ). n + (round_up 4 (4 + objects_size objects) + 0x04001000)) depth

@@ -24,7 +24,7 @@ use Rattle.elf_addresses.specs.declared.addresses.Addresses.{Addresses}
 use Rattle.elf_addresses.specs.Parts.{IsThere, function_of, order_of, sections_size}
 use Rattle.elf_link.specs.Linking.{FitsIn}
 use Rattle.elf_addresses.specs.Symbols.{symbols_of}
-use Rattle.elf_link.specs.Placed.{addresses_from, AreInText}
+use Rattle.elf_link.specs.Placed.{addresses_from, AreInText, start_size}
 use Rattle.elf_link.specs.Laid.{AreNamed, HasItems}
 use Rattle.elf_link.proofs.Lists.{moved_parts}
 use Rattle.elf_link.proofs.RoutineItems.{plainly_can, start_plainly}
@@ -160,21 +160,21 @@ address_room a (t ∷ sections) (suc k) x s e f =
 -- each function has an address
 pub function_found : (sections : List Section) (a : Addresses) (k : ℕ) → IsOrder (length sections) (order_of sections)
     → AreInText sections a → k < length sections
-    → (x : ℕ) × (slice_get a.functions.items k ≡ Some x) × (x ≤ text_start + 29 + sections_size sections)
+    → (x : ℕ) × (slice_get a.functions.items k ≡ Some x) × (x ≤ text_start + start_size + sections_size sections)
 function_found sections a k order laid h =
     let i = order.each k h in
-    let inside : i.0 < length (addresses_from (text_start + 29) sections) =
+    let inside : i.0 < length (addresses_from (text_start + start_size) sections) =
     omega (
       arith,
       slice_get_within (order_of sections) i.0 k i.1,
       length-map sections function_of,
-      length-addresses (text_start + 29) sections,
+      length-addresses (text_start + start_size) sections,
     )
     in
-    let x : ℕ = get_or (addresses_from (text_start + 29) sections) i.0 0 in
-    let found : slice_get (addresses_from (text_start + 29) sections) i.0 ≡ Some x =
-    slice_get-get_or (addresses_from (text_start + 29) sections) i.0 0 inside in
-    (x, laid.functions i.0 k i.1 ∙ found, addresses_bound (text_start + 29) sections i.0 x found)
+    let x : ℕ = get_or (addresses_from (text_start + start_size) sections) i.0 0 in
+    let found : slice_get (addresses_from (text_start + start_size) sections) i.0 ≡ Some x =
+    slice_get-get_or (addresses_from (text_start + start_size) sections) i.0 0 inside in
+    (x, laid.functions i.0 k i.1 ∙ found, addresses_bound (text_start + start_size) sections i.0 x found)
 
 -- ---- numbers
 
@@ -236,7 +236,7 @@ depth_put old new n o z e =
 -- the start names a function that has an address
 pub start_named : (a : Addresses) (sections : List Section) (stack depth main : ℕ) (items : List Item) → items
     ≡ start_items stack depth main → IsOrder (length sections) (order_of sections) → AreInText sections a
-    → main < length sections → text_start + 29 + sections_size sections < 2 ^ 32 → AreNamed a items
+    → main < length sections → text_start + start_size + sections_size sections < 2 ^ 32 → AreNamed a items
 start_named a sections stack depth main items e order laid there room =
     let main_in : main < length a.functions.items = omega (arith, laid.many, there) in
     let (x, found, bound) = function_found sections a main order laid there in

@@ -10,6 +10,7 @@ use Rattle.ia32_asm.specs.Sections.{target_of, resolved, items_size, HasAddress}
 use Rattle.elf_addresses.specs.declared.addresses.Addresses.{Addresses}
 use Rattle.elf_addresses.specs.Parts.{IsThere}
 use Rattle.elf_addresses.specs.Symbols.{symbols_of}
+use Rattle.elf_link.specs.Placed.{start_size}
 
 -- the bytes of sections that stand one behind the other from an address on
 abbrev pub code_from : Symbols → ℕ → List Section → List ℕ
@@ -46,7 +47,7 @@ pub record HasCode (sections : List Section) (main : ℕ) (a : Addresses) (text 
   pub getchar : List ℕ
   pub exit : List ℕ
   pub starts : HasItems a text_start (start_items a.stack a.depth main) [] start
-  pub calls : functions ≡ start ++ code_from (symbols_of a) (text_start + 29) sections
+  pub calls : functions ≡ start ++ code_from (symbols_of a) (text_start + start_size) sections
   pub puts : HasItems a a.putchar putchar_items functions putchar
   pub gets : HasItems a a.getchar getchar_items putchar getchar
   pub exits : HasItems a a.exit exit_items getchar exit

@@ -122,16 +122,16 @@ one_at symbols base bound o labels points front tail (item.JumpTrap None) xs e r
       0xe9 ∷ little_bytes 4 (word_for symbols base (last_four (o + 5) target.Check)),
       word-placed symbols base o front (0xe9 ∷ []) tail target.Check e,
       refl,
-      target_leads (jump_if None) (0xe9 ∷ []) (λ z four r. inl (four, refl, r)) symbols base o symbols.check target.Check
-          refl refl (omega (arith, same, a.2)) (omega (arith, h.room)),
+      target_leads (jump_if None) (0xe9 ∷ []) (λ z four r. inl (four, refl, r)) symbols base o symbols.check
+          target.Check refl refl (omega (arith, same, a.2)) (omega (arith, h.room)),
     )
 one_at symbols base bound o labels points front tail (item.JumpTrap (Some c)) xs e room h a =
     let same : symbols.check ≡ a.0 = (cc a.1) in (
       0x0f ∷ (0x80 + cond_number c) ∷ little_bytes 4 (word_for symbols base (last_four (o + 6) target.Check)),
       word-placed symbols base o front (0x0f ∷ (0x80 + cond_number c) ∷ []) tail target.Check e,
       refl,
-      target_leads (jump_if (Some c)) (0x0f ∷ (0x80 + cond_number c) ∷ []) (λ z four r. inl (four, refl, r)) symbols base o
-          symbols.check target.Check refl refl (omega (arith, same, a.2)) (omega (arith, h.room)),
+      target_leads (jump_if (Some c)) (0x0f ∷ (0x80 + cond_number c) ∷ []) (λ z four r. inl (four, refl, r)) symbols base
+          o symbols.check target.Check refl refl (omega (arith, same, a.2)) (omega (arith, h.room)),
     )
 one_at symbols base bound o labels points front tail (item.AddressOf r k) xs e room h a =
     let t : Target = object_target k in

@@ -30,8 +30,10 @@ spelled_in z (item.CallStub s) f h =
     (0xe8 ∷ word_bytes (pos 0), (word_bytes (pos 0), refl, reads_signed (pos 0) no_distance))
 spelled_in z (item.JumpTrap None) f h =
     (0xe9 ∷ word_bytes (pos 0), inl (word_bytes (pos 0), refl, reads_signed (pos 0) no_distance))
-spelled_in z (item.JumpTrap (Some c)) f h =
-    (0x0f ∷ (0x80 + cond_number c) ∷ word_bytes (pos 0), inl (word_bytes (pos 0), refl, reads_signed (pos 0) no_distance))
+spelled_in z (item.JumpTrap (Some c)) f h = (
+  0x0f ∷ (0x80 + cond_number c) ∷ word_bytes (pos 0),
+  inl (word_bytes (pos 0), refl, reads_signed (pos 0) no_distance),
+)
 spelled_in z (item.AddressOf r k) f h =
     ((0xb8 + number32 r) ∷ word_bytes (pos 0), inl (word_bytes (pos 0), refl, reads_signed (pos 0) no_distance))
 

@@ -31,8 +31,7 @@ lent machine left =
       flags = machine.flags;
       eip = machine.eip;
       memory = machine.memory;
-      left =
-          left;
+      left = left;
       taken = 0;
       written = [];
     }

@@ -85,15 +85,13 @@ RunEnds budget s machine left left' taken taken' end =
     × LeftAfter n s machine left' (λ t. Steps t (Halts end))
 
 -- after a refusal: some number of steps, fewer than the budget, were made, and the machine, the input and the bytes
--- taken
--- are as they leave them
+-- taken are as they leave them
 abbrev pub GivesSoFar : ℕ → State → State → List ℕ → List ℕ → List ℕ → List ℕ → (State → Type 0) → Type 0
 GivesSoFar budget s machine left left' taken taken' Holds =
     (n : ℕ) × (n < budget) × Gives n s left left' taken taken' outcome.Goes × LeftAfter n s machine left' Holds
 
 -- after a fault of the output: the machine and the input are as those steps leave them, and of what one step more
--- writes
--- at least the bytes that they wrote are taken, in order
+-- writes at least the bytes that they wrote are taken, in order
 abbrev pub GivesPart : ℕ → State → State → List ℕ → List ℕ → List ℕ → List ℕ → Type 0
 GivesPart budget s machine left left' taken taken' =
     (n : ℕ) × (n < budget) × (o next : outcome.Outcome) × Runs no_visits n s o × Runs no_visits (suc n) s next

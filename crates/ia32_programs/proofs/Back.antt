@@ -89,8 +89,9 @@ module _ (code : Code) (input : List ℕ) (g : graph.State) (s t : machine.State
   -- arrays of the caller, and of those that wait for it
   arrays-behind : IsSupported code → IsState code.program G → (shown : Shows code input G s)
       → shown.frames ≡ word_of Ebp s ∷ base ∷ rest
-      → WaitFrom code (active_of G) shown.frames s w.activation base waiting rest → data_end code + 0x1000 ≤ word_of Esp s
-      → word_of Esp s ≤ base → data_end code + 0x1000 + frame_size code w.activation ≤ base
+      → WaitFrom code (active_of G) shown.frames s w.activation base waiting rest
+      → data_end code + 0x1000 ≤ word_of Esp s → word_of Esp s ≤ base
+      → data_end code + 0x1000 + frame_size code w.activation ≤ base
       → data_start code.text + 4 ≤ data_end code
       → KeptBehind code H base s t → (i : ℕ) (a : Activation) (at : ℕ) → slice_get Active i ≡ Some a
       → slice_get (base ∷ rest) i ≡ Some at → FrameArraysStand code t at a
@@ -173,8 +174,9 @@ module _ (code : Code) (input : List ℕ) (g : graph.State) (s t : machine.State
 
   pub back-shows : IsSupported code → IsState code.program G → (shown : Shows code input G s)
       → shown.frames ≡ word_of Ebp s ∷ base ∷ rest
-      → WaitFrom code (active_of G) shown.frames s w.activation base waiting rest → data_end code + 0x1000 ≤ word_of Esp s
-      → word_of Esp s ≤ base → data_end code + 0x1000 + frame_size code w.activation ≤ base
+      → WaitFrom code (active_of G) shown.frames s w.activation base waiting rest
+      → data_end code + 0x1000 ≤ word_of Esp s → word_of Esp s ≤ base
+      → data_end code + 0x1000 + frame_size code w.activation ≤ base
       → data_start code.text + 4 ≤ data_end code
       → base ≡ word_of Ebp s + 8 + 4 * length g.current.arguments + frame_size code w.activation
       → IsBehind code g w waiting variables point base s t

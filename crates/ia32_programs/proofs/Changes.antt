@@ -70,7 +70,8 @@ negated =
         let back : cast_unsigned w32 (int_wrap w32 (neg_ℤ x)) ≡ (0 + (0x1_0000_0000 - n)) % 0x1_0000_0000 =
         ap (λ (z : ℤ). cast_unsigned w32 (int_wrap w32 z)) same ∙ ap (cast_unsigned w32) (sym bits)
         ∙ of_z-to_z w32 ((0 + (0x1_0000_0000 - n)) % 0x1_0000_0000) (omega arith) in
-        back ∙ ap (λ (k : ℕ). k % 0x1_0000_0000) (let e : 0 + (0x1_0000_0000 - n) ≡ 0x1_0000_0000 - n = omega arith in e)
+        back
+        ∙ ap (λ (k : ℕ). k % 0x1_0000_0000) (let e : 0 + (0x1_0000_0000 - n) ≡ 0x1_0000_0000 - n = omega arith in e)
 
 -- NOT
 complemented : IsChangedBy complement (int_bit_not w32)

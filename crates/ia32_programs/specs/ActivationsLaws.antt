@@ -17,6 +17,7 @@ use Rattle.ia32_insn.specs.Keeps.{AreDisjoint}
 use Rattle.ia32_insn.specs.Meaning.{Halts, load, word_of}
 use Rattle.ia32_insn.specs.Runs.{Steps}
 use Rattle.ia32_insn.specs.Items.{check_items}
+use Rattle.flow_graph.specs.Meaning.{most_active}
 use Rattle.ia32_rows.specs.Paths.{Comes, IsClear}
 use Rattle.ia32_rows.specs.Sites.{Framed, ReadyAt, Site, SoundAt, StandsFrom}
 use Rattle.ia32_rows.specs.CallsLaws.{Returned}
@@ -53,21 +54,21 @@ pub record FailsCheck (site : Site) (s u : State) : Type 0 where
 abbrev pub DepthCounts : Type 0
 DepthCounts =
     (site : Site) (items : List Item) (d : ℕ) (s : State) → SoundAt site s → HasDepth site
-    → load 4 site.symbols.depth s ≡ Ok d → d < 4096 → ReadyAt site (deepen ++ items) s
+    → load 4 site.symbols.depth s ≡ Ok d → d < most_active → ReadyAt site (deepen ++ items) s
     → (u : State) × Counts site items (d + 1) s u
 
 -- where 4,096 are, the check fails
 abbrev pub DepthFails : Type 0
 DepthFails =
     (site : Site) (items : List Item) (d : ℕ) (s : State) → SoundAt site s → HasDepth site
-    → load 4 site.symbols.depth s ≡ Ok d → 4096 ≤ d → d < 2 ^ 32 → ReadyAt site (deepen ++ items) s
+    → load 4 site.symbols.depth s ≡ Ok d → most_active ≤ d → d < 2 ^ 32 → ReadyAt site (deepen ++ items) s
     → (u : State) × FailsCheck site s u
 
 -- one call less is active
 abbrev pub DepthUncounts : Type 0
 DepthUncounts =
     (site : Site) (items : List Item) (d : ℕ) (s : State) → SoundAt site s → HasDepth site
-    → load 4 site.symbols.depth s ≡ Ok d → 0 < d → d ≤ 4096 → ReadyAt site (undeepen ++ items) s
+    → load 4 site.symbols.depth s ≡ Ok d → 0 < d → d ≤ most_active → ReadyAt site (undeepen ++ items) s
     → (u : State) × Counts site items (d - 1) s u
 
 -- ---- argument words
@@ -122,7 +123,7 @@ abbrev pub CallGoes : Type 0
 CallGoes =
     (site : Site) (frame f : ℕ) (places : List Place) (words : List ℕ) (d : ℕ) (back : List Item) (s : State)
     → Framed site frame s → HasDepth site → site.symbols.depth + 4 * length words + 16 ≤ word_of Esp s
-    → AreHeld frame s places words → load 4 site.symbols.depth s ≡ Ok d → d < 4096
+    → AreHeld frame s places words → load 4 site.symbols.depth s ≡ Ok d → d < most_active
     → ReadyAt site (before_call places ++ item.CallFunction f ∷ back) s
     → (u : State) × CallMade site back f words d s u
 
@@ -142,7 +143,7 @@ abbrev pub ResumeGoes : Type 0
 ResumeGoes =
     (site : Site) (frame words d : ℕ) (items : List Item) (s : State) → SoundAt site s → HasDepth site
     → word_of Esp s + 4 * words + frame ≡ word_of Ebp s → site.low + 4 ≤ word_of Esp s → word_of Ebp s + 8 ≤ site.high
-    → load 4 site.symbols.depth s ≡ Ok d → 0 < d → d ≤ 4096
+    → load 4 site.symbols.depth s ≡ Ok d → 0 < d → d ≤ most_active
     → ReadyAt site (drop_words words ++ undeepen ++ items) s
     → (u : State) × Resumed site frame items words d s u
 

@@ -12,6 +12,7 @@ use Rattle.ia32_insn.specs.Meaning.{load, word_of}
 use Rattle.ia32_insn.specs.Items.{stack_end, text_state}
 use Rattle.flow_graph.specs.Graphs.{Stands}
 use Rattle.flow_graph.specs.Liveness.{BeginsWith}
+use Rattle.flow_graph.specs.Meaning.{most_active}
 use Rattle.flow_graph.specs.States as graph
 use Rattle.flow_graph.specs.States.{Activation, Waiting, active_of, depth_of, first_activation, flow_at}
 use Rattle.flow_graph.specs.WellFormed.{IsWaiting}
@@ -62,7 +63,7 @@ pub record Called (code : Code) (input : List ℕ) (g : graph.State) (s : machin
   -- the stack
   pub room : stack_end code.text (objects_of code.program)
       ≤ frame + 8 + 4 * length g.current.arguments + stack_bytes code (map (λ w. w.activation) g.waiting)
-  pub few : depth_of g ≤ 4096
+  pub few : depth_of g ≤ most_active
   pub depth : load 4 code.symbols.depth s ≡ Ok (depth_of g)
   pub chain : WaitAtEbp code (active_of g) (frame ∷ older) s g.current frame g.waiting older
   -- arguments and arrays

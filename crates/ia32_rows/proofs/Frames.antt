@@ -45,8 +45,9 @@ went-then site frame one two K first out s t u a b =
 pub below-address : (distance : ℕ) (s : State) → 0 < distance → distance ≤ word_of Ebp s → word_of Ebp s < 0x1_0000_0000
     → address_of (below distance) s ≡ word_of Ebp s - distance
 below-address zero s some h fits = absurd (omega arith)
-below-address (suc n) s some h fits = let e : ℕ = word_of Ebp s in let m : (e + 0 + (0x1_0000_0000 - suc n)) % 0x1_0000_0000
-    ≡ e - suc n = omega arith in m
+below-address (suc n) s some h fits =
+    let e : ℕ = word_of Ebp s in
+    let m : (e + 0 + (0x1_0000_0000 - suc n)) % 0x1_0000_0000 ≡ e - suc n = omega arith in m
 
 -- a register and the flags changed
 abbrev pub with_result : Reg32 → ℕ → Option Flags → State → State

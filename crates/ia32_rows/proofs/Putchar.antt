@@ -29,8 +29,8 @@ use Rattle.ia32_rows.specs.Sites.{Site, SoundAt, ReadyAt, StandsFrom}
 no_wrap : (e d : ℕ) → e + d < 0x1_0000_0000 → (e + 0 + d) % 0x1_0000_0000 ≡ e + d
 no_wrap e d h = omega arith
 
-pub near-address : (distance : ℕ) (s : State) → word_of Esp s + distance < 0x1_0000_0000 → address_of (near Esp distance) s
-    ≡ word_of Esp s + distance
+pub near-address : (distance : ℕ) (s : State) → word_of Esp s + distance < 0x1_0000_0000
+    → address_of (near Esp distance) s ≡ word_of Esp s + distance
 near-address distance s h = no_wrap (word_of Esp s) distance h
 
 four_fits : 4 < 2 ^ 32

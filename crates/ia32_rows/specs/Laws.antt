@@ -78,8 +78,7 @@ HoldsLow s (InByte r) w = Contains s One (InByte r) (w % 256)
 HoldsLow s (InSlot k) w = Contains s Two (InSlot k) w × Contains s One (InSlot k) (w % 256)
 
 -- The items put a word into a place. They change no other place of a variable: of the registers only the place's own,
--- ESI
--- and EDI, and of the memory only the place's own and the word of scratch.
+-- ESI and EDI, and of the memory only the place's own and the word of scratch.
 pub record Puts (site : Site) (frame : ℕ) (items : List Item) (p : Place) (w : ℕ) (s u : State) : Type 0 where
   pub leads : Leads site items s u
   pub holds : HoldsLow u p w

@@ -14,6 +14,7 @@ use Rattle.ia32_insn.specs.declared.item.Item.{Item}
 use Rattle.ia32_insn.specs.declared.item.Item.TheVariants as item
 use Rattle.ia32_insn.specs.declared.item.Stub.TheVariants as stub
 use Rattle.ia32_insn.specs.Items.{near, plain}
+use Rattle.flow_graph.specs.Meaning.{most_active}
 use Rattle.ia32_rows.specs.Filling.{fill}
 use Rattle.ia32_rows.specs.Placements.{below}
 use Rattle.ia32_rows.specs.Moves.{pass, read, target_of, write}
@@ -54,7 +55,7 @@ depth_number = 0xffffffff
 abbrev pub deepen : List Item
 deepen =
     item.AddressOf Esi depth_number
-    ∷ plain (insn.AluImm alu.Cmp (rm.Mem (near Esi 0)) (pos 4096))
+    ∷ plain (insn.AluImm alu.Cmp (rm.Mem (near Esi 0)) (pos most_active))
     ∷ item.JumpTrap (Some cond.Ae)
     ∷ plain (insn.AluImm alu.Add (rm.Mem (near Esi 0)) (pos 1))
     ∷ []

@@ -16,6 +16,7 @@ use Rattle.ia32_insn.specs.State.{shape_of}
 use Rattle.ia32_insn.specs.Meaning.{load, word_of, byte_of, with_word}
 use Rattle.ia32_insn.specs.Items.{Places, ItemsAt, text_start, text_state, start_items, stack_end}
 use Rattle.flow_graph.specs.Graphs.{Stands}
+use Rattle.flow_graph.specs.Meaning.{most_active}
 use Rattle.flow_graph.specs.States as graph
 use Rattle.flow_graph.specs.States.{Activation, Waiting, active_of, depth_of, flow_at}
 use Rattle.flow_graph.specs.WellFormed.{IsWaiting}
@@ -239,7 +240,7 @@ pub record Shows (code : Code) (input : List ℕ) (g : graph.State) (s : machine
   -- the stack
   pub esp : word_of Esp s + (placement_of code g.current.function).frame ≡ word_of Ebp s
   pub room : stack_end code.text (objects_of code.program) ≤ word_of Esp s + stack_bytes code (active_of g)
-  pub few : depth_of g ≤ 4096
+  pub few : depth_of g ≤ most_active
   pub depth : load 4 code.symbols.depth s ≡ Ok (depth_of g)
   pub chain : WaitFrom code (active_of g) frames s g.current (word_of Ebp s) g.waiting older
   -- variables, arguments and arrays

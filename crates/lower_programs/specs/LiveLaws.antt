@@ -36,8 +36,7 @@ FlowsSuffice = (p : Program) (f : Function) (at_block : ℕ → List ℕ)
     × AllFixedDie (graph_of_function p f)
 
 -- The lines of every typed expression have sets, whatever is wanted of it: of the temporaries of its level and of
--- higher
--- ones it uses none before it writes it, and behind it there is its value, and what was there before.
+-- higher ones it uses none before it writes it, and behind it there is its value, and what was there before.
 abbrev pub ExpressionsSettle : Type 0
 ExpressionsSettle = (p : Program) → WellTyped p → (k : ℕ) (f : Function) → slice_get p.functions k ≡ Some f
     → (e : Expression) → IsTyped p f e → (block level : ℕ) (w : Wanted) (set : List ℕ)

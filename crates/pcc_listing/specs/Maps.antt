@@ -94,8 +94,7 @@ abbrev pub IsMapVariable : MapVariable → Type 0
 IsMapVariable v = IsNamed v.named
 
 -- a place for a variable of that width: a register for one of four bytes, a byte of a register for one of one byte, and
--- a
--- slot for both
+-- a slot for both
 abbrev pub TakesWidth : Width → Place → Type 0
 TakesWidth Two (InWord r) = ⊤
 TakesWidth One (InWord r) = ⊥

@@ -8,6 +8,7 @@ use Rattle.c_tree.specs.Program.{Program}
 use Rattle.elf_link.specs.declared.linked.Linked.{Linked}
 use Rattle.elf_addresses.specs.Parts.{order_of, sections_size}
 use Rattle.elf_link.specs.Linking.{AreSections, CanLink, IsLinked}
+use Rattle.elf_link.specs.Placed.{routines_size}
 use Rattle.flow_graph.specs.Graphs.{Flow}
 use Rattle.flow_graph.specs.States.{GraphProgram}
 use Rattle.graph_states.proofs.Lists.{All-at}
@@ -57,7 +58,7 @@ pub linked-are : (program : Program) (graphs : GraphProgram) (frames : List Fram
     → AllZip IsFrameOf graphs.functions frames → AreSectionsFrom 0 graphs.functions sections
     → ((functions : List (List Item)) → AreSections functions sections
     → IsLinked functions (order_of sections) graphs.objects graphs.main linked)
-    → vec_len linked.image.text ≡ sections_size sections + 104
+    → vec_len linked.image.text ≡ sections_size sections + routines_size
     → AreBytes linked.image.text.items → AreBytes linked.image.data_bytes.items
     → AreLinked program graphs frames sections linked
 linked-are program graphs frames sections linked compilable of have frames-of sections-of is long text data-bytes =

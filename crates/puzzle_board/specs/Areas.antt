@@ -1,7 +1,6 @@
 -- The cells of an area, and what a piece takes of them. An area has two columns of two rows; the upper row is before
--- the
--- instruction and the lower row after it (Quintão Pereira and Palsberg, "Register Allocation by Puzzle Solving", PLDI
--- 2008, puzzles of type 1).
+-- the instruction and the lower row after it (Quintão Pereira and Palsberg, "Register Allocation by Puzzle Solving",
+-- PLDI 2008, puzzles of type 1).
 use Rattle.std.specs.Prelude.{ℕ, Bool, true, false, ◌&&◌, ◌==◌}
 use Rattle.pcc_base.specs.declared.run.Width.{Width}
 use Rattle.pcc_base.specs.declared.run.Width.TheVariants.{One, Two}

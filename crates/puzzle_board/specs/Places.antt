@@ -41,9 +41,8 @@ is_entry_of (Some e) variable = e.0 == variable
 
 -- ---- all points
 
--- for each point the places of variables before it and after it, and the variables that are spilled there, in
--- order; for
--- each variable its slot's offset from EBP, if it has a slot; and the bytes of the frame
+-- for each point the places of variables before it and after it, and the variables that are spilled there, in order;
+-- for each variable its slot's offset from EBP, if it has a slot; and the bytes of the frame
 pub record PlaceMap : Type 0 where
   pub before : List (List Entry)
   pub after : List (List Entry)

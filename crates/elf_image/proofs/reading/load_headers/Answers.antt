@@ -10,15 +10,15 @@ use Rattle.elf_image.proofs.reading.load_headers.Goals.{in-Some+in_ok-push, in_d
 
 -- what was read at the start plus k headers stands there
 read-at : (bytes : List ℕ) (start k : ℕ) (read : Option ProgramHeader) → start ≡ headers_offset bytes
-    → option_map header_of read ≡ load_header_at (start + 32 * k) bytes
-    → load_header_at (headers_offset bytes + 32 * k) bytes ≡ option_map header_of read
+    → option_map header_of read ≡ load_header_at (start + 0x20 * k) bytes
+    → load_header_at (headers_offset bytes + 0x20 * k) bytes ≡ option_map header_of read
 read-at bytes start k read begins is =
-    sym (is ∙ ap (λ (n : ℕ). load_header_at (n + 32 * k) bytes) begins)
+    sym (is ∙ ap (λ (n : ℕ). load_header_at (n + 0x20 * k) bytes) begins)
 
 -- one more
 pushed : (bytes : List ℕ) (k : ℕ) (headers more : List ProgramHeader) (header : ProgramHeader)
     → map header_of headers ≡ loads_in k bytes → more ≡ headers ++ header ∷ []
-    → load_header_at (headers_offset bytes + 32 * k) bytes ≡ Some (header_of header)
+    → load_header_at (headers_offset bytes + 0x20 * k) bytes ≡ Some (header_of header)
     → map header_of more ≡ loads_in (k + 1) bytes
 pushed bytes k headers more header are push found =
     ap (map header_of) push ∙ map-append header_of headers (header ∷ [])
