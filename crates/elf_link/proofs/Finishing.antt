@@ -354,7 +354,8 @@ linked_is sections objects main a linked can laid code data_same entry points_ma
     let puts_long : length code.puts.bytes ≡ putchar_size = code.puts.size in
     let gets_long : length code.gets.bytes ≡ getchar_size = code.gets.size in
     let exits_long : length code.exits.bytes ≡ exit_size = code.exits.size in
-    let long : length text ≡ sections_size sections + routines_size = length-linked sections main a text can.each code in
+    let long : length text ≡ sections_size sections + routines_size =
+    length-linked sections main a text can.each code in
     let depth : a.depth ≡ data_start text = laid.depth ∙ ap (λ (n : ℕ). text_start + round_up 0x1000 n) (sym long) in
     let stack : a.stack ≡ stack_end text objects =
     laid.stack ∙ ap (λ (n : ℕ). n + (round_up 4 (4 + objects_size objects) + 0x04001000)) depth

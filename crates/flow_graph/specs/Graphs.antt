@@ -323,7 +323,7 @@ pub record IsBlock (flow : Flow) (homes : List ℕ) (block : ℕ) (points : List
 
 -- What every graph keeps, where `homes` has the block of each point, so that no point is in two blocks: each
 -- block keeps the above, each frame array is one, the numbers of each op fit, and the variables, arrays, elements of an
--- array, blocks and points are at most 4294967295.
+-- array, blocks and points are at most 0xffffffff.
 pub record IsFlow (flow : Flow) (homes : List ℕ) : Type 0 where
   pub one_home : length homes ≡ length flow.ops
   pub each_block : (block : ℕ) → IsBlock flow homes block (points_of flow block)

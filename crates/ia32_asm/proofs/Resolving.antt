@@ -130,8 +130,8 @@ one_at symbols base bound o labels points front tail (item.JumpTrap (Some c)) xs
       0x0f ∷ (0x80 + cond_number c) ∷ little_bytes 4 (word_for symbols base (last_four (o + 6) target.Check)),
       word-placed symbols base o front (0x0f ∷ (0x80 + cond_number c) ∷ []) tail target.Check e,
       refl,
-      target_leads (jump_if (Some c)) (0x0f ∷ (0x80 + cond_number c) ∷ []) (λ z four r. inl (four, refl, r)) symbols base
-          o symbols.check target.Check refl refl (omega (arith, same, a.2)) (omega (arith, h.room)),
+      target_leads (jump_if (Some c)) (0x0f ∷ (0x80 + cond_number c) ∷ []) (λ z four r. inl (four, refl, r)) symbols
+          base o symbols.check target.Check refl refl (omega (arith, same, a.2)) (omega (arith, h.room)),
     )
 one_at symbols base bound o labels points front tail (item.AddressOf r k) xs e room h a =
     let t : Target = object_target k in

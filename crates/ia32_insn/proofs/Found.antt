@@ -214,10 +214,10 @@ extended_found : (opcode : ℕ) (rest : List ℕ) → IfSome (read_extended opco
 unfolding read_extended
 extended_found opcode rest =
     let Holds : Option (Insn × ℕ) → Type 0 = λ o. IfSome o (Found (0x0f ∷ opcode ∷ rest)) in
-    cond_both (opcode == 11) _ _ Holds
+    cond_both (opcode == 0x0b) _ _ Holds
     (λ e.
     let Spelt : ℕ → Type 0 = λ n. Found (0x0f ∷ n ∷ rest) (insn.Ud2, 2) in
-    subst Spelt (sym (eqb-true opcode 11 e)) (record {
+    subst Spelt (sym (eqb-true opcode 0x0b e)) (record {
       part =
           record { front = 0x0f ∷ 0x0b ∷ []; after = rest; bytes_are = refl; count = refl; holds = refl };
       some =

@@ -191,7 +191,7 @@ words-most (p ∷ ops) (suc k) o e =
     below : (a b c : ℕ) → a ≤ b → b ≤ c → a ≤ c
     below a b c h k = omega arith
 
--- each call takes at most 16,384, where its argument words count for the call that passes them
+-- each call takes at most 0x4000 bytes, where its argument words count for the call that passes them
 pub stack-small : (code : Code) (a : Activation) (waiting : List Waiting) → IsSupported code
     → AreActivations code.program (a ∷ map (λ w. w.activation) waiting) → AreWaiting code.program a waiting
     → stack_bytes code (a ∷ map (λ w. w.activation) waiting) + 4 * most_words (flow_at code.program a.function).ops

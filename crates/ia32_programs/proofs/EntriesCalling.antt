@@ -272,7 +272,7 @@ begun-called : (code : Code) (input : List ℕ) (g : graph.State) (s u : machine
     (d : Option ℕ) (f : ℕ) (arguments : List ℕ) (values : List Value) (words : List ℕ) (point : ℕ)
     → IsSupported code → IsState code.program g → (shown : Shows code input g s)
     → op_at code.program g ≡ Some (op.Call d f arguments) → values_at g arguments ≡ Some values
-    → AreWords code g shown.frames s arguments values words → depth_of g < 4096
+    → AreWords code g shown.frames s arguments values words → depth_of g < most_active
     → site.symbols ≡ code.symbols → site.text ≡ code.text → site.low ≡ data_start code.text
     → site.high ≡ stack_end code.text (objects_of code.program)
     → data_end code + 0x1000 + 4 * length words ≤ word_of Esp s

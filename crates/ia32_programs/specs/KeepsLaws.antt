@@ -28,7 +28,7 @@ use Rattle.ia32_programs.specs.Protected.{IsProtected, KeepsShown}
 abbrev pub data_end : Code → ℕ
 data_end code = data_start code.text + length (data_bytes (objects_of code.program))
 
--- A state of the machine that shows one of the program is in the frame of the current call. The stack begins 4,096
+-- A state of the machine that shows one of the program is in the frame of the current call. The stack begins 0x1000
 -- bytes or more above the data.
 pub record InFrame (code : Code) (g : graph.State) (s : machine.State) : Type 0 where
   pub framed : Framed (site_of code g.current.function) (placement_of code g.current.function).frame s
@@ -55,7 +55,7 @@ ProtectedIsApart =
     → IsState code.program g → (shown : Shows code input g s) → IsProtected code g shown.frames a n
     → IsApart code g s a n
 
--- Nor has any of it, or a slot of the current call, a byte of what is pushed, up to 4,096 bytes.
+-- Nor has any of it, or a slot of the current call, a byte of what is pushed, up to 0x1000 bytes.
 pub record IsAbovePushed (code : Code) (g : graph.State) (frames : List ℕ) (s : machine.State) (bytes : ℕ) : Type 0
   where
     pub protected : (a n : ℕ) → IsProtected code g frames a n → AreDisjoint (word_of Esp s - bytes) bytes a n

@@ -177,7 +177,7 @@ SlotsSupport =
 
 -- ---- a program
 
--- The code of a program, laid out in a text, over placements that support its graphs. A call takes at most 16,384 bytes
+-- The code of a program, laid out in a text, over placements that support its graphs. A call takes at most 0x4000 bytes
 -- of the stack, with the argument words that it passes, and all addresses fit 32 bits. A static object has at most
 -- 2 ^ 31 elements, so that a negative index, as a word without a sign, is none of theirs.
 pub record IsSupported (code : Code) : Type 0 where

@@ -12,7 +12,7 @@ use Rattle.ia32_insn.proofs.Rows.{cond_below}
 use Rattle.ia32_insn.specs.Spelling.{Spells, Operand, InRegister, InMemory, operand32, operand8, Row, RowWith}
 use Rattle.ia32_insn.specs.Spelling.{Immediate, Reversed, alu_number, shift_number, cond_number}
 
--- the bytes begin with a byte that isn't 144
+-- the bytes begin with a byte that isn't 0x90
 abbrev pub BeginsOther : List ℕ → Type 0
 BeginsOther bytes = (first : ℕ) × (rest : List ℕ) × (bytes ≡ first ∷ rest) × (first ≢ 0x90)
 

@@ -30,7 +30,7 @@ pub record IsCodeIn (functions objects : ℕ) (flow : Flow) (items : List Item) 
   pub points : (p : ℕ) → Stands (item.Point p) items ↔ IsPlaced flow p
   pub names : NamesThere functions objects items
 
--- Those of every graph are, over any placement that supports it, where a call takes at most 16,384 bytes of the stack.
+-- Those of every graph are, over any placement that supports it, where a call takes at most 0x4000 bytes of the stack.
 abbrev pub SelectedIsCode : Type 0
 SelectedIsCode =
     (functions objects : ℕ) (flow : Flow) (placement : Placement) → IsGraph functions objects flow

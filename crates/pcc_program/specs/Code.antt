@@ -12,7 +12,7 @@ use Rattle.ia32_frames.specs.Frames.{frame_bytes, frame_placement}
 use Rattle.ia32_sizes.specs.Sizes.{most_bytes}
 use Rattle.ia32_rows.specs.Placements.{Code, IsCode, objects_of}
 
--- The graph is one of a program of so many functions and objects. A call takes at most 16,384 bytes of the stack: the
+-- The graph is one of a program of so many functions and objects. A call takes at most 0x4000 bytes of the stack: the
 -- return address and EBP, the frame, and the argument words that it passes. Its blocks and points are numbered in 32
 -- bits together.
 pub record HasFrame (functions objects : ℕ) (flow : Flow) : Type 0 where

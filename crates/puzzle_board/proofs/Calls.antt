@@ -23,7 +23,7 @@ use Rattle.puzzle_board.proofs.Stored.{area-of, count-areas, count-pieces, filed
 use Rattle.puzzle_board.proofs.Stored.{piece-of}
 
 pub stored-new :
-    (areas : List Area) (by_kind waiting : Lists) → length areas ≤ 4294967295
+    (areas : List Area) (by_kind waiting : Lists) → length areas ≤ 0xffffffff
     → IsFiled by_kind 10 (area_classes areas) → waiting ≡ empty_lists 0 6
     → IsStored (board_of areas) areas by_kind waiting true
 stored-new areas by_kind waiting few filed empty = record {
@@ -39,7 +39,7 @@ stored-new areas by_kind waiting few filed empty = record {
 
 pub stored-piece :
     (board : Puzzle) (free : List Area) (by_kind waiting more : Lists) (rises stays : Bool) (p : Piece)
-    → IsStored board free by_kind waiting rises → length board.pieces < 4294967295
+    → IsStored board free by_kind waiting rises → length board.pieces < 0xffffffff
     → IsFiled more 6 (piece_classes (with_piece board p).pieces (with_piece board p).states)
     → more.nodes ≡ length (board.pieces ++ p ∷ []) → (IsTrue stays → IsAscending (board.pieces ++ p ∷ []))
     → IsStored (with_piece board p) free by_kind more stays

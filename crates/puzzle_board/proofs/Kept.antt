@@ -117,7 +117,7 @@ standing_in-lifted (p ∷ pieces) (Removed ∷ states) = standing_in-lifted piec
 -- what stands the same leaves the same cells free
 same-standing :
     (board new : Puzzle) (free : List Area) → IsKept board free → new.areas ≡ board.areas
-    → standing new ≡ standing board → length new.states ≡ length new.pieces → length new.pieces ≤ 4294967295
+    → standing new ≡ standing board → length new.states ≡ length new.pieces → length new.pieces ≤ 0xffffffff
     → IsKept new free
 same-standing board new free kept areas same states few = record {
   kept = record {
@@ -125,14 +125,14 @@ same-standing board new free kept areas same states few = record {
     legal =
         let P : List Area → List Standing → Type 0 = λ a s. IsLegal a s in
         subst (λ s. P new.areas s) (sym same) (subst (λ a. P a (standing board)) (sym areas) kept.kept.legal);
-    few_areas = subst (λ a. length a ≤ 4294967295) (sym areas) kept.kept.few_areas;
+    few_areas = subst (λ a. length a ≤ 0xffffffff) (sym areas) kept.kept.few_areas;
     few_pieces = few;
   };
   left = kept.left ∙ (ap (λ a. clear_all a (standing board)) (sym areas) ∙ ap (λ s. clear_all new.areas s) (sym same));
 }
 
 pub kept-piece :
-    (board : Puzzle) (free : List Area) (p : Piece) → IsKept board free → length board.pieces < 4294967295
+    (board : Puzzle) (free : List Area) (p : Piece) → IsKept board free → length board.pieces < 0xffffffff
     → IsKept (with_piece board p) free
 kept-piece board free p kept room =
     same-standing board (with_piece board p) free kept refl

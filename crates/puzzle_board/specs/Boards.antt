@@ -177,8 +177,8 @@ with_none_placed board = record board { states = map lifted board.states }
 pub record IsBoard (board : Puzzle) : Type 0 where
   pub states : length board.states ≡ length board.pieces
   pub legal : IsLegal board.areas (standing board)
-  pub few_areas : length board.areas ≤ 4294967295
-  pub few_pieces : length board.pieces ≤ 4294967295
+  pub few_areas : length board.areas ≤ 0xffffffff
+  pub few_pieces : length board.pieces ≤ 0xffffffff
 
 -- and the free cells that it keeps beside them are those that the placed pieces leave
 pub record IsKept (board : Puzzle) (free : List Area) : Type 0 where
