@@ -346,8 +346,8 @@ hexadecimal_from (a ∷ x ∷ rest) long zero_first letter value (inr (inr (y, d
 -- what hexadecimal digits behind `0x` say of the constant
 pub hexadecimal_result : (r : Option ℤ) (text : List ℕ) → 2 < length text → get_or text 0 0 ≡ digit_zero
     → ((get_or text 1 0 ≡ letter_x) ⊎ (get_or text 1 0 ≡ capital_x))
-    → MatchOption r (AllPass is_hexadecimal_digit (drop 2 text) → number_in 16 (drop 2 text) ≤ 0x7FFFFFFF → ⊥)
-    (λ z. AllPass is_hexadecimal_digit (drop 2 text) × (number_in 16 (drop 2 text) ≤ 0x7FFFFFFF)
+    → MatchOption r (AllPass is_hexadecimal_digit (drop 2 text) → number_in 16 (drop 2 text) ≤ 0x7fffffff → ⊥)
+    (λ z. AllPass is_hexadecimal_digit (drop 2 text) × (number_in 16 (drop 2 text) ≤ 0x7fffffff)
     × (z ≡ pos (number_in 16 (drop 2 text))))
     → MatchOption r ((value : ℕ) → IsConstant text value → ⊥) (λ z. (value : ℕ) × IsConstant text value
     × (z ≡ pos value))
@@ -358,5 +358,5 @@ hexadecimal_result (Some z) text long zero_first letter found =
     (number_in 16 (drop 2 text), (hexadecimal_to text long zero_first letter found.0, found.1), found.2)
 
 -- a constant of the language is its own 32 bits, read as signed
-pub signed_same : (z : ℤ) (n : ℕ) → n ≤ 0x7FFFFFFF → z ≡ pos n → to_z w32 (of_z w32 z) ≡ pos n
+pub signed_same : (z : ℤ) (n : ℕ) → n ≤ 0x7fffffff → z ≡ pos n → to_z w32 (of_z w32 z) ≡ pos n
 signed_same z n low e = rw e (to_z_pos w32 n (omega arith))

@@ -52,7 +52,7 @@ ConstantValue bytes value =
 
 -- a constant of the language
 abbrev pub IsConstant : List ℕ → ℕ → Type 0
-IsConstant bytes value = ConstantValue bytes value × (value ≤ 0x7FFFFFFF)
+IsConstant bytes value = ConstantValue bytes value × (value ≤ 0x7fffffff)
 
 -- ---- characters
 

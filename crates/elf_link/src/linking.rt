@@ -2,6 +2,7 @@ ghost use Rattle.std.specs.Prelude.{◌≡◌, ◌+◌, IfOk, List, map, vec_len
 ghost use Rattle.ia32_insn.specs.declared.item.Item.{Item};
 ghost use Rattle.elf_addresses.specs.Parts.{object_of, order_of, sections_size};
 ghost use Rattle.elf_link.specs.Linking.{AreSections, CanLink, IsLinked};
+ghost use Rattle.elf_link.specs.Placed.{routines_size};
 
 use crate::addresses::{START_BYTES, addresses_of};
 use crate::data::data_of;
@@ -26,8 +27,8 @@ pub fn link(
     ensures program { IfOk result (λ linked. (functions : List (List Item)) → AreSections functions sections.now.items
         → IsLinked functions (order_of sections.now.items) (map object_of objects.now.items) main linked) }
 
-    // The start and the routines have 104 bytes.
-    ensures size { IfOk result (λ linked. vec_len linked.image.text ≡ sections_size sections.now.items + 104) }
+    // The text has the sections, the start and the routines.
+    ensures size { IfOk result (λ linked. vec_len linked.image.text ≡ sections_size sections.now.items + routines_size) }
 {
     let addresses = addresses_of(alloc, sections, objects)?;
     let text = text_of(alloc, sections, &addresses, main)?;

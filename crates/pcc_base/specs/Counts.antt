@@ -3,7 +3,7 @@ use Rattle.std.specs.Prelude.{ℕ, ◌<◌, ◌≤◌, ◌⊎◌, ◌≡◌}
 
 -- where a count of 64 bits stands still
 abbrev pub last_count : ℕ
-last_count = 0xFFFF_FFFF_FFFF_FFFF
+last_count = 0xffff_ffff_ffff_ffff
 
 -- A count rose: it is greater, or it stands at its last value. That no count rose is the denial of this.
 abbrev pub Rose : ℕ → ℕ → Type 0

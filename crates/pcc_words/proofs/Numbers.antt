@@ -11,13 +11,13 @@ HasNumber text = IsNumeral 10 (without_leading_plus text) × (digits_value 10 (w
 
 pub number_is : (text : List ℕ) → HasNumber text → number_of text ≡ Some (digits_value 10 (without_leading_plus text))
 number_is text h =
-    rw (Accepts-accepts false (Unsigned 0 0xFFFF_FFFF_FFFF_FFFF) text (h.0, h.1, omega arith, omega (arith, h.1))) refl
+    rw (Accepts-accepts false (Unsigned 0 0xffff_ffff_ffff_ffff) text (h.0, h.1, omega arith, omega (arith, h.1))) refl
 
 pub no_number : (text : List ℕ) → (HasNumber text → ⊥) → number_of text ≡ None
-no_number text other = go (is_unsigned_in 0 0xFFFF_FFFF_FFFF_FFFF text) refl
+no_number text other = go (is_unsigned_in 0 0xffff_ffff_ffff_ffff text) refl
   where
-    go : (b : Bool) → is_unsigned_in 0 0xFFFF_FFFF_FFFF_FFFF text ≡ b → number_of text ≡ None
+    go : (b : Bool) → is_unsigned_in 0 0xffff_ffff_ffff_ffff text ≡ b → number_of text ≡ None
     go true e =
-        let h = accepts-Accepts false (Unsigned 0 0xFFFF_FFFF_FFFF_FFFF) text e in
+        let h = accepts-Accepts false (Unsigned 0 0xffff_ffff_ffff_ffff) text e in
         absurd (other (h.0, h.1))
     go false e = rw e refl

@@ -28,7 +28,7 @@ number option standard = record (new_rule (codes "N")) {
   long = Some option;
   action = Some Set;
   defaults = standard ∷ [];
-  parser = Some (Unsigned 0 0xFFFF_FFFF_FFFF_FFFF);
+  parser = Some (Unsigned 0 0xffff_ffff_ffff_ffff);
 }
 
 -- `--steps N`

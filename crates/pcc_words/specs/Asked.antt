@@ -45,7 +45,7 @@ compile_asked _ _ = Usage
 -- a number of 64 bits in decimal digits, behind a `+` or not
 abbrev pub number_of : Text → Option ℕ
 number_of text =
-    if is_unsigned_in 0 0xFFFF_FFFF_FFFF_FFFF text then Some (digits_value 10 (without_leading_plus text)) else None
+    if is_unsigned_in 0 0xffff_ffff_ffff_ffff text then Some (digits_value 10 (without_leading_plus text)) else None
 
 abbrev pub run_command : Option ℕ → List ℕ → Command
 run_command None image = Usage

@@ -18,8 +18,8 @@ returns-then-text-eq88 c =
     ] in
     let digits =
     subst (λ (ds : List ℕ). MatchOption c.value_in-then-text-eq88.result (AllPass is_hexadecimal_digit ds
-    → number_in 16 ds ≤ 0x7FFFFFFF → ⊥)
-    (λ (z : ℤ). AllPass is_hexadecimal_digit ds × (number_in 16 ds ≤ 0x7FFFFFFF) × (z ≡ pos (number_in 16 ds))))
+    → number_in 16 ds ≤ 0x7fffffff → ⊥)
+    (λ (z : ℤ). AllPass is_hexadecimal_digit ds × (number_in 16 ds ≤ 0x7fffffff) × (z ≡ pos (number_in 16 ds))))
     (take_rest text 2) c.value_in-then-text-eq88.ensures in
     hexadecimal_result c.value_in-then-text-eq88.result text c.if-text-gt2.true c.if-text-ne48.false letter digits
 
