@@ -1,15 +1,11 @@
 //! The typed program of files, or why there is none.
 //!
-//! In: the raw trees of files, and where the last one ends. Out: their one typed program, the least fault of kinds
-//! 8 to 19 at its place, or the limit on static objects or frames that the program is above, as `specs/Typed.antt`
-//! of `c_typing` defines them; files have one such answer (`one_answer`). They are judged where nothing has a
-//! number (`planned`), and then where functions and objects have the numbers that are answered (`finished`). No
-//! element is built before the program is known to be within the limits. The only other refusal is want of memory.
-//!
-//! `numbers`, `objects` and `missing` have the numbers of functions and static objects, what the objects hold at first,
-//! and what is missing. In: the notes of all files, in the order of the text (`c_expressions`). Out: what
-//! `specs/Numbering.antt` of `c_typing` says of them. Nothing is built before its size is known. The only refusal is
-//! want of memory. Each function of files that fit is defined once (`specs/NumberingLaws.antt`).
+//! In: the raw trees of files, and where the last one ends. Out: their one typed program, the least fault of kinds 8 to
+//! 19 at its place, or the limit on static objects or frames that the program is above, as `specs/Typed.antt` of
+//! `c_typing` defines them; files have one such answer (`one_answer`). They are judged where nothing has a number
+//! (`planned`), and then where functions and objects have the numbers that `numbers` gives (`finished`); `objects` has
+//! what objects hold at first, and `missing` what no file defines. No element is built before the program is known to
+//! be within the limits. The only other refusal is want of memory.
 #![tactic(auto)]
 
 mod files;

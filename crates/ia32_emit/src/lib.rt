@@ -1,7 +1,9 @@
-//! What all rows of a graph's ops are made of, by where their operands and their result stand: items as they are, the
-//! word of a place to a register and back, comparisons, and what stands before a division; and the rows of moves, of
-//! single operations, of parts of words, of jumps, of addresses, of static objects that are written, of argument words
-//! and of the routines, and a function's first items, as the definitions name them (`ia32_rows`, `specs/Rows.antt`).
+//! In go the places of an op's operands and result, and the items so far; out come these with those of the op's row
+//! behind them, as the definitions name them (`ia32_rows`, `specs/Rows.antt`). The only refusal is want of memory.
+//!
+//! Here are the rows of moves, of single operations, of parts of words, of jumps, of addresses, of static objects that
+//! are written, of argument words and of the routines, and a function's first items; and what all rows are made of: the
+//! word of a place to a register and back, comparisons, and what stands before a division.
 #![tactic(auto)]
 
 mod comparisons;

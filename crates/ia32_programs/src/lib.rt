@@ -1,17 +1,10 @@
-//! That the code of a program is right: of any number of functions, with arrays and static objects, over any
-//! placements that support its graphs. No code.
+//! That the code of a program is right: of any number of functions, with recursion, arrays and static objects, over any
+//! placements that support its graphs (`specs/Supports.antt`). No code.
 //!
-//! `keeps` has which steps of the machine keep what is shown: where a state of the machine shows one of a program
-//! of graphs, they lead to one that shows the next. `cores` has the rows of ops on halves and bytes of words, of
-//! shifts, divisions and comparisons, and what instructions make of words as the ops of a graph mean it of numbers
-//! (`specs/CoresOps.antt`, `specs/Words.antt`); `routines_laws` the ops that go outside a function's own code and
-//! come back, or end the run: argument words, `putchar`, `getchar` and `exit`, and the check that two values are
-//! the same.
-//!
-//! `comparisons` has comparisons of numbers and of arrays, `activations` what a call of a function does to the
-//! machine in halves, `accesses` the ops on arrays and static objects, `clears` the op that makes every element of
-//! a frame array 0, `standing_laws` where the items of a program stand in its text, `entries` that a call comes to
-//! its first item and from there to its first point, and `starts` the start of a program with static objects.
+//! In goes nothing, and out come laws (`programs_are_right`): from every state that shows one of the program the
+//! machine follows the program's step, and selected code has its program's outcomes. `keeps` has what stays shown,
+//! `cores`, `comparisons`, `accesses`, `clears` and `routines_laws` the ops by their kinds, `activations` and `entries`
+//! calls, `standing_laws` where items stand, and `starts` the start.
 #![tactic(auto)]
 
 mod accesses;

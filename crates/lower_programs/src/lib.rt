@@ -1,15 +1,10 @@
-//! Laws of the lines of expressions, of statements, of calls and of programs: they do what the source does; and of the
-//! graphs of typed programs in memory. No code.
+//! The law of lowering: the graphs of every typed program in memory have the program's outcome, over every input and in
+//! any number of turns (`all_programs_lower`). No code.
 //!
-//! `statements_laws` has those of statements, given those of expressions; `calls_laws` how calls begin, take their
-//! parameters, run and go back; `visits_laws` that what visits of a typed program show is known; and `laws` the law
-//! of lowering, which `lower_lines` states: it keeps the outcome of every typed program. The graphs are a program
-//! of graphs (`fits`, a law that `lower_lines` states), and `live` and `settled` have what is live in them.
-//!
-//! Of expressions `expressions_laws` has those of numbers, `places` those of elements of arrays and of static objects,
-//! `pointers` of pointers and what they are assigned to, `elements` of assignments to elements with an operator,
-//! `comparisons` of comparisons and differences of pointers, and `whole` of `?:`, arguments and calls for every type,
-//! and of every typed expression.
+//! In goes nothing, and out come this law and its parts. `expressions_laws`, `places`, `pointers`, `elements`,
+//! `comparisons` and `whole` have those of expressions, `statements_laws` those of statements, `calls_laws` those of
+//! calls and of programs. Of the graphs `fits` says that they are a program of graphs, `live` and `settled` what is
+//! live in them, and `visits_laws` that what visits show is known.
 #![tactic(auto)]
 
 mod calls_laws;

@@ -1,16 +1,12 @@
-//! Tests of what is done with sources: of the public calls of `c_lexer` (`tokens`), `c_front` (`trees`), `c_tree`
-//! (`types`) and `c_types` (`answers`): the last by small programs with their least fault and its place, programs
-//! that are typed, programs that are above a limit, and what sums are (`values`). A row of these (`rows`) is a
-//! program, with a `$` between two files and an `@` before the token at which the fault stands. Each table is one
-//! text (`tables`), since the proof of a test writes out what a table of tuples holds.
+//! Tests of what is done with sources: in go small programs, out comes that each does what stands in its row. They
+//! promise nothing: they try what is defined against rows written by hand, and against `gcc`.
 //!
-//! And tests of `lower`: small programs, whose outcome by the source's meaning is that of their graphs and the
-//! expected one. A plain interpreter of graphs stands here (`machine`, `ops`, `calls`, `arrays`), written from the
-//! meaning of ops in `flow_graph`. It shares no code with `lower`. Beside these stand tests of `c_eval`
-//! (`stores`), on which the evaluator rests.
-//!
-//! They stand in a crate of their own since a crate with tests is proved a second time; this one needs only what
-//! those crates promise.
+//! `tokens`, `trees`, `types` and `answers` test the public calls of `c_lexer`, `c_front`, `c_tree` and `c_types`,
+//! `values` the values of sums, `stores` those of `c_eval`, and `outcomes` that graphs of `lower` do what the source
+//! does, by a plain interpreter of graphs (`machine`) that shares no code with `lower`. A row (`rows`) is a program,
+//! with a `$` between two files and an `@` before the token at which the fault stands; each table is one text
+//! (`tables`), since the proof of a test writes out what a table of tuples holds. A crate with tests is proved a second
+//! time, so they stand in a crate of their own.
 #![tactic(auto)]
 
 #[cfg(test)]
