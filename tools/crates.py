@@ -7,14 +7,20 @@ import subprocess
 TOP = os.path.dirname(os.path.dirname(os.path.abspath(__file__)))
 
 
-def stands_on():
-    """For each crate the crates of the repository that its line names, in the order of crates.txt."""
+def lines():
+    """For each crate the libraries that its line names, in the order of crates.txt."""
     rows = {}
     with open(f"{TOP}/crates.txt", encoding="utf-8") as file:
         for line in file:
             found = re.match(r"(\w+)[^:#]*:([^#]*)", line)
             if found:
                 rows[found[1]] = found[2].split()
+    return rows
+
+
+def stands_on():
+    """For each crate the crates of the repository that its line names, in the order of crates.txt."""
+    rows = lines()
     return {name: [it for it in below if it in rows] for name, below in rows.items()}
 
 
