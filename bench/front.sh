@@ -1,7 +1,7 @@
 #!/bin/sh
 # Measures the front: the time a token of the lexer, the parser and typing, and the memory that each needs at its
 # peak, over a source of about 6,000 tokens and one of about 60,000, beside gcc and tcc on the same text; and the
-# stack that the deepest nests take to be read. A small program that calls `lex`, `parse` and `check` is made, proved
+# stack that deep nests take to be read. A small program that calls `lex`, `parse` and `check` is made, proved
 # and built in a temporary folder, which is removed at the end. The crates below it are taken as `rt ci` proved them on
 # this machine, and what it didn't is proved anew. With the word `reading` typing is left out, and its crates aren't
 # needed. It wants python3, gcc for i386 and GNU time; without i386-tcc the rows of tcc are left out.
@@ -242,7 +242,7 @@ for functions in (54, 540):
               f" {room:.0f} bytes a token; lex and parse take {whole / taken:.2f} of its time")
 print(f"lex and parse of a token of the large text take {rates[1] / rates[0]:.2f} times as long as of the small one")
 
-# The least stack with which each nest of height 256 is read, by halving.
+# The least stack with which each nest is read, by halving. Each is 100 to 250 levels deep, of constructs of one kind.
 NESTS = {
     "parentheses": "int main(void) { return " + "(" * 250 + "0" + ")" * 250 + "; }\n",
     "unary operators": "int main(void) { return " + "- " * 250 + "0; }\n",
@@ -263,7 +263,7 @@ def is_read(stack):
     return status == 0 and len(out.split()) == 3
 
 
-print("the stack that nests of height near 256 take to be read:")
+print("the stack that nests of 100 to 250 levels take to be read:")
 for name, text in NESTS.items():
     write(text, 2)
     low, high = 0, 8 << 20
