@@ -11,7 +11,7 @@ use Rattle.flow_graph.specs.Graphs.{Flow, IsIn}
 use Rattle.flow_graph.specs.Sizes.{words_of}
 use Rattle.ia32_rows.specs.Placements.{Placement}
 use Rattle.ia32_rows.specs.Rows.{loop_label, point_row, row}
-use Rattle.ia32_sizes.proofs.Sums.{words-most}
+use Rattle.ia32_programs.proofs.Zones.{words-most}
 use Rattle.ia32_functions.specs.Room.{HasRoom}
 
 -- a point and the items of its op behind others

@@ -5,7 +5,7 @@ use Rattle.std.specs.Prelude.{map, Option, Some, None, option_map, nat_le, if◌
 use Rattle.std.specs.List.{AllByRecursion}
 use Rattle.std.proofs.Common.{sym, ◌∙◌, ap, arith, inl, inr}
 use Rattle.std.proofs.lemmas.Bool.{leb-true, le-leb, and_parts}
-use Rattle.std.proofs.lemmas.Option.{none-some}
+use Rattle.std.proofs.lemmas.Option.{none-some, same_Some}
 use Rattle.ia32_insn.specs.State.{Area, has_bytes, bytes_at, code_at, stored, with_bytes, Shape, shape_of, AreApart}
 use Rattle.ia32_insn.specs.State.{IsApart}
 use Rattle.ia32_insn.specs.Keeps.{IsCodeOrData, AreDisjoint}
@@ -42,14 +42,11 @@ has-with_bytes : (address b n : ℕ) (bytes : List ℕ) (area : Area) → IsInsi
 has-with_bytes address b n bytes area h =
     ap (λ (k : ℕ). nat_le area.address b && nat_le (b + n) (area.address + k)) (length-with_bytes address bytes area h)
 
-some-once : {X : Type 0} (x y : X) → Some x ≡ Some y → x ≡ y
-some-once x y e = cc
-
 -- what a mapped option came from
 mapped : {X Y : Type 0} (f : X → Y) (o : Option X) (y : Y) → option_map f o ≡ Some y → (x : X) × (o ≡ Some x)
     × (f x ≡ y)
 mapped f None y e = absurd (none-some y e)
-mapped f (Some x) y e = (x, refl, some-once (f x) y e)
+mapped f (Some x) y e = (x, refl, same_Some (f x) y e)
 
 -- the two ways in which memory is stored to: in its first area, or behind it
 data Store (address : ℕ) (bytes : List ℕ) (area : Area) (areas new : List Area) : Type 0 where
@@ -66,7 +63,7 @@ store-ways address bytes area areas new =
     (elim t as (λ v. t ≡ v
     → (if v then Some (with_bytes address bytes area ∷ areas) else option_map f (stored address bytes areas))
     ≡ Some new → Store address bytes area areas new) [
-      | true ↦ λ e h. Here e (sym (some-once _ _ h))
+      | true ↦ λ e h. Here e (sym (same_Some _ _ h))
       | false ↦ λ e h. let m = mapped f (stored address bytes areas) new h in Behind e m.0 m.1 (sym m.2)
     ]) refl
 

@@ -3,7 +3,7 @@ use Rattle.std.specs.Prelude.{◌≡◌, ℕ, ◌+◌, ◌-◌, Bool, true, fals
 use Rattle.std.specs.Prelude.{Option, Some, None, option_map, Result, Ok, Err, IfOk, nat_le, if◌then◌else◌}
 use Rattle.std.proofs.Common.{sym, ◌∙◌, ap, subst, arith}
 use Rattle.std.proofs.lemmas.Bool.{and_parts}
-use Rattle.std.proofs.lemmas.Option.{none-some}
+use Rattle.std.proofs.lemmas.Option.{none-some, same_Some}
 use Rattle.pcc_base.specs.Outcome.{End}
 use Rattle.ia32_insn.specs.declared.insn.Insn.{Insn}
 use Rattle.ia32_insn.specs.State.{State, Area, has_bytes, code_at, may_store, stored, with_bytes, at_address}
@@ -41,14 +41,11 @@ passes-part false b x y e = refl
 abbrev Keeps : ℕ → List Area → List Area → Type 0
 Keeps b old new = IsFixed b new × (code_at b new ≡ code_at b old)
 
-some-once : {X : Type 0} (x y : X) → Some x ≡ Some y → x ≡ y
-some-once x y e = cc
-
 -- what a mapped option came from
 mapped : {X Y : Type 0} (f : X → Y) (o : Option X) (y : Y) → option_map f o ≡ Some y → (x : X) × (o ≡ Some x)
     × (f x ≡ y)
 mapped f None y e = absurd (none-some y e)
-mapped f (Some x) y e = (x, refl, some-once (f x) y e)
+mapped f (Some x) y e = (x, refl, same_Some (f x) y e)
 
 -- a store to the first area, which may be written, and so doesn't have the address
 here : (a b : ℕ) (bytes : List ℕ) (area : Area) (areas : List Area) → (area.writable && has_bytes area a (length bytes))
@@ -88,7 +85,7 @@ stored-keeps a b bytes (area ∷ areas) new e free =
     (elim t as (λ v. t ≡ v
     → (if v then Some (with_bytes a bytes area ∷ areas) else option_map f (stored a bytes areas)) ≡ Some new
     → Keeps b (area ∷ areas) new) [
-      | true ↦ λ h s. subst (λ (m : List Area). Keeps b (area ∷ areas) m) (some-once _ _ s)
+      | true ↦ λ h s. subst (λ (m : List Area). Keeps b (area ∷ areas) m) (same_Some _ _ s)
           (here a b bytes area areas h out.0 out.1)
       | false ↦ λ h s.
           let m = mapped f (stored a bytes areas) new s in

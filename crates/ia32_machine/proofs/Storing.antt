@@ -1,9 +1,8 @@
 -- Memory that may be stored to: a store of that many bytes is made, and so is one of fewer.
-use Rattle.std.specs.Prelude.{◌≡◌, ℕ, ◌%◌, ◌<◌, Bool, true, false, ◌&&◌, List, [], ◌∷◌, length, Option, Some, None}
+use Rattle.std.specs.Prelude.{◌≡◌, ℕ, ◌<◌, Bool, true, false, ◌&&◌, List, [], ◌∷◌, length, Option, Some, None}
 use Rattle.std.specs.Prelude.{option_map, Result, Ok, Err, if◌then◌else◌, refl}
 use Rattle.std.proofs.Common.{sym, ◌∙◌, ap, subst, arith}
 use Rattle.std.proofs.lemmas.Bool.Decides.{nat_tests}
-use Rattle.byteorder.specs.Endian.{little_bytes}
 use Rattle.pcc_base.specs.Outcome.{End}
 use Rattle.ia32_insn.specs.Meaning.{and_then, or_end, denied, store, store_bytes}
 use Rattle.ia32_insn.specs.Meaning.{with_word}
@@ -14,6 +13,7 @@ use Rattle.ia32_instructions.proofs.Kept.{store-keeps}
 use Rattle.ia32_processor.specs.Answers.{Leaves, end_of}
 use Rattle.ia32_processor.specs.declared.halt.Halt.{Halt}
 use Rattle.ia32_insn.specs.State.{State, Area, has_bytes, may_store, stored, with_bytes}
+use Rattle.ia32_memory.proofs.Storing.{little_bytes-byte}
 
 -- a store after another area, by whether this one has the place
 stores_after : (b m : Bool) (x : List Area) (f : List Area → List Area) (rest : Option (List Area))
@@ -54,10 +54,6 @@ one_byte address n (area ∷ areas) more p =
     (may_store n address areas) (may_store 1 address areas)
     (has_one area.writable area address n more) (one_byte address n areas more) p
 
--- a number of one byte is its byte
-pub byte_is : (n : ℕ) → n < 256 → little_bytes 1 n ≡ n ∷ []
-byte_is n below = let e : n % 256 ≡ n = omega arith in ap (λ (b : ℕ). b ∷ []) e
-
 -- memory that is there, where an end was given, is none
 none_there : (x : Option (List Area)) (end other : End) (s : State)
     → and_then (or_end x end) (λ m. Ok (record s { memory = m })) ≡ Err other → x ≡ None
@@ -70,11 +66,11 @@ pub byte_stored : (f : State → State) (s t : State) (address byte : ℕ) (resu
     → and_then (store_bytes address (byte ∷ []) s) (λ u. Ok (f u)) ≡ Ok (f t)
 byte_stored f s t address byte (Ok done) below allows h =
     let there : store_bytes address (byte ∷ []) s ≡ Ok t =
-    ap (λ (l : List ℕ). store_bytes address l s) (sym (byte_is byte below)) ∙ h in
+    ap (λ (l : List ℕ). store_bytes address l s) (sym (little_bytes-byte byte below)) ∙ h in
     ap (λ (r : Result State End). and_then r (λ u. Ok (f u))) there
 byte_stored f s t address byte (Err halt) below allows h =
     let ended : store_bytes address (byte ∷ []) s ≡ Err (end_of halt s) =
-    ap (λ (l : List ℕ). store_bytes address l s) (sym (byte_is byte below)) ∙ h.0 in
+    ap (λ (l : List ℕ). store_bytes address l s) (sym (little_bytes-byte byte below)) ∙ h.0 in
     absurd (stores address (byte ∷ []) s.memory allows
     (none_there (stored address (byte ∷ []) s.memory) (denied address s) (end_of halt s) s ended))
 

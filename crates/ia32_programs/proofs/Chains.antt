@@ -1,9 +1,8 @@
 -- What stays shown of the calls that wait, where the list of active calls changes with the step.
 use Rattle.std.proofs.Common.{◌≡◌, ℕ, zero, suc, ◌+◌, ◌-◌, ◌*◌, ◌≤◌, List, [], ◌∷◌, length, Option, Some, None}
 use Rattle.std.proofs.Common.{inl, inr, refl, sym, ap, subst, ◌∙◌, arith}
-use Rattle.std.specs.Prelude.{map, max, slice_get}
+use Rattle.std.specs.Prelude.{map, slice_get}
 use Rattle.std.specs.List.{AllByRecursion}
-use Rattle.std.proofs.Math.Nat.{le-max_left, le-max_right}
 use Rattle.std.proofs.lemmas.List.{length-map}
 use Rattle.std.proofs.lemmas.Option.{none-some, same_Some}
 use Rattle.pcc_base.specs.Outcome.{Value}
@@ -14,9 +13,8 @@ use Rattle.ia32_regs.specs.Registers.{AreRegisters}
 use Rattle.ia32_regs.specs.Places.{Place, InWord, InByte, InSlot}
 use Rattle.ia32_insn.specs.State as machine
 use Rattle.ia32_insn.specs.Meaning.{with_word, word_of}
-use Rattle.flow_graph.specs.declared.op.Op.{Op}
 use Rattle.flow_graph.specs.declared.op.Op.TheVariants as op
-use Rattle.flow_graph.specs.Sizes.{most_words, words_of}
+use Rattle.flow_graph.specs.Sizes.{most_words}
 use Rattle.flow_graph.specs.States.{Activation, Waiting, flow_at}
 use Rattle.flow_graph.specs.WellFormed.{AreActivations, AreWaiting}
 use Rattle.ia32_rows.specs.Placements.{Code, placement_of}
@@ -24,7 +22,7 @@ use Rattle.ia32_rows.specs.Shows.{IsByte, IsWord, StandsIn, WaitFrom, Waits, sta
 use Rattle.ia32_programs.specs.Supports.{IsSupported, Supports}
 use Rattle.ia32_programs.specs.Protected.{ChainReads, IsSame}
 use Rattle.ia32_programs.proofs.Chain.{Loads, WaitsSupported, spared-same}
-use Rattle.ia32_programs.proofs.Zones.{frame_size}
+use Rattle.ia32_programs.proofs.Zones.{frame_size, words-most}
 
 -- ---- values
 
@@ -177,19 +175,6 @@ frames-above code active frames s younger frame (w ∷ waiting) (o ∷ older) (s
     counted e n m p o f h s = omega arith
 
 -- ---- the bytes of the stack
-
--- no op passes more words than the most
-pub words-most : (ops : List Op) (k : ℕ) (o : Op) → slice_get ops k ≡ Some o → words_of o ≤ most_words ops
-words-most [] k o e = absurd (none-some o e)
-words-most (p ∷ ops) zero o e =
-    let same : words_of p ≡ words_of o = ap words_of (same_Some p o e) in
-    subst (λ (n : ℕ). n ≤ max (words_of p) (most_words ops)) same (le-max_left (words_of p) (most_words ops))
-words-most (p ∷ ops) (suc k) o e =
-    below (words_of o) (most_words ops) (max (words_of p) (most_words ops)) (words-most ops k o e)
-    (le-max_right (words_of p) (most_words ops))
-  where
-    below : (a b c : ℕ) → a ≤ b → b ≤ c → a ≤ c
-    below a b c h k = omega arith
 
 -- each call takes at most 0x4000 bytes, where its argument words count for the call that passes them
 pub stack-small : (code : Code) (a : Activation) (waiting : List Waiting) → IsSupported code

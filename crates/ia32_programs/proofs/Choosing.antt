@@ -21,6 +21,7 @@ use Rattle.flow_graph.specs.Meaning.{Moved, arrays_compared, at_point, both, com
 use Rattle.flow_graph.specs.States as graph
 use Rattle.flow_graph.specs.States.{array_at, entry_of, flow_at, number_at, op_at, value_at}
 use Rattle.flow_graph.specs.WellFormed.{IsState}
+use Rattle.graph_states.proofs.Values.{number-is}
 use Rattle.ia32_rows.specs.Follows.{Follows}
 use Rattle.ia32_rows.specs.Paths.{Comes}
 use Rattle.ia32_rows.specs.Placements.{Code, placement_of}
@@ -46,7 +47,6 @@ use Rattle.ia32_rows.specs.Rows.{branching, jumping}
 use Rattle.ia32_programs.specs.CoresOps.{BlockAt, JumpFollows, NumbersBranchFollow}
 use Rattle.ia32_programs.proofs.Beside.{same-from}
 use Rattle.ia32_programs.proofs.Branches.{branch-goes}
-use Rattle.ia32_programs.proofs.Setting.{value-is}
 
 -- ---- what is kept
 
@@ -158,11 +158,11 @@ numbers-branch-follow how a b first second code input g s x y rest supported sta
     fits = (op-is code g o supported state has).fits
 
     one : HasNumber code g s a x
-    one = has-number code input g s o a x supported state shown has (inl refl) fits.0 (value-is (value_at g a) x a_is)
+    one = has-number code input g s o a x supported state shown has (inl refl) fits.0 (number-is (value_at g a) x a_is)
 
     two : HasNumber code g s b y
     two = has-number code input g s o b y supported state shown has (inr (inl refl)) fits.1.0
-        (value-is (value_at g b) y b_is)
+        (number-is (value_at g b) y b_is)
 
     go : Bool → Moved
     go c = into_block code.program (if c then first else second) g

@@ -38,7 +38,7 @@ use Rattle.ia32_programs.proofs.Memory.{shapes-are, text-is}
 use Rattle.ia32_programs.proofs.Objects.{depth-in}
 use Rattle.ia32_programs.proofs.Ops.{op-is}
 use Rattle.ia32_programs.proofs.Shown.{elements-kept, point-supported, waits-supported}
-use Rattle.ia32_programs.proofs.Zones.{frame_size, shown-in-frame}
+use Rattle.ia32_programs.proofs.Zones.{frame_size, shown-in-frame, words-most}
 use Rattle.ia32_programs.specs.ActivationsLaws.{CallMade, HasDepth}
 use Rattle.ia32_programs.specs.StandingLaws.{marked, places_before}
 use Rattle.ia32_programs.proofs.Calling.{call-makes}
@@ -46,7 +46,6 @@ use Rattle.ia32_programs.proofs.Depth.{depth-fails}
 use Rattle.ia32_programs.specs.Called.{Called, WaitAtEbp, WaitsAtEbp}
 use Rattle.ia32_programs.specs.Calls.{CallComes, ComesCalled}
 use Rattle.ia32_programs.proofs.Chains.{chain-above, chain-carried, frames-above, stack-small, stands-carried}
-use Rattle.ia32_programs.proofs.Chains.{words-most}
 use Rattle.ia32_programs.proofs.Marked.{has-depth, point-behind}
 use Rattle.ia32_programs.proofs.Passed.{AreWords, arguments-held}
 use Rattle.ia32_programs.proofs.Spared.{spared-kept}

@@ -1,7 +1,7 @@
 -- The machine follows `putchar` through its row, over any placement.
 use Rattle.std.proofs.Common.{◌≡◌, ℕ, ◌+◌, ◌%◌, ◌^◌, ◌<◌, ◌≤◌, false, List, [], ◌∷◌, ◌++◌, pos, inl, refl, sym, ap}
 use Rattle.std.proofs.Common.{subst, ◌∙◌, arith, append_assoc}
-use Rattle.std.specs.Prelude.{drop, FitsSigned}
+use Rattle.std.specs.Prelude.{drop}
 use Rattle.std.specs.Int.{w32, cast_unsigned}
 use Rattle.pcc_base.specs.Outcome.{Number}
 use Rattle.pcc_base.specs.declared.run.Width.TheVariants.{Two}
@@ -17,6 +17,7 @@ use Rattle.ia32_insn.specs.Items.{plain, putchar_items}
 use Rattle.flow_graph.specs.declared.op.Op.TheVariants as op
 use Rattle.flow_graph.specs.Meaning.{low_byte, puts}
 use Rattle.flow_graph.specs.States.{value_at}
+use Rattle.graph_states.proofs.Numbers.{byte-fits}
 use Rattle.ia32_rows.specs.Follows.{Follows}
 use Rattle.ia32_rows.specs.Paths.{Comes}
 use Rattle.ia32_rows.specs.Placements.{placement_of}
@@ -101,10 +102,6 @@ putchar-back site frame from to x rest s framed holds inside contains fits own l
     counted-pop : (t e f b h : ℕ) → t + 4 ≡ e → e + f ≡ b → b + 8 ≤ h → t + 4 ≤ h
     counted-pop t e f b h p q r = omega arith
 
--- a byte is a number of 32 bits
-byte-number : (n : ℕ) → n < 256 → FitsSigned w32 (pos n)
-byte-number n h = record { sfits = omega arith }
-
 pub putchar-follows : PutcharFollows
 putchar-follows d a code input g s supported state shown has r =
     given-number (Follows code input s g false) (value_at g a) (puts code.program g d) tt (λ x e.
@@ -138,5 +135,5 @@ putchar-follows d a code input g s supported state shown has r =
       left_is = b.left_is ∙ shown.left;
       taken_is = b.taken_is ∙ shown.taken;
       written_is = b.written_is ∙ ap (λ (l : List ℕ). l ++ y ∷ []) shown.written;
-    }) row.follows (byte-number y small, refl) tt
+    }) row.follows (byte-fits y small, refl) tt
     (sym shown.left ∙ shown.of_input ∙ ap (λ (k : ℕ). drop k input) shown.taken))

@@ -27,6 +27,7 @@ use Rattle.flow_graph.specs.Meaning.{bytes_of, checked, given, loads, onward, se
 use Rattle.flow_graph.specs.States.{active_of, array_at, element_at, elements_of, flow_at, number_at, value_at}
 use Rattle.flow_graph.specs.States.{with_array, with_element}
 use Rattle.graph_states.proofs.Numbers.{element-fits}
+use Rattle.graph_states.proofs.Values.{number-is}
 use Rattle.ia32_rows.specs.Follows.{Follows}
 use Rattle.ia32_rows.specs.Placements.{Code, placement_of}
 use Rattle.ia32_rows.specs.Shows.{IsArrayAt}
@@ -46,7 +47,6 @@ use Rattle.ia32_programs.proofs.Puts.{IsLow}
 use Rattle.ia32_programs.proofs.Shown.{point-supported}
 use Rattle.ia32_programs.proofs.Words.{word-fits}
 use Rattle.ia32_programs.proofs.Zones.{shown-in-frame}
-use Rattle.ia32_programs.proofs.Setting.{value-is}
 use Rattle.ia32_programs.proofs.Routines.{check-stands}
 use Rattle.ia32_programs.specs.AccessesLaws.{OutsideScratch, widened}
 use Rattle.ia32_programs.specs.AccessesOps.{LoadFollows, StoreFollows}
@@ -114,7 +114,7 @@ load-follows bits d p i code input g s supported state shown has r =
 
         two : HasNumber code g s i z
         two = has-number code input g s o i z supported state shown has (inr (inl refl)) fits.1.1.0
-            (value-is (value_at g i) z z_is)
+            (number-is (value_at g i) z z_is)
 
         index : ℕ
         index = cast_unsigned w32 z
@@ -258,11 +258,11 @@ store-follows bits p i c code input g s supported state shown has r =
 
         two : HasNumber code g s i z
         two = has-number code input g s o i z supported state shown has (inr (inl refl)) fits.1.0
-            (value-is (value_at g i) z z_is)
+            (number-is (value_at g i) z z_is)
 
         three : HasNumber code g s c x
         three = has-number code input g s o c x supported state shown has (inr (inr (inl refl))) fits.1.1.0
-            (value-is (value_at g c) x x_is)
+            (number-is (value_at g c) x x_is)
 
         index : ℕ
         index = cast_unsigned w32 z

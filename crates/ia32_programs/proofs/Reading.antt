@@ -21,6 +21,7 @@ use Rattle.flow_graph.specs.Meaning.{gets}
 use Rattle.flow_graph.specs.States as graph
 use Rattle.flow_graph.specs.States.{flow_at, op_at}
 use Rattle.flow_graph.specs.WellFormed.{IsState}
+use Rattle.graph_states.proofs.Numbers.{byte-fits}
 use Rattle.ia32_rows.specs.Follows.{Follows}
 use Rattle.ia32_rows.specs.Placements.{Code, placement_of}
 use Rattle.ia32_rows.specs.Shows.{Shows}
@@ -123,9 +124,6 @@ next-left n y ys input e =
 minus-one : FitsSigned w32 (negsuc 0)
 minus-one = record { sfits = omega arith }
 
-byte-number : (n : ℕ) → n < 256 → FitsSigned w32 (pos n)
-byte-number n h = record { sfits = omega arith }
-
 -- the parts of the step: the place of the result, its row, and the call of the routine
 record Begun (code : Code) (g : graph.State) (s : State) (d : ℕ) : Type 0 where
   pub place : Place
@@ -192,7 +190,7 @@ one-follows d y ys code input g s supported state shown has h some =
       left_is = b.left_is;
       taken_is = b.taken_is ∙ ap (λ (k : ℕ). k + 1) (p.taken ∙ shown.taken);
       written_is = b.written_is ∙ shown.written;
-    }) h.row.follows (byte-number y small, refl) tt
+    }) h.row.follows (byte-fits y small, refl) tt
     (next-left g.taken y ys input
     (sym some ∙ sym shown.left ∙ shown.of_input ∙ ap (λ (k : ℕ). drop k input) shown.taken))
 

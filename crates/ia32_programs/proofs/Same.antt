@@ -19,6 +19,7 @@ use Rattle.flow_graph.specs.declared.op.Op.TheVariants as op
 use Rattle.flow_graph.specs.Graphs.{FitsOp}
 use Rattle.flow_graph.specs.Meaning.{Halts, Moved, arrays_compared, both, compared, first_of, given, onward}
 use Rattle.flow_graph.specs.States.{array_at, flow_at, number_at, value_at}
+use Rattle.graph_states.proofs.Values.{number-is}
 use Rattle.ia32_rows.specs.Follows.{Follows}
 use Rattle.ia32_rows.specs.Paths.{Comes}
 use Rattle.ia32_rows.specs.Placements.{placement_of}
@@ -37,7 +38,6 @@ use Rattle.ia32_programs.proofs.Ops.{HasNumber, at-before, has-number, op-is}
 use Rattle.ia32_programs.proofs.Choosing.{scratch-keeps}
 use Rattle.ia32_programs.proofs.Flags.{places-compare}
 use Rattle.ia32_programs.proofs.Numbers.{comparison-decides}
-use Rattle.ia32_programs.proofs.Setting.{value-is}
 use Rattle.ia32_programs.specs.RoutinesOps.{NumbersSameFollow}
 use Rattle.ia32_programs.proofs.Onward.{IsNext, goes-on}
 use Rattle.ia32_programs.proofs.Routines.{check-stands}
@@ -67,11 +67,11 @@ numbers-same-follow a b code input g s x y supported state shown has a_is b_is r
     fits = (op-is code g o supported state has).fits
 
     one : HasNumber code g s a x
-    one = has-number code input g s o a x supported state shown has (inl refl) fits.0 (value-is (value_at g a) x a_is)
+    one = has-number code input g s o a x supported state shown has (inl refl) fits.0 (number-is (value_at g a) x a_is)
 
     two : HasNumber code g s b y
     two = has-number code input g s o b y supported state shown has (inr (inl refl)) fits.1.0
-        (value-is (value_at g b) y b_is)
+        (number-is (value_at g b) y b_is)
 
     go : Bool → Moved
     go c = if c then onward code.program g else Halts (Trapped Check)

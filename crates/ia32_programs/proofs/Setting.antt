@@ -1,10 +1,10 @@
 -- The machine follows a comparison of two numbers.
-use Rattle.std.proofs.Common.{◌≡◌, ℕ, Bool, true, false, ℤ, pos, List, Option, Some, None, inl, inr, refl, sym, ap}
+use Rattle.std.proofs.Common.{◌≡◌, ℕ, Bool, true, false, ℤ, pos, List, Option, Some, inl, inr, refl, sym, ap}
 use Rattle.std.proofs.Common.{subst, ◌∙◌, arith}
 use Rattle.std.specs.Prelude.{if◌then◌else◌}
 use Rattle.std.specs.Int.{w32, cast_unsigned}
 use Rattle.std.proofs.lemmas.Int.{to_z-of_z}
-use Rattle.pcc_base.specs.Outcome.{Number, Value, Array}
+use Rattle.pcc_base.specs.Outcome.{Number}
 use Rattle.pcc_base.specs.declared.run.Width.{Width}
 use Rattle.pcc_base.specs.declared.run.Width.TheVariants.{Two}
 use Rattle.ia32_insn.specs.Arithmetic.{signed}
@@ -13,7 +13,8 @@ use Rattle.flow_graph.specs.declared.op.Op.{Op}
 use Rattle.flow_graph.specs.declared.op.Op.TheVariants as op
 use Rattle.flow_graph.specs.Meaning.{Moved, arrays_compared, both, compared, first_of, given, sets}
 use Rattle.flow_graph.specs.States as graph
-use Rattle.flow_graph.specs.States.{active_of, array_at, flow_at, number_at, number_of, value_at}
+use Rattle.flow_graph.specs.States.{active_of, array_at, flow_at, number_at, value_at}
+use Rattle.graph_states.proofs.Values.{number-is}
 use Rattle.ia32_rows.specs.Follows.{Follows}
 use Rattle.ia32_rows.specs.Placements.{Code, placement_of}
 use Rattle.ia32_programs.specs.Supports.{site_of}
@@ -27,16 +28,6 @@ use Rattle.ia32_programs.specs.Supports.{HoldsWidth}
 use Rattle.ia32_rows.specs.Rows.{setting}
 use Rattle.ia32_programs.specs.CoresOps.{NumbersSetFollow}
 use Rattle.ia32_programs.proofs.Conditions.{set-puts}
-
--- what holds a number has it as its value
-pub value-is : (o : Option Value) (x : ℤ) → number_of o ≡ Some x → o ≡ Some (Number x)
-value-is None x e = absurd (let no : None ≡ Some x = e in cc)
-value-is (Some (Number n)) x e = ap (λ (v : Option ℤ). number_back v) e
-  where
-    number_back : Option ℤ → Option Value
-    number_back None = None
-    number_back (Some z) = Some (Number z)
-value-is (Some (Array a)) x e = absurd (let no : None ≡ Some x = e in cc)
 
 -- the number that says whether a comparison holds, and its word
 flag-low : (code : Code) (g : graph.State) (frames : List ℕ) (b : Bool)
@@ -55,9 +46,9 @@ numbers-set-follow how d a b code input g s x y supported state shown has a_is b
     let framed = (shown-in-frame code input g s supported state shown).framed in
     let four = (supported.supports g.current.function state.active.0.function).four_words in
     let one = has-number code input g s o a x supported state shown has (inl refl) fits.1.0
-    (value-is (value_at g a) x a_is) in
+    (number-is (value_at g a) x a_is) in
     let two = has-number code input g s o b y supported state shown has (inr (inl refl)) fits.1.1.0
-    (value-is (value_at g b) y b_is) in
+    (number-is (value_at g b) y b_is) in
     let m : ℕ = cast_unsigned w32 x in
     let n : ℕ = cast_unsigned w32 y in
     let t : Bool = compared how (signed m) (signed n) in

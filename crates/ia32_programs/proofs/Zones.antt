@@ -33,7 +33,7 @@ use Rattle.ia32_programs.proofs.Shown.{waits-supported}
 -- ---- the bytes of the stack
 
 -- no op passes more words than the most
-words-most : (ops : List Op) (k : ℕ) (o : Op) → slice_get ops k ≡ Some o → words_of o ≤ most_words ops
+pub words-most : (ops : List Op) (k : ℕ) (o : Op) → slice_get ops k ≡ Some o → words_of o ≤ most_words ops
 words-most [] k o e = absurd (none-some o e)
 words-most (p ∷ ops) zero o e =
     let first = le-max_left (words_of p) (most_words ops) in

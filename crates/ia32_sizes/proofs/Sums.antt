@@ -2,14 +2,13 @@
 use Rattle.std.specs.List.{AllByRecursion}
 use Rattle.std.proofs.Common.{◌≡◌, ◌≢◌, ℕ, zero, suc, ◌+◌, ◌*◌, ◌<◌, ◌≤◌, Bool, List, [], ◌∷◌, ◌++◌, length}
 use Rattle.std.proofs.Common.{sym, subst, inl, inr, arith, cond, eqb}
-use Rattle.std.specs.Prelude.{Some, max, slice_get, slice_index_or, sum_by}
-use Rattle.std.proofs.lemmas.Option.{same_Some}
+use Rattle.std.specs.Prelude.{slice_index_or, sum_by}
 use Rattle.std.proofs.lemmas.Bool.Decides.{eqb_tells}
 use Rattle.std.proofs.lemmas.List.Sums.{sum_by-cons}
 use Rattle.flow_graph.specs.declared.op.Op.{Op}
 use Rattle.flow_graph.specs.declared.op.Op.TheVariants as op
 use Rattle.flow_graph.specs.Graphs.{IsDistinct, without}
-use Rattle.flow_graph.specs.Sizes.{most_words, words_of}
+use Rattle.flow_graph.specs.Sizes.{words_of}
 use Rattle.flow_graph.proofs.Points.{choose, distinct-without, every-without}
 
 -- the sum over these numbers
@@ -85,17 +84,3 @@ weights (o ∷ ops) =
     let rest = weights ops in
     let s = sum_by-cons words_of o ops in
     omega (arith, first, rest, s)
-
--- an op passes no more words than the most
-pub words-most : (ops : List Op) (p : ℕ) (o : Op) → slice_get ops p ≡ Some o → words_of o ≤ most_words ops
-words-most [] p o has = absurd (cc)
-words-most (x ∷ ops) zero o has =
-    subst (λ (i : Op). words_of i ≤ most_words (x ∷ ops)) (same_Some x o has) (first (words_of x) (most_words ops))
-  where
-    first : (m n : ℕ) → m ≤ max m n
-    first m n = omega arith
-words-most (x ∷ ops) (suc p) o has =
-    rest (words_of o) (words_of x) (most_words ops) (words-most ops p o has)
-  where
-    rest : (k m n : ℕ) → k ≤ n → k ≤ max m n
-    rest k m n h = omega arith

@@ -30,11 +30,12 @@ use Rattle.ia32_rows.proofs.Numbered.{all_points, few-points, flow-distinct, lab
 use Rattle.ia32_rows.proofs.Numbered.{some-points}
 use Rattle.ia32_rows.specs.Contains.{IsPlaceIn}
 use Rattle.ia32_programs.specs.Supports.{AreArraysIn, IsArrayIn, Supports}
+use Rattle.ia32_programs.proofs.Zones.{words-most}
 use Rattle.ia32_sizes.specs.Sizes.{BlocksAreFew, IsCodeIn, SelectedIsCode, most_bytes}
 use Rattle.ia32_sizes.proofs.Fine.{IsNear, fits-below, fits-near}
 use Rattle.ia32_sizes.proofs.Rows.{IsFitRow, IsGood, LabelsStand, prologue-good, row-fits}
 use Rattle.ia32_sizes.proofs.Short.{items-short}
-use Rattle.ia32_sizes.proofs.Sums.{few, total, total-append, weight, weights, words-most}
+use Rattle.ia32_sizes.proofs.Sums.{few, total, total-append, weight, weights}
 
 -- ---- where items stand
 

@@ -4,11 +4,9 @@ use Rattle.std.proofs.Common.{subst, true, drop, length, get_or, Option}
 use Rattle.std.proofs.lemmas.List.{drop_all, drop_more, append-nil}
 use Rattle.std.specs.Prelude.{Bool, ◌&&◌}
 use Rattle.c_tree.specs.declared.expression.Expression as built
-use Rattle.c_tree.specs.declared.expression.Expression.{Row_of-Expression, end_of-Expression, more_of-Expression}
-use Rattle.c_tree.specs.declared.expression.Expression.{items-the_row-Expression}
-use Rattle.c_tree.specs.Erased.{arguments_of, expression_of}
+use Rattle.c_tree.specs.Erased.{expression_of}
 use Rattle.c_tree.specs.declared.types.ValueType.{ValueType}
-use Rattle.c_tree.specs.Program.{Arguments, Argument, Local}
+use Rattle.c_tree.specs.Program.{Local}
 use Rattle.lower_builder.specs.Built.{Built, Adds}
 use Rattle.lower_lines.specs.Expressions.{all_passed, all_simple, arguments_blocks, arguments_lines, arguments_words}
 use Rattle.lower_lines.specs.Expressions.{call_part, part_of, parts_of, result_lines, words_of}
@@ -69,11 +67,6 @@ passing-all c of f all level own w words s t u h m =
     lined (ap (result_lines c t.next level w of f) are) m in
     let count : arguments_blocks c all + 0 ≡ arguments_blocks c all = omega arith in
     counted count (two (λ n. result_lines c n level w of f (arguments_words c all level)) passed m')
-
--- a row of trees as a list
-pub row_is : {m : _} (row : Row_of-Expression m) → arguments_of row ≡ arguments_list (items-the_row-Expression m row)
-row_is end_of-Expression = refl
-row_is (more_of-Expression e rest) = ap (λ (es : Arguments). Argument (expression_of e) es) (row_is rest)
 
 -- no arguments are left
 pub passed-past : (c : Context) (ls : List Local) (es : List built.Expression) (i : ℕ) → drop i es ≡ []

@@ -8,6 +8,7 @@ use Rattle.std.specs.List.{AllZip}
 use Rattle.std.proofs.lemmas.Int.{SFits-int_wrap, int_wrap_fits}
 use Rattle.std.proofs.lemmas.List.Elements.{All-nil, All-replicate, All-set}
 use Rattle.std.specs.Int.{w8, w16}
+use Rattle.std.proofs.lemmas.Option.{same_Some}
 use Rattle.pcc_base.specs.Outcome.{Null, Static, InFrame, Unknown}
 use Rattle.c_tree.specs.declared.types.IntegerType.{IntegerType}
 use Rattle.c_tree.specs.declared.types.IntegerType.TheVariants.{Char, Short, Int}
@@ -27,7 +28,6 @@ use Rattle.lower_lines.specs.Programs.{graph_of_function, lowered}
 use Rattle.lower_lines.specs.Relation.{AreNumbersOf, IsNumberOf, Keeps, SameWaiting, ShowCalls, Shows, ShowsCall}
 use Rattle.lower_lines.specs.Relation.{function_of_depth}
 use Rattle.lower_lines.proofs.Depths.{active-with, all-same, deep, frame-deep, waiting-same, with_deep, with_frame}
-use Rattle.lower_lines.proofs.Locals.{same-some}
 use Rattle.lower_lines.specs.RelationLaws.{ArraysAreReached, ArraysAreSet, ArraysAreThere, ArraysFit, KeptByArrays}
 
 -- ---- lists
@@ -35,7 +35,7 @@ use Rattle.lower_lines.specs.RelationLaws.{ArraysAreReached, ArraysAreSet, Array
 index-of-map : {A B : Type 0} (f : A → B) (xs : List A) (k : ℕ) (x : A) (d : B) → slice_get xs k ≡ Some x
     → slice_index_or (map f xs) k d ≡ f x
 index-of-map f [] k x d e = absurd (cc)
-index-of-map f (y ∷ xs) zero x d e = ap f (same-some y x e)
+index-of-map f (y ∷ xs) zero x d e = ap f (same_Some y x e)
 index-of-map f (y ∷ xs) (suc k) x d e = index-of-map f xs k x d e
 
 -- an element is there where as many are

@@ -17,6 +17,7 @@ same b x = if b == x then 1 else 0
 abbrev pub under : ℕ → ℕ → ℕ
 under b n = if nat_lt b n then 1 else 0
 
+-- which is 1 at most
 pub under-one : (b n : ℕ) → under b n ≤ 1
 under-one b n = grind (arith, nat_tests)
 

@@ -3,6 +3,7 @@ use Rattle.std.proofs.Common.{◌≡◌, ◌≢◌, ℕ, zero, suc, ◌+◌, ◌
 use Rattle.std.proofs.Common.{Some, refl, sym, ap, ◌∙◌, subst, arith, length-append}
 use Rattle.std.specs.Prelude.{slice_get, slice_set, slice_index_or}
 use Rattle.std.specs.List.{AllZip}
+use Rattle.std.proofs.lemmas.Option.{same_Some}
 use Rattle.pcc_base.specs.Outcome.{Value}
 use Rattle.c_tree.specs.declared.types.IntegerType.TheVariants.{Char, Short, Int}
 use Rattle.c_tree.specs.declared.types.ValueType.{ValueType}
@@ -33,16 +34,13 @@ length-slice_set [] i x = refl
 length-slice_set (y ∷ xs) zero x = refl
 length-slice_set (y ∷ xs) (suc i) x = ap suc (length-slice_set xs i x)
 
-pub same-some : {A : Type 0} (x y : A) → Some x ≡ Some y → x ≡ y
-same-some x y e = cc
-
 -- another element on the second side, of which the relation holds
 pub zip-set : {A B : Type 0} (R : A → B → Type 0) (xs : List A) (ys : List B) (k : ℕ) (x : A) (y : B)
     → AllZip R xs ys → slice_get xs k ≡ Some x → R x y → AllZip R xs (slice_set ys k y)
 zip-set R [] [] k x y h e r = tt
 zip-set R [] (z ∷ ys) k x y h e r = absurd h
 zip-set R (w ∷ xs) [] k x y h e r = absurd h
-zip-set R (w ∷ xs) (z ∷ ys) zero x y h e r = (subst (λ v. R v y) (sym (same-some w x e)) r, h.1)
+zip-set R (w ∷ xs) (z ∷ ys) zero x y h e r = (subst (λ v. R v y) (sym (same_Some w x e)) r, h.1)
 zip-set R (w ∷ xs) (z ∷ ys) (suc k) x y h e r = (h.0, zip-set R xs ys k x y h.1 e r)
 
 -- what the relation says of the elements at one place
@@ -51,7 +49,7 @@ pub zip-index : {A B : Type 0} (R : A → B → Type 0) (xs : List A) (ys : List
 zip-index R [] [] k x d h e = absurd (cc)
 zip-index R [] (z ∷ ys) k x d h e = absurd h
 zip-index R (w ∷ xs) [] k x d h e = absurd h
-zip-index R (w ∷ xs) (z ∷ ys) zero x d h e = subst (λ v. R v z) (same-some w x e) h.0
+zip-index R (w ∷ xs) (z ∷ ys) zero x d h e = subst (λ v. R v z) (same_Some w x e) h.0
 zip-index R (w ∷ xs) (z ∷ ys) (suc k) x d h e = zip-index R xs ys k x d h.1 e
 
 -- ---- values at spots
@@ -99,7 +97,7 @@ local-held vs v (m ∷ ls) [] k l h e = absurd h
 local-held vs v (m ∷ ls) (x ∷ xs) zero l h e =
     let plain : v ≡ v + 0 = omega arith in
     subst (λ (i : ℕ). HoldsAt vs l.of (typed_spot l.of i) x) plain
-    (subst (λ (n : Local). HoldsAt vs n.of (typed_spot n.of v) x) (same-some m l e) h.0)
+    (subst (λ (n : Local). HoldsAt vs n.of (typed_spot n.of v) x) (same_Some m l e) h.0)
 local-held vs v (m ∷ ls) (x ∷ xs) (suc k) l h e =
     let sum : v + length (type_widths m.of) + first_variable ls k
     ≡ v + (length (type_widths m.of) + first_variable ls k) = omega arith in
@@ -112,7 +110,7 @@ pub local-within : (ls : List Local) (k : ℕ) (l : Local) → slice_get ls k �
 local-within [] k l e = absurd (cc)
 local-within (m ∷ ls) zero l e =
     let more = widths-more m ls in
-    let same = ap (λ (n : Local). length (type_widths n.of)) (same-some m l e) in
+    let same = ap (λ (n : Local). length (type_widths n.of)) (same_Some m l e) in
     omega (arith, more, same)
 local-within (m ∷ ls) (suc k) l e =
     let more = widths-more m ls in
@@ -131,8 +129,8 @@ local-set vs ws v [] (y ∷ xs) k l x h e new below above = absurd h
 local-set vs ws v (m ∷ ls) [] k l x h e new below above = absurd h
 local-set vs ws v (m ∷ ls) (y ∷ xs) zero l x h e new below above =
     let plain : v + 0 ≡ v = omega arith in
-    let same = ap (λ (n : Local). length (type_widths n.of)) (same-some m l e) in (
-      subst (λ (n : Local). HoldsAt ws n.of (typed_spot n.of v) x) (sym (same-some m l e))
+    let same = ap (λ (n : Local). length (type_widths n.of)) (same_Some m l e) in (
+      subst (λ (n : Local). HoldsAt ws n.of (typed_spot n.of v) x) (sym (same_Some m l e))
           (subst (λ (i : ℕ). HoldsAt ws l.of (typed_spot l.of i) x) plain new),
       locals-kept vs ws (v + length (type_widths m.of)) ls xs (λ j a b. above j (omega (arith, a, same))) h.1,
     )

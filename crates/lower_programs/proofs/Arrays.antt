@@ -38,7 +38,7 @@ use Rattle.lower_lines.proofs.Types.{part-type}
 use Rattle.lower_lines.proofs.Arrays.{arrays-fit, arrays-reached, arrays-set, as-many, element-fits}
 use Rattle.lower_lines.proofs.Arrays.{kept-by-arrays, zeros-fit}
 use Rattle.lower_lines.proofs.Changes.{kept-below, kept-by-change, kept-twice, temporaries-free}
-use Rattle.lower_lines.proofs.Locals.{get-set_other, get-set_same, length-slice_set, local-within, same-some}
+use Rattle.lower_lines.proofs.Locals.{get-set_other, get-set_same, length-slice_set, local-within}
 use Rattle.lower_lines.proofs.Steps.{change-step, const-step, frame-step, store-step}
 use Rattle.lower_programs.proofs.Going.{stand-back, stand-front}
 use Rattle.lower_programs.proofs.Made.{some-and, variable-there}
@@ -54,6 +54,7 @@ use Rattle.c_tree.specs.Program.{Elements}
 use Rattle.c_tree.specs.WellTyped.{CanInitialise}
 use Rattle.std.specs.List.{All}
 use Rattle.std.proofs.lemmas.List.Elements.{recursion_from_All}
+use Rattle.std.proofs.lemmas.Option.{same_Some}
 use Rattle.pcc_base.proofs.Lists.{element-at}
 use Rattle.lower_programs.specs.Laws.{ArrayLowers, ElementsLower}
 use Rattle.lower_programs.specs.Ways.{Behind, From}
@@ -68,7 +69,7 @@ lists-there [] [] k a e at = absurd (cc)
 lists-there [] (b ∷ arrays) k a e at = absurd (cc)
 lists-there (xs ∷ xss) [] k a e at = absurd (cc)
 lists-there (xs ∷ xss) (b ∷ arrays) zero a e at =
-    let first : length xs ≡ b.count = cc in (refl, first ∙ ap (λ (c : LocalArray). c.count) (same-some b a at))
+    let first : length xs ≡ b.count = cc in (refl, first ∙ ap (λ (c : LocalArray). c.count) (same_Some b a at))
 lists-there (xs ∷ xss) (b ∷ arrays) (suc k) a e at =
     let rest : map (λ elements. length elements) xss ≡ map (λ array. array.count) arrays = cc in
     lists-there xss arrays k a rest at

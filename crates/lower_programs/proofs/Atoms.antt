@@ -2,6 +2,7 @@
 use Rattle.std.proofs.Common.{◌≡◌, ℕ, ◌+◌, ◌<◌, ℤ, pos, negsuc, List, [], ◌∷◌, ◌++◌, Option, Some}
 use Rattle.std.proofs.Common.{refl, sym, ap, ◌∙◌, subst, append-nil}
 use Rattle.std.specs.Prelude.{slice_get}
+use Rattle.std.proofs.lemmas.Option.{same_Some}
 use Rattle.pcc_base.specs.Outcome.{Value, Number}
 use Rattle.c_tree.specs.declared.types.IntegerType.{IntegerType}
 use Rattle.c_tree.specs.declared.types.IntegerType.TheVariants.{Char, Int}
@@ -22,7 +23,6 @@ use Rattle.lower_lines.specs.Relation.{HoldsAt, IsOf, Keeps}
 use Rattle.lower_lines.specs.Shown.{first_variable}
 use Rattle.lower_lines.specs.Variables.{Spot, levels_of, local_spot, typed_spot}
 use Rattle.lower_lines.proofs.Changes.{bytes-taken, kept-none, locals-held}
-use Rattle.lower_lines.proofs.Locals.{same-some}
 use Rattle.lower_lines.proofs.Steps.{const-step, getchar-end, getchar-step, one-step}
 use Rattle.lower_programs.proofs.Made.{number-made}
 use Rattle.lower_programs.specs.ExpressionsLaws.{CharsLower, ConstantsLower, GetcharLowers}
@@ -32,7 +32,7 @@ use Rattle.lower_programs.proofs.Levels.{level-below}
 pub with-older : (f : Function) (active : List Function) (P : List Function → Type 0) → slice_get active 0 ≡ Some f
     → ((older : List Function) → P (f ∷ older)) → P active
 with-older f [] P e all = absurd (cc)
-with-older f (h ∷ older) P e all = subst (λ (k : Function). P (k ∷ older)) (sym (same-some h f e)) (all older)
+with-older f (h ∷ older) P e all = subst (λ (k : Function). P (k ∷ older)) (sym (same_Some h f e)) (all older)
 
 nothing-seen : {A : Type 0} (xs : List A) → xs ≡ xs ++ []
 nothing-seen xs = sym (append-nil xs)

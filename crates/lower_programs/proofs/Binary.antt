@@ -3,6 +3,7 @@ use Rattle.std.proofs.Common.{◌≡◌, ℕ, suc, ◌+◌, ◌<◌, ◌≤◌, 
 use Rattle.std.proofs.Common.{Option, Some, None, refl, sym, ap, ◌∙◌, subst, arith, append_assoc, append-nil}
 use Rattle.std.proofs.Math.Nat.{le-max_right}
 use Rattle.std.specs.Prelude.{if◌then◌else◌}
+use Rattle.std.proofs.lemmas.Option.{same_Some}
 use Rattle.pcc_base.specs.Outcome.{End, Trapped}
 use Rattle.c_eval_laws.proofs.Agreeing.{trees_keep}
 use Rattle.c_tree.specs.declared.expression.BinaryOp.{BinaryOp}
@@ -35,7 +36,6 @@ use Rattle.lower_lines.specs.Parts.{Wanted, Dropped, Own, ToLocal, Tests, Part, 
 use Rattle.lower_lines.specs.Relation.{Shows}
 use Rattle.lower_lines.specs.Variables.{Spot, levels_of, local_variables}
 use Rattle.lower_lines.proofs.Changes.{kept-none}
-use Rattle.lower_lines.proofs.Locals.{same-some}
 use Rattle.lower_lines.proofs.Steps.{branch-step}
 use Rattle.lower_programs.proofs.Atoms.{with-older}
 use Rattle.lower_programs.proofs.Going.{stand-back, stand-front}
@@ -99,17 +99,17 @@ works-follow S site older level ops before t g (Traps trap) block wanted u room 
 is-compared : (operator : BinaryOp) (how : Comparison) (m n : ℤ) → comparison_of operator ≡ Some how
     → numbers_value operator m n ≡ number (if compared how m n then pos 1 else pos 0)
 is-compared Less how m n e = ap (λ (h : Comparison). number (if compared h m n then pos 1 else pos 0))
-    (same-some Lt how e)
+    (same_Some Lt how e)
 is-compared Greater how m n e =
-    ap (λ (h : Comparison). number (if compared h m n then pos 1 else pos 0)) (same-some Gt how e)
+    ap (λ (h : Comparison). number (if compared h m n then pos 1 else pos 0)) (same_Some Gt how e)
 is-compared LessOrEqual how m n e =
-    ap (λ (h : Comparison). number (if compared h m n then pos 1 else pos 0)) (same-some Le how e)
+    ap (λ (h : Comparison). number (if compared h m n then pos 1 else pos 0)) (same_Some Le how e)
 is-compared GreaterOrEqual how m n e =
-    ap (λ (h : Comparison). number (if compared h m n then pos 1 else pos 0)) (same-some Ge how e)
+    ap (λ (h : Comparison). number (if compared h m n then pos 1 else pos 0)) (same_Some Ge how e)
 is-compared Equal how m n e =
-    ap (λ (h : Comparison). number (if compared h m n then pos 1 else pos 0)) (same-some Eq how e)
+    ap (λ (h : Comparison). number (if compared h m n then pos 1 else pos 0)) (same_Some Eq how e)
 is-compared NotEqual how m n e =
-    ap (λ (h : Comparison). number (if compared h m n then pos 1 else pos 0)) (same-some Ne how e)
+    ap (λ (h : Comparison). number (if compared h m n then pos 1 else pos 0)) (same_Some Ne how e)
 is-compared Multiply how m n e = absurd (cc)
 is-compared Divide how m n e = absurd (cc)
 is-compared Remainder how m n e = absurd (cc)

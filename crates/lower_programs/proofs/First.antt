@@ -1,6 +1,6 @@
 -- No variable is live at a function's first point, where each local is declared before it is named.
-use Rattle.std.proofs.Common.{◌≡◌, false, ℕ, zero, suc, ◌+◌, List, [], ◌∷◌, ◌++◌, Some, inl, inr, refl, sym, ap, subst}
-use Rattle.std.proofs.Common.{arith, length, take}
+use Rattle.std.proofs.Common.{◌≡◌, false, ℕ, suc, ◌+◌, List, [], ◌∷◌, ◌++◌, Some, inl, inr, refl, sym, ap, subst}
+use Rattle.std.proofs.Common.{arith, length}
 use Rattle.std.specs.Prelude.{slice_get}
 use Rattle.std.specs.List.{range_with_len}
 use Rattle.std.proofs.lemmas.List.Elements.{recursion_from_All}
@@ -27,13 +27,7 @@ use Rattle.lower_programs.specs.SettledLaws.{FirstPointsHold}
 use Rattle.lower_programs.proofs.LiveDeclared.{run-known}
 use Rattle.lower_programs.proofs.SettledFunctions.{own-agrees, parameter-flows, set_of}
 use Rattle.lower_programs.proofs.Known.{AreLocals, variables, words_at}
-
-get-take : {X : Type 0} (n : ℕ) (xs : List X) (j : ℕ) (x : X) → slice_get (take n xs) j ≡ Some x
-    → slice_get xs j ≡ Some x
-get-take zero xs j x e = absurd (cc)
-get-take (suc n) [] j x e = e
-get-take (suc n) (y ∷ xs) zero x e = e
-get-take (suc n) (y ∷ xs) (suc j) x e = get-take n xs j x e
+use Rattle.lower_programs.proofs.Passing.{get-take}
 
 module _ (p : Program) (f : Function) where
   abbrev c : Context

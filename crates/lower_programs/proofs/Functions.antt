@@ -35,13 +35,7 @@ use Rattle.lower_programs.proofs.Pieces.{Fit, blocks_in, byte-holds, context_in,
 use Rattle.lower_programs.proofs.Statements.{FitsRun, do-run, ending-run, expr, first-fit, if-run, item-fit, loop-fit}
 use Rattle.lower_programs.proofs.Statements.{none-labels, sequence-alike', sequence-fit, straight-run, switch-run}
 use Rattle.lower_programs.proofs.Types.{integer-of}
-
-get-take : {X : Type 0} (n : ℕ) (xs : List X) (j : ℕ) (x : X) → slice_get (take n xs) j ≡ Some x
-    → slice_get xs j ≡ Some x
-get-take zero xs j x e = absurd (cc)
-get-take (suc n) [] j x e = e
-get-take (suc n) (y ∷ xs) zero x e = e
-get-take (suc n) (y ∷ xs) (suc j) x e = get-take n xs j x e
+use Rattle.lower_programs.proofs.Passing.{get-take}
 
 take-few : {X : Type 0} (n : ℕ) (xs : List X) → length (take n xs) ≤ n
 take-few zero xs = omega arith

@@ -6,6 +6,7 @@ use Rattle.std.proofs.lemmas.Bool.Decides.{eqb_tells}
 use Rattle.std.proofs.Math.Nat.{le-max_left, le-max_right}
 use Rattle.std.specs.Int.{w32, int_wrap}
 use Rattle.std.specs.Prelude.{slice_get, slice_set, if◌then◌else◌, ◌==◌}
+use Rattle.std.proofs.lemmas.Option.{same_Some}
 use Rattle.pcc_base.specs.declared.run.Width.TheVariants.{Two}
 use Rattle.pcc_base.specs.Outcome.{ArrayName, Value, Number, Visit}
 use Rattle.c_eval_laws.proofs.Agreeing.{trees_keep}
@@ -32,7 +33,7 @@ use Rattle.lower_lines.specs.Parts.{Part, if_stays, operand, standing}
 use Rattle.lower_lines.specs.Relation.{HoldsAt, IsArrayOf, Keeps, Shows, array_value}
 use Rattle.lower_lines.specs.Variables.{ForArray, ForNumber, Spot, copied, levels_of, local_variables, own, temporary}
 use Rattle.lower_lines.proofs.Changes.{kept-below, kept-by-change, kept-none, kept-twice, temporaries-free}
-use Rattle.lower_lines.proofs.Locals.{get-set_other, get-set_same, same-some}
+use Rattle.lower_lines.proofs.Locals.{get-set_other, get-set_same}
 use Rattle.lower_lines.proofs.Steps.{copy-step, two-step}
 use Rattle.lower_programs.proofs.Atoms.{with-older}
 use Rattle.lower_programs.proofs.Binary.{turns-fall}
@@ -52,7 +53,7 @@ use Rattle.lower_programs.specs.PlacesLaws.{assigned}
 
 set-same : {A : Type 0} (xs : List A) (k : ℕ) (x : A) → slice_get xs k ≡ Some x → slice_set xs k x ≡ xs
 set-same [] k x e = refl
-set-same (y ∷ xs) zero x e = ap (λ z. z ∷ xs) (sym (same-some y x e))
+set-same (y ∷ xs) zero x e = ap (λ z. z ∷ xs) (sym (same_Some y x e))
 set-same (y ∷ xs) (suc k) x e = ap (λ zs. y ∷ zs) (set-same xs k x e)
 
 same-state : (g : graph.State) (k : ℕ) (v : Value) → slice_get g.current.variables k ≡ Some v → with_value k v g ≡ g

@@ -2,6 +2,7 @@
 use Rattle.std.proofs.Common.{◌≡◌, ◌≢◌, ◌⊎◌, ℕ, zero, suc, ◌+◌, ◌*◌, ◌<◌, ℤ, List, [], ◌∷◌, ◌++◌, length}
 use Rattle.std.proofs.Common.{Option, Some, refl, sym, ap, ◌∙◌, subst, arith, append-nil, inl, inr}
 use Rattle.std.specs.Prelude.{slice_get, IsSomeAnd}
+use Rattle.std.proofs.lemmas.Option.{same_Some}
 use Rattle.pcc_base.specs.Outcome.{ArrayName, Value, Number}
 use Rattle.c_tree.specs.declared.types.IntegerType.{IntegerType}
 use Rattle.c_tree.specs.declared.types.ValueType.{ValueType}
@@ -21,7 +22,7 @@ use Rattle.lower_lines.specs.Relation.{HoldsAt, IsArrayOf, IsOf, array_value}
 use Rattle.lower_lines.specs.Shown.{first_variable, type_widths}
 use Rattle.lower_lines.specs.Variables.{Spot, copied, levels_of, local_spot, local_variables, moved, own, typed_spot}
 use Rattle.lower_lines.proofs.Changes.{kept-none, locals-held}
-use Rattle.lower_lines.proofs.Locals.{get-set_other, local-within, same-some}
+use Rattle.lower_lines.proofs.Locals.{get-set_other, local-within}
 use Rattle.lower_programs.proofs.Atoms.{with-older}
 use Rattle.lower_programs.proofs.Going.{Goes, stand-back, stand-front}
 use Rattle.lower_programs.proofs.Pairs.{goes-both}
@@ -39,7 +40,7 @@ starts-apart (x ∷ ls) zero zero l m e f two two' same = absurd (omega (arith, 
 starts-apart (x ∷ ls) zero (suc j) l m e f two two' same = absurd (omega (arith, same))
 starts-apart (x ∷ ls) (suc k) zero l m e f two two' same =
     let wide : length (type_widths x.of) ≡ length (type_widths m.of) =
-    ap (λ (n : Local). length (type_widths n.of)) (same-some x m f) in
+    ap (λ (n : Local). length (type_widths n.of)) (same_Some x m f) in
     absurd (omega (arith, same, wide, two'))
 starts-apart (x ∷ ls) (suc k) (suc j) l m e f two two' same =
     starts-apart ls k j l m e f two two' (omega (arith, same))
@@ -206,5 +207,5 @@ pointers-read S site k l t e of = record {
       (locals-held S.program S.function older s g k l b.shows e).1) begins;
   simple = λ same active s g begins. refl;
   stands = λ spot same.
-      (k, sym (same-some (local_spot (context_of S) k) spot same), stands-there S k l t e of, λ s. refl);
+      (k, sym (same_Some (local_spot (context_of S) k) spot same), stands-there S k l t e of, λ s. refl);
 }

@@ -3,6 +3,7 @@ use Rattle.std.proofs.Common.{◌≡◌, ◌≢◌, ℕ, suc, Bool, ℤ, pos, Li
 use Rattle.std.proofs.Common.{refl, sym, ap, ◌∙◌, subst, eq-eqb}
 use Rattle.std.proofs.lemmas.List.{length-replicate, length-map}
 use Rattle.std.specs.Prelude.{slice_get, replicate, IsSomeAnd, if◌then◌else◌, option_map}
+use Rattle.std.proofs.lemmas.Option.{same_Some}
 use Rattle.pcc_base.specs.Outcome.{ArrayName, Null, InFrame}
 use Rattle.c_tree.specs.declared.expression.ArrayRef.{ArrayRef}
 use Rattle.c_tree.specs.declared.expression.ArrayRef.TheVariants as refs
@@ -19,7 +20,6 @@ use Rattle.flow_graph.specs.States.{waiting_place}
 use Rattle.lower_lines.specs.Programs.{lowered}
 use Rattle.lower_lines.specs.Relation.{IsArrayOf, Shows, function_of_depth}
 use Rattle.lower_lines.proofs.Arrays.{arrays-set, arrays-there, as-many, zeros-fit}
-use Rattle.lower_lines.proofs.Locals.{same-some}
 use Rattle.lower_programs.specs.PlacesLaws.{ArraysAreCleared, NamesAreAlike}
 
 depths-same : (p : Program) (active : List Function) (s : source.State) (g : graph.State) → Shows p active s g
@@ -50,7 +50,7 @@ elements-are : (w : Option ℕ) (x : Option (List ℤ)) (n : ℕ) (xs : List ℤ
     → x ≡ Some xs
 elements-are None x n xs e = absurd (cc)
 elements-are (Some m) None n xs e = absurd (cc)
-elements-are (Some m) (Some ys) n xs e = ap (λ (y : Elements). Some y.1) (same-some (m, ys) (n, xs) e)
+elements-are (Some m) (Some ys) n xs e = ap (λ (y : Elements). Some y.1) (same_Some (m, ys) (n, xs) e)
 
 frame-not-null : (k depth : ℕ) → InFrame k depth ≢ Null
 frame-not-null k depth e = cc

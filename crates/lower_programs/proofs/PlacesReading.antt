@@ -2,6 +2,7 @@
 use Rattle.std.proofs.Common.{◌≡◌, ◌≢◌, ℕ, zero, suc, ◌+◌, ◌<◌, ◌≤◌, Bool, true, false, ℤ, List, [], ◌∷◌, ◌++◌}
 use Rattle.std.proofs.Common.{length, map, Option, Some, None, refl, sym, ap, ◌∙◌, subst, arith, append-nil}
 use Rattle.std.specs.Prelude.{slice_get, slice_index_or, IsSomeAnd}
+use Rattle.std.proofs.lemmas.Option.{same_Some}
 use Rattle.pcc_base.specs.declared.run.Trap.TheVariants.{Check}
 use Rattle.pcc_base.specs.Outcome.{ArrayName, Null, Static, Trapped, Visit}
 use Rattle.c_tree.specs.declared.types.IntegerType.{IntegerType}
@@ -27,7 +28,6 @@ use Rattle.lower_lines.specs.Shown.{first_variable}
 use Rattle.lower_lines.specs.Variables.{Spot, levels_of, local_variables, own, typed_spot}
 use Rattle.lower_lines.proofs.Arrays.{arrays-reached}
 use Rattle.lower_lines.proofs.Changes.{kept-none, locals-held, turns-free}
-use Rattle.lower_lines.proofs.Locals.{same-some}
 use Rattle.lower_lines.proofs.Steps.{get-step}
 use Rattle.lower_programs.proofs.Atoms.{with-older}
 use Rattle.lower_programs.proofs.Binary.{Fits, compound-lowers}
@@ -224,7 +224,7 @@ one-element : (xss : List (List ℤ)) (os : List StaticObject) (k : ℕ) (o : St
 one-element xss [] k o e is one = absurd (cc)
 one-element [] (x ∷ os) k o e is one = absurd (cc)
 one-element ([] ∷ xss) (x ∷ os) zero o e is one =
-    let same : length x.elements ≡ length o.elements = ap (λ (y : StaticObject). length y.elements) (same-some x o is)
+    let same : length x.elements ≡ length o.elements = ap (λ (y : StaticObject). length y.elements) (same_Some x o is)
     in
     absurd (no-length (length x.elements) (map (λ (xs : List ℤ). length xs) xss)
     (map (λ (y : StaticObject). length y.elements) os) e (same ∙ one))

@@ -4,6 +4,7 @@ use Rattle.std.proofs.Common.{◌++◌, Option, Some, refl, sym, ap, ◌∙◌, 
 use Rattle.std.specs.Prelude.{slice_get, slice_set, if◌then◌else◌, IsSomeAnd, ◌==◌}
 use Rattle.std.specs.Ordering.{int_eq}
 use Rattle.std.proofs.lemmas.Bool.Decides.{eqb_tells}
+use Rattle.std.proofs.lemmas.Option.{same_Some}
 use Rattle.pcc_base.specs.Outcome.{Value, Number}
 use Rattle.pcc_base.specs.declared.run.Width.TheVariants.{Two}
 use Rattle.c_tree.specs.declared.types.IntegerType.{IntegerType}
@@ -29,7 +30,7 @@ use Rattle.lower_lines.specs.Shown.{first_variable, type_widths}
 use Rattle.lower_lines.specs.Variables.{ForScratch, copied, levels_of, local_spot, local_variables, temporary}
 use Rattle.lower_lines.specs.Variables.{typed_spot}
 use Rattle.lower_lines.proofs.Changes.{kept-by-change, kept-none, locals-held, temporaries-free}
-use Rattle.lower_lines.proofs.Locals.{get-set_other, get-set_same, local-within, same-some}
+use Rattle.lower_lines.proofs.Locals.{get-set_other, get-set_same, local-within}
 use Rattle.lower_lines.proofs.Steps.{branch-step, const-step, copy-step}
 use Rattle.lower_programs.proofs.Atoms.{held-number, with-older}
 use Rattle.lower_programs.proofs.Going.{Goes, stand-back, stand-front}
@@ -41,7 +42,7 @@ use Rattle.lower_programs.proofs.Levels.{level-below}
 -- what is there already changes nothing
 set-same : {X : Type 0} (xs : List X) (i : ℕ) (x : X) → slice_get xs i ≡ Some x → slice_set xs i x ≡ xs
 set-same [] i x e = refl
-set-same (y ∷ xs) zero x e = ap (λ (z : _). z ∷ xs) (sym (same-some y x e))
+set-same (y ∷ xs) zero x e = ap (λ (z : _). z ∷ xs) (sym (same_Some y x e))
 set-same (y ∷ xs) (suc i) x e = ap (λ (zs : List _). y ∷ zs) (set-same xs i x e)
 
 abbrev if_same : Bool → ℕ → ℕ → List Line
@@ -229,12 +230,12 @@ locals-lower S site k l Short e of wide = record {
   typed = λ active block level wanted before s g stands room may. typed-local S k l Short e of active s g;
   simple = λ same active s g begins. refl;
   stands = λ spot same.
-      (k, sym (same-some (local_spot (context_of S) k) spot same), stands-there S k l Short e of tt, λ s. refl);
+      (k, sym (same_Some (local_spot (context_of S) k) spot same), stands-there S k l Short e of tt, λ s. refl);
 }
 locals-lower S site k l Int e of wide = record {
   follows = read-local S site k l Int e of;
   typed = λ active block level wanted before s g stands room may. typed-local S k l Int e of active s g;
   simple = λ same active s g begins. refl;
   stands = λ spot same.
-      (k, sym (same-some (local_spot (context_of S) k) spot same), stands-there S k l Int e of tt, λ s. refl);
+      (k, sym (same_Some (local_spot (context_of S) k) spot same), stands-there S k l Int e of tt, λ s. refl);
 }

@@ -4,6 +4,7 @@ use Rattle.std.proofs.Common.{◌++◌, length, Some, None, inl, inr, refl, sym,
 use Rattle.std.proofs.Common.{append-nil}
 use Rattle.std.specs.Int.{w32, int_wrap}
 use Rattle.std.specs.Prelude.{◌-ℤ◌, slice_get}
+use Rattle.std.proofs.lemmas.Option.{same_Some}
 use Rattle.pcc_base.specs.Outcome.{ArrayName}
 use Rattle.c_tree.specs.declared.expression.BinaryOp.{BinaryOp}
 use Rattle.c_tree.specs.declared.expression.BinaryOp.TheVariants.{Add, Subtract}
@@ -31,7 +32,7 @@ use Rattle.lower_lines.specs.Relation.{HoldsAt, IsArrayOf, Shows, array_value}
 use Rattle.lower_lines.specs.Shown.{first_variable, type_widths}
 use Rattle.lower_lines.specs.Variables.{ForScratch, Spot, copied, levels_of, local_variables, own, temporary}
 use Rattle.lower_lines.proofs.Changes.{kept-none}
-use Rattle.lower_lines.proofs.Locals.{get-set_other, local-within, same-some}
+use Rattle.lower_lines.proofs.Locals.{get-set_other, local-within}
 use Rattle.lower_lines.proofs.Steps.{two-step}
 use Rattle.lower_programs.proofs.Binary.{Fits, turns-fall}
 use Rattle.lower_programs.proofs.Going.{Goes, stand-back, stand-front}
@@ -57,14 +58,14 @@ kinds-apart : (ls : List Local) (k j : ℕ) (l m : Local) → slice_get ls k ≡
     → length (type_widths l.of) ≡ 2 → length (type_widths m.of) ≡ 1 → first_variable ls k ≢ first_variable ls j
 kinds-apart [] k j l m e f two single same = absurd (cc)
 kinds-apart (x ∷ ls) zero zero l m e f two single same =
-    let p = ap (λ (n : Local). length (type_widths n.of)) (same-some x l e) in
-    let q = ap (λ (n : Local). length (type_widths n.of)) (same-some x m f) in
+    let p = ap (λ (n : Local). length (type_widths n.of)) (same_Some x l e) in
+    let q = ap (λ (n : Local). length (type_widths n.of)) (same_Some x m f) in
     absurd (omega (arith, p, q, two, single))
 kinds-apart (x ∷ ls) zero (suc j) l m e f two single same =
-    let p = ap (λ (n : Local). length (type_widths n.of)) (same-some x l e) in
+    let p = ap (λ (n : Local). length (type_widths n.of)) (same_Some x l e) in
     absurd (omega (arith, p, two, same))
 kinds-apart (x ∷ ls) (suc k) zero l m e f two single same =
-    let q = ap (λ (n : Local). length (type_widths n.of)) (same-some x m f) in
+    let q = ap (λ (n : Local). length (type_widths n.of)) (same_Some x m f) in
     absurd (omega (arith, q, single, same))
 kinds-apart (x ∷ ls) (suc k) (suc j) l m e f two single same =
     kinds-apart ls k j l m e f two single (omega (arith, same))

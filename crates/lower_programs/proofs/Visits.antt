@@ -3,6 +3,7 @@ use Rattle.std.proofs.Common.{◌≡◌, ℕ, zero, suc, ◌+◌, List, [], ◌�
 use Rattle.std.proofs.Common.{refl, sym, ap, ◌∙◌, subst, arith}
 use Rattle.std.specs.Prelude.{slice_get}
 use Rattle.std.specs.List.{AllByRecursion}
+use Rattle.std.proofs.lemmas.Option.{same_Some}
 use Rattle.pcc_base.specs.Outcome.{ArrayName, Null, Static, InFrame, Unknown, Value, Number, Array, Part, Scalar}
 use Rattle.pcc_base.specs.Outcome.{ArrayOf, IndexOf, Visit, after_visits}
 use Rattle.c_tree.specs.declared.types.ValueType.{ValueType}
@@ -22,7 +23,6 @@ use Rattle.lower_lines.specs.Relation.{HoldLocals, HoldsAt, ShowCalls, array_val
 use Rattle.lower_lines.specs.Shown.{IsPartOf, first_variable, type_widths, variable_part}
 use Rattle.lower_lines.specs.Shown.{IsInteger, IsPointer}
 use Rattle.lower_lines.specs.Variables.{typed_spot}
-use Rattle.lower_lines.proofs.Locals.{same-some}
 use Rattle.lower_lines.proofs.Steps.{mark-step, shown_by}
 use Rattle.lower_programs.proofs.Going.{Goes}
 
@@ -38,7 +38,7 @@ local-there vs v (m ∷ ls) (x ∷ xs) zero l h e =
       x,
       refl,
       subst (λ (i : ℕ). HoldsAt vs l.of (typed_spot l.of i) x) plain
-          (subst (λ (n : Local). HoldsAt vs n.of (typed_spot n.of v) x) (same-some m l e) h.0),
+          (subst (λ (n : Local). HoldsAt vs n.of (typed_spot n.of v) x) (same_Some m l e) h.0),
     )
 local-there vs v (m ∷ ls) (x ∷ xs) (suc k) l h e =
     let sum : v + length (type_widths m.of) + first_variable ls k
@@ -116,7 +116,7 @@ youngest-holds : (p : Program) (f : Function) (active : List Function) (calls : 
 youngest-holds p f [] calls b bs e h = absurd (cc)
 youngest-holds p f (k ∷ older) [] b bs e h = absurd h
 youngest-holds p f (k ∷ older) (a ∷ calls) b bs e h =
-    subst (λ (m : Function). HoldLocals b.variables 0 m.locals a.values) (same-some k f e) h.0.locals
+    subst (λ (m : Function). HoldLocals b.variables 0 m.locals a.values) (same_Some k f e) h.0.locals
 
 -- the visit that the source makes
 abbrev pub visit_of : Site → source.State → ℕ → Visit

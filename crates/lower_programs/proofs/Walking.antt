@@ -6,7 +6,7 @@ use Rattle.lower_programs.specs.ExpressionsLaws.{AreKinds, AreNumbers, IsKind}
 use Rattle.lower_programs.proofs.Calling.{number-calls_lower}
 use Rattle.lower_programs.proofs.ExpressionPassing.{all-passed_int, numbers-pass}
 use Rattle.std.specs.Prelude.{IsSomeAnd}
-use Rattle.std.proofs.Common.{Option, ℕ, List, [], ◌∷◌, map, suc, arith, ◌≡◌, ◌≢◌, refl, sym, ap, ◌∙◌, subst}
+use Rattle.std.proofs.Common.{Option, ℕ, List, [], ◌∷◌, map, suc, arith, ◌≡◌, refl, sym, ap, ◌∙◌, subst}
 use Rattle.lower_lines.specs.Parts.{Part}
 use Rattle.std.specs.Prelude.{slice_get}
 use Rattle.c_tree.specs.declared.expression.BinaryOp.{BinaryOp}
@@ -41,12 +41,9 @@ use Rattle.lower_programs.proofs.Stepping.{assigned-of, lowers-same, steps-lower
 use Rattle.lower_programs.proofs.Unary.{complements-lower, minuses-lower}
 use Rattle.lower_programs.specs.Numeric.{AreNumeric, CastsNumber, IsNumeric}
 use Rattle.lower_programs.specs.Walk.{NumbersLower}
-use Rattle.lower_programs.proofs.Types.{integer-of}
+use Rattle.lower_programs.proofs.Types.{integer-of, not-void_number}
 
 -- ---- types
-
-not-void : (v : ValueType) (t : IntegerType) → v ≡ Integer t → v ≢ Void
-not-void v t e f = cc
 
 unary-int : (op : UnaryOp) (v : ValueType) (of : IntegerType) → UnaryGives op v of → IsInteger v → of ≡ Int
 unary-int op Void of h is = absurd is
@@ -169,7 +166,7 @@ module _ (S : Site) (site : IsSite S) (follow : CallsFollow S) where
       subst (λ (u : IntegerType). Does (Unary u Complement e)) (sym is) (complements-lower S site e t does same)
   unary-does of Not e is t same does =
       subst (λ (u : IntegerType). Does (Unary u Not e)) (sym is)
-      (nots-lower S site e does (not-void (part_of (context_of S) e).of t same))
+      (nots-lower S site e does (not-void_number (part_of (context_of S) e).of t same))
 
   assign-does : (of : ValueType) (place : Place) (e : Expression) → IsPlace S.program S.function place of
       → IsNumeric S.program (Assign of place e) → (t : IntegerType) → (part_of (context_of S) e).of ≡ Integer
@@ -275,12 +272,12 @@ module _ (S : Site) (site : IsSite S) (follow : CallsFollow S) where
         let (t, same) = operand-type a typed.0 is.0 is.1 in
         let (u, same') = operand-type b typed.2 is.2 is.3 in
         ands-lower S site a b (numbers-follow a typed.0 is.0) (numbers-follow b typed.2 is.2)
-        (not-void (part_of (context_of S) a).of t same) (not-void (part_of (context_of S) b).of u same')
+        (not-void_number (part_of (context_of S) a).of t same) (not-void_number (part_of (context_of S) b).of u same')
     numbers-follow (Or a b) typed is =
         let (t, same) = operand-type a typed.0 is.0 is.1 in
         let (u, same') = operand-type b typed.2 is.2 is.3 in
         ors-lower S site a b (numbers-follow a typed.0 is.0) (numbers-follow b typed.2 is.2)
-        (not-void (part_of (context_of S) a).of t same) (not-void (part_of (context_of S) b).of u same')
+        (not-void_number (part_of (context_of S) a).of t same) (not-void_number (part_of (context_of S) b).of u same')
     numbers-follow (Conditional of q a b) typed is =
         let (r, same) = operand-type q typed.0 is.0 is.1 in
         let (t, same') = operand-type a typed.2 is.2 is.3 in
@@ -288,7 +285,7 @@ module _ (S : Site) (site : IsSite S) (follow : CallsFollow S) where
         subst (λ (p : ValueType). Does (Conditional p q a b))
         (sym (conditional-int (value_type a) (value_type b) of is.3 is.5 typed.4))
         (conditionals-lower S site q a b t u (numbers-follow q typed.0 is.0)
-        (not-void (part_of (context_of S) q).of r same) (numbers-follow a typed.2 is.2) same'
+        (not-void_number (part_of (context_of S) q).of r same) (numbers-follow a typed.2 is.2) same'
         (numbers-follow b typed.3 is.4) same'')
     numbers-follow (Cast to e) typed is = cast-does to e typed.0 is.0 is.1 (numbers-follow e typed.0 is.0)
     numbers-follow (Assign of place e) typed is =

@@ -30,6 +30,7 @@ use Rattle.lower_programs.proofs.Storing.{pointers-convert}
 use Rattle.lower_programs.proofs.Standing.{Stays, operand-stays}
 use Rattle.lower_programs.specs.WholeLaws.{AllArgumentsPass, ArePassed, Does}
 use Rattle.lower_programs.proofs.Levels.{first-room, second-room}
+use Rattle.lower_programs.proofs.Types.{not-void_number}
 
 -- ---- one argument
 
@@ -83,9 +84,6 @@ passes-made S to a run lowers scalar made = record {
     both-ways : (b : Bool) → b ≡ false → b ≡ true → ⊥
     both-ways b e f = cc
 
-not-void-number : (p : ValueType) (u : IntegerType) → p ≡ Integer u → p ≢ Void
-not-void-number p u e f = cc
-
 not-void-pointer : (p : ValueType) (u : IntegerType) → p ≡ Pointer u → p ≢ Void
 not-void-pointer p u e f = cc
 
@@ -105,7 +103,7 @@ argument-passes : (S : Site) (site : IsSite S) (to : ValueType) (e : Expression)
     → PassesOne S to (passed (context_of S) to (part_of (context_of S) e)) (evaluate S.calls e)
 argument-passes S site (Integer t) e does (Integer u) is can =
     passes-same S (Integer t) (part_of (context_of S) e) (evaluate S.calls e) does
-    (not-void-number (part_of (context_of S) e).of u is) (λ active v h. refl)
+    (not-void_number (part_of (context_of S) e).of u is) (λ active v h. refl)
 argument-passes S site (Pointer t) e does (Pointer u) is can =
     subst (λ (p : ValueType). PassesOne S (Pointer t) (as_pointer (context_of S) t p (part_of (context_of S) e))
     (evaluate S.calls e)) (sym is)

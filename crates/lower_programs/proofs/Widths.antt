@@ -2,6 +2,7 @@
 use Rattle.std.proofs.Common.{◌≡◌, ℕ, zero, suc, ◌+◌, ◌*◌, ◌<◌, List, [], ◌∷◌, ◌++◌, length, Some}
 use Rattle.std.proofs.Common.{refl, sym, ap, ◌∙◌, subst, arith}
 use Rattle.std.specs.Prelude.{slice_get}
+use Rattle.std.proofs.lemmas.Option.{same_Some}
 use Rattle.pcc_base.specs.declared.run.Width.{Width}
 use Rattle.pcc_base.specs.declared.run.Width.TheVariants.{One, Two}
 use Rattle.c_tree.specs.Program.{Local}
@@ -9,7 +10,6 @@ use Rattle.lower_lines.specs.Shown.{first_variable, local_widths, type_widths}
 use Rattle.lower_lines.specs.Variables.{Context, Role, ForArray, ForNumber, ForOld, ForScratch, ForByte, level_widths}
 use Rattle.lower_lines.specs.Variables.{levels_of, levels_widths, local_variables, role_place, temporary}
 use Rattle.lower_lines.specs.Variables.{variable_widths}
-use Rattle.lower_lines.proofs.Locals.{same-some}
 
 pub get-behind : {X : Type 0} (xs ys : List X) (k : ℕ) → slice_get (xs ++ ys) (length xs + k) ≡ slice_get ys k
 get-behind [] ys k = let e : 0 + k ≡ k = omega arith in ap (slice_get ys) e
@@ -74,7 +74,7 @@ pub local-width : (ls : List Local) (k j : ℕ) (l : Local) → slice_get ls k �
 local-width [] k j l e h = absurd (cc)
 local-width (m ∷ ls) zero j l e h =
     let plain : 0 + j ≡ j = omega arith in
-    let same = ap (λ (n : Local). type_widths n.of) (same-some m l e) in
+    let same = ap (λ (n : Local). type_widths n.of) (same_Some m l e) in
     ap (slice_get (type_widths m.of ++ local_widths ls)) plain
     ∙ get-before (type_widths m.of) (local_widths ls) j (subst (λ (ws : List Width). j < length ws) (sym same) h)
     ∙ ap (λ (ws : List Width). slice_get ws j) same

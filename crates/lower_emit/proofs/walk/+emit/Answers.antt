@@ -11,6 +11,7 @@ use Rattle.lower_lines.specs.Expressions as parts
 use Rattle.lower_lines.specs.Expressions.{Located, AtLocal, AtObject, AtAddress, assign_part, element_of, own_blocks}
 use Rattle.lower_lines.specs.Expressions.{parameters_of, part_of, result_lines, target_of, update_part, words_of}
 use Rattle.lower_lines.specs.Parts.{Part, if_stays}
+use Rattle.lower_builder.proofs.Rows.{row_is}
 use Rattle.lower_moves.specs.Sites.{context_of}
 use Rattle.lower_moves.specs.Spots.{spot_of}
 use Rattle.lower_moves.specs.Views.{wanted_of}
@@ -23,7 +24,7 @@ use Rattle.lower_emit.proofs.Alike.{alike, owned, typed-alike}
 use Rattle.lower_values.specs.Arguments.{passed_type}
 use Rattle.lower_rows.specs.Rows.{passed_as}
 use Rattle.lower_emit.specs.Passing.{passed_from}
-use Rattle.lower_emit.proofs.Calling.{IsPassing, passed-past, passing-all, passing-more, passing-none, row_is}
+use Rattle.lower_emit.proofs.Calling.{IsPassing, passed-past, passing-all, passing-more, passing-none}
 use Rattle.lower_emit.proofs.Joining.{assign-object, conditional-whole, passed-is, passed-there, stays-both}
 use Rattle.lower_emit.proofs.walk.+emit.Goals as goal
 
