@@ -6,7 +6,6 @@ pub mod Meaning
 pub mod Ordered
 pub mod Running
 pub mod Sizes
-pub mod SlotGraphs
 pub mod States
 pub mod WellFormed
 pub mod Worked
