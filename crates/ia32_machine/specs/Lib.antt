@@ -1,3 +1,4 @@
 pub mod First
 pub mod Runs
 pub mod Performs
+pub mod Lending

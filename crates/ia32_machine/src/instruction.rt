@@ -1,6 +1,7 @@
 ghost use Rattle.std.specs.Prelude.{◌≡◌, ◌≤◌, ◌↔◌, IfOk, IsTrue};
 ghost use Rattle.ia32_instructions.specs.Code.{KeepsCode};
 ghost use Rattle.ia32_machine.specs.First.{lent};
+ghost use Rattle.ia32_machine.specs.Lending.{Lends};
 ghost use Rattle.ia32_machine.specs.Performs.{FetchTold, PartTold, PartCounts, insn_moved};
 ghost use Rattle.ia32_machine.specs.Runs.{alone};
 
@@ -44,13 +45,10 @@ pub(crate) fn perform<I: Source, O: Sink>(
 ) -> Result<(), MachineEnd>
     requires { processor.old ≡ alone processor.old }
     ensures code { KeepsCode processor.old.memory processor.new.memory }
-    ensures told { I.tells input.old → O.tells out.old → let s = lent processor.old (I.left input.old) in
-        PartTold (insn_moved insn.now after s) s processor.new (I.left input.new)
-        (O.taken out.old) (O.taken out.new) result }
-    ensures counted { PartCounts (I.faults input.old) (I.faults input.new)
-        (O.counts out.old) (O.counts out.new) result }
-    ensures input_tells { I.tells input.old → I.tells input.new }
-    ensures out_tells { O.tells out.old → O.tells out.new }
+    ensures lends { Lends I.Source O.Sink (input.old, out.old) (input.new, out.new)
+        (λ left left' taken taken'. let s = lent processor.old left in
+        PartTold (insn_moved insn.now after s) s processor.new left' taken taken' result)
+        (λ faults faults' counts counts'. PartCounts faults faults' counts counts' result) }
 {
     if is_system_call(insn) {
         system_call(processor, input, out)?;

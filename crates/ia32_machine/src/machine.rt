@@ -1,6 +1,7 @@
 ghost use Rattle.std.specs.Prelude.{◌≡◌, [], IfOk};
 ghost use Rattle.elf_image.specs.Segments.{IsLoadable, segments_of};
 ghost use Rattle.ia32_machine.specs.First.{first_state, lent};
+ghost use Rattle.ia32_machine.specs.Lending.{Lends};
 ghost use Rattle.ia32_machine.specs.Performs.{PartCounts, AdvanceTold};
 ghost use Rattle.ia32_machine.specs.Runs.{StepTold, StepCounts, RunTold, RunCounts, alone};
 
@@ -68,13 +69,9 @@ impl Machine {
         input: &mut I,
         out: &mut O,
     ) -> Result<(), MachineEnd>
-        ensures told { I.tells input.old → O.tells out.old →
-            AdvanceTold (lent self.old (I.left input.old)) self.new (I.left input.new)
-            (O.taken out.old) (O.taken out.new) result }
-        ensures counted { PartCounts (I.faults input.old) (I.faults input.new)
-            (O.counts out.old) (O.counts out.new) result }
-        ensures input_tells { I.tells input.old → I.tells input.new }
-        ensures out_tells { O.tells out.old → O.tells out.new }
+        ensures { Lends I.Source O.Sink (input.old, out.old) (input.new, out.new)
+            (λ left left' taken taken'. AdvanceTold (lent self.old left) self.new left' taken taken' result)
+            (λ faults faults' counts counts'. PartCounts faults faults' counts counts' result) }
     {
         let address = self.processor.eip();
         match fetch(&self.processor) {
@@ -95,13 +92,9 @@ impl Machine {
     /// Performs the instruction at EIP.
     #[tactic(none)]
     fn advance<I: Source, O: Sink>(&mut self, input: &mut I, out: &mut O) -> Result<(), MachineEnd>
-        ensures told { I.tells input.old → O.tells out.old →
-            AdvanceTold (lent self.old (I.left input.old)) self.new (I.left input.new)
-            (O.taken out.old) (O.taken out.new) result }
-        ensures counted { PartCounts (I.faults input.old) (I.faults input.new)
-            (O.counts out.old) (O.counts out.new) result }
-        ensures input_tells { I.tells input.old → I.tells input.new }
-        ensures out_tells { O.tells out.old → O.tells out.new }
+        ensures { Lends I.Source O.Sink (input.old, out.old) (input.new, out.new)
+            (λ left left' taken taken'. AdvanceTold (lent self.old left) self.new left' taken taken' result)
+            (λ faults faults' counts counts'. PartCounts faults faults' counts counts' result) }
     {
         let address = self.processor.eip();
         match self.decoded.get(address) {
@@ -114,13 +107,9 @@ impl Machine {
     /// `WriteFault` and `NoMemory` come only from the lent objects, and `BudgetSpent` never.
     #[tactic(none)]
     pub fn step<I: Source, O: Sink>(&mut self, input: &mut I, out: &mut O) -> StepEnd
-        ensures told { I.tells input.old → O.tells out.old →
-            StepTold (lent self.old (I.left input.old)) self.new (I.left input.new)
-            (O.taken out.old) (O.taken out.new) result }
-        ensures counted { StepCounts (I.faults input.old) (I.faults input.new)
-            (O.counts out.old) (O.counts out.new) result }
-        ensures input_tells { I.tells input.old → I.tells input.new }
-        ensures out_tells { O.tells out.old → O.tells out.new }
+        ensures { Lends I.Source O.Sink (input.old, out.old) (input.new, out.new)
+            (λ left left' taken taken'. StepTold (lent self.old left) self.new left' taken taken' result)
+            (λ faults faults' counts counts'. StepCounts faults faults' counts counts' result) }
     {
         match self.advance(input, out) {
             Ok(()) => StepEnd::Going,
@@ -133,13 +122,9 @@ impl Machine {
     pub fn run<I: Source, O: Sink>(&mut self, input: &mut I, out: &mut O, budget: u64) -> MachineEnd
         // The outcome of `budget` steps, or where a lent object refused of the steps so far, and the state that the
         // machine is left in.
-        ensures told { I.tells input.old → O.tells out.old →
-            RunTold budget (lent self.old (I.left input.old)) self.new (I.left input.old) (I.left input.new)
-            (O.taken out.old) (O.taken out.new) result }
-        ensures counted { RunCounts (I.faults input.old) (I.faults input.new)
-            (O.counts out.old) (O.counts out.new) result }
-        ensures input_tells { I.tells input.old → I.tells input.new }
-        ensures out_tells { O.tells out.old → O.tells out.new }
+        ensures { Lends I.Source O.Sink (input.old, out.old) (input.new, out.new)
+            (λ left left' taken taken'. RunTold budget (lent self.old left) self.new left left' taken taken' result)
+            (λ faults faults' counts counts'. RunCounts faults faults' counts counts' result) }
     {
         // A machine has no input and no output of its own.
         let _ = self.eip();

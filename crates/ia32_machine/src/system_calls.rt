@@ -4,6 +4,7 @@ ghost use Rattle.ia32_insn.specs.State as state;
 ghost use Rattle.ia32_insn.specs.Meaning.{and_then, store_bytes, with_word};
 ghost use Rattle.ia32_instructions.specs.Code.{KeepsCode};
 ghost use Rattle.ia32_machine.specs.First.{lent};
+ghost use Rattle.ia32_machine.specs.Lending.{Lends};
 ghost use Rattle.ia32_machine.specs.Runs.{alone};
 ghost use Rattle.ia32_machine.specs.Performs.{PartTold, PartCounts, read_moved, write_moved, call_moved};
 
@@ -94,12 +95,10 @@ pub fn system_call<I: Source, O: Sink>(
 ) -> Result<(), MachineEnd>
     requires { processor.old ≡ alone processor.old }
     ensures code { KeepsCode processor.old.memory processor.new.memory }
-    ensures told { I.tells input.old → O.tells out.old → let s = lent processor.old (I.left input.old) in
-        PartTold (call_moved s) s processor.new (I.left input.new) (O.taken out.old) (O.taken out.new) result }
-    ensures counted { PartCounts (I.faults input.old) (I.faults input.new)
-        (O.counts out.old) (O.counts out.new) result }
-    ensures input_tells { I.tells input.old → I.tells input.new }
-    ensures out_tells { O.tells out.old → O.tells out.new }
+    ensures lends { Lends I.Source O.Sink (input.old, out.old) (input.new, out.new)
+        (λ left left' taken taken'. let s = lent processor.old left in
+        PartTold (call_moved s) s processor.new left' taken taken' result)
+        (λ faults faults' counts counts'. PartCounts faults faults' counts counts' result) }
 {
     let call = processor.word(Reg32::Eax);
     let first = processor.word(Reg32::Ebx);

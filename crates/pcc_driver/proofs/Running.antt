@@ -4,6 +4,7 @@ use Rattle.std.specs.Prelude.{⊤, length, ◌≤◌}
 use Rattle.elf_image.specs.Segments.{Segments, Loads}
 use Rattle.ia32_insn.specs.State.{State}
 use Rattle.pcc_base.specs.Outcome as outcome
+use Rattle.pcc_outside.specs.Streams.{SinkCounts}
 use Rattle.ia32_machine.specs.First.{First, first_state, lent}
 use Rattle.ia32_machine.specs.Runs as runs
 use Rattle.ia32_machine.specs.Runs.{Gives, GivesSoFar, GivesPart, WritesNext}
@@ -12,6 +13,7 @@ use Rattle.ia32_machine.specs.declared.ends.MachineEnd.TheVariants as machine
 use Rattle.pcc_reports.specs.declared.report.Named.TheVariants.{Source, Map, Image, Board}
 use Rattle.pcc_driver.specs.Answers.{ImageTold, RunTold, RunGives, RunGivesSoFar, RunGivesPart}
 use Rattle.pcc_driver.specs.Answers.{GivesNoMachine, IsNoImage, report_of_end}
+use Rattle.pcc_reports.specs.Causes.{StreamsCause}
 use Rattle.pcc_reports.specs.Outside.{SameStreams, Work}
 use Rattle.pcc_reports.specs.Sources.{Holds, file_limit}
 use Rattle.pcc_reports.specs.declared.report.Report.{Report}
@@ -72,6 +74,17 @@ machine_file steps machine.BudgetSpent content = tt
 machine_file steps machine.ReadFault content = tt
 machine_file steps machine.WriteFault content = tt
 machine_file steps machine.NoMemory content = tt
+
+-- the counts of a run are those that its report is to have
+pub machine_streams : (steps : ℕ) (end : MachineEnd) (input input' : ℕ) (out out' : SinkCounts)
+    → runs.RunCounts input input' out out' end → StreamsCause (report_of_end steps end) input input' out out'
+machine_streams steps (machine.Ended status) input input' out out' h = h
+machine_streams steps (machine.Trapped trap) input input' out out' h = h
+machine_streams steps (machine.Stopped cause address) input input' out out' h = h
+machine_streams steps machine.BudgetSpent input input' out out' h = h
+machine_streams steps machine.ReadFault input input' out out' h = h
+machine_streams steps machine.WriteFault input input' out out' h = h
+machine_streams steps machine.NoMemory input input' out out' h = (h.0, h.1.0)
 
 -- a loaded machine that is lent an input is in the first state
 pub lent_first : (image : List ℕ) (segments : Segments) (machine : State) (left : List ℕ) → Loads image segments

@@ -11,99 +11,85 @@ use Rattle.ia32_machine.proofs.instruction.perform.Goals as goal
 pub system_call-requires : goal.system_call-requires
 system_call-requires g c = c.requires
 
-pub returns-in_err-system_call-clause-told : goal.returns-in_err-system_call-clause-told
-returns-in_err-system_call-clause-told g c = λ i o.
-    let left : List ℕ = g.I.Source.left c.args.input.now in
-    let left' : List ℕ = g.I.Source.left c.system_call.new.input in
-    let taken : List ℕ = g.O.Sink.taken c.args.out.now in
-    let taken' : List ℕ = g.O.Sink.taken c.system_call.new.out in
-    let end : MachineEnd = c.in_err-system_call.field-0.0 in
-    let same : c.from_residual.result ≡ Err end = search rules in
-    let told : PartTold (call_moved (lent c.args.processor.now left)) (lent c.args.processor.now left)
-    c.system_call.new.processor
-    left' taken taken' (Err end) =
-    c.in_err-system_call.ensures.told i o in
-    subst (λ (r : Result Unit MachineEnd). PartTold (insn_moved c.args.insn.now c.args.after
-    (lent c.args.processor.now left))
-    (lent c.args.processor.now left) c.system_call.new.processor left' taken taken' r) (sym same)
-    (call_ends c.args.insn.now c.args.after (lent c.args.processor.now left) c.system_call.new.processor left' taken
-    taken' end
-    (c.if-is_system_call.ensures.0 refl) told)
+pub returns-in_err-system_call-clause-lends : goal.returns-in_err-system_call-clause-lends
+returns-in_err-system_call-clause-lends g c = record {
+  told = λ i o.
+      let left : List ℕ = g.I.Source.left c.args.input.now in
+      let left' : List ℕ = g.I.Source.left c.system_call.new.input in
+      let taken : List ℕ = g.O.Sink.taken c.args.out.now in
+      let taken' : List ℕ = g.O.Sink.taken c.system_call.new.out in
+      let end : MachineEnd = c.in_err-system_call.field-0.0 in
+      let same : c.from_residual.result ≡ Err end = search rules in
+      let told : PartTold (call_moved (lent c.args.processor.now left)) (lent c.args.processor.now left)
+      c.system_call.new.processor
+      left' taken taken' (Err end) =
+      c.in_err-system_call.ensures.lends.told i o in
+      subst (λ (r : Result Unit MachineEnd). PartTold (insn_moved c.args.insn.now c.args.after
+      (lent c.args.processor.now left))
+      (lent c.args.processor.now left) c.system_call.new.processor left' taken taken' r) (sym same)
+      (call_ends c.args.insn.now c.args.after (lent c.args.processor.now left) c.system_call.new.processor left' taken
+      taken' end
+      (c.if-is_system_call.ensures.0 refl) told);
+  counted =
+      let end : MachineEnd = c.in_err-system_call.field-0.0 in
+      let same : c.from_residual.result ≡ Err end = search rules in
+      subst (λ (r : Result Unit MachineEnd). PartCounts (g.I.Source.faults c.args.input.now)
+      (g.I.Source.faults c.system_call.new.input) (g.O.Sink.counts c.args.out.now)
+      (g.O.Sink.counts c.system_call.new.out) r) (sym same)
+      c.in_err-system_call.ensures.lends.counted;
+  input_tells = c.system_call.ensures.lends.input_tells;
+  out_tells = c.system_call.ensures.lends.out_tells;
+}
 
-pub returns-in_err-system_call-clause-counted : goal.returns-in_err-system_call-clause-counted
-returns-in_err-system_call-clause-counted g c =
-    let end : MachineEnd = c.in_err-system_call.field-0.0 in
-    let same : c.from_residual.result ≡ Err end = search rules in
-    subst (λ (r : Result Unit MachineEnd). PartCounts (g.I.Source.faults c.args.input.now)
-    (g.I.Source.faults c.system_call.new.input) (g.O.Sink.counts c.args.out.now)
-    (g.O.Sink.counts c.system_call.new.out) r) (sym same)
-    c.in_err-system_call.ensures.counted
-
-pub returns-in_err-system_call-clause-input_tells : goal.returns-in_err-system_call-clause-input_tells
-returns-in_err-system_call-clause-input_tells g c = c.system_call.ensures.input_tells
-
-pub returns-in_err-system_call-clause-out_tells : goal.returns-in_err-system_call-clause-out_tells
-returns-in_err-system_call-clause-out_tells g c = c.system_call.ensures.out_tells
-
-pub returns-then-is_system_call-clause-told : goal.returns-then-is_system_call-clause-told
-returns-then-is_system_call-clause-told g c = λ i o.
-    let left : List ℕ = g.I.Source.left c.args.input.now in
-    let left' : List ℕ = g.I.Source.left c.system_call.new.input in
-    let taken : List ℕ = g.O.Sink.taken c.args.out.now in
-    let taken' : List ℕ = g.O.Sink.taken c.system_call.new.out in
-    let told : PartTold (call_moved (lent c.args.processor.now left)) (lent c.args.processor.now left)
-    c.system_call.new.processor
-    left' taken taken' (Ok tt) =
-    c.in_ok-system_call.ensures.told i o in
-    rw c.set_eip.ensures
-    (call_goes c.args.insn.now c.args.after (lent c.args.processor.now left) c.system_call.new.processor left' taken
-    taken'
-    (c.if-is_system_call.ensures.0 refl) told)
-
-pub returns-then-is_system_call-clause-counted : goal.returns-then-is_system_call-clause-counted
-returns-then-is_system_call-clause-counted g c = c.in_ok-system_call.ensures.counted
-
-pub returns-then-is_system_call-clause-input_tells : goal.returns-then-is_system_call-clause-input_tells
-returns-then-is_system_call-clause-input_tells g c = c.system_call.ensures.input_tells
-
-pub returns-then-is_system_call-clause-out_tells : goal.returns-then-is_system_call-clause-out_tells
-returns-then-is_system_call-clause-out_tells g c = c.system_call.ensures.out_tells
+pub returns-then-is_system_call-clause-lends : goal.returns-then-is_system_call-clause-lends
+returns-then-is_system_call-clause-lends g c = record {
+  told = λ i o.
+      let left : List ℕ = g.I.Source.left c.args.input.now in
+      let left' : List ℕ = g.I.Source.left c.system_call.new.input in
+      let taken : List ℕ = g.O.Sink.taken c.args.out.now in
+      let taken' : List ℕ = g.O.Sink.taken c.system_call.new.out in
+      let told : PartTold (call_moved (lent c.args.processor.now left)) (lent c.args.processor.now left)
+      c.system_call.new.processor
+      left' taken taken' (Ok tt) =
+      c.in_ok-system_call.ensures.lends.told i o in
+      rw c.set_eip.ensures
+      (call_goes c.args.insn.now c.args.after (lent c.args.processor.now left) c.system_call.new.processor left' taken
+      taken'
+      (c.if-is_system_call.ensures.0 refl) told);
+  counted = c.in_ok-system_call.ensures.lends.counted;
+  input_tells = c.system_call.ensures.lends.input_tells;
+  out_tells = c.system_call.ensures.lends.out_tells;
+}
 
 pub perform-requires : goal.perform-requires
 perform-requires g c = λ e. let no : false ≡ true = c.if-is_system_call.ensures.1 e in cc
 
-pub returns-in-Ok-clause-told : goal.returns-in-Ok-clause-told
-returns-in-Ok-clause-told g c = λ _ _.
-    let other : c.args.insn.now ≢ insn.Int 0x80 = λ e. let no : false ≡ true = c.if-is_system_call.ensures.1 e in cc in
-    insn_goes c.args.insn.now c.args.after c.args.processor.now c.perform.new.processor
-    (g.I.Source.left c.args.input.now) (g.O.Sink.taken c.args.out.now) c.requires other c.in-Ok.ensures
+pub returns-in-Ok-clause-lends : goal.returns-in-Ok-clause-lends
+returns-in-Ok-clause-lends g c = record {
+  told = λ _ _.
+      let other : c.args.insn.now ≢ insn.Int 0x80 =
+      λ e. let no : false ≡ true = c.if-is_system_call.ensures.1 e in cc in
+      insn_goes c.args.insn.now c.args.after c.args.processor.now c.perform.new.processor
+      (g.I.Source.left c.args.input.now) (g.O.Sink.taken c.args.out.now) c.requires other c.in-Ok.ensures;
+  counted = (refl, refl);
+  input_tells = λ t. t;
+  out_tells = λ t. t;
+}
 
-pub returns-in-Ok-clause-counted : goal.returns-in-Ok-clause-counted
-returns-in-Ok-clause-counted g c = (refl, refl)
-
-pub returns-in-Ok-clause-input_tells : goal.returns-in-Ok-clause-input_tells
-returns-in-Ok-clause-input_tells g c = λ t. t
-
-pub returns-in-Ok-clause-out_tells : goal.returns-in-Ok-clause-out_tells
-returns-in-Ok-clause-out_tells g c = λ t. t
-
-pub returns-in-Err-clause-told : goal.returns-in-Err-clause-told
-returns-in-Err-clause-told g c = λ _ _.
-    let other : c.args.insn.now ≢ insn.Int 0x80 = λ e. let no : false ≡ true = c.if-is_system_call.ensures.1 e in cc in
-    rw (c.end_at.ensures, c.eip-address.ensures.value, c.in-Err.ensures.1)
-    (insn_ends c.args.insn.now c.args.after c.args.processor.now (g.I.Source.left c.args.input.now)
-    (g.O.Sink.taken c.args.out.now) c.in-Err.halt c.requires other c.in-Err.ensures.0)
-
-pub returns-in-Err-clause-counted : goal.returns-in-Err-clause-counted
-returns-in-Err-clause-counted g c =
-    rw c.end_at.ensures (halt_counts c.eip-address.result (g.I.Source.faults c.args.input.now)
-    (g.O.Sink.counts c.args.out.now) c.in-Err.halt)
-
-pub returns-in-Err-clause-input_tells : goal.returns-in-Err-clause-input_tells
-returns-in-Err-clause-input_tells g c = λ t. t
-
-pub returns-in-Err-clause-out_tells : goal.returns-in-Err-clause-out_tells
-returns-in-Err-clause-out_tells g c = λ t. t
+pub returns-in-Err-clause-lends : goal.returns-in-Err-clause-lends
+returns-in-Err-clause-lends g c = record {
+  told = λ _ _.
+      let other : c.args.insn.now ≢ insn.Int 0x80 =
+      λ e. let no : false ≡ true = c.if-is_system_call.ensures.1 e in cc in
+      rw (c.end_at.ensures, c.eip-address.ensures.value, c.in-Err.ensures.1)
+      (insn_ends c.args.insn.now c.args.after c.args.processor.now (g.I.Source.left c.args.input.now)
+      (g.O.Sink.taken c.args.out.now) c.in-Err.halt c.requires other c.in-Err.ensures.0);
+  counted =
+      rw c.end_at.ensures (halt_counts c.eip-address.result (g.I.Source.faults c.args.input.now)
+      (g.O.Sink.counts c.args.out.now) c.in-Err.halt);
+  input_tells = λ t. t;
+  out_tells = λ t. t;
+}
 
 pub returns-in_err-system_call-clause-code : goal.returns-in_err-system_call-clause-code
 returns-in_err-system_call-clause-code g c = c.system_call.ensures.code

@@ -15,86 +15,70 @@ use Rattle.ia32_machine.proofs.system_calls.system_call.Goals as goal
 pub overflow_cast-result : goal.overflow_cast-result
 overflow_cast-result g c = omega arith
 
-pub returns-then-call-eq1-clause-told : goal.returns-then-call-eq1-clause-told
-returns-then-call-eq1-clause-told g c = λ _ _.
-    rw c.word-first.ensures (call_exit c.args.processor.now (g.I.Source.left c.args.input.now)
-    (g.O.Sink.taken c.args.out.now) c.requires (sym c.word-call.ensures ∙ c.if-call-eq1.true))
-
-pub returns-then-call-eq1-clause-counted : goal.returns-then-call-eq1-clause-counted
-returns-then-call-eq1-clause-counted g c = (refl, refl)
-
-pub returns-then-call-eq1-clause-input_tells : goal.returns-then-call-eq1-clause-input_tells
-returns-then-call-eq1-clause-input_tells g c = λ t. t
-
-pub returns-then-call-eq1-clause-out_tells : goal.returns-then-call-eq1-clause-out_tells
-returns-then-call-eq1-clause-out_tells g c = λ t. t
+pub returns-then-call-eq1-clause-lends : goal.returns-then-call-eq1-clause-lends
+returns-then-call-eq1-clause-lends g c = record {
+  told = λ _ _.
+      rw c.word-first.ensures (call_exit c.args.processor.now (g.I.Source.left c.args.input.now)
+      (g.O.Sink.taken c.args.out.now) c.requires (sym c.word-call.ensures ∙ c.if-call-eq1.true));
+  counted = (refl, refl);
+  input_tells = λ t. t;
+  out_tells = λ t. t;
+}
 
 pub read_call-requires : goal.read_call-requires
 read_call-requires g c = c.requires
 
-pub returns-then-first-eq0-clause-told : goal.returns-then-first-eq0-clause-told
-returns-then-first-eq0-clause-told g c = λ i _.
-    let left : List ℕ = g.I.Source.left c.args.input.now in
-    let taken : List ℕ = g.O.Sink.taken c.args.out.now in
-    subst (λ (m : Moved). PartTold m (lent c.args.processor.now left) c.read_call.new.processor
-    (g.I.Source.left c.read_call.new.input) taken taken c.read_call.result)
-    (call_read c.args.processor.now left (sym c.word-call.ensures ∙ c.if-call-eq3.true)
-    (sym c.word-first.ensures ∙ c.if-first-eq0.true)) (c.read_call.ensures.told i taken)
-
-pub returns-then-first-eq0-clause-counted : goal.returns-then-first-eq0-clause-counted
-returns-then-first-eq0-clause-counted g c = c.read_call.ensures.counted (g.O.Sink.counts c.args.out.now)
-
-pub returns-then-first-eq0-clause-input_tells : goal.returns-then-first-eq0-clause-input_tells
-returns-then-first-eq0-clause-input_tells g c = c.read_call.ensures.input_tells
-
-pub returns-then-first-eq0-clause-out_tells : goal.returns-then-first-eq0-clause-out_tells
-returns-then-first-eq0-clause-out_tells g c = λ t. t
+pub returns-then-first-eq0-clause-lends : goal.returns-then-first-eq0-clause-lends
+returns-then-first-eq0-clause-lends g c = record {
+  told = λ i _.
+      let left : List ℕ = g.I.Source.left c.args.input.now in
+      let taken : List ℕ = g.O.Sink.taken c.args.out.now in
+      subst (λ (m : Moved). PartTold m (lent c.args.processor.now left) c.read_call.new.processor
+      (g.I.Source.left c.read_call.new.input) taken taken c.read_call.result)
+      (call_read c.args.processor.now left (sym c.word-call.ensures ∙ c.if-call-eq3.true)
+      (sym c.word-first.ensures ∙ c.if-first-eq0.true)) (c.read_call.ensures.told i taken);
+  counted = c.read_call.ensures.counted (g.O.Sink.counts c.args.out.now);
+  input_tells = c.read_call.ensures.input_tells;
+  out_tells = λ t. t;
+}
 
 pub write_call-requires : goal.write_call-requires
 write_call-requires g c = c.requires
 
-pub returns-then-first-eq1-clause-told : goal.returns-then-first-eq1-clause-told
-returns-then-first-eq1-clause-told g c = λ _ o.
-    let left : List ℕ = g.I.Source.left c.args.input.now in
-    subst (λ (m : Moved). PartTold m (lent c.args.processor.now left) c.write_call.new.processor left
-    (g.O.Sink.taken c.args.out.now) (g.O.Sink.taken c.write_call.new.out) c.write_call.result)
-    (call_write c.args.processor.now left (sym c.word-call.ensures ∙ c.if-call-eq4.true)
-    (sym c.word-first.ensures ∙ c.if-first-eq1.true)) (c.write_call.ensures.told o left)
+pub returns-then-first-eq1-clause-lends : goal.returns-then-first-eq1-clause-lends
+returns-then-first-eq1-clause-lends g c = record {
+  told = λ _ o.
+      let left : List ℕ = g.I.Source.left c.args.input.now in
+      subst (λ (m : Moved). PartTold m (lent c.args.processor.now left) c.write_call.new.processor left
+      (g.O.Sink.taken c.args.out.now) (g.O.Sink.taken c.write_call.new.out) c.write_call.result)
+      (call_write c.args.processor.now left (sym c.word-call.ensures ∙ c.if-call-eq4.true)
+      (sym c.word-first.ensures ∙ c.if-first-eq1.true)) (c.write_call.ensures.told o left);
+  counted = c.write_call.ensures.counted (g.I.Source.faults c.args.input.now);
+  input_tells = λ t. t;
+  out_tells = c.write_call.ensures.out_tells;
+}
 
-pub returns-then-first-eq1-clause-counted : goal.returns-then-first-eq1-clause-counted
-returns-then-first-eq1-clause-counted g c = c.write_call.ensures.counted (g.I.Source.faults c.args.input.now)
-
-pub returns-then-first-eq1-clause-input_tells : goal.returns-then-first-eq1-clause-input_tells
-returns-then-first-eq1-clause-input_tells g c = λ t. t
-
-pub returns-then-first-eq1-clause-out_tells : goal.returns-then-first-eq1-clause-out_tells
-returns-then-first-eq1-clause-out_tells g c = c.write_call.ensures.out_tells
-
-pub returns-clause-told : goal.returns-clause-told
-returns-clause-told g c = λ _ _.
-    let old : State = c.args.processor.now in
-    let exit : word_of Eax old ≢ 1 = λ e. c.if-call-eq1.false (c.word-call.ensures ∙ e) in
-    let read : word_of Eax old ≡ 3 → word_of Ebx old ≡ 0 → ⊥ =
-    λ call file. elim c.else-call-eq3.branch [
-      | else-call-eq3-via-then-call-eq3+else-first-eq0 w ↦ w.if-first-eq0.false (c.word-first.ensures ∙ file)
-      | else-call-eq3-via-else-call-eq3 w ↦ w.if-call-eq3.false (c.word-call.ensures ∙ call)
-    ] in
-    let write : word_of Eax old ≡ 4 → word_of Ebx old ≡ 1 → ⊥ =
-    λ call file. elim c.else-call-eq4.branch [
-      | else-call-eq4-via-then-call-eq4+else-first-eq1 w ↦ w.if-first-eq1.false (c.word-first.ensures ∙ file)
-      | else-call-eq4-via-else-call-eq4 w ↦ w.if-call-eq4.false (c.word-call.ensures ∙ call)
-    ] in
-    rw c.eip.ensures.value (call_none old (g.I.Source.left c.args.input.now) (g.O.Sink.taken c.args.out.now) c.requires
-    exit read write)
-
-pub returns-clause-counted : goal.returns-clause-counted
-returns-clause-counted g c = (refl, refl)
-
-pub returns-clause-input_tells : goal.returns-clause-input_tells
-returns-clause-input_tells g c = λ t. t
-
-pub returns-clause-out_tells : goal.returns-clause-out_tells
-returns-clause-out_tells g c = λ t. t
+pub returns-clause-lends : goal.returns-clause-lends
+returns-clause-lends g c = record {
+  told = λ _ _.
+      let old : State = c.args.processor.now in
+      let exit : word_of Eax old ≢ 1 = λ e. c.if-call-eq1.false (c.word-call.ensures ∙ e) in
+      let read : word_of Eax old ≡ 3 → word_of Ebx old ≡ 0 → ⊥ =
+      λ call file. elim c.else-call-eq3.branch [
+        | else-call-eq3-via-then-call-eq3+else-first-eq0 w ↦ w.if-first-eq0.false (c.word-first.ensures ∙ file)
+        | else-call-eq3-via-else-call-eq3 w ↦ w.if-call-eq3.false (c.word-call.ensures ∙ call)
+      ] in
+      let write : word_of Eax old ≡ 4 → word_of Ebx old ≡ 1 → ⊥ =
+      λ call file. elim c.else-call-eq4.branch [
+        | else-call-eq4-via-then-call-eq4+else-first-eq1 w ↦ w.if-first-eq1.false (c.word-first.ensures ∙ file)
+        | else-call-eq4-via-else-call-eq4 w ↦ w.if-call-eq4.false (c.word-call.ensures ∙ call)
+      ] in
+      rw c.eip.ensures.value (call_none old (g.I.Source.left c.args.input.now) (g.O.Sink.taken c.args.out.now)
+      c.requires exit read write);
+  counted = (refl, refl);
+  input_tells = λ t. t;
+  out_tells = λ t. t;
+}
 
 pub returns-then-call-eq1-clause-code : goal.returns-then-call-eq1-clause-code
 returns-then-call-eq1-clause-code g c = keeps-same c.args.processor.now.memory

@@ -2,7 +2,8 @@ use Rattle.std.proofs.Common.{◌≤◌, length, arith, refl}
 use Rattle.ia32_machine.specs.First.{lent}
 use Rattle.pcc_reports.specs.Sources.{file_limit}
 use Rattle.pcc_reports.specs.Outside.{work_of}
-use Rattle.pcc_driver.proofs.Running.{lent_first, machine_file, machine_told, no_machine_file, no_machine_told}
+use Rattle.pcc_driver.proofs.Running.{lent_first, machine_file, machine_streams, machine_told, no_machine_file}
+use Rattle.pcc_driver.proofs.Running.{no_machine_told}
 use Rattle.pcc_driver.proofs.run.run.Goals as goal
 
 pub returns-in-Err-machine_of-clause-told : goal.returns-in-Err-machine_of-clause-told
@@ -40,3 +41,15 @@ pub returns-in-Ok-machine_of-clause-file : goal.returns-in-Ok-machine_of-clause-
 returns-in-Ok-machine_of-clause-file g c = λ f.
     rw c.end_report.ensures (machine_file c.args.steps c.run.result
     (g.F.FileStore.content c.args.files.now c.args.image.now))
+
+pub returns-in-Ok-machine_of-clause-streams_cause : goal.returns-in-Ok-machine_of-clause-streams_cause
+returns-in-Ok-machine_of-clause-streams_cause g c =
+    rw c.end_report.ensures (machine_streams c.args.steps c.run.result (g.I.Source.faults c.args.input.now)
+    (g.I.Source.faults c.run.new.input) (g.O.Sink.counts c.args.out.now) (g.O.Sink.counts c.run.new.out)
+    c.run.ensures.counted)
+
+pub returns-in-Ok-machine_of-clause-input_tells : goal.returns-in-Ok-machine_of-clause-input_tells
+returns-in-Ok-machine_of-clause-input_tells g c = c.run.ensures.input_tells
+
+pub returns-in-Ok-machine_of-clause-out_tells : goal.returns-in-Ok-machine_of-clause-out_tells
+returns-in-Ok-machine_of-clause-out_tells g c = c.run.ensures.out_tells

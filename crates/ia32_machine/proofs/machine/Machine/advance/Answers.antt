@@ -18,36 +18,28 @@ invariant_of-self g c =
     decoded-kept c.self.inside.processor.memory c.perform.new.processor.memory c.self.inside.decoded.entries.items
     c.perform.ensures.code c.self.invariant
 
-pub returns-in-Some-clause-told : goal.returns-in-Some-clause-told
-returns-in-Some-clause-told g c = λ i o.
-    let p : State = c.self.inside.processor in
-    let left : List ℕ = g.I.Source.left c.args.input.now in
-    let at : c.eip-address.result ≡ p.eip = c.eip-address.ensures.value in
-    let found = c.in-Some.ensures p.memory c.self.invariant in
-    subst (λ (s : State). AdvanceTold (lent s left) c.perform.new.processor (g.I.Source.left c.perform.new.input)
-    (g.O.Sink.taken c.args.out.now) (g.O.Sink.taken c.perform.new.out) c.perform.result) c.self.view_is
-    (fetched p c.perform.new.processor left (g.I.Source.left c.perform.new.input) (g.O.Sink.taken c.args.out.now)
-    (g.O.Sink.taken c.perform.new.out) c.in-Some.entry.now.insn found.1.1.1 c.in-Some.entry.now.after c.perform.result
-    (found-fetched p c.eip-address.result c.in-Some.entry.now at found)
-    (found-after p c.eip-address.result c.in-Some.entry.now at found) (c.perform.ensures.told i o))
+pub returns-in-Some : goal.returns-in-Some
+returns-in-Some g c = record {
+  told = λ i o.
+      let p : State = c.self.inside.processor in
+      let left : List ℕ = g.I.Source.left c.args.input.now in
+      let at : c.eip-address.result ≡ p.eip = c.eip-address.ensures.value in
+      let found = c.in-Some.ensures p.memory c.self.invariant in
+      subst (λ (s : State). AdvanceTold (lent s left) c.perform.new.processor (g.I.Source.left c.perform.new.input)
+      (g.O.Sink.taken c.args.out.now) (g.O.Sink.taken c.perform.new.out) c.perform.result) c.self.view_is
+      (fetched p c.perform.new.processor left (g.I.Source.left c.perform.new.input) (g.O.Sink.taken c.args.out.now)
+      (g.O.Sink.taken c.perform.new.out) c.in-Some.entry.now.insn found.1.1.1 c.in-Some.entry.now.after c.perform.result
+      (found-fetched p c.eip-address.result c.in-Some.entry.now at found)
+      (found-after p c.eip-address.result c.in-Some.entry.now at found) (c.perform.ensures.lends.told i o));
+  counted = c.perform.ensures.lends.counted;
+  input_tells = c.perform.ensures.lends.input_tells;
+  out_tells = c.perform.ensures.lends.out_tells;
+}
 
-pub returns-in-Some-clause-counted : goal.returns-in-Some-clause-counted
-returns-in-Some-clause-counted g c = c.perform.ensures.counted
-
-pub returns-in-Some-clause-input_tells : goal.returns-in-Some-clause-input_tells
-returns-in-Some-clause-input_tells g c = c.perform.ensures.input_tells
-
-pub returns-in-Some-clause-out_tells : goal.returns-in-Some-clause-out_tells
-returns-in-Some-clause-out_tells g c = c.perform.ensures.out_tells
-
-pub returns-in-None-clause-told : goal.returns-in-None-clause-told
-returns-in-None-clause-told g c = c.decode_and_perform.ensures.told
-
-pub returns-in-None-clause-counted : goal.returns-in-None-clause-counted
-returns-in-None-clause-counted g c = c.decode_and_perform.ensures.counted
-
-pub returns-in-None-clause-input_tells : goal.returns-in-None-clause-input_tells
-returns-in-None-clause-input_tells g c = c.decode_and_perform.ensures.input_tells
-
-pub returns-in-None-clause-out_tells : goal.returns-in-None-clause-out_tells
-returns-in-None-clause-out_tells g c = c.decode_and_perform.ensures.out_tells
+pub returns-in-None : goal.returns-in-None
+returns-in-None g c = record {
+  told = c.decode_and_perform.ensures.told;
+  counted = c.decode_and_perform.ensures.counted;
+  input_tells = c.decode_and_perform.ensures.input_tells;
+  out_tells = c.decode_and_perform.ensures.out_tells;
+}

@@ -26,42 +26,34 @@ invariant_of-self g c =
     (fetched-spelled p c.eip-address.result c.in-Ok.length after c.in-Ok.insn
     c.eip-address.ensures.value c.in-Ok.ensures.told refl))
 
-pub returns-in-Ok-clause-told : goal.returns-in-Ok-clause-told
-returns-in-Ok-clause-told g c = λ i o.
-    let p : State = c.self.inside.processor in
-    let left : List ℕ = g.I.Source.left c.args.input.now in
-    let after : ℕ = (c.eip-address.result + c.in-Ok.length) % 0x1_0000_0000 in
-    let same : after ≡ (p.eip + c.in-Ok.length) % 0x1_0000_0000 =
-    ap (λ (n : ℕ). (n + c.in-Ok.length) % 0x1_0000_0000) c.eip-address.ensures.value in
-    subst (λ (s : State). AdvanceTold (lent s left) c.perform.new.processor (g.I.Source.left c.perform.new.input)
-    (g.O.Sink.taken c.args.out.now) (g.O.Sink.taken c.perform.new.out) c.perform.result) c.self.view_is
-    (fetched p c.perform.new.processor left (g.I.Source.left c.perform.new.input) (g.O.Sink.taken c.args.out.now)
-    (g.O.Sink.taken c.perform.new.out) c.in-Ok.insn c.in-Ok.length after c.perform.result
-    c.in-Ok.ensures.told same (c.perform.ensures.told i o))
+pub returns-in-Ok : goal.returns-in-Ok
+returns-in-Ok g c = record {
+  told = λ i o.
+      let p : State = c.self.inside.processor in
+      let left : List ℕ = g.I.Source.left c.args.input.now in
+      let after : ℕ = (c.eip-address.result + c.in-Ok.length) % 0x1_0000_0000 in
+      let same : after ≡ (p.eip + c.in-Ok.length) % 0x1_0000_0000 =
+      ap (λ (n : ℕ). (n + c.in-Ok.length) % 0x1_0000_0000) c.eip-address.ensures.value in
+      subst (λ (s : State). AdvanceTold (lent s left) c.perform.new.processor (g.I.Source.left c.perform.new.input)
+      (g.O.Sink.taken c.args.out.now) (g.O.Sink.taken c.perform.new.out) c.perform.result) c.self.view_is
+      (fetched p c.perform.new.processor left (g.I.Source.left c.perform.new.input) (g.O.Sink.taken c.args.out.now)
+      (g.O.Sink.taken c.perform.new.out) c.in-Ok.insn c.in-Ok.length after c.perform.result
+      c.in-Ok.ensures.told same (c.perform.ensures.lends.told i o));
+  counted = c.perform.ensures.lends.counted;
+  input_tells = c.perform.ensures.lends.input_tells;
+  out_tells = c.perform.ensures.lends.out_tells;
+}
 
-pub returns-in-Ok-clause-counted : goal.returns-in-Ok-clause-counted
-returns-in-Ok-clause-counted g c = c.perform.ensures.counted
-
-pub returns-in-Ok-clause-input_tells : goal.returns-in-Ok-clause-input_tells
-returns-in-Ok-clause-input_tells g c = c.perform.ensures.input_tells
-
-pub returns-in-Ok-clause-out_tells : goal.returns-in-Ok-clause-out_tells
-returns-in-Ok-clause-out_tells g c = c.perform.ensures.out_tells
-
-pub returns-in-Err-clause-told : goal.returns-in-Err-clause-told
-returns-in-Err-clause-told g c = λ _ _.
-    let left : List ℕ = g.I.Source.left c.args.input.now in
-    let taken : List ℕ = g.O.Sink.taken c.args.out.now in
-    subst (λ (s : State). AdvanceTold (lent s left) s left taken taken (Err (Stopped c.in-Err.cause
-    c.eip-address.result))) c.self.view_is
-    (rw c.eip-address.ensures.value (unfetched c.self.inside.processor left taken c.in-Err.cause
-    c.eip-address.ensures.bare c.in-Err.ensures.told))
-
-pub returns-in-Err-clause-counted : goal.returns-in-Err-clause-counted
-returns-in-Err-clause-counted g c = (refl, refl)
-
-pub returns-in-Err-clause-input_tells : goal.returns-in-Err-clause-input_tells
-returns-in-Err-clause-input_tells g c = λ t. t
-
-pub returns-in-Err-clause-out_tells : goal.returns-in-Err-clause-out_tells
-returns-in-Err-clause-out_tells g c = λ t. t
+pub returns-in-Err : goal.returns-in-Err
+returns-in-Err g c = record {
+  told = λ _ _.
+      let left : List ℕ = g.I.Source.left c.args.input.now in
+      let taken : List ℕ = g.O.Sink.taken c.args.out.now in
+      subst (λ (s : State). AdvanceTold (lent s left) s left taken taken (Err (Stopped c.in-Err.cause
+      c.eip-address.result))) c.self.view_is
+      (rw c.eip-address.ensures.value (unfetched c.self.inside.processor left taken c.in-Err.cause
+      c.eip-address.ensures.bare c.in-Err.ensures.told));
+  counted = (refl, refl);
+  input_tells = λ t. t;
+  out_tells = λ t. t;
+}

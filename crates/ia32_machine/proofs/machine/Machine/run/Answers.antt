@@ -37,43 +37,35 @@ steps-preserved g c =
       out_tells = λ o. c.step.ensures.out_tells (before.out_tells o);
     }
 
-pub returns-in-End-clause-told : goal.returns-in-End-clause-told
-returns-in-End-clause-told g c = λ i o.
-    let before = c.steps.invariant in
-    let s : State = lent c.args.self.now (g.I.Source.left c.args.input.now) in
-    ran_last c.steps.counter c.args.budget s c.steps.self c.step.new.self (g.I.Source.left c.args.input.now)
-    (g.I.Source.left c.steps.input) (g.I.Source.left c.step.new.input) (g.O.Sink.taken c.args.out.now)
-    (g.O.Sink.taken c.steps.out) (g.O.Sink.taken c.step.new.out) c.in-End.end
-    c.steps-test.true (before.ran i o) (c.in-End.ensures.told (before.input_tells i) (before.out_tells o))
+pub returns-in-End : goal.returns-in-End
+returns-in-End g c = record {
+  told = λ i o.
+      let before = c.steps.invariant in
+      let s : State = lent c.args.self.now (g.I.Source.left c.args.input.now) in
+      ran_last c.steps.counter c.args.budget s c.steps.self c.step.new.self (g.I.Source.left c.args.input.now)
+      (g.I.Source.left c.steps.input) (g.I.Source.left c.step.new.input) (g.O.Sink.taken c.args.out.now)
+      (g.O.Sink.taken c.steps.out) (g.O.Sink.taken c.step.new.out) c.in-End.end
+      c.steps-test.true (before.ran i o) (c.in-End.ensures.told (before.input_tells i) (before.out_tells o));
+  counted =
+      let before = c.steps.invariant in
+      subst (λ (counts : SinkCounts). RunCounts (g.I.Source.faults c.args.input.now)
+      (g.I.Source.faults c.step.new.input) counts (g.O.Sink.counts c.step.new.out) c.in-End.end) before.counts
+      (subst (λ (faults : ℕ). RunCounts faults (g.I.Source.faults c.step.new.input) (g.O.Sink.counts c.steps.out)
+      (g.O.Sink.counts c.step.new.out) c.in-End.end) before.faults c.in-End.ensures.counted);
+  input_tells = λ i. c.step.ensures.input_tells (c.steps.invariant.input_tells i);
+  out_tells = λ o. c.step.ensures.out_tells (c.steps.invariant.out_tells o);
+}
 
-pub returns-in-End-clause-counted : goal.returns-in-End-clause-counted
-returns-in-End-clause-counted g c =
-    let before = c.steps.invariant in
-    subst (λ (counts : SinkCounts). RunCounts (g.I.Source.faults c.args.input.now) (g.I.Source.faults c.step.new.input)
-    counts (g.O.Sink.counts c.step.new.out) c.in-End.end) before.counts
-    (subst (λ (faults : ℕ). RunCounts faults (g.I.Source.faults c.step.new.input) (g.O.Sink.counts c.steps.out)
-    (g.O.Sink.counts c.step.new.out) c.in-End.end) before.faults c.in-End.ensures.counted)
-
-pub returns-in-End-clause-input_tells : goal.returns-in-End-clause-input_tells
-returns-in-End-clause-input_tells g c = λ i. c.step.ensures.input_tells (c.steps.invariant.input_tells i)
-
-pub returns-in-End-clause-out_tells : goal.returns-in-End-clause-out_tells
-returns-in-End-clause-out_tells g c = λ o. c.step.ensures.out_tells (c.steps.invariant.out_tells o)
-
-pub returns-clause-told : goal.returns-clause-told
-returns-clause-told g c = λ i o.
-    let s : State = lent c.args.self.now (g.I.Source.left c.args.input.now) in
-    let all : c.steps.counter ≡ c.args.budget = omega (arith, c.steps-test.false, c.steps.auto.counter-end) in
-    ran_spent c.args.budget s c.steps.self (g.I.Source.left c.args.input.now) (g.I.Source.left c.steps.input)
-    (g.O.Sink.taken c.args.out.now) (g.O.Sink.taken c.steps.out)
-    (subst (λ (n : ℕ). Ran n s c.steps.self (g.I.Source.left c.args.input.now) (g.I.Source.left c.steps.input)
-    (g.O.Sink.taken c.args.out.now) (g.O.Sink.taken c.steps.out)) all (c.steps.invariant.ran i o))
-
-pub returns-clause-counted : goal.returns-clause-counted
-returns-clause-counted g c = (c.steps.invariant.faults, c.steps.invariant.counts)
-
-pub returns-clause-input_tells : goal.returns-clause-input_tells
-returns-clause-input_tells g c = c.steps.invariant.input_tells
-
-pub returns-clause-out_tells : goal.returns-clause-out_tells
-returns-clause-out_tells g c = c.steps.invariant.out_tells
+pub returns : goal.returns
+returns g c = record {
+  told = λ i o.
+      let s : State = lent c.args.self.now (g.I.Source.left c.args.input.now) in
+      let all : c.steps.counter ≡ c.args.budget = omega (arith, c.steps-test.false, c.steps.auto.counter-end) in
+      ran_spent c.args.budget s c.steps.self (g.I.Source.left c.args.input.now) (g.I.Source.left c.steps.input)
+      (g.O.Sink.taken c.args.out.now) (g.O.Sink.taken c.steps.out)
+      (subst (λ (n : ℕ). Ran n s c.steps.self (g.I.Source.left c.args.input.now) (g.I.Source.left c.steps.input)
+      (g.O.Sink.taken c.args.out.now) (g.O.Sink.taken c.steps.out)) all (c.steps.invariant.ran i o));
+  counted = (c.steps.invariant.faults, c.steps.invariant.counts);
+  input_tells = c.steps.invariant.input_tells;
+  out_tells = c.steps.invariant.out_tells;
+}
