@@ -1,7 +1,7 @@
 -- The lines of a map, and their text. Numbers are decimal, addresses are eight lower-case hexadecimal digits, and each
 -- line ends in a newline. Of a function those points have lines that are listed so far, and its blocks have none.
-use Rattle.std.specs.Prelude.{ℕ, zero, suc, ◌+◌, ◌/◌, ◌%◌, List, [], ◌∷◌, ◌++◌, flat_map, map, codes, decimal, nat_lt}
-use Rattle.std.specs.Prelude.{if◌then◌else◌, Option, Some, None}
+use Rattle.std.specs.Prelude.{ℕ, zero, suc, ◌+◌, ◌-◌, ◌/◌, ◌%◌, List, [], ◌∷◌, ◌++◌, flat_map, map, codes, decimal}
+use Rattle.std.specs.Prelude.{nat_lt, if◌then◌else◌, Option, Some, None}
 use Rattle.std.specs.Fmt.{signed_decimal}
 use Rattle.pcc_base.specs.Ascii.{newline, digit_zero, letter_a}
 use Rattle.pcc_base.specs.declared.run.Width.{Width}

@@ -1,6 +1,7 @@
 //! The lines of a map, and the text of each.
 
 ghost use Rattle.std.specs.Prelude.{◌≡◌, ◌∷◌, [], ◌++◌, OnOk, codes, decimal, flat_map, map};
+ghost use Rattle.pcc_base.specs.Ascii.{newline};
 ghost use Rattle.flow_graph.specs.declared.op.Op.TheVariants as op;
 ghost use Rattle.pcc_listing.specs.Lines.{
   ArrayLine,
@@ -14,7 +15,6 @@ ghost use Rattle.pcc_listing.specs.Lines.{
   if_any_text,
   line_text,
   named_text,
-  newline,
   op_text,
   standing_text,
   width_text,
