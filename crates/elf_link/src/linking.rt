@@ -28,7 +28,8 @@ pub fn link(
         → IsLinked functions (order_of sections.now.items) (map object_of objects.now.items) main linked) }
 
     // The text has the sections, the start and the routines.
-    ensures size { IfOk result (λ linked. vec_len linked.image.text ≡ sections_size sections.now.items + routines_size) }
+    ensures size { IfOk result (λ linked. vec_len linked.image.text
+        ≡ sections_size sections.now.items + routines_size) }
 {
     let addresses = addresses_of(alloc, sections, objects)?;
     let text = text_of(alloc, sections, &addresses, main)?;
