@@ -1,13 +1,15 @@
 //! Tests of the public calls of `pcc_base` (`numbers`, `faults`), `pcc_outside` (`memory`, `host`) and
-//! `index_lists` (`list_rows`); of `flow_graph` (`graphs`), `liveness` (`live_points`) and `allocator_boards`
-//! (`forms`), whose graphs are built by the steps in `building`; and of `puzzle_board`, `puzzle_solver` and
-//! `puzzle_texts`: rows worked by hand (`rows`), every small board compared with a plain search (`search`), boards
-//! and placements as texts (`texts`), and a map of points (`maps`).
+//! `index_lists` (`list_rows`); of `flow_graph` (`graphs`), `liveness` (`live_points`), `allocator_boards` (`forms`)
+//! and `allocator` (`allocation`), whose graphs are built by the steps in `building`; and of `puzzle_board`,
+//! `puzzle_solver` and `puzzle_texts`: rows worked by hand (`rows`), every small board compared with a plain search
+//! (`search`), boards and placements as texts (`texts`), and a map of points (`maps`).
 //!
 //! They stand in a crate of their own since a crate with tests is proved a second time; this one needs only what
 //! those crates promise.
 #![tactic(auto)]
 
+#[cfg(test)]
+mod allocation;
 #[cfg(test)]
 mod building;
 #[cfg(test)]

@@ -1,0 +1,67 @@
+//! The map of a small graph, and the board of one of its points, by hand.
+
+ghost use Rattle.allocator_boards.specs.PointMaps.{bytes_of_arrays};
+ghost use Rattle.allocator_boards.specs.SplitForms.{FixedOperandsDie, placed_count};
+ghost use Rattle.flow_graph.specs.Graphs.{IsPlaced};
+ghost use Rattle.std.specs.Prelude.{◌≡◌, ◌<◌, ◌≤◌, ◌+◌, ◌*◌, length};
+
+use crate::building::{add_var, append, empty_graph};
+use crate::expected::expect;
+use allocator::{allocate, board_of};
+use allocator_boards::split;
+use flow_graph::{Graph, Op};
+use liveness::{live, next_use};
+use pcc_base::Steps;
+use puzzle_board::Board;
+use std::alloc::Global;
+use std::marker::Brand;
+use std::process::Abort;
+use std::sync::ledger::{Blank, Ledger};
+
+/// A board of four areas and one piece.
+fn expect_board<L: Ledger>(rt: &impl Abort, board: &Board, blank: Blank)
+    requires name { blank.name ≡ L.name }
+    requires parts { blank.parts ≡ L.parts }
+    requires one { L.parts ≡ 1 }
+{
+    let mut steps = Steps::<L>::new(blank);
+    let counts = (board.areas(&mut steps), board.pieces(&mut steps));
+    expect(rt, &counts, &(4, 1), "areas and pieces");
+}
+
+/// Variable 0 stands in a register from point 0 to point 1, nothing is spilled, and the frame has the four words that
+/// each function keeps. The board of point 1 has four areas and one piece.
+fn expect_places(rt: &impl Abort, alloc: Global, graph: &Graph)
+    requires dies { FixedOperandsDie graph.now }
+    requires few { placed_count graph.now < 2147483648 }
+    requires room { 16 + 4 * length graph.now.widths + bytes_of_arrays graph.now.arrays < 2147483648 }
+    requires points { 2 ≤ length graph.now.ops }
+    requires one { 1 ≤ length graph.now.widths }
+    requires placed { IsPlaced graph.now 1 }
+{
+    let sets = live(alloc, graph).expect(rt, "live sets");
+    let form = split(alloc, graph, &sets).expect(rt, "a form");
+    let distances = next_use(alloc, graph).expect(rt, "distances");
+    let map = allocate(alloc, &form, &distances).expect(rt, "a map");
+    map.is_place_map();
+    let stands = (
+        map.after(0, 0).is_some(),
+        map.before(1, 0) == map.after(0, 0),
+    );
+    expect(rt, &stands, &(true, true), "a register");
+    let spilled = (map.spilled(0).len(), map.spilled(1).len(), map.slot(0));
+    expect(rt, &spilled, &(0, 0, None), "nothing is spilled");
+    expect(rt, &map.frame(), &16, "the frame");
+    let board = board_of(alloc, &form, 1).expect(rt, "a board");
+    expect_board::<Brand>(rt, &board, Blank::new(1));
+}
+
+/// A variable that is defined at one point and read at the next.
+#[test]
+fn small_map(rt: HostRuntime) {
+    let mut graph = empty_graph(&rt, rt.alloc());
+    add_var(&rt, &mut graph);
+    append(&rt, &mut graph, 0, Op::Const(0, 5));
+    append(&rt, &mut graph, 0, Op::Return(Some(0)));
+    expect_places(&rt, rt.alloc(), &graph);
+}
