@@ -84,7 +84,7 @@ machine_streams steps (machine.Stopped cause address) input input' out out' h = 
 machine_streams steps machine.BudgetSpent input input' out out' h = h
 machine_streams steps machine.ReadFault input input' out out' h = h
 machine_streams steps machine.WriteFault input input' out out' h = h
-machine_streams steps machine.NoMemory input input' out out' h = (h.0, h.1.0)
+machine_streams steps machine.NoMemory input input' out out' h = (h.0, h.1)
 
 -- a loaded machine that is lent an input is in the first state
 pub lent_first : (image : List ℕ) (segments : Segments) (machine : State) (left : List ℕ) → Loads image segments
