@@ -6,7 +6,7 @@ use crate::cursor::fault_at;
 use pcc_base::{FaultKind, Refusal, Span};
 
 /// How high a tree may be: so many nodes may stand one below the other, from 1 to 256.
-#[derive(Clone, Copy, Debug, PartialEq, Eq)]
+#[derive(Clone, Copy)]
 pub struct Height {
     pub levels: u32,
     ghost low: { 0 < levels },

@@ -21,7 +21,7 @@ pub enum ArrayName {
 }
 
 /// A value: a number, or a pointer's array and index. The null pointer has no array and the index 0 (C99 6.3.2.3).
-#[derive(Clone, Copy, Debug, PartialEq, Eq)]
+#[derive(Clone, Copy, Debug)]
 pub enum Value {
     Number(i32),
     Pointer { array: ArrayName, index: i32 },

@@ -25,7 +25,7 @@ pub enum Meaning {
 }
 
 /// The storage word of a declaration, of which there is one at most (C99 6.7.1p2).
-#[derive(Clone, Copy, PartialEq, Eq)]
+#[derive(Clone, Copy)]
 pub enum Storage {
     Unsaid,
     Auto,

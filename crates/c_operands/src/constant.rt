@@ -11,7 +11,7 @@ use c_tree::{BinaryOp, IntegerType, UnaryOp};
 use pcc_base::Trap;
 
 /// What an expression is as an integer constant expression (C99 6.6).
-#[derive(Clone, Copy, Debug, PartialEq, Eq)]
+#[derive(Clone, Copy, PartialEq, Eq)]
 pub enum Constant {
     /// It has a part that no constant expression has.
     NotConstant,

@@ -20,7 +20,7 @@ use pcc_base::{Fault, Limit, NoMemory, Refusal};
 use std::alloc::Global;
 
 /// Why sources have no typed program within the limits.
-#[derive(Debug, Drop)]
+#[derive(Drop)]
 pub enum Refused {
     /// They have this fault.
     Fault(Fault),

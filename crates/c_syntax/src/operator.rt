@@ -1,5 +1,5 @@
 /// An operator between two operands (C99 6.5.5 to 6.5.14, 6.5.17).
-#[derive(Clone, Copy, Debug, PartialEq, Eq)]
+#[derive(Clone, Copy, Debug)]
 pub enum BinaryOp {
     Multiply,
     Divide,
@@ -24,7 +24,7 @@ pub enum BinaryOp {
 }
 
 /// An operator before its operand (C99 6.5.3).
-#[derive(Clone, Copy, Debug, PartialEq, Eq)]
+#[derive(Clone, Copy, Debug)]
 pub enum UnaryOp {
     AddressOf,
     Dereference,
@@ -35,14 +35,14 @@ pub enum UnaryOp {
 }
 
 /// `++` and `--` (C99 6.5.2.4, 6.5.3.1).
-#[derive(Clone, Copy, Debug, PartialEq, Eq)]
+#[derive(Clone, Copy, Debug)]
 pub enum StepOp {
     Increment,
     Decrement,
 }
 
 /// An assignment operator (C99 6.5.16).
-#[derive(Clone, Copy, Debug, PartialEq, Eq)]
+#[derive(Clone, Copy, Debug)]
 pub enum AssignOp {
     Assign,
     Multiply,
@@ -58,7 +58,7 @@ pub enum AssignOp {
 }
 
 /// A word of the declaration specifiers (C99 6.7).
-#[derive(Clone, Copy, Debug, PartialEq, Eq)]
+#[derive(Clone, Copy)]
 pub enum SpecifierWord {
     Auto,
     Register,

@@ -1,7 +1,7 @@
 use pcc_base::{Keyword, Name, Span};
 
 /// A punctuator (C99 6.4.6) but `#` and `##`. A digraph is the mark that it spells.
-#[derive(Clone, Copy, Debug, PartialEq, Eq)]
+#[derive(Clone, Copy, Debug)]
 pub enum Punct {
     LeftBracket,
     RightBracket,

@@ -10,7 +10,7 @@ use pcc_base::NoMemory;
 use std::alloc::Global;
 
 /// The operators on one operand (C99 6.5.3.3).
-#[derive(Clone, Copy, Debug, PartialEq, Eq)]
+#[derive(Clone, Copy)]
 pub enum UnaryOp {
     Plus,
     Minus,
@@ -21,7 +21,7 @@ pub enum UnaryOp {
 }
 
 /// The operators on two operands that evaluate both (C99 6.5.5 to 6.5.12).
-#[derive(Clone, Copy, Debug, PartialEq, Eq)]
+#[derive(Clone, Copy)]
 pub enum BinaryOp {
     Multiply,
     Divide,
@@ -42,7 +42,7 @@ pub enum BinaryOp {
 }
 
 /// `++` and `--`, before and after their operand (C99 6.5.2.4 and 6.5.3.1).
-#[derive(Clone, Copy, Debug, PartialEq, Eq)]
+#[derive(Clone, Copy)]
 pub enum StepOp {
     PreIncrement,
     PreDecrement,
@@ -51,7 +51,7 @@ pub enum StepOp {
 }
 
 /// An array by its number: a static object of the program, or an array of the function.
-#[derive(Clone, Copy, Debug, PartialEq, Eq)]
+#[derive(Clone, Copy, PartialEq, Eq)]
 pub enum ArrayRef {
     Static(u32),
     Frame(u32),

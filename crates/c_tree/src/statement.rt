@@ -38,7 +38,7 @@ pub enum First {
 
 /// A label of a switch: the value of a `case`, or None for `default`, and the number of statements of the
 /// switch that stand before it (C99 6.8.1).
-#[derive(Clone, Copy, Debug, PartialEq, Eq)]
+#[derive(Clone, Copy)]
 pub struct Label {
     pub value: Option<i32>,
     pub before: u32,

@@ -1,5 +1,5 @@
 /// The integer types of the language (C99 6.2.5); `char` is signed.
-#[derive(Clone, Copy, Debug, PartialEq, Eq)]
+#[derive(Clone, Copy, PartialEq, Eq)]
 pub enum IntegerType {
     /// 8 bits.
     Char,
@@ -10,7 +10,7 @@ pub enum IntegerType {
 }
 
 /// The type of an expression, of a local that is no array, or of a function's result (C99 6.2.5).
-#[derive(Clone, Copy, Debug, PartialEq, Eq)]
+#[derive(Clone, Copy, PartialEq, Eq)]
 pub enum ValueType {
     Void,
     Integer(IntegerType),

@@ -13,7 +13,7 @@ use std::alloc::Global;
 pub const WORD_BYTES: u32 = 4;
 
 /// Where everything stands that code names, and the end of the stack.
-#[derive(Debug, Drop)]
+#[derive(Drop)]
 pub struct Addresses {
     /// Of each function, by its number.
     pub functions: Vec<u32>,

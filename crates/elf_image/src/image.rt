@@ -12,7 +12,7 @@ pub const STACK_BYTES: u32 = 67_112_960;
 pub(crate) const PAGE: usize = 4096;
 
 /// What an image is made of.
-#[derive(Debug, Drop)]
+#[derive(Drop)]
 pub struct Image {
     /// The address of the first instruction (`e_entry`).
     pub entry: u32,

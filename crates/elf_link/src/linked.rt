@@ -1,7 +1,7 @@
 use elf_image::Image;
 
 /// A program whose sections and static objects have addresses.
-#[derive(Debug, Drop)]
+#[derive(Drop)]
 pub struct Linked {
     pub image: Image,
     /// For each function the addresses of its points by their number.

@@ -104,8 +104,8 @@ fn expect_agreement(
     };
     expect(
         rt,
-        &(free, pieces, agrees),
-        &(free, pieces, true),
+        &(free, pieces.len(), agrees),
+        &(free, pieces.len(), true),
         "a board",
     );
 }

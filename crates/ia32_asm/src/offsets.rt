@@ -8,7 +8,7 @@ use pcc_base::NoMemory;
 use std::alloc::Global;
 
 /// Where the labels and the points of items stand: by number the offset, or 0 where there is none.
-#[derive(Debug, Drop)]
+#[derive(Drop)]
 pub(crate) struct Offsets {
     pub labels: Vec<u32>,
     pub points: Vec<u32>,

@@ -1,7 +1,7 @@
 use ia32_insn::Stub;
 
 /// The code of one function, before it has an address and while it does not know those of others.
-#[derive(Debug, Drop)]
+#[derive(Drop)]
 pub struct Section {
     /// The instructions. The four bytes that a relocation names are 0.
     pub bytes: Vec<u8>,

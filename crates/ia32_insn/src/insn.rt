@@ -3,7 +3,7 @@ use ia32_regs::{Reg8, Reg32};
 
 /// An operation of two operands that sets the flags (Intel manual, volume 2: ADD, OR, AND, SUB, XOR,
 /// CMP).
-#[derive(Clone, Copy, Debug, PartialEq, Eq)]
+#[derive(Clone, Copy, Debug)]
 pub enum AluOp {
     Add,
     Or,
@@ -14,7 +14,7 @@ pub enum AluOp {
 }
 
 /// A shift (Intel manual, volume 2: SAL/SAR/SHL/SHR).
-#[derive(Clone, Copy, Debug, PartialEq, Eq)]
+#[derive(Clone, Copy, Debug)]
 pub enum ShiftOp {
     Shl,
     Shr,

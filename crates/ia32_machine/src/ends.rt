@@ -5,7 +5,7 @@ use ia32_processor::Halt;
 use pcc_base::{Stop, Trap};
 
 /// How a run of the machine ends.
-#[derive(Clone, Copy, Debug, PartialEq, Eq)]
+#[derive(Clone, Copy, Debug)]
 pub enum MachineEnd {
     /// The program ended with this exit status.
     Ended(u8),
@@ -24,7 +24,7 @@ pub enum MachineEnd {
 }
 
 /// What a step leads to.
-#[derive(Clone, Copy, Debug, PartialEq, Eq)]
+#[derive(Clone, Copy, Debug)]
 pub enum StepEnd {
     Going,
     End(MachineEnd),

@@ -13,7 +13,7 @@ pub enum Reg32 {
 
 /// The registers of 8 bits, in the order of their numbers: the lowest bytes of the first four
 /// registers of 32 bits, and then their second bytes (Intel manual, volume 1, section 3.4.1).
-#[derive(Clone, Copy, Debug, PartialEq, Eq)]
+#[derive(Clone, Copy, Debug)]
 pub enum Reg8 {
     Al,
     Cl,

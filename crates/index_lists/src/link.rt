@@ -4,7 +4,7 @@ ghost use Rattle.index_lists.specs.Links.{with_node, ends_with_node, without_nod
 
 /// The list that a node is in, and the nodes right before and right after it there. Of a node that is in no list it
 /// says nothing.
-#[derive(Clone, Copy, Debug)]
+#[derive(Clone, Copy)]
 pub struct Link {
     pub list: u32,
     pub previous: Option<u32>,
@@ -12,7 +12,7 @@ pub struct Link {
 }
 
 /// The first and the last node of a list, and how many nodes it has.
-#[derive(Clone, Copy, Debug)]
+#[derive(Clone, Copy)]
 pub struct Ends {
     pub first: Option<u32>,
     pub last: Option<u32>,

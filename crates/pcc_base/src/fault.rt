@@ -109,7 +109,7 @@ impl FaultKind {
 }
 
 /// A fault of a source, and where it stands.
-#[derive(Clone, Copy, Debug, PartialEq, Eq)]
+#[derive(Clone, Copy, Debug)]
 pub struct Fault {
     pub kind: FaultKind,
     pub at: Span,

@@ -5,7 +5,7 @@ use crate::fault::Fault;
 use crate::memory::NoMemory;
 
 /// A quantity that is above its limit.
-#[derive(Clone, Copy, Debug, PartialEq, Eq)]
+#[derive(Clone, Copy, Debug)]
 pub enum Limit {
     /// The number of tokens of all files.
     Tokens(u64),
@@ -20,7 +20,7 @@ pub enum Limit {
 }
 
 /// Why a pass of the compiler gives no result.
-#[derive(Clone, Copy, Debug, PartialEq, Eq)]
+#[derive(Clone, Copy, Debug)]
 pub enum Refusal {
     Fault(Fault),
     Limit(Limit),

@@ -9,7 +9,7 @@ pub enum Trap {
 }
 
 /// Why the machine has no step.
-#[derive(Clone, Copy, Debug, PartialEq, Eq)]
+#[derive(Clone, Copy, Debug)]
 pub enum Stop {
     /// The bytes at EIP begin no instruction of the machine.
     Instruction,
@@ -22,7 +22,7 @@ pub enum Stop {
 }
 
 /// How much a variable or a piece of a board takes: one column or byte, or two columns or 32 bits.
-#[derive(Clone, Copy, Debug, PartialEq, Eq)]
+#[derive(Clone, Copy)]
 pub enum Width {
     One,
     Two,

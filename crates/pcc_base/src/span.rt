@@ -1,5 +1,5 @@
 /// A place in a source.
-#[derive(Clone, Copy, Debug, PartialEq, Eq)]
+#[derive(Clone, Copy, Debug)]
 pub struct Span {
     /// The position of the file among the files given, from 0.
     pub file: u32,

@@ -26,14 +26,14 @@ use flow_graph::Words;
 use pcc_base::{Name, NoMemory, Width};
 
 /// A variable of a function, and how many bytes below EBP its slot is.
-#[derive(Clone, Copy, Debug, PartialEq, Eq)]
+#[derive(Clone, Copy)]
 pub struct Standing {
     pub variable: u32,
     pub below: u32,
 }
 
 /// What a variable of a function is: a scalar local, the array or the index of a pointer local, or a temporary.
-#[derive(Debug, Drop)]
+#[derive(Drop)]
 pub enum Named {
     Scalar(Name),
     Array(Name),

@@ -30,7 +30,7 @@ use std::alloc::Global;
 pub const FILE_LIMIT: usize = 1_342_177_280;
 
 /// The first source that isn't read.
-#[derive(Clone, Copy, Debug, PartialEq, Eq)]
+#[derive(Clone, Copy)]
 pub struct Unread {
     /// Its position among the sources, from 0 on.
     pub position: u32,

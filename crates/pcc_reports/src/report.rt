@@ -4,7 +4,7 @@ ghost use Rattle.pcc_reports.specs.Reports.{is_silent, is_usage, status_of};
 use pcc_base::{Fault, Stop, Trap};
 
 /// A file that a command names.
-#[derive(Clone, Copy, Debug, PartialEq, Eq)]
+#[derive(Clone, Copy)]
 pub enum Named {
     /// The source at this position that `compile` or `eval` reads.
     Source(u32),
@@ -17,7 +17,7 @@ pub enum Named {
 }
 
 /// How a command went. Each report has a status and a line for standard error.
-#[derive(Debug, Drop)]
+#[derive(Drop)]
 pub enum Report {
     /// Both files are written.
     Compiled,

@@ -4,7 +4,7 @@ ghost use Rattle.puzzle_board.specs.Areas.{cleared, cleared_column, kind_of, pla
 use crate::piece::{Columns, Kind};
 
 /// Which rows of a column are free. The upper row is before the instruction, the lower row after it.
-#[derive(Clone, Copy, Debug, PartialEq, Eq)]
+#[derive(Clone, Copy)]
 pub enum Column {
     Both,
     Upper,
@@ -32,14 +32,14 @@ impl Column {
 }
 
 /// An area of a board: a register of two columns, each of two rows, and which of these cells are free.
-#[derive(Clone, Copy, Debug, PartialEq, Eq)]
+#[derive(Clone, Copy)]
 pub struct Area {
     pub low: Column,
     pub high: Column,
 }
 
 /// Areas by their two columns, whose order doesn't matter.
-#[derive(Clone, Copy, Debug, PartialEq, Eq)]
+#[derive(Clone, Copy)]
 pub enum AreaKind {
     /// Both and both.
     E,

@@ -2,7 +2,7 @@ use pcc_base::Width;
 
 /// When a piece's variable is live at a point: an X is read there for the last time and takes the upper row, a Z is
 /// defined there and takes the lower row, and a Y lives through and takes the same columns of both rows.
-#[derive(Clone, Copy, Debug, PartialEq, Eq)]
+#[derive(Clone, Copy)]
 pub enum Kind {
     X,
     Y,
@@ -10,7 +10,7 @@ pub enum Kind {
 }
 
 /// A piece of a board: a variable's part in one instruction. One of width Two takes both columns of one area.
-#[derive(Clone, Copy, Debug, PartialEq, Eq)]
+#[derive(Clone, Copy)]
 pub struct Piece {
     pub kind: Kind,
     pub width: Width,
@@ -33,7 +33,7 @@ pub struct Spot {
 }
 
 /// What has become of a piece of a board.
-#[derive(Clone, Copy, Debug, PartialEq, Eq)]
+#[derive(Clone, Copy)]
 pub enum State {
     Unplaced,
     At(Spot),

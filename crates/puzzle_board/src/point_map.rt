@@ -10,7 +10,7 @@ use std::alloc::Global;
 use std::marker::Model;
 
 /// The variables that are spilled at one point. A contract sees a list of numbers.
-#[derive(Debug, Drop)]
+#[derive(Drop)]
 struct Spilled {
     list: Vec<u32>,
 }
@@ -54,7 +54,7 @@ impl Spilled {
 /// Where the variables of a function are before and after each of its points, which are spilled there, the slots,
 /// and the
 /// bytes of the frame. A contract sees a `PlaceMap`.
-#[derive(Debug, Drop)]
+#[derive(Drop)]
 pub struct PointMap {
     before: Vec<Side>,
     after: Vec<Side>,

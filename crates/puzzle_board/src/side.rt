@@ -8,7 +8,7 @@ use std::marker::Model;
 
 /// The places of variables on one side of a point. A contract sees a list of variables with their places, in ascending
 /// order of the variables.
-#[derive(Debug, Drop)]
+#[derive(Drop)]
 pub(crate) struct Side {
     entries: Vec<(u32, Place)>,
 }

@@ -1,7 +1,7 @@
 //! What a board has, in numbers.
 
 /// How many areas of each kind a board has.
-#[derive(Clone, Copy, Debug)]
+#[derive(Clone, Copy)]
 pub struct AreaCounts {
     pub e: u32,
     pub u1: u32,
@@ -15,7 +15,7 @@ pub struct AreaCounts {
 }
 
 /// How many unplaced pieces of each kind and width a board has.
-#[derive(Clone, Copy, Debug)]
+#[derive(Clone, Copy)]
 pub struct PieceCounts {
     pub x1: u32,
     pub x2: u32,

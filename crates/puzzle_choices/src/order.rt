@@ -6,7 +6,7 @@ use std::alloc::Global;
 use std::cmp::Reverse;
 
 /// A variable of a board, and its distance: how many steps it is at least to the next use, None where none comes.
-#[derive(Clone, Copy, Debug, PartialEq, Eq)]
+#[derive(Clone, Copy)]
 pub struct Candidate {
     pub variable: u32,
     pub distance: Option<u32>,

@@ -15,7 +15,7 @@ use puzzle_board::{AreaKind, Board, Columns, Kind, Spot};
 use std::sync::ledger::Ledger;
 
 /// How many pieces of width Two go where.
-#[derive(Clone, Copy, Debug)]
+#[derive(Clone, Copy)]
 pub struct Plan {
     /// X in areas U0 and Z in areas L0, which nothing else of width Two can use.
     pub own_x: u32,

@@ -13,7 +13,7 @@ use puzzle_choices::place_first;
 use std::sync::ledger::Ledger;
 
 /// How many pieces of width One are neither placed nor removed.
-#[derive(Clone, Copy, Debug)]
+#[derive(Clone, Copy)]
 pub(crate) struct Waiting {
     pub(crate) x: u32,
     pub(crate) y: u32,

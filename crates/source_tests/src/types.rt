@@ -23,10 +23,10 @@ fn type_of_a_comma(rt: HostRuntime) {
         boxed(&rt, alloc, index),
     );
     let left = Expression::Read(char_type, Place::Local(0));
-    expect(&rt, &left.value_type(), &char_type, "c");
+    expect(&rt, &(left.value_type() == char_type), &true, "c");
     let right = Expression::Address(IntegerType::Short, place);
     let (left, right) = (boxed(&rt, alloc, left), boxed(&rt, alloc, right));
     let both = Expression::comma(alloc, left, right).expect(&rt, "a comma");
     let wanted = ValueType::Pointer(IntegerType::Short);
-    expect(&rt, &both.value_type(), &wanted, "(c, &a[2])");
+    expect(&rt, &(both.value_type() == wanted), &true, "(c, &a[2])");
 }
