@@ -1,5 +1,5 @@
 -- What the turns of a loop over a list read in all.
-use Rattle.std.proofs.Common.{◌≡◌, ◌<◌, ◌≤◌, List, [], ◌∷◌, ◌++◌, map, length, true, false, is_some}
+use Rattle.std.proofs.Common.{◌≡◌, ◌<◌, ◌≤◌, ◌-◌, ℕ, List, [], ◌∷◌, ◌++◌, map, length, true, false, is_some}
 use Rattle.std.proofs.Common.{Some, None, refl, ap, ◌∙◌, subst, arith}
 use Rattle.pcc_base.specs.declared.span.Span.{Span}
 use Rattle.pcc_base.specs.declared.refusal.Refusal.{Refusal}
@@ -7,15 +7,19 @@ use Rattle.pcc_base.specs.declared.refusal.Refusal.TheVariants.{Fault, Limit, No
 use Rattle.c_tokens.specs.declared.token.Token.{Token}
 use Rattle.c_tokens.specs.declared.token.Punct.{Punct}
 use Rattle.c_tokens.specs.declared.token.Punct.TheVariants as marks
+use Rattle.c_syntax.specs.Expressions.{Expr}
 use Rattle.c_syntax.specs.Declarations.{ParameterTree}
 use Rattle.c_syntax.specs.Chains.{Step, Done, Fails, Goes, Reads}
 use Rattle.c_syntax.proofs.Chains.{Continues, continues_start}
 use Rattle.c_syntax.proofs.Chains.{continues_goes, continues_done, continues_fails}
 use Rattle.c_syntax.specs.Taking.{take_mark}
-use Rattle.c_syntax.specs.Reading.{Reader, Readers}
+use Rattle.c_syntax.specs.Reading.{Reader, Readers, readers}
 use Rattle.c_syntax.specs.DeclarationReading.{Listed, list_step, read_more, maybe_from, maybe_before, read_parameter}
 use Rattle.c_syntax.specs.DeclarationReading.{read_parameters, parameters_from}
 use Rattle.c_cursor.specs.Readings.{Refused}
+use Rattle.c_cursor.proofs.Refused.{refused_then}
+use Rattle.c_parse_expressions.specs.declared.expression.Rule.{Rule}
+use Rattle.c_parse_expressions.specs.Readings.{below, reader_of}
 
 pub map_push : {T A : Type 0} (f : T → A) (xs : List T) (x : T) → map f (xs ++ x ∷ []) ≡ map f xs ++ f x ∷ []
 map_push f [] x = refl
@@ -79,3 +83,42 @@ maybe_without read None ts e r = rw r refl
 pub maybe_none : (read : Reader) (close : Punct) (ts : List Token) → is_some (take_mark close ts) ≡ false
     → read ts ≡ None → maybe_before read close ts ≡ None
 maybe_none read close ts e r = maybe_without read (take_mark close ts) ts e r
+
+closed : (read : Reader) (close : Reads Span) (ts : List Token) → is_some close ≡ true
+    → maybe_from read close ts ≡ Some (None, ts)
+closed read None ts e = absurd (let no : false ≡ true = e in cc)
+closed read (Some close) ts e = refl
+
+-- nothing where the mark comes at once
+pub maybe_closed : (read : Reader) (close : Punct) (ts : List Token) → is_some (take_mark close ts) ≡ true
+    → (maybe_before read close ts ≡ Some (None, ts)) × (length ts ≤ length ts)
+maybe_closed read close ts e = (closed read (take_mark close ts) ts e, omega arith)
+
+not_closed : (read : Reader) (close : Reads Span) (ts us : List Token) (x : Expr) → is_some close ≡ false
+    → read ts ≡ Some (x, us) → maybe_from read close ts ≡ Some (Some x, us)
+not_closed read None ts us x e r = rw r refl
+not_closed read (Some close) ts us x e r = absurd (let no : true ≡ false = e in cc)
+
+-- the tree that is read where the mark does not come at once
+pub maybe_reads : (rule : Rule) (close : Punct) (height lower : ℕ) (ts us : List Token) (x : Expr)
+    → lower ≡ height - 1 → is_some (take_mark close ts) ≡ false → reader_of rule (readers lower) ts ≡ Some (x, us)
+    → length us < length ts
+    → (maybe_before (reader_of rule (below height)) close ts ≡ Some (Some x, us)) × (length us ≤ length ts)
+maybe_reads rule close height lower ts us x l e r less = (
+  not_closed (reader_of rule (below height)) (take_mark close ts) ts us x e
+      (subst (λ k. reader_of rule (readers k) ts ≡ Some (x, us)) l r),
+  omega arith,
+)
+
+not_read : (read : Reader) (close : Reads Span) (ts : List Token) (e : Refusal) → is_some close ≡ false
+    → Refused (read ts) e → Refused (maybe_from read close ts) e
+not_read read None ts e n r = refused_then (read ts) (λ x us. Some (Some x, us)) e r
+not_read read (Some close) ts e n r = absurd (let no : true ≡ false = n in cc)
+
+-- a refusal where the mark does not come at once
+pub maybe_refused : (rule : Rule) (close : Punct) (height lower : ℕ) (ts : List Token) (e : Refusal)
+    → lower ≡ height - 1 → is_some (take_mark close ts) ≡ false → Refused (reader_of rule (readers lower) ts) e
+    → Refused (maybe_before (reader_of rule (below height)) close ts) e
+maybe_refused rule close height lower ts e l n r =
+    not_read (reader_of rule (below height)) (take_mark close ts) ts e n
+    (subst (λ k. Refused (reader_of rule (readers k) ts) e) l r)
