@@ -1,5 +1,5 @@
 -- What is read where no height is left, and one reader in place of another.
-use Rattle.std.proofs.Common.{◌≡◌, ℕ, ◌-◌, List, true, false, Option, Some, None, Ok, Err, Result}
+use Rattle.std.proofs.Common.{◌≡◌, ℕ, ◌-◌, ◌≤◌, List, [], ◌∷◌, true, false, Option, Some, None, Ok, Err, Result}
 use Rattle.std.proofs.Common.{is_some, refl, sym, ◌∙◌, ◌<◌, length, subst, arith}
 use Rattle.pcc_base.specs.declared.span.Span.{Span}
 use Rattle.pcc_base.specs.declared.refusal.Refusal.{Refusal}
@@ -7,11 +7,12 @@ use Rattle.c_tokens.specs.declared.token.Token.{Token}
 use Rattle.c_tokens.specs.declared.token.Punct.TheVariants as marks
 use Rattle.c_syntax.specs.declared.expression.Specifier.{Specifier}
 use Rattle.c_syntax.specs.Expressions.{Star, Expr}
-use Rattle.c_syntax.specs.Chains.{Reads}
+use Rattle.c_syntax.specs.Chains.{Reads, chained}
 use Rattle.c_syntax.specs.Taking.{take_mark, take_pointer, take_specifiers}
 use Rattle.c_syntax.specs.Reading.{Readers, readers, read_cast, cast_behind}
 use Rattle.c_syntax.proofs.Reading.{readers-none, cast_reads}
-use Rattle.c_syntax.specs.Reading.{read_arguments, arguments_from}
+use Rattle.c_syntax.specs.Reading.{Values, read_arguments, arguments_from, value_step}
+use Rattle.c_syntax.proofs.Chains.{Continues, continues_start}
 use Rattle.c_cursor.specs.Readings.{Refused}
 use Rattle.c_casts.specs.Fronts.{BeginsWithSpecifier}
 use Rattle.c_expression_nodes.specs.declared.found.Found.{Found}
@@ -47,6 +48,30 @@ pub no_arguments : (height : ℕ) (ts : List Token) → height ≡ 1 → is_some
     → read_arguments (below height) ts ≡ None
 no_arguments height ts e f = arguments_without (below height) (take_mark marks.RightParen ts) ts f
     (none_below rules_of.Assignment height ts e)
+
+begun_with : (b : Readers) (close : Reads Span) (ts us : List Token) (x : Expr) → is_some close ≡ false
+    → b.assignment ts ≡ Some (x, us) → Continues (value_step b) (x ∷ [], []) us (arguments_from b close ts)
+begun_with b (Some close) ts us x e r = absurd (let no : true ≡ false = e in cc)
+begun_with b None ts us x e r =
+    (let k : chained (value_step b) (x ∷ [], []) us ≡ arguments_from b None ts = rw r refl in
+    subst (λ out. Continues (value_step b) (x ∷ [], []) us out) k (continues_start (value_step b) (x ∷ [], []) us))
+
+-- the first argument, where no `)` comes at once
+pub arguments_begun : (height lower : ℕ) (ts us : List Token) (x : Expr) (vs : Values) → lower ≡ height - 1
+    → is_some (take_mark marks.RightParen ts) ≡ false → (readers lower).assignment ts ≡ Some (x, us)
+    → vs ≡ (x ∷ [], []) → Continues (value_step (below height)) vs us (read_arguments (below height) ts)
+arguments_begun height lower ts us x vs l e r v =
+    let begun = begun_with (below height) (take_mark marks.RightParen ts) ts us x e
+    (subst (λ k. (readers k).assignment ts ≡ Some (x, us)) l r) in
+    subst (λ ws. Continues (value_step (below height)) ws us (read_arguments (below height) ts)) (sym v) begun
+
+-- what is as high as a tree below a node
+pub below_node : (height lower found values : ℕ) → 1 < height → lower ≡ height - 1 → found ≤ lower → values ≡ found
+    → values < height
+below_node height lower found values a b c d = omega arith
+
+pub at_most : (m n : ℕ) → m < n → m ≤ n
+at_most m n less = omega arith
 
 behind_close : (below : Readers) (o : Span) (ss : List Specifier) (pointer : Option Star × List Token)
     (close : Reads Span) → take_mark marks.RightParen pointer.1 ≡ close → ((us : List Token) → below.cast us ≡ None)

@@ -1,7 +1,7 @@
 -- The loops add one turn to what is read in all; a rule below a node is read by the readers for one less.
 use Rattle.std.proofs.Common.{◌<◌, ◌≤◌, ◌-◌, ℕ, ap, sym, ◌∙◌, arith, length}
 use Rattle.std.proofs.lemmas.Result.{err_from_is_err_and}
-use Rattle.c_syntax.specs.Expressions.{exprs_of}
+use Rattle.c_syntax.specs.Expressions.{expr_of, exprs_of}
 use Rattle.c_syntax.specs.ExpressionTokens.{expr_height, exprs_height}
 use Rattle.c_syntax.specs.Reading as reading
 use Rattle.c_syntax.specs.Reading.{readers, read_expression, read_assignment, read_conditional, read_binary}
@@ -11,9 +11,10 @@ use Rattle.c_syntax.proofs.Chains.{continues_goes}
 use Rattle.c_syntax.proofs.Reading.{expression_above, assignment_above, conditional_above}
 use Rattle.c_syntax.proofs.Reading.{binary_above, cast_above, unary_above}
 use Rattle.c_cursor.proofs.Refused.{refused_turn, last_turn, refused_fault}
+use Rattle.c_expression_nodes.specs.Values.{values_of}
 use Rattle.c_parse_expressions.specs.Readings.{reader_of, below}
 use Rattle.c_parse_expressions.proofs.Turns.{same_reading, none_below, no_arguments, no_cast_behind, cast_is}
-use Rattle.c_parse_expressions.proofs.Turns.{reading_behind}
+use Rattle.c_parse_expressions.proofs.Turns.{reading_behind, arguments_begun, below_node, at_most}
 use Rattle.c_parse_expressions.proofs.Levels.{levels_passed, level_reads, levels_refused, refused_so}
 use Rattle.c_parse_expressions.proofs.+expression.Goals as goal
 use Rattle.c_parse_expressions.proofs.+expression.Goals.{expression::binary-then-next-reached}
@@ -242,6 +243,20 @@ pub primary::arguments-returns-in_default : goal.primary::arguments-returns-in_d
 primary::arguments-returns-in_default t c =
     refused_fault _ _ _ (no_arguments c.args.height.levels c.args.cursor.now.rest.now c.in_default.ensures.none
     (sym c.at_mark.ensures ∙ c.if-at_mark.false)) c.no_height.ensures
+
+pub primary::arguments-values-init : goal.primary::arguments-values-init
+primary::arguments-values-init t c =
+    let us = c.tree_of.new.cursor.rest.now in
+    record {
+      reads = arguments_begun c.args.height.levels c.in-Some.lower.levels c.args.cursor.now.rest.now us
+          (expr_of c.in_ok-first.first.tree.value) (values_of c.in_ok-values.values) c.in-Some.ensures.some.1
+          (sym c.at_mark.ensures ∙ c.if-at_mark.false) c.in_ok-first.ensures.0 c.in_ok-values.ensures.values;
+      height = c.in_ok-values.ensures.height;
+      within = below_node c.args.height.levels c.in-Some.lower.levels c.in_ok-first.first.height
+          c.in_ok-values.values.height c.in-Some.ensures.some.0 c.in-Some.ensures.some.1
+          c.in_ok-first.ensures.2.2 c.in_ok-values.ensures.same;
+      shorter = at_most (length us) (length c.args.cursor.now.rest.now) c.in_ok-first.ensures.1;
+    }
 
 pub primary::arguments-values-preserved : goal.primary::arguments-values-preserved
 primary::arguments-values-preserved t c =
