@@ -1,7 +1,7 @@
 use Rattle.std.proofs.Common.{◌≡◌, ◌∷◌, ◌++◌, [], ℕ, length, map, take, drop, suc, ap, arith, sym, subst, ◌∙◌}
 use Rattle.std.proofs.lemmas.Iterator.Adapters.{YieldsList-from_vec}
-use Rattle.std.proofs.lemmas.Iterator.Consumers.{YieldsList-turn}
-use Rattle.std.proofs.lemmas.List.{length_push}
+use Rattle.std.proofs.lemmas.Iterator.Consumers.{YieldsList-end, YieldsList-turn}
+use Rattle.std.proofs.lemmas.List.{length_push, take_all}
 use Rattle.flow_graph.specs.Graphs.{Flow}
 use Rattle.lower_lines.specs.Lines.{graph_of_lines, open_after}
 use Rattle.lower_builder.specs.Built.{line_of}
@@ -60,3 +60,16 @@ loop-line-preserved c =
           ∙ last-behind c.args.widths.now c.args.arrays.now c.args.blocks before (line_of x)
           ∙ ap (open_after 0) more;
     }
+
+pub returns : goal.returns
+returns c =
+    let xs = c.args.lines.items in
+    let e = YieldsList-from_vec {s = c.into_iter-line-iterator.result} xs
+    c.into_iter-line-iterator.ensures.into_iter_gives.0
+    (c.into_iter-line-iterator.ensures.into_iter_gives.1 ∙ c.args.lines.ok.0) in
+    let t = YieldsList-end e c.loop-line.yielded c.loop-line.line-iterator c.loop-line.yielded_by c.next.result
+    c.next.new.self c.in-None.is c.next.ensures.steps in
+    let k = length c.loop-line.yielded in
+    let whole : take k xs ≡ xs = take_all k xs (omega (arith, t.1)) in
+    c.loop-line.invariant.graph
+    ∙ ap (λ ls. graph_of_lines c.args.widths.now c.args.arrays.now c.args.blocks (map line_of ls)) whole

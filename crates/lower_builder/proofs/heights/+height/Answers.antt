@@ -1,4 +1,5 @@
-use Rattle.std.proofs.Common.{rules}
+use Rattle.std.proofs.Common.{arith, rules}
+use Rattle.std.proofs.lemmas.Grind.{common_steps}
 use Rattle.c_tree.specs.declared.expression.Expression.TheViews.{the_lemmas}
 use Rattle.lower_builder.proofs.Rows.{row_is}
 use Rattle.lower_builder.proofs.heights.+height.Goals as goal
@@ -17,3 +18,9 @@ height-returns-in-Conditional t c =
     let chosen = c.higher-chosen.ensures _ _ c.height.ensures c.height-in-Conditional.ensures in
     let all = c.higher.ensures _ _ c.height-in-Conditional-2.ensures chosen in
     search (rules, the_lemmas, all)
+
+pub arguments_height-loop-e-preserved : goal.arguments_height-loop-e-preserved
+arguments_height-loop-e-preserved t c = grind (arith, common_steps)
+
+pub arguments_height-returns : goal.arguments_height-returns
+arguments_height-returns t c = grind (arith, common_steps)

@@ -1,4 +1,5 @@
-use Rattle.std.proofs.Common.{rules}
+use Rattle.std.proofs.Common.{arith, rules}
+use Rattle.std.proofs.lemmas.Grind.{common_steps}
 use Rattle.c_tree.specs.declared.statement.Statement.TheViews.{the_lemmas}
 use Rattle.c_tree.proofs.Rows.{statements_are}
 use Rattle.lower_builder.proofs.heights.+statement_height.Goals as goal
@@ -24,3 +25,9 @@ statement_height-returns-in-Switch t c =
     let value = c.on_one.ensures _ c.height-in-Switch.ensures in
     let all = c.higher-in-Switch.ensures _ _ value c.statements_height-in-Switch.ensures in
     search (rules, the_lemmas, statements_are, all)
+
+pub statements_height-loop-s-preserved : goal.statements_height-loop-s-preserved
+statements_height-loop-s-preserved t c = grind (arith, common_steps)
+
+pub statements_height-returns : goal.statements_height-returns
+statements_height-returns t c = grind (arith, common_steps)
