@@ -1,8 +1,9 @@
 //! Runs of the whole compiler: over files in memory, and over files of the system.
 
+use crate::expected::expect;
 use crate::runs::{
-    Answer, expect, expect_answer, expect_command, expect_commands, expect_runs, expect_told,
-    files_with, no_files, put, run_line,
+    Answer, expect_answer, expect_command, expect_commands, expect_runs, expect_told, files_with,
+    no_files, put, run_line,
 };
 use crate::tables::{cells, rows_of, unfolded};
 use elf_image::{Image, TEXT_ADDRESS, write_image};

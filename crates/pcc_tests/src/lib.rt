@@ -1,13 +1,17 @@
 //! Tests of the top call of `pcc_driver`, which is the program but for its words and streams: commands over files in
-//! memory and over files of the system.
+//! memory and over files of the system. `sources` are tests of the calls below it that take sources, up to graphs.
 //!
-//! They stand in a crate of their own since a crate with tests is proved a second time.
+//! They stand in one crate of their own, since a crate with tests is proved a second time, and since each crate of tests
+//! links all that its tests reach. Each table is one text (`tables`), since the proof of a test writes out what a table
+//! of tuples holds.
 #![tactic(auto)]
 
 #[cfg(test)]
 mod commands;
 #[cfg(test)]
 mod evaluations;
+#[cfg(test)]
+mod expected;
 #[cfg(test)]
 mod maps;
 #[cfg(test)]
@@ -16,5 +20,7 @@ mod programs;
 mod refusals;
 #[cfg(test)]
 mod runs;
+#[cfg(test)]
+mod sources;
 #[cfg(test)]
 mod tables;

@@ -1,6 +1,7 @@
 //! The whole text of a map, beside the image as GNU objdump disassembles it.
 
-use crate::runs::{expect, expect_commands, files_with};
+use crate::expected::expect;
+use crate::runs::{expect_commands, files_with};
 
 /// A local that is declared, assigned, written and returned.
 const PROGRAM: &str = "int main(void){int x=70; x=x+1; putchar(x); return x+229;}";

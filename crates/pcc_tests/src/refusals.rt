@@ -1,6 +1,7 @@
 //! Sources that are refused: `compile` and `eval` tell the same fault or limit, and nothing is written.
 
-use crate::runs::{expect, expect_commands, expect_told, files_with, run_line};
+use crate::expected::expect;
+use crate::runs::{expect_commands, expect_told, files_with, run_line};
 use crate::tables::{cells, rows_of, unfolded};
 use std::alloc::{AllocError, Global};
 use std::process::Abort;

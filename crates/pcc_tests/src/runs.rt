@@ -1,17 +1,12 @@
 //! What the tests run: commands over files in memory or of the system, and what each is to answer. Where there is no
 //! memory for it, the test ends there.
 
+use crate::expected::expect;
 use crate::tables::{cells, rows_of, unfolded};
 use pcc_driver::pcc;
 use pcc_outside::{FileStore, MemFiles, MemSink, MemSource};
 use std::alloc::{AllocError, Global};
-use std::fmt::Debug;
 use std::process::Abort;
-
-/// What was found is what was wanted, of a command, a source or a file.
-pub fn expect<T: PartialEq + Debug>(rt: &impl Abort, found: &T, wanted: &T, of: &str) {
-    assert_eq!(rt; *found, *wanted, "{of}");
-}
 
 /// The words of a command line.
 fn words_of(alloc: Global, line: &str) -> Result<Vec<String>, AllocError> {

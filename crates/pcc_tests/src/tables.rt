@@ -1,7 +1,7 @@
 //! Tables, each of which is a text: its first line says how many rows there are, and each other line is a row.
 //! ` => ` stands between the cells of a row, and `$` where a line of a text ends.
 
-use crate::runs::expect;
+use crate::expected::expect;
 use std::alloc::{AllocError, Global};
 use std::process::Abort;
 use std::str::Lines;

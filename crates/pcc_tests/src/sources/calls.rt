@@ -1,7 +1,7 @@
 //! What ops do with calls, with the outside and with turns.
 
-use crate::machine::{End, Machine, Value, fresh};
-use crate::numbers::low_byte;
+use crate::sources::machine::{End, Machine, Value, fresh};
+use crate::sources::numbers::low_byte;
 use pcc_base::{NoMemory, Trap};
 
 /// The most calls that are active at once.

@@ -1,9 +1,9 @@
 //! Each row of the tables, checked.
 
 use crate::expected::expect_refusal;
-use crate::rows::{Row, answer, read};
+use crate::sources::rows::{Row, answer, read};
+use crate::sources::{declarations, expressions, statements, typed};
 use crate::tables::{cells, rows_of};
-use crate::{declarations, expressions, statements, typed};
 use pcc_base::{Refusal, Span};
 use std::alloc::Global;
 use std::process::Abort;

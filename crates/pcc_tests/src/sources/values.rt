@@ -2,7 +2,7 @@
 //! typed program.
 
 use crate::expected::expect_shown;
-use crate::rows::{Row, read, typed};
+use crate::sources::rows::{Row, read, typed};
 use crate::tables::{cells, rows_of};
 use c_tree::{BinaryOp, Expression, Program, Statement};
 use std::alloc::Global;

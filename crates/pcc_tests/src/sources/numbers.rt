@@ -2,7 +2,7 @@
 
 ghost use Rattle.std.specs.Prelude.{◌<◌};
 
-use crate::machine::{End, Machine, Value};
+use crate::sources::machine::{End, Machine, Value};
 use flow_graph::{Comparison, Op};
 use pcc_base::{Trap, Width};
 

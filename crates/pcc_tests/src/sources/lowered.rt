@@ -4,8 +4,8 @@ ghost use Rattle.std.specs.Prelude.{IfOk, List, ℕ, ◌<◌, length};
 ghost use Rattle.c_tree.specs.Erased.{program_of};
 ghost use Rattle.c_program.specs.Answers.{HaveTypedProgram};
 
-use crate::code::Code;
-use crate::machine::{End, Machine};
+use crate::sources::code::Code;
+use crate::sources::machine::{End, Machine};
 use c_accepted::programs_are_ready;
 use c_evaluator::{EvalEnd, eval};
 use c_program::{Refused, typed_program};

@@ -1,8 +1,8 @@
 //! Tables of texts, their tokens and their faults. The expected values are those of C99 6.4, by hand.
 
 use crate::expected::{expect, expect_refusal};
+use crate::sources::texts::Text;
 use crate::tables::{cells, rows_of, unfolded};
-use crate::texts::Text;
 use c_lexer::lex;
 use c_tokens::{Token, TokenKind};
 use pcc_base::Refusal;

@@ -1,7 +1,7 @@
 //! What ops do with arrays and static objects.
 
-use crate::machine::{End, Machine, Value};
-use crate::numbers::{low_8, low_16};
+use crate::sources::machine::{End, Machine, Value};
+use crate::sources::numbers::{low_8, low_16};
 use flow_graph::Bits;
 use pcc_base::{DataObject, Trap};
 

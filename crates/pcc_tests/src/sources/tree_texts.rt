@@ -1,6 +1,6 @@
 //! Raw trees as texts, in which the tables of `trees` say what they expect.
 
-use crate::texts::Text;
+use crate::sources::texts::Text;
 use c_syntax::{
     Declaration, Expression, External, Initialiser, Item, Label, RawUnit, Statement, TextPiece,
 };

@@ -1,8 +1,8 @@
 use Rattle.std.proofs.Common.{subst, get_or, ◌∙◌}
 use Rattle.std.specs.Prelude.{List, ℕ}
 use Rattle.flow_graph.specs.Graphs.{IsIn}
-use Rattle.source_tests.proofs.Placed.{in-at}
-use Rattle.source_tests.proofs.code.ops_in.Goals as goal
+use Rattle.pcc_tests.proofs.Placed.{in-at}
+use Rattle.pcc_tests.proofs.sources.code.ops_in.Goals as goal
 
 pub push_op-requires : goal.push_op-requires
 push_op-requires c =

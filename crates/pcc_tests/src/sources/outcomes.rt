@@ -1,9 +1,9 @@
 //! Each row of the tables, checked.
 
-use crate::code::codes_of;
 use crate::expected::expect;
-use crate::lowered::{evaluated, graphs_of_program, program_of_text, ran};
-use crate::programs;
+use crate::sources::code::codes_of;
+use crate::sources::lowered::{evaluated, graphs_of_program, program_of_text, ran};
+use crate::sources::programs;
 use crate::tables::{cells, rows_of};
 use c_tree::Program;
 use lower::Graphs;

@@ -1,6 +1,6 @@
 //! The state of a run of graphs: the active calls, the arrays, the input and the output.
 
-use crate::code::Code;
+use crate::sources::code::Code;
 use flow_graph::Op;
 use pcc_base::{DataObject, NoMemory, Trap};
 use std::alloc::Global;

@@ -1,5 +1,5 @@
 use Rattle.c_tree.specs.Erased.{program_of}
-use Rattle.source_tests.proofs.lowered.graphs_of_program.Goals as goal
+use Rattle.pcc_tests.proofs.sources.lowered.graphs_of_program.Goals as goal
 
 pub lower-requires-clause-typed : goal.lower-requires-clause-typed
 lower-requires-clause-typed c =

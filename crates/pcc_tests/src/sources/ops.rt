@@ -1,6 +1,6 @@
 //! The steps of graphs.
 
-use crate::machine::{End, Machine, Value, ops_of};
+use crate::sources::machine::{End, Machine, Value, ops_of};
 use flow_graph::{Comparison, Op};
 use pcc_base::Trap;
 

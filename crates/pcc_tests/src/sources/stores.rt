@@ -1,7 +1,7 @@
 //! What a store answers after a row of calls, by hand from C99 6.2.4, 6.3.1.3, 6.5.2.2 and 6.7.8.
 
 use crate::expected::{expect, expect_shown};
-use crate::rows::{Row, read, typed};
+use crate::sources::rows::{Row, read, typed};
 use c_eval::{ArrayName, Place, Store, Value};
 use c_tree::{ArrayRef, Function, IntegerType, ValueType};
 use std::alloc::Global;

@@ -2,10 +2,10 @@
 //! those of the grammar, by hand.
 
 use crate::expected::{expect, expect_refusal};
-use crate::rows::parsed;
+use crate::sources::rows::parsed;
+use crate::sources::texts::Text;
+use crate::sources::tree_texts::push_unit;
 use crate::tables::{cells, rows_of};
-use crate::texts::Text;
-use crate::tree_texts::push_unit;
 use pcc_base::Refusal;
 use std::alloc::Global;
 use std::process::Abort;
