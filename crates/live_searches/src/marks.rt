@@ -27,10 +27,7 @@ impl Marks {
     pub fn new(alloc: Global, points: u32) -> Result<Marks, NoMemory>
         ensures { IfOk result (λ marks. marks ≡ replicate points None) }
     {
-        let mut marks = Vec::new(alloc);
-        for _point in 0..points {
-            marks.push(None)?;
-        }
+        let marks = vec![in alloc; None; points as usize]?;
         Ok(Marks { marks })
     }
 
