@@ -2,7 +2,7 @@
 use Rattle.std.proofs.Common.{◌≡◌, ℕ, Vec, Global, sym, ◌∙◌, inl, inr, refl, arith}
 use Rattle.std.specs.Prelude.{◌⊎◌}
 use Rattle.pcc_base.specs.Counts.{Rose}
-use Rattle.c_program.specs.Answers.{ManyTokens, LargeArrays, LargeFrame}
+use Rattle.pcc_reports.specs.Programs.{ManyTokens, LargeArrays, LargeFrame}
 use Rattle.pcc_reports.specs.Causes.{HasCause}
 use Rattle.pcc_reports.specs.Ends.{Ends}
 use Rattle.pcc_reports.specs.Outside.{Outside, Work}

@@ -14,11 +14,10 @@ use Rattle.ia32_machine.specs.declared.ends.MachineEnd.TheVariants as machine
 use Rattle.pcc_listing.specs.Lines.{map_text}
 use Rattle.pcc_listing.specs.Maps as maps
 use Rattle.c_tree.specs.Program.{Program}
-use Rattle.c_program.specs.Answers.{HaveTypedProgram}
 use Rattle.pcc_headline.specs.Products.{IsImageOf}
 use Rattle.puzzle_texts.specs.Reading.{IsNoBoard}
 use Rattle.pcc_words.specs.Asked.{Command, Compile, Run, Eval, Solve, ManyFiles, Usage, map_name}
-use Rattle.pcc_reports.specs.Programs.{HaveNoProgram}
+use Rattle.pcc_reports.specs.Programs.{HaveTypedProgram, HaveNoProgram}
 use Rattle.pcc_reports.specs.Sources.{AreRead, Holds, IsTooLong}
 use Rattle.pcc_reports.specs.Ends.{IsUnlessMemory}
 use Rattle.pcc_reports.specs.Outside.{Files, Output, SameFiles, SameStreams, Work}

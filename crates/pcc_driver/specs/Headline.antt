@@ -1,7 +1,7 @@
 -- What a compilation leaves: an image that does what the sources' program does.
 use Rattle.std.specs.Prelude.{◌≡◌, ◌≢◌, ℕ, List, Some}
 use Rattle.c_tree.specs.Program.{Program}
-use Rattle.c_program.specs.Answers.{HaveTypedProgram}
+use Rattle.pcc_reports.specs.Programs.{HaveTypedProgram}
 use Rattle.lower_programs.specs.SettledLaws.{NothingLiveFirst}
 use Rattle.pcc_headline.specs.Products.{IsImageOf}
 use Rattle.pcc_listing.specs.Lines.{map_text}

@@ -1,7 +1,7 @@
 -- What is made of accepted sources.
 use Rattle.std.specs.Prelude.{ℕ, List}
 use Rattle.c_tree.specs.Program.{Program}
-use Rattle.c_program.specs.Answers.{HaveTypedProgram}
+use Rattle.pcc_reports.specs.Programs.{HaveTypedProgram}
 use Rattle.lower_programs.specs.Declared.{IsDeclaredFirst}
 use Rattle.pcc_headline.specs.Products as compiled
 

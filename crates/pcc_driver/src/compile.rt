@@ -1,10 +1,9 @@
 ghost use Rattle.std.specs.Prelude.{◌≡◌, ◌≢◌, ◌≤◌, ℕ, List, length, map};
 ghost use Rattle.c_tree.specs.Erased.{program_of};
-ghost use Rattle.c_program.specs.Answers.{HaveTypedProgram};
 ghost use Rattle.pcc_outside.specs.Streams.{SinkCounts};
 ghost use Rattle.pcc_reports.specs.Causes.{FilesCause, StreamsCause};
 ghost use Rattle.pcc_reports.specs.Outside.{Files, SameFiles};
-ghost use Rattle.pcc_reports.specs.Programs.{IsTyped};
+ghost use Rattle.pcc_reports.specs.Programs.{HaveTypedProgram, IsTyped};
 ghost use Rattle.pcc_reports.specs.Sources.{AreRead};
 ghost use Rattle.pcc_driver.specs.Answers.{CompileTold, WritesTold, report_of_write};
 

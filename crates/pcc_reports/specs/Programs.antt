@@ -3,7 +3,8 @@ use Rattle.std.specs.Prelude.{◌≡◌, ℕ, List, ⊤}
 use Rattle.pcc_outside.specs.declared.file_store.ReadRefusal.{ReadRefusal}
 use Rattle.pcc_outside.specs.declared.file_store.ReadRefusal.TheVariants as read
 use Rattle.c_tree.specs.Program.{Program}
-use Rattle.c_program.specs.Answers.{HaveTypedProgram, HaveFault, Excess, Exceed, ManyTokens, LargeArrays, LargeFrame}
+pub use Rattle.c_program.specs.Answers.{HaveTypedProgram, HaveFault, Excess, Exceed}
+pub use Rattle.c_program.specs.Answers.{ManyTokens, LargeArrays, LargeFrame}
 use Rattle.c_program.specs.declared.refused.Refused.{Refused}
 use Rattle.c_program.specs.declared.refused.Refused.TheVariants as refused
 use Rattle.pcc_reports.specs.Outside.{Files}
