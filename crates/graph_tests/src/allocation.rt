@@ -12,7 +12,7 @@ use allocator_boards::split;
 use flow_graph::{Graph, Op};
 use liveness::{live, next_use};
 use pcc_base::Steps;
-use puzzle_board::Board;
+use puzzle_board::{Board, PointMap};
 use std::alloc::Global;
 use std::marker::Brand;
 use std::process::Abort;
@@ -30,7 +30,22 @@ fn expect_board<L: Ledger>(rt: &impl Abort, board: &Board, blank: Blank)
 }
 
 /// Variable 0 stands in a register from point 0 to point 1, nothing is spilled, and the frame has the four words that
-/// each function keeps. The board of point 1 has four areas and one piece.
+/// each function keeps.
+fn expect_register(rt: &impl Abort, map: &PointMap)
+    requires points { 2 ≤ length map.now.before }
+    requires one { 1 ≤ length map.now.slots }
+{
+    let stands = (
+        map.after(0, 0).is_some(),
+        map.before(1, 0) == map.after(0, 0),
+    );
+    expect(rt, &stands, &(true, true), "a register");
+    let spilled = (map.spilled(0).len(), map.spilled(1).len(), map.slot(0));
+    expect(rt, &spilled, &(0, 0, None), "nothing is spilled");
+    expect(rt, &map.frame(), &16, "the frame");
+}
+
+/// The map is as `expect_register` says, and the board of point 1 has four areas and one piece.
 fn expect_places(rt: &impl Abort, alloc: Global, graph: &Graph)
     requires dies { FixedOperandsDie graph.now }
     requires few { placed_count graph.now < 2147483648 }
@@ -43,15 +58,7 @@ fn expect_places(rt: &impl Abort, alloc: Global, graph: &Graph)
     let form = split(alloc, graph, &sets).expect(rt, "a form");
     let distances = next_use(alloc, graph).expect(rt, "distances");
     let map = allocate(alloc, &form, &distances).expect(rt, "a map");
-    map.is_place_map();
-    let stands = (
-        map.after(0, 0).is_some(),
-        map.before(1, 0) == map.after(0, 0),
-    );
-    expect(rt, &stands, &(true, true), "a register");
-    let spilled = (map.spilled(0).len(), map.spilled(1).len(), map.slot(0));
-    expect(rt, &spilled, &(0, 0, None), "nothing is spilled");
-    expect(rt, &map.frame(), &16, "the frame");
+    expect_register(rt, &map);
     let board = board_of(alloc, &form, 1).expect(rt, "a board");
     expect_board::<Brand>(rt, &board, Blank::new(1));
 }
