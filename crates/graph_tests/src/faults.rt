@@ -4,7 +4,7 @@ use crate::expected::expect;
 use pcc_base::{FaultKind, Keyword};
 
 /// Kinds of faults, each with its number and its name.
-const KINDS: [(FaultKind, (u8, &str)); 5] = [
+static KINDS: [(FaultKind, (u8, &str)); 5] = [
     (FaultKind::BadByte, (1, "BadByte")),
     (FaultKind::Unsupported(Keyword::Float), (6, "Unsupported")),
     (FaultKind::TypeRule, (10, "Type")),

@@ -47,7 +47,7 @@ impl Write for Stalled {
 }
 
 /// Names and the most bytes that are read of each, and why that is refused. The file has 70,000 bytes.
-const REFUSALS: [(&str, usize, ReadRefusal); 6] = [
+static REFUSALS: [(&str, usize, ReadRefusal); 6] = [
     ("host_files.tmp", 69999, ReadRefusal::TooLong),
     ("host_files.tmp", 0, ReadRefusal::TooLong),
     ("host_missing.tmp", 10, ReadRefusal::Missing),

@@ -4,7 +4,7 @@ use crate::expected::expect;
 use pcc_base::{wrap8, wrap16, wrap32, wrapped_once};
 
 /// A number in each row, and what it is of 8, of 16 and of 32 bits.
-const CASTS: [(i64, [i32; 3]); 9] = [
+static CASTS: [(i64, [i32; 3]); 9] = [
     (0, [0, 0, 0]),
     (127, [127, 127, 127]),
     (200, [-56, 200, 200]),

@@ -64,7 +64,7 @@ const Z2: Piece = Piece {
 };
 
 /// Areas and pieces, and the areas in which the pieces can stand alone, in their order.
-const SOLVED: [(&[Area], &[Piece], &[u32]); 5] = [
+static SOLVED: [(&[Area], &[Piece], &[u32]); 5] = [
     (&[UU, BB, UU, UU], &[Y2], &[1]),
     (&[UU, BB, UU, UU], &[Y1, Y1], &[1, 1]),
     (&[BB, BU], &[X2, Z2, Y1], &[0, 0, 1]),
@@ -73,7 +73,7 @@ const SOLVED: [(&[Area], &[Piece], &[u32]); 5] = [
 ];
 
 /// Areas, and pieces that have no legal placement on them.
-const UNSOLVABLE: [(&[Area], &[Piece]); 6] = [
+static UNSOLVABLE: [(&[Area], &[Piece]); 6] = [
     (&[UU, BB, UU, UU], &[Y2, Y2]),
     (&[BB, BB, BB, BB], &[X2, Z2, Y1, Y1, Y1, Y1, Y1, Y1, Y1]),
     (&[UB], &[X2, Z1, Z1]),
@@ -148,7 +148,7 @@ macro_rules! spills {
     };
 }
 
-const SPILLS: [(&[Option<u32>], &[u32], &[u32]); 3] = spills! {
+static SPILLS: [(&[Option<u32>], &[u32], &[u32]); 3] = spills! {
     [Some(3), Some(9), Some(9), Some(1), Some(2), Some(4), Some(5), Some(6), Some(7)] =>
         [1, 2, 8, 7, 6, 5, 0, 4, 3] [1];
     [Some(3), Some(9), Some(9), Some(1), Some(2), Some(4), Some(5), Some(6)] =>
