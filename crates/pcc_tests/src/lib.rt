@@ -1,9 +1,9 @@
 //! Tests of the top call of `pcc_driver`, which is the program but for its words and streams: commands over files in
 //! memory and over files of the system. `sources` are tests of the calls below it that take sources, up to graphs.
 //!
-//! They stand in one crate of their own, since a crate with tests is proved a second time, and since each crate of tests
-//! links all that its tests reach. Each table is one text (`tables`), since the proof of a test writes out what a table
-//! of tuples holds.
+//! They stand in a crate of their own, since a crate with tests is proved a second time, and in one, since each crate
+//! of tests links all that its tests reach. Each table is one text (`tables`), since the proof of a test writes out
+//! what a table of tuples holds.
 #![tactic(auto)]
 
 #[cfg(test)]

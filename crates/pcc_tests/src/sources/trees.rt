@@ -2,6 +2,7 @@
 //! those of the grammar, by hand.
 
 use crate::expected::{expect, expect_refusal};
+use crate::programs::WORD_COUNTER;
 use crate::sources::rows::parsed;
 use crate::sources::texts::Text;
 use crate::sources::tree_texts::push_unit;
@@ -56,49 +57,6 @@ fn expect_trees(rt: &impl Abort, alloc: Global, table: &str) {
 fn trees_of_sources(rt: HostRuntime) {
     expect_trees(&rt, rt.alloc(), TREES);
 }
-
-/// A program that counts lines, words and bytes.
-const WORD_COUNTER: &str = "# 1 \"wc.c\"
-int putchar(int c);
-int getchar(void);
-static int counts[3];
-static void number(int n)
-{
-    char digits[10];
-    int k = 0;
-    do {
-        digits[k++] = '0' + n % 10;
-        n /= 10;
-    } while (n > 0);
-    while (k > 0)
-        putchar(digits[--k]);
-}
-static void text(const char *s)
-{
-    while (*s)
-        putchar(*s++);
-}
-int main(void)
-{
-    int c, inside = 0;
-    while ((c = getchar()) != -1) {
-        counts[2]++;
-        if (c == '\\n')
-            counts[0]++;
-        if (c == ' ' || c == '\\n' || c == '\\t')
-            inside = 0;
-        else if (!inside) {
-            inside = 1;
-            counts[1]++;
-        }
-    }
-    for (c = 0; c < 3; c++) {
-        number(counts[c]);
-        text(c < 2 ? \" \" : \"\\n\");
-    }
-    return 0;
-}
-";
 
 #[test]
 fn word_counter(rt: HostRuntime) {
