@@ -4,7 +4,7 @@
 # earlier checks kept of the crates is copied with them: call `rt all check` first.
 . "$(dirname "$(readlink -f "$0")")/start.sh"
 
-below='pcc_base c_tokens c_lexer c_tree c_syntax c_typing c_sound c_casts c_cursor c_expression_nodes c_parse_expressions c_parse_declarations c_parse_statements c_front'
+below='pcc_base c_tokens c_lexer c_tree c_syntax c_typing c_sound c_cursor c_parse_expressions c_parse_declarations c_parse_statements c_front'
 mkdir -p "$room/crates/parsing/src" && cd "$room" && git init -q . || exit 1
 for crate in $below; do
     (cd "$top/crates" && tar c --exclude=must-fail "$crate") | tar x -C crates || exit 1

@@ -20,7 +20,7 @@ use Rattle.flow_graph.specs.Graphs.{Flow, IsFlow, IsPlaced, has_point}
 use Rattle.flow_graph.specs.Liveness.{defined}
 use Rattle.flow_graph.specs.Lives.{AreLive, IsAscending, Lives, at_point}
 use Rattle.flow_graph.proofs.Points.{every-from}
-use Rattle.live_searches.proofs.Placed.{op-fits, placed-within}
+use Rattle.liveness.proofs.Placed.{op-fits, placed-within}
 use Rattle.liveness.proofs.Variables.{before-within}
 use Rattle.puzzle_board.specs.declared.piece.Kind.{Kind}
 use Rattle.puzzle_board.specs.declared.piece.Kind.TheVariants.{Z}

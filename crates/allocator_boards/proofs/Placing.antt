@@ -14,7 +14,7 @@ use Rattle.std.proofs.lemmas.List.Sorted.{searched}
 use Rattle.std.proofs.lemmas.Option.{none-some, same_Some, slice_get_within}
 use Rattle.flow_graph.specs.Graphs.{Flow, IsFlow, IsIn, IsPlaced, Stands, has_point}
 use Rattle.flow_graph.specs.Lives.{IsAscending}
-use Rattle.live_searches.proofs.Placed.{placed-within}
+use Rattle.liveness.proofs.Placed.{placed-within}
 use Rattle.elementary_form.specs.Names.{joined, one_further, place_in, place_of}
 use Rattle.allocator_boards.specs.SplitForms.{ArePlaces, placed_count}
 use Rattle.elementary_form.proofs.Naming.{equal-test, in-either, in-test, other-test, place-at}

@@ -1,1 +1,4 @@
 pub mod Tables
+pub mod Entities
+pub mod MeaningNames
+pub mod Sameness

@@ -13,7 +13,7 @@ use Rattle.std.proofs.lemmas.Bool.{false_from_ne_true}
 use Rattle.pcc_base.proofs.Lists.{get-last, get-append}
 use Rattle.c_typing.specs.Library.{same_name}
 use Rattle.c_typing.specs.Names.{binding_of}
-use Rattle.c_meanings.proofs.Names.{same_is, same_self}
+use Rattle.c_bindings.proofs.MeaningNames.{same_is, same_self}
 use Rattle.c_bindings.specs.declared.names.Entry.{Entry}
 use Rattle.c_bindings.specs.Bindings.{binding_from, innermost_first, of_binding, of_entry, place_of, AreChained}
 

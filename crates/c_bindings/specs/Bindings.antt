@@ -4,7 +4,7 @@ use Rattle.std.specs.Prelude.{◌≡◌, ℕ, List, [], ◌∷◌, map, length, 
 use Rattle.c_typing.specs.Library.{same_name}
 use Rattle.c_typing.specs.Names.{Binding, Meaning}
 use Rattle.c_bindings.specs.declared.names.Entry.{Entry}
-use Rattle.c_meanings.specs.Views.{meaning_of}
+use Rattle.c_bindings.specs.Views.{meaning_of}
 
 abbrev pub binding_from : Entry → Binding
 binding_from e = record { name = e.name.items; depth = e.depth; meaning = meaning_of e.meaning }

@@ -3,9 +3,9 @@
 ghost use Rattle.std.specs.Prelude.{◌≡◌, option_map, IfOk, Some};
 ghost use Rattle.c_typing.specs.Library.{external, OfFile};
 ghost use Rattle.c_typing.specs.Names.{as_before, entity_seen, is_function, is_other};
-ghost use Rattle.c_meanings.specs.Views.{declared_of, entity_of, meaning_of};
+ghost use Rattle.c_bindings.specs.Views.{declared_of, entity_of, meaning_of};
 
-use c_meanings::{Declared, Entity, LibraryFunction, Meaning, same_entity};
+use crate::{Declared, Entity, LibraryFunction, Meaning, same_entity};
 use pcc_base::NoMemory;
 use std::alloc::Global;
 

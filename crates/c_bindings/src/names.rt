@@ -8,9 +8,9 @@ ghost use Rattle.indexmap.specs.IndexMap.{get_by};
 ghost use Rattle.c_bindings.specs.declared.names.Entry.{Entry};
 ghost use Rattle.c_typing.specs.Names.{binding_of};
 ghost use Rattle.c_bindings.specs.Bindings.{of_binding, of_entry};
-ghost use Rattle.c_meanings.specs.Views.{meaning_of};
+ghost use Rattle.c_bindings.specs.Views.{meaning_of};
 
-use c_meanings::Meaning;
+use crate::Meaning;
 use indexmap::IndexMap;
 use pcc_base::NoMemory;
 use std::alloc::Global;

@@ -16,8 +16,8 @@ use Rattle.c_typing.specs.Statements.{after_item, after_items, bound_item, objec
 use Rattle.c_typing.specs.Statements.{typed_item, typed_items}
 use Rattle.c_typing.specs.Types as types
 use Rattle.c_typing.specs.Types.{is_static}
-use Rattle.c_meanings.specs.declared.meaning.Declared.{Declared}
-use Rattle.c_meanings.specs.Views.{declared_of}
+use Rattle.c_bindings.specs.declared.meaning.Declared.{Declared}
+use Rattle.c_bindings.specs.Views.{declared_of}
 use Rattle.c_operands.specs.declared.judged.Judged.{Judged}
 use Rattle.c_operands.specs.declared.judged.Judged.TheVariants as answers
 use Rattle.c_expressions.specs.Said.{IsSaid}

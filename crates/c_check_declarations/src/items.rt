@@ -25,7 +25,7 @@ ghost use Rattle.c_typing.specs.Statements.{
   typed_items,
 };
 ghost use Rattle.c_typing.specs.Types.{is_static};
-ghost use Rattle.c_meanings.specs.Views.{declared_of, entity_of, storage_of};
+ghost use Rattle.c_bindings.specs.Views.{declared_of, entity_of, storage_of};
 ghost use Rattle.c_expressions.specs.Said.{IsSaid};
 ghost use Rattle.c_check_declarators.specs.Answers.{IsObject, value_answered};
 ghost use Rattle.c_check_declarations.specs.Answers.{
@@ -40,12 +40,12 @@ ghost use Rattle.c_check_declarators.specs.Views.{object_of, position_of, specif
 
 use crate::initialisers::{array_initialiser, scalar_initialiser};
 use crate::stored::stored_object;
+use c_bindings::{Declared, Entity, Storage};
 use c_check_declarators::{
     ObjectType, Position, Specified, also, bind_object, maybe_behind, object_allowed,
     object_declared, specifiers_at,
 };
 use c_expressions::{Contents, Notes};
-use c_meanings::{Declared, Entity, Storage};
 use c_operands::Judged;
 use c_scopes::Scopes;
 use c_syntax::{Declaration, Identifier, InitialiserPart, Item as RawItem};

@@ -5,16 +5,16 @@ ghost use Rattle.c_syntax.specs.Declarations.{value_of};
 ghost use Rattle.c_typing.specs.Checked.{Stores};
 ghost use Rattle.c_typing.specs.Initialisers.{contents_for};
 ghost use Rattle.c_typing.specs.Statements.{elements_of, size_of, stored};
-ghost use Rattle.c_meanings.specs.Views.{entity_of};
+ghost use Rattle.c_bindings.specs.Views.{entity_of};
 ghost use Rattle.c_expressions.specs.Notes.{contents_of, note_of};
 ghost use Rattle.c_expressions.specs.Said.{IsSaid};
 ghost use Rattle.c_check_declarators.specs.Views.{object_of};
 ghost use Rattle.c_check_declarations.specs.Answers.{IsAnything};
 
 use crate::initialisers::contents_for;
+use c_bindings::Entity;
 use c_check_declarators::ObjectType;
 use c_expressions::{Contents, Note, Notes, Stored};
-use c_meanings::Entity;
 use c_operands::Judged;
 use c_scopes::Scopes;
 use c_syntax::InitialiserPart;

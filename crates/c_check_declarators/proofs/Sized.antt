@@ -22,7 +22,7 @@ use Rattle.c_typing.specs.Expressions.{specifiers_at}
 use Rattle.c_typing.specs.Names.{Scope}
 use Rattle.c_typing.specs.Types as types
 use Rattle.c_typing.specs.Types.{DeclaredArray, InParameters, pointed}
-use Rattle.c_meanings.specs.declared.meaning.Declared.{Declared}
+use Rattle.c_bindings.specs.declared.meaning.Declared.{Declared}
 use Rattle.c_operands.specs.declared.judged.Operand.{Operand}
 use Rattle.c_operands.specs.declared.judged.Judged.{Judged}
 use Rattle.c_operands.specs.declared.judged.Judged.TheVariants as answers

@@ -5,8 +5,8 @@ use Rattle.c_typing.specs.Declarators as declarators
 use Rattle.c_typing.specs.Types as types
 use Rattle.c_operands.specs.declared.judged.Judged.{Judged}
 use Rattle.c_operands.specs.declared.judged.Judged.TheVariants as answers
-use Rattle.c_meanings.specs.declared.meaning.Declared.{Declared}
-use Rattle.c_meanings.specs.Views.{declared_of}
+use Rattle.c_bindings.specs.declared.meaning.Declared.{Declared}
+use Rattle.c_bindings.specs.Views.{declared_of}
 use Rattle.c_check_declarators.specs.declared.specifiers.Specified.{Specified}
 use Rattle.c_check_declarators.specs.declared.objects.ObjectType.{ObjectType}
 use Rattle.c_check_declarators.specs.Views.{specified_of, object_of}

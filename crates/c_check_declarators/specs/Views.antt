@@ -3,9 +3,9 @@ use Rattle.std.specs.Prelude.{List, [], ◌∷◌, ◌++◌, filter_map, Option,
 use Rattle.c_syntax.specs.declared.operator.SpecifierWord.{SpecifierWord}
 use Rattle.c_typing.specs.Declarators as declarators
 use Rattle.c_typing.specs.Types as types
-use Rattle.c_meanings.specs.declared.meaning.Storage.{Storage}
-use Rattle.c_meanings.specs.declared.meaning.Storage.TheVariants as storages
-use Rattle.c_meanings.specs.Views.{storage_of}
+use Rattle.c_bindings.specs.declared.meaning.Storage.{Storage}
+use Rattle.c_bindings.specs.declared.meaning.Storage.TheVariants as storages
+use Rattle.c_bindings.specs.Views.{storage_of}
 use Rattle.c_check_declarators.specs.declared.specifiers.Position.{Position}
 use Rattle.c_check_declarators.specs.declared.specifiers.Position.TheVariants as positions
 use Rattle.c_check_declarators.specs.declared.specifiers.Specified.{Specified}

@@ -9,8 +9,7 @@ ghost use Rattle.c_check_declarators.specs.Together.{
   with_fault,
 };
 
-use c_faults::earlier;
-use c_operands::{Judged, both};
+use c_operands::{Judged, both, earlier};
 use pcc_base::{Fault, NoMemory};
 
 /// A fault beside what is judged, where there is one.

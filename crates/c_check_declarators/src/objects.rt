@@ -4,12 +4,12 @@ ghost use Rattle.std.specs.Prelude.{◌≡◌, List, OnOk};
 ghost use Rattle.c_typing.specs.Checked.{Note};
 ghost use Rattle.c_typing.specs.Declarators.{array_object, object_allowed, value_object};
 ghost use Rattle.c_typing.specs.Statements.{bound_object};
-ghost use Rattle.c_meanings.specs.Views.{declared_of, entity_of};
+ghost use Rattle.c_bindings.specs.Views.{declared_of, entity_of};
 ghost use Rattle.c_expressions.specs.Said.{IsSaid};
 ghost use Rattle.c_check_declarators.specs.Answers.{IsObject};
 ghost use Rattle.c_check_declarators.specs.Views.{object_of};
 
-use c_meanings::{Declared, Entity, Meaning};
+use c_bindings::{Declared, Entity, Meaning};
 use c_operands::Judged;
 use c_scopes::Scopes;
 use c_syntax::Identifier;

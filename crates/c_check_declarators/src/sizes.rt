@@ -23,10 +23,10 @@ ghost use Rattle.c_check_declarators.specs.Views.{specified_of};
 
 use crate::forms::letters_in;
 use crate::specifiers::Specified;
+use c_bindings::Declared;
 use c_check_expressions::expression;
 use c_expressions::Notes;
 use c_expressions::type_names::pointed;
-use c_meanings::Declared;
 use c_operands::{Judged, Operand};
 use c_scopes::{Scopes, number};
 use c_syntax::{Declarator, DeclaratorPart, Expression, Initialiser, InitialiserPart, TextPiece};

@@ -5,13 +5,13 @@ ghost use Rattle.c_syntax.specs.declared.operator.SpecifierWord.{SpecifierWord a
 ghost use Rattle.c_typing.specs.Checked.{Note};
 ghost use Rattle.c_typing.specs.Expressions.{specifiers_at};
 ghost use Rattle.c_typing.specs.Types.{may_stand, specified, storage_word, the_storage, words_of};
-ghost use Rattle.c_meanings.specs.Views.{storage_of};
+ghost use Rattle.c_bindings.specs.Views.{storage_of};
 ghost use Rattle.c_expressions.specs.Said.{IsSaid};
 ghost use Rattle.c_check_declarators.specs.Answers.{IsSpecified, value_answered};
 ghost use Rattle.c_check_declarators.specs.Views.{position_of, specified_of, storage_behind, storage_words};
 
+use c_bindings::Storage;
 use c_expressions::type_names::{first_word, the_type};
-use c_meanings::Storage;
 use c_operands::Judged;
 use c_syntax::{Specifier, SpecifierWord};
 use c_tree::ValueType;

@@ -1,7 +1,7 @@
 //! Calls, by what the called name means (C99 6.5.2.2).
 
 ghost use Rattle.std.specs.Prelude.{◌≡◌, List, IfOk, length, option_map, slice_get};
-ghost use Rattle.c_meanings.specs.Views.{meaning_of};
+ghost use Rattle.c_bindings.specs.Views.{meaning_of};
 ghost use Rattle.c_tree.specs.Program.{Arguments as TypedArguments};
 ghost use Rattle.c_typing.specs.Checked.{faults_in, Checked, Fails, Note};
 ghost use Rattle.c_typing.specs.Expressions.{arguments_for, called, have_types, Given};
@@ -11,12 +11,12 @@ ghost use Rattle.c_expressions.specs.Arguments.{AreArguments};
 ghost use Rattle.c_expressions.specs.Said.{IsSaid};
 ghost use Rattle.c_check_expressions.specs.Callees.{parameters_of};
 
+use c_bindings::Meaning;
 use c_expressions::Notes;
 use c_expressions::arguments::Arguments;
 use c_expressions::calls::{
     array_called, function_call, local_called, not_called, number_called, undeclared,
 };
-use c_meanings::Meaning;
 use c_operands::{Judged, Operand};
 use c_scopes::Scopes;
 use c_syntax::Identifier;

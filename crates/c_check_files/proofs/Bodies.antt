@@ -18,8 +18,8 @@ use Rattle.c_typing.specs.Library.{Entity}
 use Rattle.c_typing.specs.Names.{Binding, Scope, Signature, entered, left, linked}
 use Rattle.c_typing.specs.Statements.{after_statements, typed_statements}
 use Rattle.c_typing.specs.Types.{DeclaredFunction, Specified}
-use Rattle.c_meanings.specs.declared.meaning.Signature.{Signature as BuiltSignature}
-use Rattle.c_meanings.specs.Views as views
+use Rattle.c_bindings.specs.declared.meaning.Signature.{Signature as BuiltSignature}
+use Rattle.c_bindings.specs.Views as views
 use Rattle.c_operands.specs.declared.judged.Judged.{Judged}
 use Rattle.c_operands.specs.declared.judged.Judged.TheVariants as answers
 use Rattle.c_expressions.specs.Said.{IsSaid}

@@ -18,8 +18,8 @@ use Rattle.c_typing.specs.Library.{Entity, same_name}
 use Rattle.c_typing.specs.Names.{Function, Outer, Scope, bound, entered, linked}
 use Rattle.c_typing.specs.Names as names
 use Rattle.c_typing.specs.Types.{DeclaredFunction, Specified, is_static, pointed}
-use Rattle.c_meanings.specs.declared.meaning.Signature.{Signature}
-use Rattle.c_meanings.specs.Views as views
+use Rattle.c_bindings.specs.declared.meaning.Signature.{Signature}
+use Rattle.c_bindings.specs.Views as views
 use Rattle.c_operands.specs.declared.judged.Judged.{Judged}
 use Rattle.c_operands.specs.declared.judged.Judged.TheVariants as answers
 use Rattle.c_expressions.specs.Said.{IsSaid}

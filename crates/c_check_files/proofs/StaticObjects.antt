@@ -21,8 +21,8 @@ use Rattle.c_typing.specs.Library.{Entity}
 use Rattle.c_typing.specs.Names.{Outer, Scope}
 use Rattle.c_typing.specs.Statements.{bound_object, stored}
 use Rattle.c_typing.specs.Types as types
-use Rattle.c_meanings.specs.declared.meaning.Declared.{Declared}
-use Rattle.c_meanings.specs.Views.{declared_of}
+use Rattle.c_bindings.specs.declared.meaning.Declared.{Declared}
+use Rattle.c_bindings.specs.Views.{declared_of}
 use Rattle.c_operands.specs.declared.judged.Judged.{Judged}
 use Rattle.c_operands.specs.declared.judged.Judged.TheVariants as answers
 use Rattle.c_expressions.specs.Said.{IsSaid}

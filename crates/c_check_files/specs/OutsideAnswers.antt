@@ -1,7 +1,7 @@
 -- How what is answered outside functions stands for what the definitions have.
 use Rattle.std.specs.Prelude.{◌≡◌, List, []}
-use Rattle.c_meanings.specs.declared.meaning.Signature.{Signature}
-use Rattle.c_meanings.specs.Views.{signature_of}
+use Rattle.c_bindings.specs.declared.meaning.Signature.{Signature}
+use Rattle.c_bindings.specs.Views.{signature_of}
 use Rattle.c_typing.specs.Names as names
 use Rattle.c_operands.specs.declared.judged.Judged.{Judged}
 use Rattle.c_operands.specs.declared.judged.Judged.TheVariants as answers

@@ -20,7 +20,7 @@ ghost use Rattle.c_typing.specs.Files.{
 ghost use Rattle.c_typing.specs.Names.{Scope, left};
 ghost use Rattle.c_typing.specs.Statements.{after_statements, typed_statements};
 ghost use Rattle.c_typing.specs.Types.{DeclaredFunction};
-ghost use Rattle.c_meanings.specs.Views as views;
+ghost use Rattle.c_bindings.specs.Views as views;
 ghost use Rattle.c_expressions.specs.Said.{IsSaid};
 ghost use Rattle.c_check_declarators.specs.Views.{specified_of};
 ghost use Rattle.c_check_statements.specs.Answers.{AreStatements};
@@ -28,10 +28,10 @@ ghost use Rattle.c_check_files.specs.Answers.{AreFunction, IsFunction};
 
 use crate::copies::{copy_arrays, copy_locals};
 use crate::{declare_function, function_signature};
+use c_bindings::{Declared, Entity, Signature};
 use c_check_declarations::{Specified, parameters};
 use c_check_statements::body;
 use c_expressions::{Note, Notes};
-use c_meanings::{Declared, Entity, Signature};
 use c_operands::Judged;
 use c_scopes::{Mark, Scopes, number};
 use c_syntax::{Declarator, DeclaratorPart, Identifier, Parameter, Statement as RawStatement};

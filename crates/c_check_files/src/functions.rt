@@ -20,17 +20,17 @@ ghost use Rattle.c_typing.specs.Files.{
 ghost use Rattle.c_typing.specs.Library.{same_name};
 ghost use Rattle.c_typing.specs.Names.{linked};
 ghost use Rattle.c_typing.specs.Types.{DeclaredFunction, is_static};
-ghost use Rattle.c_meanings.specs.Views as views;
+ghost use Rattle.c_bindings.specs.Views as views;
 ghost use Rattle.c_expressions.specs.Said.{IsSaid};
 ghost use Rattle.c_check_declarators.specs.Together.{listed};
 ghost use Rattle.c_check_declarators.specs.Views.{specified_of};
 ghost use Rattle.c_check_files.specs.OutsideAnswers.{AreNone, IsSignature};
 
 use crate::outers::{outer, redeclared_fault};
+use c_bindings::{Declared, Entity, Meaning, Outer, Signature, Storage};
 use c_check_declarations::{Specified, also, parameters_apart};
 use c_expressions::type_names::pointed;
 use c_expressions::{Notes, first_token};
-use c_meanings::{Declared, Entity, Meaning, Outer, Signature, Storage};
 use c_operands::Judged;
 use c_scopes::Scopes;
 use c_syntax::{Declarator, Identifier, Initialiser, InitialiserPart, Item, Parameter};

@@ -15,7 +15,7 @@ ghost use Rattle.c_typing.specs.Files.{
 };
 ghost use Rattle.c_typing.specs.Initialisers.{contents_for};
 ghost use Rattle.c_typing.specs.Statements.{bound_object, stored};
-ghost use Rattle.c_meanings.specs.Views as views;
+ghost use Rattle.c_bindings.specs.Views as views;
 ghost use Rattle.c_expressions.specs.Notes.{contents_of};
 ghost use Rattle.c_expressions.specs.Said.{IsSaid};
 ghost use Rattle.c_check_declarators.specs.Answers.{IsObject, value_answered};
@@ -24,11 +24,11 @@ ghost use Rattle.c_check_files.specs.OutsideAnswers.{AreNone};
 ghost use Rattle.c_check_files.specs.Objects.{bound_if_any};
 
 use crate::outers::{outer, redeclared_fault};
+use c_bindings::{Declared, Entity, Storage};
 use c_check_declarations::{
     ObjectType, Specified, also, bind_object, object_allowed, object_declared, stored_object,
 };
 use c_expressions::{Contents, Notes};
-use c_meanings::{Declared, Entity, Storage};
 use c_operands::Judged;
 use c_scopes::Scopes;
 use c_syntax::{Identifier, InitialiserPart, Item};

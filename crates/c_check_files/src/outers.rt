@@ -2,12 +2,12 @@
 
 ghost use Rattle.std.specs.Prelude.{◌≡◌, IfOk};
 ghost use Rattle.c_typing.specs.Files.{outer_of, redeclared_faults};
-ghost use Rattle.c_meanings.specs.Views as views;
+ghost use Rattle.c_bindings.specs.Views as views;
 ghost use Rattle.c_check_declarators.specs.Together.{listed};
 ghost use Rattle.c_check_declarators.specs.Views.{specified_of};
 
+use c_bindings::{Declared, Outer};
 use c_check_declarations::Specified;
-use c_meanings::{Declared, Outer};
 use c_scopes::Scopes;
 use c_syntax::Identifier;
 use pcc_base::{Fault, FaultKind, NoMemory};

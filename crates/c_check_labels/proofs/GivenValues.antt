@@ -14,7 +14,7 @@ use Rattle.c_typing.specs.Initialisers.{values_for}
 use Rattle.c_typing.specs.Names.{Scope}
 use Rattle.c_expressions.specs.Arguments.{given_of}
 use Rattle.c_check_declarators.proofs.Lists.{one_before}
-use Rattle.c_check_values.specs.Values.{row_within}
+use Rattle.c_check_labels.specs.Values.{row_within}
 
 -- the next value, where there is room for it or not
 next_value : {A : Type 0} (row : Span → Expression → Checked A) (room : ℕ) (g : Given) (gs : List Given)

@@ -22,9 +22,9 @@ ghost use Rattle.c_expressions.specs.Said.{IsSaid};
 ghost use Rattle.c_check_declarators.specs.Answers.{IsSame};
 ghost use Rattle.c_check_labels.specs.Labels.{AreLabels, AreSeen, AreSoFar};
 
+use crate::{label_fault, one_label};
 use c_check_declarators::behind;
 use c_check_expressions::expression;
-use c_check_values::{label_fault, one_label};
 use c_expressions::Notes;
 use c_operands::{Judged, Operand};
 use c_scopes::Scopes;

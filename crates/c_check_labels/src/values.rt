@@ -16,11 +16,11 @@ ghost use Rattle.c_operands.specs.Judged.{IsOperandOf};
 ghost use Rattle.c_expressions.specs.Arguments.{AreTrees, given_of};
 ghost use Rattle.c_expressions.specs.Said.{IsSaid};
 ghost use Rattle.c_check_declarators.specs.Answers.{AreSame, IsSame};
-ghost use Rattle.c_check_values.specs.Values.{row_within};
+ghost use Rattle.c_check_labels.specs.Values.{row_within};
 
+use crate::tree_value;
 use c_check_declarators::behind;
 use c_check_expressions::expression;
-use c_check_values::tree_value;
 use c_expressions::{Notes, first_token};
 use c_operands::{Constant, Judged, Operand};
 use c_operators::convert;

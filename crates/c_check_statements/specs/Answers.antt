@@ -8,7 +8,7 @@ use Rattle.c_tree.specs.declared.statement.Label.{Label}
 use Rattle.c_tree.specs.declared.statement.Statement.{Statement as BuiltStatement}
 use Rattle.c_tree.specs.Erased.{first_of, statement_of, statements_of}
 use Rattle.c_tree.specs.Program.{Expression, First, Statement, Statements}
-use Rattle.c_check_values.specs.Values.{IsTree}
+use Rattle.c_check_labels.specs.Values.{IsTree}
 use Rattle.c_check_declarations.specs.Answers.{IsTreeIfAny}
 use Rattle.c_check_labels.specs.Labels.{AreLabels}
 

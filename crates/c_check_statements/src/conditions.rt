@@ -13,7 +13,7 @@ ghost use Rattle.c_typing.specs.Statements.{condition, condition_if_any, returne
 ghost use Rattle.c_operands.specs.Judged.{IsOperand, IsOperandOf};
 ghost use Rattle.c_expressions.specs.Said.{IfFits, IsSaid};
 ghost use Rattle.c_check_expressions.specs.Maybe.{IsOperandIfAny, IsOperandWhere};
-ghost use Rattle.c_check_values.specs.Values.{IsTree};
+ghost use Rattle.c_check_labels.specs.Values.{IsTree};
 ghost use Rattle.c_check_declarations.specs.Answers.{IsTreeIfAny};
 
 use c_check_expressions::{expression, expression_if_any};

@@ -28,7 +28,7 @@ ghost use Rattle.c_typing.specs.Statements.{
 };
 ghost use Rattle.c_typing.specs.Types.{InFor};
 ghost use Rattle.c_expressions.specs.Said.{IsSaid};
-ghost use Rattle.c_check_values.specs.Values.{IsTree};
+ghost use Rattle.c_check_labels.specs.Values.{IsTree};
 ghost use Rattle.c_check_declarations.specs.Answers.{AreItems, IsTreeIfAny};
 ghost use Rattle.c_check_labels.specs.Labels.{AreLabels};
 ghost use Rattle.c_check_statements.specs.Answers.{AreHead, AreSelected, AreStart, IsFirst};

@@ -11,7 +11,7 @@ ghost use Rattle.c_typing.specs.Expressions.{typed_expression, typed_if_any};
 ghost use Rattle.c_typing.specs.Names.{numbered};
 ghost use Rattle.c_typing.specs.Statements.{jump, one, returned};
 ghost use Rattle.c_expressions.specs.Said.{IsSaid};
-ghost use Rattle.c_check_values.specs.Values.{IsTree};
+ghost use Rattle.c_check_labels.specs.Values.{IsTree};
 ghost use Rattle.c_check_declarations.specs.Answers.{IsTreeIfAny};
 ghost use Rattle.c_check_statements.specs.Answers.{AreListed};
 

@@ -14,7 +14,7 @@ ghost use Rattle.c_tree.specs.declared.statement.Label.{Label as TypedLabel};
 ghost use Rattle.c_typing.specs.Checked.{Checked, Note, both, fits, if_fits, pair, three};
 ghost use Rattle.c_typing.specs.Statements.{alone, for_loop, one};
 ghost use Rattle.c_expressions.specs.Said.{IsSaid};
-ghost use Rattle.c_check_values.specs.Values.{IsTree};
+ghost use Rattle.c_check_labels.specs.Values.{IsTree};
 ghost use Rattle.c_check_statements.specs.Answers.{
   AreBranches,
   AreCases,

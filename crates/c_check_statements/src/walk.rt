@@ -22,7 +22,7 @@ ghost use Rattle.c_typing.specs.Statements.{
   typed_statements,
 };
 ghost use Rattle.c_expressions.specs.Said.{IsSaid};
-ghost use Rattle.c_check_values.specs.Values.{IsTree};
+ghost use Rattle.c_check_labels.specs.Values.{IsTree};
 ghost use Rattle.c_check_statements.specs.Answers.{AreHead, AreListed, AreSelected, AreStatements, AreTested};
 ghost use Rattle.c_check_statements.specs.Together.{joined};
 ghost use Rattle.c_check_statements.specs.Views.{around_of};

@@ -5,13 +5,13 @@ ghost use Rattle.c_syntax.specs.Taking.{take_mark, take_word, take_unary, take_s
 ghost use Rattle.c_syntax.specs.Taking.{take_specifiers};
 ghost use Rattle.c_syntax.specs.Reading.{Readers, read_cast, read_unary};
 ghost use Rattle.c_cursor.specs.Readings.{IsTaken};
-ghost use Rattle.c_casts.specs.Fronts.{BeginsWithSpecifier};
+ghost use Rattle.c_cursor.specs.Fronts.{BeginsWithSpecifier};
 ghost use Rattle.c_cursor.specs.Places.{next_place, kind_without_height};
 
 use crate::tables::{
     NO_LEVEL, assign_of, begins_expression, binary_of, is_word, level_of, step_of, unary_of,
 };
-use c_casts::{begins_with_specifier, cast_at, is_mark};
+use crate::{begins_with_specifier, cast_at, is_mark};
 use c_syntax::{AssignOp, BinaryOp, StepOp, UnaryOp};
 use c_tokens::{Punct, Token};
 use pcc_base::{Fault, FaultKind, Keyword, Refusal, Span};

@@ -6,7 +6,7 @@ ghost use Rattle.c_syntax.specs.Taking.{take_specifiers, take_consts, take_texts
 ghost use Rattle.c_cursor.specs.Rows.{IsFront, IsRow};
 
 use crate::cursor::Cursor;
-use c_casts::specifier_of;
+use crate::specifier_of;
 use c_syntax::{Pointer, Specifier, TextPiece};
 use c_tokens::{Punct, TokenKind};
 use pcc_base::{Keyword, Name, NoMemory, Span};

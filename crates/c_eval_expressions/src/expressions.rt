@@ -8,8 +8,8 @@ ghost use Rattle.c_eval_laws.specs.Tasks.{Ahead};
 ghost use Rattle.c_tree.specs.Erased.{expression_of, place_of};
 ghost use Rattle.c_tree.specs.Store.{State, Gives};
 
+use crate::begin_binary;
 use c_eval::{Evaluation, Place as Found, Store, Task, Value};
-use c_eval_order::begin_binary;
 use c_tree::{BinaryOp, Expression, Place, ValueType};
 use pcc_base::NoMemory;
 

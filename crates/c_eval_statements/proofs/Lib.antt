@@ -1,3 +1,4 @@
 pub mod Declaring
 pub mod Filling
 pub mod Passed
+pub mod DeclaringLocals

@@ -13,8 +13,8 @@ ghost use Rattle.c_tree.specs.declared.types.IntegerType.{IntegerType};
 ghost use Rattle.c_tree.specs.Store.{State, Gives, visited};
 ghost use Rattle.pcc_base.specs.Outcome.{Listing};
 
+use crate::declare_local;
 use c_eval::{ArrayName, EvalEnd, Evaluation, Store, Task};
-use c_eval_locals::declare_local;
 use c_tree::{Expression, Initialiser, IntegerType, Item, ValueType};
 use pcc_base::{NoMemory, Trap};
 

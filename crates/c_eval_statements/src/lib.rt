@@ -5,5 +5,8 @@
 
 pub mod calls;
 pub mod items;
+mod locals;
 pub mod passing;
 pub mod statements;
+
+pub use locals::declare_local;

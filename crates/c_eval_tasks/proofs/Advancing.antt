@@ -9,11 +9,11 @@ use Rattle.c_eval.specs.Changes.{doing, holding, without_value}
 use Rattle.c_eval.specs.Streaming.{GetTold, InputCounts, OutCounts, PutTold}
 use Rattle.c_eval.specs.declared.end.EvalEnd.{EvalEnd}
 use Rattle.c_eval.specs.declared.end.EvalEnd.TheVariants.{NoMemory}
-use Rattle.c_eval_turns.specs.Turns.{IsTurn}
+use Rattle.c_eval_tasks.specs.Turns.{IsTurn}
 use Rattle.c_eval_tasks.specs.Performs.{Fits}
 use Rattle.c_eval_tasks.specs.Standing.{Meets, SameCounts, Standing, Steps, Stops, Streams, Tells}
 use Rattle.c_eval_tasks.specs.Standing.{before_task}
-use Rattle.c_eval_turns.specs.declared.next.Turn.{Turn}
+use Rattle.c_eval_tasks.specs.declared.next.Turn.{Turn}
 use Rattle.c_eval_tasks.proofs.Stepping.{meets_turn, stops_quiet}
 use Rattle.c_eval_tasks.proofs.Streaming.{steps_get, steps_put, stops_get, stops_put}
 

@@ -5,3 +5,5 @@ pub mod Reaching
 pub mod Stepping
 pub mod Streaming
 pub mod Walking
+pub mod Calling
+pub mod Taking

@@ -25,7 +25,7 @@ use Rattle.c_eval.specs.declared.task.Task.TheVariants as tasks
 use Rattle.c_eval_tasks.specs.AtOnce.{IsApplied, IsLocalNumber, IsNumber, Reaches, Shortened}
 use Rattle.c_eval_tasks.specs.Performs.{Fits}
 use Rattle.c_eval_tasks.specs.Standing.{Advanced, Standing, Steps as Stepping, before_task}
-use Rattle.c_eval_turns.specs.declared.next.Turn.{Turn}
+use Rattle.c_eval_tasks.specs.declared.next.Turn.{Turn}
 use Rattle.c_eval_tasks.proofs.Going.{next_step}
 use Rattle.c_eval_tasks.proofs.Stepping.{moved, same_counts, same_tells}
 use Rattle.c_eval_tasks.proofs.Walking.{Walks, walks_meets, walks_more, walks_stops}

@@ -15,9 +15,9 @@ use Rattle.c_eval.specs.Changes.{Comes, done, doing}
 use Rattle.c_eval_statements.specs.Passing.{passed}
 use Rattle.c_eval.specs.declared.end.EvalEnd.{EvalEnd}
 use Rattle.c_eval.specs.declared.end.EvalEnd.TheVariants.{Ended, Trapped, TurnsSpent, ReadFault, WriteFault, NoMemory}
-use Rattle.c_eval_turns.specs.Turns.{IsTurn}
+use Rattle.c_eval_tasks.specs.Turns.{IsTurn}
 use Rattle.c_eval_tasks.specs.Performs.{Done, Fits, with_visits}
-use Rattle.c_eval_turns.specs.declared.next.Turn.{Turn}
+use Rattle.c_eval_tasks.specs.declared.next.Turn.{Turn}
 use Rattle.c_eval_tasks.specs.Runs.{EvalCounts}
 use Rattle.c_eval_tasks.specs.Standing.{Meets, SameCounts, Standing, Steps, Stops, Streams, Tells, before_task}
 use Rattle.c_eval_tasks.proofs.Going.{ahead_step, ahead_turn, next_step, passed_step, passed_turn, ran_on, ran_stops}

@@ -6,7 +6,7 @@ use Rattle.c_eval.specs.declared.end.EvalEnd.{EvalEnd}
 use Rattle.c_eval_tasks.specs.Performs.{Fits}
 use Rattle.c_eval_tasks.specs.Runs.{EvalCounts}
 use Rattle.c_eval_tasks.specs.Standing.{BothTell, LeadsOn, Meets, SameCounts, Standing, Steps, Stops, Streams, Tells}
-use Rattle.c_eval_turns.specs.declared.next.Turn.{Turn}
+use Rattle.c_eval_tasks.specs.declared.next.Turn.{Turn}
 use Rattle.c_eval_tasks.proofs.Stepping.{same_counts, same_tells}
 
 -- what is known of the way so far, in steps without a turn

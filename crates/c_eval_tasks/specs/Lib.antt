@@ -2,3 +2,4 @@ pub mod AtOnce
 pub mod Runs
 pub mod Performs
 pub mod Standing
+pub mod Turns

@@ -12,9 +12,9 @@ use Rattle.c_eval.specs.Changes.{Comes, done}
 use Rattle.c_eval.specs.declared.end.EvalEnd.{EvalEnd}
 use Rattle.c_eval.specs.declared.task.Task as memory
 use Rattle.c_eval.specs.declared.task.Task.TheVariants as tasks
-use Rattle.c_eval_turns.specs.Turns.{IsTurn}
-use Rattle.c_eval_turns.specs.declared.next.Next.{Next}
-use Rattle.c_eval_turns.specs.declared.next.Next.TheVariants.{Nothing, Byte, Room, Begins}
+use Rattle.c_eval_tasks.specs.Turns.{IsTurn}
+use Rattle.c_eval_tasks.specs.declared.next.Next.{Next}
+use Rattle.c_eval_tasks.specs.declared.next.Next.TheVariants.{Nothing, Byte, Room, Begins}
 
 -- a statement that takes turns
 abbrev pub is_loop : Statement → Bool

@@ -13,9 +13,9 @@ use Rattle.c_eval.specs.Kept.{Kept, over}
 use Rattle.c_eval.specs.Changes.{doing}
 use Rattle.c_eval.specs.declared.end.EvalEnd.{EvalEnd}
 use Rattle.c_eval_tasks.specs.Runs.{EvalCounts, EvalTold, outcome_in}
-use Rattle.c_eval_turns.specs.Turns.{IsTurn}
+use Rattle.c_eval_tasks.specs.Turns.{IsTurn}
 use Rattle.c_eval_tasks.specs.Performs.{Fits}
-use Rattle.c_eval_turns.specs.declared.next.Turn.{Turn}
+use Rattle.c_eval_tasks.specs.declared.next.Turn.{Turn}
 
 -- the streams that are lent: how often they refused, that they tell, and what is left and was taken
 pub record Streams : Type 1 where

@@ -11,8 +11,8 @@ ghost use Rattle.c_tree.specs.Erased.{expression_of, program_of};
 
 use crate::at_once::shorten;
 use crate::steps::perform;
+use crate::{Next, Turn};
 use c_eval::{EvalEnd, Evaluation, Store, Task, streams};
-use c_eval_turns::{Next, Turn};
 use c_tree::{Expression, Program};
 use pcc_outside::{Sink, Source};
 

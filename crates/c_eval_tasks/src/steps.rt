@@ -15,11 +15,10 @@ ghost use Rattle.c_tree.specs.Program as typed;
 ghost use Rattle.c_tree.specs.Store.{State, Gives};
 ghost use Rattle.pcc_base.specs.Outcome.{Listing};
 
+use crate::{Next, Turn};
 use c_eval::{EvalEnd, Evaluation, StatementPart, Store, Task};
-use c_eval_expressions::{expressions, stores, values};
-use c_eval_order::{and_then, or_else, update};
+use c_eval_expressions::{and_then, expressions, or_else, stores, update, values};
 use c_eval_statements::{calls, items, passing, statements};
-use c_eval_turns::{Next, Turn};
 use c_tree::{Expression, Program, Statement};
 use pcc_base::NoMemory;
 

@@ -14,12 +14,12 @@ use Rattle.c_eval_laws.proofs.Serving.{is_served}
 use Rattle.c_eval.specs.Kept.{Kept, over}
 use Rattle.c_eval.specs.Changes.{Comes, done, doing}
 use Rattle.c_eval.specs.declared.end.EvalEnd.{EvalEnd}
-use Rattle.c_eval_turns.specs.Turns.{Begun, IsReady, IsTurn}
+use Rattle.c_eval_tasks.specs.Turns.{Begun, IsReady, IsTurn}
 use Rattle.c_eval_tasks.specs.Performs.{Fits}
 use Rattle.c_eval_tasks.specs.Standing.{BothTell, LeadsOn, Meets, Ran, SameCounts, Standing, Stops, Tells, before_task}
 use Rattle.c_evaluator.specs.Whole.{EndsAt, Turned, Turns}
-use Rattle.c_eval_turns.specs.declared.next.Turn.{Turn}
-use Rattle.c_eval_turns.specs.declared.next.Turn.TheVariants.{Call, Loop}
+use Rattle.c_eval_tasks.specs.declared.next.Turn.{Turn}
+use Rattle.c_eval_tasks.specs.declared.next.Turn.TheVariants.{Call, Loop}
 use Rattle.c_eval_tasks.proofs.Going.{ahead_step, next_step, ran_on, ran_stops}
 use Rattle.c_eval_tasks.proofs.Stepping.{moved, quiet_counts, same_counts, same_tells}
 use Rattle.c_eval_tasks.proofs.Walking.{both_then, counts_then, ends_then, tells_then}

@@ -6,7 +6,7 @@ use Rattle.c_eval.specs.declared.end.EvalEnd.{EvalEnd}
 use Rattle.c_eval_tasks.specs.Runs.{EvalCounts}
 use Rattle.c_eval_tasks.specs.Performs.{Fits}
 use Rattle.c_eval_tasks.specs.Standing.{BothTell, LeadsOn, LeadsToEnd, Meets, SameCounts, Standing, Stops, Tells}
-use Rattle.c_eval_turns.specs.declared.next.Turn.{Turn}
+use Rattle.c_eval_tasks.specs.declared.next.Turn.{Turn}
 
 -- steps up to the next turn
 abbrev pub UpToTurn : Program → Standing → Standing → Result Turn EvalEnd → Type 0

@@ -7,8 +7,7 @@ ghost use Rattle.c_evaluator.specs.Whole.{EndsAt, Turned, UpToTurn};
 ghost use Rattle.c_tree.specs.Erased.{program_of};
 
 use c_eval::{EvalEnd, Evaluation, Store};
-use c_eval_steps::advance;
-use c_eval_turns::{Turn, begin};
+use c_eval_tasks::{Turn, advance, begin};
 use c_tree::Program;
 use pcc_outside::{Sink, Source};
 

@@ -1,6 +1,6 @@
 -- What the code's notes are to the definitions of typing.
 use Rattle.c_typing.specs.Checked as checked
-use Rattle.c_meanings.specs.Views.{entity_of, declared_of}
+use Rattle.c_bindings.specs.Views.{entity_of, declared_of}
 use Rattle.c_expressions.specs.declared.notes.Contents.{Contents}
 use Rattle.c_expressions.specs.declared.notes.Contents.TheVariants as contents
 use Rattle.c_expressions.specs.declared.notes.Stored.{Stored}

@@ -21,15 +21,14 @@ ghost use Rattle.c_typing.specs.Names.{function_number};
 ghost use Rattle.c_typing.specs.Types.{is_pointer};
 ghost use Rattle.c_operands.specs.Judged.{IsJudged, IsOperandOf};
 ghost use Rattle.c_operands.specs.Parts.{Stands};
-ghost use Rattle.c_meanings.specs.Views.{entity_of, library_of, signature_of};
+ghost use Rattle.c_bindings.specs.Views.{entity_of, library_of, signature_of};
 ghost use Rattle.c_expressions.specs.Arguments.{AreArguments, first_of};
 ghost use Rattle.c_expressions.specs.Said.{IsSaid};
 
 use crate::arguments::Arguments;
 use crate::notes::Notes;
-use c_faults::earlier;
-use c_meanings::{Entity, LibraryFunction, Signature};
-use c_operands::{Judged, Operand, plain, plain_node};
+use c_bindings::{Entity, LibraryFunction, Signature};
+use c_operands::{Judged, Operand, earlier, plain, plain_node};
 use c_scopes::Scopes;
 use c_tree::{Expression, ValueType};
 use pcc_base::{Fault, FaultKind, NoMemory, Span};

@@ -13,7 +13,7 @@ ghost use Rattle.c_operands.specs.Parts.{Stands};
 ghost use Rattle.c_expressions.specs.Said.{IsSaid};
 
 use crate::notes::Notes;
-use c_meanings::Meaning;
+use c_bindings::Meaning;
 use c_operands::{Constant, Judged, Operand, plain_node};
 use c_scopes::Scopes;
 use c_syntax::Identifier;

@@ -3,9 +3,9 @@
 ghost use Rattle.std.specs.Prelude.{◌≡◌, ◌++◌, ◌∷◌, [], map, OnOk};
 ghost use Rattle.c_typing.specs.Checked as checked;
 ghost use Rattle.c_expressions.specs.Notes.{note_of};
-ghost use Rattle.c_meanings.specs.Views.{entity_of};
+ghost use Rattle.c_bindings.specs.Views.{entity_of};
 
-use c_meanings::{Declared, Entity};
+use c_bindings::{Declared, Entity};
 use c_tree::IntegerType;
 use pcc_base::{NoMemory, Span};
 use std::alloc::Global;

@@ -5,14 +5,14 @@ ghost use Rattle.c_tree.specs.Store.{converted};
 ghost use Rattle.c_tree.specs.declared.types.IntegerType.TheVariants.{Char};
 ghost use Rattle.c_typing.specs.Expressions.{text_literal, text_note, text_values, text_entity};
 ghost use Rattle.c_operands.specs.Judged.{IsOperandOf};
-ghost use Rattle.c_meanings.specs.Views.{entity_of};
+ghost use Rattle.c_bindings.specs.Views.{entity_of};
 ghost use Rattle.c_expressions.specs.Notes.{note_of};
 ghost use Rattle.c_expressions.specs.Said.{IsSaid};
 
 use crate::named::fitting;
 use crate::notes::{Contents, Note, Notes, Stored};
 use crate::places::first_piece;
-use c_meanings::Entity;
+use c_bindings::Entity;
 use c_operands::{Judged, Operand};
 use c_operators::convert;
 use c_scopes::Scopes;

@@ -5,7 +5,7 @@ ghost use Rattle.c_tree.specs.Erased.{boxed_of, first_of, item_of, statement_of,
 ghost use Rattle.c_tree.specs.Sizes.{first_height, items_height, option_height};
 ghost use Rattle.c_tree.specs.Sizes.{statement_height, statements_height};
 
-use c_heights::{Height, expression, higher, item, on_one};
+use crate::{Height, expression, higher, item, on_one};
 use c_tree::{Expression, First, Item, Statement};
 
 /// The height of an expression that may be absent.

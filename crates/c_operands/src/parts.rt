@@ -3,8 +3,8 @@
 ghost use Rattle.std.specs.Prelude.{◌≡◌};
 ghost use Rattle.c_operands.specs.Judged.{joined_answers};
 
+use crate::earlier;
 use crate::judged::Judged;
-use c_faults::earlier;
 
 /// Two parts: both values, or the least of the faults.
 pub fn both<A: Drop, B: Drop>(a: Judged<A>, b: Judged<B>) -> Judged<(A, B)>

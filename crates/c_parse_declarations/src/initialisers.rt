@@ -8,12 +8,11 @@ ghost use Rattle.c_syntax.specs.Taking.{take_mark};
 ghost use Rattle.c_syntax.specs.DeclarationReading.{brace_step, read_initialiser, value_from};
 ghost use Rattle.c_cursor.specs.Readings.{IsRead, IsPartRead};
 ghost use Rattle.c_parse_expressions.specs.Readings.{IsValuesTurn, AreValues, below};
-ghost use Rattle.c_expression_nodes.specs.Values.{values_of, height_of_values};
+ghost use Rattle.c_parse_expressions.specs.Values.{values_of, height_of_values};
 ghost use Rattle.c_parse_declarations.specs.Braces.{read_values};
 
 use c_cursor::{Cursor, Height};
-use c_expression_nodes::{Values, one_more, one_value};
-use c_parse_expressions::{Rule, ValuesTurn, tree_below};
+use c_parse_expressions::{Rule, Values, ValuesTurn, one_more, one_value, tree_below};
 use c_syntax::{Initialiser, InitialiserPart};
 use c_tokens::Punct;
 use pcc_base::{FaultKind, Refusal, Span};

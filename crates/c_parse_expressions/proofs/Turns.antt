@@ -14,8 +14,8 @@ use Rattle.c_syntax.proofs.Reading.{readers-none, cast_reads}
 use Rattle.c_syntax.specs.Reading.{Values, read_arguments, arguments_from, value_step}
 use Rattle.c_syntax.proofs.Chains.{Continues, continues_start}
 use Rattle.c_cursor.specs.Readings.{Refused}
-use Rattle.c_casts.specs.Fronts.{BeginsWithSpecifier}
-use Rattle.c_expression_nodes.specs.declared.found.Found.{Found}
+use Rattle.c_cursor.specs.Fronts.{BeginsWithSpecifier}
+use Rattle.c_parse_expressions.specs.declared.found.Found.{Found}
 use Rattle.c_parse_expressions.specs.declared.expression.Rule.{Rule}
 use Rattle.c_parse_expressions.specs.declared.expression.Rule.TheVariants as rules_of
 use Rattle.c_parse_expressions.specs.Readings.{IsReading, reader_of, below}

@@ -8,9 +8,9 @@ use Rattle.c_syntax.specs.Chains.{Step, Done, Goes, Reads}
 use Rattle.c_syntax.specs.Reading as reading
 use Rattle.c_syntax.specs.Reading.{Readers, readers}
 use Rattle.c_cursor.specs.Readings.{Refused, RefusedStep}
-use Rattle.c_expression_nodes.specs.declared.found.Values.{Values}
-use Rattle.c_expression_nodes.specs.Values.{values_of, height_of_values}
-use Rattle.c_expression_nodes.specs.declared.found.Found.{Found}
+use Rattle.c_parse_expressions.specs.declared.found.Values.{Values}
+use Rattle.c_parse_expressions.specs.Values.{values_of, height_of_values}
+use Rattle.c_parse_expressions.specs.declared.found.Found.{Found}
 use Rattle.c_parse_expressions.specs.declared.turn.Turn.{Turn}
 use Rattle.c_parse_expressions.specs.declared.turn.Turn.TheVariants.{More, Last}
 use Rattle.c_parse_expressions.specs.declared.turn.ValuesTurn.{ValuesTurn}

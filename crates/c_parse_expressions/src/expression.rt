@@ -13,8 +13,8 @@ ghost use Rattle.c_parse_expressions.specs.Readings.{IsReading, IsPartReading, I
 use crate::nodes::{assignment_node, cast_node, conditional_node, prefix_node, unary_node};
 use crate::primary::postfix;
 use crate::turn::Turn;
+use crate::{Found, binary_node};
 use c_cursor::{Cursor, Height, fault_at};
-use c_expression_nodes::{Found, binary_node};
 use c_syntax::{AssignOp, BinaryOp, Expression, StepOp, UnaryOp};
 use c_tokens::Punct;
 use pcc_base::{FaultKind, Refusal, Span};

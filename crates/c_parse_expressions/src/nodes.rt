@@ -1,5 +1,5 @@
 //! Nodes of expressions: each puts parts that were read into one tree, and adds one to the greatest of
-//! their heights. Those of two operands and of parentheses are in `c_expression_nodes`.
+//! their heights. Those of two operands and of parentheses are in `build`.
 //!
 //! None is inlined: a tree is as large as its largest node, and the functions that read a nest keep room for none.
 
@@ -7,7 +7,7 @@ ghost use Rattle.std.specs.Prelude.{◌≡◌, ◌≤◌, max, map, suc, IfOk};
 ghost use Rattle.c_syntax.specs.Expressions as trees;
 ghost use Rattle.c_syntax.specs.Expressions.{expr_of, exprs_of, star_of};
 
-use c_expression_nodes::{Found, Values, found_of};
+use crate::{Found, Values, found_of};
 use c_syntax::{
     AssignOp, CallParts, Expression, Identifier, Pointer, Specifier, StepOp, TextPiece, TypeName,
     UnaryOp,

@@ -18,7 +18,7 @@ use Rattle.c_syntax.specs.StatementReading.{read_labelled, read_condition, read_
 use Rattle.c_syntax.specs.StatementReading.{while_behind, do_behind, for_behind, switch_behind}
 use Rattle.c_syntax.proofs.StatementReading.{below_of-none, below_of-suc, below_above}
 use Rattle.c_cursor.specs.Readings.{IsRead, Refused}
-use Rattle.c_casts.specs.Fronts.{BeginsWithSpecifier}
+use Rattle.c_cursor.specs.Fronts.{BeginsWithSpecifier}
 use Rattle.c_parse_statements.specs.Parts.{fields_of, below_node}
 
 -- one reader in place of another

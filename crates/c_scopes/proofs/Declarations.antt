@@ -13,13 +13,13 @@ use Rattle.c_typing.specs.Library as library
 use Rattle.c_typing.specs.Library.{same_entity}
 use Rattle.c_typing.specs.Names.{Outer, clashes}
 use Rattle.c_typing.specs.Types.{same_type}
-use Rattle.c_meanings.specs.declared.entity.Entity.{Entity}
+use Rattle.c_bindings.specs.declared.entity.Entity.{Entity}
 use Rattle.c_bindings.specs.declared.sums.Seen.{Seen}
-use Rattle.c_meanings.specs.contracts.entity.EntityPartialEq.TheImpl.{ghosts}
+use Rattle.c_bindings.specs.contracts.entity.EntityPartialEq.TheImpl.{ghosts}
 use Rattle.c_scopes.specs.Outers.{is_entity, IsSummed, SumsUp}
-use Rattle.c_meanings.specs.Views.{entity_of}
-use Rattle.c_meanings.proofs.Entities.{turned}
-use Rattle.c_meanings.proofs.Sameness.{thing_is, thing_self, type_is, type_self}
+use Rattle.c_bindings.specs.Views.{entity_of}
+use Rattle.c_bindings.proofs.Entities.{turned}
+use Rattle.c_bindings.proofs.Sameness.{thing_is, thing_self, type_is, type_self}
 
 -- the test of the table is that of the definition
 pub by_eq : {X : Type 0} (a : Entity) (es : List (Entity × X))

@@ -9,10 +9,10 @@ use Rattle.std.specs.List.{list_any}
 use Rattle.std.proofs.lemmas.List.{map_push}
 use Rattle.indexmap.specs.IndexSet.{insert_key}
 use Rattle.c_typing.specs.Library.{Entity, same_entity, number_among}
-use Rattle.c_meanings.specs.declared.entity.Entity.{Entity as Stored}
-use Rattle.c_meanings.specs.contracts.entity.EntityPartialEq.TheImpl.{ghosts}
-use Rattle.c_meanings.specs.Views.{entity_of, with_entity}
-use Rattle.c_meanings.proofs.Entities.{turned}
+use Rattle.c_bindings.specs.declared.entity.Entity.{Entity as Stored}
+use Rattle.c_bindings.specs.contracts.entity.EntityPartialEq.TheImpl.{ghosts}
+use Rattle.c_bindings.specs.Views.{entity_of, with_entity}
+use Rattle.c_bindings.proofs.Entities.{turned}
 
 among : {K : Type 0} (test : K → Bool) (view : K → Entity) (ks : List K) (e : Entity)
     → ((k : K) → test k ≡ same_entity (view k) e) → position_or_len test ks ≡ number_among (map view ks) e

@@ -6,9 +6,9 @@ use Rattle.c_typing.specs.Library as library
 use Rattle.c_typing.specs.Library.{same_entity}
 use Rattle.c_typing.specs.Names as names
 use Rattle.c_typing.specs.Types.{same_type}
-use Rattle.c_meanings.specs.declared.entity.Entity.{Entity}
+use Rattle.c_bindings.specs.declared.entity.Entity.{Entity}
 use Rattle.c_bindings.specs.declared.sums.Seen.{Seen}
-use Rattle.c_meanings.specs.Views.{entity_of}
+use Rattle.c_bindings.specs.Views.{entity_of}
 
 -- what is stored is this thing
 abbrev pub is_entity : library.Entity → Entity → Bool

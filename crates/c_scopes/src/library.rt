@@ -5,11 +5,10 @@ ghost use Rattle.c_typing.specs.Names.{library_binding, library_names, library_o
 ghost use Rattle.c_typing.specs.Library as library;
 ghost use Rattle.c_typing.specs.Library.{Putchar, Getchar, Exit};
 ghost use Rattle.c_typing.specs.Names as names;
-ghost use Rattle.c_meanings.specs.Views.{library_of, meaning_of, outer_of};
+ghost use Rattle.c_bindings.specs.Views.{library_of, meaning_of, outer_of};
 
 use crate::outers::Outers;
-use c_bindings::Names;
-use c_meanings::{Declared, Entity, LibraryFunction, Meaning, Outer, Signature};
+use c_bindings::{Declared, Entity, LibraryFunction, Meaning, Names, Outer, Signature};
 use c_tree::{IntegerType, ValueType};
 use pcc_base::NoMemory;
 use std::alloc::Global;

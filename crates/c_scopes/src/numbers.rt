@@ -2,9 +2,9 @@
 
 ghost use Rattle.std.specs.Prelude.{◌≡◌, ◌∷◌, ◌++◌, [], IfOk, OnOk};
 ghost use Rattle.c_typing.specs.Library.{number_among};
-ghost use Rattle.c_meanings.specs.Views.{entity_of, with_entity};
+ghost use Rattle.c_bindings.specs.Views.{entity_of, with_entity};
 
-use c_meanings::Entity;
+use c_bindings::Entity;
 use indexmap::IndexSet;
 use pcc_base::NoMemory;
 use std::alloc::Global;
@@ -33,7 +33,7 @@ impl Model for Numbers {
 
     ghost Value = { typing.Numbers };
 
-    ghost use Rattle.c_meanings.specs.Views.{entity_of};
+    ghost use Rattle.c_bindings.specs.Views.{entity_of};
 
     ghost view = { λ n. record {
       objects = map entity_of n.objects.keys;

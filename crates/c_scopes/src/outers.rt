@@ -7,10 +7,9 @@ ghost use Rattle.c_typing.specs.Names as typing;
 ghost use Rattle.c_typing.specs.Names.{clashes};
 ghost use Rattle.c_typing.specs.Types.{same_type};
 ghost use Rattle.c_scopes.specs.Outers.{is_entity, IsSummed};
-ghost use Rattle.c_meanings.specs.Views.{declared_of, entity_of, outer_of};
+ghost use Rattle.c_bindings.specs.Views.{declared_of, entity_of, outer_of};
 
-use c_bindings::{Seen, is_against, with_one_more};
-use c_meanings::{Entity, Outer, same_type};
+use c_bindings::{Entity, Outer, Seen, is_against, same_type, with_one_more};
 use indexmap::IndexMap;
 use pcc_base::NoMemory;
 use std::alloc::Global;
@@ -69,7 +68,7 @@ impl Model for Outers {
 
     ghost Value = { List typing.Outer };
 
-    ghost use Rattle.c_meanings.specs.Views.{outer_of};
+    ghost use Rattle.c_bindings.specs.Views.{outer_of};
     ghost use Rattle.c_scopes.specs.Outers.{SumsUp};
 
     ghost view = { λ o. map outer_of (reverse o.list.items) };

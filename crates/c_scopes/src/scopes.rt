@@ -34,13 +34,15 @@ ghost use Rattle.c_typing.specs.Names.{
   Scope,
 };
 ghost use Rattle.c_typing.specs.Files.{with_outer};
-ghost use Rattle.c_meanings.specs.Views as views;
+ghost use Rattle.c_bindings.specs.Views as views;
 
 use crate::library::{bind_functions, declare_functions};
 use crate::numbers::{Numbers, number};
 use crate::outers::Outers;
-use c_bindings::{Names, as_before, entity_meant, external, internal, is_function, is_other};
-use c_meanings::{Declared, Entity, Meaning, Outer, Storage};
+use c_bindings::{
+    Declared, Entity, Meaning, Names, Outer, Storage, as_before, entity_meant, external, internal,
+    is_function, is_other,
+};
 use c_tree::{IntegerType, Local, LocalArray, ValueType};
 use pcc_base::{Name, NoMemory};
 use std::alloc::Global;

@@ -13,8 +13,8 @@ use Rattle.c_typing.specs.Names.{Numbers}
 use Rattle.c_tree.specs.Program as tree
 use Rattle.c_typing.specs.Numbering.{first_ones, is_not, object_noted, objects_noted, function_noted, numbers_of}
 use Rattle.c_typing.specs.Numbering.{static_objects}
-use Rattle.c_meanings.specs.Views.{with_entity}
-use Rattle.c_meanings.proofs.Sameness.{thing_is, thing_self}
+use Rattle.c_bindings.specs.Views.{with_entity}
+use Rattle.c_bindings.proofs.Sameness.{thing_is, thing_self}
 use Rattle.c_types.proofs.Things.{or_last}
 use Rattle.c_types.specs.Tables.{AreApart, with_number, Known, IsKnownOf, is_seen_with, described_as, described_by}
 

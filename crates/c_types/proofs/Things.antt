@@ -8,12 +8,12 @@ use Rattle.std.proofs.lemmas.List.Folds.{list_any-append}
 use Rattle.indexmap.specs.IndexSet.{insert_key}
 use Rattle.std.proofs.lemmas.Bool.{false_from_ne_true}
 use Rattle.c_typing.specs.Library.{Entity, same_entity}
-use Rattle.c_meanings.specs.declared.entity.Entity.{Entity as Stored}
-use Rattle.c_meanings.specs.contracts.entity.EntityPartialEq.TheImpl.{ghosts}
-use Rattle.c_meanings.specs.Views.{entity_of}
+use Rattle.c_bindings.specs.declared.entity.Entity.{Entity as Stored}
+use Rattle.c_bindings.specs.contracts.entity.EntityPartialEq.TheImpl.{ghosts}
+use Rattle.c_bindings.specs.Views.{entity_of}
 use Rattle.c_scopes.proofs.Declarations.{by_eq}
-use Rattle.c_meanings.proofs.Entities.{turned}
-use Rattle.c_meanings.proofs.Sameness.{thing_is, thing_self}
+use Rattle.c_bindings.proofs.Entities.{turned}
+use Rattle.c_bindings.proofs.Sameness.{thing_is, thing_self}
 use Rattle.c_types.specs.Tables.{is_entity, among, with_thing, with_values, values_or_none}
 
 -- the test of the table is that of the definition

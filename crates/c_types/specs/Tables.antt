@@ -9,8 +9,8 @@ use Rattle.c_typing.specs.Checked as checked
 use Rattle.c_typing.specs.Checked.{Note, Uses, Stores, Defines}
 use Rattle.c_typing.specs.Names.{Numbers}
 use Rattle.c_typing.specs.Numbering.{is_defined, is_function_of, values_of, objects_noted, function_noted, filled}
-use Rattle.c_meanings.specs.declared.entity.Entity.{Entity as Stored}
-use Rattle.c_meanings.specs.Views.{entity_of, with_entity}
+use Rattle.c_bindings.specs.declared.entity.Entity.{Entity as Stored}
+use Rattle.c_bindings.specs.Views.{entity_of, with_entity}
 use Rattle.c_types.specs.declared.known.Known.{Known as Table}
 use Rattle.c_types.specs.declared.objects.Described.{Described}
 use Rattle.c_types.specs.declared.tables.Things.{Things}

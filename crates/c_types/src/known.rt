@@ -3,12 +3,12 @@
 ghost use Rattle.std.specs.Prelude.{◌≡◌, ◌∷◌, [], List, map, IfOk, OnOk};
 ghost use Rattle.c_typing.specs.Checked as checked;
 ghost use Rattle.c_expressions.specs.Notes.{note_of, stored_of};
-ghost use Rattle.c_meanings.specs.Views.{entity_of};
+ghost use Rattle.c_bindings.specs.Views.{entity_of};
 ghost use Rattle.c_types.specs.Tables.{known_of, IsKnownOf};
 
 use crate::tables::{Things, Values};
+use c_bindings::Entity;
 use c_expressions::{Contents, Note, Stored};
-use c_meanings::Entity;
 use pcc_base::NoMemory;
 use std::alloc::Global;
 

@@ -10,13 +10,13 @@ ghost use Rattle.c_typing.specs.Library.{same_entity};
 ghost use Rattle.c_expressions.specs.Notes.{note_of};
 ghost use Rattle.c_tree.specs.Program.{int};
 ghost use Rattle.c_typing.specs.Types.{DeclaredFunction, same_type, same_value, same_values};
-ghost use Rattle.c_meanings.specs.Views.{declared_of, entity_of};
+ghost use Rattle.c_bindings.specs.Views.{declared_of, entity_of};
 ghost use Rattle.c_types.specs.Tables.{known_of, IsKnownOf};
 
 use crate::known::Known;
+use c_bindings::{Declared, Entity};
 use c_expressions::Note;
-use c_faults::earlier;
-use c_meanings::{Declared, Entity};
+use c_operands::earlier;
 use c_tree::{IntegerType, ValueType};
 use pcc_base::{Fault, FaultKind};
 

@@ -12,8 +12,8 @@ ghost use Rattle.c_types.specs.Answers.{AreJudged, IsRefusal};
 ghost use Rattle.c_types.specs.Outlines.{IsOutline, IsOutlineOf, IsUnfinished, unfinished};
 
 use crate::{Described, Known, defined, describe, has_main, least_missing, numbered};
+use c_bindings::Entity;
 use c_expressions::{Note, Notes};
-use c_meanings::Entity;
 use c_operands::Judged;
 use c_scopes::Numbers;
 use c_tree::Function;

@@ -1,11 +1,11 @@
 //! Tables of things.
 
 ghost use Rattle.std.specs.Prelude.{◌≡◌, OnOk};
-ghost use Rattle.c_meanings.specs.Views.{entity_of};
+ghost use Rattle.c_bindings.specs.Views.{entity_of};
 ghost use Rattle.c_typing.specs.Library.{Entity as Thing};
 ghost use Rattle.c_types.specs.Tables.{no_values, nothing, test_of, values_in, with_thing, with_values};
 
-use c_meanings::Entity;
+use c_bindings::Entity;
 use indexmap::{IndexMap, IndexSet};
 use pcc_base::NoMemory;
 use std::alloc::Global;

@@ -12,9 +12,9 @@ use Rattle.flow_graph.specs.Meaning.{Moved, Moves, Halts, Stuck, back_to, step}
 use Rattle.flow_graph.specs.States.{Activation, State, Waiting, entry_of, first_activation}
 use Rattle.flow_graph.specs.States.{first_state_at, flow_at, op_at}
 use Rattle.flow_graph.specs.WellFormed.{IsActivation, IsState, functions_of}
-use Rattle.graph_states.proofs.Keeping.{step_keeps_state}
-use Rattle.graph_states.proofs.Values.{op-at}
-use Rattle.live_searches.proofs.Placed.{first-placed}
+use Rattle.flow_graph.proofs.Keeping.{step_keeps_state}
+use Rattle.flow_graph.proofs.Values.{op-at}
+use Rattle.liveness.proofs.Placed.{first-placed}
 use Rattle.liveness.proofs.Variables.{before-within}
 use Rattle.elementary_form.specs.FormLaws.{AreSameWaiting, FirstFits, Fits, FitsMove, HoldBefore}
 use Rattle.elementary_form.specs.FormLaws.{HoldWaiting, IsSameWaiting, StepFits}

@@ -14,7 +14,7 @@ use Rattle.flow_graph.specs.Running.{GraphOutcome, array_or_unknown, first_state
 use Rattle.flow_graph.specs.Running.{outcome_from, part_value, run_within, takes_turn, visits_at, visits_of, with_turn}
 use Rattle.flow_graph.specs.States.{State, array_from, number_of, op_at}
 use Rattle.flow_graph.specs.WellFormed.{IsState}
-use Rattle.graph_states.proofs.Keeping.{first_is_state, step_keeps_state}
+use Rattle.flow_graph.proofs.Keeping.{first_is_state, step_keeps_state}
 use Rattle.elementary_form.specs.FormLaws.{Fits, FitsMove, FormKeepsOutcome, ListsLive, variable_of}
 use Rattle.elementary_form.specs.FormRuns.{FormOutcome, first_form, form_outcome_from, form_run_within}
 use Rattle.elementary_form.specs.Forms.{FormMoved, FormMoves, FormHalts, FormProgram, FormState, FormStuck}

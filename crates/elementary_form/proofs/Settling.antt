@@ -12,8 +12,8 @@ use Rattle.flow_graph.specs.Lives.{AreLive, Lives, at_point}
 use Rattle.flow_graph.specs.States.{Activation, GraphProgram, State, Waiting, flow_at}
 use Rattle.flow_graph.specs.WellFormed.{AreActivations, AreWaiting, FitsWidth, IsActivation}
 use Rattle.flow_graph.specs.WellFormed.{functions_of}
-use Rattle.graph_states.proofs.Values.{graph-of}
-use Rattle.live_searches.proofs.Placed.{placed-within}
+use Rattle.flow_graph.proofs.Values.{graph-of}
+use Rattle.liveness.proofs.Placed.{placed-within}
 use Rattle.liveness.proofs.Variables.{after-within, before-within}
 use Rattle.elementary_form.specs.FormLaws.{AreSameWaiting, Fits, HoldBefore, HoldWaiting, IsSameCall}
 use Rattle.elementary_form.specs.FormLaws.{IsSameWaiting}

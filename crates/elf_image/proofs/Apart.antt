@@ -5,10 +5,10 @@ use Rattle.std.specs.Bool.{Decides}
 use Rattle.std.specs.List.{AllWithin}
 use Rattle.std.proofs.lemmas.List.{length-map, get_or-map}
 use Rattle.std.proofs.lemmas.List.Elements.{All-map, All-from_all_within}
-use Rattle.elf_extents.specs.declared.extent.Extent.{Extent}
-use Rattle.elf_extents.specs.Extents.{AreDistinct}
-use Rattle.elf_extents.specs.Pieces.{AreApart}
-use Rattle.elf_extents.proofs.Pairs.{pairs-map, pairs-unmap}
+use Rattle.elf_image.specs.declared.distinct.Extent.{Extent}
+use Rattle.elf_image.specs.MemoryExtents.{AreDistinct}
+use Rattle.elf_image.specs.Pieces.{AreApart}
+use Rattle.elf_image.proofs.Pairs.{pairs-map, pairs-unmap}
 use Rattle.elf_image.specs.declared.loaded.Segment.{Segment}
 use Rattle.elf_image.specs.Extents.{extent_of}
 use Rattle.elf_image.specs.Segments.{IsPiece, IsLoadable, piece_of}

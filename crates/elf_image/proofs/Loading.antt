@@ -12,7 +12,7 @@ use Rattle.elf_image.specs.Fields.{loads_in}
 use Rattle.elf_image.specs.Headers.{load_header_at}
 use Rattle.elf_image.proofs.Apart.{sizes}
 use Rattle.elf_image.specs.Layout.{Parts, Fits, image_bytes, text_address, text_span, data_memory}
-use Rattle.elf_extents.specs.Pieces.{AreApart, Piece}
+use Rattle.elf_image.specs.Pieces.{AreApart, Piece}
 use Rattle.elf_image.specs.Segments.{IsInFile, IsLoadable, IsPiece, Loads, Segments, image_segments}
 use Rattle.elf_image.specs.Segments.{IsFilePart, piece_at, segments_in}
 use Rattle.elf_image.proofs.Front.{data-reads, data_header, entry-reads, length-image, loads-both, text-reads}

@@ -4,3 +4,5 @@ pub mod Segments
 pub mod Headers
 pub mod Extents
 pub mod Worked
+pub mod Pieces
+pub mod MemoryExtents

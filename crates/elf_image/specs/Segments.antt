@@ -1,7 +1,7 @@
 -- What the bytes of a file load: segments of memory, and where running begins.
 use Rattle.std.specs.Prelude.{◌≡◌, ℕ, ◌+◌, ◌*◌, ◌≤◌, ◌^◌, Bool, true, false, not, List, [], ◌∷◌, length, map, take}
 use Rattle.std.specs.Prelude.{drop, sum_by, All, AllPairs, bit_and, nat_eq}
-use Rattle.elf_extents.specs.Pieces.{Piece, AreApart}
+use Rattle.elf_image.specs.Pieces.{Piece, AreApart}
 use Rattle.elf_image.specs.declared.image.Image.{Image}
 use Rattle.elf_image.specs.declared.loaded.Segment.{Segment}
 use Rattle.elf_image.specs.declared.loaded.Loaded.{Loaded}

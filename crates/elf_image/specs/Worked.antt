@@ -1,6 +1,6 @@
 -- Small lists of segments, as examples.
 use Rattle.std.specs.Prelude.{ℕ, true, false, List, []}
-use Rattle.elf_extents.specs.Pieces.{Piece}
+use Rattle.elf_image.specs.Pieces.{Piece}
 use Rattle.elf_image.specs.Segments.{Segments}
 
 -- a segment of so many bytes of memory, none of them from the file

@@ -3,8 +3,8 @@
 ghost use Rattle.std.specs.Prelude.{◌≡◌, IfOk, map};
 ghost use Rattle.elf_image.specs.Extents.{extent_of};
 
+use crate::Extent;
 use crate::loaded::Segment;
-use elf_extents::Extent;
 use pcc_base::NoMemory;
 use std::alloc::Global;
 

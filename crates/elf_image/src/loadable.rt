@@ -2,12 +2,12 @@
 
 ghost use Rattle.std.specs.Prelude.{◌≡◌, ◌+◌, ◌≤◌, IfOk, All, AllPairs, map, sum_by};
 ghost use Rattle.std.specs.Bool.{Decides};
-ghost use Rattle.elf_extents.specs.Pieces.{AreApart};
+ghost use Rattle.elf_image.specs.Pieces.{AreApart};
 ghost use Rattle.elf_image.specs.Segments.{IsLoadable, IsPiece, piece_of, segments_of};
 
+use crate::are_distinct;
 use crate::extent::extents;
 use crate::loaded::{Loaded, Segment};
-use elf_extents::are_distinct;
 use pcc_base::NoMemory;
 use std::alloc::Global;
 

@@ -6,3 +6,13 @@ pub mod LivePaths
 pub mod OneRun
 pub mod Parted
 pub mod Points
+pub mod Active
+pub mod Arrays
+pub mod Calls
+pub mod Changes
+pub mod Held
+pub mod Keeping
+pub mod Lists
+pub mod Numbers
+pub mod Steps
+pub mod Values

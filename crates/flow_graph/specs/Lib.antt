@@ -9,3 +9,4 @@ pub mod Sizes
 pub mod States
 pub mod WellFormed
 pub mod Worked
+pub mod WorkedStates

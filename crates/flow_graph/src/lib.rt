@@ -7,7 +7,8 @@
 //!
 //! What graphs mean is here too: their states (`specs/States.antt`), what each op does
 //! (`specs/Meaning.antt`), the outcome of a number of turns (`specs/Running.antt`), and which variables are
-//! live, by paths (`specs/Liveness.antt`). The laws say that a run has one outcome.
+//! live, by paths (`specs/Liveness.antt`). The laws say that a run has one outcome, and that states of a program keep
+//! what the first one keeps (`state_laws`, `specs/WellFormed.antt`).
 #![tactic(auto)]
 
 mod graph;
@@ -15,6 +16,7 @@ mod laws;
 mod live_sets;
 mod op;
 mod order;
+mod state_laws;
 mod words;
 
 pub use graph::Graph;
@@ -23,4 +25,8 @@ pub use laws::{
 };
 pub use live_sets::LiveSets;
 pub use op::{Bits, Comparison, Op};
+pub use state_laws::{
+    first_is_state, functions_begin, held_arrays, held_frames, states_are_states, step_keeps_state,
+    worked_depths, worked_states,
+};
 pub use words::Words;

@@ -1,1 +1,7 @@
 pub mod Emitted
+mod Counted
+pub mod Fine
+pub mod RowSizes
+pub mod Short
+pub mod Sums
+pub mod Whole

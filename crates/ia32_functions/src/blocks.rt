@@ -5,11 +5,11 @@ ghost use Rattle.ia32_insn.specs.declared.item.Item.TheVariants as item;
 ghost use Rattle.flow_graph.specs.Graphs.{IsPlaced, points_of};
 ghost use Rattle.ia32_rows.specs.Rows.{point_row, point_rows, block_rows};
 ghost use Rattle.ia32_functions.specs.Room.{HasRoom};
-ghost use Rattle.ia32_sites.specs.Sites.{flow_of, placement_of};
+ghost use Rattle.ia32_functions.specs.Sites.{flow_of, placement_of};
 
+use crate::Site;
 use crate::ops::emit_op;
 use ia32_insn::Item;
-use ia32_sites::Site;
 use pcc_base::NoMemory;
 
 /// A point, and the items of its op.

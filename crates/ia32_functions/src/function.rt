@@ -7,17 +7,16 @@ ghost use Rattle.ia32_rows.specs.Placements.{in_slots};
 ghost use Rattle.ia32_rows.specs.Rows.{selected};
 ghost use Rattle.ia32_programs.specs.Supports.{AreArraysIn, AreSlots};
 ghost use Rattle.ia32_emit.specs.Locations.{distance, slots_of};
-ghost use Rattle.ia32_sizes.specs.Sizes.{IsCodeIn};
+ghost use Rattle.ia32_functions.specs.Sizes.{IsCodeIn};
 ghost use Rattle.ia32_functions.specs.Room.{HasRoom};
-ghost use Rattle.ia32_sites.specs.Sites.{flow_of, placement_of};
+ghost use Rattle.ia32_functions.specs.Sites.{flow_of, placement_of};
 
 use crate::blocks::emit_blocks;
+use crate::{Site, emit_headers, selected_is_code};
 use flow_graph::Graph;
 use ia32_emit::emit_prologue;
 use ia32_insn::Item;
 use ia32_programs::slots_support;
-use ia32_sites::{Site, emit_headers};
-use ia32_sizes::selected_is_code;
 use pcc_base::NoMemory;
 use std::alloc::Global;
 

@@ -3,9 +3,10 @@
 ghost use Rattle.std.specs.Prelude.{◌≡◌, ◌<◌, ◌^◌, ◌++◌, OnOk};
 ghost use Rattle.flow_graph.specs.Sizes.{words_of};
 ghost use Rattle.ia32_rows.specs.Rows.{loop_label, row};
-ghost use Rattle.ia32_sites.specs.Sites.{flow_of, placement_of};
+ghost use Rattle.ia32_functions.specs.Sites.{flow_of, placement_of};
 
 use crate::rows::{call, clear, commuting, difference, division, load, product, set, shift, store};
+use crate::{Site, array_at, at, branch};
 use flow_graph::Op;
 use ia32_emit::{
     emit, emit_complement, emit_copy, emit_exit, emit_frame_array, emit_getchar, emit_half,
@@ -17,7 +18,6 @@ use ia32_emit_calls::{emit_leave, emit_return};
 use ia32_emit_values::emit_wide;
 use ia32_insn::{AluOp, Insn, Item, ShiftOp};
 use ia32_regs::Reg32;
-use ia32_sites::{Site, array_at, at, branch};
 use pcc_base::NoMemory;
 
 /// The items of the op of a point.

@@ -5,9 +5,10 @@ ghost use Rattle.ia32_insn.specs.declared.insn.AluOp.TheVariants as alu;
 ghost use Rattle.ia32_rows.specs.Rows.{call_row, clear_row, commuting, dividing, load_row, loop_label};
 ghost use Rattle.ia32_rows.specs.Rows.{multiplying, operation, setting, shifting, size_of, store_row};
 ghost use Rattle.ia32_emit.specs.Locations.{slots_of};
-ghost use Rattle.ia32_sites.specs.Sites.{flow_of, place_of_variable};
+ghost use Rattle.ia32_functions.specs.Sites.{flow_of, place_of_variable};
 
 use crate::arrays::emit_clear;
+use crate::{Site, all_at, any_at, array_at, array_of, at, loop_label};
 use flow_graph::{Bits, Comparison, Words};
 use ia32_emit::{emit_commuting, emit_operation, emit_product};
 use ia32_emit_accesses::{emit_load, emit_store};
@@ -15,7 +16,6 @@ use ia32_emit_calls::emit_call;
 use ia32_emit_values::{emit_division, emit_set, emit_shift};
 use ia32_insn::{AluOp, Item, ShiftOp};
 use ia32_regs::Reg32;
-use ia32_sites::{Site, all_at, any_at, array_at, array_of, at, loop_label};
 use pcc_base::NoMemory;
 
 /// An operation on two variables that commute.

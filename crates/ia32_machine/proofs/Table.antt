@@ -3,8 +3,8 @@ use Rattle.std.specs.Prelude.{◌≡◌, ℕ, ◌+◌, ◌%◌, Ok}
 use Rattle.std.proofs.Common.{sym, ◌∙◌, ap}
 use Rattle.ia32_insn.specs.declared.insn.Insn.{Insn}
 use Rattle.ia32_insn.specs.State.{State, code_at}
-use Rattle.ia32_instructions.specs.Table.{IsSpelled, IsFoundAt}
-use Rattle.ia32_instructions.specs.declared.decoded.Decoded.{Decoded}
+use Rattle.ia32_processor.specs.Table.{IsSpelled, IsFoundAt}
+use Rattle.ia32_processor.specs.declared.decoded.Decoded.{Decoded}
 use Rattle.ia32_machine.specs.Performs.{FetchTold}
 
 -- an instruction in the table is the one that a fetch gives

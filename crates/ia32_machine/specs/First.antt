@@ -3,7 +3,7 @@ use Rattle.std.specs.Prelude.{◌≡◌, ℕ, List, [], map, None}
 use Rattle.ia32_regs.specs.Registers.{zero_registers}
 use Rattle.ia32_insn.specs.State.{State}
 use Rattle.elf_image.specs.Segments.{Segments, Loads}
-pub use Rattle.ia32_cells.specs.Cells.{padded}
+pub use Rattle.ia32_memory.specs.Cells.{padded}
 pub use Rattle.ia32_memory.specs.First.{area_of}
 
 -- every register is 0, the flags are unknown, EIP is the entry, and nothing was read or written

@@ -1,5 +1,5 @@
 ghost use Rattle.std.specs.Prelude.{◌≡◌, ◌≤◌, ◌↔◌, IfOk, IsTrue};
-ghost use Rattle.ia32_instructions.specs.Code.{KeepsCode};
+ghost use Rattle.ia32_processor.specs.Code.{KeepsCode};
 ghost use Rattle.ia32_machine.specs.First.{lent};
 ghost use Rattle.ia32_machine.specs.Lending.{Lends};
 ghost use Rattle.ia32_machine.specs.Performs.{FetchTold, PartTold, PartCounts, insn_moved};
@@ -56,7 +56,7 @@ pub(crate) fn perform<I: Source, O: Sink>(
         return Ok(());
     }
     let address = processor.eip();
-    match ia32_instructions::perform(processor, insn, after) {
+    match ia32_processor::perform(processor, insn, after) {
         Ok(()) => Ok(()),
         Err(halt) => Err(end_at(address, halt)),
     }

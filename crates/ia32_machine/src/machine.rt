@@ -8,9 +8,8 @@ ghost use Rattle.ia32_machine.specs.Runs.{StepTold, StepCounts, RunTold, RunCoun
 use crate::ends::{MachineEnd, StepEnd};
 use crate::instruction::{fetch, perform};
 use elf_image::Loaded;
-use ia32_instructions::{Decoded, DecodedTable};
 use ia32_memory::Memory;
-use ia32_processor::Processor;
+use ia32_processor::{Decoded, DecodedTable, Processor};
 use pcc_base::NoMemory;
 use pcc_outside::{Sink, Source};
 use std::alloc::Global;
@@ -30,7 +29,7 @@ impl Model for Machine {
 
     ghost Value = { State };
 
-    ghost use Rattle.ia32_instructions.specs.Table.{AreDecoded};
+    ghost use Rattle.ia32_processor.specs.Table.{AreDecoded};
 
     ghost view = { λ m. m.processor };
 

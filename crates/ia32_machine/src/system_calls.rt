@@ -2,7 +2,7 @@ ghost use Rattle.std.specs.Prelude.{◌≡◌, ◌∷◌, [], ℕ, true, List, O
 ghost use Rattle.pcc_outside.specs.Streams.{SinkCounts};
 ghost use Rattle.ia32_insn.specs.State as state;
 ghost use Rattle.ia32_insn.specs.Meaning.{and_then, store_bytes, with_word};
-ghost use Rattle.ia32_instructions.specs.Code.{KeepsCode};
+ghost use Rattle.ia32_processor.specs.Code.{KeepsCode};
 ghost use Rattle.ia32_machine.specs.First.{lent};
 ghost use Rattle.ia32_machine.specs.Lending.{Lends};
 ghost use Rattle.ia32_machine.specs.Runs.{alone};

@@ -3,10 +3,10 @@ use Rattle.std.specs.Prelude.{◌≡◌, ℕ, ◌-◌, ◌≤◌, ◌<◌, List,
 use Rattle.std.proofs.Common.{sym, ◌∙◌, ap, subst, arith, append-nil, length-append}
 use Rattle.std.proofs.lemmas.List.{take_all, length-replicate, get_or-map, length-map}
 use Rattle.pcc_base.specs.Bytes.{zeros}
-use Rattle.elf_extents.specs.Pieces.{Piece}
+use Rattle.elf_image.specs.Pieces.{Piece}
 use Rattle.elf_image.specs.declared.loaded.Segment.{Segment}
 use Rattle.elf_image.specs.Segments.{IsPiece, piece_of}
-use Rattle.ia32_cells.specs.Cells.{padded}
+use Rattle.ia32_memory.specs.Cells.{padded}
 
 -- bytes that fill their size are padded by nothing
 pub padded-full : (n : ℕ) (bytes : List ℕ) → length bytes ≡ n → padded n bytes ≡ bytes

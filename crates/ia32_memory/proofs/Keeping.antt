@@ -3,9 +3,9 @@ use Rattle.std.specs.Prelude.{◌≡◌, ℕ, ◌+◌, ◌-◌, ◌≤◌, true,
 use Rattle.std.proofs.Common.{sym, ◌∙◌, ap, arith}
 use Rattle.std.proofs.lemmas.Bool.{and_parts, leb-true}
 use Rattle.ia32_insn.specs.State.{Area, has_bytes}
-use Rattle.ia32_cells.specs.declared.cells.Cells.{Cells}
-use Rattle.ia32_cells.specs.Cells.{cells_seen, AreCells}
-use Rattle.ia32_cells.proofs.Keeping.{length-laid}
+use Rattle.ia32_memory.specs.declared.cells.Cells.{Cells}
+use Rattle.ia32_memory.specs.Cells.{cells_seen, AreCells}
+use Rattle.ia32_memory.proofs.KeepingCells.{length-laid}
 
 -- so many bytes from an address on are among them, where the area has these
 pub room-there : (area : Area) (cells : Cells) (at address n : ℕ) → AreCells cells → at ≡ area.address

@@ -1,7 +1,7 @@
 -- The first memory of an image (ELF, "Program Header").
 use Rattle.ia32_insn.specs.State.{Area}
-use Rattle.elf_extents.specs.Pieces.{Piece}
-use Rattle.ia32_cells.specs.Cells.{padded}
+use Rattle.elf_image.specs.Pieces.{Piece}
+use Rattle.ia32_memory.specs.Cells.{padded}
 
 -- the memory of a segment
 abbrev pub area_of : Piece → Area

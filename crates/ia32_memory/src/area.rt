@@ -6,8 +6,8 @@ ghost use Rattle.ia32_insn.specs.State.{has_bytes, with_bytes};
 ghost use Rattle.ia32_memory.specs.Areas.{allows, AreaRests};
 ghost use Rattle.ia32_memory.specs.First.{area_of};
 
+use crate::Cells;
 use elf_image::Segment;
-use ia32_cells::Cells;
 use pcc_base::NoMemory;
 use std::alloc::Global;
 use std::marker::Model;
@@ -37,7 +37,7 @@ pub struct Area {
 impl Model for Area {
     ghost use Rattle.std.specs.Prelude.{◌≡◌, IsTrue, length};
     ghost use Rattle.ia32_insn.specs.State as state;
-    ghost use Rattle.ia32_cells.specs.Cells.{cells_seen, AreCells};
+    ghost use Rattle.ia32_memory.specs.Cells.{cells_seen, AreCells};
 
     ghost Value = { state.Area };
 

@@ -1,2 +1,4 @@
 pub mod Answers
 pub mod Loans
+pub mod Code
+pub mod Table

@@ -25,9 +25,9 @@ use Rattle.flow_graph.specs.declared.op.Op.TheVariants as op
 use Rattle.flow_graph.specs.States as graph
 use Rattle.flow_graph.specs.States.{active_of, depth_of, flow_at, op_at}
 use Rattle.flow_graph.specs.WellFormed.{AreElementsIn, AreElementsOf, IsState, NamesWithin}
-use Rattle.graph_states.proofs.Active.{length-active}
-use Rattle.graph_states.proofs.Lists.{zip-second}
-use Rattle.graph_states.proofs.Values.{op-at}
+use Rattle.flow_graph.proofs.Active.{length-active}
+use Rattle.flow_graph.proofs.Lists.{zip-second}
+use Rattle.flow_graph.proofs.Values.{op-at}
 use Rattle.ia32_rows.specs.Placements.{Code, below, placement_of}
 use Rattle.ia32_rows.specs.Shows.{ElementsStand, IsFrameArrayAt, Shows}
 use Rattle.ia32_rows.specs.Sites.{Framed, Site}

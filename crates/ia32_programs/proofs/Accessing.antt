@@ -31,7 +31,7 @@ use Rattle.flow_graph.specs.States.{Elements, active_of, array_at, array_from, d
 use Rattle.flow_graph.specs.States.{flow_at}
 use Rattle.flow_graph.specs.States.{op_at, point_after, value_at, with_value}
 use Rattle.flow_graph.specs.WellFormed.{AreElementsIn, AreElementsOf, IsState}
-use Rattle.graph_states.proofs.Lists.{All-at, zip-at}
+use Rattle.flow_graph.proofs.Lists.{All-at, zip-at}
 use Rattle.ia32_rows.specs.Follows.{ComesToEnd, Follows}
 use Rattle.ia32_rows.specs.Paths.{Comes}
 use Rattle.ia32_rows.specs.Placements.{Code, placement_of}

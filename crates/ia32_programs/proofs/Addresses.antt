@@ -14,8 +14,8 @@ use Rattle.flow_graph.specs.Meaning.{same_array}
 use Rattle.flow_graph.specs.States as graph
 use Rattle.flow_graph.specs.States.{Activation, active_of, flow_at}
 use Rattle.flow_graph.specs.WellFormed.{AreElementsOf, IsState}
-use Rattle.graph_states.proofs.Lists.{zip-first}
-use Rattle.graph_states.proofs.Values.{graph-of}
+use Rattle.flow_graph.proofs.Lists.{zip-first}
+use Rattle.flow_graph.proofs.Values.{graph-of}
 use Rattle.ia32_rows.specs.Placements.{Code, objects_of, placement_of}
 use Rattle.ia32_rows.specs.Shows.{IsArrayAt, IsFrameArrayAt, Shows}
 use Rattle.ia32_programs.specs.KeepsLaws.{data_end}

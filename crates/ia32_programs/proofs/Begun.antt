@@ -15,7 +15,7 @@ use Rattle.flow_graph.specs.Sizes.{most_words}
 use Rattle.flow_graph.specs.States as graph
 use Rattle.flow_graph.specs.States.{Activation, Waiting, active_of, flow_at}
 use Rattle.flow_graph.specs.WellFormed.{IsState}
-use Rattle.graph_states.proofs.Values.{graph-of}
+use Rattle.flow_graph.proofs.Values.{graph-of}
 use Rattle.ia32_rows.specs.Paths.{Comes}
 use Rattle.ia32_rows.specs.Placements.{Code, Placement, objects_of, placement_of}
 use Rattle.ia32_rows.specs.Shows.{stack_bytes}

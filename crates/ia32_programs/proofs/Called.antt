@@ -15,8 +15,8 @@ use Rattle.ia32_insn.specs.Items.{data_bytes, data_start, object_addresses, roun
 use Rattle.flow_graph.specs.Graphs.{points_of}
 use Rattle.flow_graph.specs.States as graph
 use Rattle.flow_graph.specs.States.{Activation, entry_of, first_activation, first_state_at, flow_at}
-use Rattle.graph_states.proofs.Changes.{first-in}
-use Rattle.graph_states.proofs.Keeping.{first_is_state, functions_begin}
+use Rattle.flow_graph.proofs.Changes.{first-in}
+use Rattle.flow_graph.proofs.Keeping.{first_is_state, functions_begin}
 use Rattle.ia32_insn.proofs.Objects.{round-above}
 use Rattle.ia32_rows.specs.Placements.{Code, objects_of}
 use Rattle.ia32_rows.proofs.Steps.{comes-then}

@@ -20,7 +20,7 @@ use Rattle.flow_graph.specs.declared.op.Op.TheVariants as op
 use Rattle.flow_graph.specs.States.{Activation, Waiting, flow_at}
 use Rattle.ia32_rows.specs.Placements.{Code, placement_of}
 use Rattle.ia32_rows.specs.Shows.{IsWord, IsByte, StandsIn, Waits, WaitFrom}
-use Rattle.graph_states.proofs.Lists.{zip-second}
+use Rattle.flow_graph.proofs.Lists.{zip-second}
 use Rattle.ia32_rows.specs.Contains.{IsPlaceIn}
 use Rattle.ia32_programs.specs.Supports.{IsSparedByCall, Supports}
 use Rattle.ia32_programs.specs.Protected.{ChainReads, IsSame}

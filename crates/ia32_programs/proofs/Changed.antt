@@ -23,8 +23,8 @@ use Rattle.flow_graph.specs.WellFormed.{IsState}
 use Rattle.ia32_rows.specs.Placements.{Code, objects_of, placement_of}
 use Rattle.ia32_rows.specs.Shows.{ElementsStand, FrameArraysStand, HoldsOldArrays, ObjectsStand, Shows}
 use Rattle.ia32_rows.specs.Shows.{IsFrameArrayAt, StandsIn}
-use Rattle.graph_states.proofs.Active.{length-active}
-use Rattle.graph_states.proofs.Changes.{are-there}
+use Rattle.flow_graph.proofs.Active.{length-active}
+use Rattle.flow_graph.proofs.Changes.{are-there}
 use Rattle.ia32_programs.specs.Supports.{IsPlaceFor, IsSupported, Supports, SupportsPoint, size_of}
 use Rattle.ia32_programs.specs.Protected.{FrameArrayReads, IsCallRead, IsSame, ObjectReads}
 use Rattle.ia32_programs.specs.KeepsLaws.{ArrayShows, Arrives, IsSameRegister, KeepsOutside, data_end, moved_to}

@@ -21,7 +21,7 @@ use Rattle.flow_graph.specs.Meaning.{Moved, arrays_compared, at_point, both, com
 use Rattle.flow_graph.specs.States as graph
 use Rattle.flow_graph.specs.States.{array_at, entry_of, flow_at, number_at, op_at, value_at}
 use Rattle.flow_graph.specs.WellFormed.{IsState}
-use Rattle.graph_states.proofs.Values.{number-is}
+use Rattle.flow_graph.proofs.Values.{number-is}
 use Rattle.ia32_rows.specs.Follows.{Follows}
 use Rattle.ia32_rows.specs.Paths.{Comes}
 use Rattle.ia32_rows.specs.Placements.{Code, placement_of}

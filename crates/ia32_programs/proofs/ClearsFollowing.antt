@@ -17,8 +17,8 @@ use Rattle.flow_graph.specs.Meaning.{act, given, onward}
 use Rattle.flow_graph.specs.States as graph
 use Rattle.flow_graph.specs.States.{depth_of, flow_at, op_at, with_array}
 use Rattle.flow_graph.specs.WellFormed.{AreElementsOf, IsState}
-use Rattle.graph_states.proofs.Lists.{zip-second}
-use Rattle.graph_states.proofs.Values.{graph-of}
+use Rattle.flow_graph.proofs.Lists.{zip-second}
+use Rattle.flow_graph.proofs.Values.{graph-of}
 use Rattle.ia32_rows.specs.Follows.{Follows, is_nop}
 use Rattle.ia32_rows.specs.Placements.{Code, placement_of}
 use Rattle.ia32_rows.specs.Shows.{ElementsStand, Shows}

@@ -24,7 +24,7 @@ use Rattle.flow_graph.specs.Meaning.{arrays_compared, both, compared, comparison
 use Rattle.flow_graph.specs.States as graph
 use Rattle.flow_graph.specs.States.{Activation, active_of, array_from, flow_at, number_of, op_at, value_at}
 use Rattle.flow_graph.specs.WellFormed.{FitsWidth, IsState, functions_of}
-use Rattle.graph_states.proofs.Lists.{zip-second}
+use Rattle.flow_graph.proofs.Lists.{zip-second}
 use Rattle.ia32_rows.specs.Placements.{Code, placement_of}
 use Rattle.ia32_rows.specs.Shows.{IsArrayAt, IsWord, Shows, StandsIn}
 use Rattle.ia32_rows.specs.Contains.{Contains, HoldsWord, IsPlaceIn}

@@ -19,7 +19,7 @@ use Rattle.flow_graph.specs.Meaning.{Moved, Stuck, given, sets}
 use Rattle.flow_graph.specs.States as graph
 use Rattle.flow_graph.specs.States.{Activation, Waiting, active_of, depth_of, flow_at, value_at}
 use Rattle.flow_graph.specs.WellFormed.{AreElementsIn, IsState}
-use Rattle.graph_states.proofs.Lists.{zip-second}
+use Rattle.flow_graph.proofs.Lists.{zip-second}
 use Rattle.ia32_rows.specs.Follows.{Follows}
 use Rattle.ia32_rows.specs.Placements.{Code, objects_of, placement_of}
 use Rattle.ia32_rows.specs.Shows.{IsByte, IsOldArray, IsWord, Shows, StandsIn, WaitFrom}

@@ -22,7 +22,7 @@ use Rattle.flow_graph.specs.Meaning.{given, sets, shift_count, shifted_right}
 use Rattle.flow_graph.specs.States as graph
 use Rattle.flow_graph.specs.States.{active_of, flow_at, number_of, op_at, value_at}
 use Rattle.flow_graph.specs.WellFormed.{IsState}
-use Rattle.graph_states.proofs.Numbers.{shift-fits}
+use Rattle.flow_graph.proofs.Numbers.{shift-fits}
 use Rattle.ia32_rows.specs.Follows.{Follows}
 use Rattle.ia32_rows.specs.Placements.{Code, placement_of}
 use Rattle.ia32_rows.specs.Shows.{Shows, StandsIn}

@@ -24,7 +24,7 @@ use Rattle.ia32_rows.specs.Shows.{ElementsStand, ObjectsStand}
 use Rattle.ia32_rows.specs.Sites.{IsSound}
 use Rattle.ia32_rows.proofs.Sound.{bytes-in}
 use Rattle.ia32_rows.proofs.First.{zero-registers}
-use Rattle.graph_states.proofs.Lists.{All-at}
+use Rattle.flow_graph.proofs.Lists.{All-at}
 use Rattle.ia32_insn.proofs.Objects.{elements-within, length-elements}
 use Rattle.ia32_programs.specs.Supports.{IsSupported}
 use Rattle.ia32_programs.proofs.Memory.{long-data, text-above}

@@ -33,7 +33,7 @@ use Rattle.flow_graph.specs.States as graph
 use Rattle.flow_graph.specs.States.{Elements, active_of, depth_of, elements_of, flow_at, op_at, point_after, value_at}
 use Rattle.flow_graph.specs.States.{waiting_place, waiting_with, with_array, with_element, with_elements}
 use Rattle.flow_graph.specs.WellFormed.{IsState}
-use Rattle.graph_states.proofs.Numbers.{element-fits, stored-fits}
+use Rattle.flow_graph.proofs.Numbers.{element-fits, stored-fits}
 use Rattle.ia32_rows.specs.Follows.{Follows}
 use Rattle.ia32_rows.specs.Paths.{Comes}
 use Rattle.ia32_rows.specs.Placements.{Code, placement_of}

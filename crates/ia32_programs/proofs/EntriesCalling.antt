@@ -24,8 +24,8 @@ use Rattle.flow_graph.specs.States as graph
 use Rattle.flow_graph.specs.States.{Activation, Waiting, active_of, depth_of, entry_of, first_activation, flow_at}
 use Rattle.flow_graph.specs.States.{op_at}
 use Rattle.flow_graph.specs.WellFormed.{IsState}
-use Rattle.graph_states.proofs.Changes.{first-in}
-use Rattle.graph_states.proofs.Values.{words-pass}
+use Rattle.flow_graph.proofs.Changes.{first-in}
+use Rattle.flow_graph.proofs.Values.{words-pass}
 use Rattle.ia32_rows.specs.Placements.{Code, objects_of, placement_of}
 use Rattle.ia32_rows.specs.Shows.{ArgumentsStand, FrameArraysStand, HoldsOldArrays, IsOldArray, ReturnsTo, Shows}
 use Rattle.ia32_rows.specs.Shows.{stack_bytes}

@@ -7,9 +7,9 @@ use Rattle.flow_graph.specs.Meaning.{Moved, Moves, Halts, Stuck, act, given, ste
 use Rattle.flow_graph.specs.States as graph
 use Rattle.flow_graph.specs.States.{flow_at, op_at}
 use Rattle.flow_graph.specs.WellFormed.{IsState}
-use Rattle.graph_states.proofs.Calls.{back-kept}
-use Rattle.graph_states.proofs.Keeping.{step_keeps_state}
-use Rattle.graph_states.proofs.Values.{op-at}
+use Rattle.flow_graph.proofs.Calls.{back-kept}
+use Rattle.flow_graph.proofs.Keeping.{step_keeps_state}
+use Rattle.flow_graph.proofs.Values.{op-at}
 use Rattle.ia32_rows.specs.Follows.{ComesTo, Follows, is_nop}
 use Rattle.ia32_rows.specs.Placements.{Code}
 use Rattle.ia32_rows.specs.Shows.{Shows}

@@ -16,8 +16,8 @@ use Rattle.flow_graph.specs.Graphs.{IsArray}
 use Rattle.flow_graph.specs.States as graph
 use Rattle.flow_graph.specs.States.{Activation, active_of, first_activation, first_array, flow_at}
 use Rattle.flow_graph.specs.WellFormed.{IsState}
-use Rattle.graph_states.proofs.Numbers.{zero-byte, zero-word}
-use Rattle.graph_states.proofs.Values.{graph-of, op-at}
+use Rattle.flow_graph.proofs.Numbers.{zero-byte, zero-word}
+use Rattle.flow_graph.proofs.Values.{graph-of, op-at}
 use Rattle.ia32_rows.specs.Placements.{Code, placement_of}
 use Rattle.ia32_rows.specs.Shows.{AllStand, ElementsStand, FrameArraysStand, InSlotOf, StandsIn}
 use Rattle.ia32_programs.specs.Supports.{AreArraysIn, HoldsWidth, IsPlaceFor}

@@ -15,7 +15,7 @@ use Rattle.ia32_insn.specs.Items.{data_bytes, data_start}
 use Rattle.flow_graph.specs.States as graph
 use Rattle.flow_graph.specs.States.{Activation, active_of, flow_at}
 use Rattle.flow_graph.specs.WellFormed.{AreElementsIn, AreElementsOf, IsState}
-use Rattle.graph_states.proofs.Lists.{zip-at}
+use Rattle.flow_graph.proofs.Lists.{zip-at}
 use Rattle.ia32_rows.specs.Placements.{Code, objects_of, placement_of}
 use Rattle.ia32_rows.specs.Shows.{Shows}
 use Rattle.ia32_rows.specs.Contains.{ApartFromPlace}

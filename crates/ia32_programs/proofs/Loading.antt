@@ -28,8 +28,8 @@ use Rattle.flow_graph.specs.declared.op.Op.TheVariants as op
 use Rattle.flow_graph.specs.Meaning.{Moved, Stuck, bytes_of, given, of_width, sets}
 use Rattle.flow_graph.specs.States as graph
 use Rattle.flow_graph.specs.States.{Elements, active_of, elements_of, elements_with, flow_at}
-use Rattle.graph_states.proofs.Lists.{All-at}
-use Rattle.graph_states.proofs.Numbers.{element-fits}
+use Rattle.flow_graph.proofs.Lists.{All-at}
+use Rattle.flow_graph.proofs.Numbers.{element-fits}
 use Rattle.ia32_rows.specs.Follows.{Follows}
 use Rattle.ia32_rows.specs.Placements.{Code, placement_of}
 use Rattle.ia32_rows.specs.Shows.{ElementsStand}

@@ -17,7 +17,7 @@ use Rattle.ia32_insn.specs.Items.{plain, putchar_items}
 use Rattle.flow_graph.specs.declared.op.Op.TheVariants as op
 use Rattle.flow_graph.specs.Meaning.{low_byte, puts}
 use Rattle.flow_graph.specs.States.{value_at}
-use Rattle.graph_states.proofs.Numbers.{byte-fits}
+use Rattle.flow_graph.proofs.Numbers.{byte-fits}
 use Rattle.ia32_rows.specs.Follows.{Follows}
 use Rattle.ia32_rows.specs.Paths.{Comes}
 use Rattle.ia32_rows.specs.Placements.{placement_of}

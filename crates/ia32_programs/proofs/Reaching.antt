@@ -26,8 +26,8 @@ use Rattle.flow_graph.specs.Graphs.{FitsOp}
 use Rattle.flow_graph.specs.Meaning.{bytes_of, checked, given, loads, onward, sets, stored, stores}
 use Rattle.flow_graph.specs.States.{active_of, array_at, element_at, elements_of, flow_at, number_at, value_at}
 use Rattle.flow_graph.specs.States.{with_array, with_element}
-use Rattle.graph_states.proofs.Numbers.{element-fits}
-use Rattle.graph_states.proofs.Values.{number-is}
+use Rattle.flow_graph.proofs.Numbers.{element-fits}
+use Rattle.flow_graph.proofs.Values.{number-is}
 use Rattle.ia32_rows.specs.Follows.{Follows}
 use Rattle.ia32_rows.specs.Placements.{Code, placement_of}
 use Rattle.ia32_rows.specs.Shows.{IsArrayAt}

@@ -21,7 +21,7 @@ use Rattle.flow_graph.specs.Meaning.{gets}
 use Rattle.flow_graph.specs.States as graph
 use Rattle.flow_graph.specs.States.{flow_at, op_at}
 use Rattle.flow_graph.specs.WellFormed.{IsState}
-use Rattle.graph_states.proofs.Numbers.{byte-fits}
+use Rattle.flow_graph.proofs.Numbers.{byte-fits}
 use Rattle.ia32_rows.specs.Follows.{Follows}
 use Rattle.ia32_rows.specs.Placements.{Code, placement_of}
 use Rattle.ia32_rows.specs.Shows.{Shows}

@@ -13,7 +13,7 @@ use Rattle.ia32_insn.specs.Keeps.{AreDisjoint}
 use Rattle.flow_graph.specs.States as graph
 use Rattle.flow_graph.specs.States.{Activation, active_of, flow_at}
 use Rattle.flow_graph.specs.WellFormed.{AreElementsIn, IsState}
-use Rattle.graph_states.proofs.Lists.{zip-at}
+use Rattle.flow_graph.proofs.Lists.{zip-at}
 use Rattle.ia32_rows.specs.Placements.{Code, objects_of, placement_of}
 use Rattle.ia32_rows.specs.Shows.{Shows}
 use Rattle.ia32_programs.specs.Supports.{AreArraysApart, IsPlaceFor, IsSlotApart, IsSupported, size_of}

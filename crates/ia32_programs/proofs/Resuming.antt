@@ -23,7 +23,7 @@ use Rattle.flow_graph.specs.Meaning.{at_point, back_to, result_to}
 use Rattle.flow_graph.specs.States as graph
 use Rattle.flow_graph.specs.States.{Activation, Waiting, active_of, depth_of, flow_at, op_of, point_after}
 use Rattle.flow_graph.specs.WellFormed.{IsState}
-use Rattle.graph_states.proofs.Values.{op-at}
+use Rattle.flow_graph.proofs.Values.{op-at}
 use Rattle.ia32_rows.specs.Follows.{Follows}
 use Rattle.ia32_rows.specs.Paths.{Comes}
 use Rattle.ia32_rows.specs.Placements.{Code, objects_of, placement_of}

@@ -16,7 +16,7 @@ use Rattle.flow_graph.specs.Meaning.{Moved, Stuck, given, low_byte, result_to, r
 use Rattle.flow_graph.specs.States as graph
 use Rattle.flow_graph.specs.States.{Waiting, active_of, flow_at, number_at, op_at, op_of, value_at}
 use Rattle.flow_graph.specs.WellFormed.{IsState}
-use Rattle.graph_states.proofs.Values.{number-is}
+use Rattle.flow_graph.proofs.Values.{number-is}
 use Rattle.ia32_rows.specs.Follows.{Follows}
 use Rattle.ia32_rows.specs.Placements.{Code, objects_of}
 use Rattle.ia32_rows.specs.Shows.{Shows, StartReturns, WaitFrom}

@@ -19,7 +19,7 @@ use Rattle.flow_graph.specs.declared.op.Op.TheVariants as op
 use Rattle.flow_graph.specs.Graphs.{FitsOp}
 use Rattle.flow_graph.specs.Meaning.{Halts, Moved, arrays_compared, both, compared, first_of, given, onward}
 use Rattle.flow_graph.specs.States.{array_at, flow_at, number_at, value_at}
-use Rattle.graph_states.proofs.Values.{number-is}
+use Rattle.flow_graph.proofs.Values.{number-is}
 use Rattle.ia32_rows.specs.Follows.{Follows}
 use Rattle.ia32_rows.specs.Paths.{Comes}
 use Rattle.ia32_rows.specs.Placements.{placement_of}

@@ -14,7 +14,7 @@ use Rattle.flow_graph.specs.declared.op.Op.TheVariants as op
 use Rattle.flow_graph.specs.Meaning.{Moved, arrays_compared, both, compared, first_of, given, sets}
 use Rattle.flow_graph.specs.States as graph
 use Rattle.flow_graph.specs.States.{active_of, array_at, flow_at, number_at, value_at}
-use Rattle.graph_states.proofs.Values.{number-is}
+use Rattle.flow_graph.proofs.Values.{number-is}
 use Rattle.ia32_rows.specs.Follows.{Follows}
 use Rattle.ia32_rows.specs.Placements.{Code, placement_of}
 use Rattle.ia32_programs.specs.Supports.{site_of}

@@ -18,7 +18,7 @@ use Rattle.flow_graph.specs.WellFormed.{AreActivations, IsState}
 use Rattle.ia32_rows.specs.Placements.{Code, objects_of, placement_of}
 use Rattle.ia32_rows.specs.Shows.{AllStand, ArgumentsStand, ElementsStand, FrameArraysStand, HoldsOldArrays}
 use Rattle.ia32_rows.specs.Shows.{IsOldArray, ObjectsStand, Shows, StandsIn, WaitFrom, stack_bytes}
-use Rattle.graph_states.proofs.Lists.{zip-first}
+use Rattle.flow_graph.proofs.Lists.{zip-first}
 use Rattle.ia32_programs.specs.Supports.{IsSupported, Supports, SupportsPoint}
 use Rattle.ia32_programs.specs.Protected.{ChainReads, ElementReads, IsCallRead, IsProtected}
 use Rattle.ia32_programs.specs.KeepsLaws.{Arrives, MovedShows, SetShows, moved_to}

@@ -13,8 +13,8 @@ use Rattle.flow_graph.specs.Graphs.{Flow, FitsOp, HasWidth, IsFlow, IsPlaced}
 use Rattle.flow_graph.specs.Liveness.{defined}
 use Rattle.ia32_rows.specs.Placements.{in_slots}
 use Rattle.ia32_rows.specs.Rows.{AllApart, AreApart, IsSlot}
-use Rattle.live_searches.proofs.Placed.{op-fits}
-use Rattle.live_searches.proofs.Using.{used-within}
+use Rattle.liveness.proofs.Placed.{op-fits}
+use Rattle.liveness.proofs.Using.{used-within}
 use Rattle.ia32_rows.specs.Laws.{ArePlacesApart}
 use Rattle.ia32_programs.specs.Supports.{AreSlots, HoldsWidth, IsPlaceFor, IsSpared, SlotsSupport}
 use Rattle.ia32_programs.specs.Supports.{SupportsPoint}

@@ -4,7 +4,7 @@ use Rattle.std.specs.Prelude.{option_map}
 use Rattle.std.proofs.lemmas.Option.{same_Some}
 use Rattle.flow_graph.specs.States as graph
 use Rattle.flow_graph.specs.States.{first_state_at}
-use Rattle.graph_states.proofs.Keeping.{functions_begin}
+use Rattle.flow_graph.proofs.Keeping.{functions_begin}
 use Rattle.ia32_programs.proofs.Ready.{entries-are-ready}
 use Rattle.ia32_programs.specs.StartsLaws.{MainsAreReady, ObjectsStart}
 use Rattle.ia32_programs.proofs.Called.{main-is-shown}

@@ -29,7 +29,7 @@ use Rattle.flow_graph.specs.Meaning.{Halts, given, no_quotient, sets}
 use Rattle.flow_graph.specs.States as graph
 use Rattle.flow_graph.specs.States.{active_of, flow_at, number_of, op_at, value_at}
 use Rattle.flow_graph.specs.WellFormed.{IsState}
-use Rattle.graph_states.proofs.Numbers.{quotient-fits, remainder-fits}
+use Rattle.flow_graph.proofs.Numbers.{quotient-fits, remainder-fits}
 use Rattle.ia32_rows.specs.Follows.{ComesToEnd, Follows}
 use Rattle.ia32_rows.specs.Paths.{Comes, IsAt, IsClear}
 use Rattle.ia32_rows.specs.Placements.{Code, placement_of}

@@ -16,8 +16,8 @@ use Rattle.ia32_insn.specs.Keeps.{AreDisjoint}
 use Rattle.flow_graph.specs.States as graph
 use Rattle.flow_graph.specs.States.{Activation, Waiting, active_of, depth_of, elements_in, elements_of, waiting_place}
 use Rattle.flow_graph.specs.WellFormed.{IsState}
-use Rattle.graph_states.proofs.Active.{length-active}
-use Rattle.graph_states.proofs.Changes.{are-there}
+use Rattle.flow_graph.proofs.Active.{length-active}
+use Rattle.flow_graph.proofs.Changes.{are-there}
 use Rattle.ia32_rows.specs.Placements.{Code}
 use Rattle.ia32_rows.specs.Shows.{ElementsStand, IsArrayAt, Shows}
 use Rattle.ia32_programs.specs.Supports.{IsSupported}

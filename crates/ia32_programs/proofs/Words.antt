@@ -6,7 +6,7 @@ use Rattle.std.proofs.Math.Nat.{mod-lt}
 use Rattle.std.proofs.lemmas.Nat.{and_le_l, or_of_32, xor_of_32}
 use Rattle.std.proofs.lemmas.Int.{ints, to_z-of_z, of_z-to_z, wrapping_add-bits, wrapping_sub-bits, wrapping_mul-bits}
 use Rattle.std.proofs.lemmas.Int.{SFits-int_wrap}
-use Rattle.graph_states.proofs.Numbers.{and-fits, or-fits, xor-fits}
+use Rattle.flow_graph.proofs.Numbers.{and-fits, or-fits, xor-fits}
 use Rattle.ia32_insn.specs.declared.insn.AluOp.TheVariants as alu
 use Rattle.ia32_insn.specs.Arithmetic.{alu_value, sum, difference, product}
 

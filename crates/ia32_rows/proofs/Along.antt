@@ -26,7 +26,7 @@ use Rattle.ia32_rows.specs.Placements.{Code, objects_of}
 use Rattle.ia32_rows.specs.Shows.{Shows}
 use Rattle.flow_graph.specs.WellFormed.{IsGraphProgram}
 use Rattle.ia32_rows.specs.Follows.{ComesToEnd, Follows, FollowsAll, is_nop, ShowsVisits, WholeRuns}
-use Rattle.graph_states.proofs.Keeping.{states_are_states}
+use Rattle.flow_graph.proofs.Keeping.{states_are_states}
 
 -- a run of at least so many steps has this outcome
 abbrev RunsFor : (machine.State → List Visit) → ℕ → machine.State → Outcome → Type 0

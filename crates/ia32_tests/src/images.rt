@@ -1,8 +1,7 @@
 //! The file of a small image, byte by byte, and what is read of it and of other bytes.
 
 use crate::expected::expect;
-use elf_image::{Image, ImageRefusal, write_image};
-use elf_reading::read_image;
+use elf_image::{Image, ImageRefusal, read_image, write_image};
 use std::alloc::Global;
 use std::process::Abort;
 

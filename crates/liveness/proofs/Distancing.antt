@@ -15,8 +15,8 @@ use Rattle.std.proofs.lemmas.Option.{same_Some, slice_get_within}
 use Rattle.flow_graph.specs.Graphs.{Flow}
 use Rattle.flow_graph.specs.Liveness.{AfterUse, IsDistance, IsUsedAt}
 use Rattle.liveness.specs.Distances.{AreDistances, Rises, distance_at, distance_in}
-use Rattle.live_searches.specs.Lists.{Has, list_at, with_last}
-use Rattle.live_searches.proofs.Adding.{has-item, last-or-before}
+use Rattle.liveness.specs.Lists.{Has, list_at, with_last}
+use Rattle.liveness.proofs.Adding.{has-item, last-or-before}
 
 -- the entries behind the first rise too
 rises-tail : (e : ℕ × ℕ) (es : List (ℕ × ℕ)) → Rises (e ∷ es) → Rises es

@@ -6,9 +6,9 @@ use Rattle.flow_graph.specs.Graphs.{Flow, IsPlaced, points_of}
 use Rattle.flow_graph.specs.Liveness.{IsBehind, IsSuccessor}
 use Rattle.liveness.specs.declared.ways.Way.{Way}
 use Rattle.liveness.specs.declared.ways.Way.TheVariants.{Next, Block, Either, Nowhere}
-use Rattle.live_searches.specs.Lists.{Adds}
+use Rattle.liveness.specs.Lists.{Adds}
 use Rattle.liveness.specs.Ways.{Leads, way_of}
-use Rattle.live_searches.proofs.Adding.{adds-none, adds-same, adds-then}
+use Rattle.liveness.proofs.Adding.{adds-none, adds-same, adds-then}
 use Rattle.liveness.proofs.SameWay.{successor-way}
 
 -- a point with its op and its way

@@ -9,3 +9,8 @@ pub mod SameWay
 mod Searching
 mod Starting
 pub mod Variables
+pub mod Adding
+pub mod Placed
+pub mod Stepping
+pub mod Using
+pub mod Walks

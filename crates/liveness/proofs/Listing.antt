@@ -6,11 +6,11 @@ use Rattle.std.proofs.lemmas.Option.{same_Some, slice_get_within}
 use Rattle.flow_graph.specs.Graphs.{Flow, IsPlaced}
 use Rattle.flow_graph.specs.Liveness.{IsDefinedAt, IsDistance, IsLiveAfter, IsLiveBefore}
 use Rattle.flow_graph.proofs.LivePaths.{live_step}
-use Rattle.live_searches.specs.Lists.{Adds, Has, list_at, with_last}
+use Rattle.liveness.specs.Lists.{Adds, Has, list_at, with_last}
 use Rattle.liveness.specs.Search.{IsReach}
-use Rattle.live_searches.specs.Search.{IsNext}
-use Rattle.live_searches.proofs.Stepping.{Before, steps-end, steps-more}
-use Rattle.live_searches.proofs.Adding.{has-every}
+use Rattle.liveness.specs.SearchBack.{IsNext}
+use Rattle.liveness.proofs.Stepping.{Before, steps-end, steps-more}
+use Rattle.liveness.proofs.Adding.{has-every}
 
 -- the point is found at a place
 abbrev pub FoundAt : List (ℕ × ℕ) → ℕ → ℕ → Type 0

@@ -7,7 +7,7 @@ use Rattle.std.proofs.lemmas.Bool.{cases_eq}
 use Rattle.std.proofs.lemmas.Bool.Decides.{eqb_tells}
 use Rattle.std.proofs.lemmas.Option.{same_Some}
 use Rattle.liveness.specs.Search.{AllEarlier, NoneLater, unmarked}
-use Rattle.live_searches.specs.Search.{IsMarked}
+use Rattle.liveness.specs.SearchBack.{IsMarked}
 
 -- what is set is there
 pub set-same : {X : Type 0} (xs : List X) (i : ℕ) (x : X) → i < length xs → slice_get (slice_set xs i x) i ≡ Some x

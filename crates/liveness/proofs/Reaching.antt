@@ -7,9 +7,9 @@ use Rattle.std.proofs.lemmas.Bool.{cases_eq}
 use Rattle.std.proofs.lemmas.Option.{same_Some, slice_get_within}
 use Rattle.flow_graph.specs.Graphs.{Flow}
 use Rattle.flow_graph.specs.Liveness.{AfterUse, IsDefinedAt, IsDistance, IsSuccessor, ReachesUse}
-use Rattle.live_searches.specs.Lists.{Has}
+use Rattle.liveness.specs.Lists.{Has}
 use Rattle.liveness.specs.Search.{IsDone, IsPassed, IsReach, IsSearch}
-use Rattle.live_searches.specs.Search.{IsNext}
+use Rattle.liveness.specs.SearchBack.{IsNext}
 
 module _ (flow : Flow) (v head : ℕ) (nexts : List (ℕ × ℕ)) (after : List ℕ) (used passed : List (Option ℕ))
     (s : IsSearch flow v head nexts after used passed) (all : length nexts ≤ head) where

@@ -13,7 +13,7 @@ use Rattle.flow_graph.specs.Liveness.{IsSuccessor, LeadsTo}
 use Rattle.liveness.specs.declared.ways.Way.{Way}
 use Rattle.liveness.specs.declared.ways.Way.TheVariants.{Next, Block, Either, Nowhere}
 use Rattle.liveness.specs.Ways.{Leads, way_of}
-use Rattle.live_searches.proofs.Placed.{op-fits}
+use Rattle.liveness.proofs.Placed.{op-fits}
 
 -- an op leads where its way does
 pub same-way : (flow : Flow) (point next : ℕ) (op : Op) → LeadsTo flow point next op ↔ Leads flow point next (way_of op)

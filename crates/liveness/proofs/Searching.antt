@@ -10,9 +10,9 @@ use Rattle.flow_graph.specs.Graphs.{Flow, IsPlaced}
 use Rattle.flow_graph.specs.Liveness.{IsLiveAfter, IsSuccessor, IsUsedAt, ReachesUse}
 use Rattle.liveness.specs.Index.{ArePredecessors}
 use Rattle.liveness.specs.Search.{AllEarlier, IsDone, IsPassed, IsSearch, IsStart, unmarked}
-use Rattle.live_searches.specs.Lists.{Has, list_at}
-use Rattle.live_searches.specs.Search.{IsMarked, IsNext, Passes}
-use Rattle.live_searches.proofs.Adding.{has-item, has-push, last-or-before}
+use Rattle.liveness.specs.Lists.{Has, list_at}
+use Rattle.liveness.specs.SearchBack.{IsMarked, IsNext, Passes}
+use Rattle.liveness.proofs.Adding.{has-item, has-push, last-or-before}
 use Rattle.liveness.proofs.Marking.{all-unmarked, mark-decides, mark-here, mark-later, mark-stays, mark-there}
 use Rattle.liveness.proofs.Marking.{none-marked, unmarked-set}
 

@@ -5,10 +5,10 @@ use Rattle.std.specs.List.{slice_get, slice_set}
 use Rattle.std.proofs.lemmas.Bool.{cases_eq}
 use Rattle.std.proofs.lemmas.Option.{same_Some, slice_get_within}
 use Rattle.pcc_base.proofs.Lists.{get-last, get-append}
-use Rattle.live_searches.specs.Lists.{Has}
+use Rattle.liveness.specs.Lists.{Has}
 use Rattle.liveness.specs.Search.{AllEarlier, IsStart}
-use Rattle.live_searches.specs.Search.{IsMarked}
-use Rattle.live_searches.proofs.Adding.{last-or-before}
+use Rattle.liveness.specs.SearchBack.{IsMarked}
+use Rattle.liveness.proofs.Adding.{last-or-before}
 use Rattle.liveness.proofs.Marking.{mark-here, mark-later, mark-stays, mark-there, none-marked}
 
 -- the uses told in other words

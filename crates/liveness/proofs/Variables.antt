@@ -4,11 +4,11 @@ use Rattle.std.proofs.Common.{Option, None, sym, subst, arith}
 use Rattle.std.proofs.lemmas.Bool.{cases_eq}
 use Rattle.flow_graph.specs.Graphs.{Flow, IsFlow, IsIn}
 use Rattle.flow_graph.specs.Liveness.{IsDistance, IsLiveAfter, IsLiveBefore, ReachesUse}
-use Rattle.live_searches.specs.Lists.{Adds, Has, list_at}
+use Rattle.liveness.specs.Lists.{Adds, Has, list_at}
 use Rattle.liveness.specs.Search.{AllEarlier, NoneLater}
-use Rattle.live_searches.specs.Search.{IsMarked}
-use Rattle.live_searches.proofs.Adding.{adds-none, adds-same, adds-then, has-in, has-none, in-has}
-use Rattle.live_searches.proofs.Using.{used-within}
+use Rattle.liveness.specs.SearchBack.{IsMarked}
+use Rattle.liveness.proofs.Adding.{adds-none, adds-same, adds-then, has-in, has-none, in-has}
+use Rattle.liveness.proofs.Using.{used-within}
 
 -- no point is marked at first
 pub no-mark : (n w point : ℕ) → IsMarked (replicate n None) w point → ⊥

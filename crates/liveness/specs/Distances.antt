@@ -2,7 +2,7 @@
 use Rattle.std.specs.Prelude.{ℕ, ◌≡◌, ◌<◌, ◌↔◌, List, [], ◌∷◌, Option, Some, None, cond, eqb, slice_get}
 use Rattle.flow_graph.specs.Graphs.{Flow}
 use Rattle.flow_graph.specs.Liveness.{AfterUse, IsDistance, IsUsedAt}
-use Rattle.live_searches.specs.Lists.{list_at}
+use Rattle.liveness.specs.Lists.{list_at}
 
 -- the distance of a variable among entries of a variable and its distance
 abbrev pub distance_in : List (ℕ × ℕ) → ℕ → Option ℕ

@@ -2,7 +2,7 @@
 use Rattle.std.specs.Prelude.{ℕ, ◌≡◌, ◌↔◌, List, length}
 use Rattle.flow_graph.specs.Graphs.{Flow}
 use Rattle.flow_graph.specs.Liveness.{IsSuccessor, IsUsedAt}
-use Rattle.live_searches.specs.Lists.{Has, list_at}
+use Rattle.liveness.specs.Lists.{Has, list_at}
 
 -- for each point those that lead to it
 pub record ArePredecessors (flow : Flow) (predecessors : List (List ℕ)) : Type 0 where

@@ -3,3 +3,5 @@ pub mod Index
 pub mod Passages
 pub mod Search
 pub mod Ways
+pub mod Lists
+pub mod SearchBack

@@ -3,8 +3,8 @@ use Rattle.std.specs.Prelude.{ℕ, suc, ◌≡◌, ◌<◌, ◌≤◌, ◌+◌, 
 use Rattle.std.specs.Prelude.{Option, Some, None, cond, eqb}
 use Rattle.flow_graph.specs.Graphs.{Flow}
 use Rattle.flow_graph.specs.Liveness.{IsDefinedAt, IsDistance, IsLiveAfter, IsSuccessor, IsUsedAt}
-use Rattle.live_searches.specs.Lists.{Has}
-use Rattle.live_searches.specs.Search.{IsMarked, IsNext}
+use Rattle.liveness.specs.Lists.{Has}
+use Rattle.liveness.specs.SearchBack.{IsMarked, IsNext}
 
 -- Each point with the distance of the variable there, none twice, and each point after which the variable is live,
 -- none twice.

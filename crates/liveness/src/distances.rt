@@ -3,14 +3,14 @@
 ghost use Rattle.std.specs.Prelude.{ℕ, ◌≡◌, ◌<◌, [], List, Some, length, replicate, slice_get, IfOk, MatchResult, OnOk};
 ghost use Rattle.flow_graph.specs.Liveness.{IsDistance};
 ghost use Rattle.liveness.specs.Distances.{AreDistances, Rises, distance_at};
-ghost use Rattle.live_searches.specs.Lists.{Adds, Has, list_at, with_last};
+ghost use Rattle.liveness.specs.Lists.{Adds, Has, list_at, with_last};
 ghost use Rattle.liveness.specs.Search.{IsReach};
 
 use crate::predecessors::predecessors_of;
 use crate::search::run;
 use crate::uses::uses_of;
+use crate::{Lists, Search};
 use flow_graph::Graph;
-use live_searches::{Lists, Search};
 use pcc_base::NoMemory;
 use std::alloc::Global;
 use std::marker::Model;
@@ -25,7 +25,7 @@ pub struct Distances {
 impl Model for Distances {
     ghost use Rattle.std.specs.Prelude.{List, ℕ};
     ghost use Rattle.liveness.specs.Distances.{Rises};
-    ghost use Rattle.live_searches.specs.Lists.{list_at};
+    ghost use Rattle.liveness.specs.Lists.{list_at};
 
     ghost Value = { List (List (ℕ × ℕ)) };
 

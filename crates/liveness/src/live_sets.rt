@@ -3,14 +3,14 @@
 ghost use Rattle.std.specs.Prelude.{ℕ, ◌≡◌, ◌<◌, List, length, IfOk, OnOk};
 ghost use Rattle.flow_graph.specs.Lives.{AreLive, at_point};
 ghost use Rattle.flow_graph.specs.Liveness.{IsLiveAfter, IsLiveBefore};
-ghost use Rattle.live_searches.specs.Lists.{Adds, Has};
+ghost use Rattle.liveness.specs.Lists.{Adds, Has};
 ghost use Rattle.liveness.specs.Search.{IsReach};
 
 use crate::predecessors::predecessors_of;
 use crate::search::run;
 use crate::uses::uses_of;
+use crate::{Search, is_live_before};
 use flow_graph::{Graph, LiveSets};
-use live_searches::{Search, is_live_before};
 use pcc_base::NoMemory;
 use std::alloc::Global;
 

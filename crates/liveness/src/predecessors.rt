@@ -4,11 +4,11 @@ ghost use Rattle.std.specs.Prelude.{ℕ, ◌≡◌, ◌<◌, ◌↔◌, length, 
 ghost use Rattle.flow_graph.specs.Graphs.{IsPlaced, Stands};
 ghost use Rattle.flow_graph.specs.Liveness.{IsBehind, IsSuccessor};
 ghost use Rattle.liveness.specs.Index.{ArePredecessors};
-ghost use Rattle.live_searches.specs.Lists.{Adds};
+ghost use Rattle.liveness.specs.Lists.{Adds};
 
+use crate::Lists;
 use crate::ways::{Way, way_of};
 use flow_graph::Graph;
-use live_searches::Lists;
 use pcc_base::NoMemory;
 use std::alloc::Global;
 

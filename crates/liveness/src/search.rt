@@ -3,10 +3,10 @@
 ghost use Rattle.std.specs.Prelude.{ℕ, ◌≡◌, ◌<◌, ◌≤◌, ◌+◌, [], length, OnOk};
 ghost use Rattle.liveness.specs.Index.{ArePredecessors, AreUses};
 ghost use Rattle.liveness.specs.Search.{AllEarlier, IsReach, IsSearch, IsStart, NoneLater, unmarked};
-ghost use Rattle.live_searches.specs.Lists.{Has};
+ghost use Rattle.liveness.specs.Lists.{Has};
 
+use crate::{Lists, Search, is_live_before};
 use flow_graph::Graph;
-use live_searches::{Lists, Search, is_live_before};
 use pcc_base::NoMemory;
 
 /// Begins anew, with the points that use the variable.

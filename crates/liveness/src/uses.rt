@@ -3,8 +3,8 @@
 ghost use Rattle.std.specs.Prelude.{IfOk};
 ghost use Rattle.liveness.specs.Index.{AreUses};
 
+use crate::{Lists, add_block};
 use flow_graph::Graph;
-use live_searches::{Lists, add_block};
 use pcc_base::NoMemory;
 use std::alloc::Global;
 

@@ -10,7 +10,7 @@ use crate::function as lines_of;
 use c_tree::{Function, Program};
 use flow_graph::Graph;
 use lower_builder::{arrays_of, widths_of};
-use lower_moves::Site;
+use lower_pieces::Site;
 use pcc_base::NoMemory;
 use std::alloc::Global;
 

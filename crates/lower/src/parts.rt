@@ -13,7 +13,7 @@ ghost use Rattle.lower_lines.specs.Statements.{returned_blocks, returned_lines, 
 ghost use Rattle.lower_lines.specs.Statements.{test_blocks_if_any};
 ghost use Rattle.lower_lines.specs.Statements.{test_if_any};
 ghost use Rattle.lower_lines.specs.Variables.{Context};
-ghost use Rattle.lower_moves.specs.Sites.{context_of};
+ghost use Rattle.lower_pieces.specs.Sites.{context_of};
 ghost use Rattle.lower_rows.specs.Views.{after_of};
 
 use crate::items::first_part;
@@ -22,7 +22,7 @@ use flow_graph::Op;
 use lower_builder::Lines;
 use lower_emit::{emit, returned};
 use lower_loops::{Ends, start_loop};
-use lower_moves::{Site, Wanted};
+use lower_pieces::{Site, Wanted};
 use lower_rows::{After, Ahead, start_dead, take_dead, take_exit};
 use pcc_base::NoMemory;
 

@@ -12,7 +12,7 @@ ghost use Rattle.lower_lines.specs.Lines.{Emit};
 ghost use Rattle.lower_lines.specs.Statements.{comparing, comparing_blocks, exit_blocks, exit_of, labelled_from};
 ghost use Rattle.lower_lines.specs.Statements.{opening, opening_blocks};
 ghost use Rattle.lower_lines.specs.Variables.{ForScratch, temporary};
-ghost use Rattle.lower_moves.specs.Sites.{context_of};
+ghost use Rattle.lower_pieces.specs.Sites.{context_of};
 ghost use Rattle.lower_rows.specs.Views.{after_of};
 
 use crate::labels::{cases_of, otherwise_of, starts_of};
@@ -20,7 +20,7 @@ use c_tree::{Expression, Label};
 use flow_graph::{Comparison, Op};
 use lower_builder::{Lines, plus};
 use lower_emit::stood;
-use lower_moves::Site;
+use lower_pieces::Site;
 use lower_rows::{After, take_exit};
 use pcc_base::NoMemory;
 

@@ -5,7 +5,7 @@ ghost use Rattle.c_tree.specs.Erased.{statement_of, statements_of};
 ghost use Rattle.lower.specs.Walks.{AddsIf};
 ghost use Rattle.lower_loops.specs.Starts.{starts_at};
 ghost use Rattle.lower_lines.specs.Statements.{run_of, runs_of, sequence_blocks, sequence_lines};
-ghost use Rattle.lower_moves.specs.Sites.{context_of};
+ghost use Rattle.lower_pieces.specs.Sites.{context_of};
 ghost use Rattle.lower_rows.specs.Views.{after_of, exits_of};
 
 use crate::labels::start_labelled;
@@ -18,7 +18,7 @@ use c_tree::Statement;
 use flow_graph::Op;
 use lower_builder::{Lines, plus};
 use lower_loops::{again, close_do, next_after, open_do};
-use lower_moves::Site;
+use lower_pieces::Site;
 use lower_rows::{After, Ahead, Exits, go_onward, start_exit};
 use pcc_base::NoMemory;
 

@@ -21,7 +21,7 @@ use Rattle.lower_lines.specs.Operators.{applied_blocks, on_pointer_blocks, on_po
 use Rattle.lower_lines.specs.Parts.{Wanted, Dropped, Own, ToLocal, Tests, Part, as_pointer, chosen_blocks, in_type}
 use Rattle.lower_lines.specs.Parts.{operand, tested_blocks}
 use Rattle.lower_lines.specs.Variables.{Context}
-use Rattle.lower_moves.specs.Views.{plain}
+use Rattle.lower_pieces.specs.MoveViews.{plain}
 
 pub record IsAlike (a : Part) : Type 0 where
   pub same : (w : Wanted) → a.blocks w ≡ a.blocks (plain w)

@@ -18,7 +18,7 @@ use Rattle.lower_lines.specs.Lines.{Line, Start, Emit}
 use Rattle.lower_lines.specs.Parts.{Wanted, Tests, Part, as_pointer, bits_of, converted_lines, if_stays, in_type}
 use Rattle.lower_lines.specs.Parts.{operand}
 use Rattle.lower_lines.specs.Variables.{Context, Spot}
-use Rattle.lower_moves.specs.Views.{plain}
+use Rattle.lower_pieces.specs.MoveViews.{plain}
 use Rattle.lower_pieces.specs.Views.{AddsOperand, AddsPart}
 use Rattle.lower_pieces.proofs.Joined.{counted, lined, taken, two}
 use Rattle.lower_rows.specs.Kinds.{number_type}

@@ -3,12 +3,12 @@
 ghost use Rattle.std.specs.Prelude.{◌≡◌, slice_get};
 ghost use Rattle.c_tree.specs.Erased.{expression_of};
 ghost use Rattle.lower_lines.specs.Expressions.{all_simple, parameters_of, part_of};
-ghost use Rattle.lower_moves.specs.Sites.{context_of};
+ghost use Rattle.lower_pieces.specs.Sites.{context_of};
 ghost use Rattle.lower_rows.specs.Rows.{passed_as};
 ghost use Rattle.lower_emit.specs.Passing.{passed_from};
 
 use c_tree::{Expression, ValueType};
-use lower_moves::Site;
+use lower_pieces::Site;
 use lower_rows::{is_simple, parameter_type, part_type};
 
 /// Whether an argument, as its parameter takes it, is a name, a number or a string.

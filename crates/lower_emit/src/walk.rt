@@ -10,9 +10,9 @@ ghost use Rattle.lower_lines.specs.Expressions as parts;
 ghost use Rattle.lower_lines.specs.Lines.{Start};
 ghost use Rattle.lower_lines.specs.Parts.{in_type, operand, Own};
 ghost use Rattle.lower_lines.specs.Variables.{own};
-ghost use Rattle.lower_moves.specs.Sites.{context_of};
-ghost use Rattle.lower_moves.specs.Spots.{spot_of};
-ghost use Rattle.lower_moves.specs.Views.{plain, wanted_of};
+ghost use Rattle.lower_pieces.specs.Sites.{context_of};
+ghost use Rattle.lower_pieces.specs.Spots.{spot_of};
+ghost use Rattle.lower_pieces.specs.MoveViews.{plain, wanted_of};
 ghost use Rattle.lower_pieces.specs.Views.{AddsOperand, AddsPart};
 ghost use Rattle.lower_rows.specs.Finding.{Finds};
 ghost use Rattle.lower_rows.specs.Ways.{ways_end};
@@ -24,8 +24,7 @@ use c_tree::{ArrayRef, BinaryOp, Expression, IntegerType, Place, UnaryOp, ValueT
 use flow_graph::Words;
 use lower_builder::{Lines, plus};
 use lower_leaves::{constant, if_stays, local, local_operand, start};
-use lower_moves::{Site, Spot, Wanted, null_pointer};
-use lower_pieces::{applied, end_truth};
+use lower_pieces::{Site, Spot, Wanted, applied, end_truth, null_pointer};
 use lower_rows::{
     Found, NumberOp, Ways, byte_set, call_made, element_at, end_ways, exit_with, getchar,
     is_simple, join, load_old, narrow_made, number_made, number_type, open_ways, own_blocks,

@@ -9,13 +9,13 @@ ghost use Rattle.lower_lines.specs.Lines.{Emit, Start};
 ghost use Rattle.lower_lines.specs.Parts.{bits_of};
 ghost use Rattle.lower_lines.specs.Statements.{reads_none, zeroing};
 ghost use Rattle.lower_lines.specs.Variables.{own, temporary, ForOld, ForScratch};
-ghost use Rattle.lower_moves.specs.Sites.{context_of};
+ghost use Rattle.lower_pieces.specs.Sites.{context_of};
 ghost use Rattle.lower_leaves.specs.Copies.{copy_lines, text_lines};
 
 use c_tree::{Expression, IntegerType, ValueType};
 use flow_graph::{Comparison, Op};
 use lower_builder::{Lines, plus};
-use lower_moves::Site;
+use lower_pieces::Site;
 use lower_values::{bits_of, text_count};
 use pcc_base::NoMemory;
 

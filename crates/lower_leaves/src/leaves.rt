@@ -8,17 +8,16 @@ ghost use Rattle.lower_lines.specs.Expressions.{array_line, constant_part, local
 ghost use Rattle.lower_lines.specs.Expressions.{reading, start_part, AtObject};
 ghost use Rattle.lower_lines.specs.Parts.{if_stays, operand, tested_blocks};
 ghost use Rattle.lower_lines.specs.Variables.{local_spot, Context};
-ghost use Rattle.lower_moves.specs.Sites.{context_of};
-ghost use Rattle.lower_moves.specs.Spots.{spot_of};
-ghost use Rattle.lower_moves.specs.Views.{plain, wanted_of};
+ghost use Rattle.lower_pieces.specs.Sites.{context_of};
+ghost use Rattle.lower_pieces.specs.Spots.{spot_of};
+ghost use Rattle.lower_pieces.specs.MoveViews.{plain, wanted_of};
 ghost use Rattle.lower_pieces.specs.Views.{AddsOperand, AddsPart};
 
 use c_operators::convert;
 use c_tree::{ArrayRef, IntegerType, ValueType};
 use flow_graph::Op;
 use lower_builder::Lines;
-use lower_moves::{Site, Spot, Wanted, reading, target, tested};
-use lower_pieces::tested_number;
+use lower_pieces::{Site, Spot, Wanted, reading, target, tested, tested_number};
 use pcc_base::NoMemory;
 
 /// A number (C99 6.4.4).

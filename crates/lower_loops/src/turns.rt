@@ -6,14 +6,14 @@ ghost use Rattle.lower_builder.specs.Built.{Adds};
 ghost use Rattle.lower_lines.specs.Expressions.{part_of, test_blocks_of};
 ghost use Rattle.lower_lines.specs.Statements.{continue_block, exit_blocks, exit_of};
 ghost use Rattle.lower_loops.specs.Fronts.{do_end, do_front, loop_front};
-ghost use Rattle.lower_moves.specs.Sites.{context_of};
+ghost use Rattle.lower_pieces.specs.Sites.{context_of};
 ghost use Rattle.lower_rows.specs.Views.{after_of};
 
 use c_tree::Expression;
 use flow_graph::Op;
 use lower_builder::Lines;
 use lower_emit::emit;
-use lower_moves::{Site, Wanted};
+use lower_pieces::{Site, Wanted};
 use lower_rows::{After, take_exit};
 use pcc_base::NoMemory;
 

@@ -1,2 +1,5 @@
 pub mod Views
 pub mod Computed
+pub mod Spots
+pub mod Sites
+pub mod MoveViews

@@ -5,7 +5,7 @@ use Rattle.lower_lines.specs.Lines.{Line, Start, Emit}
 use Rattle.lower_lines.specs.Variables.{Context}
 use Rattle.lower_builder.specs.Built.{Built, Adds}
 use Rattle.lower_lines.specs.Parts.{Wanted, Part, Operand, target}
-use Rattle.lower_moves.specs.Views.{plain}
+use Rattle.lower_pieces.specs.MoveViews.{plain}
 
 -- the lines of a part were added, and its blocks taken
 abbrev pub AddsPart : Part → ℕ → Wanted → Built → Built → Type 0

@@ -11,16 +11,16 @@ ghost use Rattle.lower_lines.specs.Operators.{applied, applied_blocks, branching
 ghost use Rattle.lower_lines.specs.Operators.{equality_test, moving, on_numbers, on_pointer, on_pointer_blocks};
 ghost use Rattle.lower_lines.specs.Operators.{on_pointers, on_pointers_blocks};
 ghost use Rattle.lower_lines.specs.Parts.{chosen, chosen_blocks, made, pointer_test, tested, tested_blocks, truth};
-ghost use Rattle.lower_moves.specs.Sites.{context_of};
-ghost use Rattle.lower_moves.specs.Spots.{spot_of};
-ghost use Rattle.lower_moves.specs.Views.{plain, wanted_of};
+ghost use Rattle.lower_pieces.specs.Sites.{context_of};
+ghost use Rattle.lower_pieces.specs.Spots.{spot_of};
+ghost use Rattle.lower_pieces.specs.MoveViews.{plain, wanted_of};
 ghost use Rattle.lower_pieces.specs.Computed.{op_of};
 ghost use Rattle.lower_pieces.specs.Views.{truth_end};
 
+use crate::{Site, Spot, Wanted, copied, number_test, pointer_test, target, tested};
 use c_tree::{BinaryOp, IntegerType, ValueType};
 use flow_graph::{Comparison, Op};
 use lower_builder::{Lines, plus};
-use lower_moves::{Site, Spot, Wanted, copied, number_test, pointer_test, target, tested};
 use pcc_base::NoMemory;
 
 /// The comparison that an operator is.

@@ -18,7 +18,7 @@ use Rattle.lower_lines.specs.Operators.{applied, applied_blocks}
 use Rattle.lower_lines.specs.Parts.{Wanted, Dropped, Own, ToLocal, Part, bits_of, converted_lines, converting}
 use Rattle.lower_lines.specs.Parts.{delivered, if_stays, made, operand, tested_blocks}
 use Rattle.lower_lines.specs.Variables.{Context, Spot, local_spot, own}
-use Rattle.lower_moves.specs.Views.{plain}
+use Rattle.lower_pieces.specs.MoveViews.{plain}
 use Rattle.lower_pieces.specs.Views.{AddsOperand, AddsPart}
 use Rattle.lower_pieces.proofs.Joined.{counted, lined, operand-none, operand-none-spot, two}
 use Rattle.lower_rows.specs.Kinds.{number_type}

@@ -20,8 +20,8 @@ use Rattle.lower_lines.specs.Expressions.{update_part}
 use Rattle.lower_lines.specs.Lines.{Line, Emit}
 use Rattle.lower_lines.specs.Parts.{Wanted, Own, Part, bits_of, converted_lines, if_stays, made, operand, standing}
 use Rattle.lower_lines.specs.Variables.{Context, Spot}
-use Rattle.lower_moves.specs.Spots.{spot_of}
-use Rattle.lower_moves.specs.declared.spot.Spot as memory
+use Rattle.lower_pieces.specs.Spots.{spot_of}
+use Rattle.lower_pieces.specs.declared.spot.Spot as memory
 use Rattle.lower_pieces.specs.Views.{AddsOperand, AddsPart}
 use Rattle.lower_pieces.proofs.Joined.{counted, lined, two}
 use Rattle.lower_rows.specs.Finding.{Finds, InLocal, InObject, AtElement}

@@ -5,7 +5,7 @@ use Rattle.lower_builder.specs.Built.{Built, Adds}
 use Rattle.lower_lines.specs.Expressions.{Located, AtLocal, AtObject, AtAddress}
 use Rattle.lower_lines.specs.Lines.{Line}
 use Rattle.lower_lines.specs.Variables.{Spot}
-use Rattle.lower_moves.specs.Spots.{spot_of}
+use Rattle.lower_pieces.specs.Spots.{spot_of}
 use Rattle.lower_rows.specs.declared.found.Found as memory
 use Rattle.lower_rows.specs.declared.found.Found.TheVariants as found
 

@@ -4,7 +4,7 @@ use Rattle.flow_graph.specs.declared.op.Op.TheVariants as op
 use Rattle.lower_lines.specs.Lines.{Line, Start, Emit}
 use Rattle.lower_lines.specs.Parts.{Wanted, Dropped, Own, ToLocal, Tests}
 use Rattle.lower_lines.specs.Variables.{Context}
-use Rattle.lower_moves.specs.Views.{wanted_of}
+use Rattle.lower_pieces.specs.MoveViews.{wanted_of}
 use Rattle.lower_pieces.specs.Views.{truth_end}
 use Rattle.lower_rows.specs.declared.ways.Ways as memory
 

@@ -8,15 +8,14 @@ ghost use Rattle.lower_builder.specs.Built.{Adds};
 ghost use Rattle.lower_lines.specs.Expressions.{parameters_of, result_lines};
 ghost use Rattle.lower_lines.specs.Lines.{Emit};
 ghost use Rattle.lower_lines.specs.Parts.{made, target};
-ghost use Rattle.lower_moves.specs.Sites.{context_of};
-ghost use Rattle.lower_moves.specs.Views.{wanted_of};
+ghost use Rattle.lower_pieces.specs.Sites.{context_of};
+ghost use Rattle.lower_pieces.specs.MoveViews.{wanted_of};
 ghost use Rattle.lower_rows.specs.Rows.{parameter_type};
 
 use c_tree::{IntegerType, Local, ValueType};
 use flow_graph::{Op, Words};
 use lower_builder::Lines;
-use lower_moves::{Site, Wanted, target};
-use lower_pieces::tested_number;
+use lower_pieces::{Site, Wanted, target, tested_number};
 use pcc_base::NoMemory;
 
 /// The type of a local at a place of a list.

@@ -3,14 +3,14 @@
 ghost use Rattle.std.specs.Prelude.{◌≡◌, ◌+◌, IfOk, OnOk};
 ghost use Rattle.lower_builder.specs.Built.{Adds};
 ghost use Rattle.lower_lines.specs.Statements.{dead, dead_blocks, exit_blocks, exit_lines, exit_of, leaving, onward};
-ghost use Rattle.lower_moves.specs.Sites.{context_of};
+ghost use Rattle.lower_pieces.specs.Sites.{context_of};
 ghost use Rattle.lower_rows.specs.Views.{after_of};
 
 use crate::after::After;
 use c_tree::ValueType;
 use flow_graph::Op;
 use lower_builder::Lines;
-use lower_moves::Site;
+use lower_pieces::Site;
 use pcc_base::NoMemory;
 
 /// A function that falls off its end, or returns no value, gives 0 (C99 6.9.1p12).

@@ -1,5 +1,5 @@
 use c_tree::IntegerType;
-use lower_moves::Spot;
+use lower_pieces::Spot;
 
 /// What is found of a place.
 #[derive(Clone, Copy)]

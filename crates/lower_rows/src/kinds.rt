@@ -4,14 +4,14 @@ ghost use Rattle.std.specs.Prelude.{◌≡◌, option_map};
 ghost use Rattle.c_tree.specs.Erased.{expression_of, place_of};
 ghost use Rattle.lower_lines.specs.Expressions.{part_of};
 ghost use Rattle.lower_lines.specs.Variables.{Context};
-ghost use Rattle.lower_moves.specs.Sites.{context_of};
-ghost use Rattle.lower_moves.specs.Spots.{spot_of};
+ghost use Rattle.lower_pieces.specs.Sites.{context_of};
+ghost use Rattle.lower_pieces.specs.Spots.{spot_of};
 ghost use Rattle.lower_rows.specs.Kinds.{is_name, is_simple, name_stands, number_type, place_type, stands_in};
 ghost use Rattle.lower_rows.specs.Kinds.{step_type, type_in};
 
 use c_tree::{Expression, IntegerType, Place, ValueType};
 use lower_leaves::local_stands;
-use lower_moves::{Site, Spot};
+use lower_pieces::{Site, Spot};
 
 /// The type of a static object that is no array: a number's.
 pub fn number_type(of: ValueType) -> IntegerType

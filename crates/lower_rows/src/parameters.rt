@@ -5,12 +5,12 @@ ghost use Rattle.c_tree.specs.Erased.{local_of};
 ghost use Rattle.lower_builder.specs.Built.{Adds};
 ghost use Rattle.lower_lines.specs.Programs.{parameter_of, parameters_lines, words_in};
 ghost use Rattle.lower_lines.specs.Variables.{local_spot};
-ghost use Rattle.lower_moves.specs.Sites.{context_of};
+ghost use Rattle.lower_pieces.specs.Sites.{context_of};
 
 use c_tree::{IntegerType, Local, ValueType};
 use flow_graph::Op;
 use lower_builder::{Lines, plus};
-use lower_moves::Site;
+use lower_pieces::Site;
 use pcc_base::NoMemory;
 
 /// A parameter takes its argument words, in its type.

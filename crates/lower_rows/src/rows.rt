@@ -12,9 +12,9 @@ ghost use Rattle.lower_lines.specs.Lines.{Emit, Start};
 ghost use Rattle.lower_lines.specs.Parts.{bits_of, converted_lines, converting, made, tested_blocks};
 ghost use Rattle.lower_lines.specs.Operators.{computing};
 ghost use Rattle.lower_lines.specs.Variables.{local_spot};
-ghost use Rattle.lower_moves.specs.Sites.{context_of};
-ghost use Rattle.lower_moves.specs.Spots.{spot_of};
-ghost use Rattle.lower_moves.specs.Views.{plain, wanted_of};
+ghost use Rattle.lower_pieces.specs.Sites.{context_of};
+ghost use Rattle.lower_pieces.specs.Spots.{spot_of};
+ghost use Rattle.lower_pieces.specs.MoveViews.{plain, wanted_of};
 ghost use Rattle.lower_pieces.specs.Views.{AddsPart};
 ghost use Rattle.lower_rows.specs.Rows.{number_op, renewing};
 
@@ -22,8 +22,7 @@ use c_tree::{BinaryOp, IntegerType, ValueType};
 use flow_graph::Op;
 use lower_builder::{Lines, plus};
 use lower_leaves::local;
-use lower_moves::{Site, Spot, Wanted, copied, number_test, target};
-use lower_pieces::{computing, tested_number};
+use lower_pieces::{Site, Spot, Wanted, computing, copied, number_test, target, tested_number};
 use lower_values::{bits_of, converting};
 use pcc_base::NoMemory;
 

@@ -5,14 +5,13 @@ ghost use Rattle.flow_graph.specs.declared.op.Op.TheVariants as op;
 ghost use Rattle.lower_builder.specs.Built.{Adds};
 ghost use Rattle.lower_lines.specs.Lines.{Emit, Start};
 ghost use Rattle.lower_lines.specs.Expressions.{joined, joins, own_blocks};
-ghost use Rattle.lower_moves.specs.Sites.{context_of};
-ghost use Rattle.lower_moves.specs.Views.{wanted_of};
+ghost use Rattle.lower_pieces.specs.Sites.{context_of};
+ghost use Rattle.lower_pieces.specs.MoveViews.{wanted_of};
 ghost use Rattle.lower_rows.specs.Ways.{truth_ways, way_blocks, ways_at, ways_end, ways_of};
 
 use flow_graph::Op;
 use lower_builder::{Lines, plus};
-use lower_moves::{Site, Wanted};
-use lower_pieces::end_truth;
+use lower_pieces::{Site, Wanted, end_truth};
 use pcc_base::NoMemory;
 
 /// Where control goes in `a && b` and `a || b`: the block of `b`, those of a value that is true and one that is false,

@@ -2,11 +2,11 @@
 
 ghost use Rattle.std.specs.Prelude.{◌≡◌, ◌++◌, OnOk};
 ghost use Rattle.lower_lines.specs.Expressions.{words_of};
-ghost use Rattle.lower_moves.specs.Spots.{spot_of};
+ghost use Rattle.lower_pieces.specs.Spots.{spot_of};
 ghost use Rattle.lower_values.specs.Arguments.{passed_type};
 
 use c_tree::ValueType;
-use lower_moves::Spot;
+use lower_pieces::Spot;
 use pcc_base::NoMemory;
 
 /// The type of an argument as its parameter takes it.

@@ -3,12 +3,12 @@
 ghost use Rattle.std.specs.Prelude.{OnOk};
 ghost use Rattle.lower_builder.specs.Built.{Adds};
 ghost use Rattle.lower_lines.specs.Parts.{converting};
-ghost use Rattle.lower_moves.specs.Sites.{context_of};
+ghost use Rattle.lower_pieces.specs.Sites.{context_of};
 
 use c_tree::IntegerType;
 use flow_graph::Op;
 use lower_builder::Lines;
-use lower_moves::{Site, copied};
+use lower_pieces::{Site, copied};
 use pcc_base::NoMemory;
 
 /// A number from one variable to another, in an integer type (C99 6.3.1.3).

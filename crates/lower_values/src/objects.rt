@@ -4,15 +4,14 @@ ghost use Rattle.std.specs.Prelude.{◌≡◌, IfOk, OnOk, pos};
 ghost use Rattle.lower_lines.specs.Expressions.{object_part};
 ghost use Rattle.lower_lines.specs.Parts.{bits_of};
 ghost use Rattle.lower_lines.specs.Statements.{text_count};
-ghost use Rattle.lower_moves.specs.Sites.{context_of};
-ghost use Rattle.lower_moves.specs.Views.{wanted_of};
+ghost use Rattle.lower_pieces.specs.Sites.{context_of};
+ghost use Rattle.lower_pieces.specs.MoveViews.{wanted_of};
 ghost use Rattle.lower_pieces.specs.Views.{AddsPart};
 
 use c_tree::IntegerType;
 use flow_graph::{Bits, Op};
 use lower_builder::Lines;
-use lower_moves::{Site, Wanted, target};
-use lower_pieces::tested_number;
+use lower_pieces::{Site, Wanted, target, tested_number};
 use pcc_base::NoMemory;
 
 /// How many bits an access to a value of a type has.

@@ -16,7 +16,7 @@ use Rattle.flow_graph.specs.Graphs.{Flow, empty_flow}
 use Rattle.flow_graph.specs.States as graph
 use Rattle.flow_graph.specs.States.{Activation, active_of, flow_at}
 use Rattle.flow_graph.specs.WellFormed.{AreElementsOf, IsState}
-use Rattle.graph_states.proofs.Lists.{zip-first}
+use Rattle.flow_graph.proofs.Lists.{zip-first}
 use Rattle.lower_lines.specs.Lowering.{array_of}
 use Rattle.ia32_insn.proofs.Objects.{length-object_addresses}
 use Rattle.ia32_rows.specs.Placements.{Code, objects_of as image_objects, placement_of}

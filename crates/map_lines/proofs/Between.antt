@@ -16,7 +16,7 @@ use Rattle.flow_graph.specs.declared.op.Op.TheVariants as op
 use Rattle.flow_graph.specs.Graphs.{Flow, IsIn, LastIsEnd, Stands, following, is_end, points_of}
 use Rattle.flow_graph.specs.States.{Activation, Waiting, flow_at, point_after}
 use Rattle.flow_graph.specs.WellFormed.{IsWaiting}
-use Rattle.graph_states.proofs.Values.{graph-of}
+use Rattle.flow_graph.proofs.Values.{graph-of}
 use Rattle.ia32_rows.specs.Placements.{Code, Placement, address_in, placement_of, point_address}
 use Rattle.ia32_rows.specs.Shows.{IsInside, ReturnsTo}
 use Rattle.ia32_rows.specs.Rows.{behind_call, selected}

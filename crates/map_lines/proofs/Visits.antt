@@ -20,8 +20,8 @@ use Rattle.flow_graph.specs.Running.{part_value, visits_at}
 use Rattle.flow_graph.specs.States as graph
 use Rattle.flow_graph.specs.States.{active_of, flow_at, op_at}
 use Rattle.flow_graph.specs.WellFormed.{IsState}
-use Rattle.graph_states.proofs.Keeping.{states_are_states}
-use Rattle.graph_states.proofs.Lists.{All-at}
+use Rattle.flow_graph.proofs.Keeping.{states_are_states}
+use Rattle.flow_graph.proofs.Lists.{All-at}
 use Rattle.lower_lines.specs.Shown.{locals_at, variable_part, variables_shown}
 use Rattle.ia32_rows.specs.Paths.{IsAt, IsClear}
 use Rattle.ia32_rows.specs.Placements.{Code, objects_of, placement_of}

@@ -11,8 +11,7 @@ ghost use Rattle.pcc_driver.specs.Answers.{
   report_of_end,
 };
 
-use elf_image::{ImageRefusal, Loaded};
-use elf_reading::read_image;
+use elf_image::{ImageRefusal, Loaded, read_image};
 use ia32_machine::{Machine, MachineEnd};
 use pcc_outside::{FileStore, Sink, Source};
 use pcc_reports::{FILE_LIMIT, Named, Report, read_report};

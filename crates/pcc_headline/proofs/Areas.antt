@@ -10,7 +10,7 @@ use Rattle.ia32_insn.specs.Items.{Object, round_up, text_start, data_bytes, data
 use Rattle.ia32_insn.specs.Items.{text_state}
 use Rattle.elf_image.specs.Segments.{image_segments}
 use Rattle.elf_image.proofs.Loading.{loads-image}
-use Rattle.ia32_cells.specs.Cells.{padded}
+use Rattle.ia32_memory.specs.Cells.{padded}
 use Rattle.ia32_memory.specs.First.{area_of}
 use Rattle.ia32_machine.specs.First.{first_state}
 use Rattle.pcc_headline.specs.Begins.{SegmentsAreMemory, TextBegins, parts_of_text}

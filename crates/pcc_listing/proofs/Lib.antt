@@ -6,3 +6,4 @@ pub mod LocalNames
 pub mod OneMap
 pub mod OneText
 pub mod Places
+mod TextLines

@@ -13,7 +13,7 @@ use Rattle.elf_link.specs.declared.linked.Linked.{Linked}
 use Rattle.elf_addresses.specs.Parts.{order_of}
 use Rattle.flow_graph.specs.Graphs.{Flow, IsPlaced}
 use Rattle.flow_graph.specs.States.{GraphProgram}
-use Rattle.graph_states.proofs.Lists.{All-at}
+use Rattle.flow_graph.proofs.Lists.{All-at}
 use Rattle.ia32_asm.specs.declared.section.Section.{Section}
 use Rattle.ia32_frames.specs.declared.frame.Frame.{Frame}
 use Rattle.ia32_frames.specs.Frames.{frame_bytes, frame_placement}
@@ -22,7 +22,7 @@ use Rattle.ia32_insn.specs.Items.{data_bytes}
 use Rattle.ia32_programs.specs.Supports.{AreSlots}
 use Rattle.ia32_programs.specs.Right.{ProgramsAreRight}
 use Rattle.ia32_rows.specs.Placements.{Code, in_slots, no_placement, objects_of, placement_of, point_address}
-use Rattle.ia32_sizes.specs.Sizes.{SelectedIsCode}
+use Rattle.ia32_functions.specs.Sizes.{SelectedIsCode}
 use Rattle.ia32_programs.specs.StandingLaws.{IsSelected}
 use Rattle.pcc_headline.specs.Begins.{parts_of_text}
 use Rattle.lower_programs.specs.VisitsLaws.{VisitsAreKnown}

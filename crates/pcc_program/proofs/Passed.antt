@@ -11,13 +11,13 @@ use Rattle.elf_link.specs.Linking.{AreSections, CanLink, IsLinked}
 use Rattle.elf_link.specs.Placed.{routines_size}
 use Rattle.flow_graph.specs.Graphs.{Flow}
 use Rattle.flow_graph.specs.States.{GraphProgram}
-use Rattle.graph_states.proofs.Lists.{All-at}
+use Rattle.flow_graph.proofs.Lists.{All-at}
 use Rattle.ia32_asm.specs.declared.section.Section.{Section}
 use Rattle.ia32_frames.specs.declared.frame.Frame.{Frame}
 use Rattle.ia32_frames.specs.Frames.{frame_bytes, frame_placement}
 use Rattle.ia32_frames.specs.Laws.{FramesSupport}
 use Rattle.ia32_insn.specs.declared.item.Item.{Item}
-use Rattle.ia32_sizes.specs.Sizes.{SelectedIsCode}
+use Rattle.ia32_functions.specs.Sizes.{SelectedIsCode}
 use Rattle.lower_programs.specs.Lowered.{AreLowered}
 use Rattle.elf_addresses.proofs.Data.{length-data}
 use Rattle.map_lines.specs.Shown.{CanShowAll, address_in, homes_of}

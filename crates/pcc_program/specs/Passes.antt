@@ -5,7 +5,7 @@ use Rattle.ia32_asm.specs.declared.section.Section.{Section}
 use Rattle.ia32_asm.specs.Sections.{IsSection}
 use Rattle.ia32_frames.specs.declared.frame.Frame.{Frame}
 use Rattle.ia32_frames.specs.Frames.{frame_arrays, frame_bytes, frame_slots, offset_of}
-use Rattle.ia32_sizes.specs.Sizes.{most_bytes}
+use Rattle.ia32_functions.specs.Sizes.{most_bytes}
 use Rattle.pcc_program.specs.Code.{framed_items}
 
 -- the frame of a graph, as the code holds it: offsets from EBP

@@ -4,8 +4,8 @@ ghost use Rattle.pcc_program.specs.Laws.{LinkedCanShow, LinkedDoesAs};
 
 use crate::{framed_is_selected, graphs_have_frames};
 use ia32_frames::{frames_support, offsets_are_below};
+use ia32_functions::selected_is_code;
 use ia32_programs::programs_are_right;
-use ia32_sizes::selected_is_code;
 use lower_programs::visits_are_known;
 use map_lines::{
     map_belongs, map_by_same_addresses, map_keeps_rules, map_lists_locals, visits_are_shown,

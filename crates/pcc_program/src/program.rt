@@ -13,11 +13,11 @@ use c_tree::Program;
 use elf_image::write_image;
 use elf_link::link;
 use ia32_frames::frames_support;
-use ia32_sizes::selected_is_code;
+use ia32_functions::selected_is_code;
 use lower::lower;
 use map_lines::map_lines;
-use map_text::print_lines;
 use pcc_base::NoMemory;
+use pcc_listing::print_lines;
 use std::alloc::Global;
 
 /// What is made of a program: the text of its map, and the bytes of its image.

@@ -11,7 +11,7 @@ use Rattle.c_syntax.proofs.Chains.{continues_goes}
 use Rattle.c_syntax.proofs.Reading.{expression_above, assignment_above, conditional_above}
 use Rattle.c_syntax.proofs.Reading.{binary_above, cast_above, unary_above}
 use Rattle.c_cursor.proofs.Refused.{refused_turn, last_turn, refused_fault}
-use Rattle.c_expression_nodes.specs.Values.{values_of}
+use Rattle.c_parse_expressions.specs.Values.{values_of}
 use Rattle.c_parse_expressions.specs.Readings.{reader_of, below}
 use Rattle.c_parse_expressions.proofs.Turns.{same_reading, none_below, no_arguments, no_cast_behind, cast_is}
 use Rattle.c_parse_expressions.proofs.Turns.{reading_behind, arguments_begun, below_node, at_most}

@@ -3,7 +3,7 @@ use Rattle.std.proofs.lemmas.Result.{IfOk-weaker}
 use Rattle.c_syntax.specs.Declarations.{parameter_of}
 use Rattle.c_syntax.specs.Statements.{stmt_of}
 use Rattle.c_check_declarators.specs.Views.{specified_of}
-use Rattle.c_meanings.specs.Views as views
+use Rattle.c_bindings.specs.Views as views
 use Rattle.c_check_files.proofs.Bodies.{defined_said, defined_scope, holds_ok}
 use Rattle.c_check_files.proofs.definitions.defined.Goals as goal
 

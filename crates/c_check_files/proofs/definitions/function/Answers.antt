@@ -1,6 +1,6 @@
 use Rattle.std.proofs.Common.{◌∙◌, map}
 use Rattle.c_tree.specs.Erased.{array_of, local_of, statements_of}
-use Rattle.c_meanings.specs.Views as views
+use Rattle.c_bindings.specs.Views as views
 use Rattle.c_check_files.proofs.Bodies.{made}
 use Rattle.c_check_files.proofs.definitions.function.Goals as goal
 

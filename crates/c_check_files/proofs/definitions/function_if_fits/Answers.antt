@@ -2,7 +2,7 @@ use Rattle.std.proofs.Common.{subst}
 use Rattle.c_tree.specs.Program.{Statements}
 use Rattle.c_typing.specs.Checked.{fits}
 use Rattle.c_typing.specs.Files.{function_with}
-use Rattle.c_meanings.specs.Views as views
+use Rattle.c_bindings.specs.Views as views
 use Rattle.c_check_files.specs.Answers.{IsFunction}
 use Rattle.c_check_files.proofs.Bodies.{function_fails, function_said}
 use Rattle.c_check_files.proofs.definitions.function_if_fits.Goals as goal

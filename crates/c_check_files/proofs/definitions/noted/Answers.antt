@@ -1,7 +1,7 @@
 use Rattle.std.proofs.Common.{◌∷◌, [], Some}
 use Rattle.c_typing.specs.Checked.{Defines, Fits}
 use Rattle.c_typing.specs.Types.{DeclaredFunction}
-use Rattle.c_meanings.specs.Views as views
+use Rattle.c_bindings.specs.Views as views
 use Rattle.c_check_files.proofs.Bodies.{noted_fails, noted_said}
 use Rattle.c_check_files.proofs.definitions.noted.Goals as goal
 

@@ -1,7 +1,7 @@
 use Rattle.std.proofs.Common.{◌∙◌, map}
 use Rattle.c_syntax.specs.Declarations.{parameter_of}
 use Rattle.c_syntax.specs.Statements.{stmt_of}
-use Rattle.c_meanings.specs.Views as views
+use Rattle.c_bindings.specs.Views as views
 use Rattle.c_check_files.proofs.Bodies.{left_body, within_said}
 use Rattle.c_check_files.proofs.definitions.within.Goals as goal
 

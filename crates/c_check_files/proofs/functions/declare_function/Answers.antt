@@ -1,5 +1,5 @@
 use Rattle.c_check_declarators.specs.Views.{specified_of}
-use Rattle.c_meanings.specs.Views as views
+use Rattle.c_bindings.specs.Views as views
 use Rattle.c_check_files.proofs.Signatures.{declared_entity, declared_scope}
 use Rattle.c_check_files.proofs.functions.declare_function.Goals as goal
 

@@ -1,6 +1,6 @@
 use Rattle.std.proofs.Common.{◌∙◌}
 use Rattle.c_check_declarators.specs.Views.{specified_of}
-use Rattle.c_meanings.specs.Views as views
+use Rattle.c_bindings.specs.Views as views
 use Rattle.c_check_files.proofs.Signatures.{declared_said}
 use Rattle.c_check_files.proofs.functions.function_declared.Goals as goal
 

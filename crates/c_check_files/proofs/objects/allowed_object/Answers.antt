@@ -3,7 +3,7 @@ use Rattle.std.proofs.Common.{ap, ◌∙◌}
 use Rattle.c_syntax.specs.Declarations.{value_of}
 use Rattle.c_typing.specs.Library.{Entity}
 use Rattle.c_typing.specs.Statements.{bound_object}
-use Rattle.c_meanings.specs.Views as views
+use Rattle.c_bindings.specs.Views as views
 use Rattle.c_expressions.specs.Notes.{contents_of}
 use Rattle.c_check_declarators.specs.Views.{object_of, specified_of}
 use Rattle.c_check_files.proofs.StaticObjects.{allowed_said}

@@ -1,7 +1,7 @@
 use Rattle.std.proofs.Common.{sym, ap, ◌∙◌, Bool, is_some}
 use Rattle.c_syntax.specs.Declarations.{item_of}
 use Rattle.c_typing.specs.Files.{outer_of}
-use Rattle.c_meanings.specs.Views as views
+use Rattle.c_bindings.specs.Views as views
 use Rattle.c_check_declarators.specs.Views.{specified_of}
 use Rattle.c_check_files.proofs.StaticObjects.{declared_said, declared_scope, is_same_some}
 use Rattle.c_check_files.proofs.objects.declared_object.Goals as goal

@@ -1,6 +1,6 @@
 use Rattle.std.proofs.lemmas.Result.{IfOk-weaker}
 use Rattle.c_syntax.specs.Declarations.{value_of}
-use Rattle.c_meanings.specs.Views as views
+use Rattle.c_bindings.specs.Views as views
 use Rattle.c_check_declarators.specs.Views.{specified_of}
 use Rattle.c_check_files.proofs.StaticObjects.{if_allowed_said}
 use Rattle.c_check_files.proofs.objects.object_if_allowed.Goals as goal

@@ -5,7 +5,7 @@ use Rattle.c_operands.specs.Judged.{IsOperandOf}
 use Rattle.c_expressions.specs.Said.{IsSaid}
 use Rattle.c_check_declarators.specs.Answers.{IsSame}
 use Rattle.c_check_declarators.proofs.Rows.{then_said}
-use Rattle.c_check_values.specs.Values.{row_within}
+use Rattle.c_check_labels.specs.Values.{row_within}
 use Rattle.c_check_labels.proofs.values.constant_within.Goals as goal
 
 pub returns-in-Fits : goal.returns-in-Fits

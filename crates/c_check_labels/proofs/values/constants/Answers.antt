@@ -6,7 +6,7 @@ use Rattle.c_expressions.specs.Said.{IsSaid}
 use Rattle.c_expressions.proofs.Gathering.{given_all}
 use Rattle.c_check_declarators.specs.Answers.{AreSame, IsSame}
 use Rattle.c_check_declarators.proofs.Lists.{AreTheSame, gathered_all, gathered_none, gathered_one, push_same}
-use Rattle.c_check_values.specs.Values.{row_within}
+use Rattle.c_check_labels.specs.Values.{row_within}
 use Rattle.c_check_labels.proofs.GivenValues.{next_row, none_left}
 use Rattle.c_check_labels.proofs.values.constants.Goals as goal
 

@@ -7,7 +7,7 @@ use Rattle.c_expressions.specs.Arguments.{AreTrees, given_of}
 use Rattle.c_expressions.specs.Said.{IsSaid}
 use Rattle.c_expressions.proofs.Gathering.{given_all}
 use Rattle.c_check_declarators.proofs.Lists.{gathered_all, gathered_none, gathered_one}
-use Rattle.c_check_values.specs.Values.{IsPlainTree, row_within}
+use Rattle.c_check_labels.specs.Values.{IsPlainTree, row_within}
 use Rattle.c_check_labels.proofs.GivenValues.{next_row, none_left}
 use Rattle.c_check_labels.proofs.Pushes.{AreTreesOf, push_tree}
 use Rattle.c_check_labels.proofs.values.trees.Goals as goal

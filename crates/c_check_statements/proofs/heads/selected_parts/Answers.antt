@@ -1,5 +1,5 @@
 use Rattle.c_expressions.proofs.Answered.{pair_said}
-use Rattle.c_check_values.specs.Values.{IsTree}
+use Rattle.c_check_labels.specs.Values.{IsTree}
 use Rattle.c_check_labels.specs.Labels.{AreLabels}
 use Rattle.c_check_statements.proofs.heads.selected_parts.Goals as goal
 

@@ -3,7 +3,7 @@ use Rattle.std.proofs.Common.{◌≡◌, ◌<◌, ◌≤◌, length}
 use Rattle.c_syntax.proofs.Chains.{Continues}
 use Rattle.c_syntax.specs.DeclarationReading.{brace_step}
 use Rattle.c_parse_expressions.specs.Readings.{below}
-use Rattle.c_expression_nodes.specs.Values.{values_of, height_of_values}
+use Rattle.c_parse_expressions.specs.Values.{values_of, height_of_values}
 use Rattle.c_parse_declarations.specs.Braces.{read_values}
 use Rattle.c_parse_declarations.proofs.initialisers.values.Given as goal
 

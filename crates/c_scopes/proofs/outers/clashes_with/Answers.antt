@@ -2,7 +2,7 @@ use Rattle.std.proofs.Common.{Some, ap, sym, subst, ◌∙◌, ◌||◌, ◌&&�
 use Rattle.std.specs.Prelude.{option_copied}
 use Rattle.c_bindings.specs.declared.sums.Seen.{Seen}
 use Rattle.c_scopes.specs.Outers.{IsSummed}
-use Rattle.c_meanings.specs.Views.{outer_of}
+use Rattle.c_bindings.specs.Views.{outer_of}
 use Rattle.c_scopes.proofs.Declarations.{by_eq, no_clash, clash}
 use Rattle.c_scopes.proofs.outers.clashes_with.Goals as goal
 

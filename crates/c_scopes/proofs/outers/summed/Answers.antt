@@ -2,7 +2,7 @@ use Rattle.std.proofs.Common.{Bool, Some, ap, sym, subst, ◌∙◌, ◌||◌, �
 use Rattle.std.specs.Prelude.{option_copied}
 use Rattle.c_bindings.specs.declared.sums.Seen.{Seen}
 use Rattle.c_scopes.specs.Outers.{IsSummed}
-use Rattle.c_meanings.specs.Views.{outer_of}
+use Rattle.c_bindings.specs.Views.{outer_of}
 use Rattle.std.proofs.lemmas.List.{length-map}
 use Rattle.c_scopes.proofs.Declarations.{by_eq, first_one, one_more_of}
 use Rattle.c_scopes.proofs.outers.summed.Goals as goal

@@ -1,7 +1,7 @@
 use Rattle.std.proofs.Common.{◌≡◌, ◌++◌, drop}
 use Rattle.flow_graph.specs.Graphs.{points_of}
 use Rattle.ia32_rows.specs.Rows.{point_rows}
-use Rattle.ia32_sites.specs.Sites.{flow_of, placement_of}
+use Rattle.ia32_functions.specs.Sites.{flow_of, placement_of}
 use Rattle.ia32_functions.proofs.blocks.emit_block.Given as goal
 
 abbrev pub invariant-loop-point : goal.invariant-loop-point

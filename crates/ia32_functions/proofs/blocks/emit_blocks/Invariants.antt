@@ -1,6 +1,6 @@
 use Rattle.std.proofs.Common.{◌≡◌, ◌++◌, drop}
 use Rattle.ia32_rows.specs.Rows.{block_rows}
-use Rattle.ia32_sites.specs.Sites.{flow_of, placement_of}
+use Rattle.ia32_functions.specs.Sites.{flow_of, placement_of}
 use Rattle.ia32_functions.proofs.blocks.emit_blocks.Given as goal
 
 abbrev pub invariant-loop-block : goal.invariant-loop-block

@@ -1,6 +1,6 @@
 use Rattle.std.proofs.Common.{rules}
 use Rattle.std.proofs.lemmas.Result.{on_ok_weaker}
-use Rattle.ia32_sites.specs.Sites.{flow_of, placement_of}
+use Rattle.ia32_functions.specs.Sites.{flow_of, placement_of}
 use Rattle.ia32_functions.proofs.Emitted.{few-labels, few-words, point-emitted}
 use Rattle.ia32_functions.proofs.blocks.emit_point.Goals as goal
 

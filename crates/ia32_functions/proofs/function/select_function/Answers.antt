@@ -6,7 +6,7 @@ use Rattle.flow_graph.specs.WellFormed.{IsGraph}
 use Rattle.ia32_rows.specs.Placements.{Placement, in_slots}
 use Rattle.ia32_rows.specs.Rows.{selected}
 use Rattle.ia32_emit.specs.Locations.{slots_of}
-use Rattle.ia32_sizes.specs.Sizes.{IsCodeIn}
+use Rattle.ia32_functions.specs.Sizes.{IsCodeIn}
 use Rattle.ia32_functions.proofs.function.select_function.Goals as goal
 
 pub returns-clause-code : goal.returns-clause-code

@@ -2,7 +2,7 @@ use Rattle.std.proofs.Common.{◌≡◌, ◌≢◌, List, ℕ, refl, sym, ◌∙
 use Rattle.ia32_regs.specs.declared.names.Reg32.TheVariants.{Eax, Ebx}
 use Rattle.ia32_insn.specs.State.{State}
 use Rattle.ia32_insn.specs.Meaning.{Moved, word_of}
-use Rattle.ia32_instructions.proofs.Kept.{keeps-same}
+use Rattle.ia32_processor.proofs.Kept.{keeps-same}
 use Rattle.ia32_machine.specs.First.{lent}
 use Rattle.ia32_machine.specs.Performs.{PartTold}
 use Rattle.ia32_machine.proofs.Calls.{call_exit, call_read, call_write, call_none}

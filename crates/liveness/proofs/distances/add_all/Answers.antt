@@ -1,10 +1,10 @@
 use Rattle.std.proofs.Common.{◌≡◌, ◌<◌, inl, inr, length, refl, get_or, ◌∙◌}
 use Rattle.flow_graph.specs.Liveness.{IsDistance}
-use Rattle.live_searches.proofs.Adding.{has-item}
+use Rattle.liveness.proofs.Adding.{has-item}
 use Rattle.liveness.proofs.Listing.{DistanceAt, distance-found, distance-next, distance-only, found-once}
-use Rattle.live_searches.proofs.Placed.{placed-within}
+use Rattle.liveness.proofs.Placed.{placed-within}
 use Rattle.liveness.proofs.Searching.{next-placed}
-use Rattle.live_searches.proofs.Stepping.{steps-end, steps-more, steps-start}
+use Rattle.liveness.proofs.Stepping.{steps-end, steps-more, steps-start}
 use Rattle.liveness.proofs.distances.add_all.Goals as goal
 
 pub loop-point-init : goal.loop-point-init

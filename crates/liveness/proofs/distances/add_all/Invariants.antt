@@ -1,6 +1,6 @@
-use Rattle.live_searches.specs.Lists.{Adds}
+use Rattle.liveness.specs.Lists.{Adds}
 use Rattle.liveness.proofs.Listing.{DistanceAt}
-use Rattle.live_searches.proofs.Stepping.{Before}
+use Rattle.liveness.proofs.Stepping.{Before}
 use Rattle.liveness.proofs.distances.add_all.Given as goal
 
 -- the distances so far are listed

@@ -2,10 +2,10 @@ use Rattle.std.proofs.Common.{◌≡◌, ◌<◌, Some, length, get_or, refl, sy
 use Rattle.std.specs.List.{slice_get}
 use Rattle.std.proofs.lemmas.Option.{same_Some, slice_get_within}
 use Rattle.flow_graph.specs.Liveness.{IsLiveAfter}
-use Rattle.live_searches.proofs.Adding.{has-item}
+use Rattle.liveness.proofs.Adding.{has-item}
 use Rattle.liveness.proofs.Listing.{ListedAt, all-smaller, listing-end, listing-more, live-placed}
-use Rattle.live_searches.proofs.Placed.{placed-within}
-use Rattle.live_searches.proofs.Stepping.{steps-start}
+use Rattle.liveness.proofs.Placed.{placed-within}
+use Rattle.liveness.proofs.Stepping.{steps-start}
 use Rattle.liveness.proofs.live_sets.add_afters.Goals as goal
 
 pub loop-point-init : goal.loop-point-init

@@ -1,9 +1,9 @@
 use Rattle.std.proofs.Common.{◌≡◌, Some}
 use Rattle.std.specs.List.{slice_get}
 use Rattle.flow_graph.specs.Liveness.{IsLiveAfter}
-use Rattle.live_searches.specs.Lists.{Adds}
+use Rattle.liveness.specs.Lists.{Adds}
 use Rattle.liveness.proofs.Listing.{ListedAt}
-use Rattle.live_searches.proofs.Stepping.{Before}
+use Rattle.liveness.proofs.Stepping.{Before}
 use Rattle.liveness.proofs.live_sets.add_afters.Given as goal
 
 -- the points so far have the variable

@@ -1,12 +1,12 @@
 use Rattle.std.proofs.Common.{refl, ◌<◌, length, get_or, subst, arith, ◌∙◌}
 use Rattle.std.proofs.lemmas.Option.{slice_get_within}
 use Rattle.flow_graph.specs.Liveness.{IsLiveBefore}
-use Rattle.live_searches.proofs.Adding.{has-item}
+use Rattle.liveness.proofs.Adding.{has-item}
 use Rattle.liveness.proofs.Listing.{FoundAt, ListedAt, all-smaller, distance-next, found-once, found-only, listing-end}
 use Rattle.liveness.proofs.Listing.{listing-more, live-found, next-dead}
-use Rattle.live_searches.proofs.Placed.{placed-within}
+use Rattle.liveness.proofs.Placed.{placed-within}
 use Rattle.liveness.proofs.Searching.{next-placed}
-use Rattle.live_searches.proofs.Stepping.{steps-past, steps-start}
+use Rattle.liveness.proofs.Stepping.{steps-past, steps-start}
 use Rattle.liveness.proofs.live_sets.add_befores.Goals.{then-is_live_before+in_ok-add_before, else-is_live_before}
 use Rattle.liveness.proofs.live_sets.add_befores.Goals as goal
 

@@ -1,8 +1,8 @@
 use Rattle.std.proofs.Common.{◌≡◌}
 use Rattle.flow_graph.specs.Liveness.{IsLiveBefore}
-use Rattle.live_searches.specs.Lists.{Adds}
+use Rattle.liveness.specs.Lists.{Adds}
 use Rattle.liveness.proofs.Listing.{FoundAt, ListedAt}
-use Rattle.live_searches.proofs.Stepping.{Before}
+use Rattle.liveness.proofs.Stepping.{Before}
 use Rattle.liveness.proofs.live_sets.add_befores.Given as goal
 
 -- the points so far have the variable, where it is live before them

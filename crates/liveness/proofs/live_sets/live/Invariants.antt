@@ -1,6 +1,6 @@
 use Rattle.std.proofs.Common.{◌≡◌, ◌<◌, [], length, replicate}
 use Rattle.flow_graph.specs.Liveness.{IsLiveAfter, IsLiveBefore}
-use Rattle.live_searches.specs.Lists.{Adds}
+use Rattle.liveness.specs.Lists.{Adds}
 use Rattle.liveness.specs.Search.{AllEarlier}
 use Rattle.liveness.proofs.live_sets.live.Given as goal
 

@@ -2,11 +2,11 @@ use Rattle.std.proofs.Common.{ℕ, ◌≡◌, ◌+◌, Some, List, ap, subst, ar
 use Rattle.std.specs.List.{slice_get}
 use Rattle.flow_graph.specs.Graphs.{IsIn, points_of}
 use Rattle.flow_graph.specs.Liveness.{IsSuccessor}
-use Rattle.live_searches.specs.Lists.{Adds}
-use Rattle.live_searches.proofs.Adding.{has-in, has-read}
-use Rattle.live_searches.proofs.Placed.{next-behind}
-use Rattle.live_searches.proofs.Stepping.{steps-start}
-use Rattle.live_searches.proofs.Walks.{AlongPoints, list-end, list-step}
+use Rattle.liveness.specs.Lists.{Adds}
+use Rattle.liveness.proofs.Adding.{has-in, has-read}
+use Rattle.liveness.proofs.Placed.{next-behind}
+use Rattle.liveness.proofs.Stepping.{steps-start}
+use Rattle.liveness.proofs.Walks.{AlongPoints, list-end, list-step}
 use Rattle.liveness.proofs.predecessors.add_block.Goals as goal
 
 pub loop-place-init : goal.loop-place-init

@@ -1,7 +1,7 @@
 use Rattle.flow_graph.specs.Liveness.{IsSuccessor}
-use Rattle.live_searches.specs.Lists.{Adds}
-use Rattle.live_searches.proofs.Stepping.{Before}
-use Rattle.live_searches.proofs.Walks.{AlongPoints}
+use Rattle.liveness.specs.Lists.{Adds}
+use Rattle.liveness.proofs.Stepping.{Before}
+use Rattle.liveness.proofs.Walks.{AlongPoints}
 use Rattle.liveness.proofs.predecessors.add_block.Given as goal
 
 -- where the points so far lead is noted

@@ -1,7 +1,7 @@
 use Rattle.std.proofs.Common.{◌<◌, length, IfSome, Some, sym, ap, subst, ◌∙◌}
 use Rattle.std.proofs.lemmas.Option.{same_Some}
 use Rattle.std.proofs.lemmas.Result.{on_ok_weaker}
-use Rattle.live_searches.proofs.Adding.{adds-push, adds-same, ok-alone}
+use Rattle.liveness.proofs.Adding.{adds-push, adds-same, ok-alone}
 use Rattle.liveness.proofs.predecessors.add_edge.Goals as goal
 
 pub returns-in-Some : goal.returns-in-Some

@@ -2,7 +2,7 @@ use Rattle.std.proofs.Common.{subst, sym, ◌∙◌}
 use Rattle.std.proofs.lemmas.Result.{on_ok_weaker}
 use Rattle.liveness.specs.declared.ways.Way.TheVariants.{Next, Block, Either}
 use Rattle.liveness.proofs.Edges.{Going, told-block, told-either, told-next}
-use Rattle.live_searches.proofs.Placed.{first-within, next-within}
+use Rattle.liveness.proofs.Placed.{first-within, next-within}
 use Rattle.liveness.proofs.SameWay.{WayFits, goes-within}
 use Rattle.liveness.proofs.predecessors.add_edges.Goals as goal
 

@@ -1,8 +1,8 @@
 use Rattle.std.proofs.Common.{ℕ, ◌≡◌, [], length, replicate, ap, arith, ◌∙◌}
 use Rattle.std.proofs.lemmas.List.{length-replicate}
 use Rattle.flow_graph.specs.Liveness.{IsSuccessor}
-use Rattle.live_searches.proofs.Stepping.{steps-start, steps-then}
-use Rattle.live_searches.proofs.Walks.{AlongBlocks, blocks-end}
+use Rattle.liveness.proofs.Stepping.{steps-start, steps-then}
+use Rattle.liveness.proofs.Walks.{AlongBlocks, blocks-end}
 use Rattle.liveness.proofs.predecessors.predecessors_of.Goals as goal
 
 pub loop-block-init : goal.loop-block-init

@@ -1,8 +1,8 @@
 use Rattle.std.proofs.Common.{[], length, replicate}
 use Rattle.flow_graph.specs.Liveness.{IsSuccessor}
-use Rattle.live_searches.specs.Lists.{Adds}
-use Rattle.live_searches.proofs.Stepping.{Before}
-use Rattle.live_searches.proofs.Walks.{AlongBlocks}
+use Rattle.liveness.specs.Lists.{Adds}
+use Rattle.liveness.proofs.Stepping.{Before}
+use Rattle.liveness.proofs.Walks.{AlongBlocks}
 use Rattle.liveness.proofs.predecessors.predecessors_of.Given as goal
 
 -- where the points of the blocks so far lead is noted

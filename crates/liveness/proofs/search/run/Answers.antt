@@ -1,7 +1,7 @@
 use Rattle.std.proofs.Common.{ℕ, List, subst, arith, ◌∙◌}
 use Rattle.flow_graph.specs.Liveness.{IsUsedAt}
-use Rattle.live_searches.specs.Lists.{Has}
-use Rattle.live_searches.proofs.Placed.{placed-within}
+use Rattle.liveness.specs.Lists.{Has}
+use Rattle.liveness.proofs.Placed.{placed-within}
 use Rattle.liveness.proofs.Reaching.{search-end}
 use Rattle.liveness.proofs.Searching.{search-start}
 use Rattle.liveness.proofs.Starting.{start-same}

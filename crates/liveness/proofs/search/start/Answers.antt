@@ -2,7 +2,7 @@ use Rattle.std.proofs.Common.{ℕ, ◌≡◌, ◌<◌, Some, length, get_or, ref
 use Rattle.std.proofs.Math.ListN.{length-set}
 use Rattle.std.specs.List.{slice_get}
 use Rattle.std.proofs.lemmas.Bool.{false≢true}
-use Rattle.live_searches.proofs.Adding.{has-item}
+use Rattle.liveness.proofs.Adding.{has-item}
 use Rattle.liveness.proofs.Starting.{start-again, start-more, start-none, start-same, upto-end, upto-more}
 use Rattle.liveness.proofs.search.start.Goals.{then-not-has+in_ok-push, else-not-has}
 use Rattle.liveness.proofs.search.start.Goals as goal

@@ -3,8 +3,8 @@ use Rattle.std.specs.List.{slice_get}
 use Rattle.std.proofs.lemmas.Bool.{cases_eq}
 use Rattle.std.proofs.lemmas.Option.{same_Some, slice_get_within}
 use Rattle.liveness.specs.Search.{IsPassed, unmarked}
-use Rattle.live_searches.proofs.Adding.{has-item, has-read}
-use Rattle.live_searches.proofs.Placed.{placed-within}
+use Rattle.liveness.proofs.Adding.{has-item, has-read}
+use Rattle.liveness.proofs.Placed.{placed-within}
 use Rattle.liveness.proofs.Searching.{next-placed, noted-leads, passed-stays, passes-on, room, search-done}
 use Rattle.liveness.proofs.search.step_back.Goals as goal
 

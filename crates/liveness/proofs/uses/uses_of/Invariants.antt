@@ -1,8 +1,8 @@
 use Rattle.std.proofs.Common.{[], length, replicate}
 use Rattle.flow_graph.specs.Liveness.{IsUsedAt}
-use Rattle.live_searches.specs.Lists.{Adds}
-use Rattle.live_searches.proofs.Stepping.{Before}
-use Rattle.live_searches.proofs.Walks.{AlongBlocks}
+use Rattle.liveness.specs.Lists.{Adds}
+use Rattle.liveness.proofs.Stepping.{Before}
+use Rattle.liveness.proofs.Walks.{AlongBlocks}
 use Rattle.liveness.proofs.uses.uses_of.Given as goal
 
 -- what the points of the blocks so far use has them

@@ -12,7 +12,7 @@ use Rattle.lower.proofs.Arms.{do-arm, for-arm, if-none-arm, if-some-arm, since, 
 use Rattle.lower.proofs.Switched.{switch-none, switch-some}
 use Rattle.lower.proofs.Ordered.{row-first, row-more, row-none}
 use Rattle.lower_lines.specs.Statements.{run_of}
-use Rattle.lower_moves.specs.Sites.{context_of}
+use Rattle.lower_pieces.specs.Sites.{context_of}
 use Rattle.lower_rows.specs.Views.{after_of, exits_of}
 use Rattle.lower.proofs.walk.+statement.Goals as goal
 

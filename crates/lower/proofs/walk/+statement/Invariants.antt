@@ -3,7 +3,7 @@ use Rattle.std.proofs.Common.{◌-◌, drop, length}
 use Rattle.lower_loops.specs.Starts.{starts_at}
 use Rattle.lower.proofs.Ordered.{RestsIf, rest_blocks, rest_lines, runs}
 use Rattle.lower_lines.specs.Statements.{sequence_blocks, sequence_lines}
-use Rattle.lower_moves.specs.Sites.{context_of}
+use Rattle.lower_pieces.specs.Sites.{context_of}
 use Rattle.lower_rows.specs.Views.{after_of, exits_of}
 use Rattle.lower.proofs.walk.+statement.Given as goal
 

@@ -1,7 +1,7 @@
 use Rattle.std.proofs.Common.{◌≡◌}
 use Rattle.std.specs.Prelude.{slice_get}
 use Rattle.lower_lines.specs.Expressions.{all_simple, parameters_of}
-use Rattle.lower_moves.specs.Sites.{context_of}
+use Rattle.lower_pieces.specs.Sites.{context_of}
 use Rattle.lower_emit.specs.Passing.{passed_from}
 use Rattle.lower_emit.proofs.arguments.all_simple.Given as goal
 

@@ -12,9 +12,9 @@ use Rattle.lower_lines.specs.Expressions.{Located, AtLocal, AtObject, AtAddress,
 use Rattle.lower_lines.specs.Expressions.{parameters_of, part_of, result_lines, target_of, update_part, words_of}
 use Rattle.lower_lines.specs.Parts.{Part, if_stays}
 use Rattle.lower_builder.proofs.Rows.{row_is}
-use Rattle.lower_moves.specs.Sites.{context_of}
-use Rattle.lower_moves.specs.Spots.{spot_of}
-use Rattle.lower_moves.specs.Views.{wanted_of}
+use Rattle.lower_pieces.specs.Sites.{context_of}
+use Rattle.lower_pieces.specs.Spots.{spot_of}
+use Rattle.lower_pieces.specs.MoveViews.{wanted_of}
 use Rattle.lower_pieces.specs.Views.{AddsPart}
 use Rattle.lower_rows.specs.Finding.{AtElement, found_at, located_blocks, located_lines}
 use Rattle.lower_rows.proofs.Naming.{local-assigned, object-updated}

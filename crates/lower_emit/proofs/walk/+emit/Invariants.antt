@@ -1,6 +1,6 @@
 use Rattle.std.specs.Prelude.{slice_get}
 use Rattle.lower_lines.specs.Expressions.{parameters_of}
-use Rattle.lower_moves.specs.Sites.{context_of}
+use Rattle.lower_pieces.specs.Sites.{context_of}
 use Rattle.lower_emit.specs.Passing.{passed_from}
 use Rattle.lower_emit.proofs.Calling.{IsPassing}
 use Rattle.lower_emit.proofs.walk.+emit.Given as goal

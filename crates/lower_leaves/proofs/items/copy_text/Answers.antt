@@ -1,5 +1,5 @@
 use Rattle.std.proofs.Common.{rules}
-use Rattle.lower_moves.specs.Sites.{context_of}
+use Rattle.lower_pieces.specs.Sites.{context_of}
 use Rattle.lower_leaves.proofs.Chained.{text-whole}
 use Rattle.lower_leaves.proofs.items.copy_text.Goals as goal
 

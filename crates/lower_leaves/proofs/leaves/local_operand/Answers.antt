@@ -2,8 +2,8 @@ use Rattle.std.proofs.Common.{sym, ap, ◌∙◌}
 use Rattle.std.specs.Prelude.{option_map}
 use Rattle.lower_lines.specs.Expressions.{local_part}
 use Rattle.lower_lines.specs.Parts.{if_stays}
-use Rattle.lower_moves.specs.Sites.{context_of}
-use Rattle.lower_moves.specs.Spots.{spot_of}
+use Rattle.lower_pieces.specs.Sites.{context_of}
+use Rattle.lower_pieces.specs.Spots.{spot_of}
 use Rattle.lower_pieces.proofs.Joined.{operand-some, operand-some-spot}
 use Rattle.lower_leaves.proofs.leaves.local_operand.Goals as goal
 

@@ -1,7 +1,7 @@
 use Rattle.std.proofs.lemmas.Result.{on_ok_weaker}
-use Rattle.lower_moves.specs.Sites.{context_of}
-use Rattle.lower_moves.specs.Spots.{spot_of}
-use Rattle.lower_moves.specs.Views.{wanted_of}
+use Rattle.lower_pieces.specs.Sites.{context_of}
+use Rattle.lower_pieces.specs.Spots.{spot_of}
+use Rattle.lower_pieces.specs.MoveViews.{wanted_of}
 use Rattle.lower_pieces.proofs.Joined.{end-whole}
 use Rattle.lower_pieces.proofs.operators.end_truth.Goals as goal
 

@@ -1,9 +1,9 @@
 use Rattle.std.specs.Prelude.{if◌then◌else◌}
 use Rattle.std.proofs.lemmas.Result.{on_ok_weaker}
 use Rattle.lower_lines.specs.Parts.{pointer_test}
-use Rattle.lower_moves.specs.Sites.{context_of}
-use Rattle.lower_moves.specs.Spots.{spot_of}
-use Rattle.lower_moves.specs.Views.{wanted_of}
+use Rattle.lower_pieces.specs.Sites.{context_of}
+use Rattle.lower_pieces.specs.Spots.{spot_of}
+use Rattle.lower_pieces.specs.MoveViews.{wanted_of}
 use Rattle.lower_pieces.proofs.Joined.{truth-whole}
 use Rattle.lower_pieces.proofs.operators.null_truth.Goals as goal
 

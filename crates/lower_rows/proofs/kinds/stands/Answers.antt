@@ -1,6 +1,6 @@
 use Rattle.std.proofs.Common.{sym, ◌∙◌}
 use Rattle.c_tree.specs.Erased.{expression_of}
-use Rattle.lower_moves.specs.Sites.{context_of}
+use Rattle.lower_pieces.specs.Sites.{context_of}
 use Rattle.lower_rows.proofs.Known.{stands-known}
 use Rattle.lower_rows.proofs.kinds.stands.Goals as goal
 

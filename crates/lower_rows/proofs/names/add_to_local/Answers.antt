@@ -2,9 +2,9 @@ use Rattle.std.proofs.Common.{refl, suc, true}
 use Rattle.std.proofs.lemmas.Result.{on_ok_weaker}
 use Rattle.c_tree.specs.Program.{int}
 use Rattle.lower_lines.specs.Expressions.{one_part}
-use Rattle.lower_moves.specs.Sites.{context_of}
-use Rattle.lower_moves.specs.Spots.{spot_of}
-use Rattle.lower_moves.specs.Views.{wanted_of}
+use Rattle.lower_pieces.specs.Sites.{context_of}
+use Rattle.lower_pieces.specs.Spots.{spot_of}
+use Rattle.lower_pieces.specs.MoveViews.{wanted_of}
 use Rattle.lower_rows.proofs.Naming.{local-assigned}
 use Rattle.lower_rows.proofs.names.add_to_local.Goals as goal
 

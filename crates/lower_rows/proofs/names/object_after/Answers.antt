@@ -1,9 +1,9 @@
 use Rattle.std.proofs.lemmas.Result.{on_ok_weaker}
 use Rattle.lower_lines.specs.Expressions.{AtObject, one_part, read_part, update_part}
 use Rattle.lower_lines.specs.Parts.{Own}
-use Rattle.lower_moves.specs.Sites.{context_of}
-use Rattle.lower_moves.specs.Spots.{spot_of}
-use Rattle.lower_moves.specs.Views.{wanted_of}
+use Rattle.lower_pieces.specs.Sites.{context_of}
+use Rattle.lower_pieces.specs.Spots.{spot_of}
+use Rattle.lower_pieces.specs.MoveViews.{wanted_of}
 use Rattle.lower_rows.proofs.Naming.{after-whole, object-free, object-read-adds}
 use Rattle.lower_rows.proofs.names.object_after.Goals as goal
 

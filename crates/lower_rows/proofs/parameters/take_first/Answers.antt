@@ -1,5 +1,5 @@
 use Rattle.std.proofs.Common.{◌∙◌, ◌+◌, ap}
-use Rattle.lower_moves.specs.Sites.{context_of}
+use Rattle.lower_pieces.specs.Sites.{context_of}
 use Rattle.lower_rows.proofs.Words.{stepped}
 use Rattle.lower_leaves.proofs.Chained.{same-next}
 use Rattle.lower_rows.proofs.parameters.take_first.Goals as goal

@@ -2,7 +2,7 @@
 use Rattle.std.proofs.Common.{◌≡◌, ◌++◌, ◌-◌, map, drop, take}
 use Rattle.c_tree.specs.Erased.{local_of}
 use Rattle.lower_lines.specs.Programs.{parameters_lines}
-use Rattle.lower_moves.specs.Sites.{context_of}
+use Rattle.lower_pieces.specs.Sites.{context_of}
 use Rattle.lower_rows.proofs.parameters.take_first.Given as goal
 
 abbrev pub invariant-locals : goal.invariant-locals

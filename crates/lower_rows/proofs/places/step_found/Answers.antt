@@ -1,9 +1,9 @@
 use Rattle.std.proofs.Common.{sym, subst}
 use Rattle.std.proofs.lemmas.Result.{on_ok_weaker}
 use Rattle.lower_lines.specs.Expressions.{Located, AtLocal, AtObject, step_part}
-use Rattle.lower_moves.specs.Sites.{context_of}
-use Rattle.lower_moves.specs.Spots.{spot_of}
-use Rattle.lower_moves.specs.Views.{wanted_of}
+use Rattle.lower_pieces.specs.Sites.{context_of}
+use Rattle.lower_pieces.specs.Spots.{spot_of}
+use Rattle.lower_pieces.specs.MoveViews.{wanted_of}
 use Rattle.lower_pieces.specs.Views.{AddsPart}
 use Rattle.std.proofs.Common.{true}
 use Rattle.lower_rows.proofs.Placing.{after-nothing, found-element, found-local, found-object, step-element}

@@ -6,7 +6,7 @@ use Rattle.pcc_base.specs.Bytes.{AreBytes}
 use Rattle.c_tree.specs.Erased.{program_of}
 use Rattle.flow_graph.specs.Graphs.{Flow}
 use Rattle.ia32_frames.specs.Frames.{frame_bytes}
-use Rattle.ia32_sizes.specs.Sizes.{most_bytes}
+use Rattle.ia32_functions.specs.Sizes.{most_bytes}
 use Rattle.lower.specs.Graphs.{graphs_of}
 use Rattle.lower_programs.specs.Lowered.{AreLowered}
 use Rattle.pcc_headline.specs.Products.{IsImageOf}

@@ -1,6 +1,6 @@
 use Rattle.std.proofs.Common.{sym, subst, arith}
 use Rattle.flow_graph.specs.Graphs.{IsPlaced}
-use Rattle.live_searches.proofs.Placed.{placed-within}
+use Rattle.liveness.proofs.Placed.{placed-within}
 use Rattle.allocator_boards.specs.SplitForms.{Form}
 use Rattle.allocator_boards.proofs.elementary.Elementary.name_before.Goals as goal
 

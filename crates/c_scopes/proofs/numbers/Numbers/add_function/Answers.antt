@@ -1,7 +1,7 @@
 use Rattle.std.proofs.Common.{List, ap, map, ◌∙◌}
 use Rattle.c_typing.specs.Library.{Entity}
 use Rattle.c_typing.specs.Names.{Numbers}
-use Rattle.c_meanings.specs.Views.{entity_of, with_entity}
+use Rattle.c_bindings.specs.Views.{entity_of, with_entity}
 use Rattle.c_scopes.proofs.Numbering.{with_one}
 use Rattle.c_scopes.proofs.numbers.Numbers.add_function.Goals as goal
 

@@ -1,7 +1,7 @@
 use Rattle.std.proofs.Common.{sym, ap}
-use Rattle.c_meanings.specs.Views.{entity_of}
+use Rattle.c_bindings.specs.Views.{entity_of}
 use Rattle.c_scopes.proofs.numbers.Numbers.function.Goals as goal
-use Rattle.c_meanings.proofs.Entities.{turned}
+use Rattle.c_bindings.proofs.Entities.{turned}
 use Rattle.c_scopes.proofs.Numbering.{found_at, found_nowhere}
 
 pub returns-in-Some : goal.returns-in-Some

@@ -1,7 +1,7 @@
 use Rattle.std.proofs.Common.{ap, sym, ◌∙◌, map}
 use Rattle.std.specs.List.{list_any}
 use Rattle.c_typing.specs.Names.{clashes}
-use Rattle.c_meanings.specs.Views.{outer_of}
+use Rattle.c_bindings.specs.Views.{outer_of}
 use Rattle.c_scopes.proofs.Declarations.{any_reversed}
 use Rattle.c_scopes.proofs.outers.Outers.clashes.Goals as goal
 

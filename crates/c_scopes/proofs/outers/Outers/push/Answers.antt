@@ -1,7 +1,7 @@
 use Rattle.std.proofs.Common.{ap, sym, subst, ◌∙◌, ◌++◌, ◌∷◌, [], Some, map}
 use Rattle.std.proofs.lemmas.List.{map_push}
 use Rattle.c_scopes.specs.Outers.{IsSummed, SumsUp}
-use Rattle.c_meanings.specs.Views.{outer_of}
+use Rattle.c_bindings.specs.Views.{outer_of}
 use Rattle.c_scopes.proofs.Declarations.{put}
 use Rattle.c_scopes.proofs.outers.Outers.push.Goals as goal
 

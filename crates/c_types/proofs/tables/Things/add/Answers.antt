@@ -1,4 +1,4 @@
-use Rattle.c_meanings.specs.Views.{entity_of}
+use Rattle.c_bindings.specs.Views.{entity_of}
 use Rattle.c_types.proofs.Things.{one_more}
 use Rattle.c_types.proofs.tables.Things.add.Goals as goal
 

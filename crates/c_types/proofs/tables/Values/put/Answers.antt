@@ -1,5 +1,5 @@
 use Rattle.std.proofs.Common.{◌≡◌, rules}
-use Rattle.c_meanings.specs.Views.{entity_of}
+use Rattle.c_bindings.specs.Views.{entity_of}
 use Rattle.c_types.proofs.Things.{with_value}
 use Rattle.c_types.proofs.tables.Values.put.Goals as goal
 

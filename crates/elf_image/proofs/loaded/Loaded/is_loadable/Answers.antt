@@ -2,7 +2,7 @@
 use Rattle.std.proofs.Common.{◌∙◌, sym, subst, Bool, List, map, AllPairs, false, true≢false}
 use Rattle.std.specs.Bool.{Decides}
 use Rattle.std.proofs.lemmas.Result.{IfOk-weaker}
-use Rattle.elf_extents.specs.Pieces.{AreApart}
+use Rattle.elf_image.specs.Pieces.{AreApart}
 use Rattle.elf_image.specs.declared.loaded.Segment.{Segment}
 use Rattle.elf_image.specs.Segments.{IsLoadable, piece_of}
 use Rattle.elf_image.proofs.Apart.{loads-all, loads-none}

@@ -3,7 +3,7 @@ use Rattle.ia32_insn.specs.State.{State}
 use Rattle.ia32_machine.specs.First.{lent}
 use Rattle.ia32_machine.specs.Performs.{AdvanceTold}
 use Rattle.ia32_machine.proofs.Performs.{fetched}
-use Rattle.ia32_instructions.proofs.Table.{decoded-kept}
+use Rattle.ia32_processor.proofs.Table.{decoded-kept}
 use Rattle.ia32_machine.proofs.Table.{found-fetched, found-after}
 use Rattle.ia32_machine.proofs.machine.Machine.advance.Goals as goal
 

@@ -4,7 +4,7 @@ use Rattle.ia32_machine.specs.First.{lent}
 use Rattle.ia32_machine.specs.Performs.{AdvanceTold}
 use Rattle.ia32_machine.specs.declared.ends.MachineEnd.TheVariants.{Stopped}
 use Rattle.ia32_machine.proofs.Performs.{fetched, unfetched}
-use Rattle.ia32_instructions.proofs.Table.{decoded-kept}
+use Rattle.ia32_processor.proofs.Table.{decoded-kept}
 use Rattle.ia32_machine.proofs.Table.{fetched-spelled}
 use Rattle.ia32_machine.proofs.machine.Machine.decode_and_perform.Goals as goal
 

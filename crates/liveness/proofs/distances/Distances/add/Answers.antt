@@ -1,5 +1,5 @@
 use Rattle.std.proofs.Common.{ℕ, ◌<◌, List, length, sym, subst}
-use Rattle.live_searches.specs.Lists.{Has, list_at}
+use Rattle.liveness.specs.Lists.{Has, list_at}
 use Rattle.liveness.proofs.Distancing.{rises-put}
 use Rattle.liveness.proofs.distances.Distances.add.Goals as goal
 

@@ -1,7 +1,7 @@
 use Rattle.std.proofs.Common.{ℕ, ◌≡◌, ◌≤◌, List, length, Some, sym, ap, arith, subst, get_or, ◌∙◌}
 use Rattle.std.proofs.lemmas.Option.{same_Some, slice_get_within}
 use Rattle.liveness.specs.Distances.{distance_at, distance_in}
-use Rattle.live_searches.proofs.Adding.{has-item}
+use Rattle.liveness.proofs.Adding.{has-item}
 use Rattle.liveness.proofs.Distancing.{in-none, in-past, in-some}
 use Rattle.liveness.proofs.distances.Distances.at.Goals as goal
 

@@ -1,6 +1,6 @@
 use Rattle.std.proofs.Common.{ℕ, List, subst}
 use Rattle.liveness.specs.Distances.{Rises}
-use Rattle.live_searches.specs.Lists.{list_at}
+use Rattle.liveness.specs.Lists.{list_at}
 use Rattle.liveness.proofs.distances.Distances.rise.Goals as goal
 
 pub returns : goal.returns

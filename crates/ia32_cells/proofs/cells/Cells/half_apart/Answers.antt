@@ -1,8 +1,0 @@
-use Rattle.ia32_cells.specs.Cells.{cells_seen}
-use Rattle.ia32_cells.proofs.Keeping.{two-bytes}
-use Rattle.ia32_cells.proofs.cells.Cells.half_apart.Goals as goal
-
-pub returns : goal.returns
-returns c =
-    rw (two-bytes c.args.offset c.byte.result c.byte-2.result (cells_seen c.args.self.now) c.byte.ensures
-    c.byte-2.ensures) c.read_u16.ensures

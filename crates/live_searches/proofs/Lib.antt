@@ -1,5 +1,0 @@
-pub mod Adding
-pub mod Placed
-pub mod Stepping
-pub mod Using
-pub mod Walks

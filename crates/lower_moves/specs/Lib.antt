@@ -1,3 +1,0 @@
-pub mod Spots
-pub mod Sites
-pub mod Views
