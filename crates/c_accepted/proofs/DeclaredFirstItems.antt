@@ -20,6 +20,7 @@ use Rattle.c_typing.specs.Checked.{Checked, Fits, Fails, Contents, Zeros, Note, 
 use Rattle.c_typing.specs.Checked.{both, value_in, or_fails}
 use Rattle.c_typing.specs.Declarators.{ArrayValues, Letters, Listed, NoValues, array_values, ObjectType}
 use Rattle.c_typing.specs.Declarators.{IntegerObject, PointerObject, ArrayObject, object_declared, object_allowed}
+use Rattle.c_typing.specs.Declarators.{type_faults}
 use Rattle.c_typing.specs.Expressions.{first_word, first_token, first_piece, text_note, text_bytes, text_entity, Given}
 use Rattle.c_typing.specs.Expressions.{given, typed_expression}
 use Rattle.c_typing.specs.Initialisers.{values_for, scalar_values, first_of, scalar_initialiser}
@@ -28,6 +29,7 @@ use Rattle.c_typing.specs.Names.{Scope, object_number}
 use Rattle.c_typing.specs.Rows.{assigned}
 use Rattle.c_typing.specs.Statements.{bound_item, after_item, after_items, after_specified, after_declaration, stored}
 use Rattle.c_typing.specs.Statements.{object_item, scope_faults, typed_item, typed_items, typed_declaration}
+use Rattle.c_typing.specs.Statements.{sized_item}
 use Rattle.c_typing.proofs.CountUp.{IfFits, holds_noted, holds_if, holds_both, holds_also}
 use Rattle.flow_graph.specs.Graphs.{IsIn}
 use Rattle.lower_programs.specs.Declared.{NamesOnly, InitialiserNamesOnly, ItemsNameOnly, known_after, known_behind}
@@ -194,8 +196,10 @@ module _ (known : List ℕ) where
   item_behind : (said : Specified) (i : ItemTree) (s : Scope) → Knows known s
       → IfFits (Behind known (after_item said i s)) (typed_item said i s)
   item_behind said i s k =
-      declared_behind (is_static said.storage) s (after_item said i s) i.declarator.name i.initialiser
-      (scope_faults s i.declarator.name) (object_declared s said i.declarator i.initialiser) refl k
+      holds_also (Behind known (after_item said i s)) (type_faults (is_static said.storage) said i.declarator)
+      (sized_item said i s)
+      (declared_behind (is_static said.storage) s (after_item said i s) i.declarator.name i.initialiser
+      (scope_faults s i.declarator.name) (object_declared s said i.declarator i.initialiser) refl k)
 
 items_on : (known : List ℕ) (t : Scope) (xs ys : List Item) → ItemsNameOnly known xs
     → Behind (known_behind known xs) t ys → Behind known t (xs ++ ys)

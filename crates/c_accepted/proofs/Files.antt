@@ -31,19 +31,22 @@ use Rattle.c_typing.specs.Checked.{Checked, Fits, Fails, Contents, Note, fits, a
 use Rattle.c_typing.specs.Declarators.{ObjectType, object_declared}
 use Rattle.c_typing.specs.Declarators.{object_allowed, with_named, with_parameter, with_parameters, parameters_meant}
 use Rattle.c_typing.specs.Declarators.{typed_parameter, is_void_parameter}
+use Rattle.c_typing.specs.Declarators.{type_faults}
 use Rattle.c_typing.specs.Expressions.{specifiers_at}
 use Rattle.c_typing.specs.Initialisers.{contents_for}
+use Rattle.c_typing.specs.Initialisers.{function_initialiser}
 use Rattle.c_typing.specs.Library.{Entity}
 use Rattle.c_typing.specs.Names.{Scope, entered, next_file, first_scope, Numbers}
 use Rattle.c_typing.specs.Statements.{stored, typed_statements, after_statements, Around}
 use Rattle.c_typing.specs.Files.{outer_of, redeclared_faults, function_signature}
-use Rattle.c_typing.specs.Files.{after_function, no_initialiser, without_value}
+use Rattle.c_typing.specs.Files.{after_function, without_value}
 use Rattle.c_typing.specs.Files.{after_object}
 use Rattle.c_typing.specs.Files.{typed_object, typed_prototype, after_outer_item, typed_outer_item}
 use Rattle.c_typing.specs.Files.{typed_outer_items, parameters_in, body_of, at_body, function_with, defined}
 use Rattle.c_typing.specs.Files.{in_function}
 use Rattle.c_typing.specs.Files.{typed_definition, after_external, typed_external}
 use Rattle.c_typing.specs.Files.{after_unit, typed_unit, typed_units}
+use Rattle.c_typing.specs.Files.{sized_object}
 use Rattle.c_typing.specs.Laws.{HasIntIfAny}
 use Rattle.c_typing.specs.Typed.{checked, numbers_in, notes_of, program_with}
 use Rattle.c_typing.proofs.CountUp.{Always, IfFits, always, holds_also, holds_both, holds_if}
@@ -53,6 +56,7 @@ use Rattle.lower_lines.specs.Words.{StatementsHaveWords}
 use Rattle.c_accepted.specs.Laws.{KeepsWords}
 use Rattle.c_accepted.proofs.Bounds.{limits-bound}
 use Rattle.c_accepted.specs.MemoryLaws.{SourcesAreInMemory}
+use Rattle.c_typing.proofs.FilesCountUp.{by_initialiser}
 use Rattle.c_accepted.proofs.Expressions.{cut}
 use Rattle.c_accepted.proofs.Items.{holds_map}
 use Rattle.c_accepted.proofs.Statements.{RowFine, items_fine, total_own, total_most}
@@ -85,8 +89,8 @@ stored_none : (e : Entity) (type : ObjectType) (c : Checked Contents)
 stored_none e type (Fits a ns) = (omega arith, tt)
 stored_none e type (Fails f fs) = tt
 
-object_none : (said : Specified) (i : ItemTree) (s : Scope) → IfFits (FunctionsFine 0) (typed_object said i s)
-object_none said i s =
+sized_none : (said : Specified) (i : ItemTree) (s : Scope) → IfFits (FunctionsFine 0) (sized_object said i s)
+sized_none said i s =
     let name = i.declarator.name in
     let whole = is_some i.initialiser in
     holds_if Always (FunctionsFine 0) (object_declared s said i.declarator i.initialiser)
@@ -104,13 +108,17 @@ object_none said i s =
     stored_none (outer_of s said name whole type).entity allowed
     (contents_for (after_object said i s) allowed (without_value said) i.initialiser))))
 
+object_none : (said : Specified) (i : ItemTree) (s : Scope) → IfFits (FunctionsFine 0) (typed_object said i s)
+object_none said i s =
+    holds_also (FunctionsFine 0) (type_faults true said i.declarator) (sized_object said i s) (sized_none said i s)
+
 prototype_none : (said : Specified) (i : ItemTree) (ps : List ParameterTree) (s : Scope)
     → IfFits (FunctionsFine 0) (typed_prototype said i ps s)
 prototype_none said i ps s =
-    holds_also (FunctionsFine 0) (no_initialiser i.initialiser)
-    (if_fits (function_signature s said i.declarator false ps) (λ g. fits []))
-    (holds_if Always (FunctionsFine 0) (function_signature s said i.declarator false ps) (λ g. fits [])
-    (always (function_signature s said i.declarator false ps)) (λ g x. (omega arith, tt)))
+    let t = after_function said i.declarator false ps s in
+    holds_if Always (FunctionsFine 0) (function_signature s said i.declarator false ps)
+    (λ g. function_initialiser t i.initialiser []) (always (function_signature s said i.declarator false ps))
+    (λ g x. by_initialiser (IfFits (FunctionsFine 0)) t i.initialiser [] (omega arith, tt) (λ f fs. tt))
 
 outer_item_none : (said : Specified) (i : ItemTree) (p : PartTree) (s : Scope)
     → IfFits (FunctionsFine 0) (typed_outer_item said i p s)

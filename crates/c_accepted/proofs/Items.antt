@@ -30,6 +30,7 @@ use Rattle.c_typing.specs.Checked.{Checked, Fits, Fails, Contents, Zeros, Note, 
 use Rattle.c_typing.specs.Declarators.{ArrayValues, Letters, Listed, NoValues, array_values, letters_or, text_of}
 use Rattle.c_typing.specs.Declarators.{only_text, object_declared, object_allowed, ObjectType, IntegerObject}
 use Rattle.c_typing.specs.Declarators.{PointerObject, ArrayObject}
+use Rattle.c_typing.specs.Declarators.{type_faults}
 use Rattle.c_typing.specs.Expressions.{Given, given, first_token}
 use Rattle.c_typing.specs.Expressions.{typed_expression, specifiers_at}
 use Rattle.c_typing.specs.Initialisers.{values_for, scalar_values, first_of}
@@ -38,6 +39,7 @@ use Rattle.c_typing.specs.Names.{Scope}
 use Rattle.c_typing.specs.Rows.{assigned}
 use Rattle.c_typing.specs.Statements.{after_item, stored, local_item, object_item, scope_faults, typed_item}
 use Rattle.c_typing.specs.Statements.{typed_items, typed_declaration}
+use Rattle.c_typing.specs.Statements.{sized_item}
 use Rattle.c_typing.proofs.CountUp.{IfFits, holds_if, holds_both, holds_also, Always, always}
 use Rattle.c_sound.proofs.Ranged.{HasInts}
 use Rattle.lower_lines.specs.Words.{HasWords, InitialiserHasWords, ItemHasWords}
@@ -204,7 +206,8 @@ item_fine said i s is h =
     let n = length (item_tokens i) in
     let static = is_static said.storage in
     let name = i.declarator.name in
-    holds_if Always (ItemsFine n) (object_declared s said i.declarator i.initialiser) (λ declared.
+    holds_also (ItemsFine n) (type_faults static said i.declarator) (sized_item said i s)
+    (holds_if Always (ItemsFine n) (object_declared s said i.declarator i.initialiser) (λ declared.
     also (scope_faults s name) (if_fits (object_allowed static name.at declared)
     (object_item static s (after_item said i s) name i.initialiser)))
     (always (object_declared s said i.declarator i.initialiser)) (λ declared u.
@@ -212,7 +215,7 @@ item_fine said i s is h =
     (object_item static s (after_item said i s) name i.initialiser))
     (holds_if Always (ItemsFine n) (object_allowed static name.at declared)
     (object_item static s (after_item said i s) name i.initialiser) (always (object_allowed static name.at declared))
-    (λ type w. object_fine n static s (after_item said i s) name i.initialiser type is.1 p.1 (omega (arith, l, k)))))
+    (λ type w. object_fine n static s (after_item said i s) name i.initialiser type is.1 p.1 (omega (arith, l, k))))))
 
 items_append : (xs ys : List Item) → items_total (xs ++ ys) ≡ items_total xs + items_total ys
 items_append [] ys = omega arith

@@ -13,7 +13,7 @@ use Rattle.c_typing.specs.Declarators.{ObjectType as Objects, object_allowed, ob
 use Rattle.c_typing.specs.Expressions.{specifiers_at}
 use Rattle.c_typing.specs.Names.{Scope}
 use Rattle.c_typing.specs.Statements.{after_item, after_items, bound_item, object_item, scope_faults, typed_declaration}
-use Rattle.c_typing.specs.Statements.{typed_item, typed_items}
+use Rattle.c_typing.specs.Statements.{sized_item, typed_item, typed_items}
 use Rattle.c_typing.specs.Types as types
 use Rattle.c_typing.specs.Types.{is_static}
 use Rattle.c_bindings.specs.declared.meaning.Declared.{Declared}
@@ -67,7 +67,7 @@ item_row b s i t x = also (scope_faults s i.declarator.name) (if_fits (object_al
 pub item_fails : (s : Scope) (said : types.Specified) (i : ItemTree) (j : Judged Declared) (f : Fault)
     (before after : List Note)
     → IsSaid IsDeclared (object_declared s said i.declarator i.initialiser) j before after → j ≡ answers.Fails f
-    → IsSaid AreItem (typed_item said i s) (answers.Fails f) before after
+    → IsSaid AreItem (sized_item said i s) (answers.Fails f) before after
 item_fails s said i j f before after h is =
     fails_said IsDeclared AreItem
     (item_row (is_static said.storage) s i (object_type (is_static said.storage) s said i.declarator i.initialiser))
@@ -92,7 +92,7 @@ pub item_fits : (s : Scope) (said : types.Specified) (i : ItemTree) (b : Bool) (
     → b ≡ is_static said.storage
     → IsSaid AreItem (item_row b s i (value_in (object_allowed b i.declarator.name.at (declared_of d))) (declared_of d))
     part between after
-    → IsSaid AreItem (typed_item said i s) part before after
+    → IsSaid AreItem (sized_item said i s) part before after
 item_fits s said i b j d part before between after h is static row =
     let stands = subst (λ (k : Judged Declared). IsSaid IsDeclared (object_declared s said i.declarator i.initialiser)
     k before between) is h in

@@ -42,7 +42,7 @@ use std::alloc::Global;
 use std::slice;
 
 /// The values of a scalar's initialiser, in braces or not (C99 6.7.8p11).
-fn scalar_values(value: &Initialiser) -> &[Expression]
+pub fn scalar_values(value: &Initialiser) -> &[Expression]
     ensures { exprs_of (map expr_of result.now) ≡ scalar_values (initialiser_of value.now) }
 {
     match value {

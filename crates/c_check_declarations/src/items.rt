@@ -19,6 +19,7 @@ ghost use Rattle.c_typing.specs.Statements.{
   local_item,
   object_item,
   scope_faults,
+  sized_item,
   stored,
   typed_declaration,
   typed_item,
@@ -43,7 +44,7 @@ use crate::stored::stored_object;
 use c_bindings::{Declared, Entity, Storage};
 use c_check_declarators::{
     ObjectType, Position, Specified, also, bind_object, maybe_behind, object_allowed,
-    object_declared, specifiers_at,
+    object_declared, specifiers_at, type_fault,
 };
 use c_expressions::{Contents, Notes};
 use c_operands::Judged;
@@ -287,9 +288,8 @@ fn declared_item(
     Ok(also(fault, part))
 }
 
-/// A declared item of a block or a `for`; one of static storage is none. Its name is seen behind its declarator, in its
-/// own initialiser already (C99 6.2.1p7).
-fn item(
+/// A declared item, but for what its specifiers and `*` forbid whatever its size is.
+fn sized_item(
     alloc: Global,
     scopes: &mut Scopes,
     notes: &mut Notes,
@@ -297,7 +297,7 @@ fn item(
     item: &RawItem,
 ) -> Result<Judged<Option<Item>>, NoMemory>
     ensures said { IfOk result (λ j. IsSaid AreItem
-        (typed_item (specified_of said) (item_of item.now) scopes.old) j notes.old notes.new) }
+        (sized_item (specified_of said) (item_of item.now) scopes.old) j notes.old notes.new) }
     ensures scope { OnOk result (scopes.new ≡ after_item (specified_of said) (item_of item.now) scopes.old) }
 {
     match object_declared(
@@ -314,6 +314,24 @@ fn item(
             declared_item(alloc, scopes, notes, is_static, item, &declared)
         }
     }
+}
+
+/// A declared item of a block or a `for`; one of static storage is none. Its name is seen behind its declarator, in its
+/// own initialiser already (C99 6.2.1p7).
+fn item(
+    alloc: Global,
+    scopes: &mut Scopes,
+    notes: &mut Notes,
+    said: Specified,
+    item: &RawItem,
+) -> Result<Judged<Option<Item>>, NoMemory>
+    ensures said { IfOk result (λ j. IsSaid AreItem
+        (typed_item (specified_of said) (item_of item.now) scopes.old) j notes.old notes.new) }
+    ensures scope { OnOk result (scopes.new ≡ after_item (specified_of said) (item_of item.now) scopes.old) }
+{
+    let fault = type_fault(is_static(said.storage), said, &item.declarator);
+    let part = sized_item(alloc, scopes, notes, said, item)?;
+    Ok(also(fault, part))
 }
 
 /// The items of a list, one behind the other.

@@ -11,7 +11,8 @@ mod stored;
 
 pub use c_check_declarators::{
     ObjectType, Position, Specified, also, bind_object, object_allowed, object_declared,
-    parameters, parameters_apart, specifiers_at, specifiers_if_any,
+    parameters, parameters_apart, specifiers_at, specifiers_if_any, type_fault,
 };
+pub use initialisers::scalar_values;
 pub use items::declaration;
 pub use stored::stored_object;

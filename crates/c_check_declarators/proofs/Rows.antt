@@ -1,5 +1,5 @@
 -- What comes of parts that are answered, one after the other, with what each says beside its tree.
-use Rattle.std.proofs.Common.{◌≡◌, refl, sym, ap, ◌∙◌, List, ◌++◌, Option, Some, None, option_map}
+use Rattle.std.proofs.Common.{◌≡◌, refl, sym, ap, subst, ◌∙◌, List, ◌++◌, Option, Some, None, option_map}
 use Rattle.std.proofs.lemmas.List.{append_assoc}
 use Rattle.pcc_base.specs.declared.fault.Fault.{Fault}
 use Rattle.c_typing.specs.Faults.{earlier}
@@ -52,3 +52,11 @@ also_said R (Some f) (Fits x ns) (answers.Fits a) before after h = (refl, tt)
 also_said R (Some f) (Fits x ns) (answers.Fails g) before after h = absurd h.0
 also_said R (Some f) (Fails g gs) (answers.Fits a) before after h = absurd h.0
 also_said R (Some f) (Fails g gs) (answers.Fails d) before after h = (ap (earlier (Some f)) h.0, tt)
+
+pub faults_said : {X A : Type 0} (R : X → A → Type 0) (o : Option Fault) (fs : List Fault) (c : Checked X)
+    (part whole : Judged A) (before after : List Note) → listed o ≡ fs → whole ≡ with_fault o part
+    → IsSaid R c part before after → IsSaid R (also fs c) whole before after
+faults_said R o fs c part whole before after faults both h =
+    subst (λ (w : Judged _). IsSaid R (also fs c) w before after) (sym both)
+    (subst (λ (xs : List Fault). IsSaid R (also xs c) (with_fault o part) before after) faults
+    (also_said R o c part before after h))

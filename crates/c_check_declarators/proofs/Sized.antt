@@ -12,11 +12,10 @@ use Rattle.c_tree.specs.Program.{Expression as Typed}
 use Rattle.c_tree.specs.Erased.{boxed_of}
 use Rattle.c_tree.specs.declared.types.ValueType.{ValueType}
 use Rattle.c_operands.specs.Constants.{IsConstant}
-use Rattle.c_typing.specs.Checked.{Checked, Note, also, fits, if_fits}
+use Rattle.c_typing.specs.Checked.{Checked, Note, also, faults_in, fits, if_fits}
 use Rattle.c_typing.specs.Constants.{constant_value}
 use Rattle.c_typing.specs.Declarators.{at_least_one, count_by_value, object_declared, parameter_allowed}
-use Rattle.c_typing.specs.Declarators.{parameter_declared}
-use Rattle.c_typing.specs.Declarators.{parameter_faults, parameter_place, parameter_size, parameters_meant, part_type}
+use Rattle.c_typing.specs.Declarators.{parameter_faults, parameter_size, parameter_with, parameters_meant, part_type}
 use Rattle.c_typing.specs.Declarators.{size_or, typed_each, typed_parameter, with_parameter, with_parameters}
 use Rattle.c_typing.specs.Expressions.{specifiers_at}
 use Rattle.c_typing.specs.Names.{Scope}
@@ -30,10 +29,9 @@ use Rattle.c_operands.specs.Judged.{IsOperandOf}
 use Rattle.c_expressions.specs.Said.{IsSaid}
 use Rattle.c_check_declarators.specs.declared.specifiers.Specified.{Specified}
 use Rattle.c_check_declarators.specs.Answers.{IsDeclared, IsSame, IsSpecified}
-use Rattle.c_check_declarators.specs.Together.{listed, with_fault}
 use Rattle.c_check_declarators.specs.Views.{specified_of}
 use Rattle.c_check_declarators.proofs.Lists.{one_before}
-use Rattle.c_check_declarators.proofs.Rows.{also_said, fails_said, then_said}
+use Rattle.c_check_declarators.proofs.Rows.{fails_said, then_said}
 
 -- ---- sizes
 
@@ -56,60 +54,55 @@ pub array_said : (s : Scope) (said : types.Specified) (d : DeclaratorTree) (a : 
     → IsSaid IsDeclared (if_fits c (λ n. fits (DeclaredArray of n))) j before after)
     → IsSaid IsDeclared (object_declared s said d value) j before after
 array_said s said d a value of given count j before after part is size h row =
-    subst (λ (p : PartTree). IsSaid IsDeclared (part_type s (pointed said.base d.pointer) d.name
-    value p) j before after)
+    subst (λ (p : PartTree). IsSaid IsDeclared (part_type s (pointed said.base d.pointer) value p) j before
+    after)
     (sym part)
-    (subst (λ (t : Option ValueType). IsSaid IsDeclared (part_type s t d.name value (Array a)) j before after) is
+    (subst (λ (t : Option ValueType). IsSaid IsDeclared (part_type s t value (Array a)) j before after) is
     (row (size_or s a.opening (count_by_value of value) a.size) before after
     (subst (λ (g : Option ℕ). IsSaid IsSame (size_or s a.opening g a.size) count before after) size h)))
 
 -- ---- a parameter
 
--- a parameter with such specifiers, whose size fits
-abbrev pub sized_row : Scope → Bool → ParameterTree → types.Specified → Checked ValueType
-sized_row s definition p said = also (parameter_faults s definition p p.name)
-    (parameter_allowed (parameter_place p p.name) (parameter_declared (pointed said.base p.pointer) p.array))
-
-pub allowed_said : (o : Option Fault) (fs : List Fault) (at place : Span) (of means : Option ValueType)
-    (part whole : Judged ValueType) → listed o ≡ fs → at ≡ place → of ≡ means → whole ≡ with_fault o part
+pub with_said : (at place : Span) (of means : Option ValueType) (part : Judged ValueType) → at ≡ place → of ≡ means
     → ((notes : List Note) → IsSaid IsSame (parameter_allowed at of) part notes notes) → (notes : List Note)
-    → IsSaid IsSame (also fs (parameter_allowed place means)) whole notes notes
-allowed_said o fs at place of means part whole faults stands is both said notes =
-    subst (λ (w : Judged ValueType). IsSaid IsSame (also fs (parameter_allowed place means)) w notes notes) (sym both)
-    (subst (λ (xs : List Fault). IsSaid IsSame (also xs (parameter_allowed place means)) (with_fault o part) notes
-    notes) faults
-    (subst (λ (p : Span). IsSaid IsSame (also (listed o) (parameter_allowed p means)) (with_fault o part) notes notes)
-    stands
-    (subst (λ (t : Option ValueType). IsSaid IsSame (also (listed o) (parameter_allowed at t)) (with_fault o part)
-    notes notes) is
-    (also_said IsSame o (parameter_allowed at of) part notes notes (said notes)))))
+    → IsSaid IsSame (parameter_allowed place means) part notes notes
+with_said at place of means part stands is said notes =
+    subst (λ (p : Span). IsSaid IsSame (parameter_allowed p means) part notes notes) stands
+    (subst (λ (t : Option ValueType). IsSaid IsSame (parameter_allowed at t) part notes notes) is (said notes))
+
+pub with_faults : (at place : Span) (of means : Option ValueType) (fs : List Fault) → at ≡ place → of ≡ means
+    → fs ≡ faults_in (parameter_allowed at of) → fs ≡ faults_in (parameter_allowed place means)
+with_faults at place of means fs stands is h = h
+    ∙ ap (λ (p : Span). faults_in (parameter_allowed p of)) stands
+    ∙ ap (λ (t : Option ValueType). faults_in (parameter_allowed place t)) is
+
+-- a parameter with such specifiers
+abbrev pub based_row : Scope → Bool → ParameterTree → types.Specified → Checked ValueType
+based_row s definition p said =
+    also (faults_in (parameter_with said.base p)) (if_fits (parameter_size s p.array) (λ size.
+    also (parameter_faults s definition p p.name) (parameter_with said.base p)))
 
 pub specifiers_fail : (s : Scope) (definition : Bool) (p : ParameterTree) (ss : List Specifier) (f : Fault)
     → ss ≡ p.specifiers
     → ((notes : List Note) → IsSaid IsSpecified (specifiers_at InParameters ss) (answers.Fails f) notes notes)
     → (notes : List Note) → IsSaid IsSame (typed_parameter s definition p) (answers.Fails f) notes notes
 specifiers_fail s definition p ss f h k notes =
-    fails_said IsSpecified IsSame (λ said. if_fits (parameter_size s p.array) (λ size. sized_row s definition p said))
+    fails_said IsSpecified IsSame (based_row s definition p)
     (specifiers_at InParameters p.specifiers) f notes notes notes
     (subst (λ (xs : List Specifier). IsSaid IsSpecified (specifiers_at InParameters xs) (answers.Fails f) notes notes) h
     (k notes))
 
 pub parameter_said : (s : Scope) (definition : Bool) (p : ParameterTree) (ss : List Specifier) (said : Specified)
-    (size : Judged ℕ) (n : ℕ) (j : Judged ValueType) (before after : List Note) → ss ≡ p.specifiers
+    (j : Judged ValueType) (before after : List Note) → ss ≡ p.specifiers
     → ((notes : List Note) → IsSaid IsSpecified (specifiers_at InParameters ss) (answers.Fits said) notes notes)
-    → IsSaid IsSame (parameter_size s p.array) size before after → size ≡ answers.Fits n
-    → ((notes : List Note) → IsSaid IsSame (sized_row s definition p (specified_of said)) j notes notes)
+    → IsSaid IsSame (based_row s definition p (specified_of said)) j before after
     → IsSaid IsSame (typed_parameter s definition p) j before after
-parameter_said s definition p ss said size n j before after h k m is row =
-    then_said IsSpecified IsSame (λ of. if_fits (parameter_size s p.array) (λ size. sized_row s definition p of))
-    (specifiers_at InParameters p.specifiers) said j before before after
+parameter_said s definition p ss said j before after h k row =
+    then_said IsSpecified IsSame (based_row s definition p) (specifiers_at InParameters p.specifiers) said j before
+    before after
     (subst (λ (xs : List Specifier). IsSaid IsSpecified (specifiers_at InParameters xs) (answers.Fits said) before
     before) h (k before))
-    (λ x same. subst (λ (y : types.Specified).
-    IsSaid IsSame (if_fits (parameter_size s p.array) (λ size. sized_row s definition p y)) j before after) same
-    (then_said IsSame IsSame (λ size. sized_row s definition p (specified_of said)) (parameter_size s p.array) n j
-    before after after
-    (subst (λ (z : Judged ℕ). IsSaid IsSame (parameter_size s p.array) z before after) is m) (λ x same. row after)))
+    (λ x same. subst (λ (y : types.Specified). IsSaid IsSame (based_row s definition p y) j before after) same row)
 
 -- ---- lists of parameters
 

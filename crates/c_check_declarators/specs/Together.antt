@@ -19,6 +19,11 @@ with_fault None j = j
 with_fault (Some f) (answers.Fits a) = answers.Fails f
 with_fault (Some f) (answers.Fails g) = answers.Fails (if precedes g f then g else f)
 
+-- the fault that is answered, where there is one
+abbrev pub fault_answered : {A : Type 0} → Judged A → Option Fault
+fault_answered (answers.Fits a) = None
+fault_answered (answers.Fails f) = Some f
+
 -- ---- lists
 
 abbrev pub items_answered : {A : Type 0} → Judged (Vec A Global) → Judged (List A)

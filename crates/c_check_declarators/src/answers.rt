@@ -2,6 +2,7 @@
 
 ghost use Rattle.std.specs.Prelude.{◌≡◌, ◌++◌, ◌∷◌, [], IfOk};
 ghost use Rattle.c_check_declarators.specs.Together.{
+  fault_answered,
   items_answered,
   maybe_listed,
   one_behind,
@@ -20,6 +21,16 @@ pub fn also<T: Drop>(fault: Option<Fault>, part: Judged<T>) -> Judged<T>
         (None, part) => part,
         (Some(fault), Judged::Fits(_)) => Judged::Fails(fault),
         (Some(fault), Judged::Fails(other)) => Judged::Fails(earlier(fault, other)),
+    }
+}
+
+/// The fault that is answered, where there is one.
+pub(crate) fn fault_of<T>(part: &Judged<T>) -> Option<Fault>
+    ensures { result ≡ fault_answered part.now }
+{
+    match part {
+        Judged::Fits(_) => None,
+        Judged::Fails(fault) => Some(*fault),
     }
 }
 

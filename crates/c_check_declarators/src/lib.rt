@@ -14,7 +14,7 @@ mod specifiers;
 
 pub use answers::{also, behind, maybe_behind};
 pub use forms::letters_in;
-pub use objects::{ObjectType, bind_object, object_allowed};
+pub use objects::{ObjectType, bind_object, object_allowed, type_fault};
 pub use parameter_lists::{parameters, parameters_apart};
 pub use sizes::{object_declared, text_length};
 pub use specifiers::{Position, Specified, specifiers_at, specifiers_if_any};

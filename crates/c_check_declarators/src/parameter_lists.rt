@@ -1,8 +1,8 @@
 //! The parameters of functions (C99 6.7.5.3).
 
-ghost use Rattle.std.specs.Prelude.{◌≡◌, [], List, map, option_map, IfOk, OnOk, if◌then◌else◌};
+ghost use Rattle.std.specs.Prelude.{◌≡◌, [], ℕ, List, map, option_map, IfOk, OnOk, if◌then◌else◌};
 ghost use Rattle.c_syntax.specs.Declarations.{maybe_array_of, parameter_of};
-ghost use Rattle.c_typing.specs.Checked.{Note, also};
+ghost use Rattle.c_typing.specs.Checked.{Checked, Note, also, faults_in, if_fits};
 ghost use Rattle.c_typing.specs.Declarators.{
   has_void_base,
   is_void_parameter,
@@ -11,6 +11,7 @@ ghost use Rattle.c_typing.specs.Declarators.{
   parameter_faults,
   parameter_place,
   parameter_size,
+  parameter_with,
   parameters_meant,
   pointer_to,
   typed_each,
@@ -21,13 +22,12 @@ ghost use Rattle.c_typing.specs.Declarators.{
   with_parameters,
 };
 ghost use Rattle.c_typing.specs.Names.{entered};
-ghost use Rattle.c_typing.specs.Types.{pointed};
 ghost use Rattle.c_expressions.specs.Said.{IsSaid};
 ghost use Rattle.c_check_declarators.specs.Answers.{AreSame, IsSame, value_answered};
-ghost use Rattle.c_check_declarators.specs.Together.{listed};
+ghost use Rattle.c_check_declarators.specs.Together.{fault_answered, listed};
 ghost use Rattle.c_check_declarators.specs.Views.{specified_of};
 
-use crate::answers::{also, behind};
+use crate::answers::{also, behind, fault_of};
 use crate::sizes::size_or;
 use crate::specifiers::{Position, Specified, specifiers_at, specifiers_if_any};
 use c_expressions::Notes;
@@ -71,7 +71,8 @@ fn parameter_declared(of: Option<ValueType>, array: &Option<ArrayPart>) -> Optio
 
 /// A parameter has a type, which isn't void.
 fn parameter_allowed(at: Span, of: Option<ValueType>) -> Judged<ValueType>
-    ensures { (notes : List Note) → IsSaid IsSame (parameter_allowed at of) result notes notes }
+    ensures said { (notes : List Note) → IsSaid IsSame (parameter_allowed at of) result notes notes }
+    ensures fault { listed (fault_answered result) ≡ faults_in (parameter_allowed at of) }
 {
     match of {
         None => Judged::Fails(Fault {
@@ -131,21 +132,53 @@ fn parameter_fault(scopes: &Scopes, definition: bool, p: &Parameter) -> Option<F
     }
 }
 
-/// A parameter with such a base, whose size was judged.
+/// The type of a parameter with such a base, which isn't void.
+fn parameter_with(base: ValueType, p: &Parameter) -> Judged<ValueType>
+    ensures said { (notes : List Note)
+        → IsSaid IsSame (parameter_with base (parameter_of p.now)) result notes notes }
+    ensures fault { listed (fault_answered result) ≡ faults_in (parameter_with base (parameter_of p.now)) }
+{
+    let of = parameter_declared(pointed(base, &p.pointer), &p.array);
+    parameter_allowed(parameter_place(p), of)
+}
+
+/// A parameter of such a type, whose size was judged.
 fn sized_parameter(
     scopes: &Scopes,
     definition: bool,
     p: &Parameter,
-    base: ValueType,
+    size: Judged<u32>,
+    of: Judged<ValueType>,
 ) -> Judged<ValueType>
-    ensures { let q = parameter_of p.now in (notes : List Note) → IsSaid IsSame
-        (also (parameter_faults scopes.now definition q q.name)
-        (parameter_allowed (parameter_place q q.name) (parameter_declared (pointed base q.pointer) q.array)))
-        result notes notes }
+    ensures { let q = parameter_of p.now in (c : Checked ℕ) (x : Checked ValueType) (before after : List Note)
+        → IsSaid IsSame c size before after → ((notes : List Note) → IsSaid IsSame x of notes notes)
+        → IsSaid IsSame (if_fits c (λ count. also (parameter_faults scopes.now definition q q.name) x)) result
+        before after }
 {
-    let fault = parameter_fault(scopes, definition, p);
-    let of = parameter_declared(pointed(base, &p.pointer), &p.array);
-    also(fault, parameter_allowed(parameter_place(p), of))
+    match size {
+        Judged::Fails(fault) => Judged::Fails(fault),
+        Judged::Fits(_) => also(parameter_fault(scopes, definition, p), of),
+    }
+}
+
+/// The type of a parameter with such a base. What its base and `*` forbid is a fault whatever its size is.
+fn based_parameter(
+    alloc: Global,
+    scopes: &Scopes,
+    notes: &mut Notes,
+    definition: bool,
+    p: &Parameter,
+    base: ValueType,
+) -> Result<Judged<ValueType>, NoMemory>
+    ensures { let q = parameter_of p.now in IfOk result (λ j. IsSaid IsSame
+        (also (faults_in (parameter_with base q)) (if_fits (parameter_size scopes.now q.array) (λ size.
+        also (parameter_faults scopes.now definition q q.name) (parameter_with base q)))) j notes.old notes.new) }
+{
+    let of = parameter_with(base, p);
+    let fault = fault_of(&of);
+    let size = parameter_size(alloc, scopes, notes, &p.array)?;
+    let part = sized_parameter(scopes, definition, p, size, of);
+    Ok(also(fault, part))
 }
 
 /// The type of a parameter.
@@ -161,10 +194,7 @@ fn typed_parameter(
 {
     match specifiers_at(Position::InParameters, p.specifiers.as_slice()) {
         Judged::Fails(fault) => Ok(Judged::Fails(fault)),
-        Judged::Fits(said) => match parameter_size(alloc, scopes, notes, &p.array)? {
-            Judged::Fails(fault) => Ok(Judged::Fails(fault)),
-            Judged::Fits(_) => Ok(sized_parameter(scopes, definition, p, said.base)),
-        },
+        Judged::Fits(said) => based_parameter(alloc, scopes, notes, definition, p, said.base),
     }
 }
 

@@ -147,7 +147,7 @@ fn array_declared(of: Option<ValueType>, count: Judged<u32>) -> Judged<Declared>
     }
 }
 
-/// What the declarator of an object says; a function is none, and a fault at the declared name.
+/// What the declarator of an object says. A function is none, whatever its parameters are, which aren't judged.
 pub fn object_declared(
     alloc: Global,
     scopes: &Scopes,
@@ -167,9 +167,8 @@ pub fn object_declared(
             let count = size_or(alloc, scopes, notes, part.opening, given, &part.size)?;
             Ok(array_declared(of, count))
         }
-        DeclaratorPart::Function(_) => Ok(Judged::Fails(Fault {
-            kind: FaultKind::TypeRule,
-            at: declarator.name.at,
-        })),
+        DeclaratorPart::Function(_) => {
+            Ok(Judged::Fits(Declared::Function(of, Vec::new(alloc))))
+        }
     }
 }

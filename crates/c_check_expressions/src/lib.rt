@@ -10,4 +10,4 @@ mod nodes;
 mod walk;
 mod whole;
 
-pub use whole::{expression, expression_if_any};
+pub use whole::{expression, expression_if_any, expressions};

@@ -186,7 +186,7 @@ fn and_argument(
 
 /// The arguments of a call, each judged alone (C99 6.5.2.2).
 #[cycle(walked)]
-fn each_argument(
+pub(crate) fn each_argument(
     alloc: Global,
     scopes: &Scopes,
     values: &[Expression],

@@ -1,20 +1,22 @@
 //! Whole expressions.
 
-ghost use Rattle.std.specs.Prelude.{IfOk, List, Some};
+ghost use Rattle.std.specs.Prelude.{[], IfOk, List, Some, map};
 ghost use Rattle.c_syntax.specs.Declarations.{maybe_expr_of};
-ghost use Rattle.c_syntax.specs.Expressions.{expr_of};
+ghost use Rattle.c_syntax.specs.Expressions.{expr_of, exprs_of};
 ghost use Rattle.c_tree.specs.Program.{Expression as Typed};
 ghost use Rattle.c_typing.specs.Checked.{fits, if_fits, Checked, Note};
-ghost use Rattle.c_typing.specs.Expressions.{typed_expression, typed_if_any};
+ghost use Rattle.c_typing.specs.Expressions.{arguments_for, given, typed_expression, typed_if_any};
 ghost use Rattle.c_operands.specs.Judged.{IsOperand, IsOperandOf};
+ghost use Rattle.c_expressions.specs.Arguments.{AreArguments};
 ghost use Rattle.c_expressions.specs.Said.{IfFits, IsSaid};
 ghost use Rattle.c_check_expressions.specs.Maybe.{IsOperandIfAny, IsOperandWhere};
 
-use crate::walk::walked;
+use crate::walk::{each_argument, walked};
 use c_expressions::Notes;
 use c_operands::{Judged, Operand};
 use c_scopes::Scopes;
 use c_syntax::Expression;
+use c_tree::Expression as Tree;
 use pcc_base::NoMemory;
 use std::alloc::Global;
 
@@ -59,4 +61,18 @@ pub fn expression_if_any(
         None => Ok(Judged::Fits(None)),
         Some(e) => Ok(some(expression(alloc, scopes, e, notes)?)),
     }
+}
+
+/// The typed trees of expressions that no type is asked of, each judged alone, or the least of their faults.
+pub fn expressions(
+    alloc: Global,
+    scopes: &Scopes,
+    values: &[Expression],
+    notes: &mut Notes,
+) -> Result<Judged<Vec<Tree>>, NoMemory>
+    ensures { IfOk result (λ j. IsSaid AreArguments
+        (arguments_for [] (given scopes.now (exprs_of (map expr_of values.now)))) j notes.old notes.new) }
+{
+    let alone = each_argument(alloc, scopes, values, &[], notes)?;
+    Ok(alone.values)
 }

@@ -14,7 +14,7 @@ use Rattle.c_typing.specs.Checked.{Checked, Contents, Fits, Fails, Note, also, i
 use Rattle.c_typing.specs.Declarators.{ObjectType as Objects, object_allowed, object_declared}
 use Rattle.c_typing.specs.Expressions.{specifiers_at}
 use Rattle.c_typing.specs.Files.{after_object, after_outer_item, after_outer_items, bound_allowed, bound_outer}
-use Rattle.c_typing.specs.Files.{outer_of, redeclared_faults, typed_external, typed_object, typed_outer_item}
+use Rattle.c_typing.specs.Files.{outer_of, redeclared_faults, typed_external, sized_object, typed_outer_item}
 use Rattle.c_typing.specs.Files.{typed_outer_items, with_outer, without_value}
 use Rattle.c_typing.specs.Initialisers.{contents_for}
 use Rattle.c_typing.specs.Library.{Entity}
@@ -148,7 +148,7 @@ item_row said s i t type =
 pub object_fails : (A : Type 0) (s : Scope) (said : types.Specified) (i : ItemTree) (j : Judged Declared) (f : Fault)
     (before after : List Note)
     → IsSaid IsDeclared (object_declared s said i.declarator i.initialiser) j before after → j ≡ answers.Fails f
-    → IsSaid (AreNone {A = A}) (typed_object said i s) (answers.Fails f) before after
+    → IsSaid (AreNone {A = A}) (sized_object said i s) (answers.Fails f) before after
 object_fails A s said i j f before after h is =
     let c = object_declared s said i.declarator i.initialiser in
     fails_said IsDeclared (AreNone {A = A}) (item_row said s i (value_in c)) c f before after after
@@ -168,7 +168,7 @@ pub object_fits : {A : Type 0} (s : Scope) (said : types.Specified) (i : ItemTre
     (part : Judged A) (before between after : List Note)
     → IsSaid IsDeclared (object_declared s said i.declarator i.initialiser) j before between → j ≡ answers.Fits d
     → IsSaid AreNone (item_row said s i (Some (declared_of d)) (declared_of d)) part between after
-    → IsSaid AreNone (typed_object said i s) part before after
+    → IsSaid AreNone (sized_object said i s) part before after
 object_fits s said i j d part before between after h is row =
     let c = object_declared s said i.declarator i.initialiser in
     let stands = subst (λ (k : Judged Declared). IsSaid IsDeclared c k before between) is h in

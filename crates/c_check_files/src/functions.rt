@@ -1,26 +1,29 @@
 //! Signatures of functions, and prototypes (C99 6.7.5.3 and 6.9.1).
 
-ghost use Rattle.std.specs.Prelude.{◌≡◌, ◌∷◌, [], List, Some, codes, map, false, ◌&&◌, IfOk, OnOk, if◌then◌else◌};
+ghost use Rattle.std.specs.Prelude.{◌≡◌, [], List, Some, codes, map, false, IfOk, OnOk};
 ghost use Rattle.pcc_base.specs.declared.fault.FaultKind.TheVariants as kinds;
 ghost use Rattle.c_syntax.specs.Declarations.{declarator_of, initialiser_of, item_of, parameter_of, value_of};
-ghost use Rattle.c_tree.specs.Program.{Function as Defined};
-ghost use Rattle.c_typing.specs.Checked.{Note, fits, if_fits};
-ghost use Rattle.c_typing.specs.Faults.{fault};
+ghost use Rattle.c_tree.specs.Program.{Arguments, Function as Defined};
+ghost use Rattle.c_typing.specs.Checked.{Checked, Note, fails, faults_in, if_fits};
+ghost use Rattle.c_typing.specs.Declarators.{typed_parameters};
 ghost use Rattle.c_typing.specs.Files.{
   after_function,
   bound_function,
-  first_token_of,
   function_declared,
   function_signature,
   is_library,
-  no_initialiser,
+  library_faults,
+  main_faults,
+  result_allowed,
   signature_of,
   typed_prototype,
 };
+ghost use Rattle.c_typing.specs.Initialisers.{first_token_of, function_initialiser};
 ghost use Rattle.c_typing.specs.Library.{same_name};
-ghost use Rattle.c_typing.specs.Names.{linked};
-ghost use Rattle.c_typing.specs.Types.{DeclaredFunction, is_static};
+ghost use Rattle.c_typing.specs.Names.{entered, linked};
+ghost use Rattle.c_typing.specs.Types.{DeclaredFunction, Specified as Specifiers, is_static};
 ghost use Rattle.c_bindings.specs.Views as views;
+ghost use Rattle.c_expressions.specs.Arguments.{AreArguments};
 ghost use Rattle.c_expressions.specs.Said.{IsSaid};
 ghost use Rattle.c_check_declarators.specs.Together.{listed};
 ghost use Rattle.c_check_declarators.specs.Views.{specified_of};
@@ -28,13 +31,14 @@ ghost use Rattle.c_check_files.specs.OutsideAnswers.{AreNone, IsSignature};
 
 use crate::outers::{outer, redeclared_fault};
 use c_bindings::{Declared, Entity, Meaning, Outer, Signature, Storage};
-use c_check_declarations::{Specified, also, parameters_apart};
+use c_check_declarations::{Specified, also, parameters_apart, scalar_values};
+use c_check_expressions::expressions;
 use c_expressions::type_names::pointed;
 use c_expressions::{Notes, first_token};
 use c_operands::Judged;
 use c_scopes::Scopes;
 use c_syntax::{Declarator, Identifier, Initialiser, InitialiserPart, Item, Parameter};
-use c_tree::ValueType;
+use c_tree::{Expression, ValueType};
 use pcc_base::{Fault, FaultKind, NoMemory, Span};
 use std::alloc::Global;
 
@@ -73,8 +77,8 @@ fn is_main(name: &[u8]) -> bool
 
 /// The fault of a function named `main` that is static.
 fn main_fault(storage: Storage, name: &Identifier) -> Option<Fault>
-    ensures { listed result ≡ (if same_name name.now.name (codes "main") && is_static (views.storage_of storage)
-        then fault kinds.TypeRule name.now.at ∷ [] else []) }
+    ensures { (said : Specifiers) → said.storage ≡ views.storage_of storage
+        → listed result ≡ main_faults said name.now }
 {
     if is_main(name.name.as_bytes()) && is_static(storage) {
         return Some(Fault {
@@ -97,8 +101,7 @@ fn is_library(entity: &Entity) -> bool
 
 /// The fault of a function of the library that is defined.
 fn library_fault(name: &Identifier, outer: &Outer) -> Option<Fault>
-    ensures { listed result ≡ (if is_library (views.entity_of outer.now.entity) && outer.now.whole
-        then fault kinds.TypeRule name.now.at ∷ [] else []) }
+    ensures { listed result ≡ library_faults name.now (views.outer_of outer.now) }
 {
     if is_library(&outer.entity) && outer.whole {
         return Some(Fault {
@@ -140,15 +143,49 @@ fn function_declared(
         Declared::Function(of, copy),
     )?;
     let redeclared = redeclared_fault(scopes, name, &outer);
-    let main = main_fault(said.storage, name);
     let library = library_fault(name, &outer);
     let part = signature_of(name.at, of, parameters);
     let defined = also(library, part);
-    let named = also(main, defined);
-    Ok(also(redeclared, named))
+    Ok(also(redeclared, defined))
 }
 
-/// The signature that a declarator with parameters gives, of a definition or not.
+/// The signature that a declarator with parameters gives, but for what its specifiers and `*` forbid.
+fn signature_with(
+    alloc: Global,
+    scopes: &mut Scopes,
+    notes: &mut Notes,
+    said: Specified,
+    name: &Identifier,
+    of: Option<ValueType>,
+    whole: bool,
+    parameters: &[Parameter],
+) -> Result<Judged<Signature>, NoMemory>
+    ensures said { let ps = map parameter_of parameters.now in IfOk result (λ j. IsSaid IsSignature
+        (if_fits (typed_parameters (entered scopes.old) whole ps)
+        (function_declared scopes.old (specified_of said) name.now whole of)) j notes.old notes.new) }
+    ensures scope { OnOk result (scopes.new ≡ scopes.old) }
+{
+    match parameters_apart(alloc, scopes, notes, whole, parameters)? {
+        Judged::Fails(fault) => Ok(Judged::Fails(fault)),
+        Judged::Fits(types) => function_declared(alloc, scopes, said, name, whole, of, types),
+    }
+}
+
+/// The fault of a result that is neither void nor an integer.
+fn result_fault(at: Span, of: Option<ValueType>) -> Option<Fault>
+    ensures { listed result ≡ faults_in (result_allowed at of) }
+{
+    match of {
+        None | Some(ValueType::Pointer(_)) => Some(Fault {
+            kind: FaultKind::PointerUse,
+            at,
+        }),
+        Some(ValueType::Void | ValueType::Integer(_)) => None,
+    }
+}
+
+/// The signature that a declarator with parameters gives, of a definition or not. What its specifiers and `*` forbid is a
+/// fault at the declared name, whatever its parameters are.
 pub fn function_signature(
     alloc: Global,
     scopes: &mut Scopes,
@@ -162,13 +199,13 @@ pub fn function_signature(
         (declarator_of declarator.now) whole (map parameter_of parameters.now)) j notes.old notes.new) }
     ensures scope { OnOk result (scopes.new ≡ scopes.old) }
 {
-    match parameters_apart(alloc, scopes, notes, whole, parameters)? {
-        Judged::Fails(fault) => Ok(Judged::Fails(fault)),
-        Judged::Fits(types) => {
-            let of = pointed(said.base, &declarator.pointer);
-            function_declared(alloc, scopes, said, &declarator.name, whole, of, types)
-        }
-    }
+    let name = &declarator.name;
+    let of = pointed(said.base, &declarator.pointer);
+    let main = main_fault(said.storage, name);
+    let result = result_fault(name.at, of);
+    let part = signature_with(alloc, scopes, notes, said, name, of, whole, parameters)?;
+    let allowed = also(result, part);
+    Ok(also(main, allowed))
 }
 
 /// A copy of a signature.
@@ -216,44 +253,45 @@ fn first_token_of(value: &Initialiser) -> Span
     }
 }
 
-/// The fault of an initialiser, which a function has not.
-fn initialiser_fault(value: &Option<InitialiserPart>) -> Option<Fault>
-    ensures { listed result ≡ no_initialiser (value_of value.now) }
+/// The fault of values that stand in the initialiser of a function and were judged: their own, or its first token's.
+fn initialised(at: Span, values: Judged<Vec<Expression>>) -> Judged<()>
+    ensures { (c : Checked Arguments) (before after : List Note) → IsSaid AreArguments c values before after
+        → IsSaid AreNone (if_fits c (λ es. fails {A = List Defined} kinds.TypeRule at)) result before after }
 {
-    match value {
-        None => None,
-        Some(part) => Some(Fault {
-            kind: FaultKind::TypeRule,
-            at: first_token_of(&part.value),
-        }),
-    }
-}
-
-/// A function is declared, where its parts fit.
-fn declared_prototype(
-    alloc: Global,
-    scopes: &mut Scopes,
-    notes: &mut Notes,
-    said: Specified,
-    declarator: &Declarator,
-    parameters: &[Parameter],
-) -> Result<Judged<()>, NoMemory>
-    ensures said { let ps = map parameter_of parameters.now in
-        IfOk result (λ j. IsSaid AreNone (if_fits (function_signature scopes.old (specified_of said)
-        (declarator_of declarator.now) false ps) (λ g. fits {A = List Defined} [])) j notes.old notes.new) }
-    ensures scope { OnOk result (scopes.new ≡ after_function (specified_of said) (declarator_of declarator.now) false
-        (map parameter_of parameters.now) scopes.old) }
-{
-    match function_signature(alloc, scopes, notes, said, declarator, false, parameters)? {
-        Judged::Fails(fault) => Ok(Judged::Fails(fault)),
-        Judged::Fits(signature) => {
-            declare_function(alloc, scopes, said, &declarator.name, false, &signature)?;
-            Ok(Judged::Fits(()))
+    match values {
+        Judged::Fails(fault) => Judged::Fails(fault),
+        Judged::Fits(trees) => {
+            drop(trees);
+            Judged::Fails(Fault {
+                kind: FaultKind::TypeRule,
+                at,
+            })
         }
     }
 }
 
-/// A declared item that is a function. It has no initialiser.
+/// A function has no initialiser (C99 6.7.8p3): each value that stands there is judged, and where all have types, its
+/// first token is a fault.
+fn function_initialiser(
+    alloc: Global,
+    scopes: &Scopes,
+    notes: &mut Notes,
+    value: &Option<InitialiserPart>,
+) -> Result<Judged<()>, NoMemory>
+    ensures { IfOk result (λ j. IsSaid AreNone (function_initialiser {A = List Defined} scopes.now (value_of value.now) [])
+        j notes.old notes.new) }
+{
+    match value {
+        None => Ok(Judged::Fits(())),
+        Some(part) => {
+            let values = expressions(alloc, scopes, scalar_values(&part.value), notes)?;
+            Ok(initialised(first_token_of(&part.value), values))
+        }
+    }
+}
+
+/// A declared item that is a function. Its name is seen behind its declarator, in its initialiser already
+/// (C99 6.2.1p7), which it may not have.
 pub(crate) fn prototype(
     alloc: Global,
     scopes: &mut Scopes,
@@ -267,7 +305,12 @@ pub(crate) fn prototype(
     ensures scope { OnOk result (scopes.new ≡ after_function (specified_of said)
         (declarator_of item.now.declarator) false (map parameter_of parameters.now) scopes.old) }
 {
-    let fault = initialiser_fault(&item.initialiser);
-    let part = declared_prototype(alloc, scopes, notes, said, &item.declarator, parameters)?;
-    Ok(also(fault, part))
+    let declarator = &item.declarator;
+    match function_signature(alloc, scopes, notes, said, declarator, false, parameters)? {
+        Judged::Fails(fault) => Ok(Judged::Fails(fault)),
+        Judged::Fits(signature) => {
+            declare_function(alloc, scopes, said, &declarator.name, false, &signature)?;
+            function_initialiser(alloc, scopes, notes, &item.initialiser)
+        }
+    }
 }

@@ -10,6 +10,7 @@ ghost use Rattle.c_typing.specs.Files.{
   bound_outer,
   outer_of,
   redeclared_faults,
+  sized_object,
   typed_object,
   without_value,
 };
@@ -27,6 +28,7 @@ use crate::outers::{outer, redeclared_fault};
 use c_bindings::{Declared, Entity, Storage};
 use c_check_declarations::{
     ObjectType, Specified, also, bind_object, object_allowed, object_declared, stored_object,
+    type_fault,
 };
 use c_expressions::{Contents, Notes};
 use c_operands::Judged;
@@ -135,9 +137,8 @@ fn declared_object(
     Ok(also(fault, part))
 }
 
-/// A declared item that is an object. Its name is seen behind its declarator, in its own initialiser already
-/// (C99 6.2.1p7).
-pub(crate) fn object(
+/// An object, but for what its specifiers and `*` forbid whatever its size is.
+fn sized_object(
     alloc: Global,
     scopes: &mut Scopes,
     notes: &mut Notes,
@@ -145,7 +146,7 @@ pub(crate) fn object(
     item: &Item,
 ) -> Result<Judged<()>, NoMemory>
     ensures said { IfOk result (λ j. IsSaid AreNone
-        (typed_object (specified_of said) (item_of item.now) scopes.old) j notes.old notes.new) }
+        (sized_object (specified_of said) (item_of item.now) scopes.old) j notes.old notes.new) }
     ensures scope { OnOk result (scopes.new ≡ after_object (specified_of said) (item_of item.now) scopes.old) }
 {
     match object_declared(
@@ -159,4 +160,22 @@ pub(crate) fn object(
         Judged::Fails(fault) => Ok(Judged::Fails(fault)),
         Judged::Fits(declared) => declared_object(alloc, scopes, notes, said, item, declared),
     }
+}
+
+/// A declared item that is an object. Its name is seen behind its declarator, in its own initialiser already
+/// (C99 6.2.1p7).
+pub(crate) fn object(
+    alloc: Global,
+    scopes: &mut Scopes,
+    notes: &mut Notes,
+    said: Specified,
+    item: &Item,
+) -> Result<Judged<()>, NoMemory>
+    ensures said { IfOk result (λ j. IsSaid AreNone
+        (typed_object (specified_of said) (item_of item.now) scopes.old) j notes.old notes.new) }
+    ensures scope { OnOk result (scopes.new ≡ after_object (specified_of said) (item_of item.now) scopes.old) }
+{
+    let fault = type_fault(true, said, &item.declarator);
+    let part = sized_object(alloc, scopes, notes, said, item)?;
+    Ok(also(fault, part))
 }

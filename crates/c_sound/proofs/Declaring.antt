@@ -15,6 +15,7 @@ use Rattle.c_typing.specs.Checked.{pair, both}
 use Rattle.c_typing.specs.Checked.{three, value_in}
 use Rattle.c_typing.specs.Declarators.{ObjectType, IntegerObject, PointerObject, ArrayObject, object_declared}
 use Rattle.c_typing.specs.Declarators.{object_allowed}
+use Rattle.c_typing.specs.Declarators.{type_faults}
 use Rattle.pcc_base.specs.declared.span.Span.{Span}
 use Rattle.pcc_base.specs.declared.fault.FaultKind.TheVariants.{TypeRule}
 use Rattle.c_tree.specs.declared.types.ValueType.TheVariants.{Integer, Pointer}
@@ -27,6 +28,7 @@ use Rattle.c_typing.specs.Statements.{local_item, object_item, scope_faults, typ
 use Rattle.c_typing.specs.Statements.{alone, as_one, one, for_loop, row_before, typed_statement, typed_statements}
 use Rattle.c_typing.specs.Statements.{after_statement, after_statements, condition, condition_if_any, first_part, jump}
 use Rattle.c_typing.specs.Statements.{in_loop, in_switch, Around, given_labels, typed_labels, returned}
+use Rattle.c_typing.specs.Statements.{sized_item}
 use Rattle.c_typing.specs.Initialisers.{scalar_initialiser, array_initialiser, contents_for}
 use Rattle.std.proofs.Common.{◌≤◌, length-append}
 use Rattle.std.specs.Prelude.{sum_by}
@@ -105,8 +107,10 @@ declared_from static s t name v fs (Fails g gs) = tt
 item_from : (said : Specified) (i : ItemTree) (s : Scope)
     → IfFits (ItemsFrom (many s) (many (after_item said i s))) (typed_item said i s)
 item_from said i s =
-    declared_from (is_static said.storage) s (after_item said i s) i.declarator.name i.initialiser
-    (scope_faults s i.declarator.name) (object_declared s said i.declarator i.initialiser)
+    holds_also (ItemsFrom (many s) (many (after_item said i s)))
+    (type_faults (is_static said.storage) said i.declarator) (sized_item said i s)
+    (declared_from (is_static said.storage) s (after_item said i s) i.declarator.name i.initialiser
+    (scope_faults s i.declarator.name) (object_declared s said i.declarator i.initialiser))
 
 items_on : (n k m : ℕ) (xs ys : List Item) → ItemsFrom n k xs → ItemsFrom k m ys → ItemsFrom n m (xs ++ ys)
 items_on n k m xs ys h g = let e = length-append xs ys in omega (arith, h, g, e)

@@ -44,6 +44,7 @@ use Rattle.c_typing.specs.Declarators.{ArrayValues, Letters, Listed, NoValues, t
 use Rattle.c_typing.specs.Declarators.{other_values, array_values, object_declared, ObjectType, IntegerObject}
 use Rattle.c_typing.specs.Declarators.{PointerObject}
 use Rattle.c_typing.specs.Declarators.{ArrayObject, object_allowed}
+use Rattle.c_typing.specs.Declarators.{type_faults}
 use Rattle.c_typing.specs.Expressions.{first_word, first_token, first_piece, text_bytes, text_values, text_note}
 use Rattle.c_typing.specs.Expressions.{text_entity}
 use Rattle.c_typing.specs.Expressions.{Given, given, typed_expression, typed_if_any}
@@ -73,6 +74,7 @@ use Rattle.c_typing.specs.Types.{pointed}
 use Rattle.c_typing.specs.Checked.{Contents}
 use Rattle.c_typing.specs.Initialisers.{no_values}
 use Rattle.c_typing.specs.Statements.{elements_of, size_of}
+use Rattle.c_typing.specs.Statements.{sized_item}
 use Rattle.c_typing.proofs.CountUp.{IfFits, holds_if, holds_both}
 use Rattle.c_sound.proofs.Growing.{Counts, part_counts, ObjectCounts, allowed_counts}
 use Rattle.c_sound.proofs.Places.{placed_knowing, one_more}
@@ -368,14 +370,15 @@ item_placed said i h s =
     let d = i.declarator in
     let T = item_tokens i in
     let make = object_item static s (after_item said i s) d.name i.initialiser in
-    placed_knowing Counts T (object_declared s said d i.initialiser) (λ declared.
+    placed_also T (type_faults static said d) (sized_item said i s)
+    (placed_knowing Counts T (object_declared s said d i.initialiser) (λ declared.
     also (scope_faults s d.name) (if_fits (object_allowed static d.name.at declared) make))
     (declared_plain s said d i.initialiser)
-    (part_counts s (pointed said.base d.pointer) d.name i.initialiser d.part h.1) (λ declared n.
+    (part_counts s (pointed said.base d.pointer) i.initialiser d.part h.1) (λ declared n.
     placed_also T (scope_faults s d.name) (if_fits (object_allowed static d.name.at declared) make)
     (placed_knowing ObjectCounts T (object_allowed static d.name.at declared) make
     (allowed_plain static d.name.at declared) (allowed_counts static d.name.at declared n)
-    (λ type k. object_placed static s (after_item said i s) d i.initialiser h.1 type k)))
+    (λ type k. object_placed static s (after_item said i s) d i.initialiser h.1 type k))))
 
 pub few_commas : (n : ℕ) → 0 ≡ suc n → ⊥
 few_commas n e = grind arith

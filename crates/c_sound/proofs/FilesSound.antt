@@ -29,21 +29,24 @@ use Rattle.c_typing.specs.Checked.{if_fits}
 use Rattle.c_typing.specs.Checked.{both, value_in, or_fails}
 use Rattle.c_typing.specs.Declarators.{ObjectType, IntegerObject, PointerObject, ArrayObject, object_declared}
 use Rattle.c_typing.specs.Declarators.{object_allowed, parameters_meant, typed_parameters}
+use Rattle.c_typing.specs.Declarators.{type_faults}
 use Rattle.c_typing.specs.Expressions.{first_word}
 use Rattle.c_typing.specs.Initialisers.{contents_for}
+use Rattle.c_typing.specs.Initialisers.{function_initialiser}
 use Rattle.c_typing.specs.Names.{Meaning, Local, LocalArray, Object, ObjectArray, Function, Signature, Scope, Outer}
 use Rattle.c_typing.specs.Names.{Binding}
 use Rattle.c_typing.specs.Names.{binding_of, meaning_in, meaning_of, entered, left, as_before, is_function, linked}
 use Rattle.c_typing.specs.Names.{next_file, library_names}
 use Rattle.c_typing.specs.Statements.{bound_object, elements_of, size_of, stored, typed_statements, after_statements}
-use Rattle.c_typing.specs.Files.{outer_of, redeclared_faults, with_outer, result_allowed, function_faults, signature_of}
-use Rattle.c_typing.specs.Files.{function_declared, function_signature, bound_function, after_function, no_initialiser}
+use Rattle.c_typing.specs.Files.{outer_of, redeclared_faults, with_outer, result_allowed, signature_of}
+use Rattle.c_typing.specs.Files.{function_declared, function_signature, bound_function, after_function}
 use Rattle.c_typing.specs.Files.{without_value, bound_allowed, bound_outer, after_object, typed_object, typed_prototype}
 use Rattle.c_typing.specs.Files.{after_outer_item, typed_outer_item, after_outer_items, typed_outer_items}
 use Rattle.c_typing.specs.Files.{parameters_in}
 use Rattle.c_typing.specs.Files.{body_of, at_body, function_with, defined, in_function, typed_definition}
 use Rattle.c_typing.specs.Files.{after_definition}
 use Rattle.c_typing.specs.Files.{after_said, after_external, typed_external, after_unit, typed_unit, typed_units}
+use Rattle.c_typing.specs.Files.{library_faults, result_faults, sized_object}
 use Rattle.c_typing.proofs.CountUp.{IfFits, holds_if}
 use Rattle.c_sound.proofs.Setting.{Setting, Holds, IsAt, IsQuiet, IsKept, Kept, Sound}
 use Rattle.c_sound.proofs.Setting.{sound_if}
@@ -51,6 +54,7 @@ use Rattle.c_sound.proofs.Setting.{sound_also}
 use Rattle.c_sound.proofs.ExpressionsSound.{Sees, IsMeant, Any}
 use Rattle.c_sound.proofs.Growing.{Grows, grows_on, grows_statements, Each, items_each}
 use Rattle.c_sound.proofs.ItemsSound.{Within, all_by, declared_sound, allowed_sound, contents_sound}
+use Rattle.c_typing.proofs.FilesCountUp.{by_initialiser}
 use Rattle.c_sound.proofs.StatementsSound.{statements_sound}
 use Rattle.c_sound.proofs.ParametersSound.{types_of, Hides, hides_more, hides_same, each_is, grows_parameters}
 use Rattle.c_sound.proofs.ParametersSound.{sees_parameters, any_where, each_any}
@@ -134,22 +138,24 @@ declared_is : (s : Scope) (said : Specified) (name : Identifier) (whole : Bool) 
 declared_is s said name whole result F ts h =
     let o = outer_of s said name whole (DeclaredFunction result ts) in
     let P = SignatureIs s said name whole F in
-    also_none P (redeclared_faults s name o ++ function_faults said name o) (signature_of name.at result ts) (λ e.
+    also_none P (redeclared_faults s name o ++ library_faults name o) (signature_of name.at result ts) (λ e.
     holds_if (λ t. IsResult t × (result ≡ Some t)) P (result_allowed name.at result)
     (λ t. fits (record { result = t; parameters = ts })) (result_is name.at result) (λ t p. (
       p.0,
       h,
       ap (λ r. redeclared_faults s name (outer_of s said name whole (DeclaredFunction r ts))) (sym p.1)
-          ∙ none_first (redeclared_faults s name o) (function_faults said name o) e,
+          ∙ none_first (redeclared_faults s name o) (library_faults name o) e,
     )))
 
 pub signature_is : (s : Scope) (said : Specified) (d : DeclaratorTree) (whole : Bool) (ps : List ParameterTree)
     (F : List ValueType → Type 0) → IfFits F (typed_parameters (entered s) whole ps)
     → IfFits (SignatureIs s said d.name whole F) (function_signature s said d whole ps)
 signature_is s said d whole ps F h =
-    holds_if F (SignatureIs s said d.name whole F) (typed_parameters (entered s) whole ps)
-    (function_declared s said d.name whole (pointed said.base d.pointer)) h
-    (λ ts k. declared_is s said d.name whole (pointed said.base d.pointer) F ts k)
+    let make = function_declared s said d.name whole (pointed said.base d.pointer) in
+    holds_also (SignatureIs s said d.name whole F) (result_faults said d)
+    (if_fits (typed_parameters (entered s) whole ps) make)
+    (holds_if F (SignatureIs s said d.name whole F) (typed_parameters (entered s) whole ps) make h
+    (λ ts k. declared_is s said d.name whole (pointed said.base d.pointer) F ts k))
 
 -- where a body begins
 abbrev pub cleared : Scope → Scope
@@ -424,13 +430,14 @@ module _ (w : Setting) (D : Outer → Type 0)
       → Whole (Knows s) (Right (after_object said i s)) (typed_object said i s)
   object_whole said i s k =
       let t = after_object said i s in
-      object_by said s t i.declarator.name (is_some i.initialiser) (object_declared s said i.declarator i.initialiser)
+      whole_also (Knows s) (Right t) (type_faults true said i.declarator) (sized_object said i s)
+      (object_by said s t i.declarator.name (is_some i.initialiser) (object_declared s said i.declarator i.initialiser)
       (λ allowed. contents_for t allowed (without_value said) i.initialiser)
       (any_where w no_function (Knows s) (Sees w no_function s) Any
       (object_declared s said i.declarator i.initialiser) (declared_sound w no_function s said i))
       (λ type. any_where w no_function (Knows s) (Sees w no_function t) Any
       (contents_for t type (without_value said) i.initialiser)
-      (contents_sound w no_function t type (without_value said) i.initialiser)) refl k
+      (contents_sound w no_function t type (without_value said) i.initialiser)) refl k)
 
   -- ---- functions
 
@@ -438,14 +445,16 @@ module _ (w : Setting) (D : Outer → Type 0)
       (ps : List ParameterTree) → Sound w X Any (function_signature s said d whole ps)
   signature_quiet X s said d whole ps =
       let result = pointed said.base d.pointer in
+      sound_also w X Any (result_faults said d)
+      (if_fits (typed_parameters (entered s) whole ps) (function_declared s said d.name whole result)) (λ e.
       sound_if w X Any Any (typed_parameters (entered s) whole ps) (function_declared s said d.name whole result)
       (each_any w no_function X (entered s) whole (parameters_meant ps)) (λ ts z.
       let o = outer_of s said d.name whole (DeclaredFunction result ts) in
       let Y = X × Any ts in
-      sound_also w Y Any (redeclared_faults s d.name o ++ function_faults said d.name o)
+      sound_also w Y Any (redeclared_faults s d.name o ++ library_faults d.name o)
       (signature_of d.name.at result ts) (λ e.
       sound_if w Y Any Any (result_allowed d.name.at result) (λ t. fits (record { result = t; parameters = ts }))
-      (result_any Y d.name.at result) (λ t z. (tt, λ x k. tt))))
+      (result_any Y d.name.at result) (λ t z. (tt, λ x k. tt)))))
     where
       result_any : (Y : Type 0) (at : Span) (o : Option ValueType) → Sound w Y Any (result_allowed at o)
       result_any Y at None = tt
@@ -469,11 +478,12 @@ module _ (w : Setting) (D : Outer → Type 0)
         );
       }
 
-  prototype_by : (said : Specified) (name : Identifier) (s t : Scope) (c : Checked Signature)
+  prototype_by : (said : Specified) (name : Identifier) (v : Option ValueTree) (s t : Scope) (c : Checked Signature)
       → Sound w (Knows s) Any c → t ≡ bound_function said name false (value_in c) s → AllByRecursion D t.outer
-      → Whole (Knows s) (Right t) (if_fits c (λ g. fits []))
-  prototype_by said name s t (Fits g ns) q e h =
-      whole_quiet (Knows s) (Right t) ns (fits []) q.0 (
+      → Whole (Knows s) (Right t) (if_fits c (λ g. function_initialiser t v []))
+  prototype_by said name v s t (Fits g ns) q e h =
+      whole_quiet (Knows s) (Right t) ns (function_initialiser t v []) q.0
+      (by_initialiser (Whole (Knows s) (Right t)) t v [] (
         refl,
         λ k kept. (
           tt,
@@ -483,17 +493,16 @@ module _ (w : Setting) (D : Outer → Type 0)
                 (subst (λ (u : Scope). AllByRecursion D u.outer) e h) k),
           ),
         ),
-      )
-  prototype_by said name s t (Fails f fs) q e h = tt
+      ) (λ f fs. tt))
+  prototype_by said name v s t (Fails f fs) q e h = tt
 
   prototype_whole : (said : Specified) (i : ItemTree) (ps : List ParameterTree) (s : Scope)
       → AllByRecursion D (after_function said i.declarator false ps s).outer
       → Whole (Knows s) (Right (after_function said i.declarator false ps s)) (typed_prototype said i ps s)
   prototype_whole said i ps s h =
       let t = after_function said i.declarator false ps s in
-      let c = function_signature s said i.declarator false ps in
-      whole_also (Knows s) (Right t) (no_initialiser i.initialiser) (if_fits c (λ g. fits []))
-      (prototype_by said i.declarator.name s t c (signature_quiet (Knows s) s said i.declarator false ps) refl h)
+      prototype_by said i.declarator.name i.initialiser s t (function_signature s said i.declarator false ps)
+      (signature_quiet (Knows s) s said i.declarator false ps) refl h
 
   all_moved : (P : Outer → Type 0) (xs ys : List Outer) → xs ≡ ys → AllByRecursion P xs → AllByRecursion P ys
   all_moved P xs ys e h = subst (AllByRecursion P) e h

@@ -99,14 +99,14 @@ Counts (DeclaredValue of) = Unit {0}
 Counts (DeclaredArray of n) = 1 ≤ n
 Counts (DeclaredFunction result parameters) = Unit {0}
 
-pub part_counts : (s : Scope) (of : Option ValueType) (name : Identifier) (v : Option ValueTree) (p : PartTree)
-    → IsMaybeValue v → IfFits Counts (part_type s of name v p)
-part_counts s of name v parts.Plain h = tt
-part_counts s of name v (parts.Array a) h =
+pub part_counts : (s : Scope) (of : Option ValueType) (v : Option ValueTree) (p : PartTree)
+    → IsMaybeValue v → IfFits Counts (part_type s of v p)
+part_counts s of v parts.Plain h = tt
+part_counts s of v (parts.Array a) h =
     holds_if (λ n. 1 ≤ n) Counts (size_or s a.opening (count_by_value of v) a.size) (λ count.
     fits (DeclaredArray of count)) (size_counts s a.opening (count_by_value of v) a.size (value_count of v h))
     (λ n k. k)
-part_counts s of name v (parts.Function ps) h = tt
+part_counts s of v (parts.Function ps) h = tt
 
 abbrev pub ObjectCounts : ObjectType → Type 0
 ObjectCounts (IntegerObject of) = Unit {0}
@@ -137,7 +137,7 @@ type_counts static s said i h =
     let c = object_declared s said d i.initialiser in
     some_value ObjectCounts (if_fits c (object_allowed static d.name.at))
     (holds_if Counts ObjectCounts c (object_allowed static d.name.at)
-    (part_counts s (pointed said.base d.pointer) d.name i.initialiser d.part h.1)
+    (part_counts s (pointed said.base d.pointer) i.initialiser d.part h.1)
     (λ x k. allowed_counts static d.name.at x k))
 
 -- ---- scopes

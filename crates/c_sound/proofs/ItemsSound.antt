@@ -37,6 +37,7 @@ use Rattle.c_typing.specs.Constants.{constant_value}
 use Rattle.c_typing.specs.Declarators.{ArrayValues, Letters, Listed, NoValues, array_values, other_values}
 use Rattle.c_typing.specs.Declarators.{count_by_value, at_least_one, size_or, part_type, object_declared, ObjectType}
 use Rattle.c_typing.specs.Declarators.{IntegerObject, PointerObject, ArrayObject, object_allowed}
+use Rattle.c_typing.specs.Declarators.{type_faults}
 use Rattle.c_typing.specs.Expressions.{first_word, first_token, first_piece, text_note, text_bytes, text_values}
 use Rattle.c_typing.specs.Expressions.{text_entity, Given, given, typed_expression}
 use Rattle.c_typing.specs.Initialisers.{values_for, scalar_values, letters_for, first_of, scalar_initialiser}
@@ -48,6 +49,7 @@ use Rattle.c_typing.specs.Statements.{bound_item, after_item, after_items, after
 use Rattle.c_typing.specs.Statements.{elements_of}
 use Rattle.c_typing.specs.Statements.{size_of, stored, object_item, scope_faults, typed_item, typed_items}
 use Rattle.c_typing.specs.Statements.{typed_declaration}
+use Rattle.c_typing.specs.Statements.{sized_item}
 use Rattle.c_sound.proofs.Setting.{Setting, Sound, sound_fits, sound_noted, sound_if, sound_both, sound_then}
 use Rattle.c_sound.proofs.Setting.{sound_also}
 use Rattle.c_sound.proofs.Setting.{sound_weaker, IsQuiet, IsKept, IsAt}
@@ -269,19 +271,19 @@ module _ (w : Setting) (f : tree.Function) where
       sound_if w (Sees w f s) (Good w f) Any (typed_expression s e) (λ x. at_least_one o (constant_value x))
       (typed_sound w f s e) (λ x z. at_least_sound (Sees w f s × Good w f x) o (constant_value x))
 
-  part_sound : (s : Scope) (of : Option ValueType) (name : Identifier) (v : Option ValueTree) (p : PartTree)
-      → Sound w (Sees w f s) Any (part_type s of name v p)
-  part_sound s of name v parts.Plain = sound_fits w (Sees w f s) Any (DeclaredValue of) (λ x. tt)
-  part_sound s of name v (parts.Array a) =
+  part_sound : (s : Scope) (of : Option ValueType) (v : Option ValueTree) (p : PartTree)
+      → Sound w (Sees w f s) Any (part_type s of v p)
+  part_sound s of v parts.Plain = sound_fits w (Sees w f s) Any (DeclaredValue of) (λ x. tt)
+  part_sound s of v (parts.Array a) =
       sound_if w (Sees w f s) Any Any (size_or s a.opening (count_by_value of v) a.size)
       (λ n. fits (DeclaredArray of n)) (size_sound s a.opening (count_by_value of v) a.size)
       (λ n z. sound_fits w (Sees w f s × Any n) Any (DeclaredArray of n) (λ x. tt))
-  part_sound s of name v (parts.Function ps) = tt
+  part_sound s of v (parts.Function ps) = sound_fits w (Sees w f s) Any (DeclaredFunction of []) (λ x. tt)
 
   pub declared_sound : (s : Scope) (said : Specified) (i : ItemTree)
       → Sound w (Sees w f s) Any (object_declared s said i.declarator i.initialiser)
   declared_sound s said i =
-      part_sound s (pointed said.base i.declarator.pointer) i.declarator.name i.initialiser i.declarator.part
+      part_sound s (pointed said.base i.declarator.pointer) i.initialiser i.declarator.part
 
   pub allowed_sound : (X : Type 0) (static : Bool) (at : Span) (d : Declared)
       → Sound w X Any (object_allowed static at d)
@@ -429,9 +431,11 @@ module _ (w : Setting) (f : tree.Function) where
   pub item_sound : (said : Specified) (i : ItemTree) (s : Scope) → Within f (after_item said i s)
       → Sound w (Sees w f s) (Items (after_item said i s)) (typed_item said i s)
   item_sound said i s h =
-      item_by (is_static said.storage) s (after_item said i s) i.declarator.name i.initialiser
-      (scope_faults s i.declarator.name) (object_declared s said i.declarator i.initialiser) (declared_sound s said i)
-      refl h
+      let static = is_static said.storage in
+      sound_also w (Sees w f s) (Items (after_item said i s)) (type_faults static said i.declarator)
+      (sized_item said i s) (λ z.
+      item_by static s (after_item said i s) i.declarator.name i.initialiser (scope_faults s i.declarator.name)
+      (object_declared s said i.declarator i.initialiser) (declared_sound s said i) refl h)
 
   pub items_sound : (said : Specified) (is : List ItemTree) → AllByRecursion IsItemTree is → (s : Scope)
       → Within f (after_items said is s) → Sound w (Sees w f s) (Items (after_items said is s)) (typed_items said is s)

@@ -15,14 +15,14 @@ use Rattle.c_typing.specs.Faults.{fault}
 use Rattle.c_typing.specs.Types.{Outside, Specified, specified, Declared}
 use Rattle.c_typing.specs.Checked.{Checked, Fits, Fails, fits, also, if_fits, both, value_in, or_fails}
 use Rattle.c_typing.specs.Declarators.{ObjectType, IntegerObject, PointerObject, ArrayObject, object_declared}
-use Rattle.c_typing.specs.Declarators.{object_allowed, parameters_meant, typed_parameters}
+use Rattle.c_typing.specs.Declarators.{object_allowed, parameters_meant, type_faults, typed_parameters}
 use Rattle.c_typing.specs.Expressions.{first_word}
-use Rattle.c_typing.specs.Initialisers.{contents_for}
+use Rattle.c_typing.specs.Initialisers.{contents_for, function_initialiser}
 use Rattle.c_typing.specs.Names.{Signature, Scope, Outer, entered, entity_seen, is_other, is_redeclared}
 use Rattle.c_typing.specs.Names.{meaning_of, next_file}
 use Rattle.c_typing.specs.Statements.{stored, typed_statements, after_statements}
 use Rattle.c_typing.specs.Files.{outer_of, redeclared_faults, with_outer, function_signature, bound_function}
-use Rattle.c_typing.specs.Files.{after_function, no_initialiser, without_value, bound_allowed, bound_outer}
+use Rattle.c_typing.specs.Files.{after_function, sized_object, without_value, bound_allowed, bound_outer}
 use Rattle.c_typing.specs.Files.{after_object}
 use Rattle.c_typing.specs.Files.{typed_object, typed_prototype, after_outer_item, typed_outer_item, after_outer_items}
 use Rattle.c_typing.specs.Files.{typed_outer_items, parameters_in, body_of, at_body, function_with, defined}
@@ -92,19 +92,19 @@ object_one : (said : Specified) (i : ItemTree) (s : Scope)
 object_one said i s =
     let name = i.declarator.name in
     let t = after_object said i s in
-    object_keeps said s t name (is_some i.initialiser) (object_declared s said i.declarator i.initialiser) (λ type.
+    holds_also (λ (fs : List tree.Function). Keeps s t) (type_faults true said i.declarator) (sized_object said i s)
+    (object_keeps said s t name (is_some i.initialiser) (object_declared s said i.declarator i.initialiser) (λ type.
     if_fits (object_allowed true name.at type) (λ allowed.
     stored (outer_of s said name (is_some i.initialiser) type).entity allowed []
-    (contents_for t allowed (without_value said) i.initialiser))) refl
+    (contents_for t allowed (without_value said) i.initialiser))) refl)
 
 prototype_one : (said : Specified) (i : ItemTree) (ps : List ParameterTree) (s : Scope)
     → IfFits (λ fs. Keeps s (after_function said i.declarator false ps s)) (typed_prototype said i ps s)
 prototype_one said i ps s =
     let t = after_function said i.declarator false ps s in
     let c = function_signature s said i.declarator false ps in
-    holds_also (λ (fs : List tree.Function). Keeps s t) (no_initialiser i.initialiser) (if_fits c (λ g. fits []))
-    (function_keeps said s t t i.declarator.name false Always c (λ g. fits [])
-    (signature_is s said i.declarator false ps Always (always (typed_parameters (entered s) false ps))) refl refl)
+    function_keeps said s t t i.declarator.name false Always c (λ g. function_initialiser t i.initialiser [])
+    (signature_is s said i.declarator false ps Always (always (typed_parameters (entered s) false ps))) refl refl
 
 outer_item_one : (said : Specified) (i : ItemTree) (p : PartTree) (s : Scope)
     → IfFits (λ fs. Keeps s (after_outer_item said i p s)) (typed_outer_item said i p s)

@@ -17,11 +17,13 @@ use Rattle.c_tree.specs.WellTyped.{IsScalar}
 use Rattle.c_typing.specs.Faults.{fault}
 use Rattle.c_typing.specs.Types.{InParameters, Specified, specified, pointed}
 use Rattle.c_typing.specs.Checked.{Checked, Fits, Fails, Note, fits, noted, also, if_fits, both, value_in, or_fails}
+use Rattle.c_typing.specs.Checked.{faults_in}
 use Rattle.c_typing.specs.Constants.{has_constant_form, constant_value, number_given, no_calls, no_state}
 use Rattle.c_tree.specs.Evaluation.{evaluate}
 use Rattle.c_typing.specs.Declarators.{at_least_one, size_or, parameter_place, parameter_declared, parameter_allowed}
 use Rattle.c_typing.specs.Declarators.{parameter_size, parameter_faults, typed_parameter, with_named, with_parameter}
 use Rattle.c_typing.specs.Declarators.{with_parameters, typed_each}
+use Rattle.c_typing.specs.Declarators.{parameter_with}
 use Rattle.c_typing.specs.Expressions.{specifiers_at, first_word, has_type, typed_expression}
 use Rattle.c_typing.specs.Library.{same_name}
 use Rattle.c_typing.specs.Names.{Binding, binding_of, is_at_depth, is_declared_here, Scope, with_local}
@@ -124,12 +126,48 @@ parameter_by s t (Some said) at (Fits n ns) d p (Some name) h k =
     free_is s t said at n ns d p name (is_declared_here s name.name) refl h (k name.name)
 parameter_by s t (Some said) at (Fails f fs) d p q h k = tt
 
+-- that faults of the type are also judged beside its size takes and gives no type
+same_fits : (x : Checked ValueType) (c : Checked ℕ) (fs : List Fault)
+    → value_in (also (faults_in x) (if_fits c (λ size. also fs x))) ≡ value_in (if_fits c (λ size. also fs x))
+same_fits (Fits of ms) c fs = refl
+same_fits (Fails g gs) (Fits n ns) [] = refl
+same_fits (Fails g gs) (Fits n ns) (f ∷ fs) = refl
+same_fits (Fails g gs) (Fails x xs) fs = refl
+
+specified_is : (s t : Scope) (o : Option Specified) (p : ParameterTree)
+    → ((name : List ℕ) → is_declared_here s name ≡ false → is_declared_here t name ≡ false)
+    → IfFits (IsParameterOf p.name (value_in (if_fits (or_fails o TypeRule (first_word p.specifiers)) (λ said.
+    also (faults_in (parameter_with said.base p)) (if_fits (parameter_size t p.array) (λ size.
+    also (parameter_faults t false p p.name) (parameter_with said.base p)))))))
+    (if_fits (or_fails o TypeRule (first_word p.specifiers)) (λ said.
+    also (faults_in (parameter_with said.base p)) (if_fits (parameter_size s p.array) (λ size.
+    also (parameter_faults s true p p.name) (parameter_with said.base p)))))
+specified_is s t None p h = tt
+specified_is s t (Some said) p h =
+    let x = parameter_with said.base p in
+    let sized : Checked ValueType =
+    if_fits (parameter_size s p.array) (λ size. also (parameter_faults s true p p.name) x) in
+    let other : Checked ValueType =
+    if_fits (parameter_size t p.array) (λ size. also (parameter_faults t false p p.name) x) in
+    let whole : Checked ValueType = also (faults_in x) other in
+    let same : value_in (noted [] other) ≡ value_in (noted [] whole) =
+    value_noted [] other ∙ sym (same_fits x (parameter_size t p.array) (parameter_faults t false p p.name))
+    ∙ sym (value_noted [] whole) in
+    subst (λ v. IfFits (IsParameterOf p.name v) (noted [] (also (faults_in x) sized))) same
+    (holds_noted (IsParameterOf p.name (value_in (noted [] other))) [] (also (faults_in x) sized)
+    (holds_also (IsParameterOf p.name (value_in (noted [] other))) (faults_in x) sized
+    (without_notes (IsParameterOf p.name (value_in (noted [] other))) sized
+    (parameter_by s t (Some said) (first_word p.specifiers) (parameter_size s p.array) (parameter_size t p.array) p
+    p.name (size_fits s t p.array) h))))
+  where
+    without_notes : (P : ValueType → Type 0) (c : Checked ValueType) → IfFits P (noted [] c) → IfFits P c
+    without_notes P (Fits of ms) k = k
+    without_notes P (Fails f fs) k = tt
+
 parameter_is : (s t : Scope) (p : ParameterTree)
     → ((name : List ℕ) → is_declared_here s name ≡ false → is_declared_here t name ≡ false)
     → IfFits (IsParameterOf p.name (value_in (typed_parameter t false p))) (typed_parameter s true p)
-parameter_is s t p h =
-    parameter_by s t (specified InParameters p.specifiers) (first_word p.specifiers) (parameter_size s p.array)
-    (parameter_size t p.array) p p.name (size_fits s t p.array) h
+parameter_is s t p h = specified_is s t (specified InParameters p.specifiers) p h
 
 -- ---- scopes that are alike
 
@@ -255,17 +293,15 @@ parameter_scalar : (s : Scope) (p : ParameterTree) → IfSome (value_in (typed_p
 parameter_scalar s p =
     some_value IsScalar (typed_parameter s false p)
     (holds_if Always IsScalar (specifiers_at InParameters p.specifiers) (λ (said : Specified).
-    if_fits (parameter_size s p.array) (λ size.
-    also (parameter_faults s false p p.name)
-    (parameter_allowed (parameter_place p p.name) (parameter_declared (pointed said.base p.pointer) p.array))))
+    also (faults_in (parameter_with said.base p)) (if_fits (parameter_size s p.array) (λ size.
+    also (parameter_faults s false p p.name) (parameter_with said.base p))))
     (always (specifiers_at InParameters p.specifiers)) (λ said x.
-    holds_if Always IsScalar (parameter_size s p.array) (λ size.
-    also (parameter_faults s false p p.name)
-    (parameter_allowed (parameter_place p p.name) (parameter_declared (pointed said.base p.pointer) p.array)))
-    (always (parameter_size s p.array)) (λ size y.
-    holds_also IsScalar (parameter_faults s false p p.name)
-    (parameter_allowed (parameter_place p p.name) (parameter_declared (pointed said.base p.pointer) p.array))
-    (allowed_scalar (parameter_place p p.name) (parameter_declared (pointed said.base p.pointer) p.array)))))
+    holds_also IsScalar (faults_in (parameter_with said.base p)) (if_fits (parameter_size s p.array) (λ size.
+    also (parameter_faults s false p p.name) (parameter_with said.base p)))
+    (holds_if Always IsScalar (parameter_size s p.array) (λ size.
+    also (parameter_faults s false p p.name) (parameter_with said.base p)) (always (parameter_size s p.array))
+    (λ size y. holds_also IsScalar (parameter_faults s false p p.name) (parameter_with said.base p)
+    (allowed_scalar (parameter_place p p.name) (parameter_declared (pointed said.base p.pointer) p.array))))))
 
 grows_named : (s : Scope) (q : Option Identifier) (o : Option ValueType) → IfSome o IsScalar
     → Grows s (with_named s q o)
@@ -331,18 +367,18 @@ module _ (w : Setting) (f : tree.Function) where
   parameter_any X s definition p =
       let o = specified InParameters p.specifiers in
       sound_if w X (λ (said : Specified). o ≡ Some said) Any (specifiers_at InParameters p.specifiers) (λ said.
-      if_fits (parameter_size s p.array) (λ size.
-      also (parameter_faults s definition p p.name)
-      (parameter_allowed (parameter_place p p.name) (parameter_declared (pointed said.base p.pointer) p.array))))
+      also (faults_in (parameter_with said.base p)) (if_fits (parameter_size s p.array) (λ size.
+      also (parameter_faults s definition p p.name) (parameter_with said.base p))))
       (or_sound w f X o TypeRule (first_word p.specifiers)) (λ said z.
       let Y = X × (o ≡ Some said) in
-      let c = parameter_allowed (parameter_place p p.name)
-      (parameter_declared (pointed said.base p.pointer) p.array) in
+      let c = parameter_with said.base p in
+      sound_also w Y Any (faults_in c)
+      (if_fits (parameter_size s p.array) (λ size. also (parameter_faults s definition p p.name) c)) (λ e.
       sound_if w Y Any Any (parameter_size s p.array) (λ size. also (parameter_faults s definition p p.name) c)
       (size_any Y s p.array) (λ size z.
       sound_also w (Y × Any size) Any (parameter_faults s definition p p.name) c (λ e.
       allowed_any (Y × Any size) (parameter_place p p.name)
-      (parameter_declared (pointed said.base p.pointer) p.array))))
+      (parameter_declared (pointed said.base p.pointer) p.array)))))
 
   -- parameters define nothing
   pub each_any : (X : Type 0) (s : Scope) (definition : Bool) (ps : List ParameterTree)

@@ -33,11 +33,13 @@ use Rattle.c_typing.specs.Types.{Position, InCast, InParameters, Specified, spec
 use Rattle.c_typing.specs.Types.{DeclaredArray}
 use Rattle.c_typing.specs.Types.{DeclaredFunction}
 use Rattle.c_typing.specs.Checked.{Checked, Fits, Fails, Note, fits, fails, noted, also, if_fits, pair, both, or_fails}
+use Rattle.c_typing.specs.Checked.{faults_in}
 use Rattle.c_typing.specs.Declarators.{at_least_one, size_or, count_by_value, part_type, object_declared}
 use Rattle.c_typing.specs.Declarators.{object_allowed}
 use Rattle.c_typing.specs.Declarators.{parameter_place, parameter_declared, parameter_allowed, parameter_size}
 use Rattle.c_typing.specs.Declarators.{parameter_faults, typed_parameter, with_parameter, typed_each, parameters_meant}
 use Rattle.c_typing.specs.Declarators.{typed_parameters}
+use Rattle.c_typing.specs.Declarators.{parameter_with}
 use Rattle.c_typing.specs.Rows.{misfit, row_at, is_scalar, can_assign, assigned, tested, selected, on_number}
 use Rattle.c_typing.specs.Rows.{dereferenced}
 use Rattle.c_typing.specs.Rows.{address_of_place, place_named, address_row, unary_row, step_row, can_cast, cast_row}
@@ -50,8 +52,9 @@ use Rattle.c_typing.specs.Names.{Scope, entered}
 use Rattle.c_typing.specs.Statements.{GivenLabel, case_value, given_label, labels_before, given_labels, same_label}
 use Rattle.c_typing.specs.Statements.{one_label}
 use Rattle.c_typing.specs.Statements.{with_value, typed_labels}
-use Rattle.c_typing.specs.Files.{outer_of, redeclared_faults, result_allowed, function_faults, signature_of}
+use Rattle.c_typing.specs.Files.{outer_of, redeclared_faults, result_allowed, signature_of}
 use Rattle.c_typing.specs.Files.{function_declared, function_signature}
+use Rattle.c_typing.specs.Files.{library_faults, result_faults}
 use Rattle.c_sound.proofs.Fixed.{Fixed, fixed}
 use Rattle.c_sound.proofs.ParametersSound.{has_form}
 use Rattle.std.specs.List.{AllByRecursion}
@@ -254,17 +257,16 @@ size_plain s o count (Some e) =
     constant_plain (typed_expression s e) (at_least_one o) (fixed s s e) (at_least_plain o)
     (λ b ns e. grind arith)
 
-part_plain : (s : Scope) (of : Option ValueType) (name : Identifier) (v : Option ValueTree) (p : PartTree)
-    → Plain (part_type s of name v p)
-part_plain s of name v parts.Plain = refl
-part_plain s of name v (parts.Array a) =
+part_plain : (s : Scope) (of : Option ValueType) (v : Option ValueTree) (p : PartTree) → Plain (part_type s of v p)
+part_plain s of v parts.Plain = refl
+part_plain s of v (parts.Array a) =
     plain_if (size_or s a.opening (count_by_value of v) a.size) (λ count. fits (DeclaredArray of count))
     (size_plain s a.opening (count_by_value of v) a.size) (λ n. refl)
-part_plain s of name v (parts.Function ps) = tt
+part_plain s of v (parts.Function ps) = refl
 
 pub declared_plain : (s : Scope) (said : Specified) (d : DeclaratorTree) (v : Option ValueTree)
     → Plain (object_declared s said d v)
-declared_plain s said d v = part_plain s (pointed said.base d.pointer) d.name v d.part
+declared_plain s said d v = part_plain s (pointed said.base d.pointer) v d.part
 
 pub allowed_plain : (static : Bool) (at : Span) (d : Declared) → Plain (object_allowed static at d)
 allowed_plain static at (DeclaredValue None) = tt
@@ -336,18 +338,16 @@ parameter_size_plain s (Some a) = size_plain s a.opening (Some 1) a.size
 parameter_plain : (s : Scope) (definition : Bool) (p : ParameterTree) → Plain (typed_parameter s definition p)
 parameter_plain s definition p =
     plain_if (specifiers_at InParameters p.specifiers) (λ said.
-    if_fits (parameter_size s p.array) (λ size.
-    also (parameter_faults s definition p p.name)
-    (parameter_allowed (parameter_place p p.name) (parameter_declared (pointed said.base p.pointer) p.array))))
+    also (faults_in (parameter_with said.base p)) (if_fits (parameter_size s p.array) (λ size.
+    also (parameter_faults s definition p p.name) (parameter_with said.base p))))
     (specifiers_plain InParameters p.specifiers) (λ said.
-    plain_if (parameter_size s p.array) (λ size.
-    also (parameter_faults s definition p p.name)
-    (parameter_allowed (parameter_place p p.name) (parameter_declared (pointed said.base p.pointer) p.array)))
-    (parameter_size_plain s p.array) (λ size.
-    plain_also (parameter_faults s definition p p.name)
-    (parameter_allowed (parameter_place p p.name) (parameter_declared (pointed said.base p.pointer) p.array))
+    plain_also (faults_in (parameter_with said.base p)) (if_fits (parameter_size s p.array) (λ size.
+    also (parameter_faults s definition p p.name) (parameter_with said.base p)))
+    (plain_if (parameter_size s p.array) (λ size.
+    also (parameter_faults s definition p p.name) (parameter_with said.base p)) (parameter_size_plain s p.array)
+    (λ size. plain_also (parameter_faults s definition p p.name) (parameter_with said.base p)
     (parameter_allowed_plain (parameter_place p p.name)
-    (parameter_declared (pointed said.base p.pointer) p.array))))
+    (parameter_declared (pointed said.base p.pointer) p.array)))))
 
 each_plain : (s : Scope) (definition : Bool) (ps : List ParameterTree) → Plain (typed_each s definition ps)
 each_plain s definition [] = refl
@@ -365,9 +365,11 @@ pub signature_plain : (s : Scope) (said : Specified) (d : DeclaratorTree) (whole
     → Plain (function_signature s said d whole ps)
 signature_plain s said d whole ps =
     let result = pointed said.base d.pointer in
-    plain_if (typed_parameters (entered s) whole ps) (function_declared s said d.name whole result)
+    plain_also (result_faults said d)
+    (if_fits (typed_parameters (entered s) whole ps) (function_declared s said d.name whole result))
+    (plain_if (typed_parameters (entered s) whole ps) (function_declared s said d.name whole result)
     (each_plain (entered s) whole (parameters_meant ps)) (λ ts.
     let o = outer_of s said d.name whole (DeclaredFunction result ts) in
-    plain_also (redeclared_faults s d.name o ++ function_faults said d.name o) (signature_of d.name.at result ts)
+    plain_also (redeclared_faults s d.name o ++ library_faults d.name o) (signature_of d.name.at result ts)
     (plain_if (result_allowed d.name.at result) (λ t. fits (record { result = t; parameters = ts }))
-    (result_plain d.name.at result) (λ t. refl)))
+    (result_plain d.name.at result) (λ t. refl))))

@@ -26,20 +26,23 @@ use Rattle.c_typing.specs.Checked.{if_fits}
 use Rattle.c_typing.specs.Checked.{value_in, or_fails, notes_in}
 use Rattle.c_typing.specs.Declarators.{ObjectType, IntegerObject, PointerObject, ArrayObject, object_declared}
 use Rattle.c_typing.specs.Declarators.{object_allowed}
+use Rattle.c_typing.specs.Declarators.{type_faults}
 use Rattle.c_typing.specs.Expressions.{first_word}
 use Rattle.c_typing.specs.Initialisers.{contents_for}
+use Rattle.c_typing.specs.Initialisers.{function_initialiser}
 use Rattle.c_typing.specs.Names.{Meaning, Local, LocalArray, Object, ObjectArray, Function, Signature, Scope, Outer}
 use Rattle.c_typing.specs.Names.{Binding}
 use Rattle.c_typing.specs.Names.{meaning_of, as_before, is_function, linked, next_file, first_scope, Numbers}
 use Rattle.c_typing.specs.Statements.{stored, typed_statements, after_statements, Around}
 use Rattle.c_typing.specs.Files.{outer_of, redeclared_faults, with_outer, function_signature, bound_function}
-use Rattle.c_typing.specs.Files.{after_function, no_initialiser, without_value, bound_allowed, bound_outer}
+use Rattle.c_typing.specs.Files.{after_function, without_value, bound_allowed, bound_outer}
 use Rattle.c_typing.specs.Files.{after_object}
 use Rattle.c_typing.specs.Files.{typed_object, typed_prototype, after_outer_item, typed_outer_item, after_outer_items}
 use Rattle.c_typing.specs.Files.{typed_outer_items, parameters_in, body_of, at_body, function_with, defined}
 use Rattle.c_typing.specs.Files.{in_function}
 use Rattle.c_typing.specs.Files.{typed_definition, after_said, after_external, typed_external}
 use Rattle.c_typing.specs.Files.{after_unit, typed_unit, typed_units}
+use Rattle.c_typing.specs.Files.{sized_object}
 use Rattle.c_sound.proofs.Setting.{IsAt}
 use Rattle.c_sound.proofs.Growing.{are_items, items_each}
 use Rattle.c_sound.proofs.FilesSound.{NotAt, external_not, meaning_where}
@@ -56,6 +59,7 @@ use Rattle.c_typing.specs.Statements.{elements_of}
 use Rattle.c_typing.specs.Types.{is_extern, pointed}
 use Rattle.c_typing.proofs.CountUp.{IfFits}
 use Rattle.c_sound.proofs.Growing.{Counts, part_counts, ObjectCounts, allowed_counts}
+use Rattle.c_typing.proofs.FilesCountUp.{by_initialiser}
 use Rattle.c_sound.proofs.Places.{placed_knowing, AreRight}
 use Rattle.c_sound.proofs.FilesPlaces.{contents_right, some_size}
 use Rattle.c_sound.proofs.Ranged.{HasInts, Fitting}
@@ -178,12 +182,12 @@ object_placed said i h s free =
     let T = value_tokens i.initialiser in
     let t = after_object said i s in
     behind (declarator_tokens d) T (typed_object said i s)
-    (placed_knowing Counts T (object_declared s said d i.initialiser) (λ type.
+    (placed_also T (type_faults true said d) (sized_object said i s) (placed_knowing Counts T (object_declared s said d i.initialiser) (λ type.
     let o = outer_of s said d.name (is_some i.initialiser) type in
     also (redeclared_faults s d.name o) (if_fits (object_allowed true d.name.at type) (λ allowed.
     stored o.entity allowed [] (contents_for t allowed (without_value said) i.initialiser))))
     (declared_plain s said d i.initialiser)
-    (part_counts s (pointed said.base d.pointer) d.name i.initialiser d.part h.1) (λ type n.
+    (part_counts s (pointed said.base d.pointer) i.initialiser d.part h.1) (λ type n.
     let o = outer_of s said d.name (is_some i.initialiser) type in
     placed_also T (redeclared_faults s d.name o) (if_fits (object_allowed true d.name.at type) (λ allowed.
     stored o.entity allowed [] (contents_for t allowed (without_value said) i.initialiser)))
@@ -193,14 +197,15 @@ object_placed said i h s free =
     stored_free o.entity allowed [] (contents_for t allowed (without_value said) i.initialiser) T
     (free_linked s free said.storage type d.name.name) k
     (contents_placed t allowed (without_value said) i.initialiser h.1)
-    (contents_right t allowed (without_value said) i.initialiser h.1 (without_fits (elements_of allowed) said))))))
+    (contents_right t allowed (without_value said) i.initialiser h.1 (without_fits (elements_of allowed) said)))))))
 
 prototype_placed : (said : Specified) (i : ItemTree) (ps : List ParameterTree) (s : Scope) (T : List Token)
     → Placed T (typed_prototype said i ps s)
 prototype_placed said i ps s T =
-    let c = function_signature s said i.declarator false ps in
-    placed_also T (no_initialiser i.initialiser) (if_fits c (λ g. fits []))
-    (placed_after T c (λ g. fits []) (signature_plain s said i.declarator false ps) (λ g. (tt, λ z. tt)))
+    let t = after_function said i.declarator false ps s in
+    placed_after T (function_signature s said i.declarator false ps) (λ g. function_initialiser t i.initialiser [])
+    (signature_plain s said i.declarator false ps)
+    (λ g. by_initialiser (Placed T) t i.initialiser [] (tt, λ z. tt) (λ f fs. tt))
 
 outer_item_placed : (said : Specified) (i : ItemTree) → IsItem i → (p : PartTree) (s : Scope) → AllFree s
     → Placed (item_tokens i) (typed_outer_item said i p s)

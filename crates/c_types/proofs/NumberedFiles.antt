@@ -22,24 +22,28 @@ use Rattle.c_typing.specs.Checked.{Checked, Fits, Fails, Note, Defines, fits, no
 use Rattle.c_typing.specs.Checked.{or_fails}
 use Rattle.c_typing.specs.Numbering.{function_noted}
 use Rattle.c_typing.specs.Declarators.{ObjectType, object_declared, object_allowed, parameters_meant, typed_parameters}
+use Rattle.c_typing.specs.Declarators.{type_faults}
 use Rattle.c_typing.specs.Expressions.{first_word}
 use Rattle.c_typing.specs.Initialisers.{contents_for}
+use Rattle.c_typing.specs.Initialisers.{function_initialiser}
 use Rattle.c_typing.specs.Names.{Scope, Outer, Signature, clashes, entered, entity_seen, is_other, is_redeclared}
 use Rattle.c_typing.specs.Names.{meaning_of, next_file, first_scope}
 use Rattle.c_typing.specs.Statements.{stored, typed_statements, after_statements}
-use Rattle.c_typing.specs.Files.{outer_of, redeclared_faults, with_outer, result_allowed, function_faults, signature_of}
-use Rattle.c_typing.specs.Files.{function_declared, function_signature, bound_function, after_function, no_initialiser}
+use Rattle.c_typing.specs.Files.{outer_of, redeclared_faults, with_outer, result_allowed, signature_of}
+use Rattle.c_typing.specs.Files.{function_declared, function_signature, bound_function, after_function}
 use Rattle.c_typing.specs.Files.{without_value, bound_allowed, bound_outer, after_object, typed_object, typed_prototype}
 use Rattle.c_typing.specs.Files.{after_outer_item, typed_outer_item, after_outer_items, typed_outer_items}
 use Rattle.c_typing.specs.Files.{parameters_in}
 use Rattle.c_typing.specs.Files.{body_of, at_body, function_with, defined, in_function, typed_definition}
 use Rattle.c_typing.specs.Files.{after_definition, after_said, after_external, typed_external, after_unit, typed_unit}
 use Rattle.c_typing.specs.Files.{typed_units}
+use Rattle.c_typing.specs.Files.{library_faults, result_faults, sized_object}
 use Rattle.c_typing.proofs.CountUp.{Always, IfFits, always, holds_if}
 use Rattle.c_bindings.proofs.Sameness.{thing_is, thing_self}
 use Rattle.c_types.specs.Tables.{AreApart}
 use Rattle.c_types.specs.NumberingLaws.{FunctionsAreDefinedOnce}
 use Rattle.c_types.proofs.Quiet.{funs, Quiet, funs_quiet, quiet_if, quiet_also, declared_quiet, allowed_quiet}
+use Rattle.c_typing.proofs.FilesCountUp.{by_initialiser}
 use Rattle.c_types.proofs.Quiet.{parameters_quiet}
 use Rattle.c_types.proofs.QuietBodies.{contents_quiet, stored_quiet, statements_quiet}
 use Rattle.c_types.proofs.Outside.{object_outside, parameters_outside, statements_outside}
@@ -146,7 +150,7 @@ object_once said i s =
     let c = object_declared s said i.declarator i.initialiser in
     let t = after_object said i s in
     once_none s t (typed_object said i s)
-    (quiet_if c (λ type. also (redeclared_faults s name (outer_of s said name whole type))
+    (quiet_also (type_faults true said i.declarator) (sized_object said i s) (quiet_if c (λ type. also (redeclared_faults s name (outer_of s said name whole type))
     (if_fits (object_allowed true name.at type) (λ allowed. stored (outer_of s said name whole type).entity allowed []
     (contents_for t allowed (without_value said) i.initialiser))))
     (declared_quiet s said i.declarator i.initialiser) (λ type.
@@ -157,7 +161,7 @@ object_once said i s =
     (contents_for t allowed (without_value said) i.initialiser)) (allowed_quiet true name.at type) (λ allowed.
     stored_quiet (outer_of s said name whole type).entity allowed []
     (contents_for t allowed (without_value said) i.initialiser)
-    (contents_quiet t allowed (without_value said) i.initialiser)))))
+    (contents_quiet t allowed (without_value said) i.initialiser))))))
     (object_before said name whole (value_in c) s)
 
 result_quiet : (at : Span) (o : Option ValueType) → Quiet (result_allowed at o)
@@ -173,21 +177,24 @@ signature_quiet s said d whole ps =
     let result = pointed said.base d.pointer in
     let faults : List ValueType → List Fault = λ ts.
     let o = outer_of s said name whole (DeclaredFunction result ts) in
-    redeclared_faults s name o ++ function_faults said name o in
-    quiet_if (typed_parameters (entered s) whole ps) (function_declared s said name whole result)
+    redeclared_faults s name o ++ library_faults name o in
+    quiet_also (result_faults said d)
+    (if_fits (typed_parameters (entered s) whole ps) (function_declared s said name whole result))
+    (quiet_if (typed_parameters (entered s) whole ps) (function_declared s said name whole result)
     (parameters_quiet (entered s) whole ps) (λ ts.
     quiet_also (faults ts) (signature_of name.at result ts)
     (quiet_if (result_allowed name.at result) (λ t. fits (record { result = t; parameters = ts }))
-    (result_quiet name.at result) (λ t. refl)))
+    (result_quiet name.at result) (λ t. refl))))
 
 prototype_once : (said : Specified) (i : ItemTree) (ps : List ParameterTree) (s : Scope)
     → Once s (after_function said i.declarator false ps s) (typed_prototype said i ps s)
 prototype_once said i ps s =
     let d = i.declarator in
     let c = function_signature s said d false ps in
-    once_none s (after_function said d false ps s) (typed_prototype said i ps s)
-    (quiet_also (no_initialiser i.initialiser) (if_fits c (λ g. fits []))
-    (quiet_if c (λ g. fits []) (signature_quiet s said d false ps) (λ g. refl)))
+    let t = after_function said d false ps s in
+    once_none s t (typed_prototype said i ps s)
+    (quiet_if c (λ g. function_initialiser t i.initialiser []) (signature_quiet s said d false ps)
+    (λ g. by_initialiser Quiet t i.initialiser [] refl (λ f fs. refl)))
     (bound_before said d.name false (value_in c) s)
 
 outer_item_once : (said : Specified) (i : ItemTree) (p : PartTree) (s : Scope)
@@ -264,18 +271,21 @@ declared_new : (s : Scope) (said : Specified) (name : Identifier) (result : Opti
 declared_new s said name result ts =
     let o = outer_of s said name true (DeclaredFunction result ts) in
     let P = IsNewFunction s said name in
-    also_none P (redeclared_faults s name o ++ function_faults said name o) (signature_of name.at result ts) (λ e.
+    also_none P (redeclared_faults s name o ++ library_faults name o) (signature_of name.at result ts) (λ e.
     holds_if (λ t. result ≡ Some t) P (result_allowed name.at result)
     (λ t. fits (record { result = t; parameters = ts })) (result_is name.at result) (λ t p.
     subst (λ r. IsNew s.outer (outer_of s said name true (DeclaredFunction r ts)).entity) p
-    (not_redeclared s name o refl (none_first (redeclared_faults s name o) (function_faults said name o) e))))
+    (not_redeclared s name o refl (none_first (redeclared_faults s name o) (library_faults name o) e))))
 
 signature_new : (s : Scope) (said : Specified) (d : DeclaratorTree) (ps : List ParameterTree)
     → IfFits (IsNewFunction s said d.name) (function_signature s said d true ps)
 signature_new s said d ps =
-    holds_if Always (IsNewFunction s said d.name) (typed_parameters (entered s) true ps)
-    (function_declared s said d.name true (pointed said.base d.pointer)) (always (typed_parameters (entered s) true ps))
-    (λ ts u. declared_new s said d.name (pointed said.base d.pointer) ts)
+    let make = function_declared s said d.name true (pointed said.base d.pointer) in
+    holds_also (IsNewFunction s said d.name) (result_faults said d)
+    (if_fits (typed_parameters (entered s) true ps) make)
+    (holds_if Always (IsNewFunction s said d.name) (typed_parameters (entered s) true ps) make
+    (always (typed_parameters (entered s) true ps))
+    (λ ts u. declared_new s said d.name (pointed said.base d.pointer) ts))
 
 -- ---- definitions
 

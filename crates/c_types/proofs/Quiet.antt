@@ -35,6 +35,7 @@ use Rattle.c_typing.specs.Types.{InCast, InParameters, Specified, specified, poi
 use Rattle.c_typing.specs.Types.{DeclaredArray, DeclaredFunction}
 use Rattle.c_typing.specs.Checked.{Checked, Fits, Fails, Note, fits, noted, also, if_fits, pair, both, three}
 use Rattle.c_typing.specs.Checked.{notes_in, or_fails}
+use Rattle.c_typing.specs.Checked.{faults_in}
 use Rattle.c_typing.specs.Numbering.{function_noted}
 use Rattle.c_typing.specs.Constants.{constant_value, is_null}
 use Rattle.c_typing.specs.Names.{Scope, Signature, Meaning, Local, LocalArray, Object, ObjectArray}
@@ -52,6 +53,7 @@ use Rattle.c_typing.specs.Declarators.{at_least_one, size_or, count_by_value, pa
 use Rattle.c_typing.specs.Declarators.{object_allowed, parameter_place, parameter_declared}
 use Rattle.c_typing.specs.Declarators.{parameter_allowed, parameter_size, parameter_faults, typed_parameter}
 use Rattle.c_typing.specs.Declarators.{with_parameter, typed_each, parameters_meant, typed_parameters}
+use Rattle.c_typing.specs.Declarators.{parameter_with}
 
 -- ---- parts
 
@@ -356,17 +358,16 @@ size_quiet s o given (Some e) =
     quiet_if (typed_expression s e) (λ x. at_least_one o (constant_value x)) (expression_quiet s e)
     (λ x. least_quiet o (constant_value x))
 
-part_quiet : (s : Scope) (of : Option ValueType) (name : Identifier) (v : Option ValueTree) (p : PartTree)
-    → Quiet (part_type s of name v p)
-part_quiet s of name v Plain = refl
-part_quiet s of name v (Array a) =
+part_quiet : (s : Scope) (of : Option ValueType) (v : Option ValueTree) (p : PartTree) → Quiet (part_type s of v p)
+part_quiet s of v Plain = refl
+part_quiet s of v (Array a) =
     quiet_if (size_or s a.opening (count_by_value of v) a.size) (λ count. fits (DeclaredArray of count))
     (size_quiet s a.opening (count_by_value of v) a.size) (λ count. refl)
-part_quiet s of name v (Function ps) = refl
+part_quiet s of v (Function ps) = refl
 
 pub declared_quiet : (s : Scope) (said : Specified) (d : DeclaratorTree) (v : Option ValueTree)
     → Quiet (object_declared s said d v)
-declared_quiet s said d v = part_quiet s (pointed said.base d.pointer) d.name v d.part
+declared_quiet s said d v = part_quiet s (pointed said.base d.pointer) v d.part
 
 pub allowed_quiet : (static : Bool) (at : Span) (d : Declared) → Quiet (object_allowed static at d)
 allowed_quiet static at (DeclaredValue None) = refl
@@ -394,14 +395,16 @@ parameter_size_quiet s (Some a) = size_quiet s a.opening (Some 1) a.size
 
 parameter_quiet : (s : Scope) (definition : Bool) (p : ParameterTree) → Quiet (typed_parameter s definition p)
 parameter_quiet s definition p =
-    let allowed : Specified → Checked ValueType = λ said. also (parameter_faults s definition p p.name)
-    (parameter_allowed (parameter_place p p.name) (parameter_declared (pointed said.base p.pointer) p.array)) in
-    quiet_if (specifiers_at InParameters p.specifiers) (λ said. if_fits (parameter_size s p.array)
-    (λ size. allowed said)) (quiet_or (specified InParameters p.specifiers) TypeRule (first_word p.specifiers))
-    (λ said. quiet_if (parameter_size s p.array) (λ size. allowed said) (parameter_size_quiet s p.array) (λ size.
-    quiet_also (parameter_faults s definition p p.name)
-    (parameter_allowed (parameter_place p p.name) (parameter_declared (pointed said.base p.pointer) p.array))
-    (parameter_allowed_quiet (parameter_place p p.name) (parameter_declared (pointed said.base p.pointer) p.array))))
+    let allowed : Specified → Checked ValueType = λ said.
+    also (parameter_faults s definition p p.name) (parameter_with said.base p) in
+    quiet_if (specifiers_at InParameters p.specifiers) (λ said. also (faults_in (parameter_with said.base p))
+    (if_fits (parameter_size s p.array) (λ size. allowed said)))
+    (quiet_or (specified InParameters p.specifiers) TypeRule (first_word p.specifiers))
+    (λ said. quiet_also (faults_in (parameter_with said.base p))
+    (if_fits (parameter_size s p.array) (λ size. allowed said))
+    (quiet_if (parameter_size s p.array) (λ size. allowed said) (parameter_size_quiet s p.array) (λ size.
+    quiet_also (parameter_faults s definition p p.name) (parameter_with said.base p)
+    (parameter_allowed_quiet (parameter_place p p.name) (parameter_declared (pointed said.base p.pointer) p.array)))))
 
 each_quiet : (s : Scope) (definition : Bool) (ps : List ParameterTree) → Quiet (typed_each s definition ps)
 each_quiet s definition [] = refl

@@ -27,6 +27,7 @@ use Rattle.c_typing.specs.Names.{Scope, entered, numbered}
 use Rattle.c_typing.specs.Rows.{assigned, tested, selected}
 use Rattle.c_typing.specs.Declarators.{ArrayValues, Letters, Listed, NoValues, array_values, ObjectType, IntegerObject}
 use Rattle.c_typing.specs.Declarators.{PointerObject, ArrayObject, object_declared, object_allowed}
+use Rattle.c_typing.specs.Declarators.{type_faults}
 use Rattle.c_typing.specs.Expressions.{Given, given, first_piece, first_token, first_word, text_bytes, text_values}
 use Rattle.c_typing.specs.Expressions.{text_note, text_entity, typed_expression, typed_if_any, specifiers_at}
 use Rattle.c_typing.specs.Names.{object_number}
@@ -39,6 +40,7 @@ use Rattle.c_typing.specs.Statements.{case_value, given_label, labels_before, gi
 use Rattle.c_typing.specs.Statements.{with_value, typed_labels, Around, in_loop, in_switch, jump, returned, condition}
 use Rattle.c_typing.specs.Statements.{condition_if_any, first_part, row_before, as_one, alone, one, for_loop}
 use Rattle.c_typing.specs.Statements.{typed_statement, typed_statements}
+use Rattle.c_typing.specs.Statements.{sized_item}
 use Rattle.c_types.proofs.Quiet.{Quiet, quiet_if, quiet_pair, quiet_both, quiet_three, quiet_also, quiet_choice}
 use Rattle.c_types.proofs.Quiet.{quiet_or, assigned_quiet, tested_quiet, selected_quiet, AreQuiet}
 use Rattle.c_types.proofs.Quiet.{expression_quiet, given_quiet, if_any_quiet, declared_quiet, allowed_quiet}
@@ -138,12 +140,13 @@ item_quiet said i s =
     let static = is_static said.storage in
     let name = i.declarator.name in
     let make = object_item static s (after_item said i s) name i.initialiser in
-    quiet_if (object_declared s said i.declarator i.initialiser) (λ declared.
+    quiet_also (type_faults static said i.declarator) (sized_item said i s)
+    (quiet_if (object_declared s said i.declarator i.initialiser) (λ declared.
     also (scope_faults s name) (if_fits (object_allowed static name.at declared) make))
     (declared_quiet s said i.declarator i.initialiser) (λ declared.
     quiet_also (scope_faults s name) (if_fits (object_allowed static name.at declared) make)
     (quiet_if (object_allowed static name.at declared) make (allowed_quiet static name.at declared)
-    (object_quiet static s (after_item said i s) name i.initialiser)))
+    (object_quiet static s (after_item said i s) name i.initialiser))))
 
 items_quiet : (said : Specified) (is : List ItemTree) (s : Scope) → Quiet (typed_items said is s)
 items_quiet said [] s = refl

@@ -16,7 +16,7 @@ use Rattle.c_typing.specs.Checked.{Checked, Fits, Fails, Contents, Zeros, Note, 
 use Rattle.c_typing.specs.Checked.{pair, both}
 use Rattle.c_typing.specs.Checked.{three, value_in}
 use Rattle.c_typing.specs.Declarators.{ObjectType, IntegerObject, PointerObject, ArrayObject, object_declared}
-use Rattle.c_typing.specs.Declarators.{object_allowed}
+use Rattle.c_typing.specs.Declarators.{object_allowed, type_faults}
 use Rattle.pcc_base.specs.declared.span.Span.{Span}
 use Rattle.pcc_base.specs.declared.fault.FaultKind.TheVariants.{TypeRule}
 use Rattle.c_tree.specs.declared.types.ValueType.TheVariants.{Integer, Pointer}
@@ -25,7 +25,8 @@ use Rattle.c_typing.specs.Expressions.{first_word, typed_expression, typed_if_an
 use Rattle.c_typing.specs.Rows.{selected}
 use Rattle.c_typing.specs.Names.{Scope, entered, numbered}
 use Rattle.c_typing.specs.Statements.{bound_item, after_item, after_items, after_specified, after_declaration, stored}
-use Rattle.c_typing.specs.Statements.{local_item, object_item, scope_faults, typed_item, typed_items, typed_declaration}
+use Rattle.c_typing.specs.Statements.{local_item, object_item, scope_faults, sized_item, typed_item, typed_items}
+use Rattle.c_typing.specs.Statements.{typed_declaration}
 use Rattle.c_typing.specs.Statements.{alone, as_one, one, for_loop, row_before, typed_statement, typed_statements}
 use Rattle.c_typing.specs.Statements.{after_statement, after_statements, condition, condition_if_any, first_part, jump}
 use Rattle.c_typing.specs.Statements.{in_loop, in_switch, Around, given_labels, typed_labels, returned}
@@ -148,8 +149,10 @@ declared_from static s t name v fs (Fails g gs) = tt
 item_from : (said : Specified) (i : ItemTree) (s : Scope)
     → IfFits (ItemsFrom s.next (after_item said i s).next) (typed_item said i s)
 item_from said i s =
-    declared_from (is_static said.storage) s (after_item said i s) i.declarator.name i.initialiser
-    (scope_faults s i.declarator.name) (object_declared s said i.declarator i.initialiser)
+    holds_also (ItemsFrom s.next (after_item said i s).next) (type_faults (is_static said.storage) said i.declarator)
+    (sized_item said i s)
+    (declared_from (is_static said.storage) s (after_item said i s) i.declarator.name i.initialiser
+    (scope_faults s i.declarator.name) (object_declared s said i.declarator i.initialiser))
 
 items_on : (n k m : ℕ) (xs ys : List Item) → ItemsFrom n k xs → ItemsFrom k m ys → ItemsFrom n m (xs ++ ys)
 items_on n k m [] ys h g = subst (λ i. ItemsFrom i m ys) (sym h) g

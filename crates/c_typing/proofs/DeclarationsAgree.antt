@@ -17,30 +17,31 @@ use Rattle.c_tree.specs.Program.{Expression, Item, Initialiser, Elements, Text}
 use Rattle.c_typing.specs.Types.{Position, InParameters, Specified, specified, is_static, pointed, Declared}
 use Rattle.c_typing.specs.Types.{DeclaredArray}
 use Rattle.c_typing.specs.Checked.{Checked, Fits, Fails, Contents, Zeros, Values, Stores, fits, fails, also, if_fits}
-use Rattle.c_typing.specs.Checked.{or_fails, value_in}
+use Rattle.c_typing.specs.Checked.{or_fails, faults_in, value_in}
 use Rattle.c_typing.specs.Constants.{constant_value}
 use Rattle.c_typing.specs.Declarators.{ArrayValues, Letters, Listed, NoValues, array_values, at_least_one, size_or}
 use Rattle.c_typing.specs.Declarators.{count_by_value, part_type, object_declared, ObjectType, IntegerObject}
-use Rattle.c_typing.specs.Declarators.{PointerObject, ArrayObject, object_allowed, object_type, parameter_place}
-use Rattle.c_typing.specs.Declarators.{parameter_declared, parameter_allowed, parameter_size, parameter_faults}
+use Rattle.c_typing.specs.Declarators.{PointerObject, ArrayObject, object_allowed, object_type, type_faults}
+use Rattle.c_typing.specs.Declarators.{parameter_with, parameter_size, parameter_faults}
 use Rattle.c_typing.specs.Declarators.{typed_parameter, with_named, with_parameter, with_parameters, typed_each}
 use Rattle.c_typing.specs.Declarators.{typed_parameters, parameters_meant}
-use Rattle.c_typing.specs.Expressions.{Given, given, first_piece, first_token, text_bytes, text_note, specifiers_at}
+use Rattle.c_typing.specs.Expressions.{Given, arguments_for, given, first_piece, first_token, text_bytes, text_note, specifiers_at}
 use Rattle.c_typing.specs.Expressions.{text_entity, text_values}
 use Rattle.c_typing.specs.Expressions.{typed_expression}
 use Rattle.c_typing.specs.Initialisers.{values_for, scalar_values, letters_for, no_values, first_of, scalar_initialiser}
 use Rattle.c_typing.specs.Initialisers.{elements_for, array_initialiser, constant_for, constants_for, constants_in}
-use Rattle.c_typing.specs.Initialisers.{contents_for}
+use Rattle.c_typing.specs.Initialisers.{contents_for, first_token_of, function_initialiser}
 use Rattle.c_typing.specs.Library.{Entity, At}
 use Rattle.c_typing.specs.Names.{Numbers, Scope, object_number}
 use Rattle.c_typing.specs.Rows.{assigned}
 use Rattle.c_typing.specs.Statements.{bound_item, after_item, after_items, after_specified}
 use Rattle.c_typing.specs.Statements.{after_declaration, elements_of, size_of, stored, local_item, object_item}
-use Rattle.c_typing.specs.Statements.{scope_faults, typed_item, typed_items, typed_declaration}
+use Rattle.c_typing.specs.Statements.{scope_faults, sized_item, typed_item, typed_items, typed_declaration}
 use Rattle.c_typing.proofs.Agree.{Agree, Any, Same, values_agree, agree_if_fits, agree_also, agree_both, same_itself}
 use Rattle.c_typing.proofs.Agree.{agree_same, agree_any}
 use Rattle.c_typing.proofs.RowsAgree.{Twins, twin_constant, assigned_agree}
-use Rattle.c_typing.proofs.ExpressionsAgree.{renumbered, GivenAgree, typed_agree, given_agree}
+use Rattle.c_typing.proofs.ExpressionsAgree.{renumbered, GivenAgree, TwinArguments, typed_agree, given_agree}
+use Rattle.c_typing.proofs.ExpressionsAgree.{arguments_agree}
 
 -- ---- declarators
 
@@ -58,18 +59,18 @@ size_agree m s o count (Some e) =
     (λ x. at_least_one o (constant_value x)) (λ x. at_least_one o (constant_value x)) (typed_agree m s e)
     (at_least_same o)
 
-part_agree : (m : Numbers) (s : Scope) (of : Option ValueType) (name : Identifier) (v : Option ValueTree) (p : PartTree)
-    → Agree Same (part_type (renumbered m s) of name v p) (part_type s of name v p)
-part_agree m s of name v Plain = (refl, refl)
-part_agree m s of name v (Array a) =
+part_agree : (m : Numbers) (s : Scope) (of : Option ValueType) (v : Option ValueTree) (p : PartTree)
+    → Agree Same (part_type (renumbered m s) of v p) (part_type s of v p)
+part_agree m s of v Plain = (refl, refl)
+part_agree m s of v (Array a) =
     agree_same Same (size_or (renumbered m s) a.opening (count_by_value of v) a.size)
     (size_or s a.opening (count_by_value of v) a.size) (λ count. fits (DeclaredArray of count)) same_itself
     (size_agree m s a.opening (count_by_value of v) a.size)
-part_agree m s of name v (Function ps) = (refl, refl)
+part_agree m s of v (Function ps) = (refl, refl)
 
 pub declared_agree : (m : Numbers) (s : Scope) (said : Specified) (d : DeclaratorTree) (v : Option ValueTree)
     → Agree Same (object_declared (renumbered m s) said d v) (object_declared s said d v)
-declared_agree m s said d v = part_agree m s (pointed said.base d.pointer) d.name v d.part
+declared_agree m s said d v = part_agree m s (pointed said.base d.pointer) v d.part
 
 pub object_type_same : (static : Bool) (m : Numbers) (s : Scope) (said : Specified) (d : DeclaratorTree)
     (v : Option ValueTree) → object_type static (renumbered m s) said d v ≡ object_type static s said d v
@@ -87,9 +88,7 @@ parameter_size_agree m s None = (refl, refl)
 parameter_size_agree m s (Some a) = size_agree m s a.opening (Some 1) a.size
 
 abbrev behind_size : Scope → Bool → ParameterTree → Specified → ℕ → Checked ValueType
-behind_size s definition p said size =
-    also (parameter_faults s definition p p.name)
-    (parameter_allowed (parameter_place p p.name) (parameter_declared (pointed said.base p.pointer) p.array))
+behind_size s definition p said size = also (parameter_faults s definition p p.name) (parameter_with said.base p)
 
 faults_same : (m : Numbers) (s : Scope) (definition : Bool) (p : ParameterTree) (o : Option Identifier)
     → parameter_faults (renumbered m s) definition p o ≡ parameter_faults s definition p o
@@ -99,23 +98,34 @@ faults_same m s definition p (Some name) = refl
 behind_same : (m : Numbers) (s : Scope) (definition : Bool) (p : ParameterTree) (said : Specified) (size : ℕ)
     → behind_size (renumbered m s) definition p said size ≡ behind_size s definition p said size
 behind_same m s definition p said size =
-    ap (λ fs. also fs (parameter_allowed (parameter_place p p.name)
-    (parameter_declared (pointed said.base p.pointer) p.array))) (faults_same m s definition p p.name)
+    ap (λ fs. also fs (parameter_with said.base p)) (faults_same m s definition p p.name)
+
+-- a parameter with such specifiers
+abbrev specified_parameter : Scope → Bool → ParameterTree → Specified → Checked ValueType
+specified_parameter s definition p said =
+    also (faults_in (parameter_with said.base p)) (if_fits (parameter_size s p.array) (behind_size s definition p said))
+
+specified_agree : (m : Numbers) (s : Scope) (definition : Bool) (p : ParameterTree) (said : Specified)
+    → Agree Same (specified_parameter (renumbered m s) definition p said) (specified_parameter s definition p said)
+specified_agree m s definition p said =
+    agree_also Same (faults_in (parameter_with said.base p))
+    (if_fits (parameter_size (renumbered m s) p.array) (behind_size (renumbered m s) definition p said))
+    (if_fits (parameter_size s p.array) (behind_size s definition p said))
+    (agree_if_fits Same Same (parameter_size (renumbered m s) p.array) (parameter_size s p.array)
+    (behind_size (renumbered m s) definition p said) (behind_size s definition p said)
+    (parameter_size_agree m s p.array) (λ size count k.
+    subst (λ x. Agree Same (behind_size (renumbered m s) definition p said size) x)
+    (behind_same m s definition p said size ∙ ap (behind_size s definition p said) k)
+    (same_itself (behind_size (renumbered m s) definition p said size))))
 
 pub parameter_agree : (m : Numbers) (s : Scope) (definition : Bool) (p : ParameterTree)
     → Agree Same (typed_parameter (renumbered m s) definition p) (typed_parameter s definition p)
 parameter_agree m s definition p =
     agree_if_fits Same Same (specifiers_at InParameters p.specifiers) (specifiers_at InParameters p.specifiers)
-    (λ said. if_fits (parameter_size (renumbered m s) p.array) (behind_size (renumbered m s) definition p said))
-    (λ said. if_fits (parameter_size s p.array) (behind_size s definition p said))
+    (specified_parameter (renumbered m s) definition p) (specified_parameter s definition p)
     (same_itself (specifiers_at InParameters p.specifiers)) (λ said other e.
-    agree_if_fits Same Same (parameter_size (renumbered m s) p.array) (parameter_size s p.array)
-    (behind_size (renumbered m s) definition p said) (behind_size s definition p other)
-    (parameter_size_agree m s p.array) (λ size count k.
-    subst (λ x. Agree Same (behind_size (renumbered m s) definition p said size) x)
-    (behind_same m s definition p said size ∙ ap (λ x. behind_size s definition p x size) e
-    ∙ ap (behind_size s definition p other) k)
-    (same_itself (behind_size (renumbered m s) definition p said size))))
+    subst (λ x. Agree Same (specified_parameter (renumbered m s) definition p said) (specified_parameter s definition p x))
+    e (specified_agree m s definition p said))
 
 with_named_same : (m : Numbers) (s : Scope) (o : Option Identifier) (t : Option ValueType)
     → with_named (renumbered m s) o t ≡ renumbered m (with_named s o t)
@@ -351,9 +361,9 @@ behind_agree m said i s t declared =
     (λ a b e. subst (λ z. Agree Any (object_item static (renumbered m s) (renumbered m t) name i.initialiser a)
     (object_item static s t name i.initialiser z)) e (object_item_agree static m s t name i.initialiser a)))
 
-pub item_agree : (m : Numbers) (said : Specified) (i : ItemTree) (s : Scope)
-    → Agree Any (typed_item said i (renumbered m s)) (typed_item said i s)
-item_agree m said i s =
+sized_agree : (m : Numbers) (said : Specified) (i : ItemTree) (s : Scope)
+    → Agree Any (sized_item said i (renumbered m s)) (sized_item said i s)
+sized_agree m said i s =
     agree_if_fits Same Any (object_declared (renumbered m s) said i.declarator i.initialiser)
     (object_declared s said i.declarator i.initialiser)
     (behind_declarator said i (renumbered m s) (after_item said i (renumbered m s)))
@@ -362,6 +372,24 @@ item_agree m said i s =
     (behind_declarator said i s (after_item said i s) b)) (sym (after_item_same m said i s))
     (subst (λ z. Agree Any (behind_declarator said i (renumbered m s) (renumbered m (after_item said i s)) a)
     (behind_declarator said i s (after_item said i s) z)) e (behind_agree m said i s (after_item said i s) a)))
+
+-- ---- initialisers of functions
+
+pub function_agree : {A : Type 0} (m : Numbers) (s : Scope) (v : Option ValueTree) (value : A)
+    → Agree Any (function_initialiser (renumbered m s) v value) (function_initialiser s v value)
+function_agree m s None value = (tt, refl)
+function_agree {A} m s (Some v) value =
+    let es = scalar_values v.value in
+    agree_if_fits {C = A} {D = A} TwinArguments Any (arguments_for [] (given (renumbered m s) es))
+    (arguments_for [] (given s es)) (λ x. fails kinds.TypeRule (first_token_of v.value))
+    (λ x. fails kinds.TypeRule (first_token_of v.value))
+    (arguments_agree [] (given (renumbered m s) es) (given s es) (given_agree m s es)) (λ x y h. (refl, refl))
+
+pub item_agree : (m : Numbers) (said : Specified) (i : ItemTree) (s : Scope)
+    → Agree Any (typed_item said i (renumbered m s)) (typed_item said i s)
+item_agree m said i s =
+    agree_also Any (type_faults (is_static said.storage) said i.declarator) (sized_item said i (renumbered m s))
+    (sized_item said i s) (sized_agree m said i s)
 
 pub items_agree : (m : Numbers) (said : Specified) (is : List ItemTree) (s : Scope)
     → Agree Any (typed_items said is (renumbered m s)) (typed_items said is s)

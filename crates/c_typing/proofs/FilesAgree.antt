@@ -13,15 +13,15 @@ use Rattle.c_typing.specs.Types.{Declared, DeclaredFunction}
 use Rattle.c_typing.specs.Checked.{Checked, Fits, fits, also, both, if_fits, value_in, Defines}
 use Rattle.c_typing.specs.Declarators.{ObjectType, IntegerObject, PointerObject, ArrayObject, object_declared}
 use Rattle.c_typing.specs.Declarators.{object_allowed, parameters_meant}
-use Rattle.c_typing.specs.Declarators.{typed_parameters}
+use Rattle.c_typing.specs.Declarators.{type_faults, typed_parameters}
 use Rattle.c_typing.specs.Expressions.{specifiers_at}
-use Rattle.c_typing.specs.Initialisers.{contents_for}
+use Rattle.c_typing.specs.Initialisers.{contents_for, function_initialiser}
 use Rattle.c_typing.specs.Library.{Entity}
 use Rattle.c_typing.specs.Names.{Function, bound, Numbers, Signature, Outer, Scope, entered, left, linked, next_file}
 use Rattle.c_typing.specs.Names.{first_scope}
 use Rattle.c_typing.specs.Statements.{stored, typed_statements, after_statements}
-use Rattle.c_typing.specs.Files.{outer_of, redeclared_faults, with_outer, function_faults, signature_of}
-use Rattle.c_typing.specs.Files.{function_declared, function_signature, bound_function, after_function, no_initialiser}
+use Rattle.c_typing.specs.Files.{outer_of, redeclared_faults, with_outer, library_faults, result_faults, signature_of}
+use Rattle.c_typing.specs.Files.{function_declared, function_signature, bound_function, after_function, sized_object}
 use Rattle.c_typing.specs.Files.{without_value, bound_allowed, bound_outer, after_object, typed_object, typed_prototype}
 use Rattle.c_typing.specs.Files.{after_outer_item, typed_outer_item, after_outer_items, typed_outer_items}
 use Rattle.c_typing.specs.Files.{parameters_in}
@@ -34,7 +34,7 @@ use Rattle.c_typing.proofs.Agree.{Agree, Any, Same, faults_agree, notes_agree, v
 use Rattle.c_typing.proofs.Agree.{agree_both, same_itself, agree_any}
 use Rattle.c_typing.proofs.ExpressionsAgree.{renumbered}
 use Rattle.c_typing.proofs.DeclarationsAgree.{declared_agree, with_parameters_same, parameters_agree, contents_agree}
-use Rattle.c_typing.proofs.DeclarationsAgree.{stored_agree}
+use Rattle.c_typing.proofs.DeclarationsAgree.{function_agree, stored_agree}
 use Rattle.c_typing.proofs.StatementsAgree.{after_statements_same, statements_agree}
 
 -- ---- what is declared
@@ -56,7 +56,7 @@ outer_same m s said name whole type =
 
 abbrev declared_as : Scope → Specified → Identifier → Outer → Option ValueType → List ValueType → Checked Signature
 declared_as s said name o result parameters =
-    also (redeclared_faults s name o ++ function_faults said name o) (signature_of name.at result parameters)
+    also (redeclared_faults s name o ++ library_faults name o) (signature_of name.at result parameters)
 
 function_declared_same : (m : Numbers) (s : Scope) (said : Specified) (name : Identifier) (whole : Bool)
     (result : Option ValueType) (parameters : List ValueType)
@@ -70,7 +70,12 @@ signature_agree : (m : Numbers) (s : Scope) (said : Specified) (d : DeclaratorTr
     (ps : List ParameterTree)
     → Agree Same (function_signature (renumbered m s) said d whole ps) (function_signature s said d whole ps)
 signature_agree m s said d whole ps =
-    agree_if_fits Same Same (typed_parameters (entered (renumbered m s)) whole ps)
+    agree_also Same (result_faults said d)
+    (if_fits (typed_parameters (entered (renumbered m s)) whole ps)
+    (function_declared (renumbered m s) said d.name whole (pointed said.base d.pointer)))
+    (if_fits (typed_parameters (entered s) whole ps)
+    (function_declared s said d.name whole (pointed said.base d.pointer)))
+    (agree_if_fits Same Same (typed_parameters (entered (renumbered m s)) whole ps)
     (typed_parameters (entered s) whole ps)
     (function_declared (renumbered m s) said d.name whole (pointed said.base d.pointer))
     (function_declared s said d.name whole (pointed said.base d.pointer)) (parameters_agree m (entered s) whole ps)
@@ -78,7 +83,7 @@ signature_agree m s said d whole ps =
     (function_declared (renumbered m s) said d.name whole (pointed said.base d.pointer) a) c)
     (function_declared_same m s said d.name whole (pointed said.base d.pointer) a
     ∙ ap (function_declared s said d.name whole (pointed said.base d.pointer)) e)
-    (same_itself (function_declared (renumbered m s) said d.name whole (pointed said.base d.pointer) a)))
+    (same_itself (function_declared (renumbered m s) said d.name whole (pointed said.base d.pointer) a))))
 
 abbrev bound_with : Identifier → Signature → Scope → Outer → Scope
 bound_with name g s o = bound name.name (Function o.entity g) (with_outer o s)
@@ -158,9 +163,9 @@ object_with_agree m said i s t type o =
     (contents_for t a (without_value said) i.initialiser)
     (contents_agree m t a (without_value said) i.initialiser))))
 
-object_agree : (m : Numbers) (said : Specified) (i : ItemTree) (s : Scope)
-    → Agree Any (typed_object said i (renumbered m s)) (typed_object said i s)
-object_agree m said i s =
+sized_agree : (m : Numbers) (said : Specified) (i : ItemTree) (s : Scope)
+    → Agree Any (sized_object said i (renumbered m s)) (sized_object said i s)
+sized_agree m said i s =
     let name = i.declarator.name in
     let whole = is_some i.initialiser in
     agree_if_fits Same Any (object_declared (renumbered m s) said i.declarator i.initialiser)
@@ -180,15 +185,25 @@ object_agree m said i s =
     (sym (after_object_same m said i s))
     (object_with_agree m said i s (after_object said i s) a (outer_of s said name whole a)))))
 
+object_agree : (m : Numbers) (said : Specified) (i : ItemTree) (s : Scope)
+    → Agree Any (typed_object said i (renumbered m s)) (typed_object said i s)
+object_agree m said i s =
+    agree_also Any (type_faults true said i.declarator) (sized_object said i (renumbered m s)) (sized_object said i s)
+    (sized_agree m said i s)
+
 prototype_agree : (m : Numbers) (said : Specified) (i : ItemTree) (ps : List ParameterTree) (s : Scope)
     → Agree Any (typed_prototype said i ps (renumbered m s)) (typed_prototype said i ps s)
 prototype_agree m said i ps s =
-    agree_also Any (no_initialiser i.initialiser)
-    (if_fits (function_signature (renumbered m s) said i.declarator false ps) (λ g. fits []))
-    (if_fits (function_signature s said i.declarator false ps) (λ g. fits []))
-    (agree_any {C = List tree.Function} {D = List tree.Function} Same
-    (function_signature (renumbered m s) said i.declarator false ps) (function_signature s said i.declarator false ps)
-    (λ g. []) (λ g. []) (signature_agree m s said i.declarator false ps))
+    let d = i.declarator in
+    let none : List tree.Function = [] in
+    agree_if_fits Same Any (function_signature (renumbered m s) said d false ps) (function_signature s said d false ps)
+    (λ g. function_initialiser (after_function said d false ps (renumbered m s)) i.initialiser none)
+    (λ g. function_initialiser (after_function said d false ps s) i.initialiser none)
+    (signature_agree m s said d false ps)
+    (λ a b e. subst (λ t. Agree Any (function_initialiser t i.initialiser none)
+    (function_initialiser (after_function said d false ps s) i.initialiser none))
+    (sym (after_function_same m said d false ps s))
+    (function_agree m (after_function said d false ps s) i.initialiser none))
 
 after_outer_item_same : (m : Numbers) (said : Specified) (i : ItemTree) (p : PartTree) (s : Scope)
     → after_outer_item said i p (renumbered m s) ≡ renumbered m (after_outer_item said i p s)

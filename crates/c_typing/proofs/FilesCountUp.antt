@@ -3,27 +3,30 @@ use Rattle.std.proofs.Common.{◌≡◌, refl, sym, ap, subst, ◌∙◌, ℕ, B
 use Rattle.std.specs.Prelude.{Option, Some, None, is_some, unwrap_or}
 use Rattle.std.proofs.lemmas.Option.{none-some}
 use Rattle.pcc_base.specs.declared.span.Span.{Span}
+use Rattle.pcc_base.specs.declared.fault.Fault.{Fault}
 use Rattle.c_syntax.specs.declared.expression.Identifier.{Identifier}
 use Rattle.c_syntax.specs.declared.expression.Specifier.{Specifier}
 use Rattle.pcc_base.specs.declared.fault.FaultKind.TheVariants.{TypeRule}
 use Rattle.c_syntax.specs.Declarations as trees
-use Rattle.c_syntax.specs.Declarations.{ItemTree, DeclaratorTree, ParameterTree, PartTree}
+use Rattle.c_syntax.specs.Declarations.{ItemTree, DeclaratorTree, ParameterTree, PartTree, ValueTree}
 use Rattle.c_syntax.specs.Statements.{Stmt, ExternalTree, FunctionTree, DeclaredTree}
 use Rattle.c_tree.specs.Program as tree
 use Rattle.c_tree.specs.Program.{Program}
 use Rattle.c_tree.specs.WellTyped.{functions_numbers, statements_numbers}
 use Rattle.c_typing.specs.Types.{Outside, Specified, specified, Declared}
-use Rattle.c_typing.specs.Checked.{Checked, Fits, Fails, Contents, Note, fits, also, both, if_fits, or_fails, value_in}
+use Rattle.c_typing.specs.Checked.{Checked, Fits, Fails, Contents, Note, fits, fails, also, both, if_fits, or_fails}
+use Rattle.c_typing.specs.Checked.{value_in}
 use Rattle.c_typing.specs.Declarators.{ObjectType, IntegerObject, PointerObject, ArrayObject, object_declared}
 use Rattle.c_typing.specs.Declarators.{object_allowed, with_named, with_parameter, with_parameters, parameters_meant}
-use Rattle.c_typing.specs.Declarators.{typed_parameter}
-use Rattle.c_typing.specs.Expressions.{first_word}
-use Rattle.c_typing.specs.Initialisers.{contents_for}
+use Rattle.c_typing.specs.Declarators.{type_faults, typed_parameter}
+use Rattle.c_typing.specs.Expressions.{arguments_for, first_word, given}
+use Rattle.c_typing.specs.Initialisers.{contents_for, first_token_of, function_initialiser, scalar_values}
+use Rattle.c_typing.specs.Faults.{fault}
 use Rattle.c_typing.specs.Library.{Entity}
 use Rattle.c_typing.specs.Names.{Scope, Signature, Outer, entered, next_file, first_scope, Numbers}
 use Rattle.c_typing.specs.Statements.{stored, typed_statements, after_statements}
 use Rattle.c_typing.specs.Files.{outer_of, redeclared_faults, with_outer, function_signature, bound_function}
-use Rattle.c_typing.specs.Files.{after_function, no_initialiser, without_value, bound_allowed, bound_outer}
+use Rattle.c_typing.specs.Files.{after_function, sized_object, without_value, bound_allowed, bound_outer}
 use Rattle.c_typing.specs.Files.{after_object}
 use Rattle.c_typing.specs.Files.{typed_object, typed_prototype, after_outer_item, typed_outer_item, after_outer_items}
 use Rattle.c_typing.specs.Files.{typed_outer_items, parameters_in, body_of, at_body, function_with, defined}
@@ -100,8 +103,8 @@ stored_empty : (n : ℕ) (e : Entity) (type : ObjectType) (c : Checked Contents)
 stored_empty n e type (Fits a ns) = refl
 stored_empty n e type (Fails f fs) = tt
 
-object_empty : (n : ℕ) (said : Specified) (i : ItemTree) (s : Scope) → IfFits (FilesFrom n n) (typed_object said i s)
-object_empty n said i s =
+sized_empty : (n : ℕ) (said : Specified) (i : ItemTree) (s : Scope) → IfFits (FilesFrom n n) (sized_object said i s)
+sized_empty n said i s =
     let name = i.declarator.name in
     let whole = is_some i.initialiser in
     holds_if Always (FilesFrom n n) (object_declared s said i.declarator i.initialiser)
@@ -119,13 +122,30 @@ object_empty n said i s =
     stored_empty n (outer_of s said name whole type).entity allowed
     (contents_for (after_object said i s) allowed (without_value said) i.initialiser))))
 
+object_empty : (n : ℕ) (said : Specified) (i : ItemTree) (s : Scope) → IfFits (FilesFrom n n) (typed_object said i s)
+object_empty n said i s =
+    holds_also (FilesFrom n n) (type_faults true said i.declarator) (sized_object said i s) (sized_empty n said i s)
+
+by_values : {A B : Type 0} (P : Checked B → Type 0) (at : Span) (c : Checked A)
+    → ((f : Fault) (fs : List Fault) → P (Fails f fs)) → P (if_fits c (λ es. fails TypeRule at))
+by_values P at (Fits es ns) h = h (fault TypeRule at) []
+by_values P at (Fails f fs) h = h f fs
+
+-- a prototype without an initialiser fits, and one with an initialiser fails
+pub by_initialiser : {A : Type 0} (P : Checked A → Type 0) (s : Scope) (v : Option ValueTree) (value : A)
+    → P (fits value) → ((f : Fault) (fs : List Fault) → P (Fails f fs)) → P (function_initialiser s v value)
+by_initialiser P s None value h k = h
+by_initialiser P s (Some v) value h k =
+    by_values P (first_token_of v.value) (arguments_for [] (given s (scalar_values v.value))) k
+
 prototype_empty : (n : ℕ) (said : Specified) (i : ItemTree) (ps : List ParameterTree) (s : Scope)
     → IfFits (FilesFrom n n) (typed_prototype said i ps s)
 prototype_empty n said i ps s =
-    holds_also (FilesFrom n n) (no_initialiser i.initialiser)
-    (if_fits (function_signature s said i.declarator false ps) (λ g. fits []))
-    (holds_if Always (FilesFrom n n) (function_signature s said i.declarator false ps) (λ g. fits [])
-    (always (function_signature s said i.declarator false ps)) (λ g x. refl))
+    let t = after_function said i.declarator false ps s in
+    holds_if Always (FilesFrom n n) (function_signature s said i.declarator false ps)
+    (λ g. function_initialiser t i.initialiser [])
+    (always (function_signature s said i.declarator false ps))
+    (λ g x. by_initialiser (IfFits (FilesFrom n n)) t i.initialiser [] refl (λ f fs. tt))
 
 outer_item_from : (said : Specified) (i : ItemTree) (p : PartTree) (s : Scope)
     → IfFits (FilesFrom s.next (after_outer_item said i p s).next) (typed_outer_item said i p s)

@@ -18,7 +18,7 @@ use Rattle.c_tree.specs.declared.types.ValueType.TheVariants.{Void, Integer, Poi
 use Rattle.c_typing.specs.Faults.{fault}
 use Rattle.c_typing.specs.Types.{InParameters, Specified, specified, pointed, Declared, DeclaredValue, DeclaredArray}
 use Rattle.c_typing.specs.Types.{DeclaredFunction}
-use Rattle.c_typing.specs.Checked.{Checked, fits, fails, also, if_fits, both, value_in, or_fails}
+use Rattle.c_typing.specs.Checked.{Checked, fits, fails, also, if_fits, both, faults_in, value_in, or_fails}
 use Rattle.c_typing.specs.Constants.{constant_value}
 use Rattle.c_typing.specs.Names.{Scope, is_declared_here, with_local}
 use Rattle.c_typing.specs.Expressions.{first_word, specifiers_at, text_bytes, typed_expression}
@@ -93,15 +93,15 @@ size_or s o given (Some e) = if_fits (typed_expression s e) (λ x. at_least_one 
 
 -- ---- declarators of objects
 
--- what the declarator of an object says; a function is none, and a fault at the declared name
-abbrev pub part_type : Scope → Option ValueType → Identifier → Option ValueTree → PartTree → Checked Declared
-part_type s of name value Plain = fits (DeclaredValue of)
-part_type s of name value (Array a) =
+-- What the declarator of an object says. A function is none, whatever its parameters are, which aren't judged.
+abbrev pub part_type : Scope → Option ValueType → Option ValueTree → PartTree → Checked Declared
+part_type s of value Plain = fits (DeclaredValue of)
+part_type s of value (Array a) =
     if_fits (size_or s a.opening (count_by_value of value) a.size) (λ count. fits (DeclaredArray of count))
-part_type s of name value (Function ps) = fails TypeRule name.at
+part_type s of value (Function ps) = fits (DeclaredFunction of [])
 
 abbrev pub object_declared : Scope → Specified → DeclaratorTree → Option ValueTree → Checked Declared
-object_declared s said d value = part_type s (pointed said.base d.pointer) d.name value d.part
+object_declared s said d value = part_type s (pointed said.base d.pointer) value d.part
 
 -- The types that objects have.
 pub data ObjectType : Type 0 where
@@ -126,6 +126,17 @@ abbrev pub object_allowed : Bool → Span → Declared → Checked ObjectType
 object_allowed static at (DeclaredValue of) = value_object static at of
 object_allowed static at (DeclaredArray element count) = array_object at count element
 object_allowed static at (DeclaredFunction result parameters) = fails TypeRule at
+
+-- the same with any size, for what doesn't hang on it
+abbrev pub of_any_size : Option ValueType → PartTree → Declared
+of_any_size of Plain = DeclaredValue of
+of_any_size of (Array a) = DeclaredArray of 1
+of_any_size of (Function ps) = DeclaredFunction of []
+
+-- what the specifiers and the `*` of an object's declarator forbid, at the declared name, whatever its size is
+abbrev pub type_faults : Bool → Specified → DeclaratorTree → List Fault
+type_faults static said d =
+    faults_in (object_allowed static d.name.at (of_any_size (pointed said.base d.pointer) d.part))
 
 -- the type of an object, where it has one
 abbrev pub object_type : Bool → Scope → Specified → DeclaratorTree → Option ValueTree → Option ObjectType
@@ -167,12 +178,17 @@ parameter_faults s definition p None = if definition then fault TypeRule (first_
 parameter_faults s definition p (Some name) =
     if is_declared_here s name.name then fault Redeclared name.at ∷ [] else []
 
+-- a parameter of the type that specifiers and `*` give
+abbrev pub parameter_with : ValueType → ParameterTree → Checked ValueType
+parameter_with base p =
+    parameter_allowed (parameter_place p p.name) (parameter_declared (pointed base p.pointer) p.array)
+
+-- what the specifiers and `*` forbid is judged whatever the size is
 abbrev pub typed_parameter : Scope → Bool → ParameterTree → Checked ValueType
 typed_parameter s definition p =
     if_fits (specifiers_at InParameters p.specifiers) (λ said.
-    if_fits (parameter_size s p.array) (λ size.
-    also (parameter_faults s definition p p.name)
-    (parameter_allowed (parameter_place p p.name) (parameter_declared (pointed said.base p.pointer) p.array))))
+    also (faults_in (parameter_with said.base p)) (if_fits (parameter_size s p.array) (λ size.
+    also (parameter_faults s definition p p.name) (parameter_with said.base p))))
 
 -- a parameter that has a name and a type is a local
 abbrev pub with_named : Scope → Option Identifier → Option ValueType → Scope

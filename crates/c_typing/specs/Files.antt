@@ -6,8 +6,7 @@ use Rattle.pcc_base.specs.declared.fault.Fault.{Fault}
 use Rattle.pcc_base.specs.declared.fault.FaultKind.TheVariants.{Redeclared, TypeRule, PointerUse}
 use Rattle.c_syntax.specs.declared.expression.Identifier.{Identifier}
 use Rattle.c_syntax.specs.Declarations as trees
-use Rattle.c_syntax.specs.Declarations.{ItemTree, DeclarationTree, DeclaratorTree, ParameterTree, PartTree, ValueTree}
-use Rattle.c_syntax.specs.Declarations.{InitialiserTree, Single, Braces}
+use Rattle.c_syntax.specs.Declarations.{ItemTree, DeclarationTree, DeclaratorTree, ParameterTree, PartTree}
 use Rattle.c_syntax.specs.Statements.{Stmt, Block, Stmts, NoStmt, OneStmt, ExternalTree, FunctionTree, DeclaredTree}
 use Rattle.c_tree.specs.declared.types.ValueType.{ValueType}
 use Rattle.c_tree.specs.declared.types.ValueType.TheVariants.{Void, Integer, Pointer}
@@ -17,11 +16,11 @@ use Rattle.c_typing.specs.Library.{Entity, Library, Shared, OfFile, At, same_nam
 use Rattle.c_typing.specs.Types.{Outside, Specified, specified, is_static, is_extern, pointed, Declared}
 use Rattle.c_typing.specs.Types.{DeclaredFunction}
 use Rattle.c_typing.specs.Checked.{Contents, Elsewhere, Zeros, Checked, Fits, fits, fails, also, if_fits, both}
-use Rattle.c_typing.specs.Checked.{value_in, Defines}
+use Rattle.c_typing.specs.Checked.{faults_in, value_in, Defines}
 use Rattle.c_typing.specs.Declarators.{ObjectType, object_declared, object_allowed, with_parameters, parameters_meant}
-use Rattle.c_typing.specs.Declarators.{typed_parameters}
-use Rattle.c_typing.specs.Expressions.{first_token, specifiers_at}
-use Rattle.c_typing.specs.Initialisers.{contents_for}
+use Rattle.c_typing.specs.Declarators.{type_faults, typed_parameters}
+use Rattle.c_typing.specs.Expressions.{specifiers_at}
+use Rattle.c_typing.specs.Initialisers.{contents_for, function_initialiser}
 use Rattle.c_typing.specs.Names.{Function, Signature, Outer, Scope, entered, left, bound, linked, is_redeclared}
 use Rattle.c_typing.specs.Names.{next_file}
 use Rattle.c_typing.specs.Statements.{bound_object, stored, typed_statements, after_statements, Around}
@@ -54,11 +53,19 @@ is_library (Shared name) = false
 is_library (OfFile file name) = false
 is_library (At place) = false
 
--- A function named `main` isn't static, and the library's functions can't be defined.
-abbrev pub function_faults : Specified → Identifier → Outer → List Fault
-function_faults said name o =
-    (if same_name name.name (codes "main") && is_static said.storage then fault TypeRule name.at ∷ [] else [])
-    ++ (if is_library o.entity && o.whole then fault TypeRule name.at ∷ [] else [])
+-- the library's functions can't be defined
+abbrev pub library_faults : Identifier → Outer → List Fault
+library_faults name o = if is_library o.entity && o.whole then fault TypeRule name.at ∷ [] else []
+
+-- a function named `main` isn't static
+abbrev pub main_faults : Specified → Identifier → List Fault
+main_faults said name =
+    if same_name name.name (codes "main") && is_static said.storage then fault TypeRule name.at ∷ [] else []
+
+-- what the specifiers and the `*` of a function's declarator forbid, at the declared name, whatever its parameters are
+abbrev pub result_faults : Specified → DeclaratorTree → List Fault
+result_faults said d =
+    main_faults said d.name ++ faults_in (result_allowed d.name.at (pointed said.base d.pointer))
 
 abbrev pub signature_of : Span → Option ValueType → List ValueType → Checked Signature
 signature_of at result parameters =
@@ -68,13 +75,13 @@ abbrev pub function_declared : Scope → Specified → Identifier → Bool → O
     → Checked Signature
 function_declared s said name whole result parameters =
     let o = outer_of s said name whole (DeclaredFunction result parameters) in
-    also (redeclared_faults s name o ++ function_faults said name o) (signature_of name.at result parameters)
+    also (redeclared_faults s name o ++ library_faults name o) (signature_of name.at result parameters)
 
 -- the signature that a declarator with parameters gives, of a definition or not
 abbrev pub function_signature : Scope → Specified → DeclaratorTree → Bool → List ParameterTree → Checked Signature
 function_signature s said d whole parameters =
-    if_fits (typed_parameters (entered s) whole parameters)
-    (function_declared s said d.name whole (pointed said.base d.pointer))
+    also (result_faults said d) (if_fits (typed_parameters (entered s) whole parameters)
+    (function_declared s said d.name whole (pointed said.base d.pointer)))
 
 abbrev pub bound_function : Specified → Identifier → Bool → Option Signature → Scope → Scope
 bound_function said name whole None s = s
@@ -87,15 +94,6 @@ after_function said d whole parameters s =
     bound_function said d.name whole (value_in (function_signature s said d whole parameters)) s
 
 -- ---- items of a declaration outside functions
-
-abbrev pub first_token_of : InitialiserTree → Span
-first_token_of (Single e) = first_token e
-first_token_of (Braces o es commas trailing c) = o
-
--- a function has no initialiser
-abbrev pub no_initialiser : Option ValueTree → List Fault
-no_initialiser None = []
-no_initialiser (Some v) = fault TypeRule (first_token_of v.value) ∷ []
 
 -- what an object holds where nothing initialises it: an `extern` one is defined elsewhere, another one is zero
 abbrev pub without_value : Specified → Contents
@@ -115,18 +113,22 @@ abbrev pub after_object : Specified → ItemTree → Scope → Scope
 after_object said i s = bound_outer said i.declarator.name (is_some i.initialiser)
     (value_in (object_declared s said i.declarator i.initialiser)) s
 
-abbrev pub typed_object : Specified → ItemTree → Scope → Checked (List tree.Function)
-typed_object said i s =
+-- an object, but for what its specifiers and `*` forbid whatever its size is
+abbrev pub sized_object : Specified → ItemTree → Scope → Checked (List tree.Function)
+sized_object said i s =
     let name = i.declarator.name in
     if_fits (object_declared s said i.declarator i.initialiser) (λ type.
     let o = outer_of s said name (is_some i.initialiser) type in
     also (redeclared_faults s name o) (if_fits (object_allowed true name.at type) (λ allowed.
     stored o.entity allowed [] (contents_for (after_object said i s) allowed (without_value said) i.initialiser))))
 
+abbrev pub typed_object : Specified → ItemTree → Scope → Checked (List tree.Function)
+typed_object said i s = also (type_faults true said i.declarator) (sized_object said i s)
+
 abbrev pub typed_prototype : Specified → ItemTree → List ParameterTree → Scope → Checked (List tree.Function)
 typed_prototype said i parameters s =
-    also (no_initialiser i.initialiser)
-    (if_fits (function_signature s said i.declarator false parameters) (λ g. fits []))
+    if_fits (function_signature s said i.declarator false parameters) (λ g.
+    function_initialiser (after_function said i.declarator false parameters s) i.initialiser [])
 
 abbrev pub after_outer_item : Specified → ItemTree → PartTree → Scope → Scope
 after_outer_item said i trees.Plain s = after_object said i s

@@ -1,4 +1,4 @@
--- Initialisers of locals and of objects of static storage (C99 6.7.8).
+-- Initialisers of locals, of objects of static storage, and of functions, which have none (C99 6.7.8).
 use Rattle.std.specs.Prelude.{ℕ, zero, suc, ℤ, List, [], ◌∷◌, length, nat_le, option_map, Option, Some, None}
 use Rattle.std.specs.Prelude.{if◌then◌else◌}
 use Rattle.pcc_base.specs.declared.span.Span.{Span}
@@ -15,7 +15,7 @@ use Rattle.c_typing.specs.Checked.{Contents, Values, Checked, Fits, fits, fails,
 use Rattle.c_typing.specs.Constants.{constant_value}
 use Rattle.c_typing.specs.Declarators.{ArrayValues, Letters, Listed, NoValues, array_values, ObjectType, IntegerObject}
 use Rattle.c_typing.specs.Declarators.{PointerObject, ArrayObject}
-use Rattle.c_typing.specs.Expressions.{Given, given, first_piece, first_token, text_bytes, text_values, text_note}
+use Rattle.c_typing.specs.Expressions.{Given, arguments_for, given, first_piece, first_token, text_bytes, text_values, text_note}
 use Rattle.c_typing.specs.Expressions.{text_entity, typed_expression}
 use Rattle.c_typing.specs.Names.{Scope, object_number}
 use Rattle.c_typing.specs.Rows.{assigned}
@@ -84,3 +84,16 @@ contents_for s (IntegerObject of) otherwise (Some v) = constants_for s of 1 (sca
 contents_for s (PointerObject of) otherwise (Some v) = constants_for s of 1 (scalar_values v.value)
 contents_for s (ArrayObject element count) otherwise (Some v) =
     constants_in s element count (array_values element v.value)
+
+-- ---- functions
+
+abbrev pub first_token_of : InitialiserTree → Span
+first_token_of (Single e) = first_token e
+first_token_of (Braces o es commas trailing c) = o
+
+-- A function has no initialiser (p3): each value that stands there is judged alone, as an argument without a parameter
+-- is, and where all have types, the first token is a fault.
+abbrev pub function_initialiser : {A : Type 0} → Scope → Option ValueTree → A → Checked A
+function_initialiser s None value = fits value
+function_initialiser s (Some v) value =
+    if_fits (arguments_for [] (given s (scalar_values v.value))) (λ es. fails kinds.TypeRule (first_token_of v.value))

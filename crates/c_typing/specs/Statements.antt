@@ -24,7 +24,7 @@ use Rattle.c_typing.specs.Checked.{Contents, Zeros, Stores, Checked, Fits, Fails
 use Rattle.c_typing.specs.Checked.{both, three, four}
 use Rattle.c_typing.specs.Constants.{constant_value}
 use Rattle.c_typing.specs.Declarators.{ObjectType, IntegerObject, PointerObject, ArrayObject, object_declared}
-use Rattle.c_typing.specs.Declarators.{object_allowed, object_type}
+use Rattle.c_typing.specs.Declarators.{object_allowed, object_type, type_faults}
 use Rattle.c_typing.specs.Expressions.{specifiers_at, typed_expression, typed_if_any}
 use Rattle.c_typing.specs.Initialisers.{scalar_initialiser, array_initialiser, contents_for}
 use Rattle.c_typing.specs.Names.{Object, ObjectArray, Scope, entered, left, is_declared_here, bound, with_local}
@@ -107,13 +107,18 @@ object_item static s inside name value type =
 abbrev pub scope_faults : Scope → Identifier → List Fault
 scope_faults s name = if is_declared_here s name.name then fault Redeclared name.at ∷ [] else []
 
-abbrev pub typed_item : Specified → ItemTree → Scope → Checked (List Item)
-typed_item said i s =
+-- an item, but for what its specifiers and `*` forbid whatever its size is
+abbrev pub sized_item : Specified → ItemTree → Scope → Checked (List Item)
+sized_item said i s =
     let static = is_static said.storage in
     let name = i.declarator.name in
     if_fits (object_declared s said i.declarator i.initialiser) (λ declared.
     also (scope_faults s name) (if_fits (object_allowed static name.at declared)
     (object_item static s (after_item said i s) name i.initialiser)))
+
+-- a function is none that may stand here, and fails at its name beside what the scope says of it
+abbrev pub typed_item : Specified → ItemTree → Scope → Checked (List Item)
+typed_item said i s = also (type_faults (is_static said.storage) said i.declarator) (sized_item said i s)
 
 abbrev pub typed_items : Specified → List ItemTree → Scope → Checked (List Item)
 typed_items said [] s = fits []

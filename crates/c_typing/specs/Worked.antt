@@ -265,3 +265,47 @@ large_frame =
     (main_at 0 1 40 (OneStmt (Declared (declaration (word words.Char 0 16 ∷ []) (item (declarator None (named (codes
     "a") 0 21) (Array (array (at 0 22) (Some (Number (pos 16221) (at 0 23))) (at 0 28)))) None) (at 0 29))) (OneStmt
     (Return (at 0 31) (Some (Number (pos 0) (at 0 38))) (at 0 39)) NoStmt)) ∷ []) ∷ []
+
+-- `int f(void)=1+x;`
+abbrev pub prototype_with_value : List (List ExternalTree)
+prototype_with_value =
+    (DeclaredTree (declaration (word words.Int 0 1 ∷ []) (item (declarator None (named (codes "f") 0 5) (Function
+    (parameters (at 0 6) (parameter (word words.Void 0 7 ∷ []) None None ∷ []) (at 0 11)))) (Some (given (at 0 12)
+    (Single (Binary ops.Add (Number (pos 1) (at 0 13)) (at 0 14) (Identifier (named (codes "x") 0 15))))))) (at 0 16))
+    ∷ []) ∷ []
+
+-- `int f(void)=3;`
+abbrev pub prototype_with_number : List (List ExternalTree)
+prototype_with_number =
+    (DeclaredTree (declaration (word words.Int 0 1 ∷ []) (item (declarator None (named (codes "f") 0 5) (Function
+    (parameters (at 0 6) (parameter (word words.Void 0 7 ∷ []) None None ∷ []) (at 0 11)))) (Some (given (at 0 12)
+    (Single (Number (pos 3) (at 0 13)))))) (at 0 14)) ∷ []) ∷ []
+
+-- `int main(void){int i; int i(int x); return 0;}`
+abbrev pub function_inside : List (List ExternalTree)
+function_inside =
+    (main_at 0 1 46 (OneStmt (Declared (declaration (word words.Int 0 16 ∷ []) (item (declarator None (named (codes
+    "i") 0 20) Plain) None) (at 0 21))) (OneStmt (Declared (declaration (word words.Int 0 23 ∷ []) (item (declarator
+    None (named (codes "i") 0 27) (Function (parameters (at 0 28) (parameter (word words.Int 0 29 ∷ []) None (Some
+    (named (codes "x") 0 33)) ∷ []) (at 0 34)))) None) (at 0 35))) (OneStmt (Return (at 0 37) (Some (Number (pos 0)
+    (at 0 44))) (at 0 45)) NoStmt))) ∷ []) ∷ []
+
+-- `int *s[];`
+abbrev pub pointers_without_size : List (List ExternalTree)
+pointers_without_size =
+    (DeclaredTree (declaration (word words.Int 0 1 ∷ []) (item (declarator (Some (star (at 0 5))) (named (codes "s") 0
+    6) (Array (array (at 0 7) None (at 0 8)))) None) (at 0 9)) ∷ []) ∷ []
+
+-- `int *f(void v);`
+abbrev pub pointer_to_return : List (List ExternalTree)
+pointer_to_return =
+    (DeclaredTree (declaration (word words.Int 0 1 ∷ []) (item (declarator (Some (star (at 0 5))) (named (codes "f") 0
+    6) (Function (parameters (at 0 7) (parameter (word words.Void 0 8 ∷ []) None (Some (named (codes "v") 0 13)) ∷ [])
+    (at 0 14)))) None) (at 0 15)) ∷ []) ∷ []
+
+-- `int a; int a[0];`
+abbrev pub array_without_elements : List (List ExternalTree)
+array_without_elements =
+    (DeclaredTree (declaration (word words.Int 0 1 ∷ []) (item (declarator None (named (codes "a") 0 5) Plain) None) (at
+    0 6)) ∷ DeclaredTree (declaration (word words.Int 0 8 ∷ []) (item (declarator None (named (codes "a") 0 12) (Array
+    (array (at 0 13) (Some (Number (pos 0) (at 0 14))) (at 0 15)))) None) (at 0 16)) ∷ []) ∷ []

@@ -10,12 +10,14 @@ ghost use Rattle.c_typing.specs.Laws.{LeastIsLeast, LeastOfBoth, NumbersChangeNo
 ghost use Rattle.c_typing.specs.Laws.{OneTypedProgram, StatementsCountUp, TypedWithoutFault};
 ghost use Rattle.c_typing.specs.Typed.{elaborated, fault_of, limit_found, objects_found};
 ghost use Rattle.c_typing.specs.Worked.{
+  array_without_elements,
   at,
   case_twice,
   char_from_200,
   declared_again,
   defined_twice,
   extern_inside,
+  function_inside,
   large_frame,
   letters,
   no_body,
@@ -25,6 +27,10 @@ ghost use Rattle.c_typing.specs.Worked.{
   null_constant,
   objects_in_files,
   pointer_and_switch,
+  pointer_to_return,
+  pointers_without_size,
+  prototype_with_number,
+  prototype_with_value,
   shadows,
   short_cut,
   static_apart,
@@ -48,6 +54,18 @@ pub fn worked_faults()
     ensures label { fault_of case_twice (at 0 65) ≡ Some (fault kinds.CaseLabel (at 0 44)) }
     ensures value { fault_of no_value (at 0 11) ≡ Some (fault kinds.Initialiser (at 0 7)) }
     ensures least { fault_of two_faults (at 0 33) ≡ Some (fault kinds.NotAssignable (at 0 17)) }
+{}
+
+/// The definitions find the faults of declarators where a reader expects them: what stands in a prototype's initialiser
+/// before the initialiser itself, a name that is declared twice before the function that no body may declare, and what
+/// the specifiers and the `*` forbid at the name, also beside a faulty size or parameter, which hides all else.
+pub fn worked_declarators()
+    ensures value { fault_of prototype_with_value (at 0 17) ≡ Some (fault kinds.Undeclared (at 0 15)) }
+    ensures number { fault_of prototype_with_number (at 0 15) ≡ Some (fault kinds.TypeRule (at 0 13)) }
+    ensures body { fault_of function_inside (at 0 47) ≡ Some (fault kinds.Redeclared (at 0 27)) }
+    ensures elements { fault_of pointers_without_size (at 0 10) ≡ Some (fault kinds.PointerUse (at 0 6)) }
+    ensures result { fault_of pointer_to_return (at 0 16) ≡ Some (fault kinds.PointerUse (at 0 6)) }
+    ensures size { fault_of array_without_elements (at 0 17) ≡ Some (fault kinds.ArraySize (at 0 13)) }
 {}
 
 /// Small files have no fault where a reader expects none: a name that is shadowed, an object that is declared

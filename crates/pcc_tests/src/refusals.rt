@@ -42,12 +42,17 @@ int main(void){goto x;} => 1 a.c:1:16: 6 Unsupported goto$";
 
 /// Trees without a typed program, and typed programs above a limit.
 const TREES: &str = "\
-8 rows
+13 rows
  => 1 a.c:1:1: 18 NoMain$
 int main(void){return x;} => 1 a.c:1:23: 9 Undeclared$
 int x=1; int x; static int y; int main(void){extern int x; return 0;} => 1 a.c:1:46: 10 Type$
 int main(void){int a[2]={1,2,3};return 0;} => 1 a.c:1:30: 14 Initialiser$
 int f(int n); int main(void){return f(20);} => 1 a.c:1:37: 19 NoBody$
+int f(void)=1+x; => 1 a.c:1:15: 9 Undeclared$
+int f(void)=3; => 1 a.c:1:13: 10 Type$
+int main(void){int i; int i(int x); return 0;} => 1 a.c:1:27: 8 Redeclared$
+int *s[]; => 1 a.c:1:6: 17 PointerUse$
+int *f(void v); => 1 a.c:1:6: 17 PointerUse$
 int main(void){char a[16221]; return 0;} => 3 limit 22 Frame main 16388$
 char g[16777213]; int main(void){return 0;} => 3 limit 21 Arrays 16777220$
 int g[2000000000]; int main(void){return 0;} => 3 limit 21 Arrays 8000000004$";

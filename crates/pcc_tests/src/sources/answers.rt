@@ -31,6 +31,7 @@ fn faults(rt: HostRuntime) {
     expect_faults(&rt, alloc, declarations::SPECIFIERS);
     expect_faults(&rt, alloc, declarations::OBJECTS);
     expect_faults(&rt, alloc, declarations::PARAMETERS);
+    expect_faults(&rt, alloc, declarations::DECLARATORS);
     expect_faults(&rt, alloc, declarations::ARRAY_SIZES);
     expect_faults(&rt, alloc, declarations::REDECLARATIONS);
     expect_faults(&rt, alloc, declarations::FILES);

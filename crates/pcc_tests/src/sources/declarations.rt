@@ -64,6 +64,46 @@ int f(int n, int a@[n]); int main(void){return 0;} => ArraySize
 int f(int a[@n]); int main(void){return 0;} => Undeclared
 int f(int a[@a]); int main(void){return 0;} => Undeclared";
 
+/// Declarators with several faults (C99 6.7.5 and 6.7.8p3).
+pub const DECLARATORS: &str = "\
+36 rows
+int f(void)=1+@x; int main(void){return 0;} => Undeclared
+int f(void)={1,@y,z}; int main(void){return 0;} => Undeclared
+int f(int a)=@a; int main(void){return 0;} => Undeclared
+int f(void)=getchar(@x); int main(void){return 0;} => Undeclared
+int f(void)=5@=3; int main(void){return 0;} => NotAssignable
+int f(void)=@getchar(1); int main(void){return 0;} => ArgumentCount
+int f(void)=@f(); int main(void){return 0;} => TypeRule
+int f(void)=@1/0; int main(void){return 0;} => TypeRule
+int f(void)=@{1,2}; int main(void){return 0;} => TypeRule
+int f(void)=@\"x\"; int main(void){return 0;} => TypeRule
+int main(void){int i; int @i(int x); return 0;} => Redeclared
+int main(void){int i; int @i(void v); return 0;} => Redeclared
+int main(void){static int i, @i(void); return 0;} => Redeclared
+int f(int a){int @a(void); return 0;} int main(void){return 0;} => Redeclared
+int main(void){int i; {int @i(int x);} return 0;} => TypeRule
+int main(void){int *@f(void v); return 0;} => TypeRule
+int main(void){for(int @f(void);;)break; return 0;} => TypeRule
+int *@s[]; int main(void){return 0;} => PointerUse
+void @a[0]; int main(void){return 0;} => TypeRule
+void *@a[x]; int main(void){return 0;} => PointerUse
+int main(void){int *@a[0]; return 0;} => PointerUse
+int main(void){static int *@a[]; return 0;} => PointerUse
+int main(void){void @a[b]; return 0;} => TypeRule
+int *@f(void v); int main(void){return 0;} => PointerUse
+int *@f(int a, int a){return 0;} int main(void){return 0;} => PointerUse
+void *@f(static int x); int main(void){return 0;} => PointerUse
+static int @main(void v); => TypeRule
+int f(int *@a[0]); int main(void){return 0;} => PointerUse
+int f(@void *[x]); int main(void){return 0;} => PointerUse
+int f(int b@[0], int *a[0]); int main(void){return 0;} => ArraySize
+int a; int a@[0]; int main(void){return 0;} => ArraySize
+int main(void){int a; int a@[0]; return 0;} => ArraySize
+int f(int a, int a@[0]); int main(void){return 0;} => ArraySize
+int f(int @[0]){return 0;} int main(void){return 0;} => ArraySize
+int a; int a(void @v); int main(void){return 0;} => TypeRule
+int putchar(void @v){return 0;} int main(void){return 0;} => TypeRule";
+
 /// Sizes of arrays (C99 6.7.5.2).
 pub const ARRAY_SIZES: &str = "\
 9 rows

@@ -2,13 +2,15 @@
 
 /// What a reader might take for a fault.
 pub const TYPED: &str = "\
-39 rows
+41 rows
 int f(int f){return f;} int main(void){int x=1; {int x=2; return x+f(1);}}
 int short signed const x; signed y; char signed z; int main(void){return 0;}
 signed int w; short v; short int u; int main(void){return 0;}
 int main(void){auto int x=1; register int y; int static z=3; return x+y+z;}
 int f(register int x); int main(void){for(register int i=0;i<1;i++); for(auto int i=0;;)break; return 0;}
 int f(int, char *, short a[], int b[4]); int g(const void){return 1;} int main(){return g();}
+int f(void), g(int a[], int b[2]), h; extern int h; int main(void){int *p, a[2]; static int n; return n;}
+int i(int x); int main(void){int i; {int i; i=1;} static int s[2], t; return i=t;}
 int f(int a){{int a; return a;}} int main(void){return 0;}
 int a[(char)257]; int b[1?2:1/0]; int c[-(-3)]; int d['a'<<1]; int main(void){return 0;}
 int a[]={1,2}; int a[2]; char s[]=\"ab\"; char s[3]; int main(void){return 0;}

@@ -1,29 +1,18 @@
-use Rattle.std.proofs.lemmas.Result.{IfOk-weaker}
+use Rattle.std.proofs.Common.{ap, ◌∙◌, Bool}
 use Rattle.c_syntax.specs.Declarations.{item_of}
+use Rattle.c_typing.specs.Declarators.{type_faults}
+use Rattle.c_typing.specs.Statements.{sized_item}
+use Rattle.c_typing.specs.Types.{is_static}
 use Rattle.c_check_declarators.specs.Views.{specified_of}
-use Rattle.c_check_declarations.proofs.Itemised.{item_fails, item_fails_scope, item_fits, item_fits_scope, on_ok}
+use Rattle.c_check_declarators.proofs.Rows.{faults_said}
+use Rattle.c_check_declarations.specs.Answers.{AreItem}
 use Rattle.c_check_declarations.proofs.items.item.Goals as goal
 
-pub returns-in-Fails-clause-said : goal.returns-in-Fails-clause-said
-returns-in-Fails-clause-said c = item_fails c.args.scopes.now (specified_of c.args.said) (item_of c.args.item.now)
-    c.in_ok-fault.field-0 c.in-Fails.fault c.args.notes.now c.object_declared.new.notes c.in_ok-fault.ensures
-    c.in-Fails.is
-
-pub returns-in-Fails-clause-scope : goal.returns-in-Fails-clause-scope
-returns-in-Fails-clause-scope c = item_fails_scope c.args.scopes.now (specified_of c.args.said)
-    (item_of c.args.item.now) c.in_ok-fault.field-0 c.in-Fails.fault c.args.notes.now c.object_declared.new.notes
-    c.in_ok-fault.ensures c.in-Fails.is
-
-pub returns-in-Fits-clause-said : goal.returns-in-Fits-clause-said
-returns-in-Fits-clause-said c = IfOk-weaker c.declared_item.result _ _ (λ part h.
-    item_fits c.args.scopes.now (specified_of c.args.said) (item_of c.args.item.now) c.is_static-is_static.result
-    c.in_ok-fault.field-0 c.in-Fits.declared part c.args.notes.now c.object_declared.new.notes
-    c.declared_item.new.notes c.in_ok-fault.ensures c.in-Fits.is c.is_static-is_static.ensures h)
-    c.declared_item.ensures.said
-
-pub returns-in-Fits-clause-scope : goal.returns-in-Fits-clause-scope
-returns-in-Fits-clause-scope c = on_ok c.declared_item.result _ _ (λ h.
-    item_fits_scope c.args.scopes.now c.declared_item.new.scopes (specified_of c.args.said)
-    (item_of c.args.item.now) c.is_static-is_static.result c.in_ok-fault.field-0 c.in-Fits.declared c.args.notes.now
-    c.object_declared.new.notes c.in_ok-fault.ensures c.in-Fits.is c.is_static-is_static.ensures h)
-    c.declared_item.ensures.scope
+pub returns-clause-said : goal.returns-clause-said
+returns-clause-said c =
+    let said = specified_of c.args.said in
+    let i = item_of c.args.item.now in
+    faults_said AreItem c.type_fault-fault.result (type_faults (is_static said.storage) said i.declarator)
+    (sized_item said i c.args.scopes.now) c.in_ok-part.part c.also.result c.args.notes.now c.sized_item.new.notes
+    (c.type_fault-fault.ensures ∙ ap (λ (b : Bool). type_faults b said i.declarator) c.is_static.ensures)
+    c.also.ensures c.in_ok-part.ensures.said

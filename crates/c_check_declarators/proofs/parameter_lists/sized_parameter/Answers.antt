@@ -1,17 +1,25 @@
-use Rattle.std.proofs.Common.{ap, ◌∙◌, Option}
-use Rattle.c_tree.specs.declared.types.ValueType.{ValueType}
+use Rattle.std.proofs.Common.{ℕ, subst}
 use Rattle.c_syntax.specs.Declarations.{parameter_of}
-use Rattle.c_typing.specs.Declarators.{parameter_declared, parameter_faults, parameter_place}
-use Rattle.c_typing.specs.Types.{pointed}
-use Rattle.c_check_declarators.proofs.Sized.{allowed_said}
+use Rattle.c_typing.specs.Checked.{also}
+use Rattle.c_typing.specs.Declarators.{parameter_faults}
+use Rattle.c_operands.specs.declared.judged.Judged.{Judged}
+use Rattle.c_expressions.specs.Said.{IsSaid}
+use Rattle.c_check_declarators.specs.Answers.{IsSame}
+use Rattle.c_check_declarators.proofs.Rows.{fails_said, faults_said, then_said}
 use Rattle.c_check_declarators.proofs.parameter_lists.sized_parameter.Goals as goal
 
-pub returns : goal.returns
-returns c =
+pub returns-in-Fails : goal.returns-in-Fails
+returns-in-Fails c = λ size of before after said row.
     let q = parameter_of c.args.p.now in
-    allowed_said c.parameter_fault-fault.result (parameter_faults c.args.scopes.now c.args.definition q q.name)
-    c.parameter_place.result (parameter_place q q.name) c.parameter_declared-of.result
-    (parameter_declared (pointed c.args.base q.pointer) q.array) c.parameter_allowed.result c.also.result
-    c.parameter_fault-fault.ensures c.parameter_place.ensures
-    (c.parameter_declared-of.ensures ∙ ap (λ (t : Option ValueType). parameter_declared t q.array) c.pointed.ensures)
-    c.also.ensures c.parameter_allowed.ensures
+    fails_said IsSame IsSame (λ count. also (parameter_faults c.args.scopes.now c.args.definition q q.name) of) size
+    c.in-Fails.fault before after after
+    (subst (λ (z : Judged ℕ). IsSaid IsSame size z before after) c.in-Fails.is said)
+
+pub returns-in-Fits : goal.returns-in-Fits
+returns-in-Fits c = λ size of before after said row.
+    let q = parameter_of c.args.p.now in
+    let fs = parameter_faults c.args.scopes.now c.args.definition q q.name in
+    then_said IsSame IsSame (λ count. also fs of) size c.in-Fits.field-0 c.also.result before after after
+    (subst (λ (z : Judged ℕ). IsSaid IsSame size z before after) c.in-Fits.is said)
+    (λ count same. faults_said IsSame c.parameter_fault.result fs of c.args.of c.also.result after after
+    c.parameter_fault.ensures c.also.ensures (row after))

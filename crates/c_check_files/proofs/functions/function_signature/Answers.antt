@@ -1,19 +1,13 @@
-use Rattle.std.proofs.Common.{map}
-use Rattle.std.proofs.lemmas.Result.{IfOk-weaker}
+use Rattle.std.proofs.Common.{refl, map}
 use Rattle.c_syntax.specs.Declarations.{declarator_of, parameter_of}
 use Rattle.c_check_declarators.specs.Views.{specified_of}
-use Rattle.c_check_files.proofs.Signatures.{signature_fails, signature_fits}
+use Rattle.c_check_files.proofs.Signatures.{signature_said}
 use Rattle.c_check_files.proofs.functions.function_signature.Goals as goal
 
-pub returns-in-Fails-clause-said : goal.returns-in-Fails-clause-said
-returns-in-Fails-clause-said c = signature_fails c.args.scopes.now (specified_of c.args.said)
-    (declarator_of c.args.declarator.now) c.args.whole (map parameter_of c.args.parameters.now) c.in_ok-fault.field-0
-    c.in-Fails.fault c.args.notes.now c.parameters_apart.new.notes c.in_ok-fault.ensures.said c.in-Fails.is
-
-pub returns-in-Fits-clause-said : goal.returns-in-Fits-clause-said
-returns-in-Fits-clause-said c = IfOk-weaker c.function_declared.result _ _ (λ part h.
-    signature_fits c.args.scopes.now c.parameters_apart.new.scopes (specified_of c.args.said)
-    (declarator_of c.args.declarator.now) c.args.whole (map parameter_of c.args.parameters.now) c.in_ok-fault.field-0
-    c.in-Fits.types c.pointed-of.result part c.args.notes.now c.parameters_apart.new.notes c.in_ok-fault.ensures.said
-    c.in-Fits.is c.in_ok-fault.ensures.scope c.pointed-of.ensures h)
-    c.function_declared.ensures
+pub returns-clause-said : goal.returns-clause-said
+returns-clause-said c = signature_said c.args.scopes.now (specified_of c.args.said)
+    (declarator_of c.args.declarator.now) c.args.whole (map parameter_of c.args.parameters.now) c.pointed-of.result
+    c.main_fault-main.result c.result_fault-result.result c.in_ok-part.part c.also-allowed.result c.also.result
+    c.args.notes.now c.signature_with.new.notes c.pointed-of.ensures
+    (c.main_fault-main.ensures (specified_of c.args.said) refl) c.result_fault-result.ensures c.also-allowed.ensures
+    c.also.ensures c.in_ok-part.ensures.said
