@@ -329,9 +329,9 @@ fn item(
         (typed_item (specified_of said) (item_of item.now) scopes.old) j notes.old notes.new) }
     ensures scope { OnOk result (scopes.new ≡ after_item (specified_of said) (item_of item.now) scopes.old) }
 {
-    let fault = type_fault(is_static(said.storage), said, &item.declarator);
+    let forbidden = type_fault(is_static(said.storage), said, &item.declarator);
     let part = sized_item(alloc, scopes, notes, said, item)?;
-    Ok(also(fault, part))
+    Ok(also(forbidden, part))
 }
 
 /// The items of a list, one behind the other.

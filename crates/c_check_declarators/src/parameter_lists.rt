@@ -175,10 +175,10 @@ fn based_parameter(
         also (parameter_faults scopes.now definition q q.name) (parameter_with base q)))) j notes.old notes.new) }
 {
     let of = parameter_with(base, p);
-    let fault = fault_of(&of);
+    let forbidden = fault_of(&of);
     let size = parameter_size(alloc, scopes, notes, &p.array)?;
     let part = sized_parameter(scopes, definition, p, size, of);
-    Ok(also(fault, part))
+    Ok(also(forbidden, part))
 }
 
 /// The type of a parameter.

@@ -175,7 +175,7 @@ pub(crate) fn object(
         (typed_object (specified_of said) (item_of item.now) scopes.old) j notes.old notes.new) }
     ensures scope { OnOk result (scopes.new ≡ after_object (specified_of said) (item_of item.now) scopes.old) }
 {
-    let fault = type_fault(true, said, &item.declarator);
+    let forbidden = type_fault(true, said, &item.declarator);
     let part = sized_object(alloc, scopes, notes, said, item)?;
-    Ok(also(fault, part))
+    Ok(also(forbidden, part))
 }

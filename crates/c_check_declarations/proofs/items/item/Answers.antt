@@ -12,7 +12,7 @@ pub returns-clause-said : goal.returns-clause-said
 returns-clause-said c =
     let said = specified_of c.args.said in
     let i = item_of c.args.item.now in
-    faults_said AreItem c.type_fault-fault.result (type_faults (is_static said.storage) said i.declarator)
+    faults_said AreItem c.type_fault-forbidden.result (type_faults (is_static said.storage) said i.declarator)
     (sized_item said i c.args.scopes.now) c.in_ok-part.part c.also.result c.args.notes.now c.sized_item.new.notes
-    (c.type_fault-fault.ensures ∙ ap (λ (b : Bool). type_faults b said i.declarator) c.is_static.ensures)
+    (c.type_fault-forbidden.ensures ∙ ap (λ (b : Bool). type_faults b said i.declarator) c.is_static.ensures)
     c.also.ensures c.in_ok-part.ensures.said

@@ -12,9 +12,9 @@ returns c =
     let q = parameter_of c.args.p.now in
     let s = c.args.scopes.now in
     let of = parameter_with c.args.base q in
-    faults_said IsSame c.fault_of-fault.result (faults_in of)
+    faults_said IsSame c.fault_of-forbidden.result (faults_in of)
     (if_fits (parameter_size s q.array) (λ size. also (parameter_faults s c.args.definition q q.name) of))
     c.sized_parameter-part.result c.also.result c.args.notes.now c.parameter_size.new.notes
-    (ap listed c.fault_of-fault.ensures ∙ c.parameter_with-of.ensures.fault) c.also.ensures
+    (ap listed c.fault_of-forbidden.ensures ∙ c.parameter_with-of.ensures.fault) c.also.ensures
     (c.sized_parameter-part.ensures (parameter_size s q.array) of c.args.notes.now c.parameter_size.new.notes
     c.in_ok-size.ensures c.parameter_with-of.ensures.said)

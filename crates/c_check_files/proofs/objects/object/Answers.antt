@@ -11,6 +11,6 @@ pub returns-clause-said : goal.returns-clause-said
 returns-clause-said c =
     let said = specified_of c.args.said in
     let i = item_of c.args.item.now in
-    faults_said AreNone c.type_fault-fault.result (type_faults true said i.declarator)
+    faults_said AreNone c.type_fault-forbidden.result (type_faults true said i.declarator)
     (sized_object said i c.args.scopes.now) c.in_ok-part.part c.also.result c.args.notes.now c.sized_object.new.notes
-    c.type_fault-fault.ensures c.also.ensures c.in_ok-part.ensures.said
+    c.type_fault-forbidden.ensures c.also.ensures c.in_ok-part.ensures.said
