@@ -21,7 +21,7 @@ ghost use Rattle.c_typing.specs.Files.{
 ghost use Rattle.c_typing.specs.Initialisers.{first_token_of, function_initialiser};
 ghost use Rattle.c_typing.specs.Library.{same_name};
 ghost use Rattle.c_typing.specs.Names.{entered, linked};
-ghost use Rattle.c_typing.specs.Types.{DeclaredFunction, Specified as Specifiers, is_static};
+ghost use Rattle.c_typing.specs.Types.{DeclaredFunction, is_static};
 ghost use Rattle.c_bindings.specs.Views as views;
 ghost use Rattle.c_expressions.specs.Arguments.{AreArguments};
 ghost use Rattle.c_expressions.specs.Said.{IsSaid};
@@ -76,11 +76,10 @@ fn is_main(name: &[u8]) -> bool
 }
 
 /// The fault of a function named `main` that is static.
-fn main_fault(storage: Storage, name: &Identifier) -> Option<Fault>
-    ensures { (said : Specifiers) → said.storage ≡ views.storage_of storage
-        → listed result ≡ main_faults said name.now }
+fn main_fault(said: Specified, name: &Identifier) -> Option<Fault>
+    ensures { listed result ≡ main_faults (specified_of said) name.now }
 {
-    if is_main(name.name.as_bytes()) && is_static(storage) {
+    if is_main(name.name.as_bytes()) && is_static(said.storage) {
         return Some(Fault {
             kind: FaultKind::TypeRule,
             at: name.at,
@@ -201,7 +200,7 @@ pub fn function_signature(
 {
     let name = &declarator.name;
     let of = pointed(said.base, &declarator.pointer);
-    let main = main_fault(said.storage, name);
+    let main = main_fault(said, name);
     let result = result_fault(name.at, of);
     let part = signature_with(alloc, scopes, notes, said, name, of, whole, parameters)?;
     let allowed = also(result, part);

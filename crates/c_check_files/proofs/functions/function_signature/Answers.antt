@@ -1,4 +1,4 @@
-use Rattle.std.proofs.Common.{refl, map}
+use Rattle.std.proofs.Common.{map}
 use Rattle.c_syntax.specs.Declarations.{declarator_of, parameter_of}
 use Rattle.c_check_declarators.specs.Views.{specified_of}
 use Rattle.c_check_files.proofs.Signatures.{signature_said}
@@ -9,5 +9,5 @@ returns-clause-said c = signature_said c.args.scopes.now (specified_of c.args.sa
     (declarator_of c.args.declarator.now) c.args.whole (map parameter_of c.args.parameters.now) c.pointed-of.result
     c.main_fault-main.result c.result_fault-result.result c.in_ok-part.part c.also-allowed.result c.also.result
     c.args.notes.now c.signature_with.new.notes c.pointed-of.ensures
-    (c.main_fault-main.ensures (specified_of c.args.said) refl) c.result_fault-result.ensures c.also-allowed.ensures
-    c.also.ensures c.in_ok-part.ensures.said
+    c.main_fault-main.ensures c.result_fault-result.ensures c.also-allowed.ensures c.also.ensures
+    c.in_ok-part.ensures.said
