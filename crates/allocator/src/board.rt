@@ -10,6 +10,7 @@ use allocator_points::areas_of;
 use pcc_base::NoMemory;
 use puzzle_board::Board;
 use std::alloc::Global;
+use std::sync::ledger::Ledger;
 
 /// The board of a point of a block (Quintão Pereira and Palsberg, PLDI 2008, section 2): areas 0 to 3 are EAX, EBX, ECX
 /// and EDX, and the pieces are those of the variables that are live there, but none that the op fixes. It takes time
@@ -18,7 +19,11 @@ use std::alloc::Global;
 /// # Errors
 ///
 /// Want of memory.
-pub fn board_of(alloc: Global, form: &Elementary, point: u32) -> Result<Board, NoMemory>
+pub fn board_of<L: Ledger>(
+    alloc: Global,
+    form: &Elementary,
+    point: u32,
+) -> Result<Board<L>, NoMemory>
     requires placed { IsPlaced form.now.graph point }
     requires few { length form.now.graph.widths < 2147483648 }
     ensures { IfOk result (λ board. puzzle_at form.now.graph form.now.lives point ≡ Some board) }

@@ -6,33 +6,21 @@ ghost use Rattle.allocator_boards.specs.Solutions.{spots_of};
 use pcc_base::{NoMemory, Steps};
 use puzzle_board::{Board, Spot};
 use std::alloc::Global;
-use std::marker::Brand;
-use std::sync::ledger::{Blank, Ledger};
+use std::sync::ledger::Ledger;
 
-/// The spots of a board's pieces, with a counter of steps, which the board asks for.
-fn spots_counted<L: Ledger>(
+/// The spots of a board's pieces.
+pub fn spots_on<L: Ledger>(
     alloc: Global,
-    board: &Board,
-    blank: Blank,
+    board: &Board<L>,
+    steps: &mut Steps<L>,
 ) -> Result<Vec<Option<Spot>>, NoMemory>
-    requires name { blank.name ≡ L.name }
-    requires parts { blank.parts ≡ L.parts }
-    requires one { L.parts ≡ 1 }
     ensures { IfOk result (λ spots. spots.items ≡ spots_of board.now.states) }
 {
     board.is_board();
-    let mut steps = Steps::<L>::new(blank);
-    let pieces = board.pieces(&mut steps);
+    let pieces = board.pieces(steps);
     let mut spots = Vec::new(alloc);
     for piece in 0..pieces {
-        spots.push(board.spot(piece, &mut steps))?;
+        spots.push(board.spot(piece, steps))?;
     }
     Ok(spots)
-}
-
-/// The spots of a board's pieces.
-pub fn spots_on(alloc: Global, board: &Board) -> Result<Vec<Option<Spot>>, NoMemory>
-    ensures { IfOk result (λ spots. spots.items ≡ spots_of board.now.states) }
-{
-    spots_counted::<Brand>(alloc, board, Blank::new(1))
 }

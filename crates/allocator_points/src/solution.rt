@@ -12,17 +12,49 @@ use crate::registers::areas_of;
 use allocator_boards::{Elementary, board_with, candidates_of, spots_on};
 use flow_graph::Op;
 use liveness::Distances;
-use pcc_base::NoMemory;
+use pcc_base::{NoMemory, Steps};
 use puzzle_board::{Piece, Spot};
 use puzzle_choices::spill_order;
 use puzzle_solver::fit;
 use std::alloc::Global;
+use std::marker::Brand;
+use std::sync::ledger::{Blank, Ledger};
 
 /// What becomes of a point's board: the variables that are spilled, and the spot of each piece that stands.
 #[derive(Drop)]
 pub struct Solution {
     pub spilled: Vec<u32>,
     pub spots: Vec<Option<Spot>>,
+}
+
+/// The same with a counter of steps, which the board asks for.
+fn solve_counted<L: Ledger>(
+    alloc: Global,
+    form: &Elementary,
+    distances: &Distances,
+    point: u32,
+    op: &Op,
+    pieces: &[Piece],
+    blank: Blank,
+) -> Result<Solution, NoMemory>
+    requires distances { AreDistances form.now.graph distances.now }
+    requires few { length pieces.now ≤ 4294967295 }
+    requires order { AreInOrder pieces.now }
+    requires pieces { pieces.now ≡ boards.point_pieces form.now.graph form.now.lives point op.now }
+    requires name { blank.name ≡ L.name }
+    requires parts { blank.parts ≡ L.parts }
+    requires one { L.parts ≡ 1 }
+    ensures spilled { IfOk result (λ s. IsSpilledAt form.now.graph form.now.lives point op.now s.spilled.items) }
+    ensures of_pieces { IfOk result (λ s. AllByRecursion (HasPiece pieces.now) s.spilled.items) }
+    ensures spots { IfOk result (λ s. AreSpots (boards.areas_of op.now) pieces.now s.spilled.items s.spots.items) }
+{
+    let candidates = candidates_of(alloc, distances, point, pieces)?;
+    let order = spill_order(alloc, &candidates)?;
+    let mut board = board_with::<L>(alloc, &areas_of(op), pieces)?;
+    let mut steps = Steps::<L>::new(blank);
+    let spilled = fit(alloc, &mut board, &order, &mut steps)?;
+    let spots = spots_on(alloc, &board, &mut steps)?;
+    Ok(Solution { spilled, spots })
 }
 
 /// Solves a point's board, of which these are the pieces, with as few variables spilled as the spill order allows.
@@ -42,10 +74,13 @@ pub fn solve_point(
     ensures of_pieces { IfOk result (λ s. AllByRecursion (HasPiece pieces.now) s.spilled.items) }
     ensures spots { IfOk result (λ s. AreSpots (boards.areas_of op.now) pieces.now s.spilled.items s.spots.items) }
 {
-    let candidates = candidates_of(alloc, distances, point, pieces)?;
-    let order = spill_order(alloc, &candidates)?;
-    let mut board = board_with(alloc, &areas_of(op), pieces)?;
-    let spilled = fit(alloc, &mut board, &order)?;
-    let spots = spots_on(alloc, &board)?;
-    Ok(Solution { spilled, spots })
+    solve_counted::<Brand>(
+        alloc,
+        form,
+        distances,
+        point,
+        op,
+        pieces,
+        Blank::new(1),
+    )
 }

@@ -8,22 +8,25 @@ ghost use Rattle.std.specs.Prelude.{◌≡◌, ◌<◌, ◌≤◌, ◌+◌, ◌*
 use crate::building::{add_var, append, empty_graph};
 use crate::expected::expect;
 use allocator::{allocate, board_of};
-use allocator_boards::split;
+use allocator_boards::{Elementary, split};
 use flow_graph::{Graph, Op};
 use liveness::{live, next_use};
 use pcc_base::Steps;
-use puzzle_board::{Board, PointMap};
+use puzzle_board::PointMap;
 use std::alloc::Global;
 use std::marker::Brand;
 use std::process::Abort;
 use std::sync::ledger::{Blank, Ledger};
 
-/// A board of four areas and one piece.
-fn expect_board<L: Ledger>(rt: &impl Abort, board: &Board, blank: Blank)
+/// The board of point 1 has four areas and one piece.
+fn expect_board<L: Ledger>(rt: &impl Abort, alloc: Global, form: &Elementary, blank: Blank)
+    requires placed { IsPlaced form.now.graph 1 }
+    requires few { length form.now.graph.widths < 2147483648 }
     requires name { blank.name ≡ L.name }
     requires parts { blank.parts ≡ L.parts }
     requires one { L.parts ≡ 1 }
 {
+    let board = board_of::<L>(alloc, form, 1).expect(rt, "a board");
     let mut steps = Steps::<L>::new(blank);
     let counts = (board.areas(&mut steps), board.pieces(&mut steps));
     expect(rt, &counts, &(4, 1), "areas and pieces");
@@ -59,8 +62,7 @@ fn expect_places(rt: &impl Abort, alloc: Global, graph: &Graph)
     let distances = next_use(alloc, graph).expect(rt, "distances");
     let map = allocate(alloc, &form, &distances).expect(rt, "a map");
     expect_register(rt, &map);
-    let board = board_of(alloc, &form, 1).expect(rt, "a board");
-    expect_board::<Brand>(rt, &board, Blank::new(1));
+    expect_board::<Brand>(rt, alloc, &form, Blank::new(1));
 }
 
 /// A variable that is defined at one point and read at the next.

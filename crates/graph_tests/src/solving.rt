@@ -14,7 +14,11 @@ use std::process::Abort;
 use std::sync::ledger::{Blank, Ledger};
 
 /// A board of these areas and pieces.
-fn board_of(alloc: Global, areas: &[Area], pieces: &[Piece]) -> Result<Board, NoMemory>
+fn board_of<L: Ledger>(
+    alloc: Global,
+    areas: &[Area],
+    pieces: &[Piece],
+) -> Result<Board<L>, NoMemory>
     requires areas { length areas.now ≤ 16 }
     requires pieces { length pieces.now ≤ 16 }
     ensures stands { IfOk result (λ board. standing board ≡ []) }
@@ -41,7 +45,7 @@ fn spots_with<L: Ledger>(
     requires one { L.parts ≡ 1 }
 {
     let mut steps = Steps::<L>::new(blank);
-    let mut board = board_of(alloc, areas, pieces)?;
+    let mut board = board_of::<L>(alloc, areas, pieces)?;
     if !solve(&mut board, &mut steps) {
         return Ok(None);
     }
@@ -64,7 +68,7 @@ pub(crate) fn spots(
 }
 
 /// A board of one empty area and so many pieces Y of width One, each of its own variable.
-fn narrow_board(alloc: Global, pieces: u32) -> Result<Board, NoMemory>
+fn narrow_board<L: Ledger>(alloc: Global, pieces: u32) -> Result<Board<L>, NoMemory>
     ensures stands { IfOk result (λ board. standing board ≡ []) }
     ensures areas { IfOk result (λ board. length board.areas ≡ 1) }
 {
@@ -105,7 +109,7 @@ pub(crate) fn takes(rt: &impl Abort, alloc: Global, pieces: u32) -> bool {
 }
 
 /// Four empty areas, and a piece Y of width One for each of these variables.
-fn board_for(alloc: Global, candidates: &[Candidate]) -> Result<Board, NoMemory>
+fn board_for<L: Ledger>(alloc: Global, candidates: &[Candidate]) -> Result<Board<L>, NoMemory>
     requires { length candidates.now ≤ 16 }
     ensures stands { IfOk result (λ board. standing board ≡ []) }
     ensures remain { IfOk result (λ board. remaining board ≡ map narrow_of candidates.now) }
@@ -129,12 +133,19 @@ fn board_for(alloc: Global, candidates: &[Candidate]) -> Result<Board, NoMemory>
 /// The spill order of at most 16 variables, and those of them that are spilled on four empty areas where each is a
 /// piece Y
 /// of width One.
-fn spilled(alloc: Global, candidates: &[Candidate]) -> Result<(Vec<u32>, Vec<u32>), NoMemory>
-    requires { length candidates.now ≤ 16 }
+fn spilled_with<L: Ledger>(
+    alloc: Global,
+    candidates: &[Candidate],
+    blank: Blank,
+) -> Result<(Vec<u32>, Vec<u32>), NoMemory>
+    requires few { length candidates.now ≤ 16 }
+    requires name { blank.name ≡ L.name }
+    requires parts { blank.parts ≡ L.parts }
+    requires one { L.parts ≡ 1 }
 {
     let order = spill_order(alloc, candidates)?;
-    let mut board = board_for(alloc, candidates)?;
-    let removed = fit(alloc, &mut board, &order)?;
+    let mut board = board_for::<L>(alloc, candidates)?;
+    let removed = fit(alloc, &mut board, &order, &mut Steps::<L>::new(blank))?;
     Ok((order, removed))
 }
 
@@ -152,5 +163,5 @@ pub(crate) fn spilled_at(
         })?;
     }
     assert!(rt; candidates.len() <= 16);
-    spilled(alloc, &candidates)
+    spilled_with::<Brand>(alloc, &candidates, Blank::new(1))
 }

@@ -22,11 +22,12 @@ fn solved_with<L: Ledger>(
     requires parts { blank.parts ≡ L.parts }
     requires one { L.parts ≡ 1 }
 {
-    let mut board = read_board(alloc, text)?;
-    if !solve(&mut board, &mut Steps::<L>::new(blank)) {
+    let mut board = read_board::<L>(alloc, text)?;
+    let mut steps = Steps::<L>::new(blank);
+    if !solve(&mut board, &mut steps) {
         return Ok(None);
     }
-    Ok(Some(print_placement(alloc, &board)?))
+    Ok(Some(print_placement(alloc, &board, &mut steps)?))
 }
 
 /// Each text of a board gives the text of its placement, or that it has none or is no board.

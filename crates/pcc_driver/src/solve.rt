@@ -22,22 +22,37 @@ use std::sync::ledger::{Blank, Ledger};
 
 /// The answer on a board on which nothing stands: the text of a legal placement of its pieces, or `none`. The only
 /// refusal is want of memory.
-fn answer_counted<L: Ledger>(
+fn answer_on<L: Ledger>(
     alloc: Global,
-    board: &mut Board,
-    blank: Blank,
+    board: &mut Board<L>,
+    steps: &mut Steps<L>,
 ) -> Result<Vec<u8>, NoMemory>
     requires fresh { board.old ≡ fresh_board board.old.areas board.old.pieces }
+    ensures { IfOk result (λ answer. IsAnswer board.old.areas board.old.pieces answer.items) }
+{
+    if puzzle_solver::solve(board, steps) {
+        return print_placement(alloc, board, steps);
+    }
+    Ok(Vec::from_slice(alloc, b"none\n")?)
+}
+
+/// The same of the board of a text, with a counter of steps, which the board asks for; or why it has none.
+fn answer_counted<L: Ledger>(alloc: Global, text: &[u8], blank: Blank) -> Result<Vec<u8>, Report>
+    requires few { length text.now ≤ 4294967295 }
     requires name { blank.name ≡ L.name }
     requires parts { blank.parts ≡ L.parts }
     requires one { L.parts ≡ 1 }
-    ensures { IfOk result (λ answer. IsAnswer board.old.areas board.old.pieces answer.items) }
+    ensures { MatchResult result (λ answer. IsSolution text.now answer.items) (GivesNoAnswer text.now) }
 {
-    let mut steps = Steps::<L>::new(blank);
-    if puzzle_solver::solve(board, &mut steps) {
-        return print_placement(alloc, board);
+    let mut board = match read_board::<L>(alloc, text) {
+        Ok(board) => board,
+        Err(BoardRefusal::BadBoard) => return Err(Report::BadBoard),
+        Err(BoardRefusal::NoMemory) => return Err(Report::NoMemory),
+    };
+    match answer_on(alloc, &mut board, &mut Steps::<L>::new(blank)) {
+        Ok(answer) => Ok(answer),
+        Err(NoMemory) => Err(Report::NoMemory),
     }
-    Ok(Vec::from_slice(alloc, b"none\n")?)
 }
 
 /// The answer on the board of a text, or why it has none.
@@ -45,15 +60,7 @@ fn answer_of(alloc: Global, text: &[u8]) -> Result<Vec<u8>, Report>
     requires { length text.now ≤ 4294967295 }
     ensures { MatchResult result (λ answer. IsSolution text.now answer.items) (GivesNoAnswer text.now) }
 {
-    let mut board = match read_board(alloc, text) {
-        Ok(board) => board,
-        Err(BoardRefusal::BadBoard) => return Err(Report::BadBoard),
-        Err(BoardRefusal::NoMemory) => return Err(Report::NoMemory),
-    };
-    match answer_counted::<Brand>(alloc, &mut board, Blank::new(1)) {
-        Ok(answer) => Ok(answer),
-        Err(NoMemory) => Err(Report::NoMemory),
-    }
+    answer_counted::<Brand>(alloc, text, Blank::new(1))
 }
 
 /// Puts an answer on the output.

@@ -14,14 +14,15 @@ use crate::waiting::{
 use index_lists::IndexLists;
 use pcc_base::{NoMemory, Steps, Width};
 use std::alloc::Global;
-use std::marker::{Brand, Model};
+use std::marker::{Brand, Model, PhantomData};
 use std::sync::ledger::{Blank, Ledger};
 
 /// A board: areas, the cells of them that are free, and pieces, each of which is unplaced, placed or removed. A
 /// contract sees a `Puzzle`. The areas stand in lists by kind, and the unplaced pieces in lists by kind and width
-/// (`specs/Stored.antt`). The calls that read the board or place a piece count their steps.
+/// (`specs/Stored.antt`). The board names the ledger `L` of its counter: each call that reads the board or places a
+/// piece counts its steps there, and there is no second counter of a ledger.
 #[derive(Drop)]
-pub struct Board {
+pub struct Board<L: Ledger> {
     areas: Vec<Area>,
     free: Vec<Area>,
     pieces: Vec<Piece>,
@@ -29,9 +30,10 @@ pub struct Board {
     by_kind: IndexLists,
     waiting: IndexLists,
     ascending: bool,
+    counted: PhantomData<L>,
 }
 
-impl Model for Board {
+impl<L: Ledger> Model for Board<L> {
     ghost use Rattle.puzzle_board.specs.Boards.{Puzzle};
     ghost use Rattle.puzzle_board.specs.Stored.{IsStored};
 
@@ -50,9 +52,9 @@ const KINDS: u32 = 10;
 /// How many lists there are of unplaced pieces, one for each kind and width.
 const SORTS: u32 = 6;
 
-impl Board {
+impl<L: Ledger> Board<L> {
     /// A board with these areas and no pieces.
-    pub fn new(alloc: Global, areas: &[Area]) -> Result<Board, NoMemory>
+    pub fn new(alloc: Global, areas: &[Area]) -> Result<Board<L>, NoMemory>
         requires { length areas.now ≤ 4294967295 }
         ensures { MatchResult result (λ board. board ≡ board_of areas.now) (λ _. ⊤) }
     {
@@ -66,6 +68,7 @@ impl Board {
             by_kind,
             waiting: IndexLists::new(alloc, 0, SORTS)?,
             ascending: true,
+            counted: PhantomData,
         })
     }
 
@@ -125,7 +128,7 @@ impl Board {
     }
 
     /// Where a piece stands. None where it is unplaced or removed.
-    pub fn spot<L: Ledger>(&self, piece: u32, steps: &mut Steps<L>) -> Option<Spot>
+    pub fn spot(&self, piece: u32, steps: &mut Steps<L>) -> Option<Spot>
         requires { piece < length self.now.pieces }
         ensures value { result ≡ spot_of self.now piece }
         ensures ticks { steps.new ≡ steps.old + 1 }
@@ -138,7 +141,7 @@ impl Board {
     }
 
     /// The cells of an area that are free now.
-    pub fn class<L: Ledger>(&self, area: u32, steps: &mut Steps<L>) -> Area
+    pub fn class(&self, area: u32, steps: &mut Steps<L>) -> Area
         requires { area < length self.now.areas }
         ensures value { slice_get (free_areas self.now) area ≡ Some result }
         ensures ticks { steps.new ≡ steps.old + 1 }
@@ -148,7 +151,7 @@ impl Board {
     }
 
     /// The number of areas.
-    pub fn areas<L: Ledger>(&self, steps: &mut Steps<L>) -> u32
+    pub fn areas(&self, steps: &mut Steps<L>) -> u32
         ensures value { result ≡ length self.now.areas }
         ensures ticks { steps.new ≡ steps.old + 1 }
     {
@@ -157,7 +160,7 @@ impl Board {
     }
 
     /// The number of pieces, with the removed ones.
-    pub fn pieces<L: Ledger>(&self, steps: &mut Steps<L>) -> u32
+    pub fn pieces(&self, steps: &mut Steps<L>) -> u32
         ensures value { result ≡ length self.now.pieces }
         ensures ticks { steps.new ≡ steps.old + 1 }
     {
@@ -166,7 +169,7 @@ impl Board {
     }
 
     /// A piece by its number.
-    pub fn piece<L: Ledger>(&self, piece: u32, steps: &mut Steps<L>) -> Piece
+    pub fn piece(&self, piece: u32, steps: &mut Steps<L>) -> Piece
         requires { piece < length self.now.pieces }
         ensures value { slice_get self.now.pieces piece ≡ Some result }
         ensures ticks { steps.new ≡ steps.old + 1 }
@@ -176,7 +179,7 @@ impl Board {
     }
 
     /// Puts an unplaced piece on free cells.
-    pub fn place<L: Ledger>(&mut self, piece: u32, spot: Spot, steps: &mut Steps<L>)
+    pub fn place(&mut self, piece: u32, spot: Spot, steps: &mut Steps<L>)
         requires { IsPlaceable self.old piece spot }
         ensures placed { self.new ≡ with_spot self.old piece spot }
         ensures ticks { steps.old + 1 ≤ steps.new }
@@ -192,7 +195,7 @@ impl Board {
     }
 
     /// An area of this kind. None exactly where there is none.
-    pub fn first_area<L: Ledger>(&self, kind: AreaKind, steps: &mut Steps<L>) -> Option<u32>
+    pub fn first_area(&self, kind: AreaKind, steps: &mut Steps<L>) -> Option<u32>
         ensures found { MatchOption result (area_count self.now kind ≡ 0) (λ area. IsAreaOf self.now kind area) }
         ensures ticks { steps.new ≡ steps.old + 1 }
     {
@@ -200,7 +203,7 @@ impl Board {
     }
 
     /// The number of areas of this kind.
-    pub fn count_areas<L: Ledger>(&self, kind: AreaKind, steps: &mut Steps<L>) -> u32
+    pub fn count_areas(&self, kind: AreaKind, steps: &mut Steps<L>) -> u32
         ensures value { result ≡ area_count self.now kind }
         ensures ticks { steps.new ≡ steps.old + 1 }
     {
@@ -208,12 +211,7 @@ impl Board {
     }
 
     /// A piece of this kind and width that is neither placed nor removed. None exactly where there is none.
-    pub fn first_piece<L: Ledger>(
-        &self,
-        kind: Kind,
-        width: Width,
-        steps: &mut Steps<L>,
-    ) -> Option<u32>
+    pub fn first_piece(&self, kind: Kind, width: Width, steps: &mut Steps<L>) -> Option<u32>
         ensures found { MatchOption result
             (piece_count self.now kind width ≡ 0)
             (λ piece. IsUnplacedOf self.now kind width piece) }
@@ -223,7 +221,7 @@ impl Board {
     }
 
     /// The number of pieces of this kind and width that are neither placed nor removed.
-    pub fn count_pieces<L: Ledger>(&self, kind: Kind, width: Width, steps: &mut Steps<L>) -> u32
+    pub fn count_pieces(&self, kind: Kind, width: Width, steps: &mut Steps<L>) -> u32
         ensures value { result ≡ piece_count self.now kind width }
         ensures ticks { steps.new ≡ steps.old + 1 }
     {

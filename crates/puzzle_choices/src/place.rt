@@ -10,7 +10,7 @@ use std::sync::ledger::Ledger;
 
 /// Places a piece of this kind and width where there is room for it.
 pub fn place_first<L: Ledger>(
-    board: &mut Board,
+    board: &mut Board<L>,
     kind: Kind,
     width: Width,
     spot: Spot,

@@ -57,7 +57,7 @@ impl Plan {
 }
 
 /// Places a piece of a kind and of width Two in an area of a kind.
-fn fill_one<L: Ledger>(board: &mut Board, kind: Kind, from: AreaKind, steps: &mut Steps<L>)
+fn fill_one<L: Ledger>(board: &mut Board<L>, kind: Kind, from: AreaKind, steps: &mut Steps<L>)
     requires pieces { 1 ≤ piece_count board.old kind Two }
     requires areas { 1 ≤ area_count board.old from }
     requires fits { IsSome (after_wide kind from) }
@@ -75,7 +75,7 @@ fn fill_one<L: Ledger>(board: &mut Board, kind: Kind, from: AreaKind, steps: &mu
 
 /// Places so many pieces of a kind and of width Two in areas of a kind.
 pub fn fill<L: Ledger>(
-    board: &mut Board,
+    board: &mut Board<L>,
     kind: Kind,
     from: AreaKind,
     count: u32,

@@ -9,7 +9,7 @@ use puzzle_choices::{AreaCounts, PieceCounts};
 use std::sync::ledger::Ledger;
 
 /// Counts the areas of a board.
-pub(crate) fn areas_of<L: Ledger>(board: &Board, steps: &mut Steps<L>) -> AreaCounts
+pub(crate) fn areas_of<L: Ledger>(board: &Board<L>, steps: &mut Steps<L>) -> AreaCounts
     ensures value { AreasAre board.now result }
     ensures ticks { steps.new ≡ steps.old + 9 }
 {
@@ -27,7 +27,7 @@ pub(crate) fn areas_of<L: Ledger>(board: &Board, steps: &mut Steps<L>) -> AreaCo
 }
 
 /// Counts the pieces of a board that are neither placed nor removed.
-pub(crate) fn pieces_of<L: Ledger>(board: &Board, steps: &mut Steps<L>) -> PieceCounts
+pub(crate) fn pieces_of<L: Ledger>(board: &Board<L>, steps: &mut Steps<L>) -> PieceCounts
     ensures value { PiecesAre board.now result }
     ensures ticks { steps.new ≡ steps.old + 6 }
 {

@@ -36,7 +36,7 @@ fn fits(kind: Kind, column: Column) -> bool
 
 /// Places a piece of this kind in the column, if there is one and it fits there. Answers how many are left.
 fn place_if_any<L: Ledger>(
-    board: &mut Board,
+    board: &mut Board<L>,
     kind: Kind,
     waiting: u32,
     spot: Spot,
@@ -60,7 +60,7 @@ fn place_if_any<L: Ledger>(
 
 /// Places a Y, or else an X and a Z, in the column, as far as there are any and they fit.
 fn place_in_column<L: Ledger>(
-    board: &mut Board,
+    board: &mut Board<L>,
     spot: Spot,
     column: Column,
     waiting: Waiting,
@@ -92,7 +92,7 @@ fn place_in_column<L: Ledger>(
 
 /// Places pieces in both columns of an area.
 fn place_in_area<L: Ledger>(
-    board: &mut Board,
+    board: &mut Board<L>,
     area: u32,
     waiting: Waiting,
     steps: &mut Steps<L>,
@@ -120,7 +120,7 @@ fn place_in_area<L: Ledger>(
 }
 
 /// Places the pieces of width One, area by area.
-pub(crate) fn place_narrow<L: Ledger>(board: &mut Board, waiting: Waiting, steps: &mut Steps<L>)
+pub(crate) fn place_narrow<L: Ledger>(board: &mut Board<L>, waiting: Waiting, steps: &mut Steps<L>)
     requires { IsReady board.old waiting.x waiting.y waiting.z }
     ensures all { IsWaiting board.new 0 0 0 }
     ensures onward { IsOnward board.old board.new }

@@ -14,7 +14,7 @@ use std::sync::ledger::Ledger;
 
 /// Places every piece that isn't removed, and answers true; or answers false where there is no legal placement, and
 /// leaves the board as it was.
-pub fn solve<L: Ledger>(board: &mut Board, steps: &mut Steps<L>) -> bool
+pub fn solve<L: Ledger>(board: &mut Board<L>, steps: &mut Steps<L>) -> bool
     requires { standing board.old ≡ [] }
     ensures exact { IsTrue result ↔ IsSolvable board.old.areas (remaining board.old) }
     ensures solved { OnTrue result (IsSolved board.old board.new) }

@@ -11,7 +11,7 @@ use std::sync::ledger::Ledger;
 
 /// Places the pieces of width Two by a plan.
 pub(crate) fn place_wide<L: Ledger>(
-    board: &mut Board,
+    board: &mut Board<L>,
     areas: AreaCounts,
     pieces: PieceCounts,
     plan: Plan,

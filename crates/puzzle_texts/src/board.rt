@@ -9,6 +9,7 @@ use crate::reading::{areas_in, shapes_in};
 use pcc_base::{NoMemory, Width};
 use puzzle_board::{Area, Board, Kind, Piece};
 use std::alloc::Global;
+use std::sync::ledger::Ledger;
 use thiserror::Error;
 
 /// Why a text gives no board.
@@ -59,7 +60,11 @@ fn parts_of(alloc: Global, text: &[u8]) -> Result<Option<(Vec<Area>, Vec<(Kind, 
 }
 
 /// A board of these areas and pieces, where piece i has variable i.
-fn board_of(alloc: Global, areas: &[Area], shapes: &[(Kind, Width)]) -> Result<Board, NoMemory>
+fn board_of<L: Ledger>(
+    alloc: Global,
+    areas: &[Area],
+    shapes: &[(Kind, Width)],
+) -> Result<Board<L>, NoMemory>
     requires areas { length areas.now ≤ 4294967295 }
     requires shapes { length shapes.now ≤ 4294967295 }
     ensures { IfOk result (λ board. board ≡ fresh_board areas.now (pieces_from 0 shapes.now)) }
@@ -81,7 +86,7 @@ fn board_of(alloc: Global, areas: &[Area], shapes: &[(Kind, Width)]) -> Result<B
 /// # Errors
 ///
 /// That the text is no board's, and want of memory.
-pub fn read_board(alloc: Global, text: &[u8]) -> Result<Board, BoardRefusal>
+pub fn read_board<L: Ledger>(alloc: Global, text: &[u8]) -> Result<Board<L>, BoardRefusal>
     requires { length text.now ≤ 4294967295 }
     ensures read { IfOk result (λ board. IsReadAs text.now board) }
     ensures refused { IfErr result (λ e. e ≡ BadBoard → IsNoBoard text.now) }

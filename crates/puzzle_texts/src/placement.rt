@@ -7,8 +7,7 @@ use crate::words::{columns, digit, letter, push_number};
 use pcc_base::{NoMemory, Steps};
 use puzzle_board::{Board, Piece, Spot};
 use std::alloc::Global;
-use std::marker::Brand;
-use std::sync::ledger::{Blank, Ledger};
+use std::sync::ledger::Ledger;
 
 /// Puts the line of a piece at the end.
 fn push_line(
@@ -36,7 +35,7 @@ fn push_line(
 fn push_piece<L: Ledger>(
     alloc: Global,
     out: &mut Vec<u8>,
-    board: &Board,
+    board: &Board<L>,
     number: u32,
     steps: &mut Steps<L>,
 ) -> Result<(), NoMemory>
@@ -52,29 +51,22 @@ fn push_piece<L: Ledger>(
     }
 }
 
-/// The same with a counter of steps, which the board's readers ask for.
-fn print_counted<L: Ledger>(alloc: Global, board: &Board, blank: Blank) -> Result<Vec<u8>, NoMemory>
-    requires name { blank.name ≡ L.name }
-    requires parts { blank.parts ≡ L.parts }
-    requires one { L.parts ≡ 1 }
-    ensures { IfOk result (λ text. text.items ≡ placement_text board.now) }
-{
-    let mut steps = Steps::<L>::new(blank);
-    let mut text = Vec::new(alloc);
-    board.is_board();
-    for number in 0..board.pieces(&mut steps) {
-        push_piece(alloc, &mut text, board, number, &mut steps)?;
-    }
-    Ok(text)
-}
-
 /// The text of the placement: a line for each piece that stands somewhere, in the order of the pieces.
 ///
 /// # Errors
 ///
 /// Want of memory.
-pub fn print_placement(alloc: Global, board: &Board) -> Result<Vec<u8>, NoMemory>
+pub fn print_placement<L: Ledger>(
+    alloc: Global,
+    board: &Board<L>,
+    steps: &mut Steps<L>,
+) -> Result<Vec<u8>, NoMemory>
     ensures { IfOk result (λ text. text.items ≡ placement_text board.now) }
 {
-    print_counted::<Brand>(alloc, board, Blank::new(1))
+    let mut text = Vec::new(alloc);
+    board.is_board();
+    for number in 0..board.pieces(steps) {
+        push_piece(alloc, &mut text, board, number, steps)?;
+    }
+    Ok(text)
 }

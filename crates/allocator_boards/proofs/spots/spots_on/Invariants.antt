@@ -1,4 +1,6 @@
+use Rattle.std.proofs.Common.{◌≡◌, take}
+use Rattle.allocator_boards.specs.Solutions.{spots_of}
 use Rattle.allocator_boards.proofs.spots.spots_on.Given as goal
 
-abbrev pub ghosts-spots_counted : goal.ghosts-spots_counted
-ghosts-spots_counted a = record { name = a.blank.name; parts = a.blank.parts }
+abbrev pub invariant-loop-piece : goal.invariant-loop-piece
+invariant-loop-piece g l = l.spots.items ≡ take l.piece (spots_of l.board.states)

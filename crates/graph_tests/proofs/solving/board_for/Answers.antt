@@ -4,7 +4,7 @@ use Rattle.graph_tests.proofs.Ordered.{counted-step, narrow-step}
 use Rattle.graph_tests.proofs.solving.board_for.Goals as goal
 
 pub loop-candidate-preserved : goal.loop-candidate-preserved
-loop-candidate-preserved c =
+loop-candidate-preserved g c =
     let i = c.loop-candidate.candidate-index in record {
       stands = c.in_ok-add_piece.ensures.stands ∙ c.loop-candidate.invariant.stands;
       counted =

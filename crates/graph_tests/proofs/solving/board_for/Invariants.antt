@@ -4,7 +4,7 @@ use Rattle.graph_tests.specs.Narrow.{narrow_of}
 use Rattle.graph_tests.proofs.solving.board_for.Given as goal
 
 abbrev pub invariant-loop-candidate : goal.invariant-loop-candidate
-invariant-loop-candidate l =
+invariant-loop-candidate g l =
     record {
       stands : standing l.board ≡ [];
       counted : length l.board.pieces ≡ l.candidate-index;

@@ -3,7 +3,7 @@ use Rattle.puzzle_board.specs.Boards.{standing}
 use Rattle.graph_tests.proofs.solving.narrow_board.Given as goal
 
 abbrev pub invariant-loop-var : goal.invariant-loop-var
-invariant-loop-var l =
+invariant-loop-var g l =
     record {
       stands : standing l.board ≡ [];
       counted : length l.board.pieces ≡ l.var;

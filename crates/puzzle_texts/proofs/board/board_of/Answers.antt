@@ -4,7 +4,7 @@ use Rattle.puzzle_texts.proofs.Boards.{fresh-more, length-from}
 use Rattle.puzzle_texts.proofs.board.board_of.Goals as goal
 
 pub add_piece-requires : goal.add_piece-requires
-add_piece-requires c =
+add_piece-requires g c =
     omega (
       arith,
       ap (λ (b : Puzzle). length b.pieces) c.loop-i.invariant,
@@ -14,6 +14,6 @@ add_piece-requires c =
     )
 
 pub loop-i-preserved : goal.loop-i-preserved
-loop-i-preserved c =
+loop-i-preserved g c =
     fresh-more c.args.areas.now c.args.shapes.now c.loop-i.i _ c.loop-i.board c.add_piece.new.self _ c.loop-i-test.true
     c.loop-i.invariant c.in_ok-add_piece.ensures.added.1 refl

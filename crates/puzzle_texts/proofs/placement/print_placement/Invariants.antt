@@ -1,4 +1,6 @@
+use Rattle.std.proofs.Common.{◌≡◌, take}
+use Rattle.puzzle_texts.specs.Texts.{lines_from}
 use Rattle.puzzle_texts.proofs.placement.print_placement.Given as goal
 
-abbrev pub ghosts-print_counted : goal.ghosts-print_counted
-ghosts-print_counted a = record { name = a.blank.name; parts = 1 }
+abbrev pub invariant-loop-number : goal.invariant-loop-number
+invariant-loop-number g l = l.text.items ≡ lines_from 0 (take l.number l.board.pieces) l.board.states

@@ -12,12 +12,12 @@ use Rattle.puzzle_board.proofs.Stored.{piece-new}
 use Rattle.puzzle_board.proofs.board.Board.add_piece.Goals as goal
 
 pub grow-requires : goal.grow-requires
-grow-requires c =
+grow-requires g c =
     let count : c.len-number.result ≡ length c.self.inside.pieces.items = search rules in
     omega (arith, count, c.self.invariant.nodes)
 
 pub file_piece-requires-clause-in_none : goal.file_piece-requires-clause-in_none
-file_piece-requires-clause-in_none c h =
+file_piece-requires-clause-in_none g c h =
     let pieces = c.self.inside.pieces.items in
     let waiting : Lists = c.self.inside.waiting in
     let count : c.len-number.result ≡ length pieces = search rules in
@@ -28,7 +28,7 @@ file_piece-requires-clause-in_none c h =
     (subst (λ (n : ℕ). IsListed waiting n) count listed)
 
 pub invariant_of-self-2 : goal.invariant_of-self-2
-invariant_of-self-2 c =
+invariant_of-self-2 g c =
     let pieces : List Piece = c.self.inside.pieces.items in
     let states = c.self.inside.states.items in
     let waiting : Lists = c.self.inside.waiting in
@@ -62,7 +62,7 @@ invariant_of-self-2 c =
     room filed nodes up)
 
 pub returns-clause-stands : goal.returns-clause-stands
-returns-clause-stands c =
+returns-clause-stands g c =
     rw (
       c.push_reserved.ensures.items,
       c.push_reserved-2.ensures.items,

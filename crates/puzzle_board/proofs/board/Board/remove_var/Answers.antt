@@ -10,7 +10,7 @@ use Rattle.puzzle_board.proofs.Kept.{length-removed_in, standing_in-removed, tak
 use Rattle.puzzle_board.proofs.board.Board.remove_var.Goals as goal
 
 pub invariant_of-self : goal.invariant_of-self
-invariant_of-self c =
+invariant_of-self g c =
     let pieces : List Piece = c.self.inside.pieces.items in
     let states : List State = c.self.inside.states.items in
     let others = subst
@@ -32,7 +32,7 @@ invariant_of-self c =
     c.remove_pieces.ensures.nodes)
 
 pub returns-clause-stands : goal.returns-clause-stands
-returns-clause-stands c =
+returns-clause-stands g c =
     let others = subst
     (λ (b : Puzzle). AllByRecursion (λ s. s.piece.var ≢ c.args.var) (standing b))
     (sym c.self.view_is)

@@ -1,4 +1,4 @@
 use Rattle.puzzle_board.proofs.board.Board.remove_var.Given as goal
 
 abbrev pub ghosts-remove_pieces : goal.ghosts-remove_pieces
-ghosts-remove_pieces a = record { name = a.blank.name; parts = 1 }
+ghosts-remove_pieces g a = record { name = a.blank.name; parts = 1 }

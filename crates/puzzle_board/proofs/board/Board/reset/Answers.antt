@@ -11,12 +11,12 @@ use Rattle.puzzle_board.proofs.Kept.{kept-length, standing_in-lifted, take-front
 use Rattle.puzzle_board.proofs.board.Board.reset.Goals as goal
 
 pub free_areas-requires-clause-same : goal.free_areas-requires-clause-same
-free_areas-requires-clause-same c =
+free_areas-requires-clause-same g c =
     let same = kept-length _ _ c.self.invariant.kept in
     omega (arith, same, c.deref_mut-2.ensures.len, c.deref-2.ensures.len)
 
 pub invariant_of-self : goal.invariant_of-self
-invariant_of-self c =
+invariant_of-self g c =
     let areas : List Area = c.self.inside.areas.items in
     let pieces : List Piece = c.self.inside.pieces.items in
     let states : List State = c.self.inside.states.items in
@@ -45,7 +45,7 @@ invariant_of-self c =
     c.lift_pieces.ensures.nodes)
 
 pub returns-clause-stands : goal.returns-clause-stands
-returns-clause-stands c =
+returns-clause-stands g c =
     let long = ap length c.lift_pieces.ensures.states
     ∙ (length-map c.deref_mut.result.now lifted ∙ c.deref_mut.ensures.len) in
     rw (take-front c.lift_pieces.new.states _ _ long, c.lift_pieces.ensures.states, c.deref_mut.ensures.value)

@@ -1,6 +1,6 @@
 use Rattle.std.proofs.Common.{arith}
 use Rattle.allocator_boards.proofs.Solving.{spots-end, spots-more}
-use Rattle.allocator_boards.proofs.spots.spots_counted.Goals as goal
+use Rattle.allocator_boards.proofs.spots.spots_on.Goals as goal
 
 pub loop-piece-preserved : goal.loop-piece-preserved
 loop-piece-preserved g c =

@@ -3,7 +3,7 @@ use Rattle.puzzle_board.specs.Boards.{Puzzle, remaining, standing, without_varia
 use Rattle.puzzle_board.specs.Placements.{IsSolvable}
 use Rattle.puzzle_solver.specs.Solved.{IsSolved}
 use Rattle.puzzle_solver.proofs.Spilling.{none-remain, so_far-more, so_far-solved, solved-without, surely}
-use Rattle.puzzle_solver.proofs.fitting.fit_counted.Goals as goal
+use Rattle.puzzle_solver.proofs.fitting.fit.Goals as goal
 
 pub returns-then-solve-clause-shortest : goal.returns-then-solve-clause-shortest
 returns-then-solve-clause-shortest g c =

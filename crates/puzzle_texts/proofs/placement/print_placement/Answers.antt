@@ -2,7 +2,7 @@ use Rattle.std.proofs.Common.{◌<◌, arith, get_or, length}
 use Rattle.std.proofs.lemmas.Option.{slice_get-get_or}
 use Rattle.puzzle_board.specs.declared.piece.State.TheVariants.{Unplaced}
 use Rattle.puzzle_texts.proofs.Lines.{line-step, some-piece}
-use Rattle.puzzle_texts.proofs.placement.print_counted.Goals as goal
+use Rattle.puzzle_texts.proofs.placement.print_placement.Goals as goal
 
 pub loop-number-preserved : goal.loop-number-preserved
 loop-number-preserved g c =

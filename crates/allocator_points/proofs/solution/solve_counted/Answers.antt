@@ -15,14 +15,14 @@ use Rattle.allocator_boards.specs.Solutions.{AreSpots}
 use Rattle.allocator_boards.specs.Spills.{AreCandidates}
 use Rattle.allocator_boards.proofs.Listing.{candidates-are}
 use Rattle.allocator_boards.proofs.Solving.{nothing-stands, pieces-ordered, spilled-pieces, spots-are}
-use Rattle.allocator_points.proofs.solution.solve_point.Goals as goal
+use Rattle.allocator_points.proofs.solution.solve_counted.Goals as goal
 
 pub fit-requires-clause-unplaced : goal.fit-requires-clause-unplaced
-fit-requires-clause-unplaced c =
+fit-requires-clause-unplaced g c =
     ap standing c.in_ok-board.ensures ∙ nothing-stands c.areas_of.result c.args.pieces.now
 
 pub fit-requires-clause-ordered : goal.fit-requires-clause-ordered
-fit-requires-clause-ordered c =
+fit-requires-clause-ordered g c =
     let pieces : List Piece = c.args.pieces.now in
     let areas : List Area = c.areas_of.result in
     let cs : List Candidate = c.in_ok-candidates.candidates.items in
@@ -37,7 +37,7 @@ fit-requires-clause-ordered c =
     (pieces-ordered c.args.form.now.graph c.args.point areas pieces cs c.in_ok-order.order.items are s))
 
 pub returns-clause-spilled : goal.returns-clause-spilled
-returns-clause-spilled c =
+returns-clause-spilled g c =
     let flow = c.args.form.now.graph in
     let lives = c.args.form.now.lives in
     let op = c.args.op.now in
@@ -63,7 +63,7 @@ returns-clause-spilled c =
     }
 
 pub returns-clause-of_pieces : goal.returns-clause-of_pieces
-returns-clause-of_pieces c =
+returns-clause-of_pieces g c =
     let flow = c.args.form.now.graph in
     let pieces : List Piece = c.args.pieces.now in
     let cs : List Candidate = c.in_ok-candidates.candidates.items in
@@ -76,7 +76,7 @@ returns-clause-of_pieces c =
     c.in_ok-spilled.ensures.shortest)
 
 pub returns-clause-spots : goal.returns-clause-spots
-returns-clause-spots c =
+returns-clause-spots g c =
     let op = c.args.op.now in
     let pieces : List Piece = c.args.pieces.now in
     let spilled : List ℕ = c.in_ok-spilled.spilled.items in

@@ -1,6 +1,6 @@
 use Rattle.std.proofs.lemmas.Result.{IfOk-weaker}
 use Rattle.pcc_driver.proofs.Solving.{fresh_stands, none_answer, placed_answer}
-use Rattle.pcc_driver.proofs.solve.answer_counted.Goals as goal
+use Rattle.pcc_driver.proofs.solve.answer_on.Goals as goal
 
 pub solve-requires : goal.solve-requires
 solve-requires g c = fresh_stands c.args.board.now c.requires.fresh
