@@ -202,7 +202,7 @@ functions_at symbols functions places address (s ∷ sections) inside each =
     )
 
 -- the points of the section at a place
-points_at : (address : ℕ) (sections : List Section) (i x : ℕ) (s : Section)
+pub points_at : (address : ℕ) (sections : List Section) (i x : ℕ) (s : Section)
     → slice_get (addresses_from address sections) i ≡ Some x → slice_get sections i ≡ Some s
     → slice_get (points_from address sections) i ≡ Some (map (λ p. x + p) s.points.items)
 points_at address [] i x s e f = absurd (cc)
@@ -281,7 +281,7 @@ placed symbols nf mo address functions sections listed has fits room order are n
 -- ---- the whole
 
 -- the code of sections has their bytes
-length-code : (symbols : Symbols) (address nf mo : ℕ) (sections : List Section)
+pub length-code : (symbols : Symbols) (address nf mo : ℕ) (sections : List Section)
     → ((i : ℕ) (s : Section) → slice_get sections i ≡ Some s → FitsIn nf mo s)
     → length (code_from symbols address sections) ≡ sections_size sections
 length-code symbols address nf mo [] fits = refl
@@ -295,7 +295,7 @@ length-code symbols address nf mo (s ∷ sections) fits =
     )
 
 -- bytes that were put behind a text make it so much longer
-length-put : (old new bytes : List ℕ) (n : ℕ) → new ≡ old ++ bytes → length bytes ≡ n → length new ≡ length old + n
+pub length-put : (old new bytes : List ℕ) (n : ℕ) → new ≡ old ++ bytes → length bytes ≡ n → length new ≡ length old + n
 length-put old new bytes n e size = ap length e ∙ length-append old bytes ∙ ap (λ (k : ℕ). length old + k) size
 
 -- the text has the bytes of the sections, of the start and of the routines
@@ -318,6 +318,35 @@ length-linked {nf = nf} {mo = mo} sections main a text fits code =
     let checks : length text ≡ length code.exit + 2 =
     length-put code.exit text code.checks.bytes 2 code.checks.text code.checks.size in
     omega (arith, start, calls, puts, gets, exits, checks)
+
+-- where the text, its data and the stack end
+pub record Ends (sections : List Section) (objects : List Object) (a : Addresses) (text : List ℕ) : Type 0 where
+  pub long : length text ≡ sections_size sections + routines_size
+  pub depth : a.depth ≡ data_start text
+  pub stack : a.stack ≡ stack_end text objects
+  pub low : a.depth < 1300000000
+  pub high : a.stack < 2 ^ 32
+
+pub ends : (sections : List Section) (objects : List Object) (main : ℕ) (a : Addresses) (text : List ℕ)
+    → CanLink sections objects main → AreAddresses sections objects a → HasCode sections main a text
+    → Ends sections objects a text
+ends sections objects main a text can laid code =
+    let held = can.held.size in
+    let long : length text ≡ sections_size sections + routines_size =
+    length-linked sections main a text can.each code in
+    let depth : a.depth ≡ data_start text = laid.depth ∙ ap (λ (n : ℕ). text_start + round_up 0x1000 n) (sym long) in
+    let low : a.depth < 1300000000 = omega (arith, laid.depth, depth_bound (sections_size sections) can.code) in
+    record {
+      long = long;
+      depth = depth;
+      stack = laid.stack ∙ ap (λ (n : ℕ). n + (round_up 4 (4 + objects_size objects) + 0x04001000)) depth
+          ∙ ap (λ (n : ℕ). data_start text + (round_up 4 n + 0x04001000)) (sym (length-data objects));
+      low = low;
+      high = omega (arith, laid.stack, low, held, round_bound (objects_size objects) held);
+    }
+  where
+    round_bound : (n : ℕ) → n ≤ 0x01000000 → round_up 4 (4 + n) ≤ 0x01000054
+    round_bound n h = omega arith
 
 pub linked_is : (sections : List Section) (objects : List Object) (main : ℕ) (a : Addresses) (linked : Linked)
     → CanLink sections objects main → AreAddresses sections objects a
@@ -354,15 +383,7 @@ linked_is sections objects main a linked can laid code data_same entry points_ma
     let puts_long : length code.puts.bytes ≡ putchar_size = code.puts.size in
     let gets_long : length code.gets.bytes ≡ getchar_size = code.gets.size in
     let exits_long : length code.exits.bytes ≡ exit_size = code.exits.size in
-    let long : length text ≡ sections_size sections + routines_size =
-    length-linked sections main a text can.each code in
-    let depth : a.depth ≡ data_start text = laid.depth ∙ ap (λ (n : ℕ). text_start + round_up 0x1000 n) (sym long) in
-    let stack : a.stack ≡ stack_end text objects =
-    laid.stack ∙ ap (λ (n : ℕ). n + (round_up 4 (4 + objects_size objects) + 0x04001000)) depth
-    ∙ ap (λ (n : ℕ). data_start text + (round_up 4 n + 0x04001000)) (sym (length-data objects))
-    in
-    let low : a.depth < 1300000000 = omega (arith, laid.depth, depth_bound (sections_size sections) can.code) in
-    let high : a.stack < 2 ^ 32 = omega (arith, laid.stack, low, held, round_bound (objects_size objects) held) in
+    let end = ends sections objects main a text can laid code in
     record {
       places = p.places;
       symbols = symbols;
@@ -374,9 +395,9 @@ linked_is sections objects main a linked can laid code data_same entry points_ma
         exit = code.exits.bytes;
         check = code.checks.bytes;
         whole = whole;
-        start_at = λ none. subst (λ (n : ℕ). ItemsAt symbols none text_start (start_items n a.depth main) start) stack
+        start_at = λ none. subst (λ (n : ℕ). ItemsAt symbols none text_start (start_items n a.depth main) start) end.stack
             (any_places symbols code.starts.places none text_start (start_items a.stack a.depth main) start
-            (start_plainly a.stack a.depth main high (omega (arith, low))) code.starts.items_at);
+            (start_plainly a.stack a.depth main end.high (omega (arith, end.low))) code.starts.items_at);
         order_is = subst (λ (n : ℕ). IsOrder n (order_of sections)) (sym are.many) can.order;
         places_are = p.many;
         addresses_are = laid.in_text.many ∙ sym are.many;
@@ -394,8 +415,8 @@ linked_is sections objects main a linked can laid code data_same entry points_ma
         check_is = omega (arith, laid.in_text.check, exits_long);
         check_at = λ none. any_places symbols code.checks.places none a.check check_items code.checks.bytes
             check_plainly code.checks.items_at;
-        depth_is = depth;
-        objects_are = laid.objects_are ∙ ap (λ (n : ℕ). object_addresses (n + 4) objects) depth;
+        depth_is = end.depth;
+        objects_are = laid.objects_are ∙ ap (λ (n : ℕ). object_addresses (n + 4) objects) end.depth;
       };
       data_is = data_same;
       entry = entry;
@@ -403,9 +424,6 @@ linked_is sections objects main a linked can laid code data_same entry points_ma
       points = p.points;
       objects_are = objects_same;
     }
-  where
-    round_bound : (n : ℕ) → n ≤ 0x01000000 → round_up 4 (4 + n) ≤ 0x01000054
-    round_bound n h = omega arith
 
 -- there are as many addresses as sections and objects
 pub each_fits : (sections : List Section) (objects : List Object) (main : ℕ) (a : Addresses)

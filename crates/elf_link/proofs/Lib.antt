@@ -4,3 +4,4 @@ pub mod Alone
 pub mod RoutineItems
 pub mod Placing
 pub mod Finishing
+pub mod LaidOut

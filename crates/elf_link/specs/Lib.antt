@@ -1,3 +1,4 @@
 pub mod Placed
 pub mod Linking
+pub mod Layout
 pub mod Laid

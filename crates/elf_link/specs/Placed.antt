@@ -27,7 +27,11 @@ getchar_size = 0x21
 abbrev pub exit_size : ℕ
 exit_size = 0x0b
 
--- the bytes of all of them, with the 2 of the trap of a failed check
+-- and those of the trap of a failed check
+abbrev pub check_size : ℕ
+check_size = 0x02
+
+-- the bytes of all of them
 abbrev pub routines_size : ℕ
 routines_size = 0x68
 

@@ -1,6 +1,7 @@
 ghost use Rattle.std.specs.Prelude.{◌≡◌, ◌+◌, IfOk, List, map, vec_len};
 ghost use Rattle.ia32_insn.specs.declared.item.Item.{Item};
 ghost use Rattle.elf_addresses.specs.Parts.{object_of, order_of, sections_size};
+ghost use Rattle.elf_link.specs.Layout.{IsLaidOut};
 ghost use Rattle.elf_link.specs.Linking.{AreSections, CanLink, IsLinked};
 ghost use Rattle.elf_link.specs.Placed.{routines_size};
 
@@ -16,7 +17,8 @@ use std::alloc::Global;
 
 /// The program of these sections and static objects. The sections are those of the functions from 0 on, each once, in
 /// the order in which they come to stand in the text, and `main` is the number of the function that the start calls.
-/// The only refusal is want of memory.
+/// The word of a relocation, the lowest byte first, takes the place of its four bytes, whatever they were. The only
+/// refusal is want of memory.
 pub fn link(
     alloc: Global,
     sections: &Vec<Section>,
@@ -24,6 +26,11 @@ pub fn link(
     main: u32,
 ) -> Result<Linked, NoMemory>
     requires { CanLink sections.now.items (map object_of objects.now.items) main }
+
+    // Of any sections: where each stands with its bytes, its words and its points, and the routines and the data.
+    ensures layout { IfOk result (λ linked. IsLaidOut sections.now.items (map object_of objects.now.items) main linked) }
+
+    // Of sections that are made of items: the text is that of the items.
     ensures program { IfOk result (λ linked. (functions : List (List Item)) → AreSections functions sections.now.items
         → IsLinked functions (order_of sections.now.items) (map object_of objects.now.items) main linked) }
 

@@ -1,8 +1,8 @@
-//! The image of a small function, as GNU as and ld lay it out.
+//! The images of small functions, as GNU as and ld lay them out.
 
 use crate::expected::expect;
 use elf_link::link;
-use ia32_asm::assemble;
+use ia32_asm::{Relocation, Section, Symbol, Target, assemble};
 use ia32_insn::{Insn, Item, Rm32};
 use ia32_regs::Reg32;
 use pcc_base::DataObject;
@@ -75,5 +75,70 @@ fn two_functions(rt: HostRuntime) -> Result<(), Fail> {
         "the functions",
     );
     expect(&rt, &linked.points.len(), &2, "the points");
+    Ok(())
+}
+
+/// Sections that no items make: `f: mov $f, %eax; ret`, and `call f; ret` with other bytes than 0 where its word
+/// goes. The bytes are those of GNU as and ld 2.40 behind a start of 29 bytes. Function 0 has a point number that no
+/// point has, with the offset 0, and a point at its last byte.
+#[test]
+fn words_of_any_sections(rt: HostRuntime) -> Result<(), Fail> {
+    let bytes = vec![in rt.alloc(); 0xb8, 0, 0, 0, 0, 0xc3]?;
+    let symbols = vec![in rt.alloc();
+        Symbol {
+            function: 0,
+            offset: 0
+        },
+    ]?;
+    let relocations = vec![in rt.alloc();
+        Relocation {
+            at: 1,
+            relative: false,
+            target: Target::Function(0)
+        },
+    ]?;
+    let points = vec![in rt.alloc(); 0, 5]?;
+    let loads = Section {
+        bytes,
+        symbols,
+        relocations,
+        points,
+    };
+    let bytes = vec![in rt.alloc(); 0xe8, 7, 7, 7, 7, 0xc3]?;
+    let symbols = vec![in rt.alloc();
+        Symbol {
+            function: 1,
+            offset: 0
+        },
+    ]?;
+    let relocations = vec![in rt.alloc();
+        Relocation {
+            at: 1,
+            relative: true,
+            target: Target::Function(0)
+        },
+    ]?;
+    let calls = Section {
+        bytes,
+        symbols,
+        relocations,
+        points: Vec::new(rt.alloc()),
+    };
+    let sections = vec![in rt.alloc(); loads, calls]?;
+    let objects: Vec<DataObject> = Vec::new(rt.alloc());
+    let linked = link(rt.alloc(), &sections, &objects, 0)?;
+    let functions = [
+        0xb8u8, 0x1d, 0x80, 0x04, 0x08, 0xc3, 0xe8, 0xf5, 0xff, 0xff, 0xff, 0xc3,
+    ];
+    let text = linked.image.text.as_slice();
+    expect(
+        &rt,
+        &text.get(29..41),
+        &Some(functions.as_slice()),
+        "the functions",
+    );
+    let points = linked.points[0].as_slice();
+    let addresses = [0x0804_801d, 0x0804_8022];
+    expect(&rt, &points, &addresses.as_slice(), "the points");
     Ok(())
 }
