@@ -8,13 +8,10 @@ use Rattle.std.specs.Prelude.{Option, Some, None, slice_index_or}
 use Rattle.pcc_base.specs.declared.run.Width.{Width}
 use Rattle.pcc_base.specs.declared.run.Width.TheVariants.{Two}
 use Rattle.flow_graph.specs.declared.op.Op.{Op}
-use Rattle.flow_graph.specs.declared.op.Op.TheVariants.{Const, Copy, Wide, Low, Low16, Neg, Not, Add, Sub, Mul, And, Or}
-use Rattle.flow_graph.specs.declared.op.Op.TheVariants.{Xor, Shl, Sar, Div, Rem, Set, Frame, Static, Load, Store, Get}
-use Rattle.flow_graph.specs.declared.op.Op.TheVariants.{Put, Clear, Param, Call, Putchar, Getchar, Exit, Same, Mark}
-use Rattle.flow_graph.specs.declared.op.Op.TheVariants.{Turn, Jump, Branch, Return}
 use Rattle.flow_graph.specs.Graphs.{Flow, has_point}
 use Rattle.flow_graph.specs.Liveness.{defined}
 use Rattle.flow_graph.specs.Lives.{Lives, at_point}
+use Rattle.flow_graph.specs.Shapes.{Takes, NoRegister, Count, Division, AcrossCall, Quotient, Remainder, shape}
 use Rattle.puzzle_board.specs.declared.area.Area.{Area}
 use Rattle.puzzle_board.specs.declared.area.Column.TheVariants.{Both, Lower, Neither, Upper}
 use Rattle.puzzle_board.specs.declared.piece.Columns.TheVariants as columns
@@ -51,44 +48,15 @@ ends_taken = taken_area ∷ free_area ∷ free_area ∷ taken_area ∷ []
 abbrev pub callee_saved : List Area
 callee_saved = area_before ∷ free_area ∷ area_before ∷ area_before ∷ []
 
+abbrev pub areas_by : Takes → List Area
+areas_by NoRegister = all_free
+areas_by (Count count shifted) = count_taken
+areas_by (Division dividend divisor gives) = ends_taken
+areas_by AcrossCall = callee_saved
+
 -- the cells that are free for the pieces of an op: those that it neither fixes nor takes
 abbrev pub areas_of : Op → List Area
-areas_of (Const d n) = all_free
-areas_of (Copy d s) = all_free
-areas_of (Wide d s) = all_free
-areas_of (Low d s) = all_free
-areas_of (Low16 d s) = all_free
-areas_of (Neg d a) = all_free
-areas_of (Not d a) = all_free
-areas_of (Add d a b) = all_free
-areas_of (Sub d a b) = all_free
-areas_of (Mul d a b) = all_free
-areas_of (And d a b) = all_free
-areas_of (Or d a b) = all_free
-areas_of (Xor d a b) = all_free
-areas_of (Shl d a c) = count_taken
-areas_of (Sar d a c) = count_taken
-areas_of (Div d a b) = ends_taken
-areas_of (Rem d a b) = ends_taken
-areas_of (Set how d a b) = all_free
-areas_of (Frame d k) = all_free
-areas_of (Static d k) = all_free
-areas_of (Load bits d p i) = all_free
-areas_of (Store bits p i s) = all_free
-areas_of (Get bits d k) = all_free
-areas_of (Put bits k s) = all_free
-areas_of (Clear k) = all_free
-areas_of (Param d k) = all_free
-areas_of (Call d f arguments) = callee_saved
-areas_of (Putchar d s) = callee_saved
-areas_of (Getchar d) = callee_saved
-areas_of (Exit s) = callee_saved
-areas_of (Same a b) = all_free
-areas_of (Mark s) = all_free
-areas_of Turn = all_free
-areas_of (Jump x) = all_free
-areas_of (Branch how a b x y) = all_free
-areas_of (Return a) = all_free
+areas_of op = areas_by (shape op).takes
 
 -- ---- fixed pieces: they stand on no board
 
@@ -109,84 +77,30 @@ edx = record { area = 3; columns = columns.All }
 abbrev pub cl : Spot
 cl = record { area = 2; columns = columns.Low }
 
+abbrev pub use_by : Takes → Option Fixed
+use_by NoRegister = None
+use_by (Count count shifted) = Some (fixed_at count cl)
+use_by (Division dividend divisor gives) = Some (fixed_at dividend eax)
+use_by AcrossCall = None
+
 -- the operand that has to stand somewhere before the op
 abbrev pub fixed_use : Op → Option Fixed
-fixed_use (Const d n) = None
-fixed_use (Copy d s) = None
-fixed_use (Wide d s) = None
-fixed_use (Low d s) = None
-fixed_use (Low16 d s) = None
-fixed_use (Neg d a) = None
-fixed_use (Not d a) = None
-fixed_use (Add d a b) = None
-fixed_use (Sub d a b) = None
-fixed_use (Mul d a b) = None
-fixed_use (And d a b) = None
-fixed_use (Or d a b) = None
-fixed_use (Xor d a b) = None
-fixed_use (Shl d a c) = Some (fixed_at c cl)
-fixed_use (Sar d a c) = Some (fixed_at c cl)
-fixed_use (Div d a b) = Some (fixed_at a eax)
-fixed_use (Rem d a b) = Some (fixed_at a eax)
-fixed_use (Set how d a b) = None
-fixed_use (Frame d k) = None
-fixed_use (Static d k) = None
-fixed_use (Load bits d p i) = None
-fixed_use (Store bits p i s) = None
-fixed_use (Get bits d k) = None
-fixed_use (Put bits k s) = None
-fixed_use (Clear k) = None
-fixed_use (Param d k) = None
-fixed_use (Call d f arguments) = None
-fixed_use (Putchar d s) = None
-fixed_use (Getchar d) = None
-fixed_use (Exit s) = None
-fixed_use (Same a b) = None
-fixed_use (Mark s) = None
-fixed_use Turn = None
-fixed_use (Jump x) = None
-fixed_use (Branch how a b x y) = None
-fixed_use (Return a) = None
+fixed_use op = use_by (shape op).takes
+
+abbrev pub fixed_if_any : Option ℕ → Spot → Option Fixed
+fixed_if_any None spot = None
+fixed_if_any (Some v) spot = Some (fixed_at v spot)
+
+abbrev pub result_by : Takes → Option ℕ → Option Fixed
+result_by NoRegister written = None
+result_by (Count count shifted) written = None
+result_by (Division dividend divisor Quotient) written = fixed_if_any written eax
+result_by (Division dividend divisor Remainder) written = fixed_if_any written edx
+result_by AcrossCall written = fixed_if_any written eax
 
 -- the result that has to stand somewhere after the op
 abbrev pub fixed_result : Op → Option Fixed
-fixed_result (Const d n) = None
-fixed_result (Copy d s) = None
-fixed_result (Wide d s) = None
-fixed_result (Low d s) = None
-fixed_result (Low16 d s) = None
-fixed_result (Neg d a) = None
-fixed_result (Not d a) = None
-fixed_result (Add d a b) = None
-fixed_result (Sub d a b) = None
-fixed_result (Mul d a b) = None
-fixed_result (And d a b) = None
-fixed_result (Or d a b) = None
-fixed_result (Xor d a b) = None
-fixed_result (Shl d a c) = None
-fixed_result (Sar d a c) = None
-fixed_result (Div d a b) = Some (fixed_at d eax)
-fixed_result (Rem d a b) = Some (fixed_at d edx)
-fixed_result (Set how d a b) = None
-fixed_result (Frame d k) = None
-fixed_result (Static d k) = None
-fixed_result (Load bits d p i) = None
-fixed_result (Store bits p i s) = None
-fixed_result (Get bits d k) = None
-fixed_result (Put bits k s) = None
-fixed_result (Clear k) = None
-fixed_result (Param d k) = None
-fixed_result (Call (Some d) f arguments) = Some (fixed_at d eax)
-fixed_result (Call None f arguments) = None
-fixed_result (Putchar d s) = Some (fixed_at d eax)
-fixed_result (Getchar d) = Some (fixed_at d eax)
-fixed_result (Exit s) = None
-fixed_result (Same a b) = None
-fixed_result (Mark s) = None
-fixed_result Turn = None
-fixed_result (Jump x) = None
-fixed_result (Branch how a b x y) = None
-fixed_result (Return a) = None
+fixed_result op = result_by (shape op).takes (shape op).writes
 
 abbrev pub fixed_variable : Option Fixed → Option ℕ
 fixed_variable None = None

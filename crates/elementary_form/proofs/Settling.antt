@@ -7,7 +7,8 @@ use Rattle.std.proofs.lemmas.Option.{none-some, slice_get-get_or}
 use Rattle.pcc_base.specs.Outcome.{Value, Number}
 use Rattle.flow_graph.specs.declared.op.Op.{Op}
 use Rattle.flow_graph.specs.Graphs.{Flow, IsFlow, IsIn, IsPlaced}
-use Rattle.flow_graph.specs.Liveness.{IsDefinedAt, IsLiveAfter, IsLiveBefore, IsSuccessor, if_any}
+use Rattle.flow_graph.specs.Liveness.{IsDefinedAt, IsLiveAfter, IsLiveBefore, IsSuccessor}
+use Rattle.flow_graph.specs.Shapes.{if_any}
 use Rattle.flow_graph.specs.Lives.{AreLive, Lives, at_point}
 use Rattle.flow_graph.specs.States.{Activation, GraphProgram, State, Waiting, flow_at}
 use Rattle.flow_graph.specs.WellFormed.{AreActivations, AreWaiting, FitsWidth, IsActivation}

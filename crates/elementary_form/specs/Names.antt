@@ -6,7 +6,8 @@ use Rattle.pcc_base.specs.Outcome.{Value, Number}
 use Rattle.std.specs.Prelude.{pos}
 use Rattle.flow_graph.specs.declared.op.Op.{Op}
 use Rattle.flow_graph.specs.Graphs.{Flow, has_point}
-use Rattle.flow_graph.specs.Liveness.{defined, if_any}
+use Rattle.flow_graph.specs.Liveness.{defined}
+use Rattle.flow_graph.specs.Shapes.{if_any}
 use Rattle.flow_graph.specs.Lives.{Lives, at_point}
 
 -- ---- the places of points

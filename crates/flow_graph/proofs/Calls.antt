@@ -14,7 +14,8 @@ use Rattle.pcc_base.specs.declared.run.Width.{Width}
 use Rattle.pcc_base.specs.declared.run.Width.TheVariants.{One, Two}
 use Rattle.flow_graph.specs.declared.op.Op.{Op}
 use Rattle.flow_graph.specs.declared.op.Op.TheVariants.{Call}
-use Rattle.flow_graph.specs.Graphs.{FitsOp, Flow, IsMet, two}
+use Rattle.flow_graph.specs.Graphs.{FitsOp, Flow, IsMet}
+use Rattle.flow_graph.specs.Shapes.{two}
 use Rattle.flow_graph.specs.Meaning.{Halts, back_to, calls, enters, most_active, result_to, returns_to, values_at}
 use Rattle.flow_graph.specs.States.{GraphProgram, State, Waiting, active_of, depth_of, first_activation, first_array}
 use Rattle.flow_graph.specs.States.{flow_at, op_of}

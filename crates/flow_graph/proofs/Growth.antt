@@ -3,7 +3,8 @@ use Rattle.std.proofs.Common.{ℕ, ◌≡◌, ◌≤◌, List, [], ◌∷◌, �
 use Rattle.std.specs.List.{slice_get}
 use Rattle.pcc_base.proofs.Lists.{get-append, all-weaker}
 use Rattle.flow_graph.specs.declared.op.Op.{Op}
-use Rattle.flow_graph.specs.Graphs.{Flow, Need, Variable, AnyWidth, SameWidth, FrameArray, Target, IsMet, needs, FitsOp}
+use Rattle.flow_graph.specs.Graphs.{Flow, IsMet, needs, FitsOp}
+use Rattle.flow_graph.specs.Shapes.{Need, Variable, AnyWidth, SameWidth, FrameArray, Target}
 use Rattle.flow_graph.specs.Graphs.{HasFittingOp, IsPlainAt, EndsOnlyLast, IsBlock}
 
 -- what is in a list stays there

@@ -1,4 +1,5 @@
 pub mod Ascending
+pub mod Asked
 pub mod Blocks
 pub mod Growth
 pub mod Keeps

@@ -13,7 +13,7 @@ use Rattle.pcc_base.proofs.Lists.{all-at}
 use Rattle.flow_graph.specs.declared.op.Op.{Op}
 use Rattle.flow_graph.specs.Graphs.{FitsOp, NumbersFit, empty_flow, HasFittingOp, HasWidth, IsIn, IsMet, Stands}
 use Rattle.flow_graph.specs.Graphs.{points_of}
-use Rattle.flow_graph.specs.Graphs.{two}
+use Rattle.flow_graph.specs.Shapes.{two}
 use Rattle.flow_graph.specs.Meaning.{one_more, values_at}
 use Rattle.flow_graph.specs.States.{Activation, GraphProgram, State, flow_at, number_of, op_of, value_at}
 use Rattle.flow_graph.specs.WellFormed.{FitsWidth, HasFrameArray, IsActivation, IsGraph, IsGraphProgram}

@@ -6,10 +6,9 @@ use Rattle.std.specs.List.{AllByRecursion, position_or_len}
 use Rattle.pcc_base.specs.declared.run.Width.{Width}
 use Rattle.pcc_base.specs.declared.run.Width.TheVariants.{One, Two}
 use Rattle.flow_graph.specs.declared.op.Op.{Op}
-use Rattle.flow_graph.specs.declared.op.Op.TheVariants.{Const, Copy, Wide, Low, Low16, Neg, Not, Add, Sub, Mul, And, Or}
-use Rattle.flow_graph.specs.declared.op.Op.TheVariants.{Xor, Shl, Sar, Div, Rem, Set, Frame, Static, Load, Store, Get}
-use Rattle.flow_graph.specs.declared.op.Op.TheVariants.{Put, Clear, Param, Call, Putchar, Getchar, Exit, Same, Mark}
-use Rattle.flow_graph.specs.declared.op.Op.TheVariants.{Turn, Jump, Branch, Return}
+use Rattle.flow_graph.specs.Shapes.{Need, Variable, AnyWidth, SameWidth, FrameArray, Target, shape}
+use Rattle.flow_graph.specs.Shapes.{About, NothingElse, TheNumber, TheWord, TheObject, TheFunction, TheStatement}
+use Rattle.flow_graph.specs.Shapes.{TheTurn, Leads, Onward, IntoCall, ToBlock, ToEither, OutOfCall, OutOfProgram}
 
 -- a graph: the widths of its variables, the element width and the count of each frame array, the points
 -- of each block in order, and the op of each point that was ever made
@@ -33,101 +32,22 @@ abbrev pub IsDistinct : List ℕ → Type 0
 IsDistinct [] = Unit {0}
 IsDistinct (p ∷ ps) = AllByRecursion (λ q. q ≢ p) ps × IsDistinct ps
 
--- What an op asks of the graph that it stands in: a variable of a width, a variable of either width, two
--- variables of one width, a frame array, or a block.
-pub data Need : Type 0 where
-  Variable : (variable : ℕ) (width : Width) → Need
-  AnyWidth : (variable : ℕ) → Need
-  SameWidth : (first second : ℕ) → Need
-  FrameArray : (array : ℕ) → Need
-  Target : (block : ℕ) → Need
-
--- a variable of width Two
-abbrev pub two : ℕ → Need
-two v = Variable v Two
-
--- a variable of width Two, where there is one
-abbrev pub two_if_any : Option ℕ → List Need
-two_if_any None = []
-two_if_any (Some v) = two v ∷ []
-
 -- what each op asks for
 abbrev pub needs : Op → List Need
-needs (Const d n) = AnyWidth d ∷ []
-needs (Copy d s) = SameWidth d s ∷ []
-needs (Wide d s) = two d ∷ Variable s One ∷ []
-needs (Low d s) = Variable d One ∷ two s ∷ []
-needs (Low16 d s) = two d ∷ two s ∷ []
-needs (Neg d a) = two d ∷ two a ∷ []
-needs (Not d a) = two d ∷ two a ∷ []
-needs (Add d a b) = two d ∷ two a ∷ two b ∷ []
-needs (Sub d a b) = two d ∷ two a ∷ two b ∷ []
-needs (Mul d a b) = two d ∷ two a ∷ two b ∷ []
-needs (And d a b) = two d ∷ two a ∷ two b ∷ []
-needs (Or d a b) = two d ∷ two a ∷ two b ∷ []
-needs (Xor d a b) = two d ∷ two a ∷ two b ∷ []
-needs (Shl d a c) = two d ∷ two a ∷ Variable c One ∷ []
-needs (Sar d a c) = two d ∷ two a ∷ Variable c One ∷ []
-needs (Div d a b) = two d ∷ two a ∷ two b ∷ []
-needs (Rem d a b) = two d ∷ two a ∷ two b ∷ []
-needs (Set how d a b) = two d ∷ two a ∷ two b ∷ []
-needs (Frame d k) = two d ∷ FrameArray k ∷ []
-needs (Static d k) = two d ∷ []
-needs (Load bits d p i) = two d ∷ two p ∷ two i ∷ []
-needs (Store bits p i s) = two p ∷ two i ∷ two s ∷ []
-needs (Get bits d k) = two d ∷ []
-needs (Put bits k s) = two s ∷ []
-needs (Clear k) = FrameArray k ∷ []
-needs (Param d k) = two d ∷ []
-needs (Call d f arguments) = two_if_any d ++ map two arguments
-needs (Putchar d s) = two d ∷ two s ∷ []
-needs (Getchar d) = two d ∷ []
-needs (Exit s) = two s ∷ []
-needs (Same a b) = two a ∷ two b ∷ []
-needs (Mark s) = []
-needs Turn = []
-needs (Jump x) = Target x ∷ []
-needs (Branch how a b x y) = two a ∷ two b ∷ Target x ∷ Target y ∷ []
-needs (Return a) = two_if_any a
+needs op = (shape op).asks
+
+-- control doesn't come to the next point
+abbrev pub ends_block : Leads → Bool
+ends_block Onward = false
+ends_block (IntoCall result words) = false
+ends_block (ToBlock x) = true
+ends_block (ToEither x y) = true
+ends_block OutOfCall = true
+ends_block OutOfProgram = true
 
 -- the ops that end a block
 abbrev pub is_end : Op → Bool
-is_end (Const d n) = false
-is_end (Copy d s) = false
-is_end (Wide d s) = false
-is_end (Low d s) = false
-is_end (Low16 d s) = false
-is_end (Neg d a) = false
-is_end (Not d a) = false
-is_end (Add d a b) = false
-is_end (Sub d a b) = false
-is_end (Mul d a b) = false
-is_end (And d a b) = false
-is_end (Or d a b) = false
-is_end (Xor d a b) = false
-is_end (Shl d a c) = false
-is_end (Sar d a c) = false
-is_end (Div d a b) = false
-is_end (Rem d a b) = false
-is_end (Set how d a b) = false
-is_end (Frame d k) = false
-is_end (Static d k) = false
-is_end (Load bits d p i) = false
-is_end (Store bits p i s) = false
-is_end (Get bits d k) = false
-is_end (Put bits k s) = false
-is_end (Clear k) = false
-is_end (Param d k) = false
-is_end (Call d f arguments) = false
-is_end (Putchar d s) = false
-is_end (Getchar d) = false
-is_end (Exit s) = true
-is_end (Same a b) = false
-is_end (Mark s) = false
-is_end Turn = false
-is_end (Jump x) = true
-is_end (Branch how a b x y) = true
-is_end (Return a) = true
+is_end op = ends_block (shape op).leads
 
 -- the variable is there, with this width
 abbrev pub HasWidth : Flow → ℕ → Width → Type 0
@@ -141,44 +61,19 @@ IsMet flow (SameWidth d s) = (width : Width) × HasWidth flow d width × HasWidt
 IsMet flow (FrameArray k) = k < length flow.arrays
 IsMet flow (Target x) = x < length flow.blocks
 
--- the number of a `const`, and those of objects, functions, argument words and statements, are of 32 bits
+-- a number, and those of objects, functions, argument words and statements, are of 32 bits
+abbrev pub IsWord : About → Type 0
+IsWord NothingElse = Unit {0}
+IsWord (TheNumber n) = FitsSigned w32 n
+IsWord (TheWord k) = k < 0x1_0000_0000
+IsWord (TheObject k) = k < 0x1_0000_0000
+IsWord (TheFunction f) = f < 0x1_0000_0000
+IsWord (TheStatement s) = s < 0x1_0000_0000
+IsWord TheTurn = Unit {0}
+
+-- what the op is about has 32 bits
 abbrev pub NumbersFit : Op → Type 0
-NumbersFit (Const d n) = FitsSigned w32 n
-NumbersFit (Copy d s) = Unit {0}
-NumbersFit (Wide d s) = Unit {0}
-NumbersFit (Low d s) = Unit {0}
-NumbersFit (Low16 d s) = Unit {0}
-NumbersFit (Neg d a) = Unit {0}
-NumbersFit (Not d a) = Unit {0}
-NumbersFit (Add d a b) = Unit {0}
-NumbersFit (Sub d a b) = Unit {0}
-NumbersFit (Mul d a b) = Unit {0}
-NumbersFit (And d a b) = Unit {0}
-NumbersFit (Or d a b) = Unit {0}
-NumbersFit (Xor d a b) = Unit {0}
-NumbersFit (Shl d a c) = Unit {0}
-NumbersFit (Sar d a c) = Unit {0}
-NumbersFit (Div d a b) = Unit {0}
-NumbersFit (Rem d a b) = Unit {0}
-NumbersFit (Set how d a b) = Unit {0}
-NumbersFit (Frame d k) = Unit {0}
-NumbersFit (Static d k) = k < 0x1_0000_0000
-NumbersFit (Load bits d p i) = Unit {0}
-NumbersFit (Store bits p i s) = Unit {0}
-NumbersFit (Get bits d k) = k < 0x1_0000_0000
-NumbersFit (Put bits k s) = k < 0x1_0000_0000
-NumbersFit (Clear k) = Unit {0}
-NumbersFit (Param d k) = k < 0x1_0000_0000
-NumbersFit (Call d f arguments) = f < 0x1_0000_0000
-NumbersFit (Putchar d s) = Unit {0}
-NumbersFit (Getchar d) = Unit {0}
-NumbersFit (Exit s) = Unit {0}
-NumbersFit (Same a b) = Unit {0}
-NumbersFit (Mark s) = s < 0x1_0000_0000
-NumbersFit Turn = Unit {0}
-NumbersFit (Jump x) = Unit {0}
-NumbersFit (Branch how a b x y) = Unit {0}
-NumbersFit (Return a) = Unit {0}
+NumbersFit op = IsWord (shape op).about
 
 -- the variables, arrays and blocks that the op names are there, with the widths that it asks for
 abbrev pub FitsOp : Flow → Op → Type 0

@@ -5,6 +5,7 @@ pub mod Lives
 pub mod Meaning
 pub mod Ordered
 pub mod Running
+pub mod Shapes
 pub mod Sizes
 pub mod States
 pub mod WellFormed

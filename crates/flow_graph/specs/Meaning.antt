@@ -12,6 +12,7 @@ use Rattle.flow_graph.specs.declared.op.Comparison.{Comparison}
 use Rattle.flow_graph.specs.declared.op.Comparison.TheVariants.{Eq, Ne, Lt, Le, Gt, Ge}
 use Rattle.flow_graph.specs.declared.op.Op.{Op}
 use Rattle.flow_graph.specs.declared.op.Op.TheVariants as op
+use Rattle.flow_graph.specs.Shapes.{Leads, Onward, IntoCall, ToBlock, ToEither, OutOfCall, OutOfProgram, shape}
 use Rattle.flow_graph.specs.States.{GraphProgram, Waiting, State, op_of, op_at, entry_of, point_after, first_activation}
 use Rattle.flow_graph.specs.States.{value_at, number_at, array_at, with_value, fitted, width_of, depth_of, Elements}
 use Rattle.flow_graph.specs.States.{elements_of, with_array, element_at, with_element}
@@ -201,48 +202,22 @@ calls program s f arguments =
 abbrev pub back_to : State → Waiting → List Waiting → State
 back_to s w waiting = record s { block = w.block; point = w.point; current = w.activation; waiting = waiting }
 
--- the caller goes on after its call, whose op this is, with the result where it wants one
+-- A caller goes on after its call, with the result where it wants one. A call that wants a result that isn't there, and
+-- where no call waits, no step is.
+abbrev pub resumes : GraphProgram → State → Leads → Option ℤ → Moved
+resumes program s (IntoCall None words) n = onward program s
+resumes program s (IntoCall (Some d) words) None = Stuck
+resumes program s (IntoCall (Some d) words) (Some n) = sets program s d (Number n)
+resumes program s Onward n = Stuck
+resumes program s (ToBlock x) n = Stuck
+resumes program s (ToEither x y) n = Stuck
+resumes program s OutOfCall n = Stuck
+resumes program s OutOfProgram n = Stuck
+
+-- the caller goes on after its call, whose op this is
 abbrev pub result_to : GraphProgram → State → Option ℤ → Option Op → Moved
-result_to program s (Some n) (Some (op.Call (Some d) f arguments)) = sets program s d (Number n)
-result_to program s n (Some (op.Call None f arguments)) = onward program s
--- a call that wants a result that isn't there, and where no call waits, no step is
-result_to program s None (Some (op.Call (Some d) f arguments)) = Stuck
 result_to program s n None = Stuck
-result_to program s n (Some (op.Const d m)) = Stuck
-result_to program s n (Some (op.Copy d a)) = Stuck
-result_to program s n (Some (op.Wide d a)) = Stuck
-result_to program s n (Some (op.Low d a)) = Stuck
-result_to program s n (Some (op.Low16 d a)) = Stuck
-result_to program s n (Some (op.Neg d a)) = Stuck
-result_to program s n (Some (op.Not d a)) = Stuck
-result_to program s n (Some (op.Add d a b)) = Stuck
-result_to program s n (Some (op.Sub d a b)) = Stuck
-result_to program s n (Some (op.Mul d a b)) = Stuck
-result_to program s n (Some (op.And d a b)) = Stuck
-result_to program s n (Some (op.Or d a b)) = Stuck
-result_to program s n (Some (op.Xor d a b)) = Stuck
-result_to program s n (Some (op.Shl d a c)) = Stuck
-result_to program s n (Some (op.Sar d a c)) = Stuck
-result_to program s n (Some (op.Div d a b)) = Stuck
-result_to program s n (Some (op.Rem d a b)) = Stuck
-result_to program s n (Some (op.Set how d a b)) = Stuck
-result_to program s n (Some (op.Frame d k)) = Stuck
-result_to program s n (Some (op.Static d k)) = Stuck
-result_to program s n (Some (op.Load bits d p i)) = Stuck
-result_to program s n (Some (op.Store bits p i a)) = Stuck
-result_to program s n (Some (op.Get bits d k)) = Stuck
-result_to program s n (Some (op.Put bits k a)) = Stuck
-result_to program s n (Some (op.Clear k)) = Stuck
-result_to program s n (Some (op.Param d k)) = Stuck
-result_to program s n (Some (op.Putchar d a)) = Stuck
-result_to program s n (Some (op.Getchar d)) = Stuck
-result_to program s n (Some (op.Exit a)) = Stuck
-result_to program s n (Some (op.Same a b)) = Stuck
-result_to program s n (Some (op.Mark statement)) = Stuck
-result_to program s n (Some op.Turn) = Stuck
-result_to program s n (Some (op.Jump x)) = Stuck
-result_to program s n (Some (op.Branch how a b x y)) = Stuck
-result_to program s n (Some (op.Return a)) = Stuck
+result_to program s n (Some op) = resumes program s (shape op).leads n
 
 -- The exit status is the low 8 bits of what the first call returns (C99 5.1.2.2.3).
 abbrev pub low_byte : ℤ → ℕ

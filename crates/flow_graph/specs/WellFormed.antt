@@ -13,49 +13,26 @@ use Rattle.flow_graph.specs.declared.op.Op.TheVariants as op
 use Rattle.flow_graph.specs.Graphs.{Flow, IsArray, IsFlow, LastIsEnd, Stands}
 use Rattle.flow_graph.specs.Meaning.{Moves, most_active, step}
 use Rattle.flow_graph.specs.Running.{GraphAt, first_state}
+use Rattle.flow_graph.specs.Shapes.{About, NothingElse, TheNumber, TheWord, TheObject, TheFunction, TheStatement}
+use Rattle.flow_graph.specs.Shapes.{TheTurn, shape}
 use Rattle.flow_graph.specs.States.{Activation, GraphProgram, State, Waiting, active_of, depth_of, elements_of}
 use Rattle.flow_graph.specs.States.{entry_of, flow_at, op_of, value_at}
 
 -- ---- programs of graphs
 
+-- a function or an object is among so many
+abbrev pub IsWithin : ℕ → ℕ → About → Type 0
+IsWithin functions objects NothingElse = ⊤
+IsWithin functions objects (TheNumber n) = ⊤
+IsWithin functions objects (TheWord k) = ⊤
+IsWithin functions objects (TheObject k) = k < objects
+IsWithin functions objects (TheFunction f) = f < functions
+IsWithin functions objects (TheStatement s) = ⊤
+IsWithin functions objects TheTurn = ⊤
+
 -- the functions and objects that an op names are among so many
 abbrev pub NamesWithin : ℕ → ℕ → Op → Type 0
-NamesWithin functions objects (op.Const d n) = ⊤
-NamesWithin functions objects (op.Copy d s) = ⊤
-NamesWithin functions objects (op.Wide d s) = ⊤
-NamesWithin functions objects (op.Low d s) = ⊤
-NamesWithin functions objects (op.Low16 d s) = ⊤
-NamesWithin functions objects (op.Neg d a) = ⊤
-NamesWithin functions objects (op.Not d a) = ⊤
-NamesWithin functions objects (op.Add d a b) = ⊤
-NamesWithin functions objects (op.Sub d a b) = ⊤
-NamesWithin functions objects (op.Mul d a b) = ⊤
-NamesWithin functions objects (op.And d a b) = ⊤
-NamesWithin functions objects (op.Or d a b) = ⊤
-NamesWithin functions objects (op.Xor d a b) = ⊤
-NamesWithin functions objects (op.Shl d a c) = ⊤
-NamesWithin functions objects (op.Sar d a c) = ⊤
-NamesWithin functions objects (op.Div d a b) = ⊤
-NamesWithin functions objects (op.Rem d a b) = ⊤
-NamesWithin functions objects (op.Set how d a b) = ⊤
-NamesWithin functions objects (op.Frame d k) = ⊤
-NamesWithin functions objects (op.Static d k) = k < objects
-NamesWithin functions objects (op.Load bits d p i) = ⊤
-NamesWithin functions objects (op.Store bits p i s) = ⊤
-NamesWithin functions objects (op.Get bits d k) = k < objects
-NamesWithin functions objects (op.Put bits k s) = k < objects
-NamesWithin functions objects (op.Clear k) = ⊤
-NamesWithin functions objects (op.Param d k) = ⊤
-NamesWithin functions objects (op.Call d f arguments) = f < functions
-NamesWithin functions objects (op.Putchar d s) = ⊤
-NamesWithin functions objects (op.Getchar d) = ⊤
-NamesWithin functions objects (op.Exit s) = ⊤
-NamesWithin functions objects (op.Same a b) = ⊤
-NamesWithin functions objects (op.Mark s) = ⊤
-NamesWithin functions objects op.Turn = ⊤
-NamesWithin functions objects (op.Jump x) = ⊤
-NamesWithin functions objects (op.Branch how a b x y) = ⊤
-NamesWithin functions objects (op.Return a) = ⊤
+NamesWithin functions objects op = IsWithin functions objects (shape op).about
 
 -- What the graph of a function keeps in a program of so many functions and objects: it has a first block, each of its
 -- blocks is ended, and its ops name functions and objects of the program alone.

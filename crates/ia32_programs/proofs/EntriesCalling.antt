@@ -17,7 +17,8 @@ use Rattle.ia32_insn.specs.Keeps.{AreDisjoint}
 use Rattle.ia32_insn.specs.Meaning.{load, word_of}
 use Rattle.ia32_insn.specs.Items.{Symbols, data_bytes, data_start, round_up, stack_end, text_area}
 use Rattle.flow_graph.specs.declared.op.Op.TheVariants as op
-use Rattle.flow_graph.specs.Graphs.{FitsOp, Flow, IsMet, points_of, two}
+use Rattle.flow_graph.specs.Graphs.{FitsOp, Flow, IsMet, points_of}
+use Rattle.flow_graph.specs.Shapes.{two}
 use Rattle.flow_graph.specs.Meaning.{Moved, Moves, Halts, Stuck, at_point, enters, given, most_active, values_at}
 use Rattle.flow_graph.specs.Sizes.{most_words}
 use Rattle.flow_graph.specs.States as graph

@@ -12,7 +12,8 @@ use Rattle.ia32_regs.specs.Places.{Place, InWord, InByte, InSlot}
 use Rattle.ia32_insn.specs.State as machine
 use Rattle.ia32_insn.specs.Meaning.{word_of}
 use Rattle.flow_graph.specs.declared.op.Op.{Op}
-use Rattle.flow_graph.specs.Graphs.{IsIn, IsMet, two}
+use Rattle.flow_graph.specs.Graphs.{IsIn, IsMet}
+use Rattle.flow_graph.specs.Shapes.{two}
 use Rattle.flow_graph.specs.Liveness.{uses}
 use Rattle.flow_graph.specs.Meaning.{one_more, values_at}
 use Rattle.flow_graph.specs.States as graph

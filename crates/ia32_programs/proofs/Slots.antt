@@ -8,66 +8,23 @@ use Rattle.pcc_base.specs.declared.run.Width.TheVariants.{One, Two}
 use Rattle.pcc_base.proofs.Lists.{all-at}
 use Rattle.ia32_regs.specs.Places.{Place, InSlot}
 use Rattle.flow_graph.specs.declared.op.Op.{Op}
-use Rattle.flow_graph.specs.declared.op.Op.TheVariants as op
 use Rattle.flow_graph.specs.Graphs.{Flow, FitsOp, HasWidth, IsFlow, IsPlaced}
 use Rattle.flow_graph.specs.Liveness.{defined}
+use Rattle.flow_graph.specs.Shapes.{Takes, NoRegister, Count, Division, AcrossCall, shape}
+use Rattle.flow_graph.proofs.Asked.{HasVariable, has-all}
 use Rattle.ia32_rows.specs.Placements.{in_slots}
 use Rattle.ia32_rows.specs.Rows.{AllApart, AreApart, IsSlot}
 use Rattle.liveness.proofs.Placed.{op-fits}
 use Rattle.liveness.proofs.Using.{used-within}
 use Rattle.ia32_rows.specs.Laws.{ArePlacesApart}
-use Rattle.ia32_programs.specs.Supports.{AreSlots, HoldsWidth, IsPlaceFor, IsSpared, SlotsSupport}
+use Rattle.ia32_programs.specs.Supports.{AreSlots, HoldsWidth, IsPlaceFor, IsSpared, IsSparedBy, SlotsSupport}
 use Rattle.ia32_programs.specs.Supports.{SupportsPoint}
 
 -- ---- variables
 
--- the graph has the variable
-abbrev pub HasVariable : Flow → ℕ → Type 0
-HasVariable flow v = (width : Width) × HasWidth flow v width
-
--- one that equals it
-same-has : (flow : Flow) (d v : ℕ) (width : Width) → HasWidth flow d width → Some d ≡ Some v → HasVariable flow v
-same-has flow d v width h e = (width, subst (λ (n : ℕ). HasWidth flow n width) (same_Some d v e) h)
-
 -- the variable that an op writes is there, where the op fits
 pub defined-has : (flow : Flow) (o : Op) (v : ℕ) → FitsOp flow o → defined o ≡ Some v → HasVariable flow v
-defined-has flow (op.Const d n) v fits e = same-has flow d v fits.0.0 fits.0.1 e
-defined-has flow (op.Copy d s) v fits e = same-has flow d v fits.0.0 fits.0.1 e
-defined-has flow (op.Wide d s) v fits e = same-has flow d v Two fits.0 e
-defined-has flow (op.Low d s) v fits e = same-has flow d v One fits.0 e
-defined-has flow (op.Low16 d s) v fits e = same-has flow d v Two fits.0 e
-defined-has flow (op.Neg d a) v fits e = same-has flow d v Two fits.0 e
-defined-has flow (op.Not d a) v fits e = same-has flow d v Two fits.0 e
-defined-has flow (op.Add d a b) v fits e = same-has flow d v Two fits.0 e
-defined-has flow (op.Sub d a b) v fits e = same-has flow d v Two fits.0 e
-defined-has flow (op.Mul d a b) v fits e = same-has flow d v Two fits.0 e
-defined-has flow (op.And d a b) v fits e = same-has flow d v Two fits.0 e
-defined-has flow (op.Or d a b) v fits e = same-has flow d v Two fits.0 e
-defined-has flow (op.Xor d a b) v fits e = same-has flow d v Two fits.0 e
-defined-has flow (op.Shl d a c) v fits e = same-has flow d v Two fits.0 e
-defined-has flow (op.Sar d a c) v fits e = same-has flow d v Two fits.0 e
-defined-has flow (op.Div d a b) v fits e = same-has flow d v Two fits.0 e
-defined-has flow (op.Rem d a b) v fits e = same-has flow d v Two fits.0 e
-defined-has flow (op.Set how d a b) v fits e = same-has flow d v Two fits.0 e
-defined-has flow (op.Frame d k) v fits e = same-has flow d v Two fits.0 e
-defined-has flow (op.Static d k) v fits e = same-has flow d v Two fits.0 e
-defined-has flow (op.Load bits d p i) v fits e = same-has flow d v Two fits.0 e
-defined-has flow (op.Get bits d k) v fits e = same-has flow d v Two fits.0 e
-defined-has flow (op.Param d k) v fits e = same-has flow d v Two fits.0 e
-defined-has flow (op.Call None f arguments) v fits e = absurd (none-some v e)
-defined-has flow (op.Call (Some d) f arguments) v fits e = same-has flow d v Two fits.0 e
-defined-has flow (op.Putchar d s) v fits e = same-has flow d v Two fits.0 e
-defined-has flow (op.Getchar d) v fits e = same-has flow d v Two fits.0 e
-defined-has flow (op.Store bits p i s) v fits e = absurd (none-some v e)
-defined-has flow (op.Put bits k s) v fits e = absurd (none-some v e)
-defined-has flow (op.Clear k) v fits e = absurd (none-some v e)
-defined-has flow (op.Exit s) v fits e = absurd (none-some v e)
-defined-has flow (op.Same a b) v fits e = absurd (none-some v e)
-defined-has flow (op.Mark s) v fits e = absurd (none-some v e)
-defined-has flow op.Turn v fits e = absurd (none-some v e)
-defined-has flow (op.Jump x) v fits e = absurd (none-some v e)
-defined-has flow (op.Branch how a b x y) v fits e = absurd (none-some v e)
-defined-has flow (op.Return a) v fits e = absurd (none-some v e)
+defined-has flow o v fits e = (has-all flow o fits).written v e
 
 -- ---- slots
 
@@ -109,16 +66,11 @@ holds-slot One slot = tt
 holds-slot Two slot = tt
 
 -- every op leaves slots as they are
-slot-spared : (o : Op) (slot : ℕ) → IsSpared o (InSlot slot)
-slot-spared (op.Shl d a c) slot = tt
-slot-spared (op.Sar d a c) slot = tt
-slot-spared (op.Div d a b) slot = (tt, tt)
-slot-spared (op.Rem d a b) slot = (tt, tt)
-slot-spared (op.Call d f arguments) slot = (tt, tt, tt)
-slot-spared (op.Putchar d s) slot = (tt, tt, tt)
-slot-spared (op.Getchar d) slot = (tt, tt, tt)
-slot-spared (op.Exit s) slot = (tt, tt, tt)
-slot-spared o slot = tt
+slot-spared : (takes : Takes) (slot : ℕ) → IsSparedBy takes (InSlot slot)
+slot-spared NoRegister slot = tt
+slot-spared (Count count shifted) slot = tt
+slot-spared (Division dividend divisor gives) slot = (tt, tt)
+slot-spared AcrossCall slot = (tt, tt, tt)
 
 -- ---- the law
 
@@ -165,7 +117,7 @@ slots-point flow homes frame arrays slots point o is h placed has =
           let width = defined-has flow o v (op-fits flow homes is point placed o has) e in
           has-slot flow slots v width.0 h.as_many width.1;
       stays = λ v place other e.
-          let found = slot-of slots v place e in (e, subst (IsSpared o) found.2 (slot-spared o found.0));
+          let found = slot-of slots v place e in (e, subst (IsSpared o) found.2 (slot-spared (shape o).takes found.0));
     }
   where
     apart : (v w : ℕ) (one two : Place) → v ≢ w → option_map InSlot (slice_get slots v) ≡ Some one

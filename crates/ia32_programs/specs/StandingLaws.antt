@@ -10,6 +10,7 @@ use Rattle.ia32_insn.specs.Items.{text_start}
 use Rattle.flow_graph.specs.declared.op.Op.{Op}
 use Rattle.flow_graph.specs.declared.op.Op.TheVariants as op
 use Rattle.flow_graph.specs.Graphs.{Stands}
+use Rattle.flow_graph.specs.Shapes.{Leads, Onward, IntoCall, ToBlock, ToEither, OutOfCall, OutOfProgram, shape}
 use Rattle.flow_graph.specs.States as graph
 use Rattle.flow_graph.specs.Meaning.{step}
 use Rattle.flow_graph.specs.States.{Waiting, entry_of, flow_at, op_at, op_of, point_after}
@@ -186,44 +187,17 @@ CallsReturn =
 
 -- ---- steps
 
+abbrev pub StaysInCall : Leads → Type 0
+StaysInCall Onward = ⊤
+StaysInCall (IntoCall result words) = ⊥
+StaysInCall (ToBlock x) = ⊤
+StaysInCall (ToEither x y) = ⊤
+StaysInCall OutOfCall = ⊥
+StaysInCall OutOfProgram = ⊤
+
 -- all ops but calls and returns
 abbrev pub IsFollowed : Op → Type 0
-IsFollowed (op.Const d n) = ⊤
-IsFollowed (op.Copy d s) = ⊤
-IsFollowed (op.Wide d s) = ⊤
-IsFollowed (op.Low d s) = ⊤
-IsFollowed (op.Low16 d s) = ⊤
-IsFollowed (op.Neg d a) = ⊤
-IsFollowed (op.Not d a) = ⊤
-IsFollowed (op.Add d a b) = ⊤
-IsFollowed (op.Sub d a b) = ⊤
-IsFollowed (op.Mul d a b) = ⊤
-IsFollowed (op.And d a b) = ⊤
-IsFollowed (op.Or d a b) = ⊤
-IsFollowed (op.Xor d a b) = ⊤
-IsFollowed (op.Shl d a c) = ⊤
-IsFollowed (op.Sar d a c) = ⊤
-IsFollowed (op.Div d a b) = ⊤
-IsFollowed (op.Rem d a b) = ⊤
-IsFollowed (op.Set how d a b) = ⊤
-IsFollowed (op.Frame d k) = ⊤
-IsFollowed (op.Static d k) = ⊤
-IsFollowed (op.Load bits d p i) = ⊤
-IsFollowed (op.Store bits p i s) = ⊤
-IsFollowed (op.Get bits d k) = ⊤
-IsFollowed (op.Put bits k s) = ⊤
-IsFollowed (op.Clear k) = ⊤
-IsFollowed (op.Param d k) = ⊤
-IsFollowed (op.Call d f arguments) = ⊥
-IsFollowed (op.Putchar d s) = ⊤
-IsFollowed (op.Getchar d) = ⊤
-IsFollowed (op.Exit s) = ⊤
-IsFollowed (op.Same a b) = ⊤
-IsFollowed (op.Mark s) = ⊤
-IsFollowed op.Turn = ⊤
-IsFollowed (op.Jump x) = ⊤
-IsFollowed (op.Branch how a b x y) = ⊤
-IsFollowed (op.Return a) = ⊥
+IsFollowed op = StaysInCall (shape op).leads
 
 -- From every state that shows one of the program at such an op the machine follows the program's step.
 abbrev pub StepsFollow : Type 0

@@ -10,9 +10,9 @@ use Rattle.ia32_regs.specs.declared.names.Reg8.TheVariants.{Cl}
 use Rattle.ia32_regs.specs.Places.{Place, InWord, InByte, InSlot}
 use Rattle.ia32_insn.specs.Items.{Places, data_start, stack_end}
 use Rattle.flow_graph.specs.declared.op.Op.{Op}
-use Rattle.flow_graph.specs.declared.op.Op.TheVariants as op
 use Rattle.flow_graph.specs.Graphs.{Flow, IsFlow, IsIn, IsPlaced}
 use Rattle.flow_graph.specs.Liveness.{BeginsWith, IsSuccessor, defined, uses}
+use Rattle.flow_graph.specs.Shapes.{Takes, NoRegister, Count, Division, AcrossCall, shape}
 use Rattle.flow_graph.specs.Sizes.{most_words}
 use Rattle.flow_graph.specs.States.{flow_at}
 use Rattle.flow_graph.specs.WellFormed.{IsGraphProgram}
@@ -80,45 +80,18 @@ abbrev pub IsSparedByCall : Place → Type 0
 IsSparedByCall place =
     ArePlacesApart (InWord Eax) place × ArePlacesApart (InWord Ecx) place × ArePlacesApart (InWord Edx) place
 
--- The op leaves the place as it is, unless the place is that of the variable that it writes: a shift takes CL, a
--- division EAX and EDX (Intel manual, volume 2, SAL/SAR/SHL/SHR and IDIV), and a call what calls take.
+-- apart from what an op's instructions take: a shift takes CL, a division EAX and EDX (Intel manual, volume 2,
+-- SAL/SAR/SHL/SHR and IDIV), and a call what calls take
+abbrev pub IsSparedBy : Takes → Place → Type 0
+IsSparedBy NoRegister place = ⊤
+IsSparedBy (Count count shifted) place = ArePlacesApart (InByte Cl) place
+IsSparedBy (Division dividend divisor gives) place =
+    ArePlacesApart (InWord Eax) place × ArePlacesApart (InWord Edx) place
+IsSparedBy AcrossCall place = IsSparedByCall place
+
+-- the op leaves the place as it is, unless the place is that of the variable that it writes
 abbrev pub IsSpared : Op → Place → Type 0
-IsSpared (op.Const d n) place = ⊤
-IsSpared (op.Copy d s) place = ⊤
-IsSpared (op.Wide d s) place = ⊤
-IsSpared (op.Low d s) place = ⊤
-IsSpared (op.Low16 d s) place = ⊤
-IsSpared (op.Neg d a) place = ⊤
-IsSpared (op.Not d a) place = ⊤
-IsSpared (op.Add d a b) place = ⊤
-IsSpared (op.Sub d a b) place = ⊤
-IsSpared (op.Mul d a b) place = ⊤
-IsSpared (op.And d a b) place = ⊤
-IsSpared (op.Or d a b) place = ⊤
-IsSpared (op.Xor d a b) place = ⊤
-IsSpared (op.Shl d a c) place = ArePlacesApart (InByte Cl) place
-IsSpared (op.Sar d a c) place = ArePlacesApart (InByte Cl) place
-IsSpared (op.Div d a b) place = ArePlacesApart (InWord Eax) place × ArePlacesApart (InWord Edx) place
-IsSpared (op.Rem d a b) place = ArePlacesApart (InWord Eax) place × ArePlacesApart (InWord Edx) place
-IsSpared (op.Set how d a b) place = ⊤
-IsSpared (op.Frame d k) place = ⊤
-IsSpared (op.Static d k) place = ⊤
-IsSpared (op.Load bits d p i) place = ⊤
-IsSpared (op.Store bits p i s) place = ⊤
-IsSpared (op.Get bits d k) place = ⊤
-IsSpared (op.Put bits k s) place = ⊤
-IsSpared (op.Clear k) place = ⊤
-IsSpared (op.Param d k) place = ⊤
-IsSpared (op.Call d f arguments) place = IsSparedByCall place
-IsSpared (op.Putchar d s) place = IsSparedByCall place
-IsSpared (op.Getchar d) place = IsSparedByCall place
-IsSpared (op.Exit s) place = IsSparedByCall place
-IsSpared (op.Same a b) place = ⊤
-IsSpared (op.Mark s) place = ⊤
-IsSpared op.Turn place = ⊤
-IsSpared (op.Jump x) place = ⊤
-IsSpared (op.Branch how a b x y) place = ⊤
-IsSpared (op.Return a) place = ⊤
+IsSpared op place = IsSparedBy (shape op).takes place
 
 -- ---- a graph
 

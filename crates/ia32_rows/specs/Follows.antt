@@ -11,6 +11,8 @@ use Rattle.flow_graph.specs.declared.op.Op.{Op}
 use Rattle.flow_graph.specs.declared.op.Op.TheVariants as op
 use Rattle.flow_graph.specs.Meaning.{Moved, Moves, Halts, Stuck, step}
 use Rattle.flow_graph.specs.Running.{GraphAt, GraphOutcome, first_state, visits_at}
+use Rattle.flow_graph.specs.Shapes.{About, NothingElse, TheNumber, TheWord, TheObject, TheFunction, TheStatement}
+use Rattle.flow_graph.specs.Shapes.{TheTurn, shape}
 use Rattle.flow_graph.specs.States as graph
 use Rattle.flow_graph.specs.States.{op_at}
 use Rattle.flow_graph.specs.WellFormed.{IsGraphProgram, IsState}
@@ -34,45 +36,19 @@ ComesToEnd code s g end =
     (t : machine.State) × Comes code.text s t × IsClear code.text t.eip × Steps t (moved.Halts end)
     × (t.taken ≡ g.taken) × (t.written ≡ g.written)
 
+abbrev pub about_nop : About → Bool
+about_nop NothingElse = false
+about_nop (TheNumber n) = false
+about_nop (TheWord k) = false
+about_nop (TheObject k) = false
+about_nop (TheFunction f) = false
+about_nop (TheStatement s) = true
+about_nop TheTurn = true
+
 -- a mark and a turn are a NOP of their own
 abbrev pub is_nop : Option Op → Bool
 is_nop None = false
-is_nop (Some (op.Const d n)) = false
-is_nop (Some (op.Copy d s)) = false
-is_nop (Some (op.Wide d s)) = false
-is_nop (Some (op.Low d s)) = false
-is_nop (Some (op.Low16 d s)) = false
-is_nop (Some (op.Neg d a)) = false
-is_nop (Some (op.Not d a)) = false
-is_nop (Some (op.Add d a b)) = false
-is_nop (Some (op.Sub d a b)) = false
-is_nop (Some (op.Mul d a b)) = false
-is_nop (Some (op.And d a b)) = false
-is_nop (Some (op.Or d a b)) = false
-is_nop (Some (op.Xor d a b)) = false
-is_nop (Some (op.Shl d a c)) = false
-is_nop (Some (op.Sar d a c)) = false
-is_nop (Some (op.Div d a b)) = false
-is_nop (Some (op.Rem d a b)) = false
-is_nop (Some (op.Set how d a b)) = false
-is_nop (Some (op.Frame d k)) = false
-is_nop (Some (op.Static d k)) = false
-is_nop (Some (op.Load bits d p i)) = false
-is_nop (Some (op.Store bits p i s)) = false
-is_nop (Some (op.Get bits d k)) = false
-is_nop (Some (op.Put bits k s)) = false
-is_nop (Some (op.Clear k)) = false
-is_nop (Some (op.Param d k)) = false
-is_nop (Some (op.Call d f arguments)) = false
-is_nop (Some (op.Putchar d s)) = false
-is_nop (Some (op.Getchar d)) = false
-is_nop (Some (op.Exit s)) = false
-is_nop (Some (op.Same a b)) = false
-is_nop (Some (op.Mark s)) = true
-is_nop (Some op.Turn) = true
-is_nop (Some (op.Jump x)) = false
-is_nop (Some (op.Branch how a b x y)) = false
-is_nop (Some (op.Return a)) = false
+is_nop (Some op) = about_nop (shape op).about
 
 -- The machine follows a step of the program: by one step at a NOP and then by steps at none, or else by steps of which
 -- none is at one.

@@ -14,15 +14,17 @@ use Rattle.flow_graph.specs.declared.op.Comparison.{Comparison}
 use Rattle.flow_graph.specs.declared.op.Comparison.TheVariants.{Eq}
 use Rattle.flow_graph.specs.declared.op.Op.{Op}
 use Rattle.flow_graph.specs.declared.op.Op.TheVariants as op
-use Rattle.flow_graph.specs.Graphs.{Flow, IsIn, Stands, following, is_end, points_of}
+use Rattle.flow_graph.specs.Graphs.{Flow, IsIn, Stands, ends_block, following, is_end, points_of}
 use Rattle.flow_graph.specs.Liveness.{BeginsWith, IsBehind, IsDefinedAt, IsLiveAfter, IsLiveBefore, IsSuccessor}
-use Rattle.flow_graph.specs.Liveness.{LeadsTo, defined, uses}
+use Rattle.flow_graph.specs.Liveness.{GoesTo, LeadsTo, defined, uses}
 use Rattle.flow_graph.specs.Meaning.{Moved, Moves, Halts, Stuck, accessed, act, at_point, back_to, bytes_of, calls}
 use Rattle.flow_graph.specs.Meaning.{checked, clears, compared, comparison, divided, ends_program, enters, first_of}
 use Rattle.flow_graph.specs.Meaning.{arrays_compared, both, given, gets, into_block, loads, low_byte, most_active}
 use Rattle.flow_graph.specs.Meaning.{no_quotient, of_width, one_more, one_number, onward, puts, puts_scalar, result_to}
 use Rattle.flow_graph.specs.Meaning.{returns_to, sets, shift_count, shifted_right, step, stored, stores}
 use Rattle.flow_graph.specs.Meaning.{two_numbers, values_at}
+use Rattle.flow_graph.specs.Shapes as shapes
+use Rattle.flow_graph.specs.Shapes.{shape}
 use Rattle.flow_graph.specs.States.{Activation, Elements, GraphProgram, State, Waiting, array_from, array_at, depth_of}
 use Rattle.flow_graph.specs.States.{element_at, elements_of, entry_of, first_activation, fitted, flow_at, number_at}
 use Rattle.flow_graph.specs.States.{number_of, op_of, point_after, value_at, width_of, with_array, with_element}
@@ -193,44 +195,14 @@ width-leads R bits array go' go h =
     if-leads' false = tt
 
 -- an op that is no end leads to the point behind its own
-plain-leads : (flow : Flow) (point next : ℕ) (o : Op) → is_end o ≡ false → IsBehind flow point next
-    → LeadsTo flow point next o
-plain-leads flow point next (op.Const d n) e h = h
-plain-leads flow point next (op.Copy d s) e h = h
-plain-leads flow point next (op.Wide d s) e h = h
-plain-leads flow point next (op.Low d s) e h = h
-plain-leads flow point next (op.Low16 d s) e h = h
-plain-leads flow point next (op.Neg d a) e h = h
-plain-leads flow point next (op.Not d a) e h = h
-plain-leads flow point next (op.Add d a b) e h = h
-plain-leads flow point next (op.Sub d a b) e h = h
-plain-leads flow point next (op.Mul d a b) e h = h
-plain-leads flow point next (op.And d a b) e h = h
-plain-leads flow point next (op.Or d a b) e h = h
-plain-leads flow point next (op.Xor d a b) e h = h
-plain-leads flow point next (op.Shl d a c) e h = h
-plain-leads flow point next (op.Sar d a c) e h = h
-plain-leads flow point next (op.Div d a b) e h = h
-plain-leads flow point next (op.Rem d a b) e h = h
-plain-leads flow point next (op.Set how d a b) e h = h
-plain-leads flow point next (op.Frame d k) e h = h
-plain-leads flow point next (op.Static d k) e h = h
-plain-leads flow point next (op.Load bits d p i) e h = h
-plain-leads flow point next (op.Store bits p i s) e h = h
-plain-leads flow point next (op.Get bits d k) e h = h
-plain-leads flow point next (op.Put bits k s) e h = h
-plain-leads flow point next (op.Clear k) e h = h
-plain-leads flow point next (op.Param d k) e h = h
-plain-leads flow point next (op.Call d f arguments) e h = h
-plain-leads flow point next (op.Putchar d s) e h = h
-plain-leads flow point next (op.Getchar d) e h = h
-plain-leads flow point next (op.Exit s) e h = absurd (cc)
-plain-leads flow point next (op.Same a b) e h = h
-plain-leads flow point next (op.Mark s) e h = h
-plain-leads flow point next op.Turn e h = h
-plain-leads flow point next (op.Jump x) e h = absurd (cc)
-plain-leads flow point next (op.Branch how a b x y) e h = absurd (cc)
-plain-leads flow point next (op.Return a) e h = absurd (cc)
+plain-leads : (flow : Flow) (point next : ℕ) (leads : shapes.Leads) → ends_block leads ≡ false
+    → IsBehind flow point next → GoesTo flow point next leads
+plain-leads flow point next shapes.Onward e h = h
+plain-leads flow point next (shapes.IntoCall result words) e h = h
+plain-leads flow point next (shapes.ToBlock x) e h = absurd (cc)
+plain-leads flow point next (shapes.ToEither x y) e h = absurd (cc)
+plain-leads flow point next shapes.OutOfCall e h = absurd (cc)
+plain-leads flow point next shapes.OutOfProgram e h = absurd (cc)
 
 -- onward from a state near the one that the step begins with
 onward-leads : (program : GraphProgram) (g u : State) (vs : List Value) (vss : List (List Value)) (o : Op)
@@ -257,7 +229,7 @@ onward-leads program g u vs vss o here plain near agree =
             (g.block, here.stands),
             o,
             here.at,
-            plain-leads (flow_at program g.current.function) g.point next o plain (g.block, behind),
+            plain-leads (flow_at program g.current.function) g.point next (shape o).leads plain (g.block, behind),
           );
           agree = agree;
           waiting = near.waiting;

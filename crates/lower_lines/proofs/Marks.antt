@@ -21,7 +21,7 @@ use Rattle.flow_graph.specs.declared.op.Op.{Op}
 use Rattle.flow_graph.specs.declared.op.Op.TheVariants as op
 use Rattle.flow_graph.specs.Graphs.{Flow, IsDistinct, IsIn, IsPlaced, is_end}
 use Rattle.flow_graph.specs.Kinds.{marked}
-use Rattle.flow_graph.specs.Liveness.{if_any}
+use Rattle.flow_graph.specs.Shapes.{if_any}
 use Rattle.lower_lines.specs.Following.{Closes}
 use Rattle.lower_lines.specs.Laws.{MarksHold}
 use Rattle.lower_lines.specs.Lines.{Line, Start, Emit, ops_in, points_from, points_in, starts_in}

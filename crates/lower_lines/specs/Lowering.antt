@@ -11,7 +11,7 @@ use Rattle.flow_graph.specs.declared.op.Op.{Op}
 use Rattle.flow_graph.specs.declared.op.Op.TheVariants.{Mark}
 use Rattle.flow_graph.specs.Graphs.{Flow, IsDistinct, IsEnded, IsPlaced}
 use Rattle.flow_graph.specs.Kinds.{marked}
-use Rattle.flow_graph.specs.Liveness.{if_any}
+use Rattle.flow_graph.specs.Shapes.{if_any}
 use Rattle.flow_graph.specs.Running.{GraphOutcome}
 use Rattle.flow_graph.specs.Sizes.{array_bytes, most_words, words_of}
 use Rattle.flow_graph.specs.States.{GraphProgram}

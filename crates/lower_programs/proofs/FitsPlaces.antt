@@ -17,7 +17,8 @@ use Rattle.c_tree.specs.Operators.{step_op}
 use Rattle.c_tree.specs.Program.{int, Local}
 use Rattle.c_tree.specs.WellTyped.{BinaryGives, IsResult}
 use Rattle.flow_graph.specs.declared.op.Op.TheVariants as op
-use Rattle.flow_graph.specs.Graphs.{IsMet, two}
+use Rattle.flow_graph.specs.Graphs.{IsMet}
+use Rattle.flow_graph.specs.Shapes.{two}
 use Rattle.lower_lines.specs.Expressions.{Addressed, Located, AtLocal, AtObject, AtAddress, address_part}
 use Rattle.lower_lines.specs.Expressions.{all_simple, arguments_blocks, arguments_levels}
 use Rattle.lower_lines.specs.Expressions.{arguments_lines, arguments_words, array_kept, assign_part}

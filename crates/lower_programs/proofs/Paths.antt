@@ -10,97 +10,38 @@ use Rattle.std.proofs.lemmas.List.{length-map}
 use Rattle.pcc_base.specs.declared.run.Width.{Width}
 use Rattle.flow_graph.specs.declared.op.Op.{Op}
 use Rattle.flow_graph.specs.declared.op.Op.TheVariants as op
-use Rattle.flow_graph.specs.Graphs.{Flow, IsIn, following, is_end, points_of}
-use Rattle.flow_graph.specs.Liveness.{BeginsWith, FixedDies, IsBehind, IsDefinedAt, IsLiveAfter, IsLiveBefore}
-use Rattle.flow_graph.specs.Liveness.{IsSuccessor, IsUsedAt, LeadsTo}
+use Rattle.flow_graph.specs.Graphs.{Flow, IsIn, ends_block, following, is_end, points_of}
+use Rattle.flow_graph.specs.Liveness.{BeginsWith, FixedDies, GoesTo, IsBehind, IsDefinedAt, IsLiveAfter, IsLiveBefore}
+use Rattle.flow_graph.specs.Liveness.{IsSuccessor, IsUsedAt, TakenDies}
+use Rattle.flow_graph.specs.Shapes.{Leads, Onward, IntoCall, ToBlock, ToEither, OutOfCall, OutOfProgram, shape}
+use Rattle.flow_graph.specs.Shapes.{Takes, NoRegister, Count, Division, AcrossCall}
 use Rattle.flow_graph.proofs.LivePaths.{along-path}
 use Rattle.lower_lines.specs.Following.{Closes}
 use Rattle.lower_lines.specs.Lines.{Line, Start, Emit, graph_of_lines, ops_in, points_from, points_in}
 use Rattle.lower_lines.specs.Programs.{blocks_of_function, graph_of_function, lines_of_function}
 use Rattle.lower_lines.specs.Variables.{Context, local_variables}
 use Rattle.lower_lines.proofs.Shapes.{get-range, index-map, length-range}
-use Rattle.lower_programs.specs.Flows.{Flows, Passes, Within, fixed, targets}
+use Rattle.lower_programs.specs.Flows.{Flows, Passes, Within, blocks_led, fixed, fixed_by, targets}
 use Rattle.lower_programs.specs.LiveLaws.{FlowsSuffice}
 
 -- where an op leads: one that is no end to what is behind it, and an end to a block that it goes to
-leads-split : (flow : Flow) (p q : ℕ) (i : Op) → LeadsTo flow p q i
-    → ((is_end i ≡ false) × IsBehind flow p q) ⊎ ((x : ℕ) × IsIn x (targets i) × BeginsWith flow x q)
-leads-split flow point next (op.Const d n) h = inl (refl, h)
-leads-split flow point next (op.Copy d s) h = inl (refl, h)
-leads-split flow point next (op.Wide d s) h = inl (refl, h)
-leads-split flow point next (op.Low d s) h = inl (refl, h)
-leads-split flow point next (op.Low16 d s) h = inl (refl, h)
-leads-split flow point next (op.Neg d a) h = inl (refl, h)
-leads-split flow point next (op.Not d a) h = inl (refl, h)
-leads-split flow point next (op.Add d a b) h = inl (refl, h)
-leads-split flow point next (op.Sub d a b) h = inl (refl, h)
-leads-split flow point next (op.Mul d a b) h = inl (refl, h)
-leads-split flow point next (op.And d a b) h = inl (refl, h)
-leads-split flow point next (op.Or d a b) h = inl (refl, h)
-leads-split flow point next (op.Xor d a b) h = inl (refl, h)
-leads-split flow point next (op.Shl d a c) h = inl (refl, h)
-leads-split flow point next (op.Sar d a c) h = inl (refl, h)
-leads-split flow point next (op.Div d a b) h = inl (refl, h)
-leads-split flow point next (op.Rem d a b) h = inl (refl, h)
-leads-split flow point next (op.Set how d a b) h = inl (refl, h)
-leads-split flow point next (op.Frame d k) h = inl (refl, h)
-leads-split flow point next (op.Static d k) h = inl (refl, h)
-leads-split flow point next (op.Load bits d p i) h = inl (refl, h)
-leads-split flow point next (op.Store bits p i s) h = inl (refl, h)
-leads-split flow point next (op.Get bits d k) h = inl (refl, h)
-leads-split flow point next (op.Put bits k s) h = inl (refl, h)
-leads-split flow point next (op.Clear k) h = inl (refl, h)
-leads-split flow point next (op.Param d k) h = inl (refl, h)
-leads-split flow point next (op.Call d f arguments) h = inl (refl, h)
-leads-split flow point next (op.Putchar d s) h = inl (refl, h)
-leads-split flow point next (op.Getchar d) h = inl (refl, h)
-leads-split flow point next (op.Exit s) h = absurd h
-leads-split flow point next (op.Same a b) h = inl (refl, h)
-leads-split flow point next (op.Mark s) h = inl (refl, h)
-leads-split flow point next op.Turn h = inl (refl, h)
-leads-split flow point next (op.Jump x) h = inr (x, inl refl, h)
-leads-split flow point next (op.Branch how a b x y) (inl h) = inr (x, inl refl, h)
-leads-split flow point next (op.Branch how a b x y) (inr h) = inr (y, inr (inl refl), h)
-leads-split flow point next (op.Return a) h = absurd h
+leads-split : (flow : Flow) (p q : ℕ) (leads : Leads) → GoesTo flow p q leads
+    → ((ends_block leads ≡ false) × IsBehind flow p q)
+    ⊎ ((x : ℕ) × IsIn x (blocks_led leads) × BeginsWith flow x q)
+leads-split flow point next Onward h = inl (refl, h)
+leads-split flow point next (IntoCall result words) h = inl (refl, h)
+leads-split flow point next (ToBlock x) h = inr (x, inl refl, h)
+leads-split flow point next (ToEither x y) (inl h) = inr (x, inl refl, h)
+leads-split flow point next (ToEither x y) (inr h) = inr (y, inr (inl refl), h)
+leads-split flow point next OutOfCall h = absurd h
+leads-split flow point next OutOfProgram h = absurd h
 
-dies-at : (flow : Flow) (p : ℕ) (i : Op)
-    → ((c a : ℕ) → fixed i ≡ Some (c, a) → (IsLiveAfter flow c p → ⊥) × (c ≢ a)) → FixedDies flow p i
-dies-at flow point (op.Const d n) h = tt
-dies-at flow point (op.Copy d s) h = tt
-dies-at flow point (op.Wide d s) h = tt
-dies-at flow point (op.Low d s) h = tt
-dies-at flow point (op.Low16 d s) h = tt
-dies-at flow point (op.Neg d a) h = tt
-dies-at flow point (op.Not d a) h = tt
-dies-at flow point (op.Add d a b) h = tt
-dies-at flow point (op.Sub d a b) h = tt
-dies-at flow point (op.Mul d a b) h = tt
-dies-at flow point (op.And d a b) h = tt
-dies-at flow point (op.Or d a b) h = tt
-dies-at flow point (op.Xor d a b) h = tt
-dies-at flow point (op.Shl d a c) h = h c a refl
-dies-at flow point (op.Sar d a c) h = h c a refl
-dies-at flow point (op.Div d a b) h = h a b refl
-dies-at flow point (op.Rem d a b) h = h a b refl
-dies-at flow point (op.Set how d a b) h = tt
-dies-at flow point (op.Frame d k) h = tt
-dies-at flow point (op.Static d k) h = tt
-dies-at flow point (op.Load bits d p i) h = tt
-dies-at flow point (op.Store bits p i s) h = tt
-dies-at flow point (op.Get bits d k) h = tt
-dies-at flow point (op.Put bits k s) h = tt
-dies-at flow point (op.Clear k) h = tt
-dies-at flow point (op.Param d k) h = tt
-dies-at flow point (op.Call d f arguments) h = tt
-dies-at flow point (op.Putchar d s) h = tt
-dies-at flow point (op.Getchar d) h = tt
-dies-at flow point (op.Exit s) h = tt
-dies-at flow point (op.Same a b) h = tt
-dies-at flow point (op.Mark s) h = tt
-dies-at flow point op.Turn h = tt
-dies-at flow point (op.Jump x) h = tt
-dies-at flow point (op.Branch how a b x y) h = tt
-dies-at flow point (op.Return a) h = tt
+dies-at : (flow : Flow) (p : ℕ) (takes : Takes)
+    → ((c a : ℕ) → fixed_by takes ≡ Some (c, a) → (IsLiveAfter flow c p → ⊥) × (c ≢ a)) → TakenDies flow p takes
+dies-at flow point NoRegister h = tt
+dies-at flow point (Count count shifted) h = h count shifted refl
+dies-at flow point (Division dividend divisor gives) h = h dividend divisor refl
+dies-at flow point AcrossCall h = tt
 
 -- ---- points in order
 
@@ -296,7 +237,7 @@ module _ (widths : List Width) (arrays : List (ℕ × ℕ)) (count : ℕ) (lines
       steps : (q next w : ℕ) → IsSuccessor flow q next → IsIn w (before next) → (IsDefinedAt flow w q → ⊥)
           → IsIn w (before q)
       steps q next w (placed, i, at, leads) is free =
-          elim (leads-split flow q next i leads) [
+          elim (leads-split flow q next (shape i).leads leads) [
             | inl on ↦ (
                 elim ((at-point q i at).onward on.0 w (behind-has q next i at on.0 on.1 w is)) [
                   | inl written ↦ absurd (free (i, at, written))
@@ -308,7 +249,7 @@ module _ (widths : List Width) (arrays : List (ℕ × ℕ)) (count : ℕ) (lines
 
   -- a fixed operand is in no set behind its op
   pub fixed-dies : (p : ℕ) (i : Op) → slice_get flow.ops p ≡ Some i → FixedDies flow p i
-  fixed-dies p i at = dies-at flow p i both
+  fixed-dies p i at = dies-at flow p (shape i).takes both
     where
       no_target : (j : Op) (c a x : ℕ) → fixed j ≡ Some (c, a) → IsIn x (targets j) → ⊥
       no_target (op.Jump y) c a x e is = none-some (c, a) e
@@ -323,7 +264,7 @@ module _ (widths : List Width) (arrays : List (ℕ × ℕ)) (count : ℕ) (lines
           after-not : (c a : ℕ) → fixed i ≡ Some (c, a) → (IsIn c (after p) → ⊥) → IsLiveAfter flow c p → ⊥
           after-not c a e gone (next, (placed, j, at', leads), live) =
               let same : j ≡ i = same_Some j i (sym at' ∙ at) in
-              elim (leads-split flow p next j leads) [
+              elim (leads-split flow p next (shape j).leads leads) [
                 | inl on ↦ gone (behind-has p next j at' on.0 on.1 c (live-within c next live))
                 | inr goes ↦ no_target i c a goes.0 e (subst (λ (k : Op). IsIn goes.0 (targets k)) same goes.1)
               ]

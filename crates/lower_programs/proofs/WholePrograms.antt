@@ -57,41 +57,13 @@ get-mapped f (y ∷ xs) (suc k) x e = get-mapped f xs k x e
 number-fits : (F O : ℕ) (i : Op) → F ≤ 0xffffffff → O ≤ 0xffffffff → NamesWithin F O i → SmallNumber i
     → ((s : ℕ) → i ≡ op.Mark s → s < 0x1_0000_0000) → NumbersFit i
 number-fits F O (op.Const d n) f o names number mark = number
-number-fits F O (op.Copy d s) f o names number mark = tt
-number-fits F O (op.Wide d s) f o names number mark = tt
-number-fits F O (op.Low d s) f o names number mark = tt
-number-fits F O (op.Low16 d s) f o names number mark = tt
-number-fits F O (op.Neg d a) f o names number mark = tt
-number-fits F O (op.Not d a) f o names number mark = tt
-number-fits F O (op.Add d a b) f o names number mark = tt
-number-fits F O (op.Sub d a b) f o names number mark = tt
-number-fits F O (op.Mul d a b) f o names number mark = tt
-number-fits F O (op.And d a b) f o names number mark = tt
-number-fits F O (op.Or d a b) f o names number mark = tt
-number-fits F O (op.Xor d a b) f o names number mark = tt
-number-fits F O (op.Shl d a c) f o names number mark = tt
-number-fits F O (op.Sar d a c) f o names number mark = tt
-number-fits F O (op.Div d a b) f o names number mark = tt
-number-fits F O (op.Rem d a b) f o names number mark = tt
-number-fits F O (op.Set how d a b) f o names number mark = tt
-number-fits F O (op.Frame d k) f o names number mark = tt
 number-fits F O (op.Static d k) f o names number mark = let h : k < O = names in omega (arith, h, o)
-number-fits F O (op.Load bits d p i) f o names number mark = tt
-number-fits F O (op.Store bits p i s) f o names number mark = tt
 number-fits F O (op.Get bits d k) f o names number mark = let h : k < O = names in omega (arith, h, o)
 number-fits F O (op.Put bits k s) f o names number mark = let h : k < O = names in omega (arith, h, o)
-number-fits F O (op.Clear k) f o names number mark = tt
 number-fits F O (op.Param d k) f o names number mark = number
 number-fits F O (op.Call d k arguments) f o names number mark = let h : k < F = names in omega (arith, h, f)
-number-fits F O (op.Putchar d s) f o names number mark = tt
-number-fits F O (op.Getchar d) f o names number mark = tt
-number-fits F O (op.Exit s) f o names number mark = tt
-number-fits F O (op.Same a b) f o names number mark = tt
 number-fits F O (op.Mark s) f o names number mark = mark s refl
-number-fits F O op.Turn f o names number mark = tt
-number-fits F O (op.Jump x) f o names number mark = tt
-number-fits F O (op.Branch how a b x y) f o names number mark = tt
-number-fits F O (op.Return a) f o names number mark = tt
+number-fits F O _ f o names number mark = tt
 
 module _ (p : Program) (well : WellTyped p) (memory : IsInMemory p) (k : ℕ) (f : Function)
     (at : slice_get p.functions k ≡ Some f) where

@@ -3,15 +3,24 @@ use Rattle.std.specs.Prelude.{◌≡◌, ◌<◌, length, FitsSigned}
 use Rattle.std.specs.Int.{w32}
 use Rattle.c_tree.specs.Program.{Function, Program}
 use Rattle.flow_graph.specs.declared.op.Op.{Op}
-use Rattle.flow_graph.specs.declared.op.Op.TheVariants as op
 use Rattle.flow_graph.specs.Graphs.{FitsOp, Flow}
+use Rattle.flow_graph.specs.Shapes.{About, NothingElse, TheNumber, TheWord, TheObject, TheFunction, TheStatement}
+use Rattle.flow_graph.specs.Shapes.{TheTurn, shape}
 use Rattle.lower_lines.specs.Variables.{variable_widths}
+
+-- the number of a `const` and that of an argument word are of 32 bits
+abbrev pub IsSmall : About → Type 0
+IsSmall NothingElse = Unit {0}
+IsSmall (TheNumber n) = FitsSigned w32 n
+IsSmall (TheWord k) = k < 0x1_0000_0000
+IsSmall (TheObject k) = Unit {0}
+IsSmall (TheFunction f) = Unit {0}
+IsSmall (TheStatement s) = Unit {0}
+IsSmall TheTurn = Unit {0}
 
 -- the numbers of a `const` and of a `param` are of 32 bits
 abbrev pub SmallNumber : Op → Type 0
-SmallNumber (op.Const d n) = FitsSigned w32 n
-SmallNumber (op.Param d k) = k < 0x1_0000_0000
-SmallNumber _ = Unit {0}
+SmallNumber op = IsSmall (shape op).about
 
 -- what an op asks for is there, and its number fits
 abbrev pub IsGood : Flow → Op → Type 0

@@ -1,29 +1,38 @@
 -- Lines with sets of variables: what may be used before it is written, from each op on and from each block on.
 use Rattle.std.specs.Prelude.{◌≡◌, ◌≢◌, ◌<◌, ◌⊎◌, ℕ, false, List, [], ◌∷◌, Option, Some, None}
 use Rattle.flow_graph.specs.declared.op.Op.{Op}
-use Rattle.flow_graph.specs.declared.op.Op.TheVariants as op
 use Rattle.flow_graph.specs.Graphs.{IsIn, is_end}
 use Rattle.flow_graph.specs.Kinds.{marked}
 use Rattle.flow_graph.specs.Liveness.{defined, uses}
+use Rattle.flow_graph.specs.Shapes.{Leads, Onward, IntoCall, ToBlock, ToEither, OutOfCall, OutOfProgram, shape}
+use Rattle.flow_graph.specs.Shapes.{Takes, NoRegister, Count, Division, AcrossCall}
 use Rattle.lower_lines.specs.Lines.{Line, Start, Emit}
 
 -- each variable of the first list is in the second
 abbrev pub Within : List ℕ → List ℕ → Type 0
 Within xs ys = (v : ℕ) → IsIn v xs → IsIn v ys
 
+abbrev pub blocks_led : Leads → List ℕ
+blocks_led Onward = []
+blocks_led (IntoCall result words) = []
+blocks_led (ToBlock x) = x ∷ []
+blocks_led (ToEither x y) = x ∷ y ∷ []
+blocks_led OutOfCall = []
+blocks_led OutOfProgram = []
+
 -- the blocks that an op goes to
 abbrev pub targets : Op → List ℕ
-targets (op.Jump x) = x ∷ []
-targets (op.Branch how a b x y) = x ∷ y ∷ []
-targets _ = []
+targets op = blocks_led (shape op).leads
+
+abbrev pub fixed_by : Takes → Option (ℕ × ℕ)
+fixed_by NoRegister = None
+fixed_by (Count count shifted) = Some (count, shifted)
+fixed_by (Division dividend divisor gives) = Some (dividend, divisor)
+fixed_by AcrossCall = None
 
 -- the fixed operand of an op, with its other operand: the count of a shift, and the dividend of a division
 abbrev pub fixed : Op → Option (ℕ × ℕ)
-fixed (op.Shl d a c) = Some (c, a)
-fixed (op.Sar d a c) = Some (c, a)
-fixed (op.Div d a b) = Some (a, b)
-fixed (op.Rem d a b) = Some (a, b)
-fixed _ = None
+fixed op = fixed_by (shape op).takes
 
 -- An op that has the first set before it and the second behind it, where each block has a set and the variables below
 -- the first temporary are those of locals: the op's uses, and the sets of the blocks that it goes to, are in the first

@@ -21,7 +21,8 @@ use Rattle.c_tree.specs.Sizes.{bytes_of}
 use Rattle.flow_graph.specs.declared.op.Op.{Op}
 use Rattle.flow_graph.specs.declared.op.Op.TheVariants as op
 use Rattle.flow_graph.specs.Graphs.{Flow, IsArray, IsDistinct, IsFlow, IsIn, IsMet, Stands, FitsOp, HasFittingOp}
-use Rattle.flow_graph.specs.Graphs.{NumbersFit, two, two_if_any}
+use Rattle.flow_graph.specs.Graphs.{NumbersFit}
+use Rattle.flow_graph.specs.Shapes.{two, two_if_any}
 use Rattle.flow_graph.specs.Graphs as graphs
 use Rattle.flow_graph.specs.States.{flow_at}
 use Rattle.flow_graph.specs.WellFormed.{IsGraph, NamesWithin}

@@ -7,7 +7,8 @@ use Rattle.std.proofs.lemmas.List.{append-nil, length-map}
 use Rattle.std.proofs.lemmas.List.Elements.{recursion_from_All, All-from_recursion}
 use Rattle.flow_graph.specs.declared.op.Op.{Op}
 use Rattle.flow_graph.specs.declared.op.Op.TheVariants as op
-use Rattle.flow_graph.specs.Graphs.{Flow, IsMet, two, two_if_any}
+use Rattle.flow_graph.specs.Graphs.{Flow, IsMet}
+use Rattle.flow_graph.specs.Shapes.{two, two_if_any}
 use Rattle.std.proofs.lemmas.Option.{slice_get_within}
 use Rattle.pcc_base.specs.declared.run.Width.{Width}
 use Rattle.pcc_base.specs.declared.run.Width.TheVariants.{One, Two}

@@ -11,6 +11,8 @@ use Rattle.flow_graph.specs.declared.op.Op.{Op}
 use Rattle.flow_graph.specs.declared.op.Op.TheVariants as op
 use Rattle.flow_graph.specs.Graphs.{Flow, FitsOp, IsDistinct}
 use Rattle.flow_graph.specs.Lives.{IsAscending}
+use Rattle.flow_graph.specs.Shapes.{About, NothingElse, TheNumber, TheWord, TheObject, TheFunction, TheStatement}
+use Rattle.flow_graph.specs.Shapes.{TheTurn, shape}
 use Rattle.flow_graph.specs.WellFormed.{NamesWithin}
 
 -- what a variable is: a scalar local, the array or the index of a pointer local, or a temporary
@@ -111,44 +113,19 @@ IsStanding variables s =
 abbrev pub AreStandings : List MapVariable → List Standing → Type 0
 AreStandings variables standings = All (IsStanding variables) standings × IsAscending (map (λ s. s.variable) standings)
 
--- the numbers of an op that name nothing: of a `const` a signed one of 32 bits, an argument word, and a statement
+-- of what an op is about, the numbers that name nothing: a signed one of 32 bits, an argument word, and a statement
+abbrev pub HasNumber : About → Type 0
+HasNumber NothingElse = ⊤
+HasNumber (TheNumber n) = FitsSigned w32 n
+HasNumber (TheWord k) = IsNumber k
+HasNumber (TheObject k) = ⊤
+HasNumber (TheFunction f) = ⊤
+HasNumber (TheStatement s) = IsNumber s
+HasNumber TheTurn = ⊤
+
+-- the numbers of an op that name nothing
 abbrev pub HasNumbers : Op → Type 0
-HasNumbers (op.Const d n) = FitsSigned w32 n
-HasNumbers (op.Copy d s) = ⊤
-HasNumbers (op.Wide d s) = ⊤
-HasNumbers (op.Low d s) = ⊤
-HasNumbers (op.Low16 d s) = ⊤
-HasNumbers (op.Neg d a) = ⊤
-HasNumbers (op.Not d a) = ⊤
-HasNumbers (op.Add d a b) = ⊤
-HasNumbers (op.Sub d a b) = ⊤
-HasNumbers (op.Mul d a b) = ⊤
-HasNumbers (op.And d a b) = ⊤
-HasNumbers (op.Or d a b) = ⊤
-HasNumbers (op.Xor d a b) = ⊤
-HasNumbers (op.Shl d a c) = ⊤
-HasNumbers (op.Sar d a c) = ⊤
-HasNumbers (op.Div d a b) = ⊤
-HasNumbers (op.Rem d a b) = ⊤
-HasNumbers (op.Set how d a b) = ⊤
-HasNumbers (op.Frame d k) = ⊤
-HasNumbers (op.Static d k) = ⊤
-HasNumbers (op.Load bits d p i) = ⊤
-HasNumbers (op.Store bits p i s) = ⊤
-HasNumbers (op.Get bits d k) = ⊤
-HasNumbers (op.Put bits k s) = ⊤
-HasNumbers (op.Clear k) = ⊤
-HasNumbers (op.Param d k) = IsNumber k
-HasNumbers (op.Call d f arguments) = ⊤
-HasNumbers (op.Putchar d s) = ⊤
-HasNumbers (op.Getchar d) = ⊤
-HasNumbers (op.Exit s) = ⊤
-HasNumbers (op.Same a b) = ⊤
-HasNumbers (op.Mark s) = IsNumber s
-HasNumbers op.Turn = ⊤
-HasNumbers (op.Jump x) = ⊤
-HasNumbers (op.Branch how a b x y) = ⊤
-HasNumbers (op.Return a) = ⊤
+HasNumbers op = HasNumber (shape op).about
 
 -- what ops see of a function: its variables, arrays and blocks
 abbrev pub flow_of : MapFunction → Flow

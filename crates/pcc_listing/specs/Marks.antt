@@ -11,8 +11,7 @@ use Rattle.pcc_base.specs.Outcome.{ArrayOf, IndexOf, Visit, Listing}
 use Rattle.ia32_regs.specs.Registers.{register, byte_place}
 use Rattle.ia32_regs.specs.declared.names.Reg32.TheVariants.{Ebp}
 use Rattle.ia32_insn.specs.State.{State, Area, has_bytes}
-use Rattle.flow_graph.specs.declared.op.Op.{Op}
-use Rattle.flow_graph.specs.declared.op.Op.TheVariants.{Mark}
+use Rattle.flow_graph.specs.Kinds.{marked}
 use Rattle.ia32_regs.specs.Places.{Place, InWord, InByte, InSlot}
 use Rattle.pcc_listing.specs.Maps.{Map, MapFunction, MapVariable, MapPoint, Standing, Named, NamesScalar, NamesArray}
 use Rattle.pcc_listing.specs.Maps.{NamesIndex, Temporary, points_of}
@@ -25,11 +24,6 @@ pub record MarkAt : Type 0 where
   pub statement : ℕ
   pub function : ℕ
   pub standings : List Standing
-
--- the statement that an op marks
-abbrev pub marked : Op → Option ℕ
-marked (Mark statement) = Some statement
-marked _ = None
 
 -- the mark that a point of a function is, if it is one
 abbrev pub mark_at : ℕ → MapPoint → Option MarkAt
