@@ -167,8 +167,6 @@ pub fn object_declared(
             let count = size_or(alloc, scopes, notes, part.opening, given, &part.size)?;
             Ok(array_declared(of, count))
         }
-        DeclaratorPart::Function(_) => {
-            Ok(Judged::Fits(Declared::Function(of, Vec::new(alloc))))
-        }
+        DeclaratorPart::Function(_) => { Ok(Judged::Fits(Declared::Function(of, Vec::new(alloc)))) }
     }
 }

@@ -201,9 +201,9 @@ pub fn function_signature(
     let name = &declarator.name;
     let of = pointed(said.base, &declarator.pointer);
     let main = main_fault(said, name);
-    let result = result_fault(name.at, of);
+    let pointer = result_fault(name.at, of);
     let part = signature_with(alloc, scopes, notes, said, name, of, whole, parameters)?;
-    let allowed = also(result, part);
+    let allowed = also(pointer, part);
     Ok(also(main, allowed))
 }
 

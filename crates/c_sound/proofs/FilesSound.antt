@@ -47,7 +47,7 @@ use Rattle.c_typing.specs.Files.{body_of, at_body, function_with, defined, in_fu
 use Rattle.c_typing.specs.Files.{after_definition}
 use Rattle.c_typing.specs.Files.{after_said, after_external, typed_external, after_unit, typed_unit, typed_units}
 use Rattle.c_typing.specs.Files.{library_faults, result_faults, sized_object}
-use Rattle.c_typing.proofs.CountUp.{IfFits, holds_if}
+use Rattle.c_typing.proofs.CountUp.{IfFits, holds_also, holds_if}
 use Rattle.c_sound.proofs.Setting.{Setting, Holds, IsAt, IsQuiet, IsKept, Kept, Sound}
 use Rattle.c_sound.proofs.Setting.{sound_if}
 use Rattle.c_sound.proofs.Setting.{sound_also}

@@ -38,7 +38,7 @@ use Rattle.c_typing.specs.Files.{body_of, at_body, function_with, defined, in_fu
 use Rattle.c_typing.specs.Files.{after_definition, after_said, after_external, typed_external, after_unit, typed_unit}
 use Rattle.c_typing.specs.Files.{typed_units}
 use Rattle.c_typing.specs.Files.{library_faults, result_faults, sized_object}
-use Rattle.c_typing.proofs.CountUp.{Always, IfFits, always, holds_if}
+use Rattle.c_typing.proofs.CountUp.{Always, IfFits, always, holds_also, holds_if}
 use Rattle.c_bindings.proofs.Sameness.{thing_is, thing_self}
 use Rattle.c_types.specs.Tables.{AreApart}
 use Rattle.c_types.specs.NumberingLaws.{FunctionsAreDefinedOnce}
