@@ -74,13 +74,5 @@ pub fn solve_point(
     ensures of_pieces { IfOk result (λ s. AllByRecursion (HasPiece pieces.now) s.spilled.items) }
     ensures spots { IfOk result (λ s. AreSpots (boards.areas_of op.now) pieces.now s.spilled.items s.spots.items) }
 {
-    solve_counted::<Brand>(
-        alloc,
-        form,
-        distances,
-        point,
-        op,
-        pieces,
-        Blank::new(1),
-    )
+    solve_counted::<Brand>(alloc, form, distances, point, op, pieces, Blank::new(1))
 }
