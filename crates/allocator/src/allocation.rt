@@ -73,8 +73,8 @@ fn allocate_next(
 /// Where each variable stands before and after each point of a graph (Quintão Pereira and Palsberg, "Register
 /// Allocation by Puzzle Solving", PLDI 2008). Each point is a board of its own: of its variables those are spilled that
 /// come first in the spill order, as few as leave a board that is solvable, and they stand in their slots there; the
-/// others stand in registers. A variable has a slot only if it is spilled at some point. It takes time and memory for
-/// each point and each live variable, and of these the logarithm of how many there are at the point.
+/// others stand in registers. A variable has a slot only if it is spilled at some point. Each point is gone to once, and
+/// what is asked of its variables is found by binary search.
 ///
 /// # Errors
 ///

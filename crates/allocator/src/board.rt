@@ -13,8 +13,7 @@ use std::alloc::Global;
 use std::sync::ledger::Ledger;
 
 /// The board of a point of a block (Quintão Pereira and Palsberg, PLDI 2008, section 2): areas 0 to 3 are EAX, EBX, ECX
-/// and EDX, and the pieces are those of the variables that are live there, but none that the op fixes. It takes time
-/// for each variable that is live there, and its search among them.
+/// and EDX, and the pieces are those of the variables that are live there, but none that the op fixes.
 ///
 /// # Errors
 ///

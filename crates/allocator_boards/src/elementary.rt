@@ -34,7 +34,7 @@ impl Model for Elementary {
         × ArePlaces (joined e.graph.blocks) e.places.items };
 }
 
-/// The elementary form of a graph. It takes time and memory for each point and each variable that is live at one.
+/// The elementary form of a graph. It keeps a place for each point, and a copy of the graph and of its live sets.
 pub fn split(alloc: Global, graph: &Graph, live: &LiveSets) -> Result<Elementary, NoMemory>
     requires live { AreLive graph.now live.now }
     requires dies { FixedOperandsDie graph.now }
@@ -49,7 +49,7 @@ pub fn split(alloc: Global, graph: &Graph, live: &LiveSets) -> Result<Elementary
     })
 }
 
-/// Whether a variable is among those of a live set. It takes the logarithm of their number.
+/// Whether a variable is among those of a live set, by binary search.
 fn is_listed(vars: &[u32], var: u32) -> bool
     requires { IsAscending vars.now }
     ensures { result ≡ has_point var vars.now }
@@ -112,8 +112,7 @@ impl Elementary {
         self.place(point).is_some()
     }
 
-    /// The name of a variable before a point. None where the variable isn't live there. It takes the logarithm of the
-    /// number of variables that are live there.
+    /// The name of a variable before a point. None where the variable isn't live there, which a binary search tells.
     pub fn name_before(&self, point: u32, var: u32) -> Option<u64>
         ensures { result ≡ name_before self.now.graph self.now.lives point var }
     {
@@ -126,8 +125,8 @@ impl Elementary {
         }
     }
 
-    /// The name of a variable after a point. None where the variable is neither live there nor defined by the point's
-    /// op. It takes the logarithm of the number of variables that are live there.
+    /// The name of a variable after a point. None where the variable is neither live there, which a binary search tells,
+    /// nor defined by the point's op.
     pub fn name_after(&self, point: u32, var: u32) -> Option<u64>
         ensures { result ≡ name_after self.now.graph self.now.lives point var }
     {

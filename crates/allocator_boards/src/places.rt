@@ -33,7 +33,7 @@ fn place_points(places: &mut [Option<u32>], points: &[u32], first: u32)
     }
 }
 
-/// The place of each point of a graph. It takes time and memory for each point.
+/// The place of each point of a graph.
 pub fn places_of(alloc: Global, graph: &Graph) -> Result<Vec<Option<u32>>, NoMemory>
     requires { placed_count graph.now < 2147483648 }
     ensures { IfOk result (λ places. ArePlaces (joined graph.now.blocks) places.items) }

@@ -9,7 +9,7 @@ ghost use Rattle.flow_graph.specs.Lives.{IsAscending};
 use pcc_base::NoMemory;
 use std::alloc::Global;
 
-/// Whether a variable is among these. It takes the logarithm of their number.
+/// Whether a variable is among these, by binary search.
 pub fn is_listed(vars: &[u32], var: u32) -> bool
     requires { IsAscending vars.now }
     ensures { result ≡ has_point var vars.now }

@@ -70,8 +70,7 @@ impl Distances {
         let _ = &self.lists;
     }
 
-    /// The distance of a variable at a point, if a path from there reaches a use of it. It takes the logarithm of the
-    /// number of variables that have one there.
+    /// The distance of a variable at a point, if a path from there reaches a use of it. It is found by binary search.
     pub fn at(&self, point: u32, var: u32) -> Option<u32>
         ensures { result ≡ distance_at self.now point var }
     {
@@ -106,8 +105,8 @@ fn add_all(
     Ok(())
 }
 
-/// The distance to the next use of each variable from each point of a graph. It takes time and memory for each point,
-/// each edge and each variable that has a distance at a point.
+/// The distance to the next use of each variable from each point of a graph. The search comes to each point and each edge
+/// once for each variable that has a distance there.
 pub fn next_use(alloc: Global, graph: &Graph) -> Result<Distances, NoMemory>
     ensures { IfOk result (AreDistances graph.now) }
 {

@@ -54,7 +54,7 @@ fn add_afters(sets: &mut LiveSets, graph: &Graph, after: &[u32], var: u32) -> Re
 }
 
 /// The variables that are live before and after each point of a graph: some path from there reaches a use with no
-/// definition before it. It takes time and memory for each point, each edge and each variable live at a point.
+/// definition before it. The search comes to each point and each edge once for each variable that is live there.
 pub fn live(alloc: Global, graph: &Graph) -> Result<LiveSets, NoMemory>
     ensures { IfOk result (AreLive graph.now) }
 {

@@ -11,6 +11,7 @@ use Rattle.pcc_headline.specs.Begins.{parts_of_text}
 use Rattle.ia32_insn.specs.State.{State}
 use Rattle.ia32_insn.specs.Runs.{Runs}
 use Rattle.ia32_machine.specs.First.{First}
+use Rattle.ia32_rows.specs.Follows.{IsRightCode}
 use Rattle.ia32_rows.specs.Placements.{Code, IsCode, objects_of}
 use Rattle.pcc_listing.specs.Lines.{map_text}
 use Rattle.pcc_listing.specs.Maps.{Map, IsMap}
@@ -34,11 +35,13 @@ image_of code = image_bytes (parts_of_text code.text (objects_of code.program))
 
 -- The image and the map belong to the program: there are graphs that are all that lowering promises of the program,
 -- with its locals, arrays, statements and static objects and its outcomes, and no temporary live at a mark; their code
--- stands in the text that is the image's; and the map is that of this code.
+-- stands in the text that is the image's, and follows the graphs step by step, with each variable and array where the
+-- code has it; and the map is that of this code.
 pub record BelongsTo (program : Program) (image : List ℕ) (map : Map) : Type 0 where
   pub code : Code
   pub lowered : AreLowered program code.program
   pub laid : IsCode code
+  pub right : IsRightCode code
   pub image_is : image ≡ image_of code
   pub is_map : IsMapOf program code map
 

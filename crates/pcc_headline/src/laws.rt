@@ -1,8 +1,9 @@
-//! The law of compiled programs, as the contract of a function that does nothing.
+//! The laws of compiled programs: each function's contract is one, and the function only cites those that it rests on.
 
-ghost use Rattle.pcc_headline.specs.Laws.{CompiledDoesAs};
+ghost use Rattle.pcc_headline.specs.Laws.{CompiledDoesAs, GraphsAreShown};
 
 use crate::text_begins;
+use flow_graph::{first_is_state, step_keeps_state};
 
 /// Where the code of a program's graphs is right and the map is that of the code, the image of the code's text does
 /// what the program does, as the map shows it.
@@ -10,4 +11,13 @@ pub fn compiled_does_as()
     ensures { CompiledDoesAs }
 {
     text_begins();
+}
+
+/// Where a map and an image belong to a program, the machine comes to a state that shows each one that the program's
+/// graphs come to: with variables, arrays and waiting calls in the places and at the addresses that the map has.
+pub fn graphs_are_shown()
+    ensures { GraphsAreShown }
+{
+    first_is_state();
+    step_keeps_state();
 }

@@ -1,14 +1,14 @@
 -- The status that a report ends in.
-use Rattle.std.proofs.Common.{◌≡◌, ℕ, Result, Ok, Err, ap, ◌∙◌, inl, inr, refl}
+use Rattle.std.proofs.Common.{◌≡◌, ℕ, Bool, true, false, Result, Ok, Err, ap, ◌∙◌, inl, inr, refl}
 use Rattle.std.specs.Prelude.{◌⊎◌}
 use Rattle.pcc_base.specs.Counts.{Rose}
 use Rattle.pcc_outside.specs.Streams.{SinkCounts, CountsPut}
 use Rattle.pcc_outside.specs.declared.sink.WriteRefusal.{WriteRefusal}
 use Rattle.pcc_outside.specs.declared.sink.WriteRefusal.TheVariants as put
 use Rattle.pcc_words.specs.Asked.{Command}
-use Rattle.pcc_reports.specs.Ends.{Ends, IsUnlessMemory, status_after}
+use Rattle.pcc_reports.specs.Ends.{Ends, EndsIf, IsUnlessMemory, status_after}
 use Rattle.pcc_reports.specs.Outside.{Output}
-use Rattle.pcc_reports.specs.Reports.{status_of}
+use Rattle.pcc_reports.specs.Reports.{is_silent, status_of}
 use Rattle.pcc_reports.specs.declared.report.Report.{Report}
 
 -- the status after a put: that of want of memory, that of a fault that came, or the line's own
@@ -27,10 +27,11 @@ shown_status report shown status (inl same) e = inr (e ∙ ap status_of same)
 shown_status report shown status (inr none) e = inl (e ∙ ap status_of none)
 
 -- a status that is neither 5 nor 11 is the report's
-pub ended_status : (command : Command) (report : Report) (old new : Output) (result : ℕ)
-    → Ends command report old new result → (result ≡ 11)
+ended_if : (silent : Bool) (command : Command) (report : Report) (old new : Output) (result : ℕ)
+    → EndsIf silent command report old new result → (result ≡ 11)
     ⊎ (((result ≡ 5) × Rose old.counts.faults new.counts.faults) ⊎ (result ≡ status_of report))
-ended_status command report old new result ends =
+ended_if true command report old new result ends = inr (inr ends.1)
+ended_if false command report old new result ends =
     let put = ends.4 in
     elim (put_status (status_of ends.0) put.0 old.counts new.counts put.1) [
       | inl e ↦ inl (put.3 ∙ e)
@@ -40,3 +41,8 @@ ended_status command report old new result ends =
         | inr same ↦ inr (inr same)
       ]
     ]
+
+pub ended_status : (command : Command) (report : Report) (old new : Output) (result : ℕ)
+    → Ends command report old new result → (result ≡ 11)
+    ⊎ (((result ≡ 5) × Rose old.counts.faults new.counts.faults) ⊎ (result ≡ status_of report))
+ended_status command report old new result ends = ended_if (is_silent report) command report old new result ends

@@ -1,9 +1,11 @@
 //! The end of a command: the line of its report is put on standard error, and the status is answered.
 
+ghost use Rattle.std.specs.Prelude.{◌≡◌, false};
 ghost use Rattle.pcc_words.specs.Asked as asked;
 ghost use Rattle.pcc_words.specs.Words.{meaning};
 ghost use Rattle.pcc_reports.specs.Ends.{Ends, IsPut};
 ghost use Rattle.pcc_reports.specs.Outside.{output_of};
+ghost use Rattle.pcc_reports.specs.Reports.{is_silent};
 ghost use Rattle.pcc_reports.specs.declared.report.Report.{Report};
 
 use crate::lines::text_of;
@@ -26,9 +28,10 @@ fn put_line<E: Sink>(line: &[u8], status: u8, err: &mut E) -> u8
     }
 }
 
-/// Puts the line of want of memory on standard error, and answers the status, whatever the command and its report.
+/// Puts the line of want of memory on standard error, and answers the status, whatever the command, in place of any
+/// report that has a line.
 pub fn finish_wanting<E: Sink>(err: &mut E) -> u8
-    ensures ends { (command : asked.Command) (report : Report)
+    ensures ends { (command : asked.Command) (report : Report) → is_silent report ≡ false
         → Ends command report (output_of E.Sink err.old) (output_of E.Sink err.new) result }
     ensures telling { E.tells err.old → E.tells err.new }
 {
@@ -36,7 +39,7 @@ pub fn finish_wanting<E: Sink>(err: &mut E) -> u8
 }
 
 /// Puts the report's line on standard error, and answers its status: 5 where standard error fails, and
-/// 11 where there is no memory for the line or for putting it. Nothing is put for a report without a line.
+/// 11 where there is no memory for the line or for putting it. A report without a line asks nothing of standard error.
 pub fn finish<E: Sink>(alloc: Global, command: &Command<'_>, report: &Report, err: &mut E) -> u8
     ensures ends { Ends (meaning command.now) report.now (output_of E.Sink err.old) (output_of E.Sink err.new) result }
     ensures telling { E.tells err.old → E.tells err.new }

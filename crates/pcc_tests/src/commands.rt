@@ -158,9 +158,30 @@ fn names_faults(rt: HostRuntime) {
         let map = (call, files.content("a.map").is_some());
         expect(&rt, &map, &(call, map_stands), "a map, by the call");
     }
+}
+
+/// Commands over one source and one board, where the first call of standard error fails: the status, and what stands on
+/// the output.
+const REFUSED_LINES: &str = "\
+6 rows
+compile -o a a.c => 0
+solve b => 0 => none$
+run a => 5
+eval a.c => 5
+solve a => 5
+solve c => 5";
+
+/// A command that puts no line asks nothing of standard error, and another one tells that it refused the line.
+#[test]
+fn tells_refused_lines(rt: HostRuntime) {
+    let alloc = rt.alloc();
     let mut files = small_files(&rt, alloc, 0);
-    let refused = run_line(&rt, alloc, "run a", &mut files, 1);
-    expect_answer(&rt, &refused, "", 5, "", "run");
+    put(&rt, &mut files, "b", b"areas\npieces X1\n");
+    for row in rows_of(&rt, REFUSED_LINES) {
+        let (words, told) = cells(&rt, row);
+        let answer = run_line(&rt, alloc, words, &mut files, 1);
+        expect_told(&rt, alloc, &answer, told, row);
+    }
 }
 
 /// Solves the board of a file with this text.

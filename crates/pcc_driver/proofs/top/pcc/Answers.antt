@@ -1,4 +1,4 @@
-use Rattle.std.proofs.Common.{◌≡◌, List, ap, sym, subst, ◌∙◌, ℕ}
+use Rattle.std.proofs.Common.{◌≡◌, List, ap, refl, sym, subst, ◌∙◌, ℕ}
 use Rattle.std.specs.Prelude.{map, string_bytes, String}
 use Rattle.std.specs.declared.alloc.Global.{Global}
 use Rattle.pcc_words.specs.Asked.{Command, HasFewSources, command_of}
@@ -45,13 +45,13 @@ pub returns-in-Err-clause-statuses : goal.returns-in-Err-clause-statuses
 returns-in-Err-clause-statuses g c =
     wanting_few (meant c.args.words.now.items) (output_of g.E.Sink c.args.err.now)
     (output_of g.E.Sink c.finish_wanting.new.err) c.finish_wanting.result
-    (c.finish_wanting.ensures.ends (meant c.args.words.now.items) reports.NoMemory)
+    (c.finish_wanting.ensures.ends (meant c.args.words.now.items) reports.NoMemory refl)
 
 pub returns-in-Err-clause-headline : goal.returns-in-Err-clause-headline
 returns-in-Err-clause-headline g c = λ name sources is f done.
     absurd (wanting_not_done (meant c.args.words.now.items) (output_of g.E.Sink c.args.err.now)
     (output_of g.E.Sink c.finish_wanting.new.err) c.finish_wanting.result
-    (c.finish_wanting.ensures.ends (meant c.args.words.now.items) reports.NoMemory) done)
+    (c.finish_wanting.ensures.ends (meant c.args.words.now.items) reports.NoMemory refl) done)
 
 pub returns-in-Err-clause-exact : goal.returns-in-Err-clause-exact
 returns-in-Err-clause-exact g c = λ f i o quiet.
@@ -61,7 +61,7 @@ returns-in-Err-clause-exact g c = λ f i o quiet.
     c.args.out.now c.finish_wanting.new.err in
     exact_status (meant c.args.words.now.items) reports.NoMemory old new c.finish_wanting.result
     (wanting_caused old.work) (wanting_told (meant c.args.words.now.items) old.work)
-    (c.finish_wanting.ensures.ends (meant c.args.words.now.items) reports.NoMemory) f i o quiet
+    (c.finish_wanting.ensures.ends (meant c.args.words.now.items) reports.NoMemory refl) f i o quiet
 
 pub returns-in-Err-clause-causes : goal.returns-in-Err-clause-causes
 returns-in-Err-clause-causes g c =
@@ -71,14 +71,14 @@ returns-in-Err-clause-causes g c =
     c.args.out.now c.finish_wanting.new.err in
     status_causes (meant c.args.words.now.items) reports.NoMemory old new c.finish_wanting.result
     (wanting_caused old.work) (wanting_told (meant c.args.words.now.items) old.work)
-    (c.finish_wanting.ensures.ends (meant c.args.words.now.items) reports.NoMemory)
+    (c.finish_wanting.ensures.ends (meant c.args.words.now.items) reports.NoMemory refl)
 
 pub returns-in-Err-clause-noticed : goal.returns-in-Err-clause-noticed
 returns-in-Err-clause-noticed g c =
     let old : Outside = outside_of g.F.FileStore g.I.Source g.O.Sink g.E.Sink c.args.files.now c.args.input.now
     c.args.out.now c.args.err.now in
     wanting_noticed (meant c.args.words.now.items) old.work old.err (output_of g.E.Sink c.finish_wanting.new.err)
-    c.finish_wanting.result (c.finish_wanting.ensures.ends (meant c.args.words.now.items) reports.NoMemory)
+    c.finish_wanting.result (c.finish_wanting.ensures.ends (meant c.args.words.now.items) reports.NoMemory refl)
 
 pub returns-in-Err-clause-answered : goal.returns-in-Err-clause-answered
 returns-in-Err-clause-answered g c =
@@ -87,5 +87,5 @@ returns-in-Err-clause-answered g c =
       reports.NoMemory,
       wanting_caused old.work,
       wanting_told (meant c.args.words.now.items) old.work,
-      c.finish_wanting.ensures.ends (meant c.args.words.now.items) reports.NoMemory,
+      c.finish_wanting.ensures.ends (meant c.args.words.now.items) reports.NoMemory refl,
     )

@@ -31,6 +31,7 @@ returns c = λ program code map is.
         code = code;
         lowered = is.lowered;
         laid = is.laid;
+        right = is.right;
         image_is = refl;
         is_map = is.is_map;
       };

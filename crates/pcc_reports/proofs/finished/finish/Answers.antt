@@ -1,48 +1,38 @@
-use Rattle.std.proofs.Common.{◌≡◌, ℕ, Bool, true, false, codes, List, [], ◌++◌, Ok, inl, refl, sym, ap, ap₂, subst, ◌∙◌}
-use Rattle.std.specs.Prelude.{if◌then◌else◌}
-use Rattle.std.proofs.lemmas.List.{append-nil}
+use Rattle.std.proofs.Common.{◌≡◌, ℕ, Bool, true, false, List, inl, refl, sym, subst, ◌∙◌}
 use Rattle.pcc_words.specs.Asked.{Command}
 use Rattle.pcc_words.specs.Words.{meaning}
 use Rattle.pcc_reports.specs.Outside.{Output, output_of}
-use Rattle.pcc_reports.specs.Reports.{is_silent, is_usage, report_line, report_text, status_of}
-use Rattle.pcc_reports.specs.Ends.{Ends, IsPut}
+use Rattle.pcc_reports.specs.Reports.{is_silent, status_of, IsShownAs}
+use Rattle.pcc_reports.specs.Ends.{EndsIf, IsPut}
 use Rattle.pcc_reports.specs.declared.report.Report.{Report}
 use Rattle.pcc_reports.proofs.finished.finish.Goals as goal
 
-no_line : (command : Command) (report : Report) → is_silent report ≡ true → report_line command report ≡ []
-no_line command report e =
-    ap (λ (b : Bool). if b then [] else report_text command report ++ codes "\n") e
+-- a report without a line leaves standard error alone
+ends_silent : (silent : Bool) (command : Command) (report : Report) (err : Output) (result : ℕ)
+    → silent ≡ true → result ≡ status_of report → EndsIf silent command report err err result
+ends_silent true command report err result e status = ((refl, λ _. refl), status)
+ends_silent false command report err result e status = absurd (let wrong : false ≡ true = e in cc)
 
-no_help : (b : Bool) (none : List ℕ) → none ≡ [] → (if b then none else []) ≡ []
-no_help true none e = e
-no_help false none e = refl
-
--- a report without a line ends the command
-ends_silent : (command : Command) (report : Report) (err : Output) (result : ℕ)
-    → is_silent report ≡ true → result ≡ status_of report → Ends command report err err result
-ends_silent command report err result e status = (
-  report,
-  inl refl,
-  [],
-  ([], sym (ap₂ (λ (a b : List ℕ). a ++ b) (no_line command report e) (no_help (is_usage report) [] refl))),
-  (Ok tt, refl, λ _. sym (append-nil err.taken), status),
-)
+-- one with a line ends with it
+ends_shown : (silent : Bool) (command : Command) (report : Report) (line : List ℕ) (old new : Output) (result : ℕ)
+    → silent ≡ false → IsShownAs command report line → IsPut line (status_of report) old new result
+    → EndsIf silent command report old new result
+ends_shown true command report line old new result e shown put = absurd (let wrong : true ≡ false = e in cc)
+ends_shown false command report line old new result e shown put = (report, inl refl, line, shown, put)
 
 pub returns-then-is_silent-clause-ends : goal.returns-then-is_silent-clause-ends
 returns-then-is_silent-clause-ends g c =
-    ends_silent (meaning c.args.command.now) c.args.report.now (output_of g.E.Sink c.args.err.now) c.status.result
+    ends_silent (is_silent c.args.report.now) (meaning c.args.command.now) c.args.report.now
+    (output_of g.E.Sink c.args.err.now) c.status.result
     (sym c.is_silent.ensures ∙ c.if-is_silent.true) c.status.ensures
 
 pub returns-in-Ok-clause-ends : goal.returns-in-Ok-clause-ends
 returns-in-Ok-clause-ends g c =
     let old : Output = output_of g.E.Sink c.args.err.now in
     let new : Output = output_of g.E.Sink c.put_line.new.err in
-    let put = c.put_line.ensures.put in (
-      c.args.report.now,
-      inl refl,
-      c.in-Ok.text.items,
-      c.in-Ok.ensures,
-      subst (λ (n : ℕ). IsPut c.in-Ok.text.items n old new c.put_line.result) c.status-in-Ok.ensures
-          (subst (λ (line : List ℕ). IsPut line c.status-in-Ok.result old new c.put_line.result)
-          c.as_slice.ensures.value put),
-    )
+    let put = c.put_line.ensures.put in
+    ends_shown (is_silent c.args.report.now) (meaning c.args.command.now) c.args.report.now c.in-Ok.text.items old new
+    c.put_line.result (sym c.is_silent.ensures ∙ c.if-is_silent.false) c.in-Ok.ensures
+    (subst (λ (n : ℕ). IsPut c.in-Ok.text.items n old new c.put_line.result) c.status-in-Ok.ensures
+    (subst (λ (line : List ℕ). IsPut line c.status-in-Ok.result old new c.put_line.result)
+    c.as_slice.ensures.value put))
