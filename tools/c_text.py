@@ -1,4 +1,7 @@
-"""C texts for the scripts beside this one: tokens with their places, and the line markers that preprocessors leave."""
+"""C texts for the scripts beside this one: tokens with their places, and the line markers that preprocessors leave.
+
+A text is a string with one character a byte (latin-1), so that its columns are those that `pcc` counts.
+"""
 import re
 from dataclasses import dataclass
 
@@ -6,7 +9,8 @@ TOKEN = re.compile(
     r"""(?P<number>\.?[0-9](?:[eEpP][+-]|[\w.])*)|(?P<word>[A-Za-z_]\w*)"""
     r"""|(?P<text>"(?:\\.|[^"\\\n])*"?)|(?P<character>'(?:\\.|[^'\\\n])*'?)"""
     r"""|(?P<mark><<=|>>=|\.\.\.|\+\+|--|->|&&|\|\||[-+*/%&^|<>=!]=|<<|>>|<:|:>|<%|%>|%:|[-+*/%&^|<>=!~?:;,.(){}\[\]#])"""
-    r"""|(?P<other>[^\s])"""
+    r"""|(?P<other>[^\s])""",
+    re.ASCII,
 )
 COMMENT = re.compile(r"""//[^\n]*|/\*.*?(?:\*/|\Z)|"(?:\\.|[^"\\\n])*"?|'(?:\\.|[^'\\\n])*'?""", re.DOTALL)
 MARKER = re.compile(r'^[ \t]*#[ \t]*(?:line[ \t]+)?([0-9]+)(?:[ \t]+"((?:\\.|[^"\\])*)")?')

@@ -100,7 +100,7 @@ def bad_byte(place):
     if here == "\\":
         return "a `\\` at the end of a line is for a preprocessor: put the line together"
     if here[:1] and ord(here[0]) > 127:
-        return f"`{here[0]}` stands only in comments, strings and characters: names have the letters a to z, digits and `_`"
+        return "names have the letters a to z, digits and `_`: other letters and signs stand only in comments, strings and characters"
     return f"no token begins with `{here[:1]}`" if here else "no token begins with this byte"
 
 
@@ -171,7 +171,7 @@ def syntax(place):
         return "pointers to pointers are left out: write an index into an array in place of the inner one"
     if here == "[" and before == "]":
         return "arrays have one dimension: write `a[rows * columns]`, and the element as `a[i * columns + j]`"
-    if here == "(" and before == ")" or here == "*" and before == "(" and place.text(-2) in TYPE_WORDS:
+    if here == "(" and (before == ")" or before in TYPE_WORDS) or here == "*" and before == "(" and place.text(-2) in TYPE_WORDS:
         return "pointers to functions are left out, and so are parentheses in declarations: write a `switch` that calls the function"
     if here == "...":
         return "functions with any number of arguments are left out: write one parameter for each"
