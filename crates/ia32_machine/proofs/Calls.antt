@@ -1,7 +1,7 @@
 -- What the system calls lead to, case by case.
-use Rattle.std.specs.Prelude.{◌≡◌, ◌≢◌, ℕ, ◌+◌, ◌%◌, ◌&&◌, ◌==◌, Bool, true, false, List, [], ◌∷◌, ◌++◌, length, take}
+use Rattle.std.specs.Prelude.{◌≡◌, ◌≢◌, ℕ, ◌+◌, ◌%◌, ◌&&◌, ◌==◌, Bool, true, false, List, [], ◌∷◌, length, take}
 use Rattle.std.specs.Prelude.{Option, Some, None, Result, Ok, Err, if◌then◌else◌, refl}
-use Rattle.std.proofs.Common.{sym, ◌∙◌, ap, subst, arith, append-nil}
+use Rattle.std.proofs.Common.{sym, ◌∙◌, ap, subst, arith}
 use Rattle.std.proofs.lemmas.Bool.Decides.{nat_tests}
 use Rattle.pcc_base.specs.Outcome as outcome
 use Rattle.pcc_base.specs.declared.run.Stop.TheVariants.{Access, Call}
@@ -11,6 +11,7 @@ use Rattle.ia32_insn.specs.Meaning.{Moved, Moves, moved_of, and_then, or_end, wo
 use Rattle.ia32_insn.specs.Meaning.{take_byte, read_call, write_call, SystemCall, Exit, Read, Write, Other, call_of}
 use Rattle.ia32_insn.specs.Meaning.{make_call}
 use Rattle.ia32_machine.specs.First.{lent}
+use Rattle.ia32_machine.specs.Lending.{PutsNothing}
 use Rattle.ia32_machine.specs.Runs.{alone}
 use Rattle.ia32_machine.specs.Performs.{PartTold, read_moved, write_moved, call_moved}
 use Rattle.ia32_machine.specs.declared.ends.MachineEnd.TheVariants.{Ended, Stopped, ReadFault, WriteFault, NoMemory}
@@ -52,25 +53,25 @@ bytes_so old count address x p q e =
 -- ---- read
 
 -- none of the input's bytes are asked for
-pub read_none : (old : State) (left taken : List ℕ) → old ≡ alone old → word_of Edx old ≡ 0
-    → PartTold (read_moved (lent old left)) (lent old left) (with_word Eax 0 old) left taken taken (Ok tt)
+pub read_none : (old : State) (left : List ℕ) → old ≡ alone old → word_of Edx old ≡ 0
+    → PartTold (read_moved (lent old left)) (lent old left) (with_word Eax 0 old) left PutsNothing (Ok tt)
 unfolding read_moved PartTold
-read_none old left taken bare none =
+read_none old left bare none =
     let s : State = lent old left in (
       with_word Eax 0 s,
       ap (λ (n : ℕ). moved_of (read_call n (word_of Ecx s) s)) (sym none),
       ap (with_word Eax 0) bare,
       refl,
-      sym (append-nil taken),
+      refl,
     )
 
 -- the bytes may not be stored there
-pub read_denied : (old : State) (left taken : List ℕ) → old ≡ alone old → (word_of Edx old == 0) ≡ false
+pub read_denied : (old : State) (left : List ℕ) → old ≡ alone old → (word_of Edx old == 0) ≡ false
     → may_store (word_of Edx old) (word_of Ecx old) old.memory ≡ false
-    → PartTold (read_moved (lent old left)) (lent old left) old left taken taken
+    → PartTold (read_moved (lent old left)) (lent old left) old left PutsNothing
     (Err (Stopped (Access (word_of Ecx old)) old.eip))
 unfolding read_moved PartTold
-read_denied old left taken bare some denies =
+read_denied old left bare some denies =
     let s : State = lent old left in
     let count : ℕ = word_of Edx s in
     let address : ℕ = word_of Ecx s in
@@ -96,11 +97,11 @@ read_path old left some allows =
     ap moved_of (if_not (count == 0) (Ok (with_word Eax 0 s)) _ some ∙ inner)
 
 -- the input is at its end
-pub read_end : (old : State) (left left' taken : List ℕ) → old ≡ alone old → (word_of Edx old == 0) ≡ false
+pub read_end : (old : State) (left left' : List ℕ) → old ≡ alone old → (word_of Edx old == 0) ≡ false
     → may_store (word_of Edx old) (word_of Ecx old) old.memory ≡ true → left ≡ [] → left' ≡ []
-    → PartTold (read_moved (lent old left)) (lent old left) (with_word Eax 0 old) left' taken taken (Ok tt)
+    → PartTold (read_moved (lent old left)) (lent old left) (with_word Eax 0 old) left' PutsNothing (Ok tt)
 unfolding PartTold
-read_end old left left' taken bare some allows end end' =
+read_end old left left' bare some allows end end' =
     let s : State = lent old left in
     let ended : moved_of (take_byte (word_of Ecx old) left s) ≡ Moves (with_word Eax 0 s) =
     ap (λ (l : List ℕ). moved_of (take_byte (word_of Ecx old) l s)) end in (
@@ -108,20 +109,20 @@ read_end old left left' taken bare some allows end end' =
       sym (read_path old left some allows ∙ ended),
       ap (with_word Eax 0) bare,
       end' ∙ sym end,
-      sym (append-nil taken),
+      refl,
     )
 
 -- the state that a byte leads to, where it is stored in this memory
-taken_byte : (old new : State) (address byte : ℕ) (left taken : List ℕ) (x : Option (List Area)) → old ≡ alone old
+taken_byte : (old new : State) (address byte : ℕ) (left : List ℕ) (x : Option (List Area)) → old ≡ alone old
     → and_then (and_then (or_end x (denied address old)) (λ m. Ok (record old { memory = m })))
     (λ t. Ok (with_word Eax 1 t)) ≡ Ok new → PartTold
     (moved_of (and_then (and_then (or_end x (denied address old))
     (λ m. Ok (record (lent old (byte ∷ left)) { memory = m })))
     (λ t. Ok (with_word Eax 1 (record t { left = left; taken = t.taken + 1 }))))) (lent old (byte ∷ left)) new left
-    taken taken (Ok tt)
+    PutsNothing (Ok tt)
 unfolding PartTold
-taken_byte old new address byte left taken None bare e = absurd (let no : Err (denied address old) ≡ Ok new = e in cc)
-taken_byte old new address byte left taken (Some m) bare e =
+taken_byte old new address byte left None bare e = absurd (let no : Err (denied address old) ≡ Ok new = e in cc)
+taken_byte old new address byte left (Some m) bare e =
     let got : Ok (with_word Eax 1 (record old { memory = m })) ≡ Ok new = e in
     let same : with_word Eax 1 (record old { memory = m }) ≡ new = cc in (
       with_word Eax 1 (record (lent old (byte ∷ left)) { memory = m; left = left; taken = 0 + 1 }),
@@ -129,47 +130,47 @@ taken_byte old new address byte left taken (Some m) bare e =
       sym same
           ∙ ap (λ (t : State). with_word Eax 1 (record t { memory = m })) bare,
       refl,
-      sym (append-nil taken),
+      refl,
     )
 
 -- a byte of the input is taken
-pub read_byte : (old new : State) (address byte : ℕ) (left left' taken : List ℕ) → old ≡ alone old
+pub read_byte : (old new : State) (address byte : ℕ) (left left' : List ℕ) → old ≡ alone old
     → (word_of Edx old == 0) ≡ false → may_store (word_of Edx old) (word_of Ecx old) old.memory ≡ true → left
     ≡ byte ∷ left' → address ≡ word_of Ecx old
     → and_then (store_bytes address (byte ∷ []) old) (λ t. Ok (with_word Eax 1 t)) ≡ Ok new
-    → PartTold (read_moved (lent old left)) (lent old left) new left' taken taken (Ok tt)
-read_byte old new address byte left left' taken bare some allows e same stores =
+    → PartTold (read_moved (lent old left)) (lent old left) new left' PutsNothing (Ok tt)
+read_byte old new address byte left left' bare some allows e same stores =
     let told : PartTold (moved_of (take_byte address (byte ∷ left') (lent old (byte ∷ left'))))
-    (lent old (byte ∷ left')) new left' taken taken (Ok tt) =
-    taken_byte old new address byte left' taken (stored address (byte ∷ []) old.memory) bare stores in
-    let there : PartTold (moved_of (take_byte (word_of Ecx old) left (lent old left))) (lent old left) new left' taken
-    taken (Ok tt) =
-    subst (λ (n : ℕ). PartTold (moved_of (take_byte n left (lent old left))) (lent old left) new left' taken taken
+    (lent old (byte ∷ left')) new left' PutsNothing (Ok tt) =
+    taken_byte old new address byte left' (stored address (byte ∷ []) old.memory) bare stores in
+    let there : PartTold (moved_of (take_byte (word_of Ecx old) left (lent old left))) (lent old left) new left'
+    PutsNothing (Ok tt) =
+    subst (λ (n : ℕ). PartTold (moved_of (take_byte n left (lent old left))) (lent old left) new left' PutsNothing
     (Ok tt)) same
-    (subst (λ (l : List ℕ). PartTold (moved_of (take_byte address l (lent old l))) (lent old l) new left' taken taken
+    (subst (λ (l : List ℕ). PartTold (moved_of (take_byte address l (lent old l))) (lent old l) new left' PutsNothing
     (Ok tt)) (sym e) told) in
-    subst (λ (m : Moved). PartTold m (lent old left) new left' taken taken (Ok tt))
+    subst (λ (m : Moved). PartTold m (lent old left) new left' PutsNothing (Ok tt))
     (sym (read_path old left some allows)) there
 
 -- the input failed
-pub read_fault : (old : State) (left left' taken : List ℕ) → old ≡ alone old → left' ≡ left
-    → PartTold (read_moved (lent old left)) (lent old left) old left' taken taken (Err ReadFault)
+pub read_fault : (old : State) (left left' : List ℕ) → old ≡ alone old → left' ≡ left
+    → PartTold (read_moved (lent old left)) (lent old left) old left' PutsNothing (Err ReadFault)
 unfolding PartTold
-read_fault old left left' taken bare same = (bare, same, refl)
+read_fault old left left' bare same = (bare, same, refl)
 
 -- ---- write
 
 -- nothing is written
-pub write_none : (old : State) (left taken : List ℕ) → old ≡ alone old → word_of Edx old ≡ 0
-    → PartTold (write_moved (lent old left)) (lent old left) (with_word Eax 0 old) left taken taken (Ok tt)
+pub write_none : (old : State) (left : List ℕ) (IsPut : List ℕ → Type 0) → old ≡ alone old → word_of Edx old ≡ 0
+    → IsPut [] → PartTold (write_moved (lent old left)) (lent old left) (with_word Eax 0 old) left IsPut (Ok tt)
 unfolding write_moved PartTold
-write_none old left taken bare none =
+write_none old left IsPut bare none put =
     let s : State = lent old left in (
       with_word Eax 0 s,
       ap (λ (n : ℕ). moved_of (write_call n (word_of Ecx s) s)) (sym none),
       ap (with_word Eax 0) bare,
       refl,
-      sym (append-nil taken),
+      put,
     )
 
 -- what is done with the bytes that there are
@@ -186,53 +187,55 @@ write_path old left x some e =
     ∙ ap (λ (o : Option (List ℕ)). and_then (or_end o (denied (word_of Ecx old) old)) done) e)
 
 -- the bytes may not be read there
-pub write_denied : (old : State) (left taken : List ℕ) → old ≡ alone old → (word_of Edx old == 0) ≡ false
-    → bytes_at (word_of Edx old) (word_of Ecx old) old.memory ≡ None
-    → PartTold (write_moved (lent old left)) (lent old left) old left taken taken
+pub write_denied : (old : State) (left : List ℕ) (IsPut : List ℕ → Type 0) → old ≡ alone old
+    → (word_of Edx old == 0) ≡ false → bytes_at (word_of Edx old) (word_of Ecx old) old.memory ≡ None → IsPut []
+    → PartTold (write_moved (lent old left)) (lent old left) old left IsPut
     (Err (Stopped (Access (word_of Ecx old)) old.eip))
 unfolding PartTold
-write_denied old left taken bare some none = (sym (write_path old left None some none), bare, refl, refl)
+write_denied old left IsPut bare some none put = (sym (write_path old left None some none), bare, refl, put)
 
 -- the bytes are written
-pub write_done : (old : State) (bytes left taken taken' : List ℕ) → old ≡ alone old → (word_of Edx old == 0) ≡ false
-    → bytes_at (word_of Edx old) (word_of Ecx old) old.memory ≡ Some bytes → taken' ≡ taken ++ bytes
-    → PartTold (write_moved (lent old left)) (lent old left) (with_word Eax (word_of Edx old) old) left taken taken'
-    (Ok tt)
+pub write_done : (old : State) (bytes left : List ℕ) (IsPut : List ℕ → Type 0) → old ≡ alone old
+    → (word_of Edx old == 0) ≡ false → bytes_at (word_of Edx old) (word_of Ecx old) old.memory ≡ Some bytes
+    → IsPut bytes
+    → PartTold (write_moved (lent old left)) (lent old left) (with_word Eax (word_of Edx old) old) left IsPut (Ok tt)
 unfolding PartTold
-write_done old bytes left taken taken' bare some there took = (
+write_done old bytes left IsPut bare some there put = (
   with_word Eax (word_of Edx old) (record (lent old left) { written = bytes }),
   sym (write_path old left (Some bytes) some there),
   ap (with_word Eax (word_of Edx old)) bare,
   refl,
-  took,
+  put,
 )
 
 -- the output failed, and took a part of the bytes
-pub write_failed : (old : State) (bytes left taken taken' : List ℕ) (n : ℕ) → old ≡ alone old → (word_of Edx old == 0)
-    ≡ false → bytes_at (word_of Edx old) (word_of Ecx old) old.memory ≡ Some bytes → taken' ≡ taken ++ take n bytes
-    → PartTold (write_moved (lent old left)) (lent old left) old left taken taken' (Err WriteFault)
+pub write_failed : (old : State) (bytes left : List ℕ) (IsPut : List ℕ → Type 0) → old ≡ alone old
+    → (word_of Edx old == 0) ≡ false → bytes_at (word_of Edx old) (word_of Ecx old) old.memory ≡ Some bytes
+    → bytes ≢ [] → (n : ℕ) × IsPut (take n bytes)
+    → PartTold (write_moved (lent old left)) (lent old left) old left IsPut (Err WriteFault)
 unfolding PartTold
-write_failed old bytes left taken taken' n bare some there took = (
-  with_word Eax (word_of Edx old) (record (lent old left) { written = bytes }),
-  sym (write_path old left (Some bytes) some there),
-  bare,
-  refl,
-  n,
-  took,
-)
-
--- the output found no memory
-pub write_wanted : (old : State) (bytes left taken taken' : List ℕ) → old ≡ alone old → (word_of Edx old == 0) ≡ false
-    → bytes_at (word_of Edx old) (word_of Ecx old) old.memory ≡ Some bytes → bytes ≢ [] → taken' ≡ taken
-    → PartTold (write_moved (lent old left)) (lent old left) old left taken taken' (Err NoMemory)
-unfolding PartTold
-write_wanted old bytes left taken taken' bare some there filled took = (
+write_failed old bytes left IsPut bare some there filled put = (
   with_word Eax (word_of Edx old) (record (lent old left) { written = bytes }),
   sym (write_path old left (Some bytes) some there),
   filled,
   bare,
   refl,
-  took,
+  put.0,
+  put.1,
+)
+
+-- the output found no memory
+pub write_wanted : (old : State) (bytes left : List ℕ) (IsPut : List ℕ → Type 0) → old ≡ alone old
+    → (word_of Edx old == 0) ≡ false → bytes_at (word_of Edx old) (word_of Ecx old) old.memory ≡ Some bytes
+    → bytes ≢ [] → IsPut [] → PartTold (write_moved (lent old left)) (lent old left) old left IsPut (Err NoMemory)
+unfolding PartTold
+write_wanted old bytes left IsPut bare some there filled put = (
+  with_word Eax (word_of Edx old) (record (lent old left) { written = bytes }),
+  sym (write_path old left (Some bytes) some there),
+  filled,
+  bare,
+  refl,
+  put,
 )
 
 -- as many bytes as a number that isn't 0 are some
@@ -242,12 +245,13 @@ some_bytes n bytes long some none = some (sym long ∙ ap length none)
 -- ---- int 0x80
 
 -- `exit`
-pub call_exit : (old : State) (left taken : List ℕ) → old ≡ alone old → word_of Eax old ≡ 1
-    → PartTold (call_moved (lent old left)) (lent old left) old left taken taken (Err (Ended (word_of Ebx old % 256)))
+pub call_exit : (old : State) (left : List ℕ) (IsPut : List ℕ → Type 0) → old ≡ alone old → word_of Eax old ≡ 1
+    → IsPut []
+    → PartTold (call_moved (lent old left)) (lent old left) old left IsPut (Err (Ended (word_of Ebx old % 256)))
 unfolding call_moved PartTold
-call_exit old left taken bare exit =
+call_exit old left IsPut bare exit put =
     let s : State = lent old left in
-    (sym (ap (λ (n : ℕ). moved_of (make_call (call_of n (word_of Ebx s)) s)) exit), bare, refl, refl)
+    (sym (ap (λ (n : ℕ). moved_of (make_call (call_of n (word_of Ebx s)) s)) exit), bare, refl, put)
 
 -- `read`
 pub call_read : (old : State) (left : List ℕ) → word_of Eax old ≡ 3 → word_of Ebx old ≡ 0 → read_moved (lent old left)
@@ -268,11 +272,11 @@ call_write old left call file =
     ∙ ap (λ (n : ℕ). moved_of (make_call (call_of 4 n) s)) file)
 
 -- no call of the machine
-pub call_none : (old : State) (left taken : List ℕ) → old ≡ alone old → word_of Eax old ≢ 1
-    → (word_of Eax old ≡ 3 → word_of Ebx old ≡ 0 → ⊥) → (word_of Eax old ≡ 4 → word_of Ebx old ≡ 1 → ⊥)
-    → PartTold (call_moved (lent old left)) (lent old left) old left taken taken (Err (Stopped Call old.eip))
+pub call_none : (old : State) (left : List ℕ) (IsPut : List ℕ → Type 0) → old ≡ alone old → word_of Eax old ≢ 1
+    → (word_of Eax old ≡ 3 → word_of Ebx old ≡ 0 → ⊥) → (word_of Eax old ≡ 4 → word_of Ebx old ≡ 1 → ⊥) → IsPut []
+    → PartTold (call_moved (lent old left)) (lent old left) old left IsPut (Err (Stopped Call old.eip))
 unfolding call_moved PartTold
-call_none old left taken bare exit read write =
+call_none old left IsPut bare exit read write put =
     let s : State = lent old left in (
       sym (ap (λ (call : SystemCall). moved_of (make_call call s))
           (if_not (word_of Eax s == 1) (Exit (word_of Ebx s)) _ (not_is (word_of Eax s) 1 exit)
@@ -282,5 +286,5 @@ call_none old left taken bare exit read write =
           (not_both (word_of Eax s) (word_of Ebx s) 4 1 write))),
       bare,
       refl,
-      refl,
+      put,
     )

@@ -1,13 +1,16 @@
 -- A step is a fetch and a performance.
-use Rattle.std.specs.Prelude.{◌≡◌, ◌≢◌, ℕ, ◌+◌, ◌%◌, Bool, true, false, List, [], Option, Result, Ok, Err}
+use Rattle.std.specs.Prelude.{◌≡◌, ◌≢◌, ℕ, ◌+◌, ◌-◌, ◌%◌, Bool, true, false, List, [], ◌++◌, length, take}
+use Rattle.std.specs.Prelude.{Option, Result, Ok, Err}
 use Rattle.std.specs.Prelude.{if◌then◌else◌, refl}
-use Rattle.std.proofs.Common.{sym, ◌∙◌, ap, subst, arith, inl, inr, append-nil}
+use Rattle.std.proofs.Common.{sym, ◌∙◌, ap, subst, arith, inl, inr, append-nil, length-append}
+use Rattle.std.proofs.lemmas.List.{length-take, take_min}
 use Rattle.std.specs.Int.{w32, cast_unsigned}
 use Rattle.pcc_base.specs.Outcome as outcome
 use Rattle.pcc_base.specs.Outcome.{End}
 use Rattle.pcc_base.specs.declared.run.Stop.{Stop}
 use Rattle.pcc_base.specs.declared.run.Stop.TheVariants.{Instruction, Access}
 use Rattle.pcc_outside.specs.Streams.{SinkCounts}
+use Rattle.pcc_outside.specs.declared.sink.Sink as sink
 use Rattle.ia32_insn.specs.declared.insn.Insn.{Insn}
 use Rattle.ia32_insn.specs.declared.insn.Insn.TheVariants as insn
 use Rattle.ia32_insn.specs.State.{State, at_address}
@@ -19,6 +22,7 @@ use Rattle.ia32_processor.specs.declared.halt.Halt.{Halt}
 use Rattle.ia32_processor.specs.declared.halt.Halt.TheVariants as halt
 use Rattle.ia32_processor.specs.Answers.{end_of}
 use Rattle.ia32_machine.specs.First.{lent}
+use Rattle.ia32_machine.specs.Lending.{IsPutOn, PutsNothing}
 use Rattle.ia32_machine.specs.Runs.{LeadsTold, StepTold, alone}
 use Rattle.ia32_machine.specs.Performs.{FetchTold, end_at, step_of, call_moved, insn_moved, PartTold, PartCounts}
 use Rattle.ia32_machine.specs.Performs.{AdvanceTold}
@@ -27,6 +31,59 @@ use Rattle.ia32_machine.specs.declared.ends.MachineEnd.TheVariants.{Ended, Trapp
 use Rattle.ia32_machine.specs.declared.ends.MachineEnd.TheVariants.{WriteFault, NoMemory}
 use Rattle.ia32_machine.specs.declared.ends.StepEnd.{StepEnd}
 use Rattle.ia32_machine.specs.declared.ends.StepEnd.TheVariants as step
+
+-- ---- the bytes put
+
+-- what is known of the bytes put, weakened
+pub puts : (given : Moved) (s machine : State) (left : List ℕ) (IsPut IsPut' : List ℕ → Type 0)
+    (result : Result Unit MachineEnd)
+    → ((bytes : List ℕ) → IsPut bytes → IsPut' bytes) → PartTold given s machine left IsPut result
+    → PartTold given s machine left IsPut' result
+unfolding PartTold
+puts given s machine left IsPut IsPut' (Ok done) f h = (h.0, h.1, h.2, h.3, f h.0.written h.4)
+puts given s machine left IsPut IsPut' (Err (Ended status)) f h = (h.0, h.1, h.2, f [] h.3)
+puts given s machine left IsPut IsPut' (Err (Trapped trap)) f h = (h.0, h.1, h.2, f [] h.3)
+puts given s machine left IsPut IsPut' (Err (Stopped cause address)) f h = (h.0, h.1, h.2, f [] h.3)
+puts given s machine left IsPut IsPut' (Err BudgetSpent) f h = elim h [ ]
+puts given s machine left IsPut IsPut' (Err ReadFault) f h = (h.0, h.1, f [] h.2)
+puts given s machine left IsPut IsPut' (Err WriteFault) f h =
+    (h.0, h.1, h.2, h.3, h.4, h.5, f (take h.5 h.0.written) h.6)
+puts given s machine left IsPut IsPut' (Err NoMemory) f h = (h.0, h.1, h.2, h.3, h.4, f [] h.5)
+
+-- nothing was put on an output that stays
+pub none_put : {O : Type 0} → (output : sink.Ghosts O) (out : O) → IsPutOn output out out []
+none_put output out = λ t. sym (append-nil (output.taken out))
+
+-- and neither was it where a call puts nothing
+pub nothing_put : {O : Type 0} → (output : sink.Ghosts O) (out : O) (bytes : List ℕ) → PutsNothing bytes
+    → IsPutOn output out out bytes
+nothing_put output out bytes none = subst (λ (b : List ℕ). IsPutOn output out out b) (sym none) (none_put output out)
+
+pub unchanged_put : {O : Type 0} → (output : sink.Ghosts O) (old new : O)
+    → (output.tells old → output.taken new ≡ output.taken old) → IsPutOn output old new []
+unchanged_put output old new same = λ t. same t ∙ sym (append-nil (output.taken old))
+
+-- as many bytes as some front has are that front
+take-again : (n : ℕ) (xs : List ℕ) → take (length (take n xs)) xs ≡ take n xs
+take-again n xs = ap (λ (k : ℕ). take k xs) (length-take n xs) ∙ take_min n xs
+
+-- a part that was put is as long as what was taken besides
+part-taken : (old new bytes : List ℕ) (n : ℕ) → new ≡ old ++ take n bytes
+    → new ≡ old ++ take (length new - length old) bytes
+part-taken old new bytes n e =
+    let long : length new ≡ length old + length (take n bytes) = ap length e ∙ length-append old (take n bytes) in
+    let count : length new - length old ≡ length (take n bytes) = omega (arith, long) in
+    e ∙ ap (λ (l : List ℕ). old ++ l) (sym (take-again n bytes))
+    ∙ ap (λ (k : ℕ). old ++ take k bytes) (sym count)
+
+-- so it is known how many bytes were put, where an output that tells took a part of some
+pub part_put : {O : Type 0} → (output : sink.Ghosts O) (old new : O) (bytes : List ℕ)
+    → (output.tells old → (n : ℕ) × (output.taken new ≡ output.taken old ++ take n bytes))
+    → (n : ℕ) × IsPutOn output old new (take n bytes)
+part_put output old new bytes told = (
+  length (output.taken new) - length (output.taken old),
+  λ t. let part = told t in part-taken (output.taken old) (output.taken new) bytes part.0 part.1,
+)
 
 -- ---- int 0x80
 
@@ -42,49 +99,50 @@ ends_on after (Ok t) end e = absurd (let no : Halts end ≡ Moves t = e in cc)
 ends_on after (Err other) end e = e
 
 -- a system call that goes on is the whole instruction once EIP is the next one's address
-pub call_goes : (i : Insn) (after : ℕ) (s mid : State) (left taken taken' : List ℕ) → i ≡ insn.Int 0x80
-    → PartTold (call_moved s) s mid left taken taken' (Ok tt)
-    → PartTold (insn_moved i after s) s (at_address after mid) left taken taken' (Ok tt)
+pub call_goes : (i : Insn) (after : ℕ) (s mid : State) (left : List ℕ) (IsPut : List ℕ → Type 0) → i ≡ insn.Int 0x80
+    → PartTold (call_moved s) s mid left IsPut (Ok tt)
+    → PartTold (insn_moved i after s) s (at_address after mid) left IsPut (Ok tt)
 unfolding call_moved insn_moved PartTold
-call_goes i after s mid left taken taken' e h =
+call_goes i after s mid left IsPut e h =
     let moves : Moves (at_address after h.0) ≡ perform (insn.Int 0x80) after s =
     goes_on after (system_call s) h.0 h.1 in
     (at_address after h.0, moves ∙ ap (λ (j : Insn). perform j after s) (sym e), ap (at_address after) h.2, h.3, h.4)
 
 -- so is one that ends
-pub call_ends : (i : Insn) (after : ℕ) (s mid : State) (left taken taken' : List ℕ) (end : MachineEnd) → i
-    ≡ insn.Int 0x80 → PartTold (call_moved s) s mid left taken taken' (Err end)
-    → PartTold (insn_moved i after s) s mid left taken taken' (Err end)
+pub call_ends : (i : Insn) (after : ℕ) (s mid : State) (left : List ℕ) (IsPut : List ℕ → Type 0) (end : MachineEnd)
+    → i ≡ insn.Int 0x80 → PartTold (call_moved s) s mid left IsPut (Err end)
+    → PartTold (insn_moved i after s) s mid left IsPut (Err end)
 unfolding call_moved insn_moved PartTold
-call_ends i after s mid left taken taken' (Ended status) e h = (
+call_ends i after s mid left IsPut (Ended status) e h = (
   ends_on after (system_call s) (outcome.Ended status) h.0 ∙ ap (λ (j : Insn). perform j after s) (sym e),
   h.1,
   h.2,
   h.3,
 )
-call_ends i after s mid left taken taken' (Trapped trap) e h = (
+call_ends i after s mid left IsPut (Trapped trap) e h = (
   ends_on after (system_call s) (outcome.Trapped trap) h.0 ∙ ap (λ (j : Insn). perform j after s) (sym e),
   h.1,
   h.2,
   h.3,
 )
-call_ends i after s mid left taken taken' (Stopped cause address) e h = (
+call_ends i after s mid left IsPut (Stopped cause address) e h = (
   ends_on after (system_call s) (outcome.Stopped cause address) h.0 ∙ ap (λ (j : Insn). perform j after s) (sym e),
   h.1,
   h.2,
   h.3,
 )
-call_ends i after s mid left taken taken' BudgetSpent e h = elim h [ ]
-call_ends i after s mid left taken taken' ReadFault e h = h
-call_ends i after s mid left taken taken' WriteFault e h = (
+call_ends i after s mid left IsPut BudgetSpent e h = elim h [ ]
+call_ends i after s mid left IsPut ReadFault e h = h
+call_ends i after s mid left IsPut WriteFault e h = (
   at_address after h.0,
   goes_on after (system_call s) h.0 h.1 ∙ ap (λ (j : Insn). perform j after s) (sym e),
   h.2,
   h.3,
   h.4,
   h.5,
+  h.6,
 )
-call_ends i after s mid left taken taken' NoMemory e h = (
+call_ends i after s mid left IsPut NoMemory e h = (
   at_address after h.0,
   goes_on after (system_call s) h.0 h.1 ∙ ap (λ (j : Insn). perform j after s) (sym e),
   h.2,
@@ -121,26 +179,27 @@ stays_alone i after old new bare other e =
     let same : Moves new ≡ Moves (alone new) = sym e ∙ ap (λ (s : State). perform i after s) bare ∙ there in
     cc
 
-pub insn_goes : (i : Insn) (after : ℕ) (old new : State) (left taken : List ℕ) → old ≡ alone old → i ≢ insn.Int 0x80
-    → perform i after old ≡ Moves new → PartTold (insn_moved i after (lent old left)) (lent old left) new left taken
-    taken (Ok tt)
+-- and nothing is put
+pub insn_goes : (i : Insn) (after : ℕ) (old new : State) (left : List ℕ) (IsPut : List ℕ → Type 0) → old ≡ alone old
+    → i ≢ insn.Int 0x80 → perform i after old ≡ Moves new → IsPut []
+    → PartTold (insn_moved i after (lent old left)) (lent old left) new left IsPut (Ok tt)
 unfolding insn_moved PartTold
-insn_goes i after old new left taken bare other e = (
+insn_goes i after old new left IsPut bare other e none = (
   lent new left,
   sym (lent_performs i after old new left other e),
   stays_alone i after old new bare other e,
   refl,
-  sym (append-nil taken),
+  none,
 )
 
-pub insn_ends : (i : Insn) (after : ℕ) (old : State) (left taken : List ℕ) (why : Halt) → old ≡ alone old
-    → i ≢ insn.Int 0x80 → perform i after old ≡ Halts (end_of why old)
-    → PartTold (insn_moved i after (lent old left)) (lent old left) old left taken taken (Err (end_at old.eip why))
+pub insn_ends : (i : Insn) (after : ℕ) (old : State) (left : List ℕ) (IsPut : List ℕ → Type 0) (why : Halt)
+    → old ≡ alone old → i ≢ insn.Int 0x80 → perform i after old ≡ Halts (end_of why old) → IsPut []
+    → PartTold (insn_moved i after (lent old left)) (lent old left) old left IsPut (Err (end_at old.eip why))
 unfolding insn_moved PartTold
-insn_ends i after old left taken (halt.Trapped trap) bare other e =
-    (sym (lent_halts i after old left (outcome.Trapped trap) other e), bare, refl, refl)
-insn_ends i after old left taken (halt.Stopped cause) bare other e =
-    (sym (lent_halts i after old left (outcome.Stopped cause old.eip) other e), bare, refl, refl)
+insn_ends i after old left IsPut (halt.Trapped trap) bare other e none =
+    (sym (lent_halts i after old left (outcome.Trapped trap) other e), bare, refl, none)
+insn_ends i after old left IsPut (halt.Stopped cause) bare other e none =
+    (sym (lent_halts i after old left (outcome.Stopped cause old.eip) other e), bare, refl, none)
 
 -- a halt raises no count
 pub halt_counts : (address faults : ℕ) (counts : SinkCounts) (why : Halt)
@@ -202,20 +261,19 @@ perform_wrapped i a s =
 -- ---- a step
 
 -- what is known of where a part leads, weakened
-leads : (P Q : Moved → Type 0) (s machine : State) (left taken taken' : List ℕ) (answer : StepEnd)
-    → ((m : Moved) → P m → Q m) → LeadsTold P s machine left taken taken' answer
-    → LeadsTold Q s machine left taken taken' answer
-leads P Q s machine left taken taken' step.Going f h = (h.0, f (Moves h.0) h.1, h.2, h.3, h.4)
-leads P Q s machine left taken taken' (step.End (Ended status)) f h =
+leads : (P Q : Moved → Type 0) (s machine : State) (left : List ℕ) (IsPut : List ℕ → Type 0) (answer : StepEnd)
+    → ((m : Moved) → P m → Q m) → LeadsTold P s machine left IsPut answer → LeadsTold Q s machine left IsPut answer
+leads P Q s machine left IsPut step.Going f h = (h.0, f (Moves h.0) h.1, h.2, h.3, h.4)
+leads P Q s machine left IsPut (step.End (Ended status)) f h =
     (f (Halts (outcome.Ended status)) h.0, h.1, h.2, h.3)
-leads P Q s machine left taken taken' (step.End (Trapped trap)) f h =
+leads P Q s machine left IsPut (step.End (Trapped trap)) f h =
     (f (Halts (outcome.Trapped trap)) h.0, h.1, h.2, h.3)
-leads P Q s machine left taken taken' (step.End (Stopped cause address)) f h =
+leads P Q s machine left IsPut (step.End (Stopped cause address)) f h =
     (f (Halts (outcome.Stopped cause address)) h.0, h.1, h.2, h.3)
-leads P Q s machine left taken taken' (step.End BudgetSpent) f h = h
-leads P Q s machine left taken taken' (step.End ReadFault) f h = h
-leads P Q s machine left taken taken' (step.End WriteFault) f h = (h.0, f (Moves h.0) h.1, h.2, h.3, h.4, h.5)
-leads P Q s machine left taken taken' (step.End NoMemory) f h = (h.0, f (Moves h.0) h.1, h.2, h.3, h.4, h.5)
+leads P Q s machine left IsPut (step.End BudgetSpent) f h = h
+leads P Q s machine left IsPut (step.End ReadFault) f h = h
+leads P Q s machine left IsPut (step.End WriteFault) f h = (h.0, f (Moves h.0) h.1, h.2, h.3, h.4, h.5, h.6)
+leads P Q s machine left IsPut (step.End NoMemory) f h = (h.0, f (Moves h.0) h.1, h.2, h.3, h.4, h.5)
 
 -- the step that performs the instruction that was fetched
 fetched-steps : (s : State) (left : List ℕ) (i : Insn) (n : ℕ) → FetchTold s (Ok (i, n))
@@ -237,26 +295,26 @@ unfetched-steps s left (Access address) h =
 unfetched-steps s left _ h = elim h [ ]
 
 -- a step whose instruction was fetched
-pub fetched : (s machine : State) (left left' taken taken' : List ℕ) (i : Insn) (n after : ℕ)
+pub fetched : (s machine : State) (left left' : List ℕ) (IsPut : List ℕ → Type 0) (i : Insn) (n after : ℕ)
     (result : Result Unit MachineEnd) → FetchTold s (Ok (i, n)) → after ≡ (s.eip + n) % 0x1_0000_0000
-    → PartTold (insn_moved i after (lent s left)) (lent s left) machine left' taken taken' result
-    → AdvanceTold (lent s left) machine left' taken taken' result
+    → PartTold (insn_moved i after (lent s left)) (lent s left) machine left' IsPut result
+    → AdvanceTold (lent s left) machine left' IsPut result
 unfolding insn_moved PartTold AdvanceTold StepTold
-fetched s machine left left' taken taken' i n after result h e told =
+fetched s machine left left' IsPut i n after result h e told =
     let u : State = lent s left in
     let given : perform i after u ≡ perform i (s.eip + n) u = ap (λ (a : ℕ). perform i a u) e
     ∙ perform_wrapped i (s.eip + n) u in
-    leads (λ m. m ≡ perform i after u) (Steps u) u machine left' taken taken' (step_of result)
+    leads (λ m. m ≡ perform i after u) (Steps u) u machine left' IsPut (step_of result)
     (λ m same. subst (λ (v : Moved). Steps u v) (sym (same ∙ given)) (fetched-steps s left i n h)) told
 
 -- a step that stops where nothing was fetched
-pub unfetched : (s : State) (left taken : List ℕ) (cause : Stop) → s ≡ alone s → FetchTold s (Err cause)
-    → AdvanceTold (lent s left) s left taken taken (Err (Stopped cause s.eip))
+pub unfetched : (s : State) (left : List ℕ) (IsPut : List ℕ → Type 0) (cause : Stop) → s ≡ alone s
+    → FetchTold s (Err cause) → IsPut [] → AdvanceTold (lent s left) s left IsPut (Err (Stopped cause s.eip))
 unfolding AdvanceTold StepTold
-unfetched s left taken cause bare h = (unfetched-steps s left cause h, bare, refl, refl)
+unfetched s left IsPut cause bare h none = (unfetched-steps s left cause h, bare, refl, none)
 
 -- what is told of the parts of a step is told of the step
-pub advanced : (s machine : State) (left taken taken' : List ℕ) (result : Result Unit MachineEnd)
-    → AdvanceTold s machine left taken taken' result → StepTold s machine left taken taken' (step_of result)
+pub advanced : (s machine : State) (left : List ℕ) (IsPut : List ℕ → Type 0) (result : Result Unit MachineEnd)
+    → AdvanceTold s machine left IsPut result → StepTold s machine left IsPut (step_of result)
 unfolding AdvanceTold StepTold
-advanced s machine left taken taken' result h = h
+advanced s machine left IsPut result h = h

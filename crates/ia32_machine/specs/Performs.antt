@@ -47,16 +47,16 @@ call_moved s = moved_of (system_call s)
 unfoldable pub insn_moved : Insn → ℕ → State → Moved
 insn_moved i after s = perform i after s
 
--- What a part of a step leaves that is to lead there: the part is of the state s, and leaves this machine, this
--- input and these bytes taken.
-unfoldable pub PartTold : Moved → State → State → List ℕ → List ℕ → List ℕ → Result Unit MachineEnd → Type 0
-PartTold given s machine left taken taken' result =
-    LeadsTold (λ moved. moved ≡ given) s machine left taken taken' (step_of result)
+-- What a part of a step leaves that is to lead there: the part is of the state s, and leaves this machine and this
+-- input, with these bytes put.
+unfoldable pub PartTold : Moved → State → State → List ℕ → (List ℕ → Type 0) → Result Unit MachineEnd → Type 0
+PartTold given s machine left IsPut result =
+    LeadsTold (λ moved. moved ≡ given) s machine left IsPut (step_of result)
 
 -- its counts
 abbrev pub PartCounts : ℕ → ℕ → SinkCounts → SinkCounts → Result Unit MachineEnd → Type 0
 PartCounts input input' out out' result = StepCounts input input' out out' (step_of result)
 
 -- what a step that fetches and performs leaves
-unfoldable pub AdvanceTold : State → State → List ℕ → List ℕ → List ℕ → Result Unit MachineEnd → Type 0
-AdvanceTold s machine left taken taken' result = StepTold s machine left taken taken' (step_of result)
+unfoldable pub AdvanceTold : State → State → List ℕ → (List ℕ → Type 0) → Result Unit MachineEnd → Type 0
+AdvanceTold s machine left IsPut result = StepTold s machine left IsPut (step_of result)

@@ -46,8 +46,8 @@ pub(crate) fn perform<I: Source, O: Sink>(
     requires { processor.old ≡ alone processor.old }
     ensures code { KeepsCode processor.old.memory processor.new.memory }
     ensures lends { Lends I.Source O.Sink (input.old, out.old) (input.new, out.new)
-        (λ left left' taken taken'. let s = lent processor.old left in
-        PartTold (insn_moved insn.now after s) s processor.new left' taken taken' result)
+        (λ left left' IsPut. let s = lent processor.old left in
+        PartTold (insn_moved insn.now after s) s processor.new left' IsPut result)
         (λ faults faults' counts counts'. PartCounts faults faults' counts counts' result) }
 {
     if is_system_call(insn) {

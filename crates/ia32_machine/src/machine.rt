@@ -69,7 +69,7 @@ impl Machine {
         out: &mut O,
     ) -> Result<(), MachineEnd>
         ensures { Lends I.Source O.Sink (input.old, out.old) (input.new, out.new)
-            (λ left left' taken taken'. AdvanceTold (lent self.old left) self.new left' taken taken' result)
+            (λ left left' IsPut. AdvanceTold (lent self.old left) self.new left' IsPut result)
             (λ faults faults' counts counts'. PartCounts faults faults' counts counts' result) }
     {
         let address = self.processor.eip();
@@ -92,7 +92,7 @@ impl Machine {
     #[tactic(none)]
     fn advance<I: Source, O: Sink>(&mut self, input: &mut I, out: &mut O) -> Result<(), MachineEnd>
         ensures { Lends I.Source O.Sink (input.old, out.old) (input.new, out.new)
-            (λ left left' taken taken'. AdvanceTold (lent self.old left) self.new left' taken taken' result)
+            (λ left left' IsPut. AdvanceTold (lent self.old left) self.new left' IsPut result)
             (λ faults faults' counts counts'. PartCounts faults faults' counts counts' result) }
     {
         let address = self.processor.eip();
@@ -107,7 +107,7 @@ impl Machine {
     #[tactic(none)]
     pub fn step<I: Source, O: Sink>(&mut self, input: &mut I, out: &mut O) -> StepEnd
         ensures { Lends I.Source O.Sink (input.old, out.old) (input.new, out.new)
-            (λ left left' taken taken'. StepTold (lent self.old left) self.new left' taken taken' result)
+            (λ left left' IsPut. StepTold (lent self.old left) self.new left' IsPut result)
             (λ faults faults' counts counts'. StepCounts faults faults' counts counts' result) }
     {
         match self.advance(input, out) {
@@ -122,7 +122,7 @@ impl Machine {
         // The outcome of `budget` steps, or where a lent object refused of the steps so far, and the state that the
         // machine is left in.
         ensures { Lends I.Source O.Sink (input.old, out.old) (input.new, out.new)
-            (λ left left' taken taken'. RunTold budget (lent self.old left) self.new left left' taken taken' result)
+            (λ left left' IsPut. RunTold budget (lent self.old left) self.new left left' IsPut result)
             (λ faults faults' counts counts'. RunCounts faults faults' counts counts' result) }
     {
         // A machine has no input and no output of its own.

@@ -4,7 +4,7 @@ ghost use Rattle.ia32_insn.specs.State as state;
 ghost use Rattle.ia32_insn.specs.Meaning.{and_then, store_bytes, with_word};
 ghost use Rattle.ia32_processor.specs.Code.{KeepsCode};
 ghost use Rattle.ia32_machine.specs.First.{lent};
-ghost use Rattle.ia32_machine.specs.Lending.{Lends};
+ghost use Rattle.ia32_machine.specs.Lending.{IsPutOn, PutsNothing, Lends};
 ghost use Rattle.ia32_machine.specs.Runs.{alone};
 ghost use Rattle.ia32_machine.specs.Performs.{PartTold, PartCounts, read_moved, write_moved, call_moved};
 
@@ -29,8 +29,8 @@ fn take_byte(processor: &mut Processor, address: u32, byte: u8)
 fn read_call<I: Source>(processor: &mut Processor, input: &mut I) -> Result<(), MachineEnd>
     requires { processor.old ≡ alone processor.old }
     ensures code { KeepsCode processor.old.memory processor.new.memory }
-    ensures told { I.tells input.old → (taken : List ℕ) → let s = lent processor.old (I.left input.old) in
-        PartTold (read_moved s) s processor.new (I.left input.new) taken taken result }
+    ensures told { I.tells input.old → let s = lent processor.old (I.left input.old) in
+        PartTold (read_moved s) s processor.new (I.left input.new) PutsNothing result }
     ensures counted { (out : SinkCounts) → PartCounts (I.faults input.old) (I.faults input.new) out out result }
     ensures input_tells { I.tells input.old → I.tells input.new }
 {
@@ -62,8 +62,8 @@ fn read_call<I: Source>(processor: &mut Processor, input: &mut I) -> Result<(), 
 fn write_call<O: Sink>(processor: &mut Processor, out: &mut O) -> Result<(), MachineEnd>
     requires { processor.old ≡ alone processor.old }
     ensures code { KeepsCode processor.old.memory processor.new.memory }
-    ensures told { O.tells out.old → (left : List ℕ) → let s = lent processor.old left in
-        PartTold (write_moved s) s processor.new left (O.taken out.old) (O.taken out.new) result }
+    ensures told { (left : List ℕ) → let s = lent processor.old left in
+        PartTold (write_moved s) s processor.new left (IsPutOn O.Sink out.old out.new) result }
     ensures counted { (input : ℕ) → PartCounts input input (O.counts out.old) (O.counts out.new) result }
     ensures out_tells { O.tells out.old → O.tells out.new }
 {
@@ -96,8 +96,8 @@ pub fn system_call<I: Source, O: Sink>(
     requires { processor.old ≡ alone processor.old }
     ensures code { KeepsCode processor.old.memory processor.new.memory }
     ensures lends { Lends I.Source O.Sink (input.old, out.old) (input.new, out.new)
-        (λ left left' taken taken'. let s = lent processor.old left in
-        PartTold (call_moved s) s processor.new left' taken taken' result)
+        (λ left left' IsPut. let s = lent processor.old left in
+        PartTold (call_moved s) s processor.new left' IsPut result)
         (λ faults faults' counts counts'. PartCounts faults faults' counts counts' result) }
 {
     let call = processor.word(Reg32::Eax);

@@ -1,2 +1,3 @@
 mod Example
 mod Table
+mod Ends

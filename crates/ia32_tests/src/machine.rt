@@ -1,7 +1,11 @@
 //! How small texts end, by the Intel manual, volume 2, and what system calls take and write. An end is told as `{:?}`
 //! prints it, with addresses in decimal: the text begins at 134512640, which is 0x08048000.
 
-ghost use Rattle.std.specs.Prelude.{◌≤◌, length};
+ghost use Rattle.std.specs.Prelude.{◌≡◌, ◌≤◌, [], length};
+ghost use Rattle.pcc_base.specs.Outcome.{Outcome};
+ghost use Rattle.ia32_insn.specs.Runs.{Runs, no_visits};
+ghost use Rattle.ia32_machine.specs.First.{lent};
+ghost use Rattle.ia32_tests.specs.Ends.{answer_of};
 
 use crate::expected::expect;
 use crate::rows::{bytes_of, cells, expect_printed, rows_of};
@@ -37,10 +41,15 @@ fn machine(rt: &impl Abort, alloc: Global, text: &[u8], size: u32, write: bool) 
     Machine::load(alloc, &loaded).expect(rt, "a machine")
 }
 
-/// How the machine ends within the budget where nothing is to be read.
-fn end_within(alloc: Global, mut machine: Machine, budget: u64) -> MachineEnd {
-    let mut input = SureSource::new(Vec::new(alloc));
-    machine.run(&mut input, &mut SureSink::new(), budget)
+/// How the machine ends within the budget where nothing is to be read, which is as the definition says, though the
+/// output doesn't tell what it took.
+fn end_within(alloc: Global, mut machine: Machine, budget: u64) -> MachineEnd
+    ensures { (o : Outcome) → Runs no_visits budget (lent machine []) o → result ≡ answer_of o.end }
+{
+    let bytes = Vec::new(alloc);
+    let mut input = SureSource::new(bytes);
+    let mut out = SureSink::new();
+    machine.run(&mut input, &mut out, budget)
 }
 
 /// Budgets, and how the exit ends within them.

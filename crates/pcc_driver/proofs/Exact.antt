@@ -25,7 +25,7 @@ use Rattle.pcc_driver.proofs.Status.{eval_status}
 use Rattle.pcc_driver.proofs.Causes.{own_status}
 use Rattle.pcc_driver.specs.Answers.{CommandTold, CompileTold, RunTold, SolveTold, RunGives, IsNoImage}
 use Rattle.pcc_driver.specs.Solutions.{IsSomeBoard}
-use Rattle.pcc_driver.specs.Promises.{IsQuiet, CompileStatus, RunStatus, SolveStatus, HasStatus}
+use Rattle.pcc_driver.specs.Promises.{IsQuiet, TellsEnough, CompileStatus, RunStatus, SolveStatus, HasStatus}
 use Rattle.ia32_machine.proofs.First.{first-one}
 
 -- ---- the line
@@ -240,30 +240,31 @@ solve_status content (reports.BudgetSpent steps) old new cause told quiet = absu
 
 -- the report of a command has the status that the command has
 report_status : (command : Command) (report : Report) (old new : Outside) → HasCause report old.work new.work
-    → CommandTold command old.work new.work report → old.work.files.tells → old.work.input.tells → old.work.out.tells
-    → IsQuiet old new → (status_of report ≡ 11) ⊎ HasStatus command old.work (status_of report)
-report_status (commands.Compile name sources) report old new cause told f i o quiet =
+    → CommandTold command old.work new.work report → TellsEnough command old.work → IsQuiet old new
+    → (status_of report ≡ 11) ⊎ HasStatus command old.work (status_of report)
+report_status (commands.Compile name sources) report old new cause told f quiet =
     compile_status name sources old new report cause (told.0 f) quiet
-report_status (commands.Run steps image) report old new cause told f i o quiet =
-    run_status steps (old.work.files.content image) report old new cause (told.3 f i o) quiet
-report_status (commands.Eval turns sources) report old new cause told f i o quiet =
-    eval_status turns sources report old.work new.work cause (told.2 f i o) quiet.reads quiet.input quiet.output
-report_status (commands.Solve file) report old new cause told f i o quiet =
+report_status (commands.Run steps image) report old new cause told enough quiet =
+    run_status steps (old.work.files.content image) report old new cause (told.3 enough.0 enough.1) quiet
+report_status (commands.Eval turns sources) report old new cause told enough quiet =
+    eval_status turns sources report old.work new.work cause (told.2 enough.0 enough.1 enough.2) quiet.reads quiet.input
+    quiet.output
+report_status (commands.Solve file) report old new cause told f quiet =
     solve_status (old.work.files.content file) report old new cause (told.3 f) quiet
-report_status (commands.ManyFiles count) report old new cause told f i o quiet =
+report_status (commands.ManyFiles count) report old new cause told enough quiet =
     own_status (reports.TooManyFiles count) report old.work new.work told
-report_status commands.Usage report old new cause told f i o quiet =
+report_status commands.Usage report old new cause told enough quiet =
     own_status reports.Usage report old.work new.work told
 
 -- the status of a command where nothing fails
 pub exact_status : (command : Command) (report : Report) (old new : Outside) (result : ℕ)
     → HasCause report old.work new.work → CommandTold command old.work new.work report
-    → Ends command report old.err new.err result → old.work.files.tells → old.work.input.tells → old.work.out.tells
-    → IsQuiet old new → (result ≡ 11) ⊎ HasStatus command old.work result
-exact_status command report old new result cause told ends f i o quiet =
+    → Ends command report old.err new.err result → TellsEnough command old.work → IsQuiet old new
+    → (result ≡ 11) ⊎ HasStatus command old.work result
+exact_status command report old new result cause told ends enough quiet =
     elim (ends_status command report old.err new.err result ends quiet.errors) [
       | inl none ↦ inl none
-      | inr same ↦ elim (report_status command report old new cause told f i o quiet) [
+      | inr same ↦ elim (report_status command report old new cause told enough quiet) [
         | inl none ↦ inl (same ∙ none)
         | inr has ↦ inr (subst (λ (n : ℕ). HasStatus command old.work n) (sym same) has)
       ]

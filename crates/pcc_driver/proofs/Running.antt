@@ -11,7 +11,7 @@ use Rattle.ia32_machine.specs.Runs.{Gives, GivesSoFar, GivesPart, WritesNext}
 use Rattle.ia32_machine.specs.declared.ends.MachineEnd.{MachineEnd}
 use Rattle.ia32_machine.specs.declared.ends.MachineEnd.TheVariants as machine
 use Rattle.pcc_reports.specs.declared.report.Named.TheVariants.{Source, Map, Image, Board}
-use Rattle.pcc_driver.specs.Answers.{ImageTold, RunTold, RunGives, RunGivesSoFar, RunGivesPart}
+use Rattle.pcc_driver.specs.Answers.{ImageTold, IsPut, RunTold, RunGives, RunGivesSoFar, RunGivesPart}
 use Rattle.pcc_driver.specs.Answers.{GivesNoMachine, IsNoImage, report_of_end}
 use Rattle.pcc_reports.specs.Causes.{StreamsCause}
 use Rattle.pcc_reports.specs.Outside.{SameStreams, Work}
@@ -94,14 +94,14 @@ lent_first image segments machine left loads same = (segments, loads, ap (λ (m 
 -- the end of a run is told by its report
 gives_told : (steps : ℕ) (content : Option (List ℕ)) (image : List ℕ) (s : State) (old new : Work) (end : outcome.End)
     → content ≡ Some image → length image ≤ file_limit → First image old.input.left s
-    → Gives steps s old.input.left new.input.left old.out.taken new.out.taken end
+    → Gives steps s old.input.left new.input.left (IsPut old.out new.out) end
     → Holds content (RunGives steps old new end)
 gives_told steps content image s old new end read small first told =
     (image, read, small, (s, first, told.0, told.1, told.2, told.3, told.4))
 
 so_far_told : (steps : ℕ) (content : Option (List ℕ)) (image : List ℕ) (s left : State) (old new : Work)
     (IsLeft : State → Type 0) → content ≡ Some image → length image ≤ file_limit → First image old.input.left s
-    → GivesSoFar steps s left old.input.left new.input.left old.out.taken new.out.taken IsLeft
+    → GivesSoFar steps s left old.input.left new.input.left (IsPut old.out new.out) IsLeft
     → Holds content (RunGivesSoFar steps IsLeft old new)
 so_far_told steps content image s left old new IsLeft read small first told =
     let gives = told.2 in
@@ -127,15 +127,35 @@ so_far_told steps content image s left old new IsLeft read small first told =
 
 part_told : (steps : ℕ) (content : Option (List ℕ)) (image : List ℕ) (s left : State) (old new : Work)
     → content ≡ Some image → length image ≤ file_limit → First image old.input.left s
-    → GivesPart steps s left old.input.left new.input.left old.out.taken new.out.taken
+    → GivesPart steps s left old.input.left new.input.left (IsPut old.out new.out)
     → Holds content (RunGivesPart steps old new)
 part_told steps content image s left old new read small first told =
-    (image, read, small, (s, first, told.0, told.1, told.2, told.3, told.4, told.5, told.6, told.7, told.8))
+    let last = told.9 in (
+      image,
+      read,
+      small,
+      (
+        s,
+        first,
+        told.0,
+        told.1,
+        told.2,
+        told.3,
+        told.4,
+        told.5,
+        told.6,
+        told.7,
+        told.8,
+        last.0,
+        last.1,
+        last.2,
+      ),
+    )
 
 -- the report of a run of the machine, which was left in some state, tells what the machine does
 pub machine_told : (steps : ℕ) (end : MachineEnd) (content : Option (List ℕ)) (image : List ℕ) (s left : State)
     (old new : Work) → content ≡ Some image → length image ≤ file_limit → First image old.input.left s
-    → runs.RunTold steps s left old.input.left new.input.left old.out.taken new.out.taken end
+    → runs.RunTold steps s left old.input.left new.input.left (IsPut old.out new.out) end
     → RunTold steps content old new (report_of_end steps end)
 unfolding runs.RunTold
 machine_told steps (machine.Ended status) content image s left old new read small first told =

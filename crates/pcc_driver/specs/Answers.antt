@@ -91,26 +91,31 @@ WritesTold map_name name map_bytes image old new _ = ⊥
 
 -- ---- run
 
+-- where the output tells what it took, these bytes were put on it
+abbrev pub IsPut : Output → Output → List ℕ → Type 0
+IsPut old new bytes = old.tells → new.taken ≡ old.taken ++ bytes
+
 -- so many steps of the image with these bytes have this end
 abbrev pub RunGives : ℕ → Work → Work → outcome.End → List ℕ → Type 0
 RunGives steps old new end image =
     (s : State) × First image old.input.left s × (o : Outcome) × Runs no_visits steps s o × (o.end ≡ end)
-    × (new.input.left ≡ drop o.taken old.input.left) × (new.out.taken ≡ old.out.taken ++ o.written)
+    × (new.input.left ≡ drop o.taken old.input.left) × IsPut old.out new.out o.written
 
 -- Fewer steps than that lead to a state of which this holds, and the streams are as those steps leave them.
 abbrev pub RunGivesSoFar : ℕ → (State → Type 0) → Work → Work → List ℕ → Type 0
 RunGivesSoFar steps IsLeft old new image =
     (s : State) × First image old.input.left s × (n : ℕ) × (n < steps) × (o : Outcome) × Runs no_visits n s o
-    × (o.end ≡ outcome.Goes) × (new.input.left ≡ drop o.taken old.input.left)
-    × (new.out.taken ≡ old.out.taken ++ o.written) × (t : State) × Reaches n s t × IsLeft t
+    × (o.end ≡ outcome.Goes) × (new.input.left ≡ drop o.taken old.input.left) × IsPut old.out new.out o.written
+    × (t : State) × Reaches n s t × IsLeft t
 
--- The input is as fewer steps leave it, and what was put on the output is what they write, and a prefix of what one
--- step more writes.
+-- The input is as fewer steps leave it, the next step writes, and what was put on the output is what they write, and a
+-- prefix of what that step does.
 abbrev pub RunGivesPart : ℕ → Work → Work → List ℕ → Type 0
 RunGivesPart steps old new image =
     (s : State) × First image old.input.left s × (n : ℕ) × (n < steps) × (o next : Outcome)
     × Runs no_visits n s o × Runs no_visits (suc n) s next × (new.input.left ≡ drop o.taken old.input.left)
-    × (k : ℕ) × (new.out.taken ≡ old.out.taken ++ take (length o.written + k) next.written)
+    × (k : ℕ) × IsPut old.out new.out (take (length o.written + k) next.written)
+    × (t : State) × Reaches n s t × WritesNext t
 
 -- the image has no first state
 abbrev pub IsNoImage : List ℕ → List ℕ → Type 0
@@ -131,8 +136,8 @@ ImageTold content (reports.TooLong Image) = IsTooLong content
 ImageTold content reports.NotImage = Holds content (λ image. (segments : Segments) → Loads image segments → ⊥)
 ImageTold content _ = ⊤
 
--- The report of `run` for so many steps on files and streams that are told; no file has changed. Where the output finds
--- no memory, the next step writes.
+-- The report of `run` for so many steps on files and an input that are told; no file has changed. What was put on the
+-- output is known where that tells too. Where it finds no memory, the next step writes.
 abbrev pub RunTold : ℕ → Option (List ℕ) → Work → Work → Report → Type 0
 RunTold steps content old new (reports.Exited status) = Holds content (RunGives steps old new (outcome.Ended status))
 RunTold steps content old new (reports.Trapped trap) = Holds content (RunGives steps old new (outcome.Trapped trap))
@@ -194,7 +199,7 @@ CommandTold (Compile name sources) old new report =
 CommandTold (Run steps image) old new report =
     HasNoTokens report × (old.files.tells → SameFiles old.files.content new.files.content)
     × (old.files.tells → ImageTold (old.files.content image) report)
-    × (old.files.tells → old.input.tells → old.out.tells → RunTold steps (old.files.content image) old new report)
+    × (old.files.tells → old.input.tells → RunTold steps (old.files.content image) old new report)
 CommandTold (Eval turns sources) old new report =
     (old.files.tells → SameFiles old.files.content new.files.content)
     × (old.files.tells → SourcesTold old.files.content sources report)

@@ -53,6 +53,16 @@ HasStatus (Solve file) old status = SolveStatus (old.files.content file) status
 HasStatus (ManyFiles count) old status = status ≡ 3
 HasStatus Usage old status = status ≡ 2
 
+-- What the status of a command hangs on tells: its files, and the streams that decide how it ends. Words that ask for
+-- nothing have their status whatever is told.
+abbrev pub TellsEnough : Command → Work → Type 0
+TellsEnough (Compile name sources) old = old.files.tells
+TellsEnough (Run steps image) old = old.files.tells × old.input.tells
+TellsEnough (Eval turns sources) old = old.files.tells × old.input.tells × old.out.tells
+TellsEnough (Solve file) old = old.files.tells
+TellsEnough (ManyFiles count) old = ⊤
+TellsEnough Usage old = ⊤
+
 -- the texts are above a limit
 abbrev pub AreAboveLimit : List (List ℕ) → Type 0
 AreAboveLimit texts = (excess : Excess) × Exceed texts excess

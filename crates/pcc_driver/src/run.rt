@@ -77,7 +77,7 @@ pub fn run<F: FileStore, I: Source, O: Sink>(
     ensures out_tells { O.tells out.old → O.tells out.new }
     ensures same { F.tells files.old → SameFiles (F.content files.old) (F.content files.new) }
     ensures file { F.tells files.old → ImageTold (F.content files.old image.now) result }
-    ensures told { F.tells files.old → I.tells input.old → O.tells out.old →
+    ensures told { F.tells files.old → I.tells input.old →
         RunTold steps (F.content files.old image.now)
         (work_of F.FileStore I.Source O.Sink files.old input.old out.old)
         (work_of F.FileStore I.Source O.Sink files.new input.new out.new)

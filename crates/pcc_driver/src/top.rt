@@ -5,7 +5,7 @@ ghost use Rattle.pcc_driver.specs.Answers.{CommandTold};
 ghost use Rattle.pcc_words.specs.Asked.{command_of, Compile, HasFewSources};
 ghost use Rattle.pcc_driver.specs.Headline.{IsCompiled};
 ghost use Rattle.pcc_reports.specs.Outside.{work_of, outside_of};
-ghost use Rattle.pcc_driver.specs.Promises.{IsQuiet, HasStatus, HasCauses, NoticesFaults};
+ghost use Rattle.pcc_driver.specs.Promises.{IsQuiet, TellsEnough, HasStatus, HasCauses, NoticesFaults};
 ghost use Rattle.pcc_words.specs.Words.{meaning};
 ghost use Rattle.pcc_reports.specs.declared.report.Report.{Report};
 
@@ -82,12 +82,12 @@ pub fn pcc<F: FileStore, I: Source, O: Sink, E: Sink>(
         F.tells files.old → result ≡ 0 →
         IsCompiled (F.content files.old) (F.content files.new) name sources }
 
-    // The status is the one that the words, the files and the input have, unless memory was wanting or a
-    // fault came.
+    // The status is the one that the words, the files and the input have, where these tell, unless memory was wanting
+    // or a fault came.
     ensures exact { let old = outside_of F.FileStore I.Source O.Sink E.Sink files.old input.old out.old err.old in
         let new = outside_of F.FileStore I.Source O.Sink E.Sink files.new input.new out.new err.new in
-        old.work.files.tells → old.work.input.tells → old.work.out.tells → IsQuiet old new →
-        (result ≡ 11) ⊎ HasStatus (command_of (map string_bytes words.now.items)) old.work result }
+        let command = command_of (map string_bytes words.now.items) in
+        TellsEnough command old.work → IsQuiet old new → (result ≡ 11) ⊎ HasStatus command old.work result }
 
     // Which count rose where the outside is the cause, and that there are too many sources, or that these are above a
     // limit, else.

@@ -4,7 +4,9 @@ use Rattle.ia32_insn.specs.State.{State}
 use Rattle.ia32_insn.specs.Meaning.{Moved, word_of}
 use Rattle.ia32_processor.proofs.Kept.{keeps-same}
 use Rattle.ia32_machine.specs.First.{lent}
-use Rattle.ia32_machine.specs.Performs.{PartTold}
+use Rattle.ia32_machine.specs.Lending.{IsPutOn, PutsNothing}
+use Rattle.ia32_machine.specs.Performs.{PartTold, call_moved}
+use Rattle.ia32_machine.proofs.Performs.{none_put, nothing_put, puts}
 use Rattle.ia32_machine.proofs.Calls.{call_exit, call_read, call_write, call_none}
 use Rattle.ia32_machine.proofs.system_calls.system_call.Goals.{else-call-eq3-via-then-call-eq3+else-first-eq0}
 use Rattle.ia32_machine.proofs.system_calls.system_call.Goals.{else-call-eq3-via-else-call-eq3}
@@ -17,9 +19,10 @@ overflow_cast-result g c = omega arith
 
 pub returns-then-call-eq1-clause-lends : goal.returns-then-call-eq1-clause-lends
 returns-then-call-eq1-clause-lends g c = record {
-  told = λ _ _.
+  told = λ _.
       rw c.word-first.ensures (call_exit c.args.processor.now (g.I.Source.left c.args.input.now)
-      (g.O.Sink.taken c.args.out.now) c.requires (sym c.word-call.ensures ∙ c.if-call-eq1.true));
+      (IsPutOn g.O.Sink c.args.out.now c.args.out.now) c.requires (sym c.word-call.ensures ∙ c.if-call-eq1.true)
+      (none_put g.O.Sink c.args.out.now));
   counted = (refl, refl);
   input_tells = λ t. t;
   out_tells = λ t. t;
@@ -30,13 +33,19 @@ read_call-requires g c = c.requires
 
 pub returns-then-first-eq0-clause-lends : goal.returns-then-first-eq0-clause-lends
 returns-then-first-eq0-clause-lends g c = record {
-  told = λ i _.
+  told = λ i.
       let left : List ℕ = g.I.Source.left c.args.input.now in
-      let taken : List ℕ = g.O.Sink.taken c.args.out.now in
+      let told : PartTold (call_moved (lent c.args.processor.now left)) (lent c.args.processor.now left)
+      c.read_call.new.processor
+      (g.I.Source.left c.read_call.new.input) PutsNothing c.read_call.result =
       subst (λ (m : Moved). PartTold m (lent c.args.processor.now left) c.read_call.new.processor
-      (g.I.Source.left c.read_call.new.input) taken taken c.read_call.result)
+      (g.I.Source.left c.read_call.new.input) PutsNothing c.read_call.result)
       (call_read c.args.processor.now left (sym c.word-call.ensures ∙ c.if-call-eq3.true)
-      (sym c.word-first.ensures ∙ c.if-first-eq0.true)) (c.read_call.ensures.told i taken);
+      (sym c.word-first.ensures ∙ c.if-first-eq0.true)) (c.read_call.ensures.told i) in
+      puts (call_moved (lent c.args.processor.now left)) (lent c.args.processor.now left) c.read_call.new.processor
+      (g.I.Source.left c.read_call.new.input) PutsNothing (IsPutOn g.O.Sink c.args.out.now c.args.out.now)
+      c.read_call.result
+      (nothing_put g.O.Sink c.args.out.now) told;
   counted = c.read_call.ensures.counted (g.O.Sink.counts c.args.out.now);
   input_tells = c.read_call.ensures.input_tells;
   out_tells = λ t. t;
@@ -47,12 +56,12 @@ write_call-requires g c = c.requires
 
 pub returns-then-first-eq1-clause-lends : goal.returns-then-first-eq1-clause-lends
 returns-then-first-eq1-clause-lends g c = record {
-  told = λ _ o.
+  told = λ _.
       let left : List ℕ = g.I.Source.left c.args.input.now in
       subst (λ (m : Moved). PartTold m (lent c.args.processor.now left) c.write_call.new.processor left
-      (g.O.Sink.taken c.args.out.now) (g.O.Sink.taken c.write_call.new.out) c.write_call.result)
+      (IsPutOn g.O.Sink c.args.out.now c.write_call.new.out) c.write_call.result)
       (call_write c.args.processor.now left (sym c.word-call.ensures ∙ c.if-call-eq4.true)
-      (sym c.word-first.ensures ∙ c.if-first-eq1.true)) (c.write_call.ensures.told o left);
+      (sym c.word-first.ensures ∙ c.if-first-eq1.true)) (c.write_call.ensures.told left);
   counted = c.write_call.ensures.counted (g.I.Source.faults c.args.input.now);
   input_tells = λ t. t;
   out_tells = c.write_call.ensures.out_tells;
@@ -60,7 +69,7 @@ returns-then-first-eq1-clause-lends g c = record {
 
 pub returns-clause-lends : goal.returns-clause-lends
 returns-clause-lends g c = record {
-  told = λ _ _.
+  told = λ _.
       let old : State = c.args.processor.now in
       let exit : word_of Eax old ≢ 1 = λ e. c.if-call-eq1.false (c.word-call.ensures ∙ e) in
       let read : word_of Eax old ≡ 3 → word_of Ebx old ≡ 0 → ⊥ =
@@ -73,8 +82,9 @@ returns-clause-lends g c = record {
         | else-call-eq4-via-then-call-eq4+else-first-eq1 w ↦ w.if-first-eq1.false (c.word-first.ensures ∙ file)
         | else-call-eq4-via-else-call-eq4 w ↦ w.if-call-eq4.false (c.word-call.ensures ∙ call)
       ] in
-      rw c.eip.ensures.value (call_none old (g.I.Source.left c.args.input.now) (g.O.Sink.taken c.args.out.now)
-      c.requires exit read write);
+      rw c.eip.ensures.value (call_none old (g.I.Source.left c.args.input.now)
+      (IsPutOn g.O.Sink c.args.out.now c.args.out.now) c.requires exit read write
+      (none_put g.O.Sink c.args.out.now));
   counted = (refl, refl);
   input_tells = λ t. t;
   out_tells = λ t. t;

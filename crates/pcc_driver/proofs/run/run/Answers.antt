@@ -7,7 +7,7 @@ use Rattle.pcc_driver.proofs.Running.{no_machine_told}
 use Rattle.pcc_driver.proofs.run.run.Goals as goal
 
 pub returns-in-Err-machine_of-clause-told : goal.returns-in-Err-machine_of-clause-told
-returns-in-Err-machine_of-clause-told g c = λ f i o.
+returns-in-Err-machine_of-clause-told g c = λ f i.
     let small : length c.in-Ok.bytes.items ≤ file_limit = omega (arith, c.in-Ok.ensures.size) in
     no_machine_told c.args.steps c.in-Err-machine_of.report (g.F.FileStore.content c.args.files.now c.args.image.now)
     c.in-Ok.bytes.items
@@ -16,7 +16,7 @@ returns-in-Err-machine_of-clause-told g c = λ f i o.
     (c.in-Ok.ensures.told f) small c.in-Err-machine_of.ensures
 
 pub returns-in-Ok-machine_of-clause-told : goal.returns-in-Ok-machine_of-clause-told
-returns-in-Ok-machine_of-clause-told g c = λ f i o.
+returns-in-Ok-machine_of-clause-told g c = λ f i.
     let small : length c.in-Ok.bytes.items ≤ file_limit = omega (arith, c.in-Ok.ensures.size) in
     let loaded = c.in-Ok-machine_of.ensures in
     rw c.end_report.ensures (machine_told c.args.steps c.run.result
@@ -28,7 +28,7 @@ returns-in-Ok-machine_of-clause-told g c = λ f i o.
     (c.in-Ok.ensures.told f) small
     (lent_first c.in-Ok.bytes.items loaded.0 c.in-Ok-machine_of.machine (g.I.Source.left c.args.input.now) loaded.1
     loaded.2)
-    (c.run.ensures.told i o))
+    (c.run.ensures.told i))
 
 pub returns-in-Err-machine_of-clause-file : goal.returns-in-Err-machine_of-clause-file
 returns-in-Err-machine_of-clause-file g c = λ f.

@@ -20,7 +20,7 @@ carry_out-report-requires g c =
     record { few = subst HasFewSources (sym e) (few (map string_bytes c.as_slice.result.now)) }
 
 pub returns-in-Ok-clause-exact : goal.returns-in-Ok-clause-exact
-returns-in-Ok-clause-exact g c = λ f i o quiet.
+returns-in-Ok-clause-exact g c =
     let e : meaning c.in-Ok.command ≡ meant c.args.words.now.items =
     c.in-Ok.ensures ∙ ap meant c.as_slice.ensures.value in
     let old : Outside = outside_of g.F.FileStore g.I.Source g.O.Sink g.E.Sink c.args.files.now c.args.input.now
@@ -28,7 +28,7 @@ returns-in-Ok-clause-exact g c = λ f i o quiet.
     let new : Outside = outside_of g.F.FileStore g.I.Source g.O.Sink g.E.Sink c.carry_out-report.new.files
     c.carry_out-report.new.input c.carry_out-report.new.out c.finish.new.err in
     rw (← e) (exact_status (meaning c.in-Ok.command) c.carry_out-report.result old new c.finish.result
-    c.carry_out-report.ensures.cause c.carry_out-report.ensures.told c.finish.ensures.ends f i o quiet)
+    c.carry_out-report.ensures.cause c.carry_out-report.ensures.told c.finish.ensures.ends)
 
 pub returns-in-Ok-clause-causes : goal.returns-in-Ok-clause-causes
 returns-in-Ok-clause-causes g c =
@@ -54,14 +54,14 @@ returns-in-Err-clause-headline g c = λ name sources is f done.
     (c.finish_wanting.ensures.ends (meant c.args.words.now.items) reports.NoMemory refl) done)
 
 pub returns-in-Err-clause-exact : goal.returns-in-Err-clause-exact
-returns-in-Err-clause-exact g c = λ f i o quiet.
+returns-in-Err-clause-exact g c = λ enough quiet.
     let old : Outside = outside_of g.F.FileStore g.I.Source g.O.Sink g.E.Sink c.args.files.now c.args.input.now
     c.args.out.now c.args.err.now in
     let new : Outside = outside_of g.F.FileStore g.I.Source g.O.Sink g.E.Sink c.args.files.now c.args.input.now
     c.args.out.now c.finish_wanting.new.err in
     exact_status (meant c.args.words.now.items) reports.NoMemory old new c.finish_wanting.result
     (wanting_caused old.work) (wanting_told (meant c.args.words.now.items) old.work)
-    (c.finish_wanting.ensures.ends (meant c.args.words.now.items) reports.NoMemory refl) f i o quiet
+    (c.finish_wanting.ensures.ends (meant c.args.words.now.items) reports.NoMemory refl) enough quiet
 
 pub returns-in-Err-clause-causes : goal.returns-in-Err-clause-causes
 returns-in-Err-clause-causes g c =

@@ -1,6 +1,7 @@
 use Rattle.std.proofs.Common.{◌≡◌, List, ℕ, refl, subst}
 use Rattle.ia32_insn.specs.State.{State}
 use Rattle.ia32_machine.specs.First.{lent}
+use Rattle.ia32_machine.specs.Lending.{IsPutOn}
 use Rattle.ia32_machine.specs.Performs.{AdvanceTold}
 use Rattle.ia32_machine.proofs.Performs.{fetched}
 use Rattle.ia32_processor.proofs.Table.{decoded-kept}
@@ -20,17 +21,17 @@ invariant_of-self g c =
 
 pub returns-in-Some : goal.returns-in-Some
 returns-in-Some g c = record {
-  told = λ i o.
+  told = λ i.
       let p : State = c.self.inside.processor in
       let left : List ℕ = g.I.Source.left c.args.input.now in
       let at : c.eip-address.result ≡ p.eip = c.eip-address.ensures.value in
       let found = c.in-Some.ensures p.memory c.self.invariant in
       subst (λ (s : State). AdvanceTold (lent s left) c.perform.new.processor (g.I.Source.left c.perform.new.input)
-      (g.O.Sink.taken c.args.out.now) (g.O.Sink.taken c.perform.new.out) c.perform.result) c.self.view_is
-      (fetched p c.perform.new.processor left (g.I.Source.left c.perform.new.input) (g.O.Sink.taken c.args.out.now)
-      (g.O.Sink.taken c.perform.new.out) c.in-Some.entry.now.insn found.1.1.1 c.in-Some.entry.now.after c.perform.result
+      (IsPutOn g.O.Sink c.args.out.now c.perform.new.out) c.perform.result) c.self.view_is
+      (fetched p c.perform.new.processor left (g.I.Source.left c.perform.new.input)
+      (IsPutOn g.O.Sink c.args.out.now c.perform.new.out) c.in-Some.entry.now.insn found.1.1.1 c.in-Some.entry.now.after c.perform.result
       (found-fetched p c.eip-address.result c.in-Some.entry.now at found)
-      (found-after p c.eip-address.result c.in-Some.entry.now at found) (c.perform.ensures.lends.told i o));
+      (found-after p c.eip-address.result c.in-Some.entry.now at found) (c.perform.ensures.lends.told i));
   counted = c.perform.ensures.lends.counted;
   input_tells = c.perform.ensures.lends.input_tells;
   out_tells = c.perform.ensures.lends.out_tells;
