@@ -1,13 +1,8 @@
 //! The graphs of a program.
 
-ghost use Rattle.std.specs.Prelude.{◌≡◌, IfOk, List, flat_map, length};
-ghost use Rattle.c_accepted.specs.Small.{AreSmallFor};
-ghost use Rattle.c_syntax.specs.Grammar.{unit_tokens};
-ghost use Rattle.c_syntax.specs.Statements.{ExternalTree};
+ghost use Rattle.std.specs.Prelude.{◌≡◌, IfOk};
 ghost use Rattle.c_tree.specs.Erased.{program_of};
 ghost use Rattle.c_tree.specs.WellTyped.{WellTyped};
-ghost use Rattle.c_typing.specs.Laws.{AreSources};
-ghost use Rattle.c_typing.specs.Typed.{Typed};
 ghost use Rattle.flow_graph.specs.Running.{IsNeverStuck};
 ghost use Rattle.flow_graph.specs.WellFormed.{IsGraphProgram};
 ghost use Rattle.lower.specs.Graphs.{graphs_of};
@@ -27,7 +22,6 @@ ghost use Rattle.lower_programs.specs.SettledLaws.{HaveLiveness, NothingLiveFirs
 use crate::graphs::Graphs;
 use crate::lowered::graph;
 use crate::objects::objects_of;
-use c_accepted::tokens_bound_graphs;
 use c_tree::Program;
 use flow_graph::{Graph, never_stuck};
 use lower_lines::{graphs_are_small, marks_hold, objects_hold, shapes_hold};
@@ -76,12 +70,7 @@ pub fn lower(alloc: Global, program: &Program) -> Result<Graphs, NoMemory>
     ensures marks { IfOk result (λ graphs. MarksOnce (graphs_of graphs)) }
     ensures statements { IfOk result (λ graphs. HaveMarks (program_of program.now) (graphs_of graphs)) }
 
-    // At most 20 points, 2 argument words and one frame array for each token of the files whose program it is.
-    ensures by_tokens { IfOk result (λ graphs. (units : List (List ExternalTree)) → AreSources units
-        → Typed units (program_of program.now)
-        → AreSmallFor (length (flat_map unit_tokens units)) (graphs_of graphs)) }
-
-    // No more for each part of the program, of which each has a token of its own.
+    // The graphs grow no faster than the program.
     ensures small { IfOk result (λ graphs. AreSmall (program_of program.now) (graphs_of graphs)) }
 
     // No temporary is live at a mark, and the dividend of a division and the count of a shift die at their op and are
@@ -101,7 +90,6 @@ pub fn lower(alloc: Global, program: &Program) -> Result<Graphs, NoMemory>
     objects_hold();
     marks_hold();
     graphs_are_small();
-    tokens_bound_graphs();
     liveness_holds();
     first_points_hold();
     Ok(Graphs {

@@ -1,12 +1,6 @@
-use Rattle.std.proofs.Common.{rules, ◌≡◌, ℕ, List, [], length, subst, sym}
-use Rattle.std.specs.Prelude.{flat_map}
-use Rattle.c_syntax.specs.Grammar.{unit_tokens}
-use Rattle.c_syntax.specs.Statements.{ExternalTree}
+use Rattle.std.proofs.Common.{rules, ◌≡◌, ℕ, [], subst, sym}
 use Rattle.c_tree.specs.Erased.{program_of}
 use Rattle.c_tree.specs.Evaluation.{source_outcome}
-use Rattle.c_typing.specs.Laws.{AreSources}
-use Rattle.c_typing.specs.Typed.{Typed}
-use Rattle.c_accepted.specs.Small.{AreSmallFor}
 use Rattle.flow_graph.specs.Running.{IsNeverStuck}
 use Rattle.flow_graph.specs.States.{GraphProgram}
 use Rattle.flow_graph.specs.WellFormed.{IsGraphProgram}
@@ -103,20 +97,6 @@ returns-clause-small c =
     } ≡ lowered (program_of c.args.program.now) = search rules in
     subst (λ (g : GraphProgram). AreSmall (program_of c.args.program.now) g) (sym e)
     (c.graphs_are_small.ensures (program_of c.args.program.now) c.requires.typed c.requires.memory)
-
-pub returns-clause-by_tokens : goal.returns-clause-by_tokens
-returns-clause-by_tokens c =
-    let e : graphs_of record {
-      functions = c.in_ok-functions.functions;
-      objects = c.in_ok-objects.objects;
-      main = c.args.program.now.main;
-    } ≡ lowered (program_of c.args.program.now) = search rules in
-    subst (λ (g : GraphProgram). (units : List (List ExternalTree)) → AreSources units
-    → Typed units (program_of c.args.program.now) → AreSmallFor (length (flat_map unit_tokens units)) g) (sym e)
-    (λ units sources typed.
-    c.tokens_bound_graphs.ensures.files units (program_of c.args.program.now)
-    (lowered (program_of c.args.program.now)) sources typed
-    (c.graphs_are_small.ensures (program_of c.args.program.now) c.requires.typed c.requires.memory))
 
 pub returns-clause-liveness : goal.returns-clause-liveness
 returns-clause-liveness c =
