@@ -5,7 +5,7 @@ pub mod Expressions
 pub mod Items
 pub mod Statements
 pub mod Files
-pub mod Tokens
+pub mod Small
 mod Tiny
 pub mod DeclaredFirstExpressions
 pub mod DeclaredFirstFiles

@@ -1,6 +1,6 @@
 -- What the writes of a compilation leave is what its report tells.
 use Rattle.std.proofs.Common.{◌≡◌, ◌≢◌, ℕ, List, Some, ap, ◌∙◌, inl, inr}
-use Rattle.c_accepted.proofs.Tokens.{texts_bound_graphs}
+use Rattle.c_accepted.proofs.Small.{texts_bound_graphs}
 use Rattle.pcc_driver.specs.Answers.{CompileTold, WritesTold, MapStands}
 use Rattle.pcc_words.specs.Asked.{map_name}
 use Rattle.pcc_reports.specs.Outside.{Files, SameFiles}

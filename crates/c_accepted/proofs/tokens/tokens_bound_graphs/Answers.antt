@@ -1,4 +1,4 @@
-use Rattle.c_accepted.proofs.Tokens.{files_bound_graphs, texts_bound_graphs}
+use Rattle.c_accepted.proofs.Small.{files_bound_graphs, texts_bound_graphs}
 use Rattle.c_accepted.proofs.tokens.tokens_bound_graphs.Goals as goal
 
 pub returns-clause-files : goal.returns-clause-files
