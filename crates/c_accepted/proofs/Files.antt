@@ -47,8 +47,8 @@ use Rattle.c_typing.specs.Files.{in_function}
 use Rattle.c_typing.specs.Files.{typed_definition, after_external, typed_external}
 use Rattle.c_typing.specs.Files.{after_unit, typed_unit, typed_units}
 use Rattle.c_typing.specs.Files.{sized_object}
-use Rattle.c_typing.specs.Laws.{HasIntIfAny}
-use Rattle.c_typing.specs.Typed.{checked, numbers_in, notes_of, program_with}
+use Rattle.c_typing.specs.Laws.{AreSources, HasIntIfAny}
+use Rattle.c_typing.specs.Typed.{Typed, checked, numbers_in, notes_of, program_with}
 use Rattle.c_typing.proofs.CountUp.{Always, IfFits, always, holds_also, holds_both, holds_if}
 use Rattle.c_sound.proofs.Files.{arrays_declared}
 use Rattle.c_sound.proofs.Ranged.{HasInts}
@@ -57,6 +57,7 @@ use Rattle.c_accepted.specs.Laws.{KeepsWords}
 use Rattle.c_accepted.proofs.Bounds.{limits-bound}
 use Rattle.c_accepted.specs.MemoryLaws.{SourcesAreInMemory}
 use Rattle.c_typing.proofs.FilesCountUp.{by_initialiser}
+use Rattle.c_accepted.specs.TokensLaws.{PartsHaveTokens}
 use Rattle.c_accepted.proofs.Expressions.{cut}
 use Rattle.c_accepted.proofs.Items.{holds_map}
 use Rattle.c_accepted.proofs.Statements.{RowFine, items_fine, total_own, total_most}
@@ -307,15 +308,25 @@ keeps : (fs : List tree.Function) → AllByRecursion BodyHasWords fs
 keeps [] h g = tt
 keeps (f ∷ fs) h g = (record { body = h.0; declared = g.0 }, keeps fs h.1 g.1)
 
-pub sources_are_in_memory : SourcesAreInMemory
-sources_are_in_memory units p sources few accepted =
+functions_fine : (units : List (List ExternalTree)) (p : Program) → AreSources units → Typed units p
+    → FunctionsFine (length (flat_map unit_tokens units)) p.functions
+functions_fine units p sources typed =
     let T = flat_map unit_tokens units in
     let ints = recursion_from_All (λ (t : Token). HasIntIfAny t.kind) T sources.numbers in
-    let fine = fine_in (length T) (checked units) (numbers_in units) (notes_of units) p
-    (units_fine units (first_scope (numbers_in units)) sources.trees ints) accepted.typed.is in
+    fine_in (length T) (checked units) (numbers_in units) (notes_of units) p
+    (units_fine units (first_scope (numbers_in units)) sources.trees ints) typed.is
+
+pub parts_have_tokens : PartsHaveTokens
+parts_have_tokens units p sources typed =
+    let a = (functions_fine units p sources typed).0 in
+    let e = total_is p.functions in
+    omega (arith, a, e)
+
+pub sources_are_in_memory : SourcesAreInMemory
+sources_are_in_memory units p sources few accepted =
+    let fine = functions_fine units p sources accepted.typed in
     let declared = recursion_from_All (λ (f : tree.Function). length f.arrays ≤ function_size f) p.functions
     (arrays_declared units p accepted.typed) in
-    let a = fine.0 in
-    let e = total_is p.functions in
+    let a = parts_have_tokens units p sources accepted.typed in
     limits-bound p accepted.small (All-from_recursion KeepsWords p.functions (keeps p.functions fine.1 declared))
-    (omega (arith, few, a, e))
+    (omega (arith, few, a))

@@ -5,6 +5,8 @@ pub mod Expressions
 pub mod Items
 pub mod Statements
 pub mod Files
+pub mod Small
+mod Tiny
 pub mod DeclaredFirstExpressions
 pub mod DeclaredFirstFiles
 mod Grammar

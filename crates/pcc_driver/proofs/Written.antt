@@ -1,5 +1,6 @@
 -- What the writes of a compilation leave is what its report tells.
 use Rattle.std.proofs.Common.{◌≡◌, ◌≢◌, ℕ, List, Some, ap, ◌∙◌, inl, inr}
+use Rattle.c_accepted.proofs.Small.{texts_bound_graphs}
 use Rattle.pcc_driver.specs.Answers.{CompileTold, WritesTold, MapStands}
 use Rattle.pcc_words.specs.Asked.{map_name}
 use Rattle.pcc_reports.specs.Outside.{Files, SameFiles}
@@ -38,6 +39,8 @@ written_told reports.Compiled name sources texts map_bytes image old mid new kep
       others = λ other n m. told.2 other n m ∙ kept other;
       correct = products.2.2;
       nothing_first = products.2.2.belongs.lowered.first_points products.1.1;
+      small = texts_bound_graphs texts products.0 products.2.2.belongs.code.program products.1.0
+          products.2.2.belongs.lowered.small;
     }
 written_told (reports.WriteFault Map) name sources texts map_bytes image old mid new kept read products told =
     λ other n. told other n ∙ kept other

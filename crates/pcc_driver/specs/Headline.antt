@@ -2,6 +2,7 @@
 use Rattle.std.specs.Prelude.{◌≡◌, ◌≢◌, ℕ, List, Some}
 use Rattle.c_tree.specs.Program.{Program}
 use Rattle.pcc_reports.specs.Programs.{HaveTypedProgram}
+use Rattle.c_accepted.specs.Small.{AreSmallBeside}
 use Rattle.lower_programs.specs.SettledLaws.{NothingLiveFirst}
 use Rattle.pcc_headline.specs.Products.{IsImageOf}
 use Rattle.pcc_listing.specs.Lines.{map_text}
@@ -12,7 +13,8 @@ use Rattle.pcc_reports.specs.Sources.{AreRead}
 
 -- What a compilation leaves: the sources have a typed program, NAME.map holds the text of the map of the image (and a
 -- text is the text of one map at most), NAME holds an image that does what the program does by that map, and no other
--- file has changed. In the graphs that the map and the image are of, no variable is live at a function's first point.
+-- file has changed. In the graphs that the map and the image are of, no variable is live at a function's first point, and
+-- they have at most 20 points, 2 argument words and one frame array for each token of the texts.
 pub record IsCompiled (old new : Files) (name : List ℕ) (sources : List (List ℕ)) : Type 0 where
   pub texts : List (List ℕ)
   pub program : Program
@@ -25,3 +27,4 @@ pub record IsCompiled (old new : Files) (name : List ℕ) (sources : List (List 
   pub others : (other : List ℕ) → other ≢ name → other ≢ map_name name → new other ≡ old other
   pub correct : IsImageOf program map image
   pub nothing_first : NothingLiveFirst program correct.belongs.code.program
+  pub small : AreSmallBeside texts correct.belongs.code.program
