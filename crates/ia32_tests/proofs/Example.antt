@@ -14,7 +14,6 @@ use Rattle.ia32_insn.specs.Items.{IsOrder, Object, round_up, elements_size}
 use Rattle.ia32_asm.specs.declared.section.Section.{Section}
 use Rattle.ia32_asm.specs.declared.section.Symbol.{Symbol}
 use Rattle.ia32_asm.specs.declared.section.Relocation.{Relocation}
-use Rattle.ia32_asm.specs.declared.section.Target.{Target}
 use Rattle.ia32_asm.specs.declared.section.Target.TheVariants as target
 use Rattle.ia32_asm.specs.Sections.{CanAssemble, IsSection, items_size, target_of}
 use Rattle.elf_addresses.specs.Parts.{CanHold, IsThere, function_of, object_of, order_of}

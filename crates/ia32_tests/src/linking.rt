@@ -83,46 +83,47 @@ fn two_functions(rt: HostRuntime) -> Result<(), Fail> {
 /// point has, with the offset 0, and a point at its last byte.
 #[test]
 fn words_of_any_sections(rt: HostRuntime) -> Result<(), Fail> {
-    let bytes = vec![in rt.alloc(); 0xb8, 0, 0, 0, 0, 0xc3]?;
-    let symbols = vec![in rt.alloc();
+    let load_bytes = vec![in rt.alloc(); 0xb8, 0, 0, 0, 0, 0xc3]?;
+    let load_symbols = vec![in rt.alloc();
         Symbol {
             function: 0,
             offset: 0
         },
     ]?;
-    let relocations = vec![in rt.alloc();
+    let load_words = vec![in rt.alloc();
         Relocation {
             at: 1,
             relative: false,
-            target: Target::Function(0)
+            target: Target::Function(0),
         },
     ]?;
-    let points = vec![in rt.alloc(); 0, 5]?;
-    let loads = Section {
-        bytes,
-        symbols,
-        relocations,
-        points,
-    };
-    let bytes = vec![in rt.alloc(); 0xe8, 7, 7, 7, 7, 0xc3]?;
-    let symbols = vec![in rt.alloc();
+    let load_points = vec![in rt.alloc(); 0, 5]?;
+    let call_bytes = vec![in rt.alloc(); 0xe8, 7, 7, 7, 7, 0xc3]?;
+    let call_symbols = vec![in rt.alloc();
         Symbol {
             function: 1,
             offset: 0
         },
     ]?;
-    let relocations = vec![in rt.alloc();
+    let call_words = vec![in rt.alloc();
         Relocation {
             at: 1,
             relative: true,
-            target: Target::Function(0)
+            target: Target::Function(0),
         },
     ]?;
+    let call_points: Vec<u32> = Vec::new(rt.alloc());
+    let loads = Section {
+        bytes: load_bytes,
+        symbols: load_symbols,
+        relocations: load_words,
+        points: load_points,
+    };
     let calls = Section {
-        bytes,
-        symbols,
-        relocations,
-        points: Vec::new(rt.alloc()),
+        bytes: call_bytes,
+        symbols: call_symbols,
+        relocations: call_words,
+        points: call_points,
     };
     let sections = vec![in rt.alloc(); loads, calls]?;
     let objects: Vec<DataObject> = Vec::new(rt.alloc());
