@@ -31,7 +31,7 @@ abbrev pub GraphsAreLaidOut : Type 0
 GraphsAreLaidOut = (p : Program) → WellTyped p → (k : ℕ) (f : Function) → slice_get p.functions k ≡ Some f
     → IsLaidOut (graph_of_function p f)
 
--- A function's graph has at most 20 points for each part of the function, and no more blocks than points.
+-- A function's graph has at most 20 points for each token of the function, and no more blocks than points.
 abbrev pub PointsAreFew : Type 0
 PointsAreFew = (p : Program) → WellTyped p → (k : ℕ) (f : Function) → slice_get p.functions k ≡ Some f
     → (length (graph_of_function p f).ops ≤ 20 * function_size f)

@@ -26,7 +26,7 @@ pub fn marks_hold()
     ensures { MarksHold }
 {}
 
-/// The graphs of a program have at most 20 points, 2 argument words and one frame array for each part of it.
+/// The graphs of a program have at most 20 points, 2 argument words and one frame array for each token of it.
 pub fn graphs_are_small()
     ensures { GraphsAreSmall }
 {}
@@ -42,7 +42,7 @@ pub fn names_are_there()
     ensures { NamesAreThere }
 {}
 
-/// The graph of a typed program's function has at most 20 points for each part of the function, and no more blocks
+/// The graph of a typed program's function has at most 20 points for each token of the function, and no more blocks
 /// than points.
 pub fn points_are_few()
     ensures { PointsAreFew }
