@@ -4,15 +4,20 @@ use Rattle.std.proofs.Common.{Option, Some, None, option_map}
 use Rattle.std.specs.declared.alloc.Global.{Global}
 use Rattle.pcc_base.specs.declared.fault.Fault.{Fault}
 use Rattle.c_syntax.specs.declared.expression.Identifier.{Identifier}
-use Rattle.c_syntax.specs.Declarations.{DeclaratorTree, ItemTree, ParameterTree}
+use Rattle.pcc_base.specs.declared.fault.FaultKind.TheVariants.{TypeRule}
+use Rattle.pcc_base.specs.declared.span.Span.{Span}
+use Rattle.c_syntax.specs.Declarations.{DeclaratorTree, ItemTree, ParameterTree, ValueTree}
+use Rattle.c_syntax.specs.Expressions.{Exprs}
 use Rattle.c_tree.specs.declared.types.ValueType.{ValueType}
-use Rattle.c_tree.specs.Program.{Function as Defined}
-use Rattle.c_typing.specs.Checked.{Checked, Note, also, faults_in, if_fits}
+use Rattle.c_tree.specs.declared.expression.Expression.{Expression as Built}
+use Rattle.c_tree.specs.Program.{Arguments, Function as Defined}
+use Rattle.c_typing.specs.Checked.{Checked, Note, also, fails, faults_in, if_fits}
 use Rattle.c_typing.specs.Declarators.{typed_parameters}
 use Rattle.c_typing.specs.Files.{after_function, bound_function, function_declared, function_signature, library_faults}
 use Rattle.c_typing.specs.Files.{main_faults, outer_of, redeclared_faults, result_allowed, signature_of}
 use Rattle.c_typing.specs.Files.{typed_prototype, with_outer}
-use Rattle.c_typing.specs.Initialisers.{function_initialiser}
+use Rattle.c_typing.specs.Expressions.{arguments_for, given}
+use Rattle.c_typing.specs.Initialisers.{first_token_of, function_initialiser, scalar_values}
 use Rattle.c_typing.specs.Library.{Entity}
 use Rattle.c_typing.specs.Names.{Function, Outer, Scope, bound, entered, linked}
 use Rattle.c_typing.specs.Names as names
@@ -21,6 +26,7 @@ use Rattle.c_bindings.specs.declared.meaning.Signature.{Signature}
 use Rattle.c_bindings.specs.Views as views
 use Rattle.c_operands.specs.declared.judged.Judged.{Judged}
 use Rattle.c_operands.specs.declared.judged.Judged.TheVariants as answers
+use Rattle.c_expressions.specs.Arguments.{AreArguments}
 use Rattle.c_expressions.specs.Said.{IsSaid}
 use Rattle.c_check_declarators.specs.Answers.{AreSame, value_answered}
 use Rattle.c_check_declarators.specs.Together.{listed, with_fault}
@@ -182,3 +188,20 @@ prototype_fits said i ps s u j g part before between after h is behind row =
     (subst (λ (k : Judged Signature). IsSaid IsSignature c k before between) is h)
     (λ x same. subst (λ (t : Scope). IsSaid AreNone (function_initialiser {A = List Defined} t i.initialiser []) part
     between after) behind row)
+
+-- where values stand, they are judged behind the function's name, and its first token fails where all have types
+pub initialiser_said : {A : Type 0} (s : Scope) (v : Option ValueTree) (w : ValueTree) (es : Exprs) (at : Span)
+    (values : Judged (Vec Built Global)) (part : Judged A) (before after : List Note) → v ≡ Some w
+    → es ≡ scalar_values w.value → at ≡ first_token_of w.value
+    → IsSaid AreArguments (arguments_for [] (given s es)) values before after
+    → ((c : Checked Arguments) (before after : List Note) → IsSaid AreArguments c values before after
+    → IsSaid AreNone (if_fits c (λ x. fails {A = List Defined} TypeRule at)) part before after)
+    → IsSaid AreNone (function_initialiser {A = List Defined} s v []) part before after
+initialiser_said s v w es at values part before after is same place h row =
+    let given_values = arguments_for [] (given s (scalar_values w.value)) in
+    subst (λ (o : Option ValueTree). IsSaid AreNone (function_initialiser {A = List Defined} s o []) part before after)
+    (sym is)
+    (subst (λ (p : Span). IsSaid AreNone (if_fits given_values (λ x. fails {A = List Defined} TypeRule p)) part before
+    after) place
+    (row given_values before after
+    (subst (λ (xs : Exprs). IsSaid AreArguments (arguments_for [] (given s xs)) values before after) same h)))
