@@ -43,10 +43,10 @@ ends_as_defined budget s machine left left' IsPut WriteFault o counted told runs
 ends_as_defined budget s machine left left' IsPut NoMemory o counted told runs = absurd (stays counted.2)
 
 -- the same of a machine that was lent an input with nothing left
-pub ends_unread : {budget : ℕ} {s machine : State} {left left' : List ℕ} {IsPut : List ℕ → Type 0} {end : MachineEnd}
+pub ends_unread : (budget : ℕ) (s machine : State) (left left' : List ℕ) (IsPut : List ℕ → Type 0) (end : MachineEnd)
     (o : Outcome)
     → left ≡ [] → RunCounts 0 0 no_puts no_puts end → RunTold budget (lent s left) machine left left' IsPut end
     → Runs no_visits budget (lent s []) o → end ≡ answer_of o.end
-ends_unread {budget} {s} {machine} {left} {left'} {IsPut} {end} o none counted told runs =
+ends_unread budget s machine left left' IsPut end o none counted told runs =
     ends_as_defined budget (lent s left) machine left left' IsPut end o counted told
     (subst (λ (l : List ℕ). Runs no_visits budget (lent s l) o) (sym none) runs)
